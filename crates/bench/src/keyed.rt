@@ -1,0 +1,218 @@
+//! Maps of cells that join key by key.
+
+use crate::checksum::{mixed, mixed_place};
+use cell_core::{Cell, CellFault, Join, Keyed, Label, MessageId, SiteName, Stamp};
+use std::alloc::{AllocError, Global};
+use std::cmp::Ordering;
+
+const SIZE: u64 = 100_000;
+
+/// A map of message ids.
+type Cells = Keyed<MessageId, Cell>;
+
+fn no_memory(_fault: CellFault) -> AllocError {
+    AllocError
+}
+
+fn stamp_of(number: u64) -> Result<Stamp, AllocError> {
+    let site = SiteName::new("paris").map_err(no_memory)?;
+    let count = u32::try_from(number % 7).unwrap_or(0);
+    Ok(Stamp {
+        time: number % 1000,
+        site,
+        count,
+    })
+}
+
+fn key_of(alloc: Global, number: u64) -> Result<MessageId, AllocError> {
+    let text = format!(in alloc; "message/{number:020}")?;
+    MessageId::new(alloc, text.as_str()).map_err(no_memory)
+}
+
+fn cell_of(alloc: Global, number: u64) -> Result<Cell, AllocError> {
+    let texts = vec![in alloc; "label".to_string(alloc)?]?;
+    let label = Label::new(alloc, &texts).map_err(no_memory)?;
+    Ok(Cell::new(stamp_of(number)?, Some(label)))
+}
+
+/// A number that looks random.
+fn scattered(turn: u64) -> u64 {
+    turn.wrapping_mul(6_364_136_223_846_793_005)
+        .wrapping_add(1_442_695_040_888_963_407)
+        >> 20
+}
+
+/// So many entries from a number on, so far apart.
+fn rising(alloc: Global, from: u64, step: u64, count: u64) -> Result<Cells, AllocError> {
+    let mut map = Keyed::new(alloc);
+    for turn in 0..count {
+        let number = from.wrapping_add(turn.wrapping_mul(step));
+        let Ok(()) = map.put(key_of(alloc, number)?, cell_of(alloc, number)?) else {
+            return Err(AllocError);
+        };
+    }
+    Ok(map)
+}
+
+/// The first map of a work.
+fn own_of(alloc: Global, work: &str) -> Result<Cells, AllocError> {
+    match work {
+        "keyed-copy" | "keyed-equal" | "keyed-disjoint" | "keyed-interleaved" => rising(
+            alloc, 0, 2, SIZE,
+        ),
+        "keyed-few" | "keyed-walk" => rising(alloc, 0, 2, SIZE),
+        _ => Ok(Keyed::new(alloc)),
+    }
+}
+
+/// The map that it is joined with.
+fn other_of(alloc: Global, work: &str) -> Result<Cells, AllocError> {
+    match work {
+        "keyed-equal" => rising(alloc, 0, 2, SIZE),
+        "keyed-disjoint" => rising(alloc, 2 * SIZE, 2, SIZE),
+        "keyed-interleaved" => rising(alloc, 1, 2, SIZE),
+        "keyed-few" => rising(alloc, 1, 2000, 100),
+        _ => Ok(Keyed::new(alloc)),
+    }
+}
+
+fn copy_length(alloc: Global, own: &Cells) -> Result<u64, AllocError> {
+    let copy = own.copy(alloc)?;
+    Ok(copy.len() as u64)
+}
+
+/// The length of the join of a copy with another map; 0 where the two do not agree.
+fn joined_length(alloc: Global, own: &Cells, other: &Cells) -> Result<u64, AllocError> {
+    let mut copy = own.copy(alloc)?;
+    if !copy.agrees(other) {
+        return Ok(0);
+    }
+    copy.join(alloc, other)?;
+    Ok(copy.len() as u64)
+}
+
+fn sum_of_walk(own: &Cells) -> u64 {
+    let mut sum = 0;
+    for (_key, cell) in own.iter() {
+        sum = mixed(sum, cell.stamp().time);
+    }
+    sum
+}
+
+fn put_all(alloc: Global, random: bool) -> Result<u64, AllocError> {
+    let mut map: Keyed<MessageId, Stamp> = Keyed::new(alloc);
+    for turn in 0..SIZE {
+        let number = if random { scattered(turn) } else { turn };
+        let Ok(()) = map.put(key_of(alloc, number)?, stamp_of(number)?) else {
+            return Err(AllocError);
+        };
+    }
+    let mut sum = mixed_place(0, map.len());
+    for (_key, stamp) in map.iter() {
+        sum = mixed(sum, stamp.time);
+    }
+    Ok(sum)
+}
+
+fn stamps_held(alloc: Global) -> Result<Keyed<MessageId, Stamp>, AllocError> {
+    let mut map = Keyed::new(alloc);
+    for turn in 0..SIZE {
+        let Ok(()) = map.put(key_of(alloc, 2 * turn)?, stamp_of(2 * turn)?) else {
+            return Err(AllocError);
+        };
+    }
+    Ok(map)
+}
+
+fn keys_asked(alloc: Global) -> Result<Vec<MessageId>, AllocError> {
+    let mut keys = Vec::new(alloc);
+    for turn in 0..SIZE {
+        keys.push(key_of(alloc, scattered(turn) % (2 * SIZE))?)?;
+    }
+    Ok(keys)
+}
+
+fn get_all(map: &Keyed<MessageId, Stamp>, keys: &[MessageId]) -> u64 {
+    let mut sum = 0;
+    for key in keys {
+        let time = match map.get(key) {
+            Some(stamp) => stamp.time,
+            None => 1,
+        };
+        sum = mixed(sum, time);
+    }
+    sum
+}
+
+fn stamps_of(alloc: Global) -> Result<Vec<Stamp>, AllocError> {
+    let mut stamps = Vec::new(alloc);
+    for turn in 0..SIZE {
+        stamps.push(stamp_of(scattered(turn) % 3000)?)?;
+    }
+    Ok(stamps)
+}
+
+fn compare_all(stamps: &[Stamp]) -> u64 {
+    let mut sum = 0;
+    for (earlier, later) in stamps.iter().zip(stamps.iter().skip(1)) {
+        sum = match earlier.cmp(later) {
+            Ordering::Less => mixed(sum, 1),
+            Ordering::Equal => mixed(sum, 2),
+            Ordering::Greater => mixed(sum, 3),
+        };
+    }
+    sum
+}
+
+fn run_joins(alloc: Global, work: &str, turns: u64) -> Result<u64, AllocError> {
+    let own = own_of(alloc, work)?;
+    let other = other_of(alloc, work)?;
+    let mut sum = 0;
+    for _ in 0..turns {
+        let found = match work {
+            "keyed-copy" => copy_length(alloc, &own)?,
+            "keyed-walk" => sum_of_walk(&own),
+            _ => joined_length(alloc, &own, &other)?,
+        };
+        sum = mixed(sum, found);
+    }
+    Ok(sum)
+}
+
+fn run_puts(alloc: Global, random: bool, turns: u64) -> Result<u64, AllocError> {
+    let mut sum = 0;
+    for _ in 0..turns {
+        sum = mixed(sum, put_all(alloc, random)?);
+    }
+    Ok(sum)
+}
+
+fn run_gets(alloc: Global, turns: u64) -> Result<u64, AllocError> {
+    let map = stamps_held(alloc)?;
+    let keys = keys_asked(alloc)?;
+    let mut sum = 0;
+    for _ in 0..turns {
+        sum = mixed(sum, get_all(&map, &keys));
+    }
+    Ok(sum)
+}
+
+fn run_order(alloc: Global, turns: u64) -> Result<u64, AllocError> {
+    let stamps = stamps_of(alloc)?;
+    let mut sum = 0;
+    for _ in 0..turns {
+        sum = mixed(sum, compare_all(&stamps));
+    }
+    Ok(sum)
+}
+
+/// The checksum of so many turns of a work over maps of 100,000 entries.
+pub fn run(alloc: Global, work: &str, turns: u64) -> Result<u64, AllocError> {
+    match work {
+        "keyed-put-rising" => run_puts(alloc, false, turns),
+        "keyed-put-random" => run_puts(alloc, true, turns),
+        "keyed-get" => run_gets(alloc, turns),
+        "stamp-order" => run_order(alloc, turns),
+        _ => run_joins(alloc, work, turns),
+    }
+}

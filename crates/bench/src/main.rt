@@ -1,0 +1,33 @@
+//! Works of known size, which `bench/run` compares with plain Rust.
+//!
+//! `bench WORK TURNS` reads the load of a work from standard input and prints a checksum of what so many turns
+//! found. Without words it runs a small fixed case.
+#![tactic(auto)]
+
+mod asking;
+mod checksum;
+mod keyed;
+mod parsing;
+mod sorted;
+mod works;
+
+use std::{env, io};
+
+const SMALL: &str =
+    "de-CH, de;q=0.9, en-GB;q=0.8, en;q=0.7, *;q=0.1\nen\nde-1996\nfr-CA\ni-klingon\n";
+
+fn main(rt: HostRuntime) -> io::Result<()> {
+    let alloc = rt.alloc();
+    let mut words = env::args(&rt)?;
+    let _program = words.next();
+    let (Some(work), Some(turns)) = (words.next(), words.next()) else {
+        let sum = works::run(alloc, "filter-basic", SMALL, 2)?;
+        return println!(rt; "{sum}");
+    };
+    let Ok(turns) = turns.as_str().parse::<u64>() else {
+        return eprintln!(rt; "the number of turns is no number");
+    };
+    let load = io::read_to_string(alloc, rt.stdin())?;
+    let sum = works::run(alloc, work.as_str(), load.as_str(), turns)?;
+    println!(rt; "{sum}")
+}

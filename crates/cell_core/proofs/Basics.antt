@@ -1,0 +1,56 @@
+-- Small facts on tests, orderings, options and results.
+use Rattle.std.proofs.Common.{◌≡◌, Bool, true, false, Some, None, Result, Ok, Err, MatchResult, IsOk, OnErr, sym, refl, true≢false}
+use Rattle.std.specs.Prelude.{T, ◌&&◌}
+use Rattle.std.specs.declared.cmp.Ordering.{Ordering}
+use Rattle.std.specs.declared.cmp.Ordering.TheVariants.{Less, Equal, Greater}
+use Rattle.std.specs.Ordering.{ordering_then, is_lt, is_eq, is_gt}
+
+-- where no error fits, the result is a success
+pub ok_where_no_error : {T E : Type 0} (P : T → Type 0) (Q : E → Type 0) (r : Result T E) → MatchResult r P Q → ((e : E) → ¬ (Q e)) → IsOk r
+ok_where_no_error P Q (Ok x) h none = refl
+ok_where_no_error P Q (Err e) h none = absurd (none e h)
+
+pub then_equal : (o : Ordering) → ordering_then o Equal ≡ o
+then_equal Less = refl
+then_equal Equal = refl
+then_equal Greater = refl
+
+pub then_assoc : (a b c : Ordering) → ordering_then a (ordering_then b c) ≡ ordering_then (ordering_then a b) c
+then_assoc Less b c = refl
+then_assoc Equal b c = refl
+then_assoc Greater b c = refl
+
+pub first_part : (s t : Bool) → T (s && t) → T s
+first_part true t h = tt
+first_part false t h = absurd h
+
+pub second_part : (s t : Bool) → T (s && t) → T t
+second_part true t h = h
+second_part false t h = absurd h
+
+pub both_parts : (s t : Bool) → T s → T t → T (s && t)
+both_parts true t h k = k
+both_parts false t h k = absurd h
+
+pub less_than : (r : Ordering) → T (is_lt r) → r ≡ Less
+less_than Less h = refl
+less_than Equal h = absurd h
+less_than Greater h = absurd h
+
+pub some_not_none : {X : Type 0} (x : X) → Some x ≡ None → ⊥
+some_not_none x e = cc
+
+pub tied_order : (r : Ordering) → is_eq r ≡ true → r ≡ Equal
+tied_order Less e = absurd (true≢false (sym e))
+tied_order Equal e = refl
+tied_order Greater e = absurd (true≢false (sym e))
+
+pub is_greater : (r : Ordering) → is_gt r ≡ true → r ≡ Greater
+is_greater Less e = absurd (true≢false (sym e))
+is_greater Equal e = absurd (true≢false (sym e))
+is_greater Greater e = refl
+
+-- what holds at an error holds whatever the result
+pub on_err_always : {T E P : Type 0} (r : Result T E) → P → OnErr r P
+on_err_always (Ok x) p = tt
+on_err_always (Err e) p = p

@@ -1,0 +1,17 @@
+pub mod AbsentLemmas
+pub mod AppendLemmas
+pub mod Basics
+pub mod CellLemmas
+pub mod ChunkLemmas
+pub mod CommonLemmas
+pub mod FirstRunLemmas
+pub mod JoinLemmas
+pub mod LabelLemmas
+pub mod MigrationLemmas
+pub mod PaddedNameLemmas
+pub mod PlaceLemmas
+pub mod RunLemmas
+pub mod SiteNameLemmas
+pub mod StampLemmas
+pub mod WalkLemmas
+pub mod WeaveLemmas

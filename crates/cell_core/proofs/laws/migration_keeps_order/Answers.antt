@@ -1,0 +1,5 @@
+use Rattle.cell_core.proofs.MigrationLemmas.{cmp-migrated}
+use Rattle.cell_core.proofs.laws.migration_keeps_order.Goals as goal
+
+pub returns : goal.returns
+returns c = cmp-migrated

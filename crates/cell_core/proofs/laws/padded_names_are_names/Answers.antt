@@ -1,0 +1,5 @@
+use Rattle.cell_core.proofs.PaddedNameLemmas.{IsSiteName-padded_name}
+use Rattle.cell_core.proofs.laws.padded_names_are_names.Goals as goal
+
+pub returns : goal.returns
+returns c = IsSiteName-padded_name

@@ -1,0 +1,5 @@
+use Rattle.cell_core.proofs.PaddedNameLemmas.{cmp-padded_name}
+use Rattle.cell_core.proofs.laws.padded_names_keep_order.Goals as goal
+
+pub returns : goal.returns
+returns c = cmp-padded_name

@@ -1,0 +1,16 @@
+use Rattle.std.proofs.Common.{◌≡◌, ◌-◌, ◌<◌, ◌≤◌, length, get_or}
+use Rattle.std.specs.declared.cmp.Ordering.TheVariants.{Less}
+use Rattle.cell_core.specs.Places.{place_of}
+use Rattle.cell_core.proofs.pairs.seek.Given as goal
+
+abbrev pub invariant-loop-low : goal.invariant-loop-low
+invariant-loop-low g l = record {
+  start : l.from ≤ l.low;
+  from : l.low ≤ place_of g.K.Ord.cmp l.key l.pairs;
+  to : place_of g.K.Ord.cmp l.key l.pairs ≤ l.high;
+  within : l.high ≤ length l.pairs;
+  apart : (d : g.row.K.Denot × g.row.J.Denot) → l.high < length l.pairs → (let e = get_or l.pairs l.high d in g.K.Ord.cmp l.key e.0 ≡ Less);
+}
+
+abbrev pub decreases-loop-low : goal.decreases-loop-low
+decreases-loop-low g l = l.high - l.low

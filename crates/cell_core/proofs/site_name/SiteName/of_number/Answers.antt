@@ -1,0 +1,24 @@
+use Rattle.std.proofs.Common.{◌≡◌, ◌++◌, drop, sym, ◌∙◌, ap, subst, arith}
+use Rattle.std.proofs.Math.ListN.{length-set}
+use Rattle.cell_core.specs.SiteNames.{KeepsName, filled, unfilled, padded_name}
+use Rattle.cell_core.proofs.SiteNameLemmas.{KeepsName-filled, unfilled-filled}
+use Rattle.cell_core.proofs.PaddedNameLemmas.{last_digits, digit_written, padded_name-last_digits, IsSiteName-padded_name}
+use Rattle.cell_core.proofs.site_name.SiteName.of_number.Goals as goal
+
+pub loop-at-preserved : goal.loop-at-preserved
+loop-at-preserved c = record {
+  len = length-set c.loop-at.digits _ _ ∙ c.loop-at.invariant.len;
+  digits = digit_written c.loop-at.at c.loop-at.rest c.loop-at.digits c.loop-at-test.true (omega (arith, c.loop-at.invariant.len)) ∙ c.loop-at.invariant.digits;
+}
+
+-- all digits are written
+whole : (c : goal.After-fill) → c.loop-at.digits ≡ padded_name c.args.n
+whole c =
+    let done : c.loop-at.at ≡ 0 = omega arith in
+    ap (λ at. last_digits at c.loop-at.rest ++ drop at c.loop-at.digits) (sym done) ∙ c.loop-at.invariant.digits ∙ sym (padded_name-last_digits c.args.n c.ranges.n.fits)
+
+pub invariant_of-result : goal.invariant_of-result
+invariant_of-result c = subst KeepsName (ap filled (sym (whole c)) ∙ sym c.fill.ensures) (KeepsName-filled (padded_name c.args.n) (IsSiteName-padded_name c.args.n c.ranges.n.fits))
+
+pub returns : goal.returns
+returns c = ap unfilled (c.fill.ensures ∙ ap filled (whole c)) ∙ unfilled-filled (padded_name c.args.n) (IsSiteName-padded_name c.args.n c.ranges.n.fits)

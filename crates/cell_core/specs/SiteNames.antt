@@ -1,0 +1,30 @@
+-- The names of sites, how one is kept in sixteen bytes, and the names of numbered sites (own rules).
+use Rattle.std.specs.Prelude.{◌≡◌, ℕ, ◌<◌, ◌≤◌, ◌-◌, Bool, ◌||◌, ◌&&◌, ◌==◌, nat_le, List, ◌++◌, length, replicate, All, IsTrue}
+use Rattle.std.specs.List.{before_first}
+use Rattle.std.specs.Fmt.{decimal}
+
+-- "a" to "z", "0" to "9" or "-"
+unfoldable pub is_site_byte : ℕ → Bool
+is_site_byte b = (nat_le 97 b && nat_le b 122) || ((nat_le 48 b && nat_le b 57) || (b == 45))
+
+pub record IsSiteName (text : List ℕ) : Type 0 where
+  pub some : 0 < length text
+  pub most : length text ≤ 16
+  pub bytes : All (λ b. IsTrue (is_site_byte b)) text
+
+-- a text, filled up behind with zero bytes to sixteen
+abbrev pub filled : List ℕ → List ℕ
+filled text = text ++ replicate (16 - length text) 0
+
+-- the text in front of the zero bytes
+abbrev pub unfilled : List ℕ → List ℕ
+unfilled bytes = before_first (λ b. b == 0) bytes
+
+-- the bytes are a name, filled up
+pub record KeepsName (bytes : List ℕ) : Type 0 where
+  pub name : IsSiteName (unfilled bytes)
+  pub zeros : filled (unfilled bytes) ≡ bytes
+
+-- the decimal digits of a number, with zeros in front to ten digits (48 is "0")
+abbrev pub padded_name : ℕ → List ℕ
+padded_name n = replicate (10 - length (decimal n)) 48 ++ decimal n

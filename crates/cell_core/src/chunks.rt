@@ -1,0 +1,250 @@
+//! Entries in rising order of their keys, in chunks: a new key moves the entries of one chunk alone.
+
+ghost use Rattle.std.specs.Prelude.{◌≡◌, ◌+◌, ◌<◌, ◌∷◌, ◌++◌, [], IfOk, IfErr, OnOk, IsOk, IsSome, IsTrue, false, length, slice_get};
+ghost use Rattle.std.specs.Option.{option_copied};
+ghost use Rattle.std.specs.FinMap.Entries.{find, put};
+ghost use Rattle.std.specs.Vec.{vec_len};
+ghost use Rattle.cell_core.specs.Maps.{IsMap};
+ghost use Rattle.cell_core.specs.Places.{IsGap};
+ghost use Rattle.cell_core.specs.Chunks.{all_of, AllFilled, IsChunked, IsChunkFor};
+
+use crate::join::Join;
+use crate::key::Key;
+use crate::pairs::bisect;
+use std::alloc::{AllocError, Global};
+
+/// A chunk that comes to hold so many entries is cut in two.
+pub(crate) const FULL: usize = 128;
+
+/// The chunk where the key stands, or would go.
+pub(crate) fn chunk_for<K: Key, J>(chunks: &[Vec<(K, J)>], key: &K) -> usize
+    requires chunked { IsChunked K.cmp chunks.now }
+    requires some { 0 < length chunks.now }
+    ensures { IsChunkFor K.cmp key.now chunks.now result }
+{
+    let mut low = 0;
+    let mut high = chunks.len();
+    while low + 1 < high {
+        let middle = low + (high - low) / 2;
+        if key.cmp(&chunks[middle][0].0).is_lt() {
+            high = middle;
+        } else {
+            low = middle;
+        }
+    }
+    low
+}
+
+/// The entry at a place, counted over all chunks.
+pub(crate) fn nth_pair<K, J>(chunks: &[Vec<(K, J)>], place: usize) -> Option<&(K, J)>
+    ensures { option_copied result ≡ slice_get (all_of chunks.now) place }
+{
+    let mut left = place;
+    for chunk in chunks {
+        if left < chunk.len() {
+            return Some(&chunk[left]);
+        }
+        left -= chunk.len();
+    }
+    None
+}
+
+/// Equal chunks.
+pub(crate) fn copy_chunks<K: Key, J: Join>(
+    alloc: Global,
+    chunks: &[Vec<(K, J)>],
+) -> Result<Vec<Vec<(K, J)>>, AllocError>
+    requires { AllFilled chunks.now }
+    ensures same { IfOk result (λ copied. all_of copied.items ≡ all_of chunks.now) }
+    ensures filled { IfOk result (λ copied. AllFilled copied.items) }
+{
+    let mut copied = Vec::with_capacity(alloc, chunks.len())?;
+    for chunk in chunks {
+        copied.push(copy_pairs(alloc, chunk)?)?;
+    }
+    Ok(copied)
+}
+
+/// Equal pairs.
+fn copy_pairs<K: Key, J: Join>(alloc: Global, pairs: &[(K, J)]) -> Result<Vec<(K, J)>, AllocError>
+    ensures { IfOk result (λ copied. copied.items ≡ pairs.now) }
+{
+    let mut copied = Vec::with_capacity(alloc, pairs.len())?;
+    for (key, value) in pairs {
+        copied.push((key.copy(alloc)?, value.copy(alloc)?))?;
+    }
+    Ok(copied)
+}
+
+/// Gives the key the value; without memory for a new key the pair comes back.
+pub(crate) fn put_pair<K: Key, J: Drop>(
+    chunks: &mut Vec<Vec<(K, J)>>,
+    key: K,
+    value: J,
+    count: &mut usize,
+) -> Result<(), (K, J)>
+    requires chunked { IsChunked K.cmp chunks.old.items }
+    requires counted { count.old ≡ length (all_of chunks.old.items) }
+    ensures chunked { IsChunked K.cmp chunks.new.items }
+    ensures counted { count.new ≡ length (all_of chunks.new.items) }
+    ensures ok { OnOk result (all_of chunks.new.items ≡ put K.cmp key value (all_of chunks.old.items)) }
+    ensures err { IfErr result (λ pair. (pair ≡ (key, value)) × (all_of chunks.new.items ≡ all_of chunks.old.items)) }
+    ensures held { IsSome (find K.cmp key (all_of chunks.old.items)) → IsOk result }
+{
+    if is_above_all(chunks, &key) {
+        return append(chunks, key, value, count);
+    }
+    let at = chunk_for(chunks, &key);
+    match put_in(&mut chunks[at], key, value, count) {
+        Ok(added) => {
+            if added {
+                cut_if_full(chunks, at);
+            }
+            Ok(())
+        }
+        Err(pair) => Err(pair),
+    }
+}
+
+/// Whether the key would go behind all that are there.
+fn is_above_all<K: Key, J>(chunks: &[Vec<(K, J)>], key: &K) -> bool
+    requires { IsChunked K.cmp chunks.now }
+    ensures above { IsTrue result → IsGap K.cmp key.now (all_of chunks.now) (length (all_of chunks.now)) }
+    ensures some { result ≡ false → 0 < length chunks.now }
+{
+    match chunks.last() {
+        Some(chunk) => key.cmp(&chunk[chunk.len() - 1].0).is_gt(),
+        None => true,
+    }
+}
+
+/// Puts a key that is above all behind them; a full last chunk stays whole.
+fn append<K: Key, J: Drop>(
+    chunks: &mut Vec<Vec<(K, J)>>,
+    key: K,
+    value: J,
+    count: &mut usize,
+) -> Result<(), (K, J)>
+    requires chunked { IsChunked K.cmp chunks.old.items }
+    requires counted { count.old ≡ length (all_of chunks.old.items) }
+    requires above { IsGap K.cmp key (all_of chunks.old.items) (length (all_of chunks.old.items)) }
+    ensures chunked { IsChunked K.cmp chunks.new.items }
+    ensures counted { count.new ≡ length (all_of chunks.new.items) }
+    ensures ok { OnOk result (all_of chunks.new.items ≡ put K.cmp key value (all_of chunks.old.items)) }
+    ensures err { IfErr result (λ pair. (pair ≡ (key, value)) × (all_of chunks.new.items ≡ all_of chunks.old.items)) }
+{
+    let Some(total) = count.checked_add(1) else {
+        return Err((key, value));
+    };
+    match push_last(chunks, (key, value)) {
+        Ok(()) => {
+            *count = total;
+            Ok(())
+        }
+        Err(pair) => Err(pair),
+    }
+}
+
+/// Puts an item behind all others, in a new chunk where the last one is full.
+fn push_last<T: Drop>(chunks: &mut Vec<Vec<T>>, item: T) -> Result<(), T>
+    requires { AllFilled chunks.old.items }
+    ensures filled { AllFilled chunks.new.items }
+    ensures ok { OnOk result (all_of chunks.new.items ≡ all_of chunks.old.items ++ item ∷ []) }
+    ensures err { IfErr result (λ back. (back ≡ item) × (all_of chunks.new.items ≡ all_of chunks.old.items)) }
+{
+    let len = chunks.len();
+    if len == 0 || chunks[len - 1].len() + 1 >= FULL {
+        return push_chunk(chunks, item);
+    }
+    match chunks[len - 1].push(item) {
+        Ok(()) => Ok(()),
+        Err(failed) => Err(failed.value),
+    }
+}
+
+/// Puts an item behind all others, in a chunk of its own.
+fn push_chunk<T: Drop>(chunks: &mut Vec<Vec<T>>, item: T) -> Result<(), T>
+    requires { AllFilled chunks.old.items }
+    ensures filled { AllFilled chunks.new.items }
+    ensures ok { OnOk result (all_of chunks.new.items ≡ all_of chunks.old.items ++ item ∷ []) }
+    ensures err { IfErr result (λ back. (back ≡ item) × (all_of chunks.new.items ≡ all_of chunks.old.items)) }
+{
+    let room = if chunks.is_empty() { 1 } else { FULL };
+    match chunks.reserve(1) {
+        Ok(()) => {}
+        Err(_) => return Err(item),
+    }
+    let mut chunk = match Vec::with_capacity(*chunks.allocator(), room) {
+        Ok(chunk) => chunk,
+        Err(_) => return Err(item),
+    };
+    chunk.push_reserved(item);
+    chunks.push_reserved(chunk);
+    Ok(())
+}
+
+/// Gives the key the value in a chunk, and says whether the key is new; without memory for one the pair comes back.
+fn put_in<K: Key, J: Drop>(
+    pairs: &mut Vec<(K, J)>,
+    key: K,
+    value: J,
+    count: &mut usize,
+) -> Result<bool, (K, J)>
+    requires { IsMap K.cmp pairs.old.items }
+    ensures count { count.new + vec_len pairs.old ≡ count.old + vec_len pairs.new }
+    ensures ok { OnOk result (pairs.new.items ≡ put K.cmp key value pairs.old.items) }
+    ensures err { IfErr result (λ pair. (pair ≡ (key, value)) × (pairs.new.items ≡ pairs.old.items)) }
+    ensures held { IsSome (find K.cmp key pairs.old.items) → IsOk result }
+{
+    match bisect(pairs, &key) {
+        Ok(at) => {
+            pairs[at].1 = value;
+            Ok(false)
+        }
+        Err(at) => {
+            let Some(total) = count.checked_add(1) else {
+                return Err((key, value));
+            };
+            match pairs.insert(at, (key, value)) {
+                Ok(()) => {
+                    *count = total;
+                    Ok(true)
+                }
+                Err(failed) => Err(failed.value),
+            }
+        }
+    }
+}
+
+/// Cuts a full chunk into two halves, where there is memory; else it stays as it is.
+pub(crate) fn cut_if_full<K: Key, J: Drop>(chunks: &mut Vec<Vec<(K, J)>>, at: usize)
+    requires at { at < vec_len chunks.old }
+    requires chunked { IsChunked K.cmp chunks.old.items }
+    ensures some { 0 < vec_len chunks.new }
+    ensures same { all_of chunks.new.items ≡ all_of chunks.old.items }
+    ensures chunked { IsChunked K.cmp chunks.new.items }
+{
+    if chunks[at].len() >= FULL {
+        let _ = cut(chunks, at);
+    }
+}
+
+/// Cuts a chunk into two halves.
+fn cut<K: Key, J: Drop>(chunks: &mut Vec<Vec<(K, J)>>, at: usize) -> Result<(), AllocError>
+    requires at { at < vec_len chunks.old }
+    requires chunked { IsChunked K.cmp chunks.old.items }
+    ensures some { 0 < vec_len chunks.new }
+    ensures same { all_of chunks.new.items ≡ all_of chunks.old.items }
+    ensures chunked { IsChunked K.cmp chunks.new.items }
+{
+    let len = chunks[at].len();
+    if len < 2 {
+        return Ok(());
+    }
+    chunks.reserve(1)?;
+    let tail = chunks[at].split_off(len / 2)?;
+    match chunks.insert(at + 1, tail) {
+        Ok(()) => Ok(()),
+        Err(_) => Err(AllocError),
+    }
+}

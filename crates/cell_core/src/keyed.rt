@@ -1,0 +1,183 @@
+//! Maps from keys to values that join, in rising order of the keys.
+
+ghost use Rattle.std.specs.Prelude.{◌≡◌, ◌↔◌, [], IsTrue, IfErr, OnOk, IsOk, IsSome, length, slice_get};
+ghost use Rattle.std.specs.Option.{option_copied, option_copied_mut, option_map};
+ghost use Rattle.std.specs.Borrow.{LendsIf, sem};
+ghost use Rattle.std.specs.FinMap.Entries.{find, put};
+ghost use Rattle.cell_core.specs.contracts.keyed.Keyed.{the_row};
+ghost use Rattle.cell_core.specs.Maps.{IsMap, AgreeMaps, joined_maps, BetweenMaps, map_laws};
+
+use crate::chunk_joins::{agree_chunks, join_chunks};
+use crate::chunks::{chunk_for, copy_chunks, nth_pair, put_pair};
+use crate::join::Join;
+use crate::key::Key;
+use crate::keyed_iter::Entries;
+use crate::pairs::bisect;
+use std::alloc::{AllocError, Global};
+use std::marker::Model;
+
+/// A finite map from keys to values, whose entries stand in strictly rising order of the keys.
+///
+/// Maps of values that join, join key by key; see [`Join`]. Two maps agree where their values agree at each key that
+/// both hold, and their join has at a key of one alone that one's value, and at a key of both the two values joined.
+/// A [`Join::join`] that ends for want of memory leaves each key with its old value, or without one as before, with
+/// the join's value, or with one that stands between them; a repeated join then gives the whole join.
+///
+/// `get` and `put` search in about log2(n) steps. A `put` of a new key moves at most some hundred entries, and a key
+/// above all others goes behind them. A join takes time for the other map and for those parts of this one where the
+/// other's keys fall.
+///
+/// ```text
+/// let mut map = Keyed::new(alloc);
+/// map.put(key, value)                  // Ok(()), or the pair back where there is no memory
+/// map.get(&key)                        // Some(&value)
+/// ```
+#[derive(Drop)]
+pub struct Keyed<K: Key, J> {
+    // In chunks of fewer than 128 entries where memory allows, so that a new key moves few entries.
+    chunks: Vec<Vec<(K, J)>>,
+    count: usize,
+}
+
+impl<K: Key, J> Model for Keyed<K, J> {
+    ghost use Rattle.std.specs.Prelude.{List};
+    ghost use Rattle.cell_core.specs.Chunks.{all_of, IsKept};
+
+    ghost Value = { List (K × J) };
+
+    ghost view = { λ a. all_of a.chunks.items };
+
+    ghost invariant = { λ a. IsKept K.cmp a.chunks.items a.count };
+}
+
+impl<K: Key, J> Keyed<K, J> {
+    ghost use Rattle.cell_core.specs.EntriesLeft.{entries_left};
+
+    /// The empty map, which grows by this allocator. It takes no memory.
+    pub fn new(alloc: Global) -> Self
+        ensures { result ≡ [] }
+    {
+        Keyed {
+            chunks: Vec::new(alloc),
+            count: 0,
+        }
+    }
+
+    /// How many keys are held.
+    pub fn len(&self) -> usize
+        ensures len { result ≡ length self.now }
+        ensures map { IsMap K.cmp self.now }
+    {
+        self.count
+    }
+
+    /// Whether no key is held.
+    pub fn is_empty(&self) -> bool
+        ensures empty { IsTrue result ↔ (self.now ≡ []) }
+    {
+        self.len() == 0
+    }
+
+    /// The entry at a place in rising order of the keys, counted from 0; none from `len` on.
+    pub fn nth(&self, place: usize) -> Option<(&K, &J)>
+        ensures entry { option_map (λ e. (e.0.now, e.1.now)) result ≡ slice_get self.now place }
+        ensures map { IsMap K.cmp self.now }
+    {
+        match nth_pair(&self.chunks, place) {
+            Some(pair) => Some((&pair.0, &pair.1)),
+            None => None,
+        }
+    }
+
+    /// The value of the key, if it is held.
+    pub fn get(&self, key: &K) -> Option<&J>
+        ensures value { option_copied result ≡ find K.cmp key.now self.now }
+        ensures map { IsMap K.cmp self.now }
+    {
+        if self.chunks.is_empty() {
+            return None;
+        }
+        let at = chunk_for(&self.chunks, key);
+        let chunk = &self.chunks[at];
+        match bisect(chunk, key) {
+            Ok(place) => Some(&chunk[place].1),
+            Err(_) => None,
+        }
+    }
+
+    /// The value of the key, if it is held, to be changed: whatever is written through it, the map is then the old one
+    /// with that value at that key.
+    pub fn get_mut(&mut self, key: &K) -> Option<&mut J>
+        ensures* lends { sem 𝓛 (LendsIf (the_row K.row J.row (record { cmp = K.cmp }) (record { eq = K.eq }) (record { partial_cmp = K.partial_cmp })) J.row self.entry result (λ w. put K.cmp key.now w self.old) self.old) }
+        ensures value { option_copied_mut result ≡ find K.cmp key.now self.old }
+        ensures map { IsMap K.cmp self.old }
+    {
+        if self.chunks.is_empty() {
+            return None;
+        }
+        let at = chunk_for(&self.chunks, key);
+        match bisect(&self.chunks[at], key) {
+            Ok(place) => Some(&mut self.chunks[at][place].1),
+            Err(_) => None,
+        }
+    }
+
+    /// Gives the key the value, whether it was held or is new.
+    ///
+    /// A held key takes no memory, and its `put` always succeeds. Where there is no memory for a new key, that very
+    /// pair comes back, and the map is as it was.
+    pub fn put(&mut self, key: K, value: J) -> Result<(), (K, J)>
+    where
+        J: Drop,
+        ensures ok { OnOk result (self.new ≡ put K.cmp key value self.old) }
+        ensures err { IfErr result (λ pair. (pair ≡ (key, value)) × (self.new ≡ self.old)) }
+        ensures held { IsSome (find K.cmp key self.old) → IsOk result }
+    {
+        put_pair(&mut self.chunks, key, value, &mut self.count)
+    }
+
+    /// An iterator over the entries in rising order of the keys.
+    pub fn iter(&self) -> Entries<'_, K, J>
+        ensures rest { entries_left result ≡ self.now }
+        ensures map { IsMap K.cmp self.now }
+    {
+        Entries {
+            rest: &[],
+            chunks: self.chunks.as_slice(),
+        }
+    }
+}
+
+impl<K: Key, J: Join> Join for Keyed<K, J> {
+    ghost agree = { AgreeMaps K.cmp J.agree };
+
+    ghost joined = { joined_maps K.cmp J.joined };
+
+    ghost between = { BetweenMaps K.cmp J.between };
+
+    ghost laws = { map_laws K.cmp K.total K.exact J.laws };
+
+    fn agrees(&self, other: &Self) -> bool {
+        // Over the smaller map, with a search in the greater.
+        if self.count <= other.count {
+            agree_chunks(&self.chunks, &other.chunks)
+        } else {
+            agree_chunks(&other.chunks, &self.chunks)
+        }
+    }
+
+    fn join(&mut self, alloc: Global, other: &Self) -> Result<(), AllocError> {
+        if self.chunks.is_empty() {
+            *self = other.copy(alloc)?;
+            return Ok(());
+        }
+        join_chunks(&mut self.chunks, alloc, &other.chunks, &mut self.count)
+    }
+
+    fn copy(&self, alloc: Global) -> Result<Self, AllocError> {
+        Ok(Keyed {
+            chunks: copy_chunks(alloc, &self.chunks)?,
+            count: self.count,
+        })
+    }
+}

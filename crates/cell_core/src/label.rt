@@ -1,0 +1,134 @@
+//! Labels: the texts of a message in one language.
+
+ghost use Rattle.std.specs.Prelude.{◌≡◌, ◌↔◌, IfOk, IsTrue, MatchResult, length, nat_eq, Some, None};
+ghost use Rattle.std.specs.List.{position};
+ghost use Rattle.std.specs.String.{string_bytes};
+ghost use Rattle.std.specs.Cmp as laws_of;
+ghost use Rattle.std.specs.Cmp.Lexicographic.{pointwise, nat_list_eq_equiv, lists_equiv};
+ghost use Rattle.cell_core.specs.Refusals.{RefusesLabel, RefusesTexts};
+ghost use Rattle.cell_core.specs.Labels.{texts_of, is_too_long, IsLabel, IsLabelCount};
+
+use crate::fault::CellFault;
+use std::alloc::{AllocError, Global};
+use std::marker::Model;
+
+/// The most texts of a label.
+const MOST_TEXTS: usize = 64;
+
+/// The most bytes of a text.
+const MOST_BYTES: usize = 65_535;
+
+/// The label of a message in one language: 1 to 64 texts, in order, of at most 65,535 bytes each.
+///
+/// A text may be empty, and may hold any character.
+#[derive(Debug, Drop)]
+pub struct Label {
+    texts: Vec<String>,
+}
+
+impl Model for Label {
+    ghost use Rattle.std.specs.Prelude.{List, ℕ};
+    ghost use Rattle.cell_core.specs.Labels.{texts_of, IsLabel};
+
+    ghost Value = { List (List ℕ) };
+
+    ghost view = { λ l. texts_of l.texts.items };
+
+    ghost invariant = { λ l. IsLabel (texts_of l.texts.items) };
+}
+
+impl Label {
+    /// The label with copies of the texts, in order.
+    ///
+    /// Refused by [`CellFault::LabelCount`] (12) where there are not 1 to 64 texts, then by
+    /// [`CellFault::TextTooLong`] (11) with the first text over 65,535 bytes.
+    pub fn new(alloc: Global, texts: &[String]) -> Result<Label, CellFault>
+        ensures { let bytes = texts_of texts.now in
+            MatchResult result (λ label. IsLabel bytes × (label ≡ bytes)) (RefusesLabel bytes) }
+    {
+        check_texts(texts)?;
+        let texts = copied(alloc, texts)?;
+        Ok(Label { texts })
+    }
+
+    /// The label with these texts, which are not copied; it takes no memory.
+    ///
+    /// Refused as [`Label::new`] is.
+    pub fn from_texts(texts: Vec<String>) -> Result<Label, CellFault>
+        ensures { let bytes = texts_of texts.items in
+            MatchResult result (λ label. IsLabel bytes × (label ≡ bytes)) (RefusesTexts bytes) }
+    {
+        check_texts(&texts)?;
+        Ok(Label { texts })
+    }
+
+    /// The texts, in order.
+    pub fn texts(&self) -> &[String]
+        ensures texts { texts_of result.now ≡ self.now }
+        ensures label { IsLabel self.now }
+    {
+        &self.texts
+    }
+
+    /// An equal label.
+    pub fn copy(&self, alloc: Global) -> Result<Label, AllocError>
+        ensures { IfOk result (λ copy. copy ≡ self.now) }
+    {
+        let texts = copied(alloc, &self.texts)?;
+        Ok(Label { texts })
+    }
+}
+
+impl PartialEq for Label {
+    ghost eq = { pointwise (pointwise nat_eq) };
+
+    ghost laws = { laws_of.partial_equiv_from_equiv (lists_equiv nat_list_eq_equiv) };
+
+    fn eq(&self, other: &Label) -> bool {
+        self.texts == other.texts
+    }
+}
+
+impl Eq for Label {
+    ghost laws = { lists_equiv nat_list_eq_equiv };
+}
+
+/// Refuses texts that are no label.
+fn check_texts(texts: &[String]) -> Result<(), CellFault>
+    ensures { let bytes = texts_of texts.now in
+        MatchResult result (λ _. IsLabel bytes) (RefusesTexts bytes) }
+{
+    let count = texts.len();
+    if count == 0 || count > MOST_TEXTS {
+        return Err(CellFault::LabelCount { count });
+    }
+    match first_too_long(texts) {
+        Some(index) => Err(CellFault::TextTooLong { index }),
+        None => Ok(()),
+    }
+}
+
+/// The place of the first text that is too long.
+fn first_too_long(texts: &[String]) -> Option<usize>
+    ensures { result ≡ position (λ text. is_too_long (string_bytes text)) texts.now }
+{
+    texts.iter().position(|text| is_too_long(text))
+}
+
+/// Whether the text is too long.
+fn is_too_long(text: &String) -> bool
+    ensures { result ≡ is_too_long (string_bytes text.now) }
+{
+    text.as_bytes().len() > MOST_BYTES
+}
+
+/// Copies of the texts, in order.
+fn copied(alloc: Global, texts: &[String]) -> Result<Vec<String>, AllocError>
+    ensures { IfOk result (λ copies. texts_of copies.items ≡ texts_of texts.now) }
+{
+    let mut copies = Vec::with_capacity(alloc, texts.len())?;
+    for text in texts {
+        copies.push(String::from_str(alloc, text.as_str())?)?;
+    }
+    Ok(copies)
+}

@@ -1,0 +1,180 @@
+//! The names of sites.
+
+ghost use Rattle.std.specs.Prelude.{◌≡◌, ◌==◌, ◌≤◌, ◌↔◌, position, IsTrue, MatchResult, All, length, nat_eq, Some, refl};
+ghost use Rattle.std.specs.Ordering.{nat_cmp};
+ghost use Rattle.std.specs.Cmp as laws_of;
+ghost use Rattle.std.specs.Cmp.Lexicographic.{slice_cmp, pointwise, nat_list_cmp_total, nat_list_eq_equiv, texts_po};
+ghost use Rattle.cell_core.specs.SiteNames.{is_site_byte, IsSiteName, filled, unfilled, padded_name};
+ghost use Rattle.cell_core.specs.TextOrder.{texts_tie};
+
+use crate::fault::CellFault;
+use std::cmp::Ordering;
+use std::fmt;
+use std::marker::Model;
+
+/// The most bytes of a name.
+const MOST_BYTES: usize = 16;
+
+/// How many digits the name of a numbered site has.
+const DIGITS: usize = 10;
+
+/// The name of a site: 1 to 16 bytes, each of them `a` to `z`, `0` to `9` or `-`.
+///
+/// Names are ordered by their bytes, a proper prefix below the longer name.
+#[derive(Clone, Copy)]
+pub struct SiteName {
+    // The text, filled up behind with zero bytes. No name has a byte as low, so the arrays are in
+    // the order of the texts.
+    bytes: [u8; MOST_BYTES],
+}
+
+impl Model for SiteName {
+    ghost use Rattle.std.specs.Prelude.{List, ℕ};
+    ghost use Rattle.cell_core.specs.SiteNames.{KeepsName, filled, unfilled};
+
+    ghost Value = { List ℕ };
+
+    ghost view = { λ n. unfilled n.bytes };
+
+    ghost invariant = { λ n. KeepsName n.bytes };
+
+    ghost inverse = { λ text. record { bytes = filled text } };
+
+    ghost inverse_ok = { λ n kept i. record { bytes = kept.zeros i } };
+}
+
+impl SiteName {
+    ghost use Rattle.cell_core.specs.Refusals.{RefusesName};
+
+    /// The name with this text.
+    ///
+    /// Refused by [`CellFault::SiteName`] (27) where the text is no site name.
+    pub fn new(text: &str) -> Result<SiteName, CellFault>
+        ensures { MatchResult result (λ name. IsSiteName text.now × (name ≡ text.now))
+            (RefusesName text.now) }
+    {
+        let bytes = text.as_bytes();
+        if bytes.is_empty() || bytes.len() > MOST_BYTES || !are_site_bytes(bytes) {
+            return Err(CellFault::SiteName);
+        }
+        Ok(SiteName { bytes: fill(bytes) })
+    }
+
+    /// The name of a numbered site: the decimal digits of its number, with zeros in front to ten
+    /// digits.
+    pub fn of_number(n: u32) -> SiteName
+        ensures { result ≡ padded_name n }
+    {
+        let mut digits = [b'0'; DIGITS];
+        let mut rest = n;
+        for at in (0..DIGITS).rev() {
+            digits[at] = b'0' + (rest % 10) as u8;
+            rest /= 10;
+        }
+        SiteName {
+            bytes: fill(&digits),
+        }
+    }
+
+    /// The text of the name.
+    pub fn as_str(&self) -> &str
+        ensures text { result.now ≡ self.now }
+        ensures name { IsSiteName self.now }
+    {
+        let len = unfilled_len(&self.bytes);
+        str::from_utf8(&self.bytes[..len]).unwrap()
+    }
+}
+
+impl fmt::Debug for SiteName {
+    fn fmt<W: fmt::Write>(&self, f: &mut fmt::Formatter<W>) -> fmt::Result {
+        fmt::Debug::fmt(self.as_str(), f)
+    }
+}
+
+/// Shows the text of the name.
+impl fmt::Display for SiteName {
+    ghost output = { λ name. Some name };
+
+    fn fmt<W: fmt::Write>(&self, f: &mut fmt::Formatter<W>) -> fmt::Result {
+        f.write_str(self.as_str())
+    }
+}
+
+impl PartialEq for SiteName {
+    ghost eq = { pointwise nat_eq };
+
+    ghost laws = { laws_of.partial_equiv_from_equiv nat_list_eq_equiv };
+
+    fn eq(&self, other: &SiteName) -> bool {
+        self.bytes == other.bytes
+    }
+}
+
+impl Eq for SiteName {
+    ghost laws = { nat_list_eq_equiv };
+}
+
+impl PartialOrd for SiteName {
+    ghost partial_cmp = { λ x y. Some (slice_cmp nat_cmp x y) };
+
+    ghost laws = { texts_po };
+
+    fn partial_cmp(&self, other: &SiteName) -> Option<Ordering> {
+        Some(self.cmp(other))
+    }
+}
+
+impl Ord for SiteName {
+    ghost cmp = { slice_cmp nat_cmp };
+
+    ghost total = { nat_list_cmp_total };
+
+    ghost matches_partial_cmp = { λ x y. refl };
+
+    ghost matches_eq = { texts_tie };
+
+    fn cmp(&self, other: &SiteName) -> Ordering {
+        self.bytes.cmp(&other.bytes)
+    }
+}
+
+/// Whether each byte may stand in a name.
+fn are_site_bytes(bytes: &[u8]) -> bool
+    ensures { IsTrue result ↔ All (λ b. IsTrue (is_site_byte b)) bytes.now }
+{
+    bytes.iter().all(|&b| is_site_byte(b))
+}
+
+/// Whether the byte may stand in a name.
+#[tactic(auto, unfolding(crate::specs::SiteNames::is_site_byte))]
+fn is_site_byte(b: u8) -> bool
+    ensures { result ≡ is_site_byte b }
+{
+    b.is_ascii_lowercase() || b.is_ascii_digit() || b == b'-'
+}
+
+/// The text, filled up behind with zero bytes.
+fn fill(text: &[u8]) -> [u8; MOST_BYTES]
+    requires { length text.now ≤ 16 }
+    ensures { result ≡ filled text.now }
+{
+    let mut bytes = [0; MOST_BYTES];
+    bytes[..text.len()].copy_from_slice(text);
+    bytes
+}
+
+/// How many bytes stand in front of the zero bytes.
+fn unfilled_len(bytes: &[u8; MOST_BYTES]) -> usize
+    ensures text { result ≡ length (unfilled bytes.now) }
+    ensures bound { result ≤ 16 }
+{
+    first_zero(bytes).unwrap_or(MOST_BYTES)
+}
+
+/// The place of the first zero byte.
+fn first_zero(bytes: &[u8]) -> Option<usize>
+    ensures { result ≡ position (λ b. b == 0) bytes.now }
+{
+    bytes.iter().position(|&b| b == 0)
+}

@@ -1,0 +1,60 @@
+-- Small facts on tests.
+use Rattle.std.proofs.Common.{ℕ, ◌≡◌, ◌≤◌, ◌<◌, ◌⊎◌, inl, inr, Bool, true, false, refl, arith}
+use Rattle.std.specs.Prelude.{nat_le, nat_lt, ◌&&◌, ◌||◌, not}
+use Rattle.std.proofs.lemmas.Bool.Decides.{nat_tests}
+
+pub cases_bool : (b : Bool) → (b ≡ true) ⊎ (b ≡ false)
+cases_bool true = inl refl
+cases_bool false = inr refl
+
+pub each_true : (a b : Bool) → a && b ≡ true → (a ≡ true) × (b ≡ true)
+each_true true b h = (refl, h)
+each_true false b h = cc
+
+pub both : (a b : Bool) → a ≡ true → b ≡ true → a && b ≡ true
+both true b p q = q
+both false b p q = p
+
+pub one_true : (a b : Bool) → a || b ≡ true → (a ≡ true) ⊎ (b ≡ true)
+one_true true b h = inl refl
+one_true false b h = inr h
+
+pub or_left : (a b : Bool) → a ≡ true → a || b ≡ true
+or_left true b h = refl
+or_left false b h = cc
+
+pub or_right : (a b : Bool) → b ≡ true → a || b ≡ true
+or_right true b h = refl
+or_right false b h = h
+
+pub other_true : (a b : Bool) → a || b ≡ true → a ≡ false → b ≡ true
+other_true true b h e = cc
+other_true false b h e = h
+
+pub and_false : (b : Bool) → b && false ≡ false
+and_false true = refl
+and_false false = refl
+
+pub is_false : (b : Bool) → (b ≡ true → ⊥) → b ≡ false
+is_false true h = absurd (h refl)
+is_false false h = refl
+
+pub not_true : (b : Bool) → b ≡ false → not b ≡ true
+not_true true h = cc
+not_true false h = refl
+
+pub true_not : (b : Bool) → not b ≡ true → b ≡ false
+true_not true h = cc
+true_not false h = refl
+
+pub le_is : (m n : ℕ) → nat_le m n ≡ true → m ≤ n
+le_is m n h = grind (arith, nat_tests)
+
+pub is_le : (m n : ℕ) → m ≤ n → nat_le m n ≡ true
+is_le m n h = grind (arith, nat_tests)
+
+pub lt_is : (m n : ℕ) → nat_lt m n ≡ true → m < n
+lt_is m n h = grind (arith, nat_tests)
+
+pub is_lt : (m n : ℕ) → m < n → nat_lt m n ≡ true
+is_lt m n h = grind (arith, nat_tests)

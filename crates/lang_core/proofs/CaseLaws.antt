@@ -1,0 +1,64 @@
+-- Case does not matter.
+use Rattle.std.proofs.Common.{ℕ, ◌≡◌, ◌<◌, ◌==◌, List, [], ◌∷◌, Bool, refl, sym, arith}
+use Rattle.std.specs.Prelude.{◌||◌, ◌&&◌, map, suc}
+use Rattle.std.specs.List.{list_all}
+use Rattle.std.specs.Char.{to_ascii_lowercase, is_ascii_alphabetic, is_ascii_alphanumeric}
+use Rattle.std.specs.Str.{str_to_ascii_lowercase, IsAscii}
+use Rattle.std.proofs.lemmas.Bool.Decides.{nat_tests}
+use Rattle.std.proofs.lemmas.Str.Ascii.{IsAscii-nil, IsAscii-cons}
+use Rattle.lang_core.specs.Grammar.{is_letter, is_digit, is_alphanum, is_star, is_x}
+
+-- the pieces in lower case
+abbrev pub lowered : List (List ℕ) → List (List ℕ)
+lowered list = map str_to_ascii_lowercase list
+
+pub lower_hyphen : (b : ℕ) → (to_ascii_lowercase b == 45) ≡ (b == 45)
+lower_hyphen b = grind (arith, nat_tests)
+
+lower_star : (b : ℕ) → (to_ascii_lowercase b == 42) ≡ (b == 42)
+lower_star b = grind (arith, nat_tests)
+
+lower_x : (b : ℕ) → (to_ascii_lowercase b == 120) ≡ ((b == 120) || (b == 88))
+lower_x b = grind (arith, nat_tests)
+
+lower_letter : (b : ℕ) → is_letter (to_ascii_lowercase b) ≡ is_ascii_alphabetic b
+lower_letter b = grind (arith, nat_tests)
+
+pub lower_digit : (b : ℕ) → is_digit (to_ascii_lowercase b) ≡ is_digit b
+lower_digit b = grind (arith, nat_tests)
+
+lower_alphanum : (b : ℕ) → is_alphanum (to_ascii_lowercase b) ≡ is_ascii_alphanumeric b
+lower_alphanum b = grind (arith, nat_tests)
+
+and_is : (a b c d : Bool) → a ≡ c → b ≡ d → a && b ≡ c && d
+and_is a b c d e f = rw (e, f) refl
+
+list_all-lower : (low any : ℕ → Bool) (s : List ℕ) → ((b : ℕ) → low (to_ascii_lowercase b) ≡ any b) → list_all low (str_to_ascii_lowercase s) ≡ list_all any s
+list_all-lower low any [] same = refl
+list_all-lower low any (b ∷ s) same = and_is _ _ _ _ (same b) (list_all-lower low any s same)
+
+pub letters-lower : (s : List ℕ) → list_all is_ascii_alphabetic s ≡ list_all is_letter (str_to_ascii_lowercase s)
+letters-lower s = sym (list_all-lower is_letter is_ascii_alphabetic s lower_letter)
+
+pub digits-lower : (s : List ℕ) → list_all is_digit s ≡ list_all is_digit (str_to_ascii_lowercase s)
+digits-lower s = sym (list_all-lower is_digit is_digit s lower_digit)
+
+pub alphanums-lower : (s : List ℕ) → list_all is_ascii_alphanumeric s ≡ list_all is_alphanum (str_to_ascii_lowercase s)
+alphanums-lower s = sym (list_all-lower is_alphanum is_ascii_alphanumeric s lower_alphanum)
+
+pub star-lower : (s : List ℕ) → is_star (str_to_ascii_lowercase s) ≡ is_star s
+unfolding is_star
+star-lower [] = refl
+star-lower (b ∷ []) = lower_star b
+star-lower (b ∷ c ∷ s) = refl
+
+pub x-lower : (b : ℕ) → is_x (str_to_ascii_lowercase (b ∷ [])) ≡ ((b == 120) || (b == 88))
+unfolding is_x
+x-lower b = lower_x b
+
+lower_small : (b : ℕ) → to_ascii_lowercase b < 128 → b < 128
+lower_small b h = grind (arith, nat_tests)
+
+pub ascii-lower : (text : List ℕ) → IsAscii (str_to_ascii_lowercase text) → IsAscii text
+ascii-lower [] h = IsAscii-nil
+ascii-lower (b ∷ text) h = IsAscii-cons b text (lower_small b (h 0)) (ascii-lower text (λ i. h (suc i)))

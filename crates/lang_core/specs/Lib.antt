@@ -1,0 +1,14 @@
+pub mod Text
+pub mod Grammar
+pub mod Pieces
+pub mod Stage
+pub mod Fault
+pub mod RangeSyntax
+pub mod Matching
+pub mod Candidates
+pub mod Truncations
+pub mod Subtags
+pub mod Lang
+pub mod Choice
+pub mod LookupText
+pub mod Fronts

@@ -1,0 +1,47 @@
+//! Language tags (RFC 5646 section 2.1), language ranges (RFC 4647 section 2), and which range
+//! matches which tag (RFC 4647 section 3).
+//!
+//! - [`Tag`] is a well-formed tag, [`Lang`] a tag or `@none`, [`Range`] an extended range.
+//! - Ranges match tags by basic and by extended filtering, and give the texts that lookup tries.
+//! - [`LangFault`] says why a text is refused, and where.
+//!
+//! Texts are kept in lower case, at most 255 bytes. A parser finds every other refusal before it
+//! asks for memory; all calls but parsers and copies take none.
+//!
+//! ```text
+//! let tag = Tag::parse(alloc, b"de-Latn-DE")?;
+//! let range = Range::parse_extended(alloc, b"de-*-DE")?;
+//! range.matches_extended(&tag)  true
+//! range.truncations()           "de-de", "de"
+//! ```
+//!
+//! Not here: the registry of subtags (validity, preferred forms), canonical case, and distances
+//! between languages.
+#![tactic(auto)]
+
+mod fault;
+mod grammar;
+mod irregular;
+mod lang;
+pub mod laws;
+mod lookup_text;
+mod matching;
+mod pieces;
+mod range;
+mod range_syntax;
+mod stage;
+mod subtag;
+mod subtags;
+mod tag;
+#[cfg(test)]
+mod tests;
+mod text;
+mod truncations;
+
+pub use fault::LangFault;
+pub use lang::Lang;
+pub use pieces::Pieces;
+pub use range::Range;
+pub use subtags::Subtags;
+pub use tag::Tag;
+pub use truncations::Truncations;

@@ -1,0 +1,184 @@
+ghost use Rattle.std.specs.Prelude.{◌≡◌, List, ℕ, IsTrue, MatchResult, ◌↔◌, Some};
+ghost use Rattle.std.specs.Option.{option_map_or};
+ghost use Rattle.std.specs.String.{string_bytes};
+ghost use Rattle.std.specs.Str.{str_to_ascii_lowercase};
+ghost use Rattle.lang_core.specs.Text.{pieces, subtags};
+ghost use Rattle.lang_core.specs.Grammar.{BasicRange, ExtendedRange, basic_piece, extended_piece};
+ghost use Rattle.lang_core.specs.Fault.{IsRange, RefusesRange};
+ghost use Rattle.lang_core.specs.Matching.{Basic, Extended, as_basic, is_basic_match, specificity};
+ghost use Rattle.lang_core.specs.Candidates.{candidates};
+ghost use Rattle.lang_core.specs.LookupText.{lookup_text};
+ghost use Rattle.lang_core.specs.Subtags.{subtags_left};
+ghost use Rattle.lang_core.specs.Truncations.{truncations_left};
+
+use crate::fault::LangFault;
+use crate::lookup_text::make_lookup_text;
+use crate::matching::{matches_basic, matches_basic_text, matches_extended, specificity};
+use crate::range_syntax::{basic_fault, extended_fault};
+use crate::subtags::Subtags;
+use crate::tag::Tag;
+use crate::text::{MAX_LEN, lower_text};
+use crate::truncations::Truncations;
+use std::alloc::Global;
+use std::fmt;
+use std::marker::Model;
+
+/// A language range of 1 to 255 bytes, in lower case (RFC 4647 section 2).
+///
+/// Each range is an extended one; a basic range is one whose only "*", if any, is the whole range.
+#[derive(Debug, Drop)]
+pub struct Range {
+    text: String,
+    /// The text as a basic range, where it is kept apart.
+    lookup: Option<String>,
+}
+
+impl Model for Range {
+    ghost Value = { List ℕ };
+
+    ghost view = { λ r. string_bytes r.text };
+
+    ghost invariant = { λ r. IsRange ExtendedRange (string_bytes r.text)
+        × (option_map_or string_bytes r.lookup (string_bytes r.text) ≡ lookup_text (string_bytes r.text)) };
+}
+
+impl Range {
+    /// The basic range that the bytes spell in any case (RFC 4647 section 2.1), as `de-ch` or `*`.
+    ///
+    /// Refused are, in this order, an empty text, one over 255 bytes, and the first subtag that a
+    /// basic range may not have at its place. Only then one allocation is made, of the range's
+    /// size, and want of memory is the last refusal.
+    ///
+    /// ```text
+    /// Range::parse_basic(alloc, b"de-CH")?.as_str()  "de-ch"
+    /// Range::parse_basic(alloc, b"de-*")             Err(RangeSubtag { offset: 3 })
+    /// ```
+    pub fn parse_basic(alloc: Global, text: &[u8]) -> Result<Range, LangFault>
+        ensures { let lower = str_to_ascii_lowercase text.now in MatchResult result (λ range. IsRange BasicRange lower × (range ≡ lower)) (RefusesRange BasicRange basic_piece lower) }
+    {
+        if text.is_empty() {
+            return Err(LangFault::RangeEmpty);
+        }
+        if text.len() > MAX_LEN {
+            return Err(LangFault::RangeTooLong);
+        }
+        if let Some(offset) = basic_fault(text) {
+            return Err(LangFault::RangeSubtag { offset });
+        }
+        let text = lower_text(alloc, text)?;
+        Ok(Range { text, lookup: None })
+    }
+
+    /// The extended range that the bytes spell in any case (RFC 4647 section 2.2), as `de-*-ch`.
+    ///
+    /// Refused are, in this order, an empty text, one over 255 bytes, and the first subtag that an
+    /// extended range may not have at its place. Only then two allocations are made, for the text
+    /// and the lookup text, and want of memory is the last refusal.
+    ///
+    /// ```text
+    /// Range::parse_extended(alloc, b"de-*-CH")?.lookup_text()  "de-ch"
+    /// Range::parse_extended(alloc, b"*-")                      Err(RangeSubtag { offset: 2 })
+    /// ```
+    pub fn parse_extended(alloc: Global, text: &[u8]) -> Result<Range, LangFault>
+        ensures { let lower = str_to_ascii_lowercase text.now in MatchResult result (λ range. IsRange ExtendedRange lower × (range ≡ lower)) (RefusesRange ExtendedRange extended_piece lower) }
+    {
+        if text.is_empty() {
+            return Err(LangFault::RangeEmpty);
+        }
+        if text.len() > MAX_LEN {
+            return Err(LangFault::RangeTooLong);
+        }
+        if let Some(offset) = extended_fault(text) {
+            return Err(LangFault::RangeSubtag { offset });
+        }
+        let text = lower_text(alloc, text)?;
+        let lookup = make_lookup_text(alloc, text.as_str())?;
+        Ok(Range {
+            text,
+            lookup: Some(lookup),
+        })
+    }
+
+    /// The range's text in lower case, each "*" included.
+    pub fn as_str(&self) -> &str
+        ensures text { result.now ≡ self.now }
+        ensures range { IsRange ExtendedRange result.now }
+    {
+        self.text.as_str()
+    }
+
+    /// The text of the range as a basic one, made when the range was parsed: "*" where the range
+    /// begins with "*", else its subtags without each "*" (RFC 4647 section 3.2).
+    pub fn lookup_text(&self) -> &str
+        ensures { result.now ≡ lookup_text self.now }
+    {
+        match &self.lookup {
+            Some(text) => text.as_str(),
+            None => self.text.as_str(),
+        }
+    }
+
+    /// The subtags, each "*" included, in order.
+    pub fn subtags(&self) -> Subtags<'_>
+        ensures { subtags_left result ≡ pieces self.now }
+    {
+        Subtags::new(self.text.as_str())
+    }
+
+    /// The number of subtags other than "*".
+    pub fn specificity(&self) -> usize
+        ensures { result ≡ specificity (pieces self.now) }
+    {
+        specificity(self.text.as_bytes())
+    }
+
+    /// Basic filtering (RFC 4647 section 3.3.1): the range is "*", or its subtags are the tag's
+    /// first ones. `de` matches `de-CH` and not `deu`; a range with an inner "*" matches nothing.
+    pub fn matches_basic(&self, tag: &Tag) -> bool
+        ensures basic { IsTrue result ↔ Basic (pieces self.now) (pieces tag.now) }
+        ensures test { result ≡ is_basic_match (pieces self.now) (pieces tag.now) }
+    {
+        matches_basic(self.text.as_bytes(), tag.as_str().as_bytes())
+    }
+
+    /// Basic filtering of any text in any case, whether it is a tag or not.
+    ///
+    /// "*" matches every text, `@none` and the empty one among them.
+    pub fn matches_basic_text(&self, text: &str) -> bool
+        ensures basic { IsTrue result ↔ Basic (pieces self.now) (subtags text.now) }
+        ensures test { result ≡ is_basic_match (pieces self.now) (subtags text.now) }
+    {
+        matches_basic_text(self.as_str().as_bytes(), text.as_bytes())
+    }
+
+    /// Extended filtering (RFC 4647 section 3.3.2): the first subtags match, and the others of the
+    /// range but "*" stand among the others of the tag in this order, with no single letter or
+    /// digit passed over. `de-*-DE` matches `de-Latn-DE` and not `de-x-DE`.
+    pub fn matches_extended(&self, tag: &Tag) -> bool
+        ensures { IsTrue result ↔ Extended (pieces self.now) (pieces tag.now) }
+    {
+        matches_extended(self.text.as_bytes(), tag.as_str().as_bytes())
+    }
+
+    /// The lookup text and its truncations, longest first, as slices of it (RFC 4647 section 3.4).
+    ///
+    /// A single letter or digit goes with the subtag after it, and one that would be left alone
+    /// leaves nothing. The lookup text itself always comes first.
+    ///
+    /// ```text
+    /// zh-Hant-CN-x-private1  zh-hant-cn-x-private1, zh-hant-cn, zh-hant, zh
+    /// ```
+    pub fn truncations(&self) -> Truncations<'_>
+        ensures { truncations_left result ≡ candidates (as_basic (pieces self.now)) }
+    {
+        Truncations::new(self.lookup_text())
+    }
+}
+
+impl fmt::Display for Range {
+    ghost output = { λ range. Some range };
+
+    fn fmt<W: fmt::Write>(&self, f: &mut fmt::Formatter<W>) -> fmt::Result {
+        f.write_str(self.as_str())
+    }
+}

@@ -1,0 +1,4 @@
+pub mod AppLemmas
+pub mod PickLaws
+pub mod PickLemmas
+pub mod ProgramLemmas

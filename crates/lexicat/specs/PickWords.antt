@@ -1,0 +1,24 @@
+-- What the words of a `pick` ask (own rule).
+use Rattle.std.specs.Prelude.{List, Option, None, Some, codes, option_and_then, option_map, if◌then◌else◌}
+use Rattle.std.specs.Str.{bytes_eq}
+use Rattle.clap.specs.Words.{Row, Text, all_of, first_of}
+use Rattle.nego_core.specs.declared.scheme.Scheme.{Scheme}
+use Rattle.nego_core.specs.declared.scheme.Scheme.TheVariants.{Basic, Extended}
+
+pub record PickWords : Type 0 where
+  pub scheme : Scheme
+  pub ranges : Text
+  pub tags : List Text
+
+-- the scheme of a word; where there is none, the basic one
+abbrev pub scheme_of : Option Text → Scheme
+scheme_of None = Basic
+scheme_of (Some word) = if bytes_eq word (codes "extended") then Extended else Basic
+
+-- none where RANGES or the tags are missing
+abbrev pub pick_words : List Row → Option PickWords
+pick_words rows = option_and_then (λ ranges. option_map (λ tags. record {
+  scheme = scheme_of (first_of (codes "scheme") rows);
+  ranges = ranges;
+  tags = tags;
+}) (all_of (codes "tags") rows)) (first_of (codes "ranges") rows)

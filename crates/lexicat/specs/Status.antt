@@ -1,0 +1,6 @@
+-- What the program ends with (own rule).
+use Rattle.std.specs.Prelude.{ℕ, ◌==◌, ◌||◌, if◌then◌else◌}
+
+-- the status of a refusal, by its number: 24 and 25 are faults of a stream, 26 is want of memory
+abbrev pub status_of : ℕ → ℕ
+status_of number = if (number == 24) || (number == 25) then 4 else (if number == 26 then 5 else 3)

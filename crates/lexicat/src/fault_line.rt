@@ -1,0 +1,64 @@
+//! The line that tells a refusal, and the status that goes with it. The line takes no memory, and
+//! where its writer fails the rest of it is left out.
+ghost use Rattle.std.specs.Prelude.{◌≡◌, false};
+ghost use Rattle.docs_core.specs.Faults.{number_of};
+ghost use Rattle.lexicat.specs.Status.{status_of};
+
+use crate::status;
+use docs_core::{DocFault, Sink, write_out};
+use itoa::Buffer;
+use std::fmt;
+use std::fmt::Write;
+
+/// Text that goes to a sink piece by piece, until the sink fails.
+#[derive(Drop)]
+struct Pieces<'a, S> {
+    sink: &'a mut S,
+}
+
+impl<S: Sink> Write for Pieces<'_, S> {
+    fn write_str(&mut self, text: &str) -> fmt::Result {
+        if self.sink.failed() || write_out(self.sink, text.as_bytes()).is_err() {
+            return Err(fmt::Error);
+        }
+        Ok(())
+    }
+}
+
+/// A refusal of the command's words: `refused N: TEXT`.
+#[derive(Clone, Copy)]
+struct WordRefusal<'a, T> {
+    number: u8,
+    text: &'a T,
+}
+
+impl<T: fmt::Display> fmt::Display for WordRefusal<'_, T> {
+    fn fmt<W: fmt::Write>(&self, f: &mut fmt::Formatter<W>) -> fmt::Result {
+        f.write_str("refused ")?;
+        f.write_str(Buffer::new().format(self.number))?;
+        f.write_str(": ")?;
+        self.text.fmt(f)
+    }
+}
+
+/// Tells a refusal of the command's words, and gives its status.
+pub fn refuse_words<S: Sink, T: fmt::Display>(faults: &mut S, number: u8, text: &T) -> u8
+    ensures { result ≡ status_of number }
+{
+    tell(faults, WordRefusal { number, text });
+    status::of_refusal(number)
+}
+
+/// Writes the text and LF.
+fn tell<S: Sink, T: fmt::Display + Drop>(faults: &mut S, text: T) {
+    let mut pieces = Pieces { sink: faults };
+    let _ = pieces.writeln(text);
+}
+
+/// Tells a refusal of a document or a stream, and gives its status.
+pub fn refuse_document<S: Sink>(faults: &mut S, fault: DocFault) -> u8
+    ensures { result ≡ status_of (number_of fault.cause) }
+{
+    tell(faults, fault);
+    status::of_refusal(fault.number())
+}

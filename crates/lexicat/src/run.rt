@@ -1,0 +1,64 @@
+//! The whole program, over any streams.
+ghost use Rattle.std.specs.Prelude.{◌≡◌, ◌≤◌, false, codes, map, string_bytes, IfOk, IfSome};
+ghost use Rattle.clap.specs.Words.{kind_of, fault_of, subcommand_of, subcommand_rows_of, FailsBy};
+ghost use Rattle.lexicat.specs.Program.{MatchesBy, RunsBy, TellsBy};
+
+use crate::act::act;
+use crate::commands::lexicat;
+use crate::status;
+use clap::error::ErrorKind;
+use clap::{ArgMatches, Error};
+use docs_core::{Sink, Source, write_out};
+use std::alloc::Global;
+
+/// The words of `--scheme`.
+static SCHEMES: [&str; 2] = ["basic", "extended"];
+
+/// Runs the program on the words after its name, and gives its status.
+pub fn run<R: Source, W: Sink, F: Sink>(
+    alloc: Global,
+    words: &[String],
+    reader: &mut R,
+    writer: &mut W,
+    faults: &mut F,
+) -> u8
+    requires reads { R.failed reader.old ≡ false }
+    requires writes { W.failed writer.old ≡ false }
+    requires tells { F.failed faults.old ≡ false }
+    ensures runs { RunsBy W.contents W.failed (map string_bytes words.now) writer.old writer.new result }
+    ensures unread { reader.new ≡ reader.old }
+    ensures quiet { result ≤ 1 → faults.new ≡ faults.old }
+{
+    match matches_of(alloc, words) {
+        Ok(matches) => act(alloc, &matches, reader, writer, faults),
+        Err(error) => tell(alloc, &error, writer, faults),
+    }
+}
+
+fn matches_of(alloc: Global, words: &[String]) -> Result<ArgMatches<'_>, Error>
+    ensures { MatchesBy (map string_bytes words.now) result }
+{
+    lexicat(alloc, SCHEMES.as_slice())?.try_get_matches_from(words)
+}
+
+/// Writes the help, the version or the usage.
+fn tell<W: Sink, F: Sink>(alloc: Global, error: &Error, writer: &mut W, faults: &mut F) -> u8
+    requires writes { W.failed writer.old ≡ false }
+    requires tells { F.failed faults.old ≡ false }
+    ensures tells { TellsBy W.contents W.failed (kind_of error.now) writer.old writer.new result }
+    ensures quiet { result ≤ 1 → faults.new ≡ faults.old }
+{
+    if error.kind() == ErrorKind::OutOfMemory {
+        return status::OUT_OF_MEMORY;
+    }
+    let Ok(text) = error.to_string(alloc) else {
+        return status::OUT_OF_MEMORY;
+    };
+    if error.use_stderr() {
+        let _ = write_out(faults, text.as_bytes());
+        status::USAGE
+    } else {
+        let _ = write_out(writer, text.as_bytes());
+        status::ANSWERED
+    }
+}

@@ -1,0 +1,92 @@
+//! The numbers, the texts and the lines of refusals.
+use super::harness::Page;
+use crate::fault_line::{refuse_document, refuse_words};
+use crate::pick_fault::PickFault;
+use docs_core::{DocCause, DocFault, Output};
+use lang_core::LangFault;
+use nego_core::NegoFault;
+use std::alloc::AllocError;
+use std::test::Fail;
+
+#[test]
+fn pick_faults(rt: HostRuntime) -> Result<(), Fail> {
+    let rows = [
+        (
+            PickFault::Tag(LangFault::TagEmpty),
+            1,
+            "refused 1: tag is empty\n",
+        ),
+        (
+            PickFault::Tag(LangFault::TagTooLong),
+            2,
+            "refused 2: tag is over 255 bytes\n",
+        ),
+        (
+            PickFault::Tag(LangFault::TagSubtag { offset: 254 }),
+            3,
+            "refused 3: subtag at 254\n",
+        ),
+        (
+            PickFault::Tag(LangFault::TagNotWellFormed),
+            4,
+            "refused 4: tag is not well-formed\n",
+        ),
+        (
+            PickFault::Ranges(NegoFault::FieldTooLong),
+            8,
+            "refused 8: field is over 65535 bytes\n",
+        ),
+        (
+            PickFault::Ranges(NegoFault::FieldMalformed { offset: 65_534 }),
+            9,
+            "refused 9: field element at 65534\n",
+        ),
+        (PickFault::NoMemory, 26, "refused 26: out of memory\n"),
+    ];
+    for (fault, number, line) in rows {
+        let mut page = Page::new(rt.alloc());
+        assert_eq!(rt; fault.number(), number);
+        let status = refuse_words(&mut Output::new(&mut page), number, &fault);
+        assert_eq!(rt; status, if number == 26 { 5 } else { 3 });
+        assert!(rt; page.bytes.as_slice() == line.as_bytes(), "{line}");
+    }
+    Ok(())
+}
+
+/// Want of memory has one form, from wherever it comes.
+#[test]
+fn one_form(rt: HostRuntime) {
+    assert_eq!(rt; PickFault::from(NegoFault::NoMemory), PickFault::NoMemory);
+    assert_eq!(rt; PickFault::from(LangFault::NoMemory), PickFault::NoMemory);
+    assert_eq!(rt; PickFault::from(AllocError), PickFault::NoMemory);
+}
+
+/// A refusal of a document is told as the fault itself says it, with LF.
+#[test]
+fn document_faults(rt: HostRuntime) -> Result<(), Fail> {
+    let alloc = rt.alloc();
+    let rows = [
+        (
+            0,
+            DocCause::TooLarge,
+            3,
+            "refused 23: document is over 67108864 bytes\n",
+        ),
+        (0, DocCause::ReadFault, 4, "refused 24: read fault\n"),
+        (0, DocCause::WriteFault, 4, "refused 25: write fault\n"),
+        (0, DocCause::NoMemory, 5, "refused 26: out of memory\n"),
+        (
+            2,
+            DocCause::TooLarge,
+            3,
+            "refused 23: document is over 67108864 bytes of document 2\n",
+        ),
+    ];
+    for (document, cause, status, line) in rows {
+        let mut page = Page::new(alloc);
+        let fault = DocFault { document, cause };
+        assert_eq!(rt; refuse_document(&mut Output::new(&mut page), fault), status);
+        assert!(rt; page.bytes.as_slice() == line.as_bytes(), "{line}");
+    }
+    Ok(())
+}

@@ -1,0 +1,42 @@
+//! Words that are no command of the program.
+use super::harness::{has_text, run_words};
+use std::test::Fail;
+
+#[test]
+fn faults_in_the_words(rt: HostRuntime) -> Result<(), Fail> {
+    let rows: [&[&str]; 13] = [
+        &[],
+        &["pick"],
+        &["pick", "en"],
+        &["choose", "en", "en"],
+        &["help"],
+        &["pick", "--scheme", "other", "en", "en"],
+        &["pick", "--scheme"],
+        &["pick", "--scheme", "basic", "--scheme", "basic", "en", "en"],
+        &["pick", "--now", "5", "en", "en"],
+        &["pick", "-x", "en"],
+        &["pick", "en", "-x"],
+        &["--scheme", "basic", "pick", "en", "en"],
+        &["pick", "--scheme=", "en", "en"],
+    ];
+    for words in rows {
+        let ran = run_words(rt.alloc(), words)?;
+        assert_eq!(rt; ran.status, 2, "{words:?}");
+        assert!(rt; ran.output.is_empty(), "{words:?}");
+        assert!(rt; has_text(&ran.told, "--help"), "{words:?}");
+        assert!(rt; !ran.is_read, "{words:?}");
+    }
+    Ok(())
+}
+
+/// A lone "-" is a word like any other.
+#[test]
+fn lone_dash(rt: HostRuntime) -> Result<(), Fail> {
+    let ran = run_words(rt.alloc(), &["pick", "-", "en"])?;
+    assert_eq!(rt; ran.status, 3);
+    assert!(rt; ran.told.as_slice() == b"refused 9: field element at 0\n".as_slice());
+    let ran = run_words(rt.alloc(), &["pick", "en", "-"])?;
+    assert_eq!(rt; ran.status, 3);
+    assert!(rt; ran.told.as_slice() == b"refused 3: subtag at 0\n".as_slice());
+    Ok(())
+}

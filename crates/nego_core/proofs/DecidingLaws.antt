@@ -1,0 +1,189 @@
+-- The deciding item.
+use Rattle.std.proofs.Common.{ℕ, ◌≡◌, ◌≤◌, ◌<◌, ◌+◌, ◌⊎◌, List, [], ◌∷◌, true, inl, inr, refl, sym, ◌∙◌, ap, subst, arith, length, get_or, take, length-take-le}
+use Rattle.std.specs.Prelude.{Option, Some, None, MatchOption, IsSomeAnd}
+use Rattle.std.proofs.lemmas.Bool.{cases_lt, cases_order, cases_Bool}
+use Rattle.std.proofs.lemmas.Option.{slice_get_within}
+use Rattle.lang_core.specs.Text.{pieces, joined}
+use Rattle.lang_core.specs.Lang.{tag_of}
+use Rattle.lang_core.specs.Matching.{Basic, specificity}
+use Rattle.std.specs.Str.{bytes_eq}
+use Rattle.std.proofs.lemmas.Slice.Eq.{bytes_eq-Decides}
+use Rattle.nego_core.proofs.Basics.{same_at, stands_at}
+use Rattle.nego_core.proofs.Fronts.{IsTextFront, joined-pieces, star_pieces, front_of_text, text_of_front, front_within, front_is_take, take_is_front}
+use Rattle.nego_core.proofs.BestLaws.{best_same, better_joins}
+use Rattle.nego_core.specs.RangeIndex.{IsFirstWith}
+use Rattle.nego_core.specs.Item.{Item}
+use Rattle.nego_core.specs.Basics.{IsTheOne}
+use Rattle.nego_core.specs.Best.{better, IsBestOf, IsBest, NoneFits}
+use Rattle.nego_core.specs.Deciding.{Matches, IsMostSpecific, IsDeciding, IsDecidedBy, IsDecidingWeight, DecidesLang, IsAny, MatchesNamed}
+use Rattle.nego_core.specs.declared.best.Best.{Best}
+use Rattle.nego_core.specs.declared.priority_list.Decision.{Decision}
+use Rattle.nego_core.specs.declared.scheme.Scheme.{Scheme}
+
+-- the most specific item stands at one place
+pub one_most_specific : (Fits : Item → Type 0) (items : List Item) (p q : ℕ) → IsMostSpecific Fits items p → IsMostSpecific Fits items q → q ≡ p
+one_most_specific Fits items p q d f = elim (cases_order q p) [
+  | inl e ↦ e
+  | inr r ↦ elim r [
+    | inl less ↦ absurd (let a = d.first q f.item less f.stands f.fits in let b = f.most p d.item d.stands d.fits in omega arith)
+    | inr more ↦ absurd (let a = f.first p d.item more d.stands d.fits in let b = d.most q f.item f.stands f.fits in omega arith)
+  ]
+]
+
+-- a deciding item stands at one place
+pub one_place : (scheme : Scheme) (items : List Item) (tag : List (List ℕ)) (p q : ℕ) → IsDeciding scheme items tag p → IsDeciding scheme items tag q → q ≡ p
+one_place scheme items tag p q d f = one_most_specific (λ i. Matches scheme (pieces i.range) tag) items p q d f
+
+-- and has one weight
+pub one_item_weight : (Fits : Item → Type 0) (items : List Item) (p q : ℕ) → (d : IsMostSpecific Fits items p) → (f : IsMostSpecific Fits items q) → f.item.weight ≡ d.item.weight
+one_item_weight Fits items p q d f = ap (λ (x : Item). x.weight) (same_at items q p d.item f.item (one_most_specific Fits items p q d f) d.stands f.stands)
+
+pub two_weights : (scheme : Scheme) (items : List Item) (tag : List (List ℕ)) (p q : ℕ) → (d : IsDeciding scheme items tag p) → (f : IsDeciding scheme items tag q) → f.item.weight ≡ d.item.weight
+two_weights scheme items tag p q d f = one_item_weight (λ i. Matches scheme (pieces i.range) tag) items p q d f
+
+-- ---- the best is the most specific
+
+pub most_specific : (Fits : Item → Type 0) (items : List Item) (best : Best) → IsBestOf (λ _ i. Fits i) items best → IsMostSpecific Fits items best.place
+most_specific Fits items best h = record {
+  item = h.item;
+  stands = h.stands;
+  fits = h.fits;
+  most = λ k other s f. (let m = h.most k other s f in let n = h.named_is in omega arith);
+  first = λ k other low s f. (let m = h.first k other low s f in let n = h.named_is in omega arith);
+}
+
+pub the_best : (scheme : Scheme) (items : List Item) (tag : List (List ℕ)) (best : Best) → IsBest (λ _ i. Matches scheme (pieces i.range) tag) items (Some best) → IsTheOne (Some best.place) (IsDeciding scheme items tag)
+the_best scheme items tag best h =
+    let d = most_specific (λ i. Matches scheme (pieces i.range) tag) items best h in
+    (d, λ q f. one_place scheme items tag best.place q d f)
+
+pub no_best : (scheme : Scheme) (items : List Item) (tag : List (List ℕ)) → IsBest (λ _ i. Matches scheme (pieces i.range) tag) items None → IsTheOne None (IsDeciding scheme items tag)
+no_best scheme items tag h = λ p d. h p d.item d.stands d.fits
+
+-- ---- its weight
+
+pub stands_within : (Fits : Item → Type 0) (items : List Item) (place : ℕ) → IsMostSpecific Fits items place → place < length items
+stands_within Fits items place d = slice_get_within items place d.item d.stands
+
+pub weight_is : (Fits : Item → Type 0) (items : List Item) (place : ℕ) (j : Item) → (d : IsMostSpecific Fits items place) → j ≡ get_or items place j → d.item.weight ≡ j.weight
+weight_is Fits items place j d e = ap (λ (x : Item). x.weight) (same_at items place place j d.item refl (stands_at items place j (stands_within Fits items place d) e) d.stands)
+
+pub decided_by : (scheme : Scheme) (items : List Item) (tag : List (List ℕ)) (place : ℕ) (j : Item) → IsDeciding scheme items tag place → j ≡ get_or items place j → IsDecidedBy scheme items tag place j.weight
+decided_by scheme items tag place j d e = (d, weight_is (λ i. Matches scheme (pieces i.range) tag) items place j d e)
+
+pub one_weight : (scheme : Scheme) (items : List Item) (tag : List (List ℕ)) (place weight : ℕ) → IsDecidedBy scheme items tag place weight → IsTheOne (Some weight) (IsDecidingWeight scheme items tag)
+one_weight scheme items tag place weight d = ((place, d), λ m w. sym w.1.1 ∙ (two_weights scheme items tag place w.0 d.0 w.1.0 ∙ d.1))
+
+pub no_weight : (scheme : Scheme) (items : List Item) (tag : List (List ℕ)) → ((place : ℕ) → ¬ IsDeciding scheme items tag place) → IsTheOne None (IsDecidingWeight scheme items tag)
+no_weight scheme items tag h = λ m w. h w.0 w.1.0
+
+-- ---- languages
+
+pub lang_decided : (scheme : Scheme) (items : List Item) (lang tag : List ℕ) (place weight : ℕ) → Some tag ≡ tag_of lang → IsDecidedBy scheme items (pieces tag) place weight → DecidesLang scheme items lang place weight
+lang_decided scheme items lang tag place weight e d = subst (λ (o : Option (List ℕ)). IsSomeAnd o (λ t. IsDecidedBy scheme items (pieces t) place weight)) e d
+
+pub lang_undecided : (scheme : Scheme) (items : List Item) (lang tag : List ℕ) → Some tag ≡ tag_of lang → ((place : ℕ) → ¬ IsDeciding scheme items (pieces tag) place) → (place weight : ℕ) → ¬ DecidesLang scheme items lang place weight
+lang_undecided scheme items lang tag e h place weight d = h place (subst (λ (o : Option (List ℕ)). IsSomeAnd o (λ t. IsDecidedBy scheme items (pieces t) place weight)) (sym e) d).0
+
+pub none_undecided : (scheme : Scheme) (items : List Item) (lang : List ℕ) → None ≡ tag_of lang → (place weight : ℕ) → ¬ DecidesLang scheme items lang place weight
+none_undecided scheme items lang e place weight d = subst (λ (o : Option (List ℕ)). IsSomeAnd o (λ t. IsDecidedBy scheme items (pieces t) place weight)) (sym e) d
+
+-- a language is decided in one way
+two_decided : (scheme : Scheme) (items : List Item) (tag : Option (List ℕ)) (p q m n : ℕ) → IsSomeAnd tag (λ t. IsDecidedBy scheme items (pieces t) p m) → IsSomeAnd tag (λ t. IsDecidedBy scheme items (pieces t) q n) → (q ≡ p) × (n ≡ m)
+two_decided scheme items None p q m n d f = absurd d
+two_decided scheme items (Some t) p q m n d f = (one_place scheme items (pieces t) p q d.0 f.0, sym f.1 ∙ (two_weights scheme items (pieces t) p q d.0 f.0 ∙ d.1))
+
+pub one_decision : (scheme : Scheme) (items : List Item) (lang : List ℕ) (p q m n : ℕ) → DecidesLang scheme items lang p m → DecidesLang scheme items lang q n → (q ≡ p) × (n ≡ m)
+one_decision scheme items lang p q m n d f = two_decided scheme items (tag_of lang) p q m n d f
+
+-- ---- under the basic match
+
+pub best_of_first : (items : List Item) (text : List ℕ) (place named : ℕ) (j : Item) → IsFirstWith items text place → j ≡ get_or items place j → named ≡ specificity (pieces j.range) → IsBestOf (λ _ i. i.range ≡ text) items (record { place = place; named = named })
+best_of_first items text place named j f e n =
+    let same : f.item ≡ j = same_at items place place j f.item refl (stands_at items place j (slice_get_within items place f.item f.stands) e) f.stands in
+    let size : named ≡ specificity (pieces f.item.range) = n ∙ ap (λ (x : Item). specificity (pieces x.range)) (sym same) in
+    record {
+      item = f.item;
+      stands = f.stands;
+      named_is = size;
+      fits = f.same;
+      most = λ k other s t. (let alike : specificity (pieces other.range) ≡ specificity (pieces f.item.range) = ap (λ (x : List ℕ). specificity (pieces x)) (t ∙ sym f.same) in omega arith);
+      first = λ k other low s t. absurd (f.first k other low s t);
+    }
+
+pub any_named : (items : List Item) (text : List ℕ) → text ≡ 42 ∷ [] → NoneFits (λ _ i. (¬ IsAny i) × (i.range ≡ text)) items
+any_named items text e = λ k other s f. f.0 (f.1 ∙ e)
+
+pub other_named : (items : List Item) (text : List ℕ) (best : Option Best) → (text ≡ 42 ∷ [] → ⊥) → IsBest (λ _ i. i.range ≡ text) items best → IsBest (λ _ i. (¬ IsAny i) × (i.range ≡ text)) items best
+other_named items text best n h = best_same (λ _ i. i.range ≡ text) (λ _ i. (¬ IsAny i) × (i.range ≡ text)) items best (λ k i. ((λ e. ((λ a. n (sym e ∙ a)), e)), (λ p. p.1))) h
+
+-- another range than "*", of fewer bytes, is a front of the text
+abbrev pub IsShort : List ℕ → ℕ → Item → Type 0
+IsShort text n i = (¬ IsAny i) × IsTextFront i.range text × (length i.range < n)
+
+pub none_short : (items : List Item) (text : List ℕ) → IsBest (λ _ i. IsShort text 0 i) items None
+none_short items text = λ k other s f. let l = f.2 in absurd (omega arith)
+
+pub short_more : (items : List Item) (text start : List ℕ) (at : ℕ) (best found : Option Best) → at < length text → get_or text at 0 ≡ 45 → start ≡ take at text → IsBest (λ _ i. IsShort text at i) items best → IsBest (λ _ i. (¬ IsAny i) × (i.range ≡ start)) items found → IsBest (λ _ i. IsShort text (at + 1) i) items (better best found)
+short_more items text start at best found low hyphen e h f =
+    better_joins (λ _ i. IsShort text at i) (λ _ i. (¬ IsAny i) × (i.range ≡ start)) (λ _ i. IsShort text (at + 1) i) items best found
+    (λ k i. (
+      (λ s. (s.0, s.1, (let l = s.2 in omega arith))),
+      (λ p. (let same : i.range ≡ take at text = p.1 ∙ e in let size : length (take at text) ≡ at = length-take-le at text (omega arith) in let n : length i.range ≡ length (take at text) = ap length same in
+          (p.0, subst (λ (x : List ℕ). IsTextFront x text) (sym same) (take_is_front text at low hyphen), omega arith))),
+      (λ s. elim (cases_lt (length i.range) at) [
+        | inl less ↦ inl (s.0, s.1, less)
+        | inr more ↦ inr (s.0, (front_is_take i.range text at (let l = s.2 in omega arith) low s.1).0 ∙ sym e)
+      ]),
+    ))
+    h f
+
+pub short_same : (items : List Item) (text : List ℕ) (at : ℕ) (best : Option Best) → at < length text → (get_or text at 0 ≡ 45 → ⊥) → IsBest (λ _ i. IsShort text at i) items best → IsBest (λ _ i. IsShort text (at + 1) i) items best
+short_same items text at best low other h = best_same (λ _ i. IsShort text at i) (λ _ i. IsShort text (at + 1) i) items best
+    (λ k i. (
+      (λ s. (s.0, s.1, (let l = s.2 in omega arith))),
+      (λ s. elim (cases_lt (length i.range) at) [
+        | inl less ↦ (s.0, s.1, less)
+        | inr more ↦ absurd (other (front_is_take i.range text at (let l = s.2 in omega arith) low s.1).1)
+      ]),
+    ))
+    h
+
+basic_named : (text : List ℕ) (i : Item) → MatchesNamed (pieces text) i → IsTextFront i.range text
+basic_named text i (n, inl any) = absurd (n (sym (joined-pieces i.range) ∙ ap joined any))
+basic_named text i (n, inr f) = text_of_front i.range text f
+
+pub all_named : (items : List Item) (text : List ℕ) (at : ℕ) (best found : Option Best) → length text ≤ at → at ≤ length text → IsBest (λ _ i. IsShort text at i) items best → IsBest (λ _ i. (¬ IsAny i) × (i.range ≡ text)) items found → IsBest (λ _ i. MatchesNamed (pieces text) i) items (better best found)
+all_named items text at best found le ge h f =
+    better_joins (λ _ i. IsShort text at i) (λ _ i. (¬ IsAny i) × (i.range ≡ text)) (λ _ i. MatchesNamed (pieces text) i) items best found
+    (λ k i. (
+      (λ s. (s.0, inr (front_of_text i.range text s.1))),
+      (λ p. (p.0, inr (front_of_text i.range text (inl (sym p.1))))),
+      (λ m. (let front = basic_named text i m in elim (front_within i.range text front) [
+        | inl same ↦ inr (m.0, sym same)
+        | inr less ↦ inl (m.0, front, omega arith)
+      ])),
+    ))
+    h f
+
+any_basic : (text : List ℕ) (i : Item) → IsAny i → Basic (pieces i.range) (pieces text)
+any_basic text i a = inl (ap pieces a ∙ star_pieces)
+
+any_or_not : (i : Item) → IsAny i ⊎ (¬ IsAny i)
+any_or_not i = elim (cases_Bool (bytes_eq i.range (42 ∷ []))) [
+  | inl e ↦ inl ((bytes_eq-Decides i.range (42 ∷ [])).0 e)
+  | inr e ↦ inr (λ a. let g : bytes_eq i.range (42 ∷ []) ≡ true = (bytes_eq-Decides i.range (42 ∷ [])).1 a in cc)
+]
+
+pub all_basic : (items : List Item) (text : List ℕ) (named any : Option Best) → IsBest (λ _ i. MatchesNamed (pieces text) i) items named → IsBest (λ _ i. i.range ≡ 42 ∷ []) items any → IsBest (λ _ i. Basic (pieces i.range) (pieces text)) items (better named any)
+all_basic items text named any h f =
+    better_joins (λ _ i. MatchesNamed (pieces text) i) (λ _ i. i.range ≡ 42 ∷ []) (λ _ i. Basic (pieces i.range) (pieces text)) items named any
+    (λ k i. ((λ m. m.1), (λ a. any_basic text i a), (λ b. elim (any_or_not i) [ inl a ↦ inr a | inr n ↦ inl (n, b) ])))
+    h f
+
+-- ---- what the code decides
+
+pub decision_on_lang : (scheme : Scheme) (items : List Item) (lang tag : List ℕ) (r : Option Decision) → Some tag ≡ tag_of lang → MatchOption r ((place : ℕ) → ¬ IsDeciding scheme items (pieces tag) place) (λ d. IsDecidedBy scheme items (pieces tag) d.place d.weight)
+    → MatchOption r ((place weight : ℕ) → ¬ DecidesLang scheme items lang place weight) (λ d. DecidesLang scheme items lang d.place d.weight)
+decision_on_lang scheme items lang tag None e h = lang_undecided scheme items lang tag e h
+decision_on_lang scheme items lang tag (Some d) e h = lang_decided scheme items lang tag d.place d.weight e h

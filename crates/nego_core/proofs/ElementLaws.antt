@@ -1,0 +1,161 @@
+-- An element, read from left to right.
+use Rattle.std.proofs.Common.{ℕ, ◌≡◌, ◌<◌, ◌⊎◌, inl, inr, List, [], ◌∷◌, ◌++◌, true, false, length, refl, sym, ◌∙◌, ap, subst, arith, append_assoc}
+use Rattle.std.specs.List.{list_all}
+use Rattle.std.specs.Str.{str_to_ascii_lowercase}
+use Rattle.std.specs.Char.{to_ascii_lowercase}
+use Rattle.std.proofs.lemmas.Bool.{and_from, and_parts, cases_Bool}
+use Rattle.std.proofs.lemmas.Bool.Decides.{nat_tests}
+use Rattle.std.proofs.lemmas.List.{length-map}
+use Rattle.lang_core.specs.Text.{pieces}
+use Rattle.lang_core.specs.Grammar.{ExtendedRange}
+use Rattle.lang_core.specs.Fault.{IsRange, IsSized}
+use Rattle.lang_core.proofs.RangeText.{is_range_byte, range_bytes, basic_extended}
+use Rattle.nego_core.proofs.BlanksLaws.{cut_only, blanks_end, blank_stops}
+use Rattle.nego_core.proofs.WeightLaws.{IsTrimmed, trimmed, skip_all, skip_none}
+use Rattle.nego_core.specs.Blanks.{is_blank, AreBlanks, skip_blanks, is_plain, EndsPlain, IsCut}
+use Rattle.nego_core.specs.Element.{RangeGrammar, WeightGrammar, IsPadded, IsStart, HasStart}
+use Rattle.nego_core.specs.Weight.{HasWeight, IsTail}
+use Rattle.nego_core.specs.Item.{Item}
+use Rattle.nego_core.specs.declared.field_kind.FieldKind.{FieldKind}
+use Rattle.nego_core.specs.declared.field_kind.FieldKind.TheVariants.{Accept, Ranges}
+
+-- ---- the bytes of a range
+
+range_is_extended : (kind : FieldKind) (text : List ℕ) → IsRange (RangeGrammar kind) text → ExtendedRange (pieces text)
+range_is_extended Accept text h = basic_extended (pieces text) h.1
+range_is_extended Ranges text h = h.1
+
+range_is_sized : (kind : FieldKind) (text : List ℕ) → IsRange (RangeGrammar kind) text → IsSized text
+range_is_sized Accept text h = h.0
+range_is_sized Ranges text h = h.0
+
+stop_is : (b : ℕ) → is_plain b ≡ false → (b ≡ 32) ⊎ ((b ≡ 9) ⊎ (b ≡ 59))
+stop_is b h = grind (arith, nat_tests)
+
+lower_plain : (b : ℕ) → is_range_byte (to_ascii_lowercase b) ≡ true → is_plain b ≡ true
+lower_plain b h =
+    let P : ℕ → Type 0 = λ x. is_range_byte (to_ascii_lowercase x) ≡ true in
+    elim (cases_Bool (is_plain b)) [
+      | inl e ↦ e
+      | inr e ↦ absurd (elim (stop_is b e) [
+        | inl s ↦ (let q : is_range_byte (to_ascii_lowercase 32) ≡ true = subst P s h in cc)
+        | inr t ↦ elim t [
+          | inl s ↦ (let q : is_range_byte (to_ascii_lowercase 9) ≡ true = subst P s h in cc)
+          | inr s ↦ (let q : is_range_byte (to_ascii_lowercase 59) ≡ true = subst P s h in cc)
+        ]
+      ])
+    ]
+
+all_lower_plain : (text : List ℕ) → list_all is_range_byte (str_to_ascii_lowercase text) ≡ true → list_all is_plain text ≡ true
+all_lower_plain [] h = refl
+all_lower_plain (b ∷ text) h =
+    let parts = and_parts (is_range_byte (to_ascii_lowercase b)) (list_all is_range_byte (str_to_ascii_lowercase text)) h in
+    and_from _ _ (lower_plain b parts.0) (all_lower_plain text parts.1)
+
+range_plain : (kind : FieldKind) (text : List ℕ) → IsRange (RangeGrammar kind) (str_to_ascii_lowercase text) → list_all is_plain text ≡ true
+range_plain kind text h = all_lower_plain text (range_bytes (str_to_ascii_lowercase text) (range_is_extended kind (str_to_ascii_lowercase text) h))
+
+range_some : (kind : FieldKind) (text : List ℕ) → IsRange (RangeGrammar kind) (str_to_ascii_lowercase text) → 0 < length text
+range_some kind text h =
+    let sized = range_is_sized kind (str_to_ascii_lowercase text) h in
+    let size : length (str_to_ascii_lowercase text) ≡ length text = simp length-map in
+    omega arith
+
+pub start_some : (kind : FieldKind) (text : List ℕ) (item : Item) → IsStart kind text item → 0 < length text
+start_some kind text item s = longer s.range s.rest text s.whole (range_some kind s.range s.range_ok) where
+  longer : (range rest text : List ℕ) → text ≡ range ++ rest → 0 < length range → 0 < length text
+  longer [] rest text e n = absurd (omega arith)
+  longer (b ∷ range) rest text e n = let size : length text ≡ length (b ∷ (range ++ rest)) = ap length e in omega arith
+
+-- ---- what follows a range
+
+front_ends : (before rest : List ℕ) → AreBlanks before → EndsPlain rest → EndsPlain (before ++ rest)
+front_ends [] rest h e = e
+front_ends (b ∷ before) rest h e = blank_stops b (and_parts (is_blank b) (list_all is_blank before) h).0
+
+weight_ends : (text weight after : List ℕ) (n : ℕ) → text ≡ weight ++ after → HasWeight weight n → EndsPlain text
+weight_ends text weight after n e w =
+    let rest : List ℕ = (w.after ++ w.letter ∷ 61 ∷ w.qvalue) ++ after in
+    subst EndsPlain (sym (e ∙ (ap (λ (x : List ℕ). x ++ after) w.whole ∙ append_assoc w.before (59 ∷ (w.after ++ w.letter ∷ 61 ∷ w.qvalue)) after))) (front_ends w.before (59 ∷ rest) w.before_ok refl)
+
+empty_ends : (text weight after : List ℕ) → text ≡ weight ++ after → weight ≡ [] → AreBlanks after → EndsPlain text
+empty_ends text weight after e none blank = subst EndsPlain (sym (e ∙ ap (λ (x : List ℕ). x ++ after) none)) (blanks_end after blank)
+
+tail_ends : (kind : FieldKind) (text : List ℕ) (n : ℕ) → IsTail (WeightGrammar kind) text n → EndsPlain text
+tail_ends Accept text n t = elim t.weight_ok [
+  | inl none ↦ empty_ends text t.weight t.after t.whole none.0 t.after_ok
+  | inr w ↦ weight_ends text t.weight t.after n t.whole w
+]
+tail_ends Ranges text n t = empty_ends text t.weight t.after t.whole t.weight_ok.0 t.after_ok
+
+-- ---- a range and what follows it
+
+-- the bytes up to a stop are the range
+record IsItemOf (kind : FieldKind) (token rest : List ℕ) (item : Item) : Type 0 where
+  range_ok : IsRange (RangeGrammar kind) (str_to_ascii_lowercase token)
+  range_is : item.range ≡ str_to_ascii_lowercase token
+  rest_ok : IsTail (WeightGrammar kind) rest item.weight
+
+item_of : (kind : FieldKind) (text token rest : List ℕ) (item : Item) → IsCut text token rest → IsStart kind text item → IsItemOf kind token rest item
+item_of kind text token rest item c s =
+    let same = cut_only token rest s.range s.rest (sym c.whole ∙ s.whole) c.plain (range_plain kind s.range s.range_ok) c.ends (tail_ends kind s.rest item.weight s.rest_ok) in
+    record {
+      range_ok = subst (λ (x : List ℕ). IsRange (RangeGrammar kind) (str_to_ascii_lowercase x)) (sym same.0) s.range_ok;
+      range_is = s.range_is ∙ ap str_to_ascii_lowercase (sym same.0);
+      rest_ok = subst (λ (x : List ℕ). IsTail (WeightGrammar kind) x item.weight) (sym same.1) s.rest_ok;
+    }
+
+-- a range and what follows it are told by the text
+pub start_is : (kind : FieldKind) (text : List ℕ) (i j : Item) → (s : IsStart kind text i) → (t : IsStart kind text j) → (s.range ≡ t.range) × (s.rest ≡ t.rest)
+start_is kind text i j s t =
+    cut_only s.range s.rest t.range t.rest (sym s.whole ∙ t.whole) (range_plain kind s.range s.range_ok) (range_plain kind t.range t.range_ok) (tail_ends kind s.rest i.weight s.rest_ok) (tail_ends kind t.rest j.weight t.rest_ok)
+
+pub no_item_range : (kind : FieldKind) (text token rest : List ℕ) → IsCut text token rest → ¬ IsRange (RangeGrammar kind) (str_to_ascii_lowercase token) → (item : Item) → ¬ IsStart kind text item
+no_item_range kind text token rest c h item s = h (item_of kind text token rest item c s).range_ok
+
+pub no_item_weight : (kind : FieldKind) (text token rest : List ℕ) → IsCut text token rest → ((n : ℕ) → ¬ IsTail (WeightGrammar kind) rest n) → (item : Item) → ¬ IsStart kind text item
+no_item_weight kind text token rest c h item s = h item.weight (item_of kind text token rest item c s).rest_ok
+
+pub has_item : (kind : FieldKind) (text token rest : List ℕ) (n : ℕ) → IsCut text token rest → IsRange (RangeGrammar kind) (str_to_ascii_lowercase token) → IsTail (WeightGrammar kind) rest n → HasStart kind text
+has_item kind text token rest n c r t = (record { range = str_to_ascii_lowercase token; weight = n }, record { range = token; rest = rest; whole = c.whole; range_ok = r; range_is = refl; rest_ok = t })
+
+-- ---- and the blanks before it
+
+skip_plain : (range rest : List ℕ) → 0 < length range → list_all is_plain range ≡ true → skip_blanks (range ++ rest) ≡ range ++ rest
+skip_plain [] rest n h = absurd (omega arith)
+skip_plain (b ∷ range) rest n h =
+    let plain = (and_parts (is_plain b) (list_all is_plain range) h).0 in
+    elim (cases_Bool (is_blank b)) [
+      | inl e ↦ absurd (let stop : is_plain b ≡ false = blank_stops b e in cc)
+      | inr e ↦ skip_none b (range ++ rest) e
+    ]
+
+pub start_of_padded : (kind : FieldKind) (piece : List ℕ) (item : Item) → IsPadded kind piece item → IsStart kind (skip_blanks piece) item
+start_of_padded kind piece item p =
+    let e = p.element_ok in
+    let whole : p.element ++ p.after ≡ e.range ++ (e.weight ++ p.after) = ap (λ (x : List ℕ). x ++ p.after) e.whole ∙ append_assoc e.range e.weight p.after in
+    record {
+      range = e.range;
+      rest = e.weight ++ p.after;
+      whole = ap skip_blanks p.whole ∙ (skip_all p.before (p.element ++ p.after) p.before_ok ∙ (ap skip_blanks whole ∙ skip_plain e.range (e.weight ++ p.after) (range_some kind e.range e.range_ok) (range_plain kind e.range e.range_ok)));
+      range_ok = e.range_ok;
+      range_is = e.range_is;
+      rest_ok = record { weight = e.weight; after = p.after; whole = refl; after_ok = p.after_ok; weight_ok = e.weight_ok };
+    }
+
+padded_from : (kind : FieldKind) (piece text : List ℕ) (item : Item) → IsTrimmed piece text → IsStart kind text item → IsPadded kind piece item
+padded_from kind piece text item t s =
+    let tail = s.rest_ok in
+    let whole : text ≡ (s.range ++ tail.weight) ++ tail.after = s.whole ∙ (ap (λ (x : List ℕ). s.range ++ x) tail.whole ∙ sym (append_assoc s.range tail.weight tail.after)) in
+    record {
+      before = t.before;
+      element = s.range ++ tail.weight;
+      after = tail.after;
+      whole = t.whole ∙ ap (λ (x : List ℕ). t.before ++ x) whole;
+      before_ok = t.before_ok;
+      after_ok = tail.after_ok;
+      element_ok = record { range = s.range; weight = tail.weight; whole = refl; range_ok = s.range_ok; range_is = s.range_is; weight_ok = tail.weight_ok };
+    }
+
+pub padded_of_start : (kind : FieldKind) (piece : List ℕ) (item : Item) → IsStart kind (skip_blanks piece) item → IsPadded kind piece item
+padded_of_start kind piece item s = padded_from kind piece (skip_blanks piece) item (trimmed piece) s

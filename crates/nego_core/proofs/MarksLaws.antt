@@ -1,0 +1,142 @@
+-- Marks of subtags.
+use Rattle.std.proofs.Common.{ℕ, ◌≡◌, ◌<◌, ◌+◌, ◌⊎◌, List, [], ◌∷◌, Option, Some, None, Bool, true, false, inl, inr, length, get_or, refl, sym, ◌∙◌, ap, subst, arith}
+use Rattle.std.specs.Prelude.{Contains, option_map, map, slice_set, zero, suc}
+use Rattle.std.specs.Str.{bytes_eq}
+use Rattle.std.proofs.lemmas.Bool.{cases_Bool}
+use Rattle.lang_core.specs.Text.{pieces}
+use Rattle.lang_core.specs.Grammar.{is_star}
+use Rattle.lang_core.specs.Matching.{Embeds, Extended, without_stars}
+use Rattle.std.proofs.lemmas.Grind.{common_steps}
+use Rattle.std.proofs.lemmas.List.{get_or-map}
+use Rattle.std.proofs.lemmas.Option.{slice_get-get_or}
+use Rattle.std.proofs.Math.ListN.{length-set}
+use Rattle.nego_core.proofs.Basics.{false_true, contains_first, contains_later}
+use Rattle.nego_core.proofs.BestLaws.{Before, passed}
+use Rattle.nego_core.specs.Best.{IsBest}
+use Rattle.nego_core.specs.declared.best.Best.{Best}
+use Rattle.nego_core.specs.Item.{Item}
+use Rattle.nego_core.specs.Marks.{mark_of, or_later, named_one, last_named, item_mark, AreMarked, is_marked}
+
+-- ---- the last subtag other than "*"
+
+-- the last of a list that begins so
+abbrev last_from : Option (List ℕ) → List (List ℕ) → Option (List ℕ)
+last_from first [] = first
+last_from first (s ∷ list) = last_from (Some s) list
+
+last_is : (first : Option (List ℕ)) (list : List (List ℕ)) → or_later first (last_named list) ≡ last_from first (without_stars list)
+last_is first [] = refl
+last_is first (s ∷ list) = elim (cases_Bool (is_star s)) [
+  | inl e ↦ rw (e, or_none first (last_named list)) (last_is first list)
+  | inr e ↦ rw (e, or_some first s (last_named list)) (last_is (Some s) list)
+] where
+  or_none : (first later : Option (List ℕ)) → or_later first (or_later None later) ≡ or_later first later
+  or_none first None = refl
+  or_none first (Some x) = refl
+
+  or_some : (first : Option (List ℕ)) (s : List ℕ) (later : Option (List ℕ)) → or_later first (or_later (Some s) later) ≡ or_later (Some s) later
+  or_some first s None = refl
+  or_some first s (Some x) = refl
+
+-- the last of what embeds stands in what it embeds in
+last_embeds : (w s : List ℕ) (wanted given : List (List ℕ)) → Embeds (w ∷ wanted) given → last_from (Some w) wanted ≡ Some s → Contains given s
+last_embeds w s wanted [] h e = absurd h
+last_embeds w s [] (g ∷ given) (inl h) e = subst (Contains (g ∷ given)) (let p : w ≡ s = cc in sym h.0 ∙ p) (contains_first g given)
+last_embeds w s (v ∷ wanted) (g ∷ given) (inl h) e = contains_later g s given (last_embeds v s wanted given h.1 e)
+last_embeds w s wanted (g ∷ given) (inr h) e = contains_later g s given (last_embeds w s wanted given h.1 e)
+
+last_in : (first : Option (List ℕ)) (s t : List ℕ) (wanted given : List (List ℕ)) → (first ≡ None ⊎ (first ≡ Some t)) → Embeds wanted given → last_from first wanted ≡ Some s → Contains (t ∷ given) s
+last_in first s t [] given (inl none) h e = let n : None ≡ Some s = sym none ∙ e in cc
+last_in first s t [] given (inr one) h e = let n : Some t ≡ Some s = sym one ∙ e in let p : t ≡ s = cc in subst (Contains (t ∷ given)) p (contains_first t given)
+last_in first s t (w ∷ wanted) given f h e = contains_later t s given (last_embeds w s wanted given h e)
+
+named_first : (r t : List ℕ) → (is_star r ≡ true) ⊎ (r ≡ t) → (named_one r ≡ None) ⊎ (named_one r ≡ Some t)
+named_first r t h = elim (cases_Bool (is_star r)) [
+  | inl e ↦ inl (rw e refl)
+  | inr e ↦ elim h [
+    | inl star ↦ absurd (false_true (sym e ∙ star))
+    | inr same ↦ inr (rw e (ap Some same))
+  ]
+]
+
+-- the last subtag other than "*" of a range that matches stands in the tag
+pub extended_has_last : (range tag : List (List ℕ)) (s : List ℕ) → Extended range tag → last_named range ≡ Some s → Contains tag s
+extended_has_last [] tag s h e = absurd h
+extended_has_last (r ∷ range) [] s h e = absurd h
+extended_has_last (r ∷ range) (t ∷ tag) s h e = last_in (named_one r) s t (without_stars range) tag (named_first r t h.0) h.1 (sym (last_is (named_one r) range) ∙ e)
+
+-- ---- the marks of a tag
+
+mark_set : (tag : List (List ℕ)) (marked : List Bool) (range : List (List ℕ)) (last : Option (List ℕ)) → AreMarked tag marked → last_named range ≡ last → Extended range tag → is_marked marked (option_map mark_of last) ≡ true
+mark_set tag marked range None m e h = refl
+mark_set tag marked range (Some s) m e h = m.set s (extended_has_last range tag s h e)
+
+-- an item whose mark is not set does not match
+pub not_marked : (tag : List (List ℕ)) (marked : List Bool) (i : Item) → AreMarked tag marked → is_marked marked (item_mark i) ≡ false → ¬ Extended (pieces i.range) tag
+not_marked tag marked i m e h = false_true (sym e ∙ mark_set tag marked (pieces i.range) (last_named (pieces i.range)) m refl h)
+
+-- ---- how marks are made
+
+pub star_test : (s : List ℕ) → bytes_eq s (42 ∷ []) ≡ is_star s
+unfolding is_star
+star_test [] = refl
+star_test (b ∷ []) = grind arith
+star_test (b ∷ c ∷ s) = grind arith
+
+later_joins : (a b c : Option (List ℕ)) → or_later a (or_later b c) ≡ or_later (or_later a b) c
+later_joins a b None = refl
+later_joins a b (Some x) = refl
+
+-- the last so far, and that of the subtags that are left
+pub last_more : (all rest : List (List ℕ)) (s : List ℕ) (last : Option (List ℕ)) → last_named all ≡ or_later last (last_named (s ∷ rest)) → bytes_eq s (42 ∷ []) ≡ false → last_named all ≡ or_later (Some s) (last_named rest)
+last_more all rest s last h e =
+    let named : named_one s ≡ Some s = rw (sym (star_test s) ∙ e) refl in
+    h ∙ (later_joins last (named_one s) (last_named rest) ∙ ap (λ (o : Option (List ℕ)). or_later (or_later last o) (last_named rest)) named)
+
+pub last_same : (all rest : List (List ℕ)) (s : List ℕ) (last : Option (List ℕ)) → last_named all ≡ or_later last (last_named (s ∷ rest)) → bytes_eq s (42 ∷ []) ≡ true → last_named all ≡ or_later last (last_named rest)
+last_same all rest s last h e =
+    let named : named_one s ≡ None = rw (sym (star_test s) ∙ e) refl in
+    h ∙ (later_joins last (named_one s) (last_named rest) ∙ ap (λ (o : Option (List ℕ)). or_later (or_later last o) (last_named rest)) named)
+
+-- the marks of the subtags so far are set
+pub record AreMarkedSoFar (list left : List (List ℕ)) (marked : List Bool) : Type 0 where
+  pub full : length marked ≡ 256
+  pub set : (s : List ℕ) → Contains list s → Contains left s ⊎ (get_or marked (mark_of s) false ≡ true)
+
+pub none_marked : (list : List (List ℕ)) (marked : List Bool) → length marked ≡ 256 → AreMarkedSoFar list list marked
+none_marked list marked e = record { full = e; set = λ s c. inl c }
+
+first_or_later : (p s : List ℕ) (left : List (List ℕ)) → Contains (p ∷ left) s → (p ≡ s) ⊎ Contains left s
+first_or_later p s left c = at_place c.0 p s left c.1 c.2 where
+  at_place : (k : ℕ) (p s : List ℕ) (left : List (List ℕ)) → k < length (p ∷ left) → get_or (p ∷ left) k s ≡ s → (p ≡ s) ⊎ Contains left s
+  at_place zero p s left low e = inl e
+  at_place (suc k) p s left low e = inr (k, (omega arith), e)
+
+pub one_marked : (list left : List (List ℕ)) (p : List ℕ) (mark : ℕ) (marked : List Bool) → AreMarkedSoFar list (p ∷ left) marked → mark ≡ mark_of p → mark < 256 → AreMarkedSoFar list left (slice_set marked mark true)
+one_marked list left p mark marked m e low = record {
+  full = length-set marked mark true ∙ m.full;
+  set = λ s c. elim (m.set s c) [
+    | inl old ↦ elim (first_or_later p s left old) [
+      | inl same ↦ inr (marked_here marked mark (mark_of s) (e ∙ ap mark_of same) (let f = m.full in omega arith))
+      | inr later ↦ inl later
+    ]
+    | inr done ↦ inr (marked_still marked mark (mark_of s) (let f = m.full in omega arith) done)
+  ];
+} where
+  marked_here : (marked : List Bool) (k n : ℕ) → k ≡ n → k < length marked → get_or (slice_set marked k true) n false ≡ true
+  marked_here marked k n e low = grind (arith, common_steps)
+
+  marked_still : (marked : List Bool) (k n : ℕ) → k < length marked → get_or marked n false ≡ true → get_or (slice_set marked k true) n false ≡ true
+  marked_still marked k n low h = grind (arith, common_steps)
+
+pub all_marked : (list : List (List ℕ)) (marked : List Bool) → AreMarkedSoFar list [] marked → AreMarked list marked
+all_marked list marked m = record { full = m.full; set = λ s c. elim (m.set s c) [ inl none ↦ absurd (let low = none.1 in omega arith) | inr done ↦ done ] }
+
+-- the mark of an item that does not match is passed over
+pub mark_missed : (items : List Item) (tag : List (List ℕ)) (marks : List (Option ℕ)) (marked : List Bool) (n : ℕ) (d : Option ℕ) (best : Option Best) → marks ≡ map item_mark items → AreMarked tag marked → n < length items → is_marked marked (get_or marks n d) ≡ false
+    → IsBest (Before (λ i. Extended (pieces i.range) tag) n) items best → IsBest (Before (λ i. Extended (pieces i.range) tag) (n + 1)) items best
+mark_missed [] tag marks marked n d best e m low miss h = absurd (omega arith)
+mark_missed (i ∷ items) tag marks marked n d best e m low miss h =
+    let here : Item = get_or (i ∷ items) n i in
+    let mark : get_or marks n d ≡ item_mark here = ap (λ (x : List (Option ℕ)). get_or x n d) e ∙ get_or-map item_mark (i ∷ items) n i d low in
+    passed (λ j. Extended (pieces j.range) tag) (i ∷ items) n here best (slice_get-get_or (i ∷ items) n i low) (λ f. absurd (not_marked tag marked here m (sym (ap (is_marked marked) mark) ∙ miss) f)) h

@@ -1,0 +1,9 @@
+use Rattle.std.proofs.Common.{sym, ◌∙◌}
+use Rattle.nego_core.proofs.BlanksLaws.{cut_at, cut_whole}
+use Rattle.nego_core.proofs.blanks.cut_token.Goals as goal
+
+pub returns-in-Some : goal.returns-in-Some
+returns-in-Some c = cut_at c.args.text.now c.in-Some.at (sym c.stop_at.ensures ∙ c.in-Some.is)
+
+pub returns-in-None : goal.returns-in-None
+returns-in-None c = cut_whole c.args.text.now (sym c.stop_at.ensures ∙ c.in-None.is)

@@ -1,0 +1,5 @@
+use Rattle.nego_core.proofs.FieldLaws.{one_kind}
+use Rattle.nego_core.proofs.laws.field_is_of_one_kind.Goals as goal
+
+pub returns : goal.returns
+returns c = one_kind

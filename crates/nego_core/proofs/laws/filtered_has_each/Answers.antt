@@ -1,0 +1,5 @@
+use Rattle.nego_core.proofs.FilteredEach.{has_each}
+use Rattle.nego_core.proofs.laws.filtered_has_each.Goals as goal
+
+pub returns : goal.returns
+returns c = has_each

@@ -1,0 +1,5 @@
+use Rattle.nego_core.proofs.NamedLaws.{named_refuse}
+use Rattle.nego_core.proofs.laws.named_refuse_alone.Goals as goal
+
+pub returns : goal.returns
+returns c = named_refuse

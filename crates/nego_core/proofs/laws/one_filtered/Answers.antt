@@ -1,0 +1,5 @@
+use Rattle.nego_core.proofs.FilteredLaws.{one_filtered}
+use Rattle.nego_core.proofs.laws.one_filtered.Goals as goal
+
+pub returns : goal.returns
+returns c = one_filtered

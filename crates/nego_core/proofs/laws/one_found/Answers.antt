@@ -1,0 +1,5 @@
+use Rattle.nego_core.proofs.HandedLaws.{one_found}
+use Rattle.nego_core.proofs.laws.one_found.Goals as goal
+
+pub returns : goal.returns
+returns c = one_found

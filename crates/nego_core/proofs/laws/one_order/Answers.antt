@@ -1,0 +1,5 @@
+use Rattle.nego_core.proofs.OrderLaws.{one_order_of}
+use Rattle.nego_core.proofs.laws.one_order.Goals as goal
+
+pub returns : goal.returns
+returns c = one_order_of

@@ -1,0 +1,17 @@
+pub mod Basics
+pub mod Fault
+pub mod Blanks
+pub mod Qvalue
+pub mod Weight
+pub mod Item
+pub mod Element
+pub mod Field
+pub mod Deciding
+pub mod Best
+pub mod RangeIndex
+pub mod Marks
+pub mod Order
+pub mod Filtered
+pub mod LookedUp
+pub mod Chosen
+pub mod Handed

@@ -1,0 +1,56 @@
+use Rattle.std.specs.Prelude.{ℕ, ◌≡◌, ◌⊎◌, List, [], ◌∷◌, ◌++◌}
+use Rattle.nego_core.specs.Blanks.{AreBlanks}
+use Rattle.nego_core.specs.Qvalue.{IsQvalue}
+
+-- RFC 9110 section 12.4.2: weight = OWS ";" OWS "q=" qvalue, "q" in either case
+pub record HasWeight (text : List ℕ) (n : ℕ) : Type 0 where
+  pub before : List ℕ
+  pub after : List ℕ
+  pub letter : ℕ
+  pub qvalue : List ℕ
+  pub whole : text ≡ before ++ 59 ∷ (after ++ letter ∷ 61 ∷ qvalue)
+  pub before_ok : AreBlanks before
+  pub after_ok : AreBlanks after
+  pub letter_ok : (letter ≡ 113) ⊎ (letter ≡ 81)
+  pub qvalue_ok : IsQvalue qvalue n
+
+-- a weight or none, which is 1000
+abbrev pub IsWeight : List ℕ → ℕ → Type 0
+IsWeight text n = ((text ≡ []) × (n ≡ 1000)) ⊎ HasWeight text n
+
+-- no weight, which is 1000
+abbrev pub IsNoWeight : List ℕ → ℕ → Type 0
+IsNoWeight text n = (text ≡ []) × (n ≡ 1000)
+
+-- ---- the parts of it, from left to right
+
+-- a qvalue, then blanks
+pub record IsLastQvalue (text : List ℕ) (n : ℕ) : Type 0 where
+  pub qvalue : List ℕ
+  pub after : List ℕ
+  pub whole : text ≡ qvalue ++ after
+  pub after_ok : AreBlanks after
+  pub qvalue_ok : IsQvalue qvalue n
+
+-- what may follow a semicolon: OWS "q=" qvalue OWS
+pub record FollowsSemicolon (text : List ℕ) (n : ℕ) : Type 0 where
+  pub after : List ℕ
+  pub letter : ℕ
+  pub qvalue : List ℕ
+  pub whole : text ≡ after ++ letter ∷ 61 ∷ qvalue
+  pub after_ok : AreBlanks after
+  pub letter_ok : (letter ≡ 113) ⊎ (letter ≡ 81)
+  pub qvalue_ok : IsLastQvalue qvalue n
+
+-- the same without the blanks before it
+abbrev pub IsNamedQvalue : List ℕ → ℕ → Type 0
+IsNamedQvalue (letter ∷ sign ∷ qvalue) n = ((letter ≡ 113) ⊎ (letter ≡ 81)) × (sign ≡ 61) × IsLastQvalue qvalue n
+IsNamedQvalue _ n = ⊥
+
+-- what may follow a range: a weight of the grammar, then blanks
+pub record IsTail (Weight : List ℕ → ℕ → Type 0) (text : List ℕ) (n : ℕ) : Type 0 where
+  pub weight : List ℕ
+  pub after : List ℕ
+  pub whole : text ≡ weight ++ after
+  pub after_ok : AreBlanks after
+  pub weight_ok : Weight weight n

@@ -1,0 +1,9 @@
+/// What lookup answers over a set of languages.
+#[derive(Clone, Copy)]
+pub enum Choice<'a> {
+    /// The language found, by its text: a slice from the front of an item's lookup text.
+    Matched(&'a str),
+    /// The default that was handed in.
+    Default,
+    Nothing,
+}

@@ -1,0 +1,57 @@
+ghost use Rattle.std.specs.Prelude.{◌≡◌, IsTrue, Some, option_map};
+ghost use Rattle.std.specs.Str.{bytes_eq};
+ghost use Rattle.nego_core.specs.Handed.{IsFound, is_among, least_place};
+
+use crate::choice::Choice;
+use crate::chosen::choose;
+use crate::found::Found;
+use crate::holds::Holds;
+use crate::priority_list::PriorityList;
+use lang_core::Lang;
+
+/// Languages that are handed in.
+#[derive(Clone, Copy)]
+struct Handed<'a> {
+    langs: &'a [Lang],
+}
+
+impl<'a> Holds for Handed<'a> {
+    ghost held = { λ h text. is_among h.langs.now text };
+
+    fn holds(&self, lang: &str) -> bool {
+        self.langs.iter().any(|other| other.as_str() == lang)
+    }
+}
+
+fn place_of(langs: &[Lang], text: &str) -> Option<usize>
+    ensures { result ≡ least_place langs.now text.now }
+{
+    langs.iter().position(|lang| lang.as_str() == text)
+}
+
+/// The least place of a text that is there.
+fn held_place(langs: &[Lang], text: &str) -> usize
+    requires { IsTrue (is_among langs.now text.now) }
+    ensures { least_place langs.now text.now ≡ Some result }
+{
+    match place_of(langs, text) {
+        Some(place) => place,
+        None => unreachable!(),
+    }
+}
+
+/// Lookup (RFC 4647 section 3.4) over languages that are handed in: as `choose`, with places in
+/// place of texts. It takes no memory.
+pub fn lookup(list: &PriorityList, langs: &[Lang], default: Option<&Lang>) -> Found
+    ensures { IsFound list.now langs.now (option_map (λ l. l.now) default.entry) result }
+{
+    let held = Handed { langs };
+    match choose(list, &held, default) {
+        Choice::Matched(text) => Found::Matched(held_place(langs, text)),
+        Choice::Default => match default {
+            Some(lang) => Found::Default(held_place(langs, lang.as_str())),
+            None => unreachable!(),
+        },
+        Choice::Nothing => Found::Nothing,
+    }
+}

@@ -1,0 +1,76 @@
+ghost use Rattle.std.specs.Prelude.{◌≡◌, ◌≤◌, ◌↔◌, IsTrue};
+ghost use Rattle.nego_core.specs.Deciding.{Matches};
+ghost use Rattle.lang_core.specs.Text.{pieces};
+ghost use Rattle.lang_core.specs.Matching.{specificity};
+
+use crate::scheme::Scheme;
+use lang_core::{Range, Tag};
+use std::marker::Model;
+
+/// A range of a priority list with its weight.
+#[derive(Drop)]
+pub struct Item {
+    range: Range,
+    weight: u16,
+    /// The number of the range's subtags other than "*".
+    named: usize,
+}
+
+impl Model for Item {
+    ghost use Rattle.std.specs.Prelude.{◌≡◌, ◌≤◌};
+    ghost use Rattle.lang_core.specs.Text.{pieces};
+    ghost use Rattle.lang_core.specs.Matching.{specificity};
+    ghost use Rattle.nego_core.specs.Item.{Item};
+
+    ghost Value = { Item };
+
+    ghost view = { λ i. record { range = i.range; weight = i.weight } };
+
+    ghost invariant = { λ i. (i.weight ≤ 1000) × (i.named ≡ specificity (pieces i.range)) };
+}
+
+impl Item {
+    pub(crate) fn new(range: Range, weight: u16) -> Item
+        requires { weight ≤ 1000 }
+        ensures range { result.range ≡ range }
+        ensures weight { result.weight ≡ weight }
+    {
+        let named = range.specificity();
+        Item {
+            range,
+            weight,
+            named,
+        }
+    }
+
+    /// The range, as it was written but in lower case.
+    pub fn range(&self) -> &Range
+        ensures { result.now ≡ self.now.range }
+    {
+        &self.range
+    }
+
+    /// The weight in thousandths, from 0 (not acceptable) to 1000 (RFC 9110 section 12.4.2).
+    pub fn weight(&self) -> u16
+        ensures value { result ≡ self.now.weight }
+        ensures small { result ≤ 1000 }
+    {
+        self.weight
+    }
+
+    pub(crate) fn matches(&self, scheme: Scheme, tag: &Tag) -> bool
+        ensures { IsTrue result ↔ Matches scheme (pieces self.now.range) (pieces tag.now) }
+    {
+        match scheme {
+            Scheme::Basic => self.range.matches_basic(tag),
+            Scheme::Extended => self.range.matches_extended(tag),
+        }
+    }
+
+    /// The number of the range's subtags other than "*".
+    pub(crate) fn specificity(&self) -> usize
+        ensures { result ≡ specificity (pieces self.now.range) }
+    {
+        self.named
+    }
+}

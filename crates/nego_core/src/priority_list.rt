@@ -1,0 +1,197 @@
+ghost use Rattle.std.specs.Prelude.{◌≡◌, ◌≤◌, ◌<◌, ℕ, length, MatchResult, MatchOption, IfSome};
+ghost use Rattle.lang_core.specs.Text.{pieces};
+ghost use Rattle.nego_core.specs.Basics.{IsTheOne};
+ghost use Rattle.nego_core.specs.Best.{IsBest};
+ghost use Rattle.nego_core.specs.Deciding.{Matches, IsDeciding, IsDecidedBy, IsDecidingWeight, DecidesLang};
+ghost use Rattle.nego_core.specs.Order.{AreTurns};
+ghost use Rattle.nego_core.specs.RangeIndex.{IsRangeIndex};
+ghost use Rattle.nego_core.specs.Field.{IsField, IsAccept, IsAcceptRanges, IsOfOneKind, RefusesField};
+ghost use Rattle.nego_core.specs.declared.field_kind.FieldKind.TheVariants.{Accept, Ranges};
+ghost use Rattle.nego_core.specs.declared.fault.NegoFault.TheVariants.{NoMemory};
+
+use crate::best::Best;
+use crate::deciding::{best_basic, best_extended, best_of};
+use crate::fault::NegoFault;
+use crate::field::read_items;
+use crate::field_kind::FieldKind;
+use crate::item::Item;
+use crate::marks::marks_of;
+use crate::order::order_of;
+use crate::range_index::index_of;
+use crate::scheme::Scheme;
+use crate::turn::Turn;
+use lang_core::{Lang, Tag};
+use std::alloc::Global;
+use std::marker::Model;
+
+/// So many items are asked one after another faster than by an index.
+const FEW: usize = 16;
+
+/// Ranges with weights, in the order in which they were written (RFC 4647 section 2.3).
+#[derive(Drop)]
+pub struct PriorityList {
+    items: Vec<Item>,
+    /// When lookup tries each item.
+    turns: Vec<Turn>,
+    /// The places of the items in the order of their ranges' bytes.
+    index: Vec<usize>,
+    /// The mark of each item's range.
+    marks: Vec<Option<u8>>,
+}
+
+impl Model for PriorityList {
+    ghost use Rattle.std.specs.Prelude.{◌≡◌, List, map};
+    ghost use Rattle.nego_core.specs.Item.{Item};
+
+    ghost Value = { List Item };
+
+    ghost use Rattle.nego_core.specs.Field.{IsOfOneKind};
+    ghost use Rattle.nego_core.specs.Order.{AreTurns};
+    ghost use Rattle.nego_core.specs.RangeIndex.{IsRangeIndex};
+    ghost use Rattle.nego_core.specs.Marks.{item_mark};
+
+    ghost view = { λ l. l.items.items };
+
+    ghost invariant = { λ l. AreTurns l.items.items l.turns.items × IsRangeIndex l.items.items l.index.items × (l.marks.items ≡ map item_mark l.items.items) × IsOfOneKind l.items.items };
+}
+
+fn list_of(alloc: Global, items: Vec<Item>) -> Result<PriorityList, NegoFault>
+    requires { IsOfOneKind items.items }
+    ensures { MatchResult result (λ list. list ≡ items.items) (λ fault. (fault ≡ NoMemory) × (0 < length items.items)) }
+{
+    if items.is_empty() {
+        return Ok(PriorityList {
+            items,
+            turns: Vec::new(alloc),
+            index: Vec::new(alloc),
+            marks: Vec::new(alloc),
+        });
+    }
+    let turns = order_of(alloc, &items)?;
+    let index = index_of(alloc, &items)?;
+    let marks = marks_of(alloc, &items)?;
+    Ok(PriorityList {
+        items,
+        turns,
+        index,
+        marks,
+    })
+}
+
+fn read_field(alloc: Global, kind: FieldKind, field: &[u8]) -> Result<PriorityList, NegoFault>
+    ensures { MatchResult result (λ list. (length field.now ≤ 65535) × IsField kind field.now list) (RefusesField kind field.now) }
+{
+    let items = read_items(alloc, kind, field)?;
+    list_of(alloc, items)
+}
+
+/// The item that decides a tag or a language.
+#[derive(Clone, Copy)]
+pub struct Decision {
+    pub place: usize,
+    pub weight: u16,
+}
+
+impl PriorityList {
+    /// The list of an Accept-Language field (RFC 9110 section 12.5.4): basic ranges between
+    /// commas, each with a weight or none.
+    ///
+    /// Blanks may stand around an element and around the ";" before its weight; empty elements are
+    /// passed over, so an empty field gives the empty list. Where no weight is written it is 1000.
+    ///
+    /// Refusals: `FieldTooLong` where the field has more than 65,535 bytes; else, at the first
+    /// element that breaks the grammar, `FieldMalformed` with the offset in the field at which the
+    /// element begins; `NoMemory`.
+    pub fn from_accept(alloc: Global, field: &[u8]) -> Result<PriorityList, NegoFault>
+        ensures { MatchResult result (λ list. (length field.now ≤ 65535) × IsAccept field.now list) (RefusesField Accept field.now) }
+    {
+        read_field(alloc, FieldKind::Accept, field)
+    }
+
+    /// The list of extended ranges between commas (RFC 4647 section 2.2), without weights: each
+    /// has weight 1000. Blanks, empty elements and refusals are as in `from_accept`.
+    pub fn from_ranges(alloc: Global, field: &[u8]) -> Result<PriorityList, NegoFault>
+        ensures { MatchResult result (λ list. (length field.now ≤ 65535) × IsAcceptRanges field.now list) (RefusesField Ranges field.now) }
+    {
+        read_field(alloc, FieldKind::Ranges, field)
+    }
+
+    /// The items in written order. No list has a weight 0 beside a range that is not basic.
+    pub fn items(&self) -> &[Item]
+        ensures items { result.now ≡ self.now }
+        ensures one_kind { IsOfOneKind self.now }
+    {
+        &self.items
+    }
+
+    /// When lookup tries each item, in order.
+    pub(crate) fn turns(&self) -> &[Turn]
+        ensures { AreTurns self.now result.now }
+    {
+        &self.turns
+    }
+
+    /// The places of the items in the order of their ranges' bytes.
+    pub(crate) fn index(&self) -> &[usize]
+        ensures { IsRangeIndex self.now result.now }
+    {
+        &self.index
+    }
+
+    fn best(&self, scheme: Scheme, tag: &Tag) -> Option<Best>
+        ensures { IsBest (λ _ i. Matches scheme (pieces i.range) (pieces tag.now)) self.now result }
+    {
+        if self.items.len() <= FEW {
+            return best_of(&self.items, scheme, tag);
+        }
+        match scheme {
+            Scheme::Basic => best_basic(&self.items, &self.index, tag.as_str().as_bytes()),
+            Scheme::Extended => best_extended(&self.items, &self.marks, tag),
+        }
+    }
+
+    /// The place of the item that decides the tag: of those whose ranges match, the one with the
+    /// most subtags other than "*", the first written among equals.
+    pub fn item_for(&self, scheme: Scheme, tag: &Tag) -> Option<usize>
+        ensures { IsTheOne result (IsDeciding scheme self.now (pieces tag.now)) }
+    {
+        match self.best(scheme, tag) {
+            Some(best) => Some(best.place),
+            None => None,
+        }
+    }
+
+    fn decision(&self, scheme: Scheme, tag: &Tag) -> Option<Decision>
+        ensures decides { MatchOption result ((place : ℕ) → ¬ IsDeciding scheme self.now (pieces tag.now) place) (λ d. IsDecidedBy scheme self.now (pieces tag.now) d.place d.weight) }
+        ensures small { IfSome result (λ d. d.weight ≤ 1000) }
+    {
+        match self.item_for(scheme, tag) {
+            Some(place) => Some(Decision {
+                place,
+                weight: self.items[place].weight(),
+            }),
+            None => None,
+        }
+    }
+
+    /// The weight of the item that decides the tag, 0 included.
+    pub fn weight_for(&self, scheme: Scheme, tag: &Tag) -> Option<u16>
+        ensures { IsTheOne result (IsDecidingWeight scheme self.now (pieces tag.now)) }
+    {
+        match self.decision(scheme, tag) {
+            Some(decision) => Some(decision.weight),
+            None => None,
+        }
+    }
+
+    /// The item that decides the language. None decides `@none`.
+    pub(crate) fn decision_on(&self, scheme: Scheme, lang: &Lang) -> Option<Decision>
+        ensures decides { MatchOption result ((place weight : ℕ) → ¬ DecidesLang scheme self.now lang.now place weight) (λ d. DecidesLang scheme self.now lang.now d.place d.weight) }
+        ensures small { IfSome result (λ d. d.weight ≤ 1000) }
+    {
+        match lang.tag() {
+            Some(tag) => self.decision(scheme, tag),
+            None => None,
+        }
+    }
+}
