@@ -1,12 +1,3 @@
-pub mod Drafts
 pub mod Faults
-pub mod Fields
-pub mod Numbers
-pub mod Reads
-pub mod Rows
-pub mod RowsSeen
 pub mod Sinks
 pub mod Sources
-pub mod Texts
-pub mod Values
-pub mod Written
