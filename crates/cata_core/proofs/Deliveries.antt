@@ -1,0 +1,64 @@
+-- What a delivery brings, by the steps before its post and before the summary that was told.
+use Rattle.std.proofs.Common.{◌≡◌, ℕ, List, [], ◌∷◌, ◌++◌, Some, length, refl, sym, ap, ◌∙◌}
+use Rattle.std.specs.Prelude.{slice_get}
+use Rattle.cata_core.specs.declared.step.Step.{Step}
+use Rattle.cata_core.specs.declared.step.Step.TheVariants.{Tell, Post, Deliver}
+use Rattle.cata_core.specs.Deltas.{summary_of, delta_of}
+use Rattle.cata_core.specs.Taken.{PostedEdits, Taken, taken_step, taken_after, nothing_taken, taken, edits_in, edits_delivered, tellers_by, post_to}
+use Rattle.cata_core.specs.Held.{Told, PostedCells, Held, held_step, held_after, nothing_held, held, cells_in, cells_delivered, told_by, delta_to, cells_posted}
+use Rattle.cata_core.proofs.Spreading.{after_append, get_kept, get_next, post_stays}
+
+held_append : (w : Held) (xs ys : List Step) → held_after w (xs ++ ys) ≡ held_after (held_after w xs) ys
+held_append w [] ys = refl
+held_append w (x ∷ xs) ys = held_append (held_step w x) xs ys
+
+teller_stays : (w : Taken) (steps : List Step) (i : ℕ) (t : ℕ) → slice_get w.tellers i ≡ Some t → let v = taken_after w steps in slice_get v.tellers i ≡ Some t
+teller_stays w [] i t e = e
+teller_stays w (step ∷ steps) i t e = teller_stays (taken_step w step) steps i t (get_kept w.tellers (tellers_by step) i t e)
+
+summary_stays : (w : Held) (steps : List Step) (i : ℕ) (t : Told) → slice_get w.told i ≡ Some t → let v = held_after w steps in slice_get v.told i ≡ Some t
+summary_stays w [] i t e = e
+summary_stays w (step ∷ steps) i t e = summary_stays (held_step w step) steps i t (get_kept w.told (told_by w step) i t e)
+
+delta_stays : (w : Held) (steps : List Step) (i : ℕ) (p : PostedCells) → slice_get w.posts i ≡ Some p → let v = held_after w steps in slice_get v.posts i ≡ Some p
+delta_stays w [] i p e = e
+delta_stays w (step ∷ steps) i p e = delta_stays (held_step w step) steps i p (get_kept w.posts (cells_posted w step) i p e)
+
+pub delivered_delta : (a b c : List Step) (s t : ℕ) → let v = held_after nothing_held a in let w = held_after nothing_held (a ++ Tell t ∷ b) in
+    cells_in (held_after nothing_held (a ++ Tell t ∷ b ++ Post s (length v.told) ∷ c)) (Deliver (length w.posts)) ≡ Some (t, delta_of (held (a ++ Tell t ∷ b) s) (summary_of (held a t)))
+delivered_delta a b c s t =
+    let v = held_after nothing_held a in
+    let k = length v.told in
+    let told : Told = record { teller = t; stamps = summary_of (held a t) } in
+    let u = held_step v (Tell t) in
+    let w = held_after u b in
+    let same : held_after nothing_held (a ++ Tell t ∷ b) ≡ w = held_append nothing_held a (Tell t ∷ b) in
+    let there : slice_get w.told k ≡ Some told = summary_stays u b k told (get_next v.told told) in
+    let post : PostedCells = record { addressee = t; cells = delta_of (w.of_site s) (summary_of (held a t)) } in
+    let x = held_step w (Post s k) in
+    let made : slice_get x.posts (length w.posts) ≡ Some post = ap (λ o. slice_get (w.posts ++ delta_to (w.of_site s) o) (length w.posts)) there ∙ get_next w.posts post in
+    let z = held_after x c in
+    let kept : slice_get z.posts (length w.posts) ≡ Some post = delta_stays x c (length w.posts) post made in
+    let all : held_after nothing_held (a ++ Tell t ∷ b ++ Post s k ∷ c) ≡ z = held_append nothing_held (a ++ Tell t ∷ b) (Post s k ∷ c) ∙ ap (λ y. held_after y (Post s k ∷ c)) same in
+    (λ i. let wi = same i in cells_delivered (let zi = all i in slice_get zi.posts (length wi.posts)))
+    ∙ ap cells_delivered kept
+    ∙ ap (λ (y : Held). Some (t, delta_of (y.of_site s) (summary_of (held a t)))) (sym same)
+
+pub delivered_taken : (a b c : List Step) (s t : ℕ) → let v = taken_after nothing_taken a in let w = taken_after nothing_taken (a ++ Tell t ∷ b) in
+    edits_in (taken_after nothing_taken (a ++ Tell t ∷ b ++ Post s (length v.tellers) ∷ c)) (Deliver (length w.posts)) ≡ Some (t, taken (a ++ Tell t ∷ b) s)
+delivered_taken a b c s t =
+    let v = taken_after nothing_taken a in
+    let k = length v.tellers in
+    let u = taken_step v (Tell t) in
+    let w = taken_after u b in
+    let same : taken_after nothing_taken (a ++ Tell t ∷ b) ≡ w = after_append nothing_taken a (Tell t ∷ b) in
+    let there : slice_get w.tellers k ≡ Some t = teller_stays u b k t (get_next v.tellers t) in
+    let post : PostedEdits = record { addressee = t; edits = w.of_site s } in
+    let x = taken_step w (Post s k) in
+    let made : slice_get x.posts (length w.posts) ≡ Some post = ap (λ o. slice_get (w.posts ++ post_to (w.of_site s) o) (length w.posts)) there ∙ get_next w.posts post in
+    let z = taken_after x c in
+    let kept : slice_get z.posts (length w.posts) ≡ Some post = post_stays x c (length w.posts) post made in
+    let all : taken_after nothing_taken (a ++ Tell t ∷ b ++ Post s k ∷ c) ≡ z = after_append nothing_taken (a ++ Tell t ∷ b) (Post s k ∷ c) ∙ ap (λ y. taken_after y (Post s k ∷ c)) same in
+    (λ i. let wi = same i in edits_delivered (let zi = all i in slice_get zi.posts (length wi.posts)))
+    ∙ ap edits_delivered kept
+    ∙ ap (λ (y : Taken). Some (t, y.of_site s)) (sym same)

@@ -1,0 +1,55 @@
+-- Lists that are lent, one by one.
+use Rattle.std.proofs.Common.{◌≡◌, ℕ, ◌+◌, ◌<◌, List, [], ◌∷◌, ◌++◌, length, get_or, take, Option, Some, sym, ap, ◌∙◌, refl}
+use Rattle.std.specs.Prelude.{slice_get}
+use Rattle.std.specs.List.{cons_option}
+use Rattle.std.specs.Borrow.{Bor}
+use Rattle.std.proofs.lemmas.List.{take_more}
+use Rattle.std.proofs.lemmas.List.Elements.{filter_map-append}
+use Rattle.std.proofs.lemmas.Option.{get_or_from_slice_get}
+use Rattle.nego_core.specs.Filtered.{lent}
+use Rattle.nego_core.specs.declared.pick.Pick.{Pick}
+use Rattle.cata_core.specs.Live.{Labelled, languages}
+use Rattle.cata_core.specs.Asking.{with_weight, picked}
+use Rattle.cata_core.specs.LentEntries.{weighed_of, labelled_of}
+
+abbrev Lent : Type 0
+Lent = Bor (List ℕ) × Bor (List (List ℕ)) × ℕ
+
+abbrev value_of : Lent → List ℕ × List (List ℕ) × ℕ
+value_of x = (x.0.now, x.1.now, x.2)
+
+weighed-append : (xs ys : List Lent) → weighed_of (xs ++ ys) ≡ weighed_of xs ++ weighed_of ys
+weighed-append [] ys = refl
+weighed-append (x ∷ xs) ys = ap (λ zs. value_of x ∷ zs) (weighed-append xs ys)
+
+pub weighed_more : (xs : List Lent) (i : ℕ) (e : Lent) → i < length xs → e ≡ get_or xs i e → weighed_of (take i xs) ++ value_of e ∷ [] ≡ weighed_of (take (i + 1) xs)
+weighed_more xs i e lt is =
+    sym (weighed-append (take i xs) (e ∷ [])) ∙ ap (λ (x : Lent). weighed_of (take i xs ++ x ∷ [])) is ∙ ap weighed_of (sym (take_more xs i e lt))
+
+abbrev pub one_picked : Labelled → Pick → Option (List ℕ × List (List ℕ) × ℕ)
+one_picked labels p = with_weight (slice_get labels p.place) p.weight
+
+pub picked_more : (labels : Labelled) (picks : List Pick) (i : ℕ) (pick : Pick) → i < length picks → slice_get picks i ≡ Some pick → picked labels (take i picks) ++ cons_option (one_picked labels pick) [] ≡ picked labels (take (i + 1) picks)
+picked_more labels picks i pick lt here =
+    sym (ap (picked labels) (take_more picks i pick lt ∙ ap (λ p. take i picks ++ p ∷ []) (get_or_from_slice_get picks i pick pick here)) ∙ filter_map-append (one_picked labels) (take i picks) (pick ∷ []))
+
+pub weighed_push : (xs : List Lent) (x : Lent) → weighed_of (xs ++ x ∷ []) ≡ weighed_of xs ++ value_of x ∷ []
+weighed_push xs x = weighed-append xs (x ∷ [])
+
+-- the languages of lent pairs
+pub lent_push : (langs : List (Bor (List ℕ))) (l : Bor (List ℕ)) → lent (langs ++ l ∷ []) ≡ lent langs ++ l.now ∷ []
+lent_push [] l = refl
+lent_push (x ∷ langs) l = ap (λ xs. x.now ∷ xs) (lent_push langs l)
+
+pub languages_push : (pairs : List (Bor (List ℕ) × Bor (List (List ℕ)))) (p : Bor (List ℕ) × Bor (List (List ℕ))) → languages (labelled_of (pairs ++ p ∷ [])) ≡ languages (labelled_of pairs) ++ p.0.now ∷ []
+languages_push [] p = refl
+languages_push (x ∷ pairs) p = ap (λ xs. x.0.now ∷ xs) (languages_push pairs p)
+
+pub labelled_push : (pairs : List (Bor (List ℕ) × Bor (List (List ℕ)))) (p : Bor (List ℕ) × Bor (List (List ℕ))) → labelled_of (pairs ++ p ∷ []) ≡ labelled_of pairs ++ (p.0.now, p.1.now) ∷ []
+labelled_push [] p = refl
+labelled_push (x ∷ pairs) p = ap (λ xs. (x.0.now, x.1.now) ∷ xs) (labelled_push pairs p)
+
+-- one more language, where the list has it
+pub languages_more : (pairs : List (Bor (List ℕ) × Bor (List (List ℕ)))) (i : ℕ) (p : Bor (List ℕ) × Bor (List (List ℕ))) → i < length pairs → p ≡ get_or pairs i p → languages (labelled_of (take i pairs)) ++ p.0.now ∷ [] ≡ languages (labelled_of (take (i + 1) pairs))
+languages_more pairs i p lt is =
+    sym (languages_push (take i pairs) p) ∙ ap (λ (x : Bor (List ℕ) × Bor (List (List ℕ))). languages (labelled_of (take i pairs ++ x ∷ []))) is ∙ ap (λ xs. languages (labelled_of xs)) (sym (take_more pairs i p lt))

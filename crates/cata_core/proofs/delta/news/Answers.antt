@@ -1,0 +1,34 @@
+use Rattle.std.proofs.Common.{sym, ◌∙◌, subst}
+use Rattle.cata_core.specs.CellsLeft.{cells_left}
+use Rattle.cata_core.specs.Deltas.{is_news}
+use Rattle.cata_core.specs.Entries.{EntryKey, Entries}
+use Rattle.cata_core.specs.Told.{told_of}
+use Rattle.cata_core.proofs.News.{IsNewsTo, told_at, news_more, news_same}
+use Rattle.cata_core.proofs.delta.news.Goals as goal
+
+pub loop-id-preserved : goal.loop-id-preserved
+loop-id-preserved c =
+    let all = c.args.catalogue.now in
+    let left = cells_left c.next.new.self in
+    let told = c.args.summary.now.stamps in
+    let rest = told_of c.loop-id.rest.now in
+    let more = told_of c.from_key-rest.result.now in
+    let k : EntryKey = (c.in-Some.id.now, c.in-Some.lang.now) in
+    let h = subst (λ (left : Entries). IsNewsTo c.args.catalogue.now left c.loop-id.news c.args.summary.now.stamps (told_of c.loop-id.rest.now)) c.in-Some.ensures.steps c.loop-id.invariant in
+    let found = c.stamp_at.ensures ∙ told_at all left c.loop-id.news told rest more k c.in-Some.cell.now h c.from_key-rest.ensures in
+    subst (λ (news : Entries). IsNewsTo c.args.catalogue.now (cells_left c.next.new.self) news c.args.summary.now.stamps (told_of c.from_key-rest.result.now)) (sym c.in_ok-write_copy.ensures.ok)
+    (news_more all left c.loop-id.news told rest more k c.in-Some.cell.now h c.from_key-rest.ensures
+    ((λ i. is_news (sym found i) (sym c.stamp.ensures i)) ∙ sym c.is_news.ensures ∙ c.if-not-is_news.false))
+
+pub loop-id-preserved-then-not-is_news : goal.loop-id-preserved-then-not-is_news
+loop-id-preserved-then-not-is_news c =
+    let all = c.args.catalogue.now in
+    let left = cells_left c.next.new.self in
+    let told = c.args.summary.now.stamps in
+    let rest = told_of c.loop-id.rest.now in
+    let more = told_of c.from_key-rest.result.now in
+    let k : EntryKey = (c.in-Some.id.now, c.in-Some.lang.now) in
+    let h = subst (λ (left : Entries). IsNewsTo c.args.catalogue.now left c.loop-id.news c.args.summary.now.stamps (told_of c.loop-id.rest.now)) c.in-Some.ensures.steps c.loop-id.invariant in
+    let found = c.stamp_at.ensures ∙ told_at all left c.loop-id.news told rest more k c.in-Some.cell.now h c.from_key-rest.ensures in
+    news_same all left c.loop-id.news told rest more k c.in-Some.cell.now h c.from_key-rest.ensures
+    ((λ i. is_news (sym found i) (sym c.stamp.ensures i)) ∙ sym c.is_news.ensures ∙ c.if-not-is_news.true)

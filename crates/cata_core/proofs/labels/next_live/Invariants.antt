@@ -1,0 +1,10 @@
+use Rattle.std.proofs.Common.{◌≡◌, length}
+use Rattle.cell_core.specs.EntriesLeft.{entries_left}
+use Rattle.cata_core.specs.LiveLeft.{live_left}
+use Rattle.cata_core.proofs.labels.next_live.Given as goal
+
+abbrev pub invariant-loop-lang : goal.invariant-loop-lang
+invariant-loop-lang l = live_left l.cells ≡ live_left l.initial.cells
+
+abbrev pub decreases-loop-lang : goal.decreases-loop-lang
+decreases-loop-lang l = length (entries_left l.cells)

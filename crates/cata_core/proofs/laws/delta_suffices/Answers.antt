@@ -1,0 +1,5 @@
+use Rattle.cata_core.proofs.Deltas.{nothing_lost}
+use Rattle.cata_core.proofs.laws.delta_suffices.Goals as goal
+
+pub returns : goal.returns
+returns c = nothing_lost

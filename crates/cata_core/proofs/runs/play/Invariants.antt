@@ -1,0 +1,13 @@
+use Rattle.std.proofs.Common.{◌≡◌, [], length}
+use Rattle.cata_core.specs.Worlds.{at_sites}
+use Rattle.cata_core.proofs.Playing.{IsPlayed}
+use Rattle.cata_core.proofs.runs.play.Given as goal
+
+abbrev pub invariant-loop : goal.invariant-loop
+invariant-loop l = record {
+  len : length l.catalogues.items ≡ l.counter;
+  empty : at_sites l.catalogues.items ≡ (λ _. []);
+}
+
+abbrev pub invariant-loop-n : goal.invariant-loop-n
+invariant-loop-n l = IsPlayed l.sites l.steps l.n l.world

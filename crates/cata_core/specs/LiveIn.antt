@@ -1,0 +1,8 @@
+-- The live labels that a set of them stands for.
+use Rattle.std.specs.Option.{option_copied}
+use Rattle.cata_core.specs.declared.live.Live.{Live}
+use Rattle.cata_core.specs.Flat.{inner_of}
+use Rattle.cata_core.specs.Live.{Labelled, live_of}
+
+abbrev pub live_in : Live → Labelled
+live_in l = live_of (inner_of (option_copied l.cells))

@@ -1,0 +1,38 @@
+-- Catalogues and summaries of numbered sites, as documents of version 1 have them, and what they become (own rules).
+use Rattle.std.specs.Prelude.{◌≡◌, List, Some, map}
+use Rattle.std.specs.FinMap.Entries.{find}
+use Rattle.cell_core.specs.Maps.{IsMap, AgreeMaps, joined_maps}
+use Rattle.cell_core.specs.Migration.{OldStamp, IsOldStamp, OldCell, AgreeOldCells, joined_old_cells, migrated_stamp, migrated_cell}
+use Rattle.cata_core.specs.Entries.{EntryKey, key_cmp, Entry, Entries}
+use Rattle.cata_core.specs.Deltas.{Stamps}
+
+-- an entry whose stamp names its site by a number
+abbrev pub OldEntry : Type 0
+OldEntry = EntryKey × OldCell
+
+abbrev pub OldEntries : Type 0
+OldEntries = List OldEntry
+
+-- the keys rise, and the stamps have sites and counts of 32 bits
+pub record IsOldMap (es : OldEntries) : Type 0 where
+  pub map : IsMap key_cmp es
+  pub stamps : (k : EntryKey) (c : OldCell) → find key_cmp k es ≡ Some c → IsOldStamp c.stamp
+
+abbrev pub AgreeOld : OldEntries → OldEntries → Type 0
+AgreeOld = AgreeMaps key_cmp AgreeOldCells
+
+abbrev pub joined_old : OldEntries → OldEntries → OldEntries
+joined_old = joined_maps key_cmp joined_old_cells
+
+abbrev pub migrated_entry : OldEntry → Entry
+migrated_entry e = (e.0, migrated_cell e.1)
+
+-- the same with the padded names of the sites
+abbrev pub migrated_entries : OldEntries → Entries
+migrated_entries es = map migrated_entry es
+
+abbrev pub OldStamps : Type 0
+OldStamps = List (EntryKey × OldStamp)
+
+abbrev pub migrated_stamps : OldStamps → Stamps
+migrated_stamps stamps = map (λ s. (s.0, migrated_stamp s.1)) stamps

@@ -1,0 +1,103 @@
+//! The answers of a run.
+
+ghost use Rattle.std.specs.Prelude.{◌≡◌, length, slice_get, IfOk};
+ghost use Rattle.std.specs.Option.{option_copied};
+
+use crate::catalogue::Catalogue;
+use crate::edit::Edit;
+use crate::entries::Entries;
+use crate::reply::Reply;
+use cell_core::{Join, Key};
+use std::alloc::{AllocError, Global};
+use std::marker::Model;
+
+/// A list of edits.
+#[derive(Drop)]
+pub struct Edits {
+    edits: Vec<Edit>,
+}
+
+impl Model for Edits {
+    ghost use Rattle.cata_core.specs.Entries.{Entries};
+
+    ghost Value = { Entries };
+
+    ghost view = { λ e. e.edits.items };
+}
+
+impl Edits {
+    /// All cells of a catalogue.
+    pub(crate) fn of(alloc: Global, catalogue: &Catalogue) -> Result<Edits, AllocError>
+        ensures { IfOk result (λ edits. edits ≡ catalogue.now) }
+    {
+        let mut edits = Vec::new(alloc);
+        for (id, lang, cell) in catalogue.iter() {
+            let edit = Edit::new(id.copy(alloc)?, lang.copy(alloc)?, cell.copy(alloc)?);
+            edits.push(edit)?;
+        }
+        Ok(Edits { edits })
+    }
+
+    /// How many there are.
+    pub fn len(&self) -> usize
+        ensures { result ≡ length self.now }
+    {
+        self.edits.len()
+    }
+
+    /// The edit at a place, from 0; none from `len` on.
+    pub fn nth(&self, place: usize) -> Option<&Edit>
+        ensures { option_copied result ≡ slice_get self.now place }
+    {
+        self.edits.get(place)
+    }
+}
+
+/// The answer to a question.
+#[derive(Drop)]
+pub enum Answer {
+    /// Languages with their labels and weights.
+    Filter(Entries),
+    /// A language with its label, or the default with its label, or nothing.
+    Lookup(Reply),
+    /// All cells of a site, in strictly rising order of key.
+    Cells(Edits),
+}
+
+/// The answers of a run, one for each question, in order.
+#[derive(Drop)]
+pub struct Answers {
+    answers: Vec<Answer>,
+}
+
+impl Model for Answers {
+    ghost use Rattle.std.specs.Prelude.{List};
+    ghost use Rattle.cata_core.specs.declared.answer.Answer.{Answer};
+
+    ghost Value = { List Answer };
+
+    ghost view = { λ a. a.answers.items };
+}
+
+impl Answers {
+    /// The list of these answers.
+    pub(crate) fn new(answers: Vec<Answer>) -> Answers
+        ensures { result ≡ answers.items }
+    {
+        Answers { answers }
+    }
+
+    /// How many there are.
+    pub fn len(&self) -> usize
+        ensures { result ≡ length self.now }
+    {
+        self.answers.len()
+    }
+
+    /// The answer at a place, from 0; none from `len` on.
+    pub fn nth(&self, place: usize) -> Option<&Answer>
+        ensures { option_copied result ≡ slice_get self.now place }
+    {
+        self.answers.get(place)
+    }
+}

@@ -1,0 +1,108 @@
+//! What a catalogue answers to a priority list.
+
+ghost use Rattle.std.specs.Prelude.{◌≡◌, IfOk};
+ghost use Rattle.std.specs.Option.{option_map};
+ghost use Rattle.cata_core.specs.Live.{live, languages};
+ghost use Rattle.nego_core.specs.Filtered.{lent};
+ghost use Rattle.cata_core.specs.LiveLeft.{labels_left};
+ghost use Rattle.cata_core.specs.LiveIn.{live_in};
+ghost use Rattle.cata_core.specs.LentEntries.{labelled_of};
+ghost use Rattle.cata_core.specs.LentAnswers.{reply_of};
+ghost use Rattle.cata_core.specs.Asking.{IsFilterAnswer, IsLookupAnswer};
+
+use crate::catalogue::Catalogue;
+use crate::entries::{LentEntries, pick_all};
+use crate::labels::Labels;
+use crate::live::Live;
+use crate::reply::LentReply;
+use cell_core::{Label, MessageId};
+use lang_core::Lang;
+use nego_core::{Choice, PriorityList, Scheme, choose, filter_lent};
+use std::alloc::{AllocError, Global};
+
+impl Catalogue {
+    /// The live labels of a message, in rising order of the languages' bytes.
+    pub fn labels(&self, id: &MessageId) -> Labels<'_>
+        ensures { labels_left result ≡ live self.now id.now }
+    {
+        Labels::new(self.map().get(id))
+    }
+
+    /// The same, as a set.
+    fn live(&self, id: &MessageId) -> Live<'_>
+        ensures { live_in result ≡ live self.now id.now }
+    {
+        Live::new(self.map().get(id))
+    }
+
+    /// The live labels of a message whose languages the list takes, in its order (RFC 4647, sections 3.3.1 and 3.3.2).
+    pub fn ask_filter<'a>(
+        &'a self,
+        alloc: Global,
+        id: &MessageId,
+        list: &PriorityList,
+        scheme: Scheme,
+    ) -> Result<LentEntries<'a>, AllocError>
+        ensures { IfOk result (IsFilterAnswer self.now id.now scheme list.now) }
+    {
+        let labels = listed(alloc, self.labels(id))?;
+        let langs = languages_of(alloc, &labels)?;
+        match filter_lent(alloc, list, scheme, &langs) {
+            Ok(picks) => pick_all(alloc, &labels, &picks),
+            Err(_) => Err(AllocError),
+        }
+    }
+
+    /// The live label of a message that the list looks up (RFC 4647, section 3.4), or that of the default, or nothing.
+    ///
+    /// It takes no memory. A default counts as held only where it has a live label.
+    pub fn ask_lookup<'a>(
+        &'a self,
+        id: &MessageId,
+        list: &PriorityList,
+        default: Option<&Lang>,
+    ) -> LentReply<'a>
+        ensures { IsLookupAnswer self.now id.now list.now (option_map (λ l. l.now) default.entry) (reply_of result) }
+    {
+        let live = self.live(id);
+        match choose(list, &live, default) {
+            Choice::Matched(text) => match live.label(text) {
+                Some((lang, label)) => LentReply::Matched(lang, label),
+                None => LentReply::Nothing,
+            },
+            Choice::Default => match default {
+                Some(default) => match live.label(default.as_str()) {
+                    Some((lang, label)) => LentReply::Default(lang, label),
+                    None => LentReply::Nothing,
+                },
+                None => LentReply::Nothing,
+            },
+            Choice::Nothing => LentReply::Nothing,
+        }
+    }
+}
+
+/// The labels in a list.
+fn listed<'a>(alloc: Global, labels: Labels<'a>) -> Result<Vec<(&'a Lang, &'a Label)>, AllocError>
+    ensures { IfOk result (λ listed. labelled_of listed.items ≡ labels_left labels.entry) }
+{
+    let mut listed = Vec::new(alloc);
+    for pair in labels {
+        listed.push(pair)?;
+    }
+    Ok(listed)
+}
+
+/// The languages alone.
+fn languages_of<'a>(
+    alloc: Global,
+    labels: &[(&'a Lang, &'a Label)],
+) -> Result<Vec<&'a Lang>, AllocError>
+    ensures { IfOk result (λ langs. lent langs.items ≡ languages (labelled_of labels.now)) }
+{
+    let mut langs = Vec::with_capacity(alloc, labels.len())?;
+    for (lang, _label) in labels {
+        langs.push(*lang)?;
+    }
+    Ok(langs)
+}

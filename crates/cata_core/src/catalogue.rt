@@ -1,0 +1,265 @@
+//! Catalogues: cells by message and language.
+
+ghost use Rattle.std.specs.Prelude.{◌≡◌, ◌<◌, [], ◌∷◌, length, slice_get, OnOk, OnErr, IfErr, IsOk};
+ghost use Rattle.std.specs.Option.{option_map, option_copied};
+ghost use Rattle.std.specs.Ordering.{is_lt};
+ghost use Rattle.std.specs.FinMap.Entries.{find, put};
+ghost use Rattle.cell_core.specs.Maps.{IsMap};
+ghost use Rattle.cell_core.specs.Stamps.{stamp_cmp};
+ghost use Rattle.cata_core.specs.CataFaults.{IsRefusal, IsLeft};
+ghost use Rattle.cata_core.specs.CellsLeft.{cells_left};
+ghost use Rattle.cata_core.specs.Entries.{key_cmp, Agree, joined, Between};
+ghost use Rattle.cata_core.specs.Flat.{flat};
+ghost use Rattle.cata_core.specs.Nested.{IsCatalogue, IsCatalogueInMemory};
+ghost use Rattle.cata_core.specs.Settled.{IsSettledIn};
+
+use crate::cata_fault::CataFault;
+use crate::cells::Cells;
+use crate::clash::first_clash;
+use crate::edit::Edit;
+use crate::walk;
+use cell_core::{Cell, Join, Key, Keyed, MessageId};
+use lang_core::Lang;
+use std::alloc::{AllocError, Global};
+use std::marker::Model;
+
+/// Cells by message and language, in rising order of the bytes of the id, then of the bytes of the language.
+///
+/// At each key stands the cell of the greatest stamp that came in: a last-writer-wins register (INRIA RR-7506, 3.2.1).
+/// A deletion is a cell without a label, and is kept.
+#[derive(Drop)]
+pub struct Catalogue {
+    map: Keyed<MessageId, Keyed<Lang, Cell>>,
+    len: u128,
+}
+
+impl Model for Catalogue {
+    ghost use Rattle.cata_core.specs.Entries.{Entries};
+    ghost use Rattle.cata_core.specs.Flat.{flat};
+    ghost use Rattle.cata_core.specs.Nested.{IsKept};
+
+    ghost Value = { Entries };
+
+    ghost view = { λ c. flat c.map };
+
+    ghost invariant = { λ c. IsKept c.map c.len };
+}
+
+impl Catalogue {
+    /// The empty catalogue, which grows by this allocator.
+    pub fn new(alloc: Global) -> Catalogue
+        ensures { result ≡ [] }
+    {
+        Catalogue {
+            map: Keyed::new(alloc),
+            len: 0,
+        }
+    }
+
+    /// The cells by language, by message. No message is without a cell.
+    pub fn map(&self) -> &Keyed<MessageId, Keyed<Lang, Cell>>
+        ensures flat { flat result.now ≡ self.now }
+        ensures nested { IsCatalogue result.now }
+    {
+        &self.map
+    }
+
+    /// The cell of a message in a language.
+    pub fn cell(&self, id: &MessageId, lang: &Lang) -> Option<&Cell>
+        ensures { option_copied result ≡ find key_cmp (id.now, lang.now) self.now }
+    {
+        match self.map.get(id) {
+            Some(cells) => cells.get(lang),
+            None => None,
+        }
+    }
+
+    /// How many cells there are, deletions among them.
+    pub fn len(&self) -> u128
+        ensures len { result ≡ length self.now }
+        ensures sorted { IsMap key_cmp self.now }
+    {
+        self.len
+    }
+
+    /// The cell at a place in rising order of key, from 0, with its message and language; none from `len` on.
+    ///
+    /// It walks over the messages in front: to see all cells, take [`Catalogue::iter`].
+    pub fn nth(&self, place: u128) -> Option<(&MessageId, &Lang, &Cell)>
+        ensures { option_map (λ e. ((e.0.now, e.1.now), e.2.now)) result ≡ slice_get self.now place }
+    {
+        walk::entry(&self.map, place)
+    }
+
+    /// All cells, each with its message and language, in rising order of key.
+    pub fn iter(&self) -> Cells<'_>
+        ensures cells { cells_left result ≡ self.now }
+        ensures sorted { IsMap key_cmp self.now }
+    {
+        Cells::new(&self.map)
+    }
+
+    /// Joins the one cell of an edit. An edit that is not newer than the held cell takes no memory.
+    ///
+    /// Refused, and then unchanged, by [`CataFault::StampReused`] (13) where the held cell has the same stamp and
+    /// another label, and by [`CataFault::NoMemory`] (26).
+    pub fn apply(&mut self, alloc: Global, edit: &Edit) -> Result<(), CataFault>
+        ensures ok { OnOk result (self.new ≡ joined self.old (edit.now ∷ [])) }
+        ensures agree { OnOk result (Agree self.old (edit.now ∷ [])) }
+        ensures err { OnErr result (self.new ≡ self.old) }
+        ensures fault { IfErr result (IsRefusal self.old (edit.now ∷ [])) }
+        ensures settled { IsSettledIn self.old edit.now → IsOk result }
+    {
+        self.apply_cell(alloc, edit.id(), edit.lang(), edit.cell())
+    }
+
+    /// The same, by the parts of the edit.
+    fn apply_cell(
+        &mut self,
+        alloc: Global,
+        id: &MessageId,
+        lang: &Lang,
+        cell: &Cell,
+    ) -> Result<(), CataFault>
+        ensures ok { OnOk result (self.new ≡ joined self.old (((id.now, lang.now), cell.now) ∷ [])) }
+        ensures agree { OnOk result (Agree self.old (((id.now, lang.now), cell.now) ∷ [])) }
+        ensures err { OnErr result (self.new ≡ self.old) }
+        ensures fault { IfErr result (IsRefusal self.old (((id.now, lang.now), cell.now) ∷ [])) }
+        ensures settled { IsSettledIn self.old ((id.now, lang.now), cell.now) → IsOk result }
+    {
+        if let Some(mine) = self.cell(id, lang) {
+            if !mine.agrees(cell) {
+                return Err(CataFault::StampReused {
+                    place: walk::place(&self.map, id, lang),
+                    stamp: mine.stamp(),
+                });
+            }
+            if !is_older(mine, cell) {
+                return Ok(());
+            }
+        }
+        match self.write_copy(alloc, id, lang, cell) {
+            Ok(()) => Ok(()),
+            Err(_) => Err(CataFault::NoMemory),
+        }
+    }
+
+    /// Joins the cells of the other catalogue: it becomes the least upper bound of both.
+    ///
+    /// Refused, and then unchanged, by [`CataFault::StampReused`] (13) with the least place where the two do not agree.
+    /// After [`CataFault::NoMemory`] (26) each key has its old cell, or none as before, or that of the join, so that a
+    /// repeat gives the join.
+    pub fn merge(&mut self, alloc: Global, other: &Catalogue) -> Result<(), CataFault>
+        ensures ok { OnOk result (self.new ≡ joined self.old other.now) }
+        ensures agree { OnOk result (Agree self.old other.now) }
+        ensures fault { IfErr result (IsRefusal self.old other.now) }
+        ensures left { IfErr result (IsLeft self.old self.new other.now) }
+    {
+        match first_clash(&self.map, other.map()) {
+            Some((place, stamp)) => Err(CataFault::StampReused { place, stamp }),
+            None => match self.join(alloc, other) {
+                Ok(()) => Ok(()),
+                Err(_) => Err(CataFault::NoMemory),
+            },
+        }
+    }
+
+    /// Joins the cells of the other catalogue, which agrees.
+    pub(crate) fn join(&mut self, alloc: Global, other: &Catalogue) -> Result<(), AllocError>
+        requires { Agree self.old other.now }
+        ensures ok { OnOk result (self.new ≡ joined self.old other.now) }
+        ensures err { OnErr result (Between self.old self.new other.now) }
+    {
+        let result = self.map.join(alloc, other.map());
+        self.len = walk::count(&self.map);
+        result
+    }
+
+    /// Gives the key a copy of the cell.
+    pub(crate) fn write_copy(
+        &mut self,
+        alloc: Global,
+        id: &MessageId,
+        lang: &Lang,
+        cell: &Cell,
+    ) -> Result<(), AllocError>
+        ensures ok { OnOk result (self.new ≡ put key_cmp (id.now, lang.now) cell.now self.old) }
+        ensures err { OnErr result (self.new ≡ self.old) }
+    {
+        let cell = cell.copy(alloc)?;
+        self.write(alloc, id, lang, cell)
+    }
+
+    /// Gives the key the cell.
+    pub(crate) fn write(
+        &mut self,
+        alloc: Global,
+        id: &MessageId,
+        lang: &Lang,
+        cell: Cell,
+    ) -> Result<(), AllocError>
+        ensures ok { OnOk result (self.new ≡ put key_cmp (id.now, lang.now) cell self.old) }
+        ensures err { OnErr result (self.new ≡ self.old) }
+    {
+        let held = self.cell(id, lang).is_some();
+        write_in(&mut self.map, alloc, id, lang, cell)?;
+        if !held {
+            // No more cells than messages times the most that one has.
+            let _messages = self.map.len();
+            self.len += 1;
+        }
+        Ok(())
+    }
+}
+
+/// Gives the keys the cell.
+fn write_in(
+    map: &mut Keyed<MessageId, Keyed<Lang, Cell>>,
+    alloc: Global,
+    id: &MessageId,
+    lang: &Lang,
+    cell: Cell,
+) -> Result<(), AllocError>
+    requires { IsCatalogueInMemory map.old }
+    ensures kept { IsCatalogueInMemory map.new }
+    ensures ok { OnOk result (flat map.new ≡ put key_cmp (id.now, lang.now) cell (flat map.old)) }
+    ensures err { OnErr result (map.new ≡ map.old) }
+{
+    match map.get_mut(id) {
+        Some(cells) => put_copy(cells, alloc, lang, cell),
+        None => {
+            let mut cells = Keyed::new(alloc);
+            put_copy(&mut cells, alloc, lang, cell)?;
+            put_copy(map, alloc, id, cells)
+        }
+    }
+}
+
+/// Whether the other cell has a greater stamp.
+fn is_older(mine: &Cell, other: &Cell) -> bool
+    ensures { result ≡ is_lt (stamp_cmp mine.now.stamp other.now.stamp) }
+{
+    mine.stamp().cmp(&other.stamp()).is_lt()
+}
+
+/// Gives a copy of the key the value.
+fn put_copy<K: Key, J: Drop>(
+    map: &mut Keyed<K, J>,
+    alloc: Global,
+    key: &K,
+    value: J,
+) -> Result<(), AllocError>
+    ensures ok { OnOk result (map.new ≡ put K.cmp key.now value map.old) }
+    ensures err { OnErr result (map.new ≡ map.old) }
+    ensures short { OnOk result (length map.new < 18446744073709551616) }
+{
+    let key = key.copy(alloc)?;
+    match map.put(key, value) {
+        Ok(()) => {
+            // No map has more entries than a `usize` counts.
+            let _entries = map.len();
+            Ok(())
+        }
+        Err(_) => Err(AllocError),
+    }
+}

@@ -1,0 +1,53 @@
+//! Edits: what a message has in a language from a moment on.
+
+ghost use Rattle.std.specs.Prelude.{◌≡◌};
+
+use cell_core::{Cell, MessageId};
+use lang_core::Lang;
+use std::marker::Model;
+
+/// A cell for a key, a message and a language. An edit whose cell has no label is a deletion.
+#[derive(Drop)]
+pub struct Edit {
+    id: MessageId,
+    lang: Lang,
+    cell: Cell,
+}
+
+impl Model for Edit {
+    ghost use Rattle.cata_core.specs.Entries.{Entry};
+
+    ghost Value = { Entry };
+
+    ghost view = { λ e. ((e.id, e.lang), e.cell) };
+}
+
+impl Edit {
+    /// The edit that gives this message the cell in this language.
+    pub fn new(id: MessageId, lang: Lang, cell: Cell) -> Edit
+        ensures { result ≡ ((id, lang), cell) }
+    {
+        Edit { id, lang, cell }
+    }
+
+    /// Its message.
+    pub fn id(&self) -> &MessageId
+        ensures { result.now ≡ self.now.0.0 }
+    {
+        &self.id
+    }
+
+    /// Its language.
+    pub fn lang(&self) -> &Lang
+        ensures { result.now ≡ self.now.0.1 }
+    {
+        &self.lang
+    }
+
+    /// Its cell.
+    pub fn cell(&self) -> &Cell
+        ensures { result.now ≡ self.now.1 }
+    {
+        &self.cell
+    }
+}

@@ -1,0 +1,118 @@
+//! Answers of filters.
+
+ghost use Rattle.std.specs.Prelude.{◌≡◌, length, slice_get, IfOk};
+ghost use Rattle.cata_core.specs.Asking.{picked, with_weight};
+ghost use Rattle.cata_core.specs.LentEntries.{lent_weighed, labelled_of};
+
+use cell_core::Label;
+use lang_core::Lang;
+use nego_core::{Pick, Picks};
+use std::alloc::{AllocError, Global};
+use std::marker::Model;
+
+/// The answer of a filter, lent from the catalogue: languages with their labels and weights, in order.
+#[derive(Drop)]
+pub struct LentEntries<'a> {
+    items: Vec<(&'a Lang, &'a Label, u16)>,
+}
+
+impl<'a> Model for LentEntries<'a> {
+    ghost use Rattle.cata_core.specs.Asking.{Weighed};
+    ghost use Rattle.cata_core.specs.LentEntries.{weighed_of};
+
+    ghost Value = { Weighed };
+
+    ghost view = { λ e. weighed_of e.items.items };
+}
+
+impl<'a> LentEntries<'a> {
+    /// How many there are.
+    pub fn len(&self) -> usize
+        ensures { result ≡ length self.now }
+    {
+        self.items.len()
+    }
+
+    /// The language, the label and the weight in thousandths at a place, from 0; none from `len` on.
+    pub fn nth(&self, place: usize) -> Option<(&'a Lang, &'a Label, u16)>
+        ensures { lent_weighed result ≡ slice_get self.now place }
+    {
+        match self.items.get(place) {
+            Some(item) => Some((item.0, item.1, item.2)),
+            None => None,
+        }
+    }
+
+    /// The list, copied.
+    pub fn copy(&self, alloc: Global) -> Result<Entries, AllocError>
+        ensures { IfOk result (λ copied. copied ≡ self.now) }
+    {
+        let mut items = Vec::with_capacity(alloc, self.items.len())?;
+        for (lang, label, weight) in &self.items {
+            items.push((lang.copy(alloc)?, label.copy(alloc)?, *weight))?;
+        }
+        Ok(Entries { items })
+    }
+}
+
+/// The answer of a filter: languages with their labels and weights, in order.
+#[derive(Drop)]
+pub struct Entries {
+    items: Vec<(Lang, Label, u16)>,
+}
+
+impl Model for Entries {
+    ghost use Rattle.cata_core.specs.Asking.{Weighed};
+
+    ghost Value = { Weighed };
+
+    ghost view = { λ e. e.items.items };
+}
+
+impl Entries {
+    /// How many there are.
+    pub fn len(&self) -> usize
+        ensures { result ≡ length self.now }
+    {
+        self.items.len()
+    }
+
+    /// The language, the label and the weight in thousandths at a place, from 0; none from `len` on.
+    pub fn nth(&self, place: usize) -> Option<(&Lang, &Label, u16)>
+        ensures { lent_weighed result ≡ slice_get self.now place }
+    {
+        match self.items.get(place) {
+            Some(item) => Some((&item.0, &item.1, item.2)),
+            None => None,
+        }
+    }
+}
+
+/// The languages and labels at the places that a filter picked.
+pub(crate) fn pick_all<'a>(
+    alloc: Global,
+    labels: &[(&'a Lang, &'a Label)],
+    picks: &Picks,
+) -> Result<LentEntries<'a>, AllocError>
+    ensures { IfOk result (λ entries. entries ≡ picked (labelled_of labels.now) picks.now) }
+{
+    let mut items = Vec::with_capacity(alloc, picks.len())?;
+    for place in 0..picks.len() {
+        if let Some(pick) = picks.nth(place) {
+            if let Some(item) = pick_one(labels, pick) {
+                items.push(item)?;
+            }
+        }
+    }
+    Ok(LentEntries { items })
+}
+
+/// The language and label at the place of one pick.
+fn pick_one<'a>(labels: &[(&'a Lang, &'a Label)], pick: Pick) -> Option<(&'a Lang, &'a Label, u16)>
+    ensures { lent_weighed result ≡ with_weight (slice_get (labelled_of labels.now) pick.place) pick.weight }
+{
+    match labels.get(pick.place) {
+        Some(pair) => Some((pair.0, pair.1, pick.weight)),
+        None => None,
+    }
+}

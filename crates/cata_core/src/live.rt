@@ -1,0 +1,84 @@
+//! The live labels of a message, as a set of languages.
+
+ghost use Rattle.std.specs.Prelude.{◌≡◌};
+ghost use Rattle.std.specs.FinMap.Entries.{find};
+ghost use Rattle.cell_core.specs.Maps.{IsMap};
+ghost use Rattle.cata_core.specs.Entries.{text_cmp};
+ghost use Rattle.cata_core.specs.Live.{live_of};
+ghost use Rattle.cata_core.specs.Lent.{lent_pair, with_key};
+
+use cell_core::{Cell, Keyed, Label};
+use lang_core::Lang;
+use nego_core::Holds;
+use std::cmp::Ordering;
+
+/// The live labels of a message, which a lookup searches by their languages' texts.
+#[derive(Drop)]
+pub(crate) struct Live<'a> {
+    cells: Option<&'a Keyed<Lang, Cell>>,
+}
+
+impl<'a> Live<'a> {
+    ghost use Rattle.std.specs.Option.{option_copied};
+    ghost use Rattle.cata_core.specs.Flat.{inner_of};
+    ghost use Rattle.cata_core.specs.LiveIn.{live_in};
+
+    pub(crate) fn new(cells: Option<&'a Keyed<Lang, Cell>>) -> Live<'a>
+        ensures { live_in result ≡ live_of (inner_of (option_copied cells.entry)) }
+    {
+        Live { cells }
+    }
+
+    /// The language of this text with its label, where it is live.
+    pub(crate) fn label(&self, text: &str) -> Option<(&'a Lang, &'a Label)>
+        ensures { lent_pair result ≡ with_key text.now (find text_cmp text.now (live_in self.now)) }
+    {
+        match self.cells {
+            Some(cells) => label_in(cells, text),
+            None => None,
+        }
+    }
+}
+
+impl Holds for Live<'_> {
+    ghost use Rattle.cata_core.specs.Live.{is_live};
+    ghost use Rattle.cata_core.specs.LiveIn.{live_in};
+
+    ghost held = { λ l. is_live (live_in l) };
+
+    fn holds(&self, lang: &str) -> bool {
+        self.label(lang).is_some()
+    }
+}
+
+/// The language of this text with its label, where it is live.
+fn label_in<'a>(cells: &'a Keyed<Lang, Cell>, text: &str) -> Option<(&'a Lang, &'a Label)>
+    ensures { lent_pair result ≡ with_key text.now (find text_cmp text.now (live_of cells.now)) }
+{
+    match search(cells, text) {
+        Some((lang, cell)) => match cell.label() {
+            Some(label) => Some((lang, label)),
+            None => None,
+        },
+        None => None,
+    }
+}
+
+/// The language of this text with its cell, by halves: the map asks for a language where there is a text alone.
+fn search<'a>(cells: &'a Keyed<Lang, Cell>, text: &str) -> Option<(&'a Lang, &'a Cell)>
+    ensures found { lent_pair result ≡ with_key text.now (find text_cmp text.now cells.now) }
+    ensures map { IsMap text_cmp cells.now }
+{
+    let mut low = 0;
+    let mut high = cells.len();
+    while low < high {
+        let middle = low + (high - low) / 2;
+        let (lang, cell) = cells.nth(middle)?;
+        match lang.as_str().cmp(text) {
+            Ordering::Less => low = middle + 1,
+            Ordering::Equal => return Some((lang, cell)),
+            Ordering::Greater => high = middle,
+        }
+    }
+    None
+}

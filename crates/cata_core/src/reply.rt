@@ -1,0 +1,45 @@
+//! Answers of lookup.
+
+ghost use Rattle.std.specs.Prelude.{◌≡◌, IfOk};
+ghost use Rattle.cata_core.specs.LentAnswers.{reply_of};
+
+use cell_core::Label;
+use lang_core::Lang;
+use std::alloc::{AllocError, Global};
+
+/// The answer of a lookup, lent from the catalogue.
+#[derive(Drop)]
+pub enum LentReply<'a> {
+    /// The language found, with its label.
+    Matched(&'a Lang, &'a Label),
+    /// The default, with its label.
+    Default(&'a Lang, &'a Label),
+    Nothing,
+}
+
+/// The answer of a lookup.
+#[derive(Drop)]
+pub enum Reply {
+    /// The language found, with its label.
+    Matched(Lang, Label),
+    /// The default, with its label.
+    Default(Lang, Label),
+    Nothing,
+}
+
+impl LentReply<'_> {
+    /// The answer, copied.
+    pub fn copy(&self, alloc: Global) -> Result<Reply, AllocError>
+        ensures { IfOk result (λ copied. copied ≡ reply_of self.now) }
+    {
+        match self {
+            LentReply::Matched(lang, label) => {
+                Ok(Reply::Matched(lang.copy(alloc)?, label.copy(alloc)?))
+            }
+            LentReply::Default(lang, label) => {
+                Ok(Reply::Default(lang.copy(alloc)?, label.copy(alloc)?))
+            }
+            LentReply::Nothing => Ok(Reply::Nothing),
+        }
+    }
+}

@@ -1,0 +1,50 @@
+//! Whole runs over several sites.
+
+ghost use Rattle.std.specs.Prelude.{◌≡◌, ◌⊎◌, ◌≤◌, IfOk, IfErr, OnOk};
+ghost use Rattle.cata_core.specs.declared.play_fault.PlayFault.TheVariants.{NoMemory};
+ghost use Rattle.cata_core.specs.Edits.{IsConsistent};
+ghost use Rattle.cata_core.specs.Taken.{edits_of};
+ghost use Rattle.cata_core.specs.Answers.{AreHeldAnswers, AreAnswers};
+ghost use Rattle.cata_core.specs.Faulty.{NoneFaulty, IsFirstFault, IsNoClash, NoDelivers};
+
+use crate::answer::Answers;
+use crate::catalogue::Catalogue;
+use crate::play_fault::PlayFault;
+use crate::step::Step;
+use crate::stepping::take_step;
+use crate::world::World;
+use std::alloc::Global;
+
+/// The answers of a run over at most 1,024 sites, which begin empty.
+///
+/// The steps are treated in order, so 26 may come before a fault that stands later.
+pub fn play(alloc: Global, sites: usize, steps: &[Step]) -> Result<Answers, PlayFault>
+    requires { sites ≤ 1024 }
+    // No answer is given where a step is faulty.
+    ensures sound { OnOk result (NoneFaulty sites steps.now) }
+    ensures held { IfOk result (AreHeldAnswers steps.now) }
+    ensures consistent { IfOk result (λ answers. IsConsistent (edits_of steps.now) → AreAnswers steps.now answers) }
+    // Without deliveries, consistent or not.
+    ensures undelivered { IfOk result (λ answers. NoDelivers steps.now → AreAnswers steps.now answers) }
+    ensures fault { IfErr result (λ fault. (fault ≡ NoMemory) ⊎ IsFirstFault sites steps.now fault) }
+    ensures no_clash { IfErr result (λ fault. IsConsistent (edits_of steps.now) → IsNoClash fault) }
+{
+    let mut catalogues = Vec::new(alloc);
+    for _ in 0..sites {
+        match catalogues.push(Catalogue::new(alloc)) {
+            Ok(()) => {}
+            Err(_) => return Err(PlayFault::NoMemory),
+        }
+    }
+    let mut world = World {
+        sites: catalogues,
+        told: Vec::new(alloc),
+        posts: Vec::new(alloc),
+        answers: Vec::new(alloc),
+    };
+    for (n, step) in steps.iter().enumerate() {
+        take_step(&mut world, alloc, n, step)?;
+    }
+    let answers = Answers::new(world.answers);
+    Ok(answers)
+}

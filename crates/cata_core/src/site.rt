@@ -1,0 +1,258 @@
+//! Sites: catalogues with a name, which edit, tell and take.
+
+ghost use Rattle.std.specs.Prelude.{◌≡◌, [], OnOk, OnErr, IfOk, IfErr, MatchResult, Some, None};
+ghost use Rattle.std.specs.FinMap.Entries.{put};
+ghost use Rattle.cell_core.specs.Stamps.{IsNext, IsAbove};
+ghost use Rattle.cata_core.specs.CataFaults.{IsRefusal, IsLeft};
+ghost use Rattle.cata_core.specs.Deltas.{summary_of, delta_of};
+ghost use Rattle.cata_core.specs.Entries.{key_cmp, Agree, joined, Between};
+ghost use Rattle.cata_core.specs.Last.{last_of, IsLast};
+
+use crate::cata_fault::CataFault;
+use crate::catalogue::Catalogue;
+use crate::delta::{Delta, news};
+use crate::last::greatest;
+use crate::summary::Summary;
+use cell_core::{Cell, Label, MessageId, SiteName, Stamp};
+use lang_core::Lang;
+use std::alloc::{AllocError, Global};
+use std::marker::Model;
+
+/// A catalogue with a name, which stamps its own edits and takes those of others.
+#[derive(Drop)]
+pub struct Site {
+    own_name: SiteName,
+    catalogue: Catalogue,
+    greatest: Option<Stamp>,
+}
+
+impl Model for Site {
+    ghost use Rattle.std.specs.Prelude.{◌≡◌};
+    ghost use Rattle.cata_core.specs.Last.{last_of};
+    ghost use Rattle.cata_core.specs.Sites.{SiteState};
+
+    ghost Value = { SiteState };
+
+    ghost view = { λ s. record { name = s.own_name; cells = s.catalogue } };
+
+    ghost invariant = { λ s. s.greatest ≡ last_of s.catalogue };
+}
+
+impl Site {
+    ghost use Rattle.cata_core.specs.Sites.{SiteState, RefusesEdit, RefusesDelta, IsLeftSite};
+    ghost use Rattle.cata_core.specs.Told.{SummaryState};
+
+    /// The empty site of this name, whose catalogue grows by this allocator.
+    pub fn new(alloc: Global, name: SiteName) -> Site
+        ensures { result ≡ record { name = name; cells = [] } }
+    {
+        Site {
+            own_name: name,
+            catalogue: Catalogue::new(alloc),
+            greatest: None,
+        }
+    }
+
+    /// The site of this name with this catalogue.
+    pub fn from_catalogue(name: SiteName, catalogue: Catalogue) -> Site
+        ensures { result ≡ record { name = name; cells = catalogue } }
+    {
+        let greatest = greatest(&catalogue);
+        Site {
+            own_name: name,
+            catalogue,
+            greatest,
+        }
+    }
+
+    /// Its name.
+    pub fn name(&self) -> SiteName
+        ensures { result ≡ self.now.name }
+    {
+        self.own_name
+    }
+
+    /// Its catalogue.
+    pub fn catalogue(&self) -> &Catalogue
+        ensures { result.now ≡ self.now.cells }
+    {
+        &self.catalogue
+    }
+
+    /// The greatest stamp of its cells, deletions among them; none where it has no cell.
+    ///
+    /// A key keeps its greatest stamp, so this is the greatest stamp that the site ever took in.
+    pub fn last(&self) -> Option<Stamp>
+        ensures value { result ≡ last_of self.now.cells }
+        ensures greatest { IsLast self.now.cells result }
+    {
+        self.greatest
+    }
+
+    /// Gives the key this label, and answers the stamp of the edit, which is above all that the site holds.
+    ///
+    /// Refused, and then unchanged, by [`CataFault::ClockSpent`] (14) where there is no such stamp with a time of at
+    /// least `now`, and by [`CataFault::NoMemory`] (26).
+    pub fn put(
+        &mut self,
+        alloc: Global,
+        now: u64,
+        id: &MessageId,
+        lang: &Lang,
+        label: &Label,
+    ) -> Result<Stamp, CataFault>
+        ensures ok { IfOk result (λ stamp. IsNext (last_of self.old.cells) now self.old.name stamp
+            × (self.new ≡ record { name = self.old.name; cells = put key_cmp (id.now, lang.now) (record { stamp = stamp; label = Some label.now }) self.old.cells })) }
+        ensures err { IfErr result (RefusesEdit self.old now) }
+        ensures left { OnErr result (self.new ≡ self.old) }
+    {
+        let stamp = self.next_stamp(now)?;
+        match self.write_label(alloc, id, lang, &stamp, label) {
+            Ok(()) => Ok(stamp),
+            Err(_) => Err(CataFault::NoMemory),
+        }
+    }
+
+    /// Deletes the label of the key, which need not be held, and answers the stamp of the edit. The cell stays, without
+    /// a label, so that no older label comes back.
+    ///
+    /// Refused as [`Site::put`] is.
+    pub fn delete(
+        &mut self,
+        alloc: Global,
+        now: u64,
+        id: &MessageId,
+        lang: &Lang,
+    ) -> Result<Stamp, CataFault>
+        ensures ok { IfOk result (λ stamp. IsNext (last_of self.old.cells) now self.old.name stamp
+            × (self.new ≡ record { name = self.old.name; cells = put key_cmp (id.now, lang.now) (record { stamp = stamp; label = None }) self.old.cells })) }
+        ensures err { IfErr result (RefusesEdit self.old now) }
+        ensures left { OnErr result (self.new ≡ self.old) }
+    {
+        let stamp = self.next_stamp(now)?;
+        match self.write_none(alloc, id, lang, &stamp) {
+            Ok(()) => Ok(stamp),
+            Err(_) => Err(CataFault::NoMemory),
+        }
+    }
+
+    /// The stamps of its cells, with its name as owner.
+    pub fn summary(&self, alloc: Global) -> Result<Summary, AllocError>
+        ensures { IfOk result (λ summary. summary ≡ record { owner = self.now.name; stamps = summary_of self.now.cells }) }
+    {
+        Summary::of(alloc, self.own_name, &self.catalogue)
+    }
+
+    /// The cells whose key the summary lacks or has with a lesser stamp, for the owner of the summary.
+    pub fn delta_for(&self, alloc: Global, summary: &Summary) -> Result<Delta, AllocError>
+        ensures { IfOk result (λ delta. delta ≡ record { addressee = summary.now.owner; cells = delta_of self.now.cells summary.now.stamps }) }
+    {
+        let cells = news(alloc, &self.catalogue, summary)?;
+        Ok(Delta::from_catalogue(summary.owner(), cells))
+    }
+
+    /// Joins the cells of a delta for this site.
+    ///
+    /// Refused, and then unchanged, by [`CataFault::NotForMe`] (15) where the delta is for another site, then by
+    /// [`CataFault::StampReused`] (13) as [`Catalogue::merge`] is. After [`CataFault::NoMemory`] (26) each key has its
+    /// old cell, or none as before, or that of the join.
+    pub fn take(&mut self, alloc: Global, delta: &Delta) -> Result<(), CataFault>
+        ensures ok { OnOk result (self.new ≡ record { name = self.old.name; cells = joined self.old.cells delta.now.cells }) }
+        ensures agree { OnOk result (Agree self.old.cells delta.now.cells) }
+        ensures mine { OnOk result (self.old.name ≡ delta.now.addressee) }
+        ensures fault { IfErr result (RefusesDelta self.old delta.now) }
+        ensures left { IfErr result (IsLeftSite self.old self.new delta.now.cells) }
+    {
+        let addressee = delta.addressee();
+        if self.own_name != addressee {
+            return Err(CataFault::NotForMe { addressee });
+        }
+        self.merge(alloc, delta.cells())
+    }
+
+    /// Joins the cells of the catalogue.
+    pub(crate) fn merge(&mut self, alloc: Global, other: &Catalogue) -> Result<(), CataFault>
+        ensures ok { OnOk result (self.new ≡ record { name = self.old.name; cells = joined self.old.cells other.now }) }
+        ensures agree { OnOk result (Agree self.old.cells other.now) }
+        ensures fault { IfErr result (IsRefusal self.old.cells other.now) }
+        ensures left { IfErr result (IsLeftSite self.old self.new other.now) }
+    {
+        let result = self.catalogue.merge(alloc, other);
+        // Cells may have come in although memory ran out.
+        self.greatest = greatest(&self.catalogue);
+        result
+    }
+
+    /// Joins the cells of the catalogue, which agrees.
+    pub(crate) fn join(&mut self, alloc: Global, other: &Catalogue) -> Result<(), AllocError>
+        requires { Agree self.old.cells other.now }
+        ensures ok { OnOk result (self.new ≡ record { name = self.old.name; cells = joined self.old.cells other.now }) }
+        ensures name { self.new.name ≡ self.old.name }
+        ensures err { OnErr result (Between self.old.cells self.new.cells other.now) }
+    {
+        let result = self.catalogue.join(alloc, other);
+        self.greatest = greatest(&self.catalogue);
+        result
+    }
+
+    /// The least stamp above all that the site holds, with a time of at least `now`.
+    fn next_stamp(&self, now: u64) -> Result<Stamp, CataFault>
+        ensures { MatchResult result (IsNext (last_of self.now.cells) now self.now.name)
+            (λ fault. (fault ≡ CataFault.ClockSpent) × RefusesEdit self.now now fault) }
+    {
+        match Stamp::next(self.greatest, now, self.own_name) {
+            Ok(stamp) => Ok(stamp),
+            Err(_) => Err(CataFault::ClockSpent),
+        }
+    }
+
+    /// Gives the key a copy of the label with the stamp, which is above all that the site holds.
+    fn write_label(
+        &mut self,
+        alloc: Global,
+        id: &MessageId,
+        lang: &Lang,
+        stamp: &Stamp,
+        label: &Label,
+    ) -> Result<(), AllocError>
+        requires { IsAbove (last_of self.old.cells) stamp.now }
+        ensures ok { OnOk result (self.new ≡ record { name = self.old.name; cells = put key_cmp (id.now, lang.now) (record { stamp = stamp.now; label = Some label.now }) self.old.cells }) }
+        ensures err { OnErr result (self.new ≡ self.old) }
+    {
+        let label = label.copy(alloc)?;
+        self.write(alloc, id, lang, Cell::new(*stamp, Some(label)))
+    }
+
+    /// Gives the key no label with the stamp, which is above all that the site holds.
+    fn write_none(
+        &mut self,
+        alloc: Global,
+        id: &MessageId,
+        lang: &Lang,
+        stamp: &Stamp,
+    ) -> Result<(), AllocError>
+        requires { IsAbove (last_of self.old.cells) stamp.now }
+        ensures ok { OnOk result (self.new ≡ record { name = self.old.name; cells = put key_cmp (id.now, lang.now) (record { stamp = stamp.now; label = None }) self.old.cells }) }
+        ensures err { OnErr result (self.new ≡ self.old) }
+    {
+        self.write(alloc, id, lang, Cell::new(*stamp, None))
+    }
+
+    /// Gives the key the cell, whose stamp is above all that the site holds.
+    fn write(
+        &mut self,
+        alloc: Global,
+        id: &MessageId,
+        lang: &Lang,
+        cell: Cell,
+    ) -> Result<(), AllocError>
+        requires { IsAbove (last_of self.old.cells) cell.stamp }
+        ensures ok { OnOk result (self.new ≡ record { name = self.old.name; cells = put key_cmp (id.now, lang.now) cell self.old.cells }) }
+        ensures err { OnErr result (self.new ≡ self.old) }
+    {
+        let stamp = cell.stamp();
+        self.catalogue.write(alloc, id, lang, cell)?;
+        self.greatest = Some(stamp);
+        Ok(())
+    }
+}

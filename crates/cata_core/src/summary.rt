@@ -1,0 +1,159 @@
+//! Summaries: the stamps of a site's cells.
+
+ghost use Rattle.std.specs.Prelude.{◌≡◌, ◌++◌, ◌∷◌, [], IfOk, OnOk, OnErr, Some, length, slice_get};
+ghost use Rattle.std.specs.Option.{option_map};
+ghost use Rattle.cell_core.specs.Maps.{IsMap};
+ghost use Rattle.cata_core.specs.Deltas.{summary_of};
+ghost use Rattle.cata_core.specs.Entries.{key_cmp};
+
+use crate::catalogue::Catalogue;
+use cell_core::{Key, MessageId, SiteName, Stamp};
+use lang_core::Lang;
+use std::alloc::{AllocError, Global};
+use std::cmp::Ordering;
+use std::marker::Model;
+
+/// A message in a language, with the stamp that was told of it.
+#[derive(Drop)]
+pub(crate) struct Told {
+    pub(crate) id: MessageId,
+    pub(crate) lang: Lang,
+    pub(crate) stamp: Stamp,
+}
+
+impl Told {
+    ghost use Rattle.cata_core.specs.Entries.{key_cmp};
+
+    /// How its key compares with a key.
+    pub(crate) fn compare(&self, id: &MessageId, lang: &Lang) -> Ordering
+        ensures { result ≡ key_cmp (self.now.id, self.now.lang) (id.now, lang.now) }
+    {
+        self.id.cmp(id).then(self.lang.cmp(lang))
+    }
+}
+
+/// The stamps of a site's cells, in strictly rising order of key, and the name of the site, its owner.
+#[derive(Drop)]
+pub struct Summary {
+    owner: SiteName,
+    told: Vec<Told>,
+}
+
+impl Model for Summary {
+    ghost use Rattle.cell_core.specs.Maps.{IsMap};
+    ghost use Rattle.cata_core.specs.Entries.{key_cmp};
+    ghost use Rattle.cata_core.specs.Told.{SummaryState, told_of};
+
+    ghost Value = { SummaryState };
+
+    ghost view = { λ s. record { owner = s.owner; stamps = told_of s.told.items } };
+
+    ghost invariant = { λ s. IsMap key_cmp (told_of s.told.items) };
+}
+
+impl Summary {
+    ghost use Rattle.cata_core.specs.Told.{SummaryState, told_of, IsAboveAll};
+
+    /// The summary of this owner without a key, which grows by this allocator.
+    pub fn new(alloc: Global, owner: SiteName) -> Summary
+        ensures { result ≡ record { owner = owner; stamps = [] } }
+    {
+        Summary {
+            owner,
+            told: Vec::new(alloc),
+        }
+    }
+
+    /// The name of the site whose summary it is.
+    pub fn owner(&self) -> SiteName
+        ensures { result ≡ self.now.owner }
+    {
+        self.owner
+    }
+
+    /// How many keys there are.
+    pub fn len(&self) -> usize
+        ensures len { result ≡ length self.now.stamps }
+        ensures sorted { IsMap key_cmp self.now.stamps }
+    {
+        self.told.len()
+    }
+
+    /// The key and stamp at a place in rising order of key, from 0; none from `len` on.
+    pub fn nth(&self, place: usize) -> Option<(&MessageId, &Lang, Stamp)>
+        ensures { option_map (λ e. ((e.0.now, e.1.now), e.2)) result ≡ slice_get self.now.stamps place }
+    {
+        match self.told.get(place) {
+            Some(told) => Some((&told.id, &told.lang, told.stamp)),
+            None => None,
+        }
+    }
+
+    /// Puts a key behind all that are there; it has to be greater than they are.
+    ///
+    /// For want of memory (26) the summary is unchanged, and what was handed in is dropped.
+    pub fn push(&mut self, id: MessageId, lang: Lang, stamp: Stamp) -> Result<(), AllocError>
+        requires { IsAboveAll (id, lang) self.old.stamps }
+        ensures ok { OnOk result (self.new ≡ record { owner = self.old.owner; stamps = self.old.stamps ++ ((id, lang), stamp) ∷ [] }) }
+        ensures err { OnErr result (self.new ≡ self.old) }
+    {
+        self.told.push(Told { id, lang, stamp })?;
+        Ok(())
+    }
+
+    /// What was told, in rising order of key.
+    pub(crate) fn told(&self) -> &[Told]
+        ensures told { told_of result.now ≡ self.now.stamps }
+        ensures sorted { IsMap key_cmp self.now.stamps }
+    {
+        &self.told
+    }
+
+    /// The summary of a catalogue, for this owner.
+    pub(crate) fn of(
+        alloc: Global,
+        owner: SiteName,
+        catalogue: &Catalogue,
+    ) -> Result<Summary, AllocError>
+        ensures { IfOk result (λ summary. summary ≡ record { owner = owner; stamps = summary_of catalogue.now }) }
+    {
+        let mut told = Vec::new(alloc);
+        for (id, lang, cell) in catalogue.iter() {
+            told.push(Told {
+                id: id.copy(alloc)?,
+                lang: lang.copy(alloc)?,
+                stamp: cell.stamp(),
+            })?;
+        }
+        Ok(Summary { owner, told })
+    }
+}
+
+impl PartialEq for Told {
+    ghost use Rattle.std.specs.Cmp as laws_of;
+    ghost use Rattle.std.specs.Cmp.{on_equiv};
+    ghost use Rattle.std.specs.Ordering.{on};
+    ghost use Rattle.cata_core.specs.SummaryEq.{told_eq, told_equiv};
+    ghost use Rattle.cata_core.specs.Told.{entry_of};
+
+    ghost eq = { on entry_of told_eq };
+
+    ghost laws = { laws_of.partial_equiv_from_equiv (on_equiv entry_of told_equiv) };
+
+    fn eq(&self, other: &Told) -> bool {
+        self.compare(&other.id, &other.lang).is_eq() && self.stamp.cmp(&other.stamp).is_eq()
+    }
+}
+
+impl PartialEq for Summary {
+    ghost use Rattle.std.specs.Cmp as laws_of;
+    ghost use Rattle.cata_core.specs.SummaryEq.{summary_eq, summary_equiv};
+
+    ghost eq = { summary_eq };
+
+    ghost laws = { laws_of.partial_equiv_from_equiv summary_equiv };
+
+    fn eq(&self, other: &Summary) -> bool {
+        self.owner == other.owner && self.told == other.told
+    }
+}
