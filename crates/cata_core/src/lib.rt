@@ -40,6 +40,3 @@ pub use site::Site;
 pub use step::Step;
 pub use summary::Summary;
 pub use syncing::sync;
-
-#[cfg(test)]
-mod tests;
