@@ -61,7 +61,7 @@ walked_on kind field items more piece rest offset w ok = record {
 bare_blanks : (piece : List ℕ) → skip_blanks piece ≡ [] → AreBlanks piece
 bare_blanks piece e = let t = trimmed piece in subst AreBlanks (sym (t.whole ∙ (ap (λ (x : List ℕ). t.before ++ x) e ∙ append-nil t.before))) t.before_ok
 
-no_bytes : (text : List ℕ) → length text ≡ 0 → text ≡ []
+pub no_bytes : (text : List ℕ) → length text ≡ 0 → text ≡ []
 no_bytes [] h = refl
 no_bytes (b ∷ text) h = absurd (omega arith)
 

@@ -4,6 +4,7 @@ pub mod BlanksLaws
 pub mod WeightLaws
 pub mod ElementLaws
 pub mod FieldWalk
+pub mod SeparatorLaws
 pub mod FieldLaws
 pub mod FieldUnique
 pub mod BestLaws

@@ -4,7 +4,6 @@ use Rattle.std.specs.Prelude.{zero, suc, ◌↔◌, if◌then◌else◌}
 use Rattle.std.specs.List.{slice_get}
 use Rattle.std.proofs.lemmas.Bool.{cases_Bool, cases_lt}
 use Rattle.std.proofs.lemmas.Slice.Eq.{bytes_eq-Decides}
-use Rattle.lang_core.specs.Matching.{Basic}
 use Rattle.nego_core.proofs.Basics.{false_true, not_true, not_false}
 use Rattle.nego_core.specs.Item.{Item}
 use Rattle.nego_core.specs.Deciding.{IsAny, IsDecidingNamed, NamedRefuse, IsDeciding, IsDecidedBy, is_named, named_items}

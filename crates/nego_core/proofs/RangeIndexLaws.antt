@@ -6,17 +6,19 @@ use Rattle.std.specs.declared.cmp.Ordering.{Ordering}
 use Rattle.std.specs.declared.cmp.Ordering.TheVariants.{Less, Equal, Greater}
 use Rattle.std.specs.Ordering.{nat_cmp, is_lt, ordering_then, ordering_reverse}
 use Rattle.std.specs.Cmp.{IsTotalOrder}
+use Rattle.std.specs.Str.{bytes_eq}
 use Rattle.std.specs.Cmp.Lexicographic.{slice_cmp}
 use Rattle.std.proofs.lemmas.Bool.{cases_Bool, cases_lt, cases_order, lt-ltb}
 use Rattle.std.proofs.lemmas.Cmp.{nat_list_cmp_total, nat_cmp_total, on_total, then_total, tied_itself}
 use Rattle.std.proofs.lemmas.Option.{slice_get_within}
+use Rattle.std.proofs.lemmas.Slice.Eq.{bytes_eq-Decides}
 use Rattle.std.proofs.lemmas.List.{length-map, get_or-map, length_push, get_or_append_left, get_or-append-add}
 use Rattle.std.proofs.lemmas.List.Elements.{All-map, All-weaker}
 use Rattle.std.proofs.lemmas.List.Sorted.{sorted_far, ranks_by, All-permutation, Contains-permutation, IsPermutation-map}
-use Rattle.nego_core.proofs.Basics.{false_true, same_default}
+use Rattle.nego_core.proofs.Basics.{false_true, same_default, same_at, stands_at}
 use Rattle.nego_core.proofs.Unique.{text_tied}
 use Rattle.nego_core.specs.Item.{Item}
-use Rattle.nego_core.specs.RangeIndex.{text_at, place_cmp, entry_cmp, IsRangeIndex, IsEntryOf, AreEntries, IsSeat, MatchFirst}
+use Rattle.nego_core.specs.RangeIndex.{text_at, place_cmp, entry_cmp, IsRangeIndex, IsEntryOf, AreEntries, IsSeat, IsFirstWith, MatchFirst}
 use Rattle.nego_core.specs.declared.entry.Entry.{Entry}
 
 -- ---- texts in order
@@ -196,6 +198,27 @@ index_made items entries sorted places a same up e =
 
 pub empty_index : (items : List Item) → length items ≡ 0 → IsRangeIndex items []
 empty_index items e = record { within = λ k d low. absurd (omega arith); each = λ k low. absurd (omega arith); rising = λ k d low lt. absurd (omega arith) }
+
+-- ---- how the first is found without an index
+
+-- no item before the place has this range
+abbrev pub NoneBefore : List Item → List ℕ → ℕ → Type 0
+NoneBefore items text place = (k : ℕ) (other : Item) → k < place → slice_get items k ≡ Some other → other.range ≡ text → ⊥
+
+pub differs : (a b : List ℕ) → bytes_eq a b ≡ false → a ≡ b → ⊥
+differs a b h e = false_true (sym h ∙ (bytes_eq-Decides a b).1 e)
+
+pub found_here : (items : List Item) (text : List ℕ) (place : ℕ) (i : Item) → place < length items → i ≡ get_or items place i → bytes_eq i.range text ≡ true → NoneBefore items text place → IsFirstWith items text place
+found_here items text place i low e h none = record { item = i; stands = stands_at items place i low e; same = (bytes_eq-Decides i.range text).0 h; first = none }
+
+pub none_here : (items : List Item) (text : List ℕ) (place : ℕ) (i : Item) → place < length items → i ≡ get_or items place i → bytes_eq i.range text ≡ false → NoneBefore items text place → NoneBefore items text (place + 1)
+none_here items text place i low e h none = λ k other lt s same. elim (cases_lt k place) [
+  | inl before ↦ none k other before s same
+  | inr at ↦ differs i.range text h (ap (λ (x : Item). x.range) (sym (same_at items k place i other (omega arith) (stands_at items place i low e) s)) ∙ same)
+]
+
+pub none_of_all : (items : List Item) (text : List ℕ) (place : ℕ) → length items ≤ place → NoneBefore items text place → MatchFirst items text None
+none_of_all items text place end none = λ k other s same. none k other (let low = slice_get_within items k other s in omega arith) s same
 
 -- ---- how the seat is found
 

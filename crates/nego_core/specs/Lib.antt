@@ -1,6 +1,7 @@
 pub mod Basics
 pub mod Fault
 pub mod Blanks
+pub mod Separators
 pub mod Qvalue
 pub mod Weight
 pub mod Item
@@ -10,6 +11,7 @@ pub mod Deciding
 pub mod Best
 pub mod RangeIndex
 pub mod Marks
+pub mod Index
 pub mod Order
 pub mod Filtered
 pub mod LookedUp

@@ -3,7 +3,7 @@ ghost use Rattle.std.specs.List.{list_all};
 ghost use Rattle.nego_core.specs.Blanks.{is_blank, skip_blanks, is_stop, IsCut};
 
 /// A space or a tab (RFC 9110 section 5.6.3).
-fn is_blank(byte: u8) -> bool
+pub fn is_blank(byte: u8) -> bool
     ensures { result ≡ is_blank byte }
 {
     byte == b' ' || byte == b'\t'

@@ -1,4 +1,4 @@
-ghost use Rattle.std.specs.Prelude.{◌≡◌, ◌<◌, length, map};
+ghost use Rattle.std.specs.Prelude.{◌≡◌, ◌<◌, length, map, IfSome};
 ghost use Rattle.lang_core.specs.Text.{pieces};
 ghost use Rattle.lang_core.specs.Matching.{Basic, Extended};
 ghost use Rattle.nego_core.specs.Best.{IsBest};
@@ -19,11 +19,11 @@ const HYPHEN: u8 = b'-';
 const ANY: &[u8] = b"*";
 
 /// The first item whose range is the text.
-fn best_with(items: &[Item], index: &[usize], text: &[u8]) -> Option<Best>
-    requires { IsRangeIndex items.now index.now }
+fn best_with(items: &[Item], places: Option<&[usize]>, text: &[u8]) -> Option<Best>
+    requires { IfSome places (λ places. IsRangeIndex items.now places.now) }
     ensures { IsBest (λ _ i. i.range ≡ text.now) items.now result }
 {
-    match place_of(items, index, text) {
+    match place_of(items, places, text) {
         Some(place) => Some(Best {
             place,
             named: items[place].specificity(),
@@ -33,38 +33,41 @@ fn best_with(items: &[Item], index: &[usize], text: &[u8]) -> Option<Best>
 }
 
 /// The same where the text is another than "*".
-fn best_named_with(items: &[Item], index: &[usize], text: &[u8]) -> Option<Best>
-    requires { IsRangeIndex items.now index.now }
+fn best_named_with(items: &[Item], places: Option<&[usize]>, text: &[u8]) -> Option<Best>
+    requires { IfSome places (λ places. IsRangeIndex items.now places.now) }
     ensures { IsBest (λ _ i. (¬ IsAny i) × (i.range ≡ text.now)) items.now result }
 {
     if text == ANY {
         None
     } else {
-        best_with(items, index, text)
+        best_with(items, places, text)
     }
 }
 
 /// Of the items other than "*" that match under the basic match, the best: their ranges are the
 /// text and its fronts before hyphens (RFC 4647 section 3.3.1).
-pub fn best_named(items: &[Item], index: &[usize], text: &[u8]) -> Option<Best>
-    requires { IsRangeIndex items.now index.now }
+pub fn best_named(items: &[Item], places: Option<&[usize]>, text: &[u8]) -> Option<Best>
+    requires { IfSome places (λ places. IsRangeIndex items.now places.now) }
     ensures { IsBest (λ _ i. MatchesNamed (pieces text.now) i) items.now result }
 {
     let mut best = None;
     for at in 0..text.len() {
         if text[at] == HYPHEN {
-            best = better(best, best_named_with(items, index, &text[..at]));
+            best = better(best, best_named_with(items, places, &text[..at]));
         }
     }
-    better(best, best_named_with(items, index, text))
+    better(best, best_named_with(items, places, text))
 }
 
 /// The best of the items that match under the basic match.
-pub fn best_basic(items: &[Item], index: &[usize], text: &[u8]) -> Option<Best>
-    requires { IsRangeIndex items.now index.now }
+pub fn best_basic(items: &[Item], places: Option<&[usize]>, text: &[u8]) -> Option<Best>
+    requires { IfSome places (λ places. IsRangeIndex items.now places.now) }
     ensures { IsBest (λ _ i. Basic (pieces i.range) (pieces text.now)) items.now result }
 {
-    better(best_named(items, index, text), best_with(items, index, ANY))
+    better(
+        best_named(items, places, text),
+        best_with(items, places, ANY),
+    )
 }
 
 /// The best of the items that match.

@@ -1,18 +1,15 @@
 ghost use Rattle.std.specs.Prelude.{◌≡◌, ◌≤◌, length, MatchResult};
 ghost use Rattle.nego_core.specs.Field.{IsField, RefusesField};
 
-use crate::blanks::trim_start;
 use crate::element::read_item;
 use crate::fault::NegoFault;
 use crate::field_kind::FieldKind;
 use crate::item::Item;
-use lang_core::Pieces;
+use crate::separators::{cut_piece, skip_separators};
 use std::alloc::Global;
 
 /// The longest field that is read.
 pub const MAX_FIELD_LEN: usize = 65535;
-
-const COMMA: u8 = b',';
 
 /// The items of a field, in one pass.
 pub fn read_items(alloc: Global, kind: FieldKind, field: &[u8]) -> Result<Vec<Item>, NegoFault>
@@ -22,20 +19,18 @@ pub fn read_items(alloc: Global, kind: FieldKind, field: &[u8]) -> Result<Vec<It
         return Err(NegoFault::FieldTooLong);
     }
     let mut items = Vec::new(alloc);
-    let mut offset = 0;
-    for piece in Pieces::new(field, COMMA) {
-        let element = trim_start(piece);
-        if !element.is_empty() {
-            match read_item(alloc, kind, element)? {
-                Some(item) => items.push(item)?,
-                None => {
-                    return Err(NegoFault::FieldMalformed {
-                        offset: offset + (piece.len() - element.len()),
-                    });
-                }
+    let mut rest = skip_separators(field);
+    while !rest.is_empty() {
+        let (element, after) = cut_piece(rest);
+        match read_item(alloc, kind, element)? {
+            Some(item) => items.push(item)?,
+            None => {
+                return Err(NegoFault::FieldMalformed {
+                    offset: field.len() - rest.len(),
+                });
             }
         }
-        offset += piece.len() + 1;
+        rest = skip_separators(after);
     }
     Ok(items)
 }

@@ -16,6 +16,7 @@ mod filtered;
 mod found;
 mod handed;
 mod holds;
+mod index;
 mod item;
 pub mod laws;
 mod looked_up;
@@ -28,6 +29,7 @@ mod qvalue;
 mod range_index;
 mod rank;
 mod scheme;
+mod separators;
 mod turn;
 mod weight;
 

@@ -15,7 +15,7 @@ fn named_refuse(list: &PriorityList, text: &str) -> bool
     ensures { IsTrue result ↔ NamedRefuse list.now (pieces text.now) }
 {
     let items = list.items();
-    match best_named(items, list.index(), text.as_bytes()) {
+    match best_named(items, list.places(), text.as_bytes()) {
         Some(best) => items[best.place].weight() == 0,
         None => false,
     }

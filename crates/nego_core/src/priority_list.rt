@@ -14,18 +14,14 @@ use crate::deciding::{best_basic, best_extended, best_of};
 use crate::fault::NegoFault;
 use crate::field::read_items;
 use crate::field_kind::FieldKind;
+use crate::index::{Index, index_of};
 use crate::item::Item;
-use crate::marks::marks_of;
 use crate::order::order_of;
-use crate::range_index::index_of;
 use crate::scheme::Scheme;
 use crate::turn::Turn;
 use lang_core::{Lang, Tag};
 use std::alloc::Global;
 use std::marker::Model;
-
-/// So many items are asked one after another faster than by an index.
-const FEW: usize = 16;
 
 /// Ranges with weights, in the order in which they were written (RFC 4647 section 2.3).
 #[derive(Drop)]
@@ -33,26 +29,23 @@ pub struct PriorityList {
     items: Vec<Item>,
     /// When lookup tries each item.
     turns: Vec<Turn>,
-    /// The places of the items in the order of their ranges' bytes.
-    index: Vec<usize>,
-    /// The mark of each item's range.
-    marks: Vec<Option<u8>>,
+    /// What makes it cheap to ask, where the items are many.
+    index: Option<Index>,
 }
 
 impl Model for PriorityList {
-    ghost use Rattle.std.specs.Prelude.{◌≡◌, List, map};
+    ghost use Rattle.std.specs.Prelude.{List, IfSome};
     ghost use Rattle.nego_core.specs.Item.{Item};
 
     ghost Value = { List Item };
 
     ghost use Rattle.nego_core.specs.Field.{IsOfOneKind};
     ghost use Rattle.nego_core.specs.Order.{AreTurns};
-    ghost use Rattle.nego_core.specs.RangeIndex.{IsRangeIndex};
-    ghost use Rattle.nego_core.specs.Marks.{item_mark};
+    ghost use Rattle.nego_core.specs.Index.{IsIndex};
 
     ghost view = { λ l. l.items.items };
 
-    ghost invariant = { λ l. AreTurns l.items.items l.turns.items × IsRangeIndex l.items.items l.index.items × (l.marks.items ≡ map item_mark l.items.items) × IsOfOneKind l.items.items };
+    ghost invariant = { λ l. AreTurns l.items.items l.turns.items × IfSome l.index (IsIndex l.items.items) × IsOfOneKind l.items.items };
 }
 
 fn list_of(alloc: Global, items: Vec<Item>) -> Result<PriorityList, NegoFault>
@@ -63,18 +56,15 @@ fn list_of(alloc: Global, items: Vec<Item>) -> Result<PriorityList, NegoFault>
         return Ok(PriorityList {
             items,
             turns: Vec::new(alloc),
-            index: Vec::new(alloc),
-            marks: Vec::new(alloc),
+            index: None,
         });
     }
     let turns = order_of(alloc, &items)?;
     let index = index_of(alloc, &items)?;
-    let marks = marks_of(alloc, &items)?;
     Ok(PriorityList {
         items,
         turns,
         index,
-        marks,
     })
 }
 
@@ -131,22 +121,25 @@ impl PriorityList {
         &self.turns
     }
 
-    /// The places of the items in the order of their ranges' bytes.
-    pub(crate) fn index(&self) -> &[usize]
-        ensures { IsRangeIndex self.now result.now }
+    /// The places of the items in the order of their ranges' bytes, where the items are many.
+    pub(crate) fn places(&self) -> Option<&[usize]>
+        ensures { IfSome result (λ places. IsRangeIndex self.now places.now) }
     {
-        &self.index
+        match &self.index {
+            Some(index) => Some(&index.places),
+            None => None,
+        }
     }
 
     fn best(&self, scheme: Scheme, tag: &Tag) -> Option<Best>
         ensures { IsBest (λ _ i. Matches scheme (pieces i.range) (pieces tag.now)) self.now result }
     {
-        if self.items.len() <= FEW {
+        let Some(index) = &self.index else {
             return best_of(&self.items, scheme, tag);
-        }
+        };
         match scheme {
-            Scheme::Basic => best_basic(&self.items, &self.index, tag.as_str().as_bytes()),
-            Scheme::Extended => best_extended(&self.items, &self.marks, tag),
+            Scheme::Basic => best_basic(&self.items, self.places(), tag.as_str().as_bytes()),
+            Scheme::Extended => best_extended(&self.items, &index.marks, tag),
         }
     }
 

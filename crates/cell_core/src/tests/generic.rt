@@ -1,69 +1,95 @@
 //! Generic code at concrete types, through its bounds.
 
-use super::makers::{deleted, id, labelled, lang, stamp};
-use crate::{Cell, CellFault, Join, Key, Keyed, MessageId, Stamp};
+use super::makers::{copy, deleted, id, join, labelled, lang, only, stamp};
+use crate::{Cell, Join, Keyed, MessageId, Stamp};
 use lang_core::Lang;
-use std::alloc::{AllocError, Global};
-use std::test::Fail;
+use std::alloc::Global;
+use std::process::Abort;
 
-/// The two joined, where they agree.
-fn both<J: Join>(alloc: Global, a: &J, b: &J) -> Result<Option<J>, AllocError> {
-    if !a.agrees(b) {
-        return Ok(None);
-    }
-    let mut joined = a.copy(alloc)?;
-    joined.join(alloc, b)?;
-    Ok(Some(joined))
-}
-
-/// A map of one entry.
-fn only<K: Key, J: Drop>(alloc: Global, key: K, value: J) -> Result<Keyed<K, J>, CellFault> {
-    let mut map = Keyed::new(alloc);
-    match map.put(key, value) {
-        Ok(()) => Ok(map),
-        Err(_) => Err(CellFault::NoMemory),
-    }
-}
+type Catalogue = Keyed<MessageId, Keyed<Lang, Cell>>;
 
 /// A catalogue of one cell.
-fn one(
-    alloc: Global,
-    message: &str,
-    tag: &str,
-    cell: Cell,
-) -> Result<Keyed<MessageId, Keyed<Lang, Cell>>, Fail> {
-    let cells = only(alloc, lang(alloc, tag)?, cell)?;
-    Ok(only(alloc, id(alloc, message)?, cells)?)
+fn one(rt: &impl Abort, alloc: Global, message: &str, tag: &str, cell: Cell) -> Catalogue {
+    let cells = only(rt, alloc, lang(rt, alloc, tag), cell);
+    only(rt, alloc, id(rt, alloc, message), cells)
+}
+
+fn early(rt: &impl Abort, alloc: Global) -> Cell {
+    labelled(rt, alloc, stamp(rt, 5, "a", 0), "x")
+}
+
+fn later(rt: &impl Abort) -> Cell {
+    deleted(stamp(rt, 6, "b", 0))
+}
+
+/// The cells of the message.
+fn cells<'a>(rt: &impl Abort, map: &'a Catalogue, key: &MessageId) -> &'a Keyed<Lang, Cell> {
+    map.get(key).expect(rt, "the message is held")
 }
 
 #[test]
-fn joins_two_deep(rt: HostRuntime) -> Result<(), Fail> {
+fn joins_languages_of_a_message(rt: HostRuntime) {
     let alloc = rt.alloc();
-    let early = labelled(alloc, stamp(5, "a", 0)?, "x")?;
-    let en = one(alloc, "m", "en", early.copy(alloc)?)?;
-    let fr = one(alloc, "m", "fr", deleted(stamp(6, "b", 0)?))?;
-    let other = one(alloc, "n", "en", early.copy(alloc)?)?;
-    let clash = one(alloc, "m", "en", deleted(stamp(5, "a", 0)?))?;
-    assert!(rt; both(alloc, &en, &clash)?.is_none());
-    let all = match both(alloc, &en, &fr)? {
-        Some(joined) => both(alloc, &joined, &other)?,
-        None => None,
-    };
-    let all = all.ok_or("they agree")?;
-    assert_eq!(rt; all.len(), 2);
-    let cells = all.get(&id(alloc, "m")?).ok_or("m is held")?;
-    assert_eq!(rt; cells.len(), 2);
-    assert!(rt; cells.get(&lang(alloc, "en")?) == Some(&early));
-    Ok(())
+    let mut map = one(&rt, alloc, "m", "en", early(&rt, alloc));
+    join(
+        &rt,
+        alloc,
+        &mut map,
+        &one(&rt, alloc, "m", "fr", later(&rt)),
+    );
+    assert_eq!(rt; map.len(), 1);
+    let found = cells(&rt, &map, &id(&rt, alloc, "m"));
+    assert!(rt; found.get(&lang(&rt, alloc, "en")) == Some(&early(&rt, alloc)));
+    assert!(rt; found.get(&lang(&rt, alloc, "fr")) == Some(&later(&rt)));
 }
 
 #[test]
-fn joins_stamps_by_message(rt: HostRuntime) -> Result<(), Fail> {
+fn joins_cells_two_deep(rt: HostRuntime) {
     let alloc = rt.alloc();
-    let early: Keyed<MessageId, Stamp> = only(alloc, id(alloc, "m")?, stamp(5, "a", 0)?)?;
-    let late = only(alloc, id(alloc, "m")?, stamp(6, "a", 0)?)?;
-    let joined = both(alloc, &late, &early)?.ok_or("stamps agree")?;
-    assert_eq!(rt; joined.len(), 1);
-    assert_eq!(rt; joined.get(&id(alloc, "m")?), Some(&stamp(6, "a", 0)?));
-    Ok(())
+    let mut map = one(&rt, alloc, "m", "en", early(&rt, alloc));
+    join(
+        &rt,
+        alloc,
+        &mut map,
+        &one(&rt, alloc, "m", "en", later(&rt)),
+    );
+    let found = cells(&rt, &map, &id(&rt, alloc, "m"));
+    assert!(rt; found.get(&lang(&rt, alloc, "en")) == Some(&later(&rt)));
+}
+
+#[test]
+fn joins_messages(rt: HostRuntime) {
+    let alloc = rt.alloc();
+    let mut map = one(&rt, alloc, "m", "en", early(&rt, alloc));
+    join(
+        &rt,
+        alloc,
+        &mut map,
+        &one(&rt, alloc, "n", "en", early(&rt, alloc)),
+    );
+    assert_eq!(rt; map.len(), 2);
+    assert_eq!(rt; copy(&rt, alloc, &map).len(), 2);
+}
+
+#[test]
+fn clashes_two_deep(rt: HostRuntime) {
+    let alloc = rt.alloc();
+    let map = one(&rt, alloc, "m", "en", early(&rt, alloc));
+    let clash = deleted(stamp(&rt, 5, "a", 0));
+    assert!(rt; !map.agrees(&one(&rt, alloc, "m", "en", clash)));
+}
+
+#[test]
+fn joins_stamps_by_message(rt: HostRuntime) {
+    let alloc = rt.alloc();
+    let (early, late) = (stamp(&rt, 5, "a", 0), stamp(&rt, 6, "a", 0));
+    let mut map: Keyed<MessageId, Stamp> = only(&rt, alloc, id(&rt, alloc, "m"), late);
+    join(
+        &rt,
+        alloc,
+        &mut map,
+        &only(&rt, alloc, id(&rt, alloc, "m"), early),
+    );
+    assert_eq!(rt; map.len(), 1);
+    assert_eq!(rt; map.get(&id(&rt, alloc, "m")), Some(&late));
 }

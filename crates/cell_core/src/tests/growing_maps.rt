@@ -2,15 +2,15 @@
 
 ghost use Rattle.std.proofs.lemmas.Map.Lookups.{exact_unsigned};
 
-use crate::{Join, Key, Keyed, SiteName, Stamp};
+use super::makers::{copy, deleted, join, labelled, put};
+use crate::{Cell, Join, Key, Keyed, SiteName, Stamp};
 use std::alloc::{AllocError, Global};
 use std::process::Abort;
-use std::test::Fail;
 
 /// A number as a key.
 #[derive(Clone, Copy, Debug, PartialEq, Eq, PartialOrd, Ord)]
-struct Number {
-    value: u64,
+pub struct Number {
+    pub value: u64,
 }
 
 impl Key for Number {
@@ -21,13 +21,15 @@ impl Key for Number {
     }
 }
 
-type Numbers = Keyed<Number, Stamp>;
+pub type Numbers = Keyed<Number, Stamp>;
 
-fn at(value: u64) -> Number {
+/// The key at a place, where keys go from the first one on in steps.
+pub fn nth_key(first: u64, step: u64, place: u64) -> Number {
+    let value = first.wrapping_add(place.wrapping_mul(step));
     Number { value }
 }
 
-fn stamp(time: u64) -> Stamp {
+pub fn stamp(time: u64) -> Stamp {
     Stamp {
         time,
         site: SiteName::of_number(1),
@@ -35,150 +37,167 @@ fn stamp(time: u64) -> Stamp {
     }
 }
 
-fn put(map: &mut Numbers, key: u64, time: u64) -> Result<(), &'static str> {
-    match map.put(at(key), stamp(time)) {
-        Ok(()) => Ok(()),
-        Err(_) => Err("no memory"),
-    }
-}
-
-/// The map of so many keys, from `first` on in steps, each at this time.
-fn every(
-    alloc: Global,
-    first: u64,
-    step: u64,
-    count: u64,
-    time: u64,
-) -> Result<Numbers, &'static str> {
+/// The map of so many keys, each at this time.
+fn every(rt: &impl Abort, alloc: Global, first: u64, step: u64, count: u64, time: u64) -> Numbers {
     let mut map = Keyed::new(alloc);
-    for i in 0..count {
-        put(&mut map, first.wrapping_add(i.wrapping_mul(step)), time)?;
+    for place in 0..count {
+        put(rt, &mut map, nth_key(first, step, place), stamp(time));
     }
-    Ok(map)
+    map
 }
 
-/// The map has just the keys from `first` on in steps.
-fn assert_every(rt: &impl Abort, map: &Numbers, first: u64, step: u64, count: u64) {
+/// The walk meets just the keys from the first one on in steps, and finds each.
+pub fn assert_every(rt: &impl Abort, map: &Numbers, first: u64, step: u64, count: u64) {
     assert_eq!(rt; map.len() as u64, count);
-    let mut walk = map.iter();
-    for i in 0..count {
-        let key = at(first.wrapping_add(i.wrapping_mul(step)));
-        assert_eq!(rt; walk.next().map(|entry| *entry.0), Some(key));
-        assert_eq!(rt; map.nth(i as usize).map(|entry| *entry.0), Some(key));
-        assert!(rt; map.get(&key).is_some());
+    for ((key, value), place) in map.iter().zip(0..count) {
+        assert_eq!(rt; *key, nth_key(first, step, place));
+        assert_eq!(rt; map.get(key), Some(value));
     }
-    assert!(rt; walk.next().is_none());
-    assert!(rt; map.nth(map.len()).is_none());
-    assert!(rt;
-        map.get(&at(first.wrapping_add(count.wrapping_mul(step))))
-            .is_none()
-    );
+}
+
+fn time_of(map: &Numbers, value: u64) -> Option<u64> {
+    map.get(&Number { value }).map(|stamp| stamp.time)
+}
+
+fn key_at(map: &Numbers, place: usize) -> Option<u64> {
+    map.nth(place).map(|entry| entry.0.value)
 }
 
 #[test]
-fn rising_keys(rt: HostRuntime) -> Result<(), Fail> {
-    let map = every(rt.alloc(), 0, 1, 1000, 1)?;
+fn rising_keys(rt: HostRuntime) {
+    let map = every(&rt, rt.alloc(), 0, 1, 1000, 1);
     assert_every(&rt, &map, 0, 1, 1000);
-    Ok(())
+    assert_eq!(rt; time_of(&map, 1000), None);
 }
 
 #[test]
-fn falling_keys(rt: HostRuntime) -> Result<(), Fail> {
+fn falling_keys(rt: HostRuntime) {
+    // From 999 on in steps of -1.
+    let map = every(&rt, rt.alloc(), 999, u64::MAX, 1000, 1);
+    assert_every(&rt, &map, 0, 1, 1000);
+}
+
+#[test]
+fn places_over_chunks(rt: HostRuntime) {
+    let map = every(&rt, rt.alloc(), 7, 3, 1000, 1);
+    assert_eq!(rt; key_at(&map, 0), Some(7));
+    assert_eq!(rt; key_at(&map, 500), Some(1507));
+    assert_eq!(rt; key_at(&map, 999), Some(3004));
+    assert_eq!(rt; key_at(&map, 1000), None);
+}
+
+#[test]
+fn mixed_keys(rt: HostRuntime) {
     let mut map = Keyed::new(rt.alloc());
-    for i in 0..1000 {
-        put(&mut map, 999 - i, 1)?;
+    for place in 0..2000_u64 {
+        // 617 has no factor in common with 1000, so that each key comes twice.
+        let value = place * 617 % 1000;
+        put(&rt, &mut map, Number { value }, stamp(place));
     }
     assert_every(&rt, &map, 0, 1, 1000);
-    Ok(())
+    assert_eq!(rt; time_of(&map, 0), Some(1000));
+    assert_eq!(rt; time_of(&map, 617), Some(1001));
 }
 
 #[test]
-fn mixed_keys(rt: HostRuntime) -> Result<(), Fail> {
-    // 617 has no factor in common with 1000.
-    let mut map = Keyed::new(rt.alloc());
-    for i in 0..1000_u64 {
-        put(&mut map, i * 617 % 1000, i)?;
-        put(&mut map, i * 617 % 1000, i + 1)?;
+fn changed_in_place(rt: HostRuntime) {
+    let mut map = every(&rt, rt.alloc(), 0, 2, 500, 1);
+    if let Some(value) = map.get_mut(&Number { value: 700 }) {
+        *value = stamp(9);
     }
-    assert_every(&rt, &map, 0, 1, 1000);
-    for i in 0..1000_u64 {
-        assert_eq!(rt; map.get(&at(i * 617 % 1000)).copied(), Some(stamp(i + 1)));
-    }
-    Ok(())
-}
-
-#[test]
-fn changed_in_place(rt: HostRuntime) -> Result<(), Fail> {
-    let mut map = every(rt.alloc(), 0, 2, 500, 1)?;
-    match map.get_mut(&at(700)) {
-        Some(value) => *value = stamp(9),
-        None => return Err("not held").map_err(Fail::from),
-    }
-    assert!(rt; map.get_mut(&at(701)).is_none());
-    assert_eq!(rt; map.get(&at(698)).copied(), Some(stamp(1)));
-    assert_eq!(rt; map.get(&at(700)).copied(), Some(stamp(9)));
-    assert_eq!(rt; map.get(&at(702)).copied(), Some(stamp(1)));
+    assert_eq!(rt; time_of(&map, 698), Some(1));
+    assert_eq!(rt; time_of(&map, 700), Some(9));
+    assert_eq!(rt; time_of(&map, 702), Some(1));
     assert_every(&rt, &map, 0, 2, 500);
-    Ok(())
+}
+
+/// The even keys at time 1 are joined with the multiples of three at time 2.
+fn assert_joined_at(rt: &impl Abort, map: &Numbers, value: u64) {
+    let time = match (value % 2, value % 3) {
+        (_, 0) => Some(2),
+        (0, _) => Some(1),
+        _ => None,
+    };
+    assert_eq!(rt; time_of(map, value), time, "key {value}");
 }
 
 #[test]
-fn interleaved_joins(rt: HostRuntime) -> Result<(), Fail> {
-    // The even keys at time 1 and the multiples of three at time 2.
-    let mut map = every(rt.alloc(), 0, 2, 900, 1)?;
-    let other = every(rt.alloc(), 0, 3, 600, 2)?;
-    assert!(rt; map.agrees(&other));
-    map.join(rt.alloc(), &other)?;
+fn interleaved_joins(rt: HostRuntime) {
+    let mut map = every(&rt, rt.alloc(), 0, 2, 900, 1);
+    let other = every(&rt, rt.alloc(), 0, 3, 600, 2);
+    join(&rt, rt.alloc(), &mut map, &other);
     // Of each six in a row, two are in neither.
     assert_eq!(rt; map.len(), 1200);
-    for key in 0..1800_u64 {
-        let time = if key % 3 == 0 {
-            Some(stamp(2))
-        } else if key % 2 == 0 {
-            Some(stamp(1))
-        } else {
-            None
-        };
-        assert_eq!(rt; map.get(&at(key)).copied(), time, "key {key}");
+    for value in 0..1800 {
+        assert_joined_at(&rt, &map, value);
     }
-    Ok(())
 }
 
 #[test]
-fn joins_of_apart_ranges(rt: HostRuntime) -> Result<(), Fail> {
-    let mut low = every(rt.alloc(), 0, 1, 600, 1)?;
-    let mut high = every(rt.alloc(), 600, 1, 600, 1)?;
-    let copied = low.copy(rt.alloc())?;
-    low.join(rt.alloc(), &high)?;
-    high.join(rt.alloc(), &copied)?;
+fn joins_of_apart_ranges(rt: HostRuntime) {
+    let mut low = every(&rt, rt.alloc(), 0, 1, 600, 1);
+    let high = every(&rt, rt.alloc(), 600, 1, 600, 1);
+    join(&rt, rt.alloc(), &mut low, &high);
     assert_every(&rt, &low, 0, 1, 1200);
+}
+
+#[test]
+fn joins_of_apart_ranges_the_other_way_round(rt: HostRuntime) {
+    let low = every(&rt, rt.alloc(), 0, 1, 600, 1);
+    let mut high = every(&rt, rt.alloc(), 600, 1, 600, 1);
+    join(&rt, rt.alloc(), &mut high, &low);
     assert_every(&rt, &high, 0, 1, 1200);
-    assert_every(&rt, &copied, 0, 1, 600);
-    Ok(())
 }
 
 #[test]
-fn joins_with_the_empty_map(rt: HostRuntime) -> Result<(), Fail> {
+fn copies_of_chunks(rt: HostRuntime) {
+    let map = every(&rt, rt.alloc(), 5, 3, 700, 1);
+    assert_every(&rt, &copy(&rt, rt.alloc(), &map), 5, 3, 700);
+}
+
+#[test]
+fn joins_with_the_empty_map(rt: HostRuntime) {
     let mut empty: Numbers = Keyed::new(rt.alloc());
-    let mut map = every(rt.alloc(), 5, 3, 700, 1)?;
-    map.join(rt.alloc(), &empty)?;
+    let mut map = every(&rt, rt.alloc(), 5, 3, 700, 1);
+    join(&rt, rt.alloc(), &mut map, &empty);
     assert_every(&rt, &map, 5, 3, 700);
-    assert!(rt; empty.is_empty());
-    empty.join(rt.alloc(), &map)?;
+    assert!(rt; empty.is_empty() && !map.is_empty());
+    join(&rt, rt.alloc(), &mut empty, &map);
     assert_every(&rt, &empty, 5, 3, 700);
-    Ok(())
 }
 
 #[test]
-fn few_keys_into_many(rt: HostRuntime) -> Result<(), Fail> {
-    let mut map = every(rt.alloc(), 0, 2, 1000, 1)?;
-    let other = every(rt.alloc(), 1, 500, 4, 2)?;
-    map.join(rt.alloc(), &other)?;
+fn few_keys_into_many(rt: HostRuntime) {
+    let mut map = every(&rt, rt.alloc(), 0, 2, 1000, 1);
+    let other = every(&rt, rt.alloc(), 1, 500, 4, 2);
+    join(&rt, rt.alloc(), &mut map, &other);
     assert_eq!(rt; map.len(), 1004);
-    assert_eq!(rt; map.get(&at(1)).copied(), Some(stamp(2)));
-    assert_eq!(rt; map.get(&at(501)).copied(), Some(stamp(2)));
-    assert_eq!(rt; map.get(&at(1501)).copied(), Some(stamp(2)));
-    assert_eq!(rt; map.get(&at(500)).copied(), Some(stamp(1)));
-    assert!(rt; map.get(&at(503)).is_none());
-    Ok(())
+    assert_eq!(rt; time_of(&map, 1), Some(2));
+    assert_eq!(rt; time_of(&map, 1501), Some(2));
+    assert_eq!(rt; time_of(&map, 500), Some(1));
+    assert_eq!(rt; time_of(&map, 503), None);
+}
+
+/// Three hundred deletions, of which one key may have a label at the same stamp.
+fn cells(rt: &impl Abort, alloc: Global, labelled_key: u64) -> Keyed<Number, Cell> {
+    let mut map = Keyed::new(alloc);
+    for value in 0..300 {
+        let cell = if value == labelled_key {
+            labelled(rt, alloc, stamp(1), "a")
+        } else {
+            deleted(stamp(1))
+        };
+        put(rt, &mut map, Number { value }, cell);
+    }
+    map
+}
+
+#[test]
+fn clashes_at_a_later_key(rt: HostRuntime) {
+    let map = cells(&rt, rt.alloc(), 300);
+    assert!(rt; !map.agrees(&cells(&rt, rt.alloc(), 0)));
+    assert!(rt; !map.agrees(&cells(&rt, rt.alloc(), 1)));
+    assert!(rt; !map.agrees(&cells(&rt, rt.alloc(), 299)));
+    assert!(rt; !cells(&rt, rt.alloc(), 299).agrees(&map));
+    assert!(rt; map.agrees(&cells(&rt, rt.alloc(), 300)));
 }

@@ -1,86 +1,130 @@
 //! Cells that agree and join, and lists of them.
 
-use super::makers::{deleted, labelled, stamp};
-use crate::{Cell, Join, Stamp, agree_all, join_all};
+use super::makers::{copy, deleted, join, join_of, labelled, stamp};
+use crate::{Cell, Join, Stamp, agree_all};
 use std::alloc::Global;
-use std::test::Fail;
+use std::process::Abort;
 
-/// Three cells of which the second is the latest, in this order.
-fn three(alloc: Global, order: [usize; 3]) -> Result<Vec<Cell>, Fail> {
-    let mut cells = Vec::with_capacity(alloc, 3)?;
-    for at in order {
-        let cell = match at {
-            0 => labelled(alloc, stamp(5, "0000000001", 0)?, "a")?,
-            1 => deleted(stamp(7, "0000000001", 0)?),
-            _ => labelled(alloc, stamp(6, "0000000002", 0)?, "b")?,
-        };
-        cells.push(cell)?;
-    }
-    Ok(cells)
+/// The first of three cells.
+fn early(rt: &impl Abort, alloc: Global) -> Cell {
+    labelled(rt, alloc, stamp(rt, 5, "0000000001", 0), "a")
+}
+
+/// The latest of three cells, a deletion.
+fn latest(rt: &impl Abort) -> Cell {
+    deleted(stamp(rt, 7, "0000000001", 0))
+}
+
+/// The second of three cells, at another site.
+fn middle(rt: &impl Abort, alloc: Global) -> Cell {
+    labelled(rt, alloc, stamp(rt, 6, "0000000002", 0), "b")
+}
+
+fn assert_latest(rt: &impl Abort, alloc: Global, first: Cell, second: Cell, third: Cell) {
+    let join = join_of(rt, alloc, &[first, second, third]);
+    assert!(rt; join.expect(rt, "memory for the join") == Some(latest(rt)));
 }
 
 #[test]
-fn joins_lists_in_any_order(rt: HostRuntime) -> Result<(), Fail> {
+fn joins_three_cells(rt: HostRuntime) {
     let alloc = rt.alloc();
-    let latest = deleted(stamp(7, "0000000001", 0)?);
-    let orders = [
-        [0, 1, 2],
-        [0, 2, 1],
-        [1, 0, 2],
-        [1, 2, 0],
-        [2, 0, 1],
-        [2, 1, 0],
-    ];
-    for order in orders {
-        let cells = three(alloc, order)?;
-        if agree_all(&cells) {
-            assert!(rt; join_all(alloc, &cells)? == Some(latest.copy(alloc)?));
-        } else {
-            assert!(rt; false, "the cells agree");
-        }
-    }
+    assert_latest(
+        &rt,
+        alloc,
+        early(&rt, alloc),
+        latest(&rt),
+        middle(&rt, alloc),
+    );
+    assert_latest(
+        &rt,
+        alloc,
+        early(&rt, alloc),
+        middle(&rt, alloc),
+        latest(&rt),
+    );
+    assert_latest(
+        &rt,
+        alloc,
+        latest(&rt),
+        early(&rt, alloc),
+        middle(&rt, alloc),
+    );
+}
+
+#[test]
+fn joins_three_cells_the_other_way_round(rt: HostRuntime) {
+    let alloc = rt.alloc();
+    assert_latest(
+        &rt,
+        alloc,
+        middle(&rt, alloc),
+        latest(&rt),
+        early(&rt, alloc),
+    );
+    assert_latest(
+        &rt,
+        alloc,
+        latest(&rt),
+        middle(&rt, alloc),
+        early(&rt, alloc),
+    );
+    assert_latest(
+        &rt,
+        alloc,
+        middle(&rt, alloc),
+        early(&rt, alloc),
+        latest(&rt),
+    );
+}
+
+#[test]
+fn joins_no_items(rt: HostRuntime) {
     let none: [Stamp; 0] = [];
-    assert!(rt; agree_all(&none));
-    if agree_all(&none) {
-        assert!(rt; join_all(alloc, &none)?.is_none());
-    }
-    Ok(())
+    let join = join_of(&rt, rt.alloc(), &none);
+    assert!(rt; join.expect(&rt, "memory for the join").is_none());
 }
 
 #[test]
-fn keeps_the_later_cell(rt: HostRuntime) -> Result<(), Fail> {
+fn keeps_the_later_cell(rt: HostRuntime) {
     let alloc = rt.alloc();
-    let mut early = labelled(alloc, stamp(5, "0000000009", 0)?, "x")?;
-    let mut late = labelled(alloc, stamp(5, "0000000010", 0)?, "y")?;
-    let before = early.copy(alloc)?;
-    let after = late.copy(alloc)?;
-    assert!(rt; early == before && late == after && early != late);
-    if late.agrees(&early) {
-        late.join(alloc, &early)?;
-    }
-    assert!(rt; late == after);
-    if early.agrees(&late) {
-        early.join(alloc, &late)?;
-    }
-    assert!(rt; early == after && early.stamp() == after.stamp());
-    assert!(rt; early.label() == after.label());
-    Ok(())
+    let mut early = labelled(&rt, alloc, stamp(&rt, 5, "0000000009", 0), "x");
+    let mut late = labelled(&rt, alloc, stamp(&rt, 5, "0000000010", 0), "y");
+    let before = copy(&rt, alloc, &early);
+    join(&rt, alloc, &mut early, &late);
+    assert!(rt; early == late);
+    join(&rt, alloc, &mut late, &before);
+    assert!(rt; early == late && before != late);
 }
 
 #[test]
-fn agrees_pair_by_pair(rt: HostRuntime) -> Result<(), Fail> {
-    let alloc = rt.alloc();
-    let first = stamp(5, "0000000001", 0)?;
-    let second = stamp(6, "0000000001", 0)?;
-    let cells = [
-        labelled(alloc, first, "a")?,
-        labelled(alloc, second, "a")?,
-        labelled(alloc, first, "b")?,
-    ];
-    assert!(rt; cells[0].agrees(&cells[1]) && cells[1].agrees(&cells[2]));
-    assert!(rt; !cells[0].agrees(&cells[2]));
+fn shows_its_parts(rt: HostRuntime) {
+    let stamp = stamp(&rt, 5, "a", 0);
+    let cell = labelled(&rt, rt.alloc(), stamp, "x");
+    assert!(rt; cell.stamp() == stamp && cell.label().is_some());
+    assert!(rt; deleted(stamp).label().is_none());
+}
+
+/// Three cells of which only the first and the last clash.
+fn clashing(rt: &impl Abort, alloc: Global) -> Vec<Cell> {
+    let first = labelled(rt, alloc, stamp(rt, 5, "a", 0), "a");
+    let second = labelled(rt, alloc, stamp(rt, 6, "a", 0), "a");
+    let third = labelled(rt, alloc, stamp(rt, 5, "a", 0), "b");
+    Vec::from_array(alloc, [first, second, third]).expect(rt, "memory for the cells")
+}
+
+#[test]
+fn agrees_pair_by_pair(rt: HostRuntime) {
+    let cells = clashing(&rt, rt.alloc());
     assert!(rt; !agree_all(&cells));
-    assert!(rt; agree_all(&cells[..2]) && agree_all(&cells[..1]) && agree_all(&cells[..0]));
-    assert!(rt; !cells[0].agrees(&deleted(first)) && deleted(first).agrees(&deleted(first)));
-    Ok(())
+    assert_eq!(rt; cells.len(), 3);
+    assert!(rt; agree_all(&cells[..2]));
+    assert!(rt; agree_all(&cells[1..]));
+    assert!(rt; agree_all(&cells[..1]));
+}
+
+#[test]
+fn a_deletion_clashes_with_a_label(rt: HostRuntime) {
+    let stamp = stamp(&rt, 5, "a", 0);
+    let cell = labelled(&rt, rt.alloc(), stamp, "x");
+    assert!(rt; !cell.agrees(&deleted(stamp)) && deleted(stamp).agrees(&deleted(stamp)));
 }

@@ -1,67 +1,96 @@
 //! Which texts are labels.
 
-use super::makers::texts;
+use super::makers::label;
 use crate::{CellFault, Label};
-use std::alloc::{AllocError, Global};
-use std::test::Fail;
+use std::alloc::Global;
+use std::process::Abort;
 
-/// So many texts "a", of which some are long.
-fn many(alloc: Global, count: usize, long: &[usize]) -> Result<Vec<String>, AllocError> {
-    let mut made = Vec::with_capacity(alloc, count)?;
-    for at in 0..count {
-        let times = if long.contains(&at) { 65_536 } else { 1 };
-        made.push("a".repeat(alloc, times)?)?;
+/// So many texts "a", the last ones of them with 65,536 letters.
+fn many(rt: &impl Abort, alloc: Global, short: usize, long: usize) -> Vec<String> {
+    let mut made = Vec::new(alloc);
+    for _ in 0..short {
+        made.push(repeated(rt, alloc, 1)).expect(rt, "memory");
     }
-    Ok(made)
+    for _ in 0..long {
+        made.push(repeated(rt, alloc, 65_536)).expect(rt, "memory");
+    }
+    made
+}
+
+fn repeated(rt: &impl Abort, alloc: Global, times: usize) -> String {
+    "a".repeat(alloc, times).expect(rt, "memory")
+}
+
+fn assert_refused(rt: &impl Abort, alloc: Global, texts: Vec<String>, fault: CellFault) {
+    assert_eq!(rt; Label::new(alloc, &texts).err(), Some(fault));
+    assert_eq!(rt; Label::from_texts(texts).err(), Some(fault));
+}
+
+fn assert_kept(rt: &impl Abort, alloc: Global, texts: Vec<String>) {
+    let label = Label::new(alloc, &texts).expect(rt, "a label");
+    assert!(rt; label.texts() == texts.as_slice());
+    assert!(rt; label.copy(alloc).expect(rt, "memory") == label);
+    assert!(rt; Label::from_texts(texts).expect(rt, "a label") == label);
+}
+
+fn copied(rt: &impl Abort, alloc: Global, text: &str) -> String {
+    String::from_str(alloc, text).expect(rt, "memory")
+}
+
+/// Two texts.
+fn two(rt: &impl Abort, alloc: Global, first: &str, second: &str) -> Vec<String> {
+    let texts = [copied(rt, alloc, first), copied(rt, alloc, second)];
+    Vec::from_array(alloc, texts).expect(rt, "memory")
+}
+
+fn label_of(rt: &impl Abort, texts: Vec<String>) -> Label {
+    Label::from_texts(texts).expect(rt, "a label")
 }
 
 #[test]
-fn refuses_texts(rt: HostRuntime) -> Result<(), Fail> {
+fn refuses_counts(rt: HostRuntime) {
     let alloc = rt.alloc();
-    let refused = [
-        (many(alloc, 0, &[])?, CellFault::LabelCount { count: 0 }),
-        (many(alloc, 65, &[])?, CellFault::LabelCount { count: 65 }),
-        (many(alloc, 65, &[3])?, CellFault::LabelCount { count: 65 }),
-        (many(alloc, 1, &[0])?, CellFault::TextTooLong { index: 0 }),
-        (
-            many(alloc, 3, &[1, 2])?,
-            CellFault::TextTooLong { index: 1 },
-        ),
-    ];
-    for (texts, fault) in refused {
-        let copied = Label::new(alloc, &texts).err();
-        assert_eq!(rt; copied, Some(fault));
-        let owned = Label::from_texts(texts).err();
-        assert_eq!(rt; owned, Some(fault));
-    }
-    Ok(())
+    let none = CellFault::LabelCount { count: 0 };
+    assert_refused(&rt, alloc, many(&rt, alloc, 0, 0), none);
+    let most = CellFault::LabelCount { count: 65 };
+    assert_refused(&rt, alloc, many(&rt, alloc, 65, 0), most);
+    // The count comes before the texts.
+    assert_refused(&rt, alloc, many(&rt, alloc, 64, 1), most);
 }
 
 #[test]
-fn keeps_texts(rt: HostRuntime) -> Result<(), Fail> {
+fn refuses_long_texts(rt: HostRuntime) {
     let alloc = rt.alloc();
-    let longest = "a".repeat(alloc, 65_535)?;
-    let kept = [
-        many(alloc, 64, &[])?,
-        texts(alloc, &[""])?,
-        texts(alloc, &["a\nb\0c", "", "a"])?,
-        texts(alloc, &[longest.as_str()])?,
-    ];
-    for texts in kept {
-        let label = Label::new(alloc, &texts)?;
-        assert!(rt; label.texts() == texts.as_slice());
-        assert!(rt; label.copy(alloc)? == label);
-        assert!(rt; Label::from_texts(texts)? == label);
-    }
-    Ok(())
+    let first = CellFault::TextTooLong { index: 0 };
+    assert_refused(&rt, alloc, many(&rt, alloc, 0, 1), first);
+    let second = CellFault::TextTooLong { index: 1 };
+    assert_refused(&rt, alloc, many(&rt, alloc, 1, 2), second);
 }
 
 #[test]
-fn counts_the_order(rt: HostRuntime) -> Result<(), Fail> {
+fn keeps_64_texts(rt: HostRuntime) {
+    assert_kept(&rt, rt.alloc(), many(&rt, rt.alloc(), 64, 0));
+}
+
+#[test]
+fn keeps_texts_of_any_length(rt: HostRuntime) {
     let alloc = rt.alloc();
-    let one = Label::from_texts(texts(alloc, &["a", "b"])?)?;
-    let other = Label::from_texts(texts(alloc, &["b", "a"])?)?;
-    let more = Label::from_texts(texts(alloc, &["a", "b", ""])?)?;
-    assert!(rt; one != other && one != more);
-    Ok(())
+    let texts = Vec::from_array(alloc, [copied(&rt, alloc, "")]);
+    assert_kept(&rt, alloc, texts.expect(&rt, "memory"));
+    let texts = Vec::from_array(alloc, [repeated(&rt, alloc, 65_535)]);
+    assert_kept(&rt, alloc, texts.expect(&rt, "memory"));
+}
+
+#[test]
+fn keeps_any_character(rt: HostRuntime) {
+    let alloc = rt.alloc();
+    assert_kept(&rt, alloc, two(&rt, alloc, "a\nb\0c", ""));
+}
+
+#[test]
+fn counts_the_order(rt: HostRuntime) {
+    let alloc = rt.alloc();
+    let one = label_of(&rt, two(&rt, alloc, "a", "b"));
+    assert!(rt; one != label_of(&rt, two(&rt, alloc, "b", "a")));
+    assert!(rt; one != label(&rt, alloc, "a"));
 }

@@ -1,63 +1,75 @@
-//! Makes the values that the tests speak of.
+//! Makes the values that the tests speak of, and ends the test where one is refused.
 
-use crate::{Cell, CellFault, Keyed, Label, MessageId, SiteName, Stamp};
+use crate::{Cell, Join, Key, Keyed, Label, MessageId, SiteName, Stamp, agree_all, join_all};
 use lang_core::Lang;
 use std::alloc::{AllocError, Global};
-use std::test::Fail;
+use std::process::Abort;
 
-pub fn texts(alloc: Global, parts: &[&str]) -> Result<Vec<String>, AllocError> {
-    let mut texts = Vec::with_capacity(alloc, parts.len())?;
-    for part in parts {
-        texts.push(String::from_str(alloc, part)?)?;
-    }
-    Ok(texts)
+pub fn name(rt: &impl Abort, text: &str) -> SiteName {
+    SiteName::new(text).expect(rt, "a site name")
 }
 
-pub fn stamp(time: u64, site: &str, count: u32) -> Result<Stamp, CellFault> {
-    let site = SiteName::new(site)?;
-    Ok(Stamp { time, site, count })
+pub fn stamp(rt: &impl Abort, time: u64, site: &str, count: u32) -> Stamp {
+    let site = name(rt, site);
+    Stamp { time, site, count }
+}
+
+pub fn id(rt: &impl Abort, alloc: Global, text: &str) -> MessageId {
+    MessageId::new(alloc, text).expect(rt, "a message id")
+}
+
+pub fn lang(rt: &impl Abort, alloc: Global, tag: &str) -> Lang {
+    Lang::parse(alloc, tag.as_bytes()).expect(rt, "a language")
+}
+
+/// A label of one text.
+pub fn label(rt: &impl Abort, alloc: Global, text: &str) -> Label {
+    let text = String::from_str(alloc, text).expect(rt, "memory for the text");
+    let texts = Vec::from_array(alloc, [text]).expect(rt, "memory for the texts");
+    Label::from_texts(texts).expect(rt, "a label")
 }
 
 /// A cell with a label of one text.
-pub fn labelled(alloc: Global, stamp: Stamp, text: &str) -> Result<Cell, CellFault> {
-    let label = Label::from_texts(texts(alloc, &[text])?)?;
-    Ok(Cell::new(stamp, Some(label)))
+pub fn labelled(rt: &impl Abort, alloc: Global, stamp: Stamp, text: &str) -> Cell {
+    Cell::new(stamp, Some(label(rt, alloc, text)))
 }
 
 pub fn deleted(stamp: Stamp) -> Cell {
     Cell::new(stamp, None)
 }
 
-pub fn id(alloc: Global, text: &str) -> Result<MessageId, CellFault> {
-    MessageId::new(alloc, text)
+/// Gives the key the value.
+pub fn put<K: Key, J: Drop>(rt: &impl Abort, map: &mut Keyed<K, J>, key: K, value: J) {
+    assert!(rt; map.put(key, value).is_ok());
 }
 
-pub fn lang(alloc: Global, text: &str) -> Result<Lang, Fail> {
-    Ok(Lang::parse(alloc, text.as_bytes())?)
+/// A map of one entry.
+pub fn only<K: Key, J: Drop>(rt: &impl Abort, alloc: Global, key: K, value: J) -> Keyed<K, J> {
+    let mut map = Keyed::new(alloc);
+    put(rt, &mut map, key, value);
+    map
 }
 
-/// Gives the language the cell.
-pub fn put(alloc: Global, map: &mut Keyed<Lang, Cell>, tag: &str, cell: Cell) -> Result<(), Fail> {
-    match map.put(lang(alloc, tag)?, cell) {
-        Ok(()) => Ok(()),
-        Err(_) => Err(Fail::from(CellFault::NoMemory)),
-    }
+pub fn copy<J: Join>(rt: &impl Abort, alloc: Global, value: &J) -> J {
+    value.copy(alloc).expect(rt, "memory for the copy")
 }
 
-/// Whether two maps have the same languages with the same cells.
-pub fn same(a: &Keyed<Lang, Cell>, b: &Keyed<Lang, Cell>) -> bool {
-    if a.len() != b.len() {
-        return false;
-    }
-    for place in 0..a.len() {
-        match (a.nth(place), b.nth(place)) {
-            (Some((k, v)), Some((l, w))) => {
-                if k != l || v != w {
-                    return false;
-                }
-            }
-            _ => return false,
-        }
-    }
-    true
+/// Joins a value that has to agree.
+pub fn join<J: Join>(rt: &impl Abort, alloc: Global, own: &mut J, other: &J) {
+    assert!(rt; own.agrees(other));
+    assert!(rt; own.join(alloc, other).is_ok());
+}
+
+/// The join of a list, whose items have to agree; want of memory is handed on.
+pub fn join_of<J: Join>(
+    rt: &impl Abort,
+    alloc: Global,
+    items: &[J],
+) -> Result<Option<J>, AllocError> {
+    assert!(rt; agree_all(items));
+    join_all(alloc, items)
+}
+
+pub fn key_copy<K: Key>(rt: &impl Abort, alloc: Global, key: &K) -> K {
+    key.copy(alloc).expect(rt, "memory for the copy")
 }

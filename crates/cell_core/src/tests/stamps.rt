@@ -1,61 +1,77 @@
 //! The order of stamps, and the next stamp of a site.
 
-use super::makers::stamp;
-use crate::{CellFault, SiteName, Stamp};
-use std::test::Fail;
+use super::makers::{name, stamp};
+use crate::{CellFault, Stamp};
+use std::process::Abort;
 
 const LATEST: u64 = u64::MAX;
 
-/// The stamp of these parts, if there is one.
-fn made(parts: Option<(u64, &str, u32)>) -> Result<Option<Stamp>, CellFault> {
-    match parts {
-        Some((time, site, count)) => Ok(Some(stamp(time, site, count)?)),
-        None => Ok(None),
-    }
+/// After the last stamp the next one of the site has this time and count.
+fn assert_next(rt: &impl Abort, last: Stamp, now: u64, site: &str, time: u64, count: u32) {
+    let next = Stamp::next(Some(last), now, name(rt, site));
+    assert_eq!(rt; next, Ok(stamp(rt, time, site, count)));
 }
 
-/// The next stamp of the site; none where the clock is spent.
-fn next(last: Option<Stamp>, now: u64, site: &str) -> Result<Option<Stamp>, CellFault> {
-    match Stamp::next(last, now, SiteName::new(site)?) {
-        Ok(stamp) => Ok(Some(stamp)),
-        Err(CellFault::ClockSpent) => Ok(None),
-        Err(fault) => Err(fault),
-    }
+fn assert_spent(rt: &impl Abort, last: Stamp, now: u64, site: &str) {
+    let next = Stamp::next(Some(last), now, name(rt, site));
+    assert_eq!(rt; next, Err(CellFault::ClockSpent));
 }
 
-#[test]
-fn finds_the_next(rt: HostRuntime) -> Result<(), Fail> {
-    let (three, four) = ("0000000003", "0000000004");
-    let (six, seven, eight) = ("0000000006", "0000000007", "0000000008");
-    let rows = [
-        (Some((LATEST, seven, 0)), 3, six, None),
-        (Some((LATEST, seven, 0)), 3, seven, Some((LATEST, seven, 1))),
-        (Some((LATEST, seven, 0)), 3, eight, Some((LATEST, eight, 0))),
-        (Some((LATEST, seven, u32::MAX)), 3, seven, None),
-        (None, 5, three, Some((5, three, 0))),
-        (Some((5, three, u32::MAX)), 5, three, Some((6, three, 0))),
-        (Some((5, four, 9)), 4, three, Some((6, three, 0))),
-    ];
-    for (last, now, site, want) in rows {
-        assert_eq!(rt; next(made(last)?, now, site)?, made(want)?);
-    }
-    Ok(())
+fn assert_below(rt: &impl Abort, low: Stamp, high: Stamp) {
+    assert!(rt; low < high && low != high, "{low:?} {high:?}");
+}
+
+/// A stamp of the latest time.
+fn latest(rt: &impl Abort) -> Stamp {
+    stamp(rt, LATEST, "0000000007", 0)
 }
 
 #[test]
-fn orders_by_time_then_name_then_count(rt: HostRuntime) -> Result<(), Fail> {
-    let rows = [
-        ((4, "b", 9), (5, "a", 8)),
-        ((5, "a", 8), (5, "a-", 7)),
-        ((5, "a-", 7), (5, "b", 0)),
-        ((5, "b", 0), (5, "b", 1)),
-        ((5, "b", 1), (6, "a", 0)),
-        // The padded names of 9 and 10 are in the order of the numbers, unlike the shortest ones.
-        ((5, "0000000009", 0), (5, "0000000010", 0)),
-        ((5, "10", 0), (5, "9", 0)),
-    ];
-    for (low, high) in rows {
-        assert!(rt; made(Some(low))? < made(Some(high))?);
-    }
-    Ok(())
+fn is_spent_at_the_latest_time(rt: HostRuntime) {
+    assert_spent(&rt, latest(&rt), 3, "0000000006");
+    assert_next(&rt, latest(&rt), 3, "0000000007", LATEST, 1);
+    assert_next(&rt, latest(&rt), 3, "0000000008", LATEST, 0);
+}
+
+#[test]
+fn is_spent_at_the_last_count(rt: HostRuntime) {
+    let last = stamp(&rt, LATEST, "0000000007", u32::MAX);
+    assert_spent(&rt, last, 3, "0000000007");
+    let last = stamp(&rt, 5, "0000000003", u32::MAX);
+    assert_next(&rt, last, 5, "0000000003", 6, 0);
+}
+
+#[test]
+fn begins_at_now(rt: HostRuntime) {
+    let next = Stamp::next(None, 5, name(&rt, "0000000003"));
+    assert_eq!(rt; next, Ok(stamp(&rt, 5, "0000000003", 0)));
+}
+
+#[test]
+fn goes_on_after_another_site(rt: HostRuntime) {
+    let last = stamp(&rt, 5, "0000000004", 9);
+    assert_next(&rt, last, 4, "0000000003", 6, 0);
+}
+
+#[test]
+fn orders_by_time_then_name_then_count(rt: HostRuntime) {
+    assert_below(&rt, stamp(&rt, 4, "b", 9), stamp(&rt, 5, "a", 8));
+    assert_below(&rt, stamp(&rt, 5, "a", 8), stamp(&rt, 5, "a-", 7));
+    assert_below(&rt, stamp(&rt, 5, "a-", 7), stamp(&rt, 5, "b", 0));
+    assert_below(&rt, stamp(&rt, 5, "b", 0), stamp(&rt, 5, "b", 1));
+    assert_below(&rt, stamp(&rt, 5, "b", 1), stamp(&rt, 6, "a", 0));
+}
+
+#[test]
+fn orders_padded_names_as_numbers(rt: HostRuntime) {
+    let (nine, ten) = ("0000000009", "0000000010");
+    assert_below(&rt, stamp(&rt, 5, nine, 0), stamp(&rt, 5, ten, 0));
+    // The shortest names are in the other order.
+    assert_below(&rt, stamp(&rt, 5, "10", 0), stamp(&rt, 5, "9", 0));
+}
+
+#[test]
+fn shows_the_parts(rt: HostRuntime) {
+    let shown = format!(in rt.alloc(); "{}", stamp(&rt, 5, "paris", 7));
+    assert_eq!(rt; shown.expect(&rt, "memory").as_str(), "5 paris 7");
 }

@@ -1,7 +1,9 @@
 use Rattle.std.proofs.Common.{◌≤◌, length}
-use Rattle.lang_core.specs.Pieces.{pieces_left}
-use Rattle.nego_core.proofs.FieldWalk.{IsWalked}
+use Rattle.nego_core.proofs.SeparatorLaws.{BeginsElement, IsWalkedTo}
 use Rattle.nego_core.proofs.field.read_items.Given as goal
 
-abbrev pub invariant-loop-piece : goal.invariant-loop-piece
-invariant-loop-piece l = (length l.field ≤ 65535) × IsWalked l.kind l.field l.items.items (pieces_left l.piece-iterator) l.offset
+abbrev pub invariant-loop-rest : goal.invariant-loop-rest
+invariant-loop-rest l = (length l.field ≤ 65535) × IsWalkedTo l.kind l.field l.items.items l.rest × BeginsElement l.rest
+
+abbrev pub decreases-loop-rest : goal.decreases-loop-rest
+decreases-loop-rest l = length l.rest
