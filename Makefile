@@ -18,8 +18,10 @@ build/lexicat: $(SOURCES)
 demo: build/lexicat
 	build/lexicat pick zh-Hant-CN-x-private1-private2 zh-Hant en
 
-# Every proof from nothing, the edits that have to be refused, the tests and the programs.
+# The program that the compiler has to refuse; then every proof from nothing, the edits that the prover has to
+# refuse, the tests and the programs.
 test:
+	RT='$(RT)' scripts/borrow-check
 	$(RT) ci
 
 # Instructions and time beside plain Rust.

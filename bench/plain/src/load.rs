@@ -107,7 +107,8 @@ pub fn load(work: &str) -> Option<String> {
         "hostile-extended" => asked(&many_ranges("*-")),
         "hostile-endless" => asked(&"a".repeat(65_535)),
         "hostile-commas" => asked(&",".repeat(65_535)),
-        _ if work.starts_with("keyed-") || work.starts_with("stamp-") => String::new(),
+        "play" => String::new(),
+        _ if ["keyed-", "stamp-", "catalogue-"].iter().any(|front| work.starts_with(front)) => String::new(),
         _ => return None,
     })
 }

@@ -3,8 +3,11 @@
 //! `plain load WORK` writes the load of a work, `plain WORK TURNS` reads it and prints a checksum,
 //! and `plain pick RANGES TAG..` is the first command of `lexicat` as a whole process.
 
+mod catalogue;
+mod catalogue_works;
 mod keyed;
 mod load;
+mod play;
 mod priority;
 mod tag;
 mod works;

@@ -93,6 +93,7 @@ pub fn run(work: &str, load: &str, turns: u64) -> u64 {
     match work {
         "tags" | "long-tag" => parse_tags(load, turns),
         _ if work.starts_with("keyed-") || work.starts_with("stamp-") => crate::keyed::run(work, turns),
+        _ if work.starts_with("catalogue-") || work == "play" => crate::catalogue_works::run(work, turns),
         _ => ask(work, load, turns),
     }
 }

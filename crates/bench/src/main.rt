@@ -5,9 +5,12 @@
 #![tactic(auto)]
 
 mod asking;
+mod catalogues;
 mod checksum;
 mod keyed;
+mod makers;
 mod parsing;
+mod playing;
 mod sorted;
 mod works;
 

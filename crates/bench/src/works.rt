@@ -1,9 +1,9 @@
 //! The works by name. Each turn does one thing to the load.
 
 use crate::asking::{sum_of_choice, sum_of_filter, sum_of_lookup};
-use crate::keyed;
 use crate::parsing::{langs_of, list_of, parse_lines, sum_of_list};
 use crate::sorted::Sorted;
+use crate::{catalogues, keyed, playing};
 use lang_core::Lang;
 use nego_core::{NegoFault, PriorityList, Scheme};
 use std::alloc::{AllocError, Global};
@@ -94,6 +94,8 @@ fn parse(alloc: Global, load: &str, turns: u64) -> u64 {
 pub fn run(alloc: Global, work: &str, load: &str, turns: u64) -> Result<u64, AllocError> {
     match work {
         "tags" | "long-tag" => Ok(parse(alloc, load, turns)),
+        "play" => playing::run(alloc, turns),
+        _ if work.starts_with("catalogue-") => catalogues::run(alloc, work, turns),
         _ if work.starts_with("keyed-") || work.starts_with("stamp-") => keyed::run(
             alloc, work, turns,
         ),

@@ -16,13 +16,13 @@ use Rattle.cell_core.specs.Maps.{IsMap, AgreeMaps, AgreeIfBoth}
 use Rattle.cell_core.specs.Places.{place_of}
 use Rattle.cata_core.specs.Entries.{EntryKey, text_cmp, key_cmp, key_cmp_total, key_cmp_exact, Entry, Agree}
 use Rattle.cata_core.specs.Flat.{under, flat, found_in}
-use Rattle.cata_core.specs.Nested.{Inner, Nested, IsCatalogue, AllShort}
+use Rattle.cata_core.specs.Nested.{Inner, Nested, IsCatalogue, IsCountable}
 use Rattle.cata_core.specs.Clashes.{AgreesAt, IsFirstClash}
 use Rattle.cata_core.proofs.Basics.{some_same}
 use Rattle.cata_core.proofs.Flat.{find-flat}
 use Rattle.cata_core.proofs.NestedCatalogues.{IsMap-catalogue}
 use Rattle.cata_core.proofs.Places.{stands_at_place}
-use Rattle.cata_core.proofs.Short.{length-under, length-bound}
+use Rattle.cata_core.proofs.Lengths.{length-under}
 use Rattle.cata_core.proofs.Walks.{with_outer}
 
 -- ---- what stands behind a place
@@ -175,8 +175,8 @@ module _ (own other : Nested) (id : List ℕ) (cells : Inner) (left : Nested) (n
       (slice_get-map (with_outer id) cells at ∙ ap (option_map (with_outer id)) clash.held)
       (find-flat text_cmp text_cmp nat_list_cmp_total other sorted (id, clash.key) ∙ ap (found_in text_cmp clash.key) there ∙ clash.other_has) clash.differ clash.stamp_there
 
-  pub front_fits : AllShort own → length own < 18446744073709551616 → n + length cells < 340282366920938463463374607431768211456
-  front_fits short lt = omega (arith, lt, length-bound own short, length-under id cells, drop_within (flat own) n (under id cells) (flat left) h.rest h.within)
+  pub front_fits : IsCountable own → n + length cells < 340282366920938463463374607431768211456
+  front_fits fits = omega (arith, fits, length-under id cells, drop_within (flat own) n (under id cells) (flat left) h.rest h.within)
 
 pub agreed_catalogues : (own other : Nested) (n : ℕ) → IsCatalogue own → IsCatalogue other → IsAgreed key_cmp (flat own) (flat other) [] n → Agree (flat own) (flat other)
 agreed_catalogues own other n m k h = agree_from_places key_cmp (flat own) (flat other) key_cmp_total key_cmp_exact (IsMap-catalogue own m) (IsMap-catalogue other k) (agreed_all key_cmp (flat own) (flat other) n h)

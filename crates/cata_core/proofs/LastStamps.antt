@@ -15,7 +15,7 @@ use Rattle.cata_core.proofs.Basics.{less_of, not_less_of, some_same}
 use Rattle.cata_core.proofs.Members.{In, in_from_Contains, Contains-from_in}
 use Rattle.cata_core.proofs.StampOrder.{not_less_self, not_less_back, not_less_trans}
 
-always : (a b : Option Stamp) → AgreeIfBoth AgreeStamps a b
+pub always : (a b : Option Stamp) → AgreeIfBoth AgreeStamps a b
 always None b = tt
 always (Some s) None = tt
 always (Some s) (Some t) = tt
@@ -30,7 +30,7 @@ last_next last later stamp k c es all is at h =
     ap (λ o. joined_if_both joined_stamps o (last_of es)) is ∙ last_assoc last (Some stamp) (last_of es)
     ∙ ap (λ s. joined_if_both joined_stamps last (joined_if_both joined_stamps (Some s) (last_of es))) at ∙ h
 
-last_with_none : (a : Option Stamp) → joined_if_both joined_stamps a None ≡ a
+pub last_with_none : (a : Option Stamp) → joined_if_both joined_stamps a None ≡ a
 last_with_none None = refl
 last_with_none (Some s) = refl
 

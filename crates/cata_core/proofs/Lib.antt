@@ -1,5 +1,6 @@
 pub mod Apply
 pub mod Basics
+pub mod Behind
 pub mod Best
 pub mod CatalogueJoins
 pub mod Catalogues
@@ -11,8 +12,11 @@ pub mod EqualSummaries
 pub mod Filtered
 pub mod Flat
 pub mod JoinTurns
+pub mod JoinedCounts
+pub mod JoinedLasts
 pub mod LastStamps
 pub mod LeastDeltas
+pub mod Lengths
 pub mod LentLists
 pub mod LiveLabels
 pub mod Machine
@@ -27,7 +31,6 @@ pub mod Replies
 pub mod Search
 pub mod SettledRuns
 pub mod Settling
-pub mod Short
 pub mod Spreading
 pub mod StampOrder
 pub mod Summaries

@@ -1,18 +1,16 @@
 -- Walks that gather the cells that a summary lacks.
-use Rattle.std.proofs.Common.{◌≡◌, ◌≢◌, true, false, cond, List, [], ◌∷◌, ◌++◌, refl, sym, ap, ◌∙◌, subst, append_assoc}
-use Rattle.std.specs.Prelude.{T}
-use Rattle.std.specs.declared.cmp.Ordering.{Ordering}
-use Rattle.std.specs.declared.cmp.Ordering.TheVariants.{Less, Equal, Greater}
+use Rattle.std.proofs.Common.{◌≡◌, ◌≢◌, true, false, cond, [], ◌∷◌, ◌++◌, refl, sym, ap, ◌∙◌, subst, append_assoc}
+use Rattle.std.specs.declared.cmp.Ordering.TheVariants.{Less, Greater}
 use Rattle.std.specs.Ordering.{is_lt, ordering_reverse}
-use Rattle.std.specs.Cmp.{IsTotalOrder, tied_itself}
-use Rattle.std.specs.FinMap.Entries.{find, put, by_order, is_sorted, below_all}
+use Rattle.std.specs.FinMap.Entries.{find, is_sorted, below_all}
 use Rattle.cell_core.specs.declared.cell.Cell.{Cell}
 use Rattle.cell_core.specs.Maps.{IsMap}
-use Rattle.cata_core.specs.Entries.{EntryKey, key_cmp, key_cmp_total, Entries}
+use Rattle.cata_core.specs.Entries.{EntryKey, key_cmp, key_cmp_total, Entries, IsAboveAll}
 use Rattle.cata_core.specs.Deltas.{Stamps, is_news, delta_of}
 use Rattle.cata_core.specs.Seeking.{IsSeeking}
 use Rattle.cata_core.proofs.Basics.{first_part, second_part, less_than, append_nil}
 use Rattle.cata_core.proofs.Filtered.{filter-IsMap}
+use Rattle.cata_core.proofs.Behind.{front_below}
 
 -- the key is not lesser than the first
 abbrev IsFromFirst : EntryKey → Entries → Type 0
@@ -30,27 +28,7 @@ pub record IsNewsTo (all left news : Entries) (told rest : Stamps) : Type 0 wher
 pub news_first : (all : Entries) (told : Stamps) → IsMap key_cmp all → IsMap key_cmp told → IsNewsTo all all [] told told
 news_first all told m n = record { cells = refl; map = m; sorted = m; rest_sorted = n; same = λ q h. refl }
 
-module _ {K J : Type 0} (cmp : K → K → Ordering) (total : IsTotalOrder cmp) where
-  front_below : (xs ys : List (K × J)) (k : K) (v : J) (x : K) → T (below_all cmp x (xs ++ (k, v) ∷ ys)) → cmp x k ≡ Less
-  front_below [] ys k v x h = less_than (cmp x k) (first_part (is_lt (cmp x k)) (below_all cmp x ys) h)
-  front_below (e ∷ xs) ys k v x h = front_below xs ys k v x (second_part (is_lt (cmp x e.0)) (below_all cmp x (xs ++ (k, v) ∷ ys)) h)
-
-  -- a key above all goes behind all
-  pub put_behind : (xs ys : List (K × J)) (k : K) (v : J) → IsMap cmp (xs ++ (k, v) ∷ ys) → put cmp k v xs ≡ xs ++ (k, v) ∷ []
-  put_behind [] ys k v h = refl
-  put_behind (e ∷ xs) ys k v h =
-      let less = front_below xs ys k v e.0 (first_part (below_all cmp e.0 (xs ++ (k, v) ∷ ys)) (is_sorted cmp (xs ++ (k, v) ∷ ys)) h) in
-      ap (λ r. by_order r ((k, v) ∷ e ∷ xs) ((e.0, v) ∷ xs) (e ∷ put cmp k v xs)) (total.antisymm k e.0 ∙ ap ordering_reverse less)
-      ∙ ap (λ zs. e ∷ zs) (put_behind xs ys k v (second_part (below_all cmp e.0 (xs ++ (k, v) ∷ ys)) (is_sorted cmp (xs ++ (k, v) ∷ ys)) h))
-
-not_greater_self : (k : EntryKey) → key_cmp k k ≢ Greater
-not_greater_self k e = let no : Equal ≡ Greater = sym (tied_itself key_cmp_total k) ∙ e in absurd (cc)
-
 module _ (all left news : Entries) (told rest more : Stamps) (k : EntryKey) (c : Cell) (h : IsNewsTo all ((k, c) ∷ left) news told rest) (s : IsSeeking k rest more) where
-  -- what was told of the first key
-  pub told_at : find key_cmp k more ≡ find key_cmp k told
-  told_at = s.same k (not_greater_self k) ∙ h.same k (not_greater_self k)
-
   later : (q : EntryKey) → IsFromFirst q left → key_cmp k q ≢ Greater
   later q = elim left as (λ l. IsMap key_cmp ((k, c) ∷ l) → IsFromFirst q l → key_cmp k q ≢ Greater) [
     | [] ↦ λ m f. absurd f
@@ -67,18 +45,19 @@ module _ (all left news : Entries) (told rest more : Stamps) (k : EntryKey) (c :
   left_sorted = second_part (below_all key_cmp k left) (is_sorted key_cmp left) h.sorted
 
   -- the cell is sent
-  pub news_more : is_news (find key_cmp k told) c.stamp ≡ true → IsNewsTo all left (put key_cmp k c news) told more
-  news_more sent =
+  pub sent_above : is_news (find key_cmp k told) c.stamp ≡ true → IsAboveAll k news
+  sent_above sent =
       let cells : news ++ (k, c) ∷ delta_of left told ≡ delta_of all told = ap (λ b. news ++ cond b ((k, c) ∷ delta_of left told) (delta_of left told)) (sym sent) ∙ h.cells in
-      let behind : put key_cmp k c news ≡ news ++ (k, c) ∷ [] = put_behind key_cmp key_cmp_total news (delta_of left told) k c
-      (subst (IsMap key_cmp) (sym cells) (filter-IsMap key_cmp (λ e. is_news (find key_cmp e.0 told) e.1.stamp) all h.map)) in
-      record {
-        cells = ap (λ xs. xs ++ delta_of left told) behind ∙ append_assoc news ((k, c) ∷ []) (delta_of left told) ∙ cells;
-        map = h.map;
-        sorted = left_sorted;
-        rest_sorted = s.sorted;
-        same = rest_same;
-      }
+      front_below news (delta_of left told) k c (subst (IsMap key_cmp) (sym cells) (filter-IsMap key_cmp (λ e. is_news (find key_cmp e.0 told) e.1.stamp) all h.map))
+
+  pub news_more : is_news (find key_cmp k told) c.stamp ≡ true → IsNewsTo all left (news ++ (k, c) ∷ []) told more
+  news_more sent = record {
+    cells = append_assoc news ((k, c) ∷ []) (delta_of left told) ∙ ap (λ b. news ++ cond b ((k, c) ∷ delta_of left told) (delta_of left told)) (sym sent) ∙ h.cells;
+    map = h.map;
+    sorted = left_sorted;
+    rest_sorted = s.sorted;
+    same = rest_same;
+  }
 
   -- the cell is not sent
   pub news_same : is_news (find key_cmp k told) c.stamp ≡ false → IsNewsTo all left news told more

@@ -5,36 +5,20 @@ use Rattle.std.proofs.lemmas.List.{map-append}
 use Rattle.std.specs.declared.cmp.Ordering.{Ordering}
 use Rattle.std.specs.declared.cmp.Ordering.TheVariants.{Less, Equal, Greater}
 use Rattle.std.specs.Ordering.{is_lt, is_eq, ordering_reverse}
+use Rattle.std.specs.Cmp.{tied_itself}
 use Rattle.std.specs.FinMap.Entries.{find, is_sorted, below_all}
 use Rattle.cell_core.specs.declared.stamp.Stamp.{Stamp}
 use Rattle.cell_core.specs.Maps.{IsMap}
 use Rattle.cata_core.specs.declared.summary.Told.{Told}
 use Rattle.cata_core.specs.Entries.{EntryKey, key_cmp, key_cmp_total}
 use Rattle.cata_core.specs.Deltas.{Stamps}
-use Rattle.cata_core.specs.Seeking.{IsFrom}
-use Rattle.cata_core.specs.Told.{told_of, IsAboveAll}
-use Rattle.cata_core.proofs.Basics.{first_part, second_part, both_parts}
+use Rattle.cata_core.specs.Told.{told_of}
+use Rattle.cata_core.proofs.Basics.{first_part, both_parts}
 use Rattle.cata_core.proofs.Filtered.{find-below}
-use Rattle.cata_core.proofs.Flat.{all_first, all_rest}
 use Rattle.cata_core.proofs.Places.{below_lesser}
 
 pub told_push : (told : List Told) (t : Told) → told_of (told ++ t ∷ []) ≡ told_of told ++ ((t.id, t.lang), t.stamp) ∷ []
 told_push told t = map-append (λ (t : Told). ((t.id, t.lang), t.stamp)) told (t ∷ [])
-
--- ---- a key above all
-
-below_behind : (x : EntryKey) (es : Stamps) (k : EntryKey) (s : Stamp) → T (below_all key_cmp x es) → key_cmp x k ≡ Less → T (below_all key_cmp x (es ++ (k, s) ∷ []))
-below_behind x [] k s h less = both_parts (is_lt (key_cmp x k)) true (subst (λ r. T (is_lt r)) (sym less) tt) tt
-below_behind x (e ∷ es) k s h less =
-    both_parts (is_lt (key_cmp x e.0)) (below_all key_cmp x (es ++ (k, s) ∷ [])) (first_part (is_lt (key_cmp x e.0)) (below_all key_cmp x es) h)
-    (below_behind x es k s (second_part (is_lt (key_cmp x e.0)) (below_all key_cmp x es) h) less)
-
-pub IsMap-behind : (es : Stamps) (k : EntryKey) (s : Stamp) → IsMap key_cmp es → IsAboveAll k es → IsMap key_cmp (es ++ (k, s) ∷ [])
-IsMap-behind [] k s m above = tt
-IsMap-behind (e ∷ es) k s m above =
-    both_parts (below_all key_cmp e.0 (es ++ (k, s) ∷ [])) (is_sorted key_cmp (es ++ (k, s) ∷ []))
-    (below_behind e.0 es k s (first_part (below_all key_cmp e.0 es) (is_sorted key_cmp es) m) (all_first (λ (x : EntryKey × Stamp). key_cmp x.0 k ≡ Less) e es above))
-    (IsMap-behind es k s (second_part (below_all key_cmp e.0 es) (is_sorted key_cmp es) m) (all_rest (λ (x : EntryKey × Stamp). key_cmp x.0 k ≡ Less) e es above))
 
 -- ---- the first key
 
@@ -51,7 +35,7 @@ neither Less never e = absurd (never refl)
 neither Equal never e = absurd (true≢false e)
 neither Greater never e = refl
 
-pub first_absent : (key k : EntryKey) (s : Stamp) (es : Stamps) → IsMap key_cmp ((k, s) ∷ es) → IsFrom key ((k, s) ∷ es) → is_eq (key_cmp k key) ≡ false → None ≡ find key_cmp key ((k, s) ∷ es)
+pub first_absent : (key k : EntryKey) (s : Stamp) (es : Stamps) → IsMap key_cmp ((k, s) ∷ es) → key_cmp k key ≢ Less → is_eq (key_cmp k key) ≡ false → None ≡ find key_cmp key ((k, s) ∷ es)
 first_absent key k s es m from apart =
     let less : key_cmp key k ≡ Less = key_cmp_total.antisymm key k ∙ neither (key_cmp k key) from apart in
     sym (find-below key_cmp key ((k, s) ∷ es) (both_parts (is_lt (key_cmp key k)) (below_all key_cmp key es) (subst (λ r. T (is_lt r)) (sym less) tt)
@@ -79,3 +63,6 @@ passed key k s es lt q from = ap (λ b. cond b (Some s) (find key_cmp q es)) (sy
         tied_less : key_cmp key q ≡ Equal → key_cmp k q ≡ Less
         tied_less e = key_cmp_total.antisymm k q ∙ ap ordering_reverse (sym (key_cmp_total.congr key q k e) ∙ key_cmp_total.antisymm key k ∙ ap ordering_reverse less)
     apart Greater e = absurd (from e)
+
+pub not_greater_self : (k : EntryKey) → key_cmp k k ≢ Greater
+not_greater_self k e = let no : Equal ≡ Greater = sym (tied_itself key_cmp_total k) ∙ e in absurd (cc)

@@ -13,11 +13,11 @@ use Rattle.cell_core.specs.Maps.{IsMap}
 use Rattle.cell_core.specs.Places.{place_of}
 use Rattle.cata_core.specs.Entries.{EntryKey, pair_cmp, text_cmp, key_cmp}
 use Rattle.cata_core.specs.Flat.{under, flat}
-use Rattle.cata_core.specs.Nested.{Inner, Nested, AllShort}
+use Rattle.cata_core.specs.Nested.{Inner, Nested, IsCountable}
 use Rattle.cata_core.proofs.Basics.{first_part, second_part}
 use Rattle.cata_core.proofs.Places.{below_lesser, below_tied_all, place_of-below}
 use Rattle.cata_core.proofs.Flat.{below_flat}
-use Rattle.cata_core.proofs.Short.{length-under, length-flat-cons, short_cons, length-bound}
+use Rattle.cata_core.proofs.Lengths.{length-under, length-flat-cons}
 
 -- ---- counting
 
@@ -25,16 +25,14 @@ use Rattle.cata_core.proofs.Short.{length-under, length-flat-cons, short_cons, l
 pub record IsCounted (m left : Nested) (total : ℕ) : Type 0 where
   pub cells : total + length (flat left) ≡ length (flat m)
   pub small : total + length left * 18446744073709551615 ≤ length m * 18446744073709551615
-  pub short : AllShort left → AllShort m
 
 pub counted_first : (m : Nested) → IsCounted m m 0
-counted_first m = record { cells = omega arith; small = omega arith; short = λ h. h }
+counted_first m = record { cells = omega arith; small = omega arith }
 
 pub counted_next : (m left : Nested) (id : List ℕ) (inner : Inner) (total : ℕ) → IsCounted m ((id, inner) ∷ left) total → length inner < 18446744073709551616 → IsCounted m left (total + length inner)
 counted_next m left id inner total h lt = record {
   cells = omega (arith, h.cells, length-flat-cons id inner left);
   small = omega (arith, h.small, lt);
-  short = λ s. h.short (short_cons id inner left lt s);
 }
 
 pub counted_small : (m left : Nested) (id : List ℕ) (inner : Inner) (total : ℕ) → IsCounted m ((id, inner) ∷ left) total → length inner < 18446744073709551616 → length m < 18446744073709551616 → total + length inner < 340282366920938463463374607431768211456
@@ -120,5 +118,5 @@ module _ (m left : Nested) (key : EntryKey) (id : List ℕ) (cells : Inner) (tot
     place = omega (arith, h.place, place_of-greater text_cmp text_cmp nat_list_cmp_total id cells left h.map key p);
   }
 
-  pub in_front_fits : AllShort m → length m < 18446744073709551616 → total + length cells < 340282366920938463463374607431768211456
-  in_front_fits short lt = omega (arith, lt, h.cells, length-bound m short, length-flat-cons id cells left)
+  pub in_front_fits : IsCountable m → total + length cells < 340282366920938463463374607431768211456
+  in_front_fits fits = omega (arith, fits, h.cells, length-flat-cons id cells left)

@@ -1,7 +1,7 @@
 -- Keys, and catalogues as lists of entries in rising order of key.
-use Rattle.std.specs.Prelude.{◌≡◌, ℕ, List}
+use Rattle.std.specs.Prelude.{◌≡◌, ℕ, List, All}
 use Rattle.std.specs.declared.cmp.Ordering.{Ordering}
-use Rattle.std.specs.declared.cmp.Ordering.TheVariants.{Equal}
+use Rattle.std.specs.declared.cmp.Ordering.TheVariants.{Less, Equal}
 use Rattle.std.specs.Ordering.{nat_cmp, ordering_then}
 use Rattle.std.specs.Cmp.{IsTotalOrder, on_total, then_total}
 use Rattle.std.specs.Cmp.Lexicographic.{slice_cmp, nat_list_cmp_total}
@@ -34,6 +34,10 @@ key_cmp_total = then_total (on_total (λ (k : EntryKey). k.0) nat_list_cmp_total
 -- keys that compare equal are one
 pub key_cmp_exact : (a b : EntryKey) → key_cmp a b ≡ Equal → a ≡ b
 key_cmp_exact = exact_pairs text_cmp text_cmp exact_bytes exact_bytes
+
+-- the key is greater than all that are there
+abbrev pub IsAboveAll : {J : Type 0} → EntryKey → List (EntryKey × J) → Type 0
+IsAboveAll key es = All (λ e. key_cmp e.0 key ≡ Less) es
 
 -- a key with a cell: an entry of a catalogue, and also an edit; without a label it is a deletion
 abbrev pub Entry : Type 0

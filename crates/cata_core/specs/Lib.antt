@@ -3,6 +3,7 @@ pub mod Asking
 pub mod CataFaults
 pub mod CellsLeft
 pub mod Clashes
+pub mod Counts
 pub mod Deltas
 pub mod Edits
 pub mod Entries
@@ -18,6 +19,7 @@ pub mod LiveIn
 pub mod LiveLeft
 pub mod Migration
 pub mod Nested
+pub mod OldSteps
 pub mod Seeking
 pub mod Settled
 pub mod Sites

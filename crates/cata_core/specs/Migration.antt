@@ -1,10 +1,14 @@
--- Catalogues and summaries of numbered sites, as documents of version 1 have them, and what they become (own rules).
-use Rattle.std.specs.Prelude.{◌≡◌, List, Some, map}
+-- Catalogues, sites, deltas and summaries of numbered sites, as documents of version 1 have them, and what they become (own rules).
+use Rattle.std.specs.Prelude.{◌≡◌, ℕ, ◌<◌, ◌^◌, List, Some, map}
 use Rattle.std.specs.FinMap.Entries.{find}
 use Rattle.cell_core.specs.Maps.{IsMap, AgreeMaps, joined_maps}
+use Rattle.cell_core.specs.SiteNames.{padded_name}
 use Rattle.cell_core.specs.Migration.{OldStamp, IsOldStamp, OldCell, AgreeOldCells, joined_old_cells, migrated_stamp, migrated_cell}
+use Rattle.cata_core.specs.declared.delta.Delta.{Delta}
 use Rattle.cata_core.specs.Entries.{EntryKey, key_cmp, Entry, Entries}
 use Rattle.cata_core.specs.Deltas.{Stamps}
+use Rattle.cata_core.specs.Sites.{SiteState}
+use Rattle.cata_core.specs.Told.{SummaryState}
 
 -- an entry whose stamp names its site by a number
 abbrev pub OldEntry : Type 0
@@ -31,8 +35,53 @@ migrated_entry e = (e.0, migrated_cell e.1)
 abbrev pub migrated_entries : OldEntries → Entries
 migrated_entries es = map migrated_entry es
 
+-- stamps of numbered sites by keys
 abbrev pub OldStamps : Type 0
 OldStamps = List (EntryKey × OldStamp)
 
+-- the keys rise, and the stamps have sites and counts of 32 bits
+pub record AreOldStamps (stamps : OldStamps) : Type 0 where
+  pub map : IsMap key_cmp stamps
+  pub stamps_fit : (k : EntryKey) (s : OldStamp) → find key_cmp k stamps ≡ Some s → IsOldStamp s
+
 abbrev pub migrated_stamps : OldStamps → Stamps
 migrated_stamps stamps = map (λ s. (s.0, migrated_stamp s.1)) stamps
+
+-- ---- sites, deltas and summaries
+
+-- a numbered site with its map
+pub record OldSite : Type 0 where
+  pub number : ℕ
+  pub cells : OldEntries
+
+-- the number of the site that it is for, with a map
+pub record OldDelta : Type 0 where
+  pub addressee : ℕ
+  pub cells : OldEntries
+
+-- the number of the site whose it is, with its stamps
+pub record OldSummary : Type 0 where
+  pub owner : ℕ
+  pub stamps : OldStamps
+
+-- their numbers have 32 bits
+pub record IsOldSite (s : OldSite) : Type 0 where
+  pub number_fits : s.number < 2 ^ 32
+  pub cells : IsOldMap s.cells
+
+pub record IsOldDelta (d : OldDelta) : Type 0 where
+  pub addressee_fits : d.addressee < 2 ^ 32
+  pub cells : IsOldMap d.cells
+
+pub record IsOldSummary (s : OldSummary) : Type 0 where
+  pub owner_fits : s.owner < 2 ^ 32
+  pub stamps : AreOldStamps s.stamps
+
+abbrev pub migrated_site : OldSite → SiteState
+migrated_site s = record { name = padded_name s.number; cells = migrated_entries s.cells }
+
+abbrev pub migrated_delta : OldDelta → Delta
+migrated_delta d = record { addressee = padded_name d.addressee; cells = migrated_entries d.cells }
+
+abbrev pub migrated_summary : OldSummary → SummaryState
+migrated_summary s = record { owner = padded_name s.owner; stamps = migrated_stamps s.stamps }

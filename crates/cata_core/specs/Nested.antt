@@ -1,5 +1,5 @@
 -- Catalogues as maps of maps, each seen as one list of entries.
-use Rattle.std.specs.Prelude.{◌≡◌, ℕ, ◌<◌, List, Some, length, slice_get}
+use Rattle.std.specs.Prelude.{◌≡◌, ℕ, ◌<◌, List, length}
 use Rattle.cell_core.specs.declared.cell.Cell.{Cell}
 use Rattle.cell_core.specs.Cells.{AgreeCells, joined_cells}
 use Rattle.cell_core.specs.Later.{IsEitherOf}
@@ -19,19 +19,13 @@ Nested = List (List ℕ × Inner)
 abbrev pub IsCatalogue : Nested → Type 0
 IsCatalogue = IsNested text_cmp text_cmp
 
--- each message has fewer cells than 2 ^ 64, as any map in memory
-abbrev pub AllShort : Nested → Type 0
-AllShort m = (i : ℕ) (id : List ℕ) (inner : Inner) → slice_get m i ≡ Some (id, inner) → length inner < 18446744073709551616
+-- so few cells that a number of 128 bits counts them
+abbrev pub IsCountable : Nested → Type 0
+IsCountable m = length (flat m) < 340282366920938463463374607431768211456
 
--- no message is without a cell, or has too many
-pub record IsCatalogueInMemory (m : Nested) : Type 0 where
-  pub nested : IsCatalogue m
-  pub short : AllShort m
-
--- what a catalogue keeps: the same, and how many cells there are
+-- what a catalogue keeps: no message is without a cell, and how many cells there are
 pub record IsKept (m : Nested) (len : ℕ) : Type 0 where
   pub nested : IsCatalogue m
-  pub short : AllShort m
   pub counted : len ≡ length (flat m)
 
 -- how maps of maps agree and join, by the definitions for maps alone

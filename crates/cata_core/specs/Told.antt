@@ -1,9 +1,8 @@
 -- Summaries that were told.
-use Rattle.std.specs.Prelude.{◌≡◌, ℕ, List, map, All}
-use Rattle.std.specs.declared.cmp.Ordering.TheVariants.{Less}
+use Rattle.std.specs.Prelude.{ℕ, List, map}
 use Rattle.cell_core.specs.declared.stamp.Stamp.{Stamp}
 use Rattle.cata_core.specs.declared.summary.Told.{Told}
-use Rattle.cata_core.specs.Entries.{EntryKey, key_cmp}
+use Rattle.cata_core.specs.Entries.{EntryKey}
 use Rattle.cata_core.specs.Deltas.{Stamps}
 
 -- a summary, by its owner and its stamps
@@ -18,7 +17,3 @@ entry_of t = ((t.id, t.lang), t.stamp)
 -- the keys with their stamps
 abbrev pub told_of : List Told → Stamps
 told_of told = map (λ t. ((t.id, t.lang), t.stamp)) told
-
--- the key is greater than all that are there
-abbrev pub IsAboveAll : EntryKey → Stamps → Type 0
-IsAboveAll key stamps = All (λ e. key_cmp e.0 key ≡ Less) stamps

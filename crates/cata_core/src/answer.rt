@@ -12,7 +12,7 @@ use std::alloc::{AllocError, Global};
 use std::marker::Model;
 
 /// A list of edits.
-#[derive(Drop)]
+#[derive(Debug, Drop)]
 pub struct Edits {
     edits: Vec<Edit>,
 }
@@ -54,7 +54,7 @@ impl Edits {
 }
 
 /// The answer to a question.
-#[derive(Drop)]
+#[derive(Debug, Drop)]
 pub enum Answer {
     /// Languages with their labels and weights.
     Filter(Entries),
@@ -65,7 +65,7 @@ pub enum Answer {
 }
 
 /// The answers of a run, one for each question, in order.
-#[derive(Drop)]
+#[derive(Debug, Drop)]
 pub struct Answers {
     answers: Vec<Answer>,
 }

@@ -1,6 +1,6 @@
 //! Catalogues: cells by message and language.
 
-ghost use Rattle.std.specs.Prelude.{◌≡◌, ◌<◌, [], ◌∷◌, length, slice_get, OnOk, OnErr, IfErr, IsOk};
+ghost use Rattle.std.specs.Prelude.{◌≡◌, ◌+◌, [], ◌∷◌, ◌++◌, None, length, slice_get, OnOk, OnErr, IfOk, IfErr, IfSome, IsOk};
 ghost use Rattle.std.specs.Option.{option_map, option_copied};
 ghost use Rattle.std.specs.Ordering.{is_lt};
 ghost use Rattle.std.specs.FinMap.Entries.{find, put};
@@ -8,9 +8,10 @@ ghost use Rattle.cell_core.specs.Maps.{IsMap};
 ghost use Rattle.cell_core.specs.Stamps.{stamp_cmp};
 ghost use Rattle.cata_core.specs.CataFaults.{IsRefusal, IsLeft};
 ghost use Rattle.cata_core.specs.CellsLeft.{cells_left};
-ghost use Rattle.cata_core.specs.Entries.{key_cmp, Agree, joined, Between};
+ghost use Rattle.cata_core.specs.Counts.{count_absent};
+ghost use Rattle.cata_core.specs.Entries.{text_cmp, key_cmp, IsAboveAll, Agree, joined, Between};
 ghost use Rattle.cata_core.specs.Flat.{flat};
-ghost use Rattle.cata_core.specs.Nested.{IsCatalogue, IsCatalogueInMemory};
+ghost use Rattle.cata_core.specs.Nested.{IsCatalogue};
 ghost use Rattle.cata_core.specs.Settled.{IsSettledIn};
 
 use crate::cata_fault::CataFault;
@@ -21,7 +22,11 @@ use crate::walk;
 use cell_core::{Cell, Join, Key, Keyed, MessageId};
 use lang_core::Lang;
 use std::alloc::{AllocError, Global};
+use std::fmt;
 use std::marker::Model;
+
+/// A search for a cell takes about the time of a walk over so many messages.
+const SEARCHES: u128 = 64;
 
 /// Cells by message and language, in rising order of the bytes of the id, then of the bytes of the language.
 ///
@@ -170,9 +175,95 @@ impl Catalogue {
         ensures ok { OnOk result (self.new ≡ joined self.old other.now) }
         ensures err { OnErr result (Between self.old self.new other.now) }
     {
-        let result = self.map.join(alloc, other.map());
-        self.len = walk::count(&self.map);
-        result
+        let len = self.joined_len(other);
+        match self.map.join(alloc, other.map()) {
+            Ok(()) => {
+                self.len = match len {
+                    Some(len) => len,
+                    None => walk::count(&self.map),
+                };
+                Ok(())
+            }
+            Err(fault) => {
+                self.len = walk::count(&self.map);
+                Err(fault)
+            }
+        }
+    }
+
+    /// How many cells the join with the other has, where the other is so small that to search for its cells is less
+    /// than to walk over the own messages.
+    fn joined_len(&self, other: &Catalogue) -> Option<u128>
+        ensures { IfSome result (λ len. len ≡ length (joined self.now other.now)) }
+    {
+        if other.len >= self.map.len() as u128 / SEARCHES {
+            return None;
+        }
+        self.len.checked_add(self.count_absent(other))
+    }
+
+    /// How many cells of the other have keys that are not held.
+    fn count_absent(&self, other: &Catalogue) -> u128
+        ensures { result ≡ count_absent self.now other.now }
+    {
+        let _cells = other.len();
+        let mut count = 0u128;
+        for (id, lang, _) in other.iter() {
+            if self.cell(id, lang).is_some() {
+                continue;
+            }
+            count += 1;
+        }
+        count
+    }
+
+    /// Puts a cell behind all that are there; its key has to be greater than theirs.
+    ///
+    /// What is handed in is not copied. For want of memory (26) it is dropped, and the catalogue is unchanged.
+    pub fn push(
+        &mut self,
+        alloc: Global,
+        id: MessageId,
+        lang: Lang,
+        cell: Cell,
+    ) -> Result<(), AllocError>
+        requires { IsAboveAll (id, lang) self.old }
+        ensures ok { OnOk result (self.new ≡ self.old ++ ((id, lang), cell) ∷ []) }
+        ensures err { OnErr result (self.new ≡ self.old) }
+    {
+        let len = self.len_with(1)?;
+        put_in(&mut self.map, alloc, id, lang, cell)?;
+        self.len = len;
+        Ok(())
+    }
+
+    /// The same with copies.
+    pub(crate) fn push_copy(
+        &mut self,
+        alloc: Global,
+        id: &MessageId,
+        lang: &Lang,
+        cell: &Cell,
+    ) -> Result<(), AllocError>
+        requires { IsAboveAll (id.now, lang.now) self.old }
+        ensures ok { OnOk result (self.new ≡ self.old ++ ((id.now, lang.now), cell.now) ∷ []) }
+        ensures err { OnErr result (self.new ≡ self.old) }
+    {
+        let len = self.len_with(1)?;
+        let cell = cell.copy(alloc)?;
+        write_in(&mut self.map, alloc, id, lang, cell)?;
+        self.len = len;
+        Ok(())
+    }
+
+    /// How many cells there are with so many more. Memory ends long before there are too many.
+    fn len_with(&self, more: u128) -> Result<u128, AllocError>
+        ensures { IfOk result (λ len. len ≡ length self.now + more) }
+    {
+        match self.len.checked_add(more) {
+            Some(len) => Ok(len),
+            None => Err(AllocError),
+        }
     }
 
     /// Gives the key a copy of the cell.
@@ -201,18 +292,22 @@ impl Catalogue {
         ensures ok { OnOk result (self.new ≡ put key_cmp (id.now, lang.now) cell self.old) }
         ensures err { OnErr result (self.new ≡ self.old) }
     {
-        let held = self.cell(id, lang).is_some();
+        let more = if self.cell(id, lang).is_some() { 0 } else { 1 };
+        let len = self.len_with(more)?;
         write_in(&mut self.map, alloc, id, lang, cell)?;
-        if !held {
-            // No more cells than messages times the most that one has.
-            let _messages = self.map.len();
-            self.len += 1;
-        }
+        self.len = len;
         Ok(())
     }
 }
 
-/// Gives the keys the cell.
+/// Lists the cells, each with its message and language.
+impl fmt::Debug for Catalogue {
+    fn fmt<W: fmt::Write>(&self, f: &mut fmt::Formatter<W>) -> fmt::Result {
+        f.debug_list().entries(self.iter()).finish()
+    }
+}
+
+/// Gives copies of the keys the cell.
 fn write_in(
     map: &mut Keyed<MessageId, Keyed<Lang, Cell>>,
     alloc: Global,
@@ -220,19 +315,54 @@ fn write_in(
     lang: &Lang,
     cell: Cell,
 ) -> Result<(), AllocError>
-    requires { IsCatalogueInMemory map.old }
-    ensures kept { IsCatalogueInMemory map.new }
+    requires { IsCatalogue map.old }
+    ensures nested { IsCatalogue map.new }
     ensures ok { OnOk result (flat map.new ≡ put key_cmp (id.now, lang.now) cell (flat map.old)) }
     ensures err { OnErr result (map.new ≡ map.old) }
 {
+    let lang = lang.copy(alloc)?;
     match map.get_mut(id) {
-        Some(cells) => put_copy(cells, alloc, lang, cell),
-        None => {
-            let mut cells = Keyed::new(alloc);
-            put_copy(&mut cells, alloc, lang, cell)?;
-            put_copy(map, alloc, id, cells)
-        }
+        Some(cells) => put(cells, lang, cell),
+        None => put_message(map, alloc, id.copy(alloc)?, lang, cell),
     }
+}
+
+/// Gives the keys the cell.
+fn put_in(
+    map: &mut Keyed<MessageId, Keyed<Lang, Cell>>,
+    alloc: Global,
+    id: MessageId,
+    lang: Lang,
+    cell: Cell,
+) -> Result<(), AllocError>
+    requires { IsCatalogue map.old }
+    ensures nested { IsCatalogue map.new }
+    ensures ok { OnOk result (flat map.new ≡ put key_cmp (id, lang) cell (flat map.old)) }
+    ensures err { OnErr result (map.new ≡ map.old) }
+{
+    match map.get_mut(&id) {
+        Some(cells) => put(cells, lang, cell),
+        None => put_message(map, alloc, id, lang, cell),
+    }
+}
+
+/// Gives a message that is not there its first cell.
+fn put_message(
+    map: &mut Keyed<MessageId, Keyed<Lang, Cell>>,
+    alloc: Global,
+    id: MessageId,
+    lang: Lang,
+    cell: Cell,
+) -> Result<(), AllocError>
+    requires nested { IsCatalogue map.old }
+    requires new { find text_cmp id map.old ≡ None }
+    ensures nested { IsCatalogue map.new }
+    ensures ok { OnOk result (flat map.new ≡ put key_cmp (id, lang) cell (flat map.old)) }
+    ensures err { OnErr result (map.new ≡ map.old) }
+{
+    let mut cells = Keyed::new(alloc);
+    put(&mut cells, lang, cell)?;
+    put(map, id, cells)
 }
 
 /// Whether the other cell has a greater stamp.
@@ -242,24 +372,13 @@ fn is_older(mine: &Cell, other: &Cell) -> bool
     mine.stamp().cmp(&other.stamp()).is_lt()
 }
 
-/// Gives a copy of the key the value.
-fn put_copy<K: Key, J: Drop>(
-    map: &mut Keyed<K, J>,
-    alloc: Global,
-    key: &K,
-    value: J,
-) -> Result<(), AllocError>
-    ensures ok { OnOk result (map.new ≡ put K.cmp key.now value map.old) }
+/// Gives the key the value.
+fn put<K: Key, J: Drop>(map: &mut Keyed<K, J>, key: K, value: J) -> Result<(), AllocError>
+    ensures ok { OnOk result (map.new ≡ put K.cmp key value map.old) }
     ensures err { OnErr result (map.new ≡ map.old) }
-    ensures short { OnOk result (length map.new < 18446744073709551616) }
 {
-    let key = key.copy(alloc)?;
     match map.put(key, value) {
-        Ok(()) => {
-            // No map has more entries than a `usize` counts.
-            let _entries = map.len();
-            Ok(())
-        }
+        Ok(()) => Ok(()),
         Err(_) => Err(AllocError),
     }
 }

@@ -3,7 +3,7 @@
 ghost use Rattle.std.specs.Prelude.{ℕ, ◌<◌, MatchOption, length};
 ghost use Rattle.cata_core.specs.Flat.{flat};
 ghost use Rattle.cata_core.specs.Entries.{text_cmp, key_cmp, Agree};
-ghost use Rattle.cata_core.specs.Nested.{IsCatalogue, IsCatalogueInMemory};
+ghost use Rattle.cata_core.specs.Nested.{IsCatalogue, IsCountable};
 ghost use Rattle.cata_core.specs.Clashes.{AgreesAt, IsFirstClash};
 
 use cell_core::{Cell, Join, Keyed, MessageId, Stamp};
@@ -14,16 +14,34 @@ pub fn first_clash(
     mine: &Keyed<MessageId, Keyed<Lang, Cell>>,
     theirs: &Keyed<MessageId, Keyed<Lang, Cell>>,
 ) -> Option<(u128, Stamp)>
-    requires mine { IsCatalogueInMemory mine.now }
+    requires mine { IsCatalogue mine.now }
+    requires fits { IsCountable mine.now }
     requires theirs { IsCatalogue theirs.now }
     ensures { MatchOption result (Agree (flat mine.now) (flat theirs.now))
         (λ clash. IsFirstClash key_cmp (flat mine.now) (flat theirs.now) clash.0 clash.1) }
 {
-    let _messages = mine.len();
+    // Most maps agree, and that is seen in the time for the smaller.
+    if mine.agrees(theirs) {
+        return None;
+    }
+    find_clash(mine, theirs)
+}
+
+/// The same by a walk over the own messages.
+fn find_clash(
+    mine: &Keyed<MessageId, Keyed<Lang, Cell>>,
+    theirs: &Keyed<MessageId, Keyed<Lang, Cell>>,
+) -> Option<(u128, Stamp)>
+    requires mine { IsCatalogue mine.now }
+    requires fits { IsCountable mine.now }
+    requires theirs { IsCatalogue theirs.now }
+    ensures { MatchOption result (Agree (flat mine.now) (flat theirs.now))
+        (λ clash. IsFirstClash key_cmp (flat mine.now) (flat theirs.now) clash.0 clash.1) }
+{
     let mut front = 0u128;
     for (id, cells) in mine.iter() {
         if let Some(others) = theirs.get(id) {
-            if let Some((place, stamp)) = first_clash_in(cells, others) {
+            if let Some((place, stamp)) = find_clash_in(cells, others) {
                 return Some((front + place as u128, stamp));
             }
         }
@@ -33,7 +51,7 @@ pub fn first_clash(
 }
 
 /// The same within a message.
-fn first_clash_in(mine: &Keyed<Lang, Cell>, theirs: &Keyed<Lang, Cell>) -> Option<(usize, Stamp)>
+fn find_clash_in(mine: &Keyed<Lang, Cell>, theirs: &Keyed<Lang, Cell>) -> Option<(usize, Stamp)>
     ensures { MatchOption result ((j : ℕ) → j < length mine.now → AgreesAt text_cmp mine.now theirs.now j)
         (λ clash. IsFirstClash text_cmp mine.now theirs.now clash.0 clash.1) }
 {

@@ -5,7 +5,7 @@ ghost use Rattle.std.specs.FinMap.Entries.{find};
 ghost use Rattle.cell_core.specs.Maps.{IsMap};
 ghost use Rattle.cata_core.specs.Deltas.{delta_of, is_news};
 ghost use Rattle.cata_core.specs.Entries.{key_cmp};
-ghost use Rattle.cata_core.specs.Seeking.{IsFrom, IsSeeking};
+ghost use Rattle.cata_core.specs.Seeking.{IsSeeking};
 ghost use Rattle.cata_core.specs.Told.{told_of};
 
 use crate::catalogue::Catalogue;
@@ -13,9 +13,10 @@ use crate::summary::{Summary, Told};
 use cell_core::{MessageId, SiteName, Stamp};
 use lang_core::Lang;
 use std::alloc::{AllocError, Global};
+use std::cmp::Ordering;
 
 /// The cells that one site sends another, its addressee.
-#[derive(Drop)]
+#[derive(Debug, Drop)]
 pub struct Delta {
     addressee: SiteName,
     cells: Catalogue,
@@ -55,42 +56,31 @@ pub(crate) fn news(
     let mut news = Catalogue::new(alloc);
     let mut rest = summary.told();
     for (id, lang, cell) in catalogue.iter() {
-        rest = from_key(rest, id, lang);
-        if !is_news(stamp_at(rest, id, lang), cell.stamp()) {
+        let (stamp, more) = stamp_at(rest, id, lang);
+        rest = more;
+        if !is_news(stamp, cell.stamp()) {
             continue;
         }
-        news.write_copy(alloc, id, lang, cell)?;
+        news.push_copy(alloc, id, lang, cell)?;
     }
     Ok(news)
 }
 
-/// What was told without the keys in front that are lesser.
-fn from_key<'a>(told: &'a [Told], id: &MessageId, lang: &Lang) -> &'a [Told]
+/// What was told of the key, and what is left without the lesser keys in front.
+fn stamp_at<'a>(told: &'a [Told], id: &MessageId, lang: &Lang) -> (Option<Stamp>, &'a [Told])
     requires { IsMap key_cmp (told_of told.now) }
-    ensures { IsSeeking (id.now, lang.now) (told_of told.now) (told_of result.now) }
+    ensures stamp { result.0 ≡ find key_cmp (id.now, lang.now) (told_of told.now) }
+    ensures rest { IsSeeking (id.now, lang.now) (told_of told.now) (told_of result.1.now) }
 {
     let mut rest = told;
     while let Some((first, more)) = rest.split_first() {
-        if !first.compare(id, lang).is_lt() {
-            return rest;
+        match first.compare(id, lang) {
+            Ordering::Less => rest = more,
+            Ordering::Equal => return (Some(first.stamp), rest),
+            Ordering::Greater => return (None, rest),
         }
-        rest = more;
     }
-    rest
-}
-
-/// The stamp of a key, where no lesser key comes first.
-fn stamp_at(told: &[Told], id: &MessageId, lang: &Lang) -> Option<Stamp>
-    requires sorted { IsMap key_cmp (told_of told.now) }
-    requires first { IsFrom (id.now, lang.now) (told_of told.now) }
-    ensures { result ≡ find key_cmp (id.now, lang.now) (told_of told.now) }
-{
-    let (first, _) = told.split_first()?;
-    if first.compare(id, lang).is_eq() {
-        Some(first.stamp)
-    } else {
-        None
-    }
+    (None, rest)
 }
 
 /// Whether nothing was told, or a lesser stamp.

@@ -7,7 +7,7 @@ use lang_core::Lang;
 use std::marker::Model;
 
 /// A cell for a key, a message and a language. An edit whose cell has no label is a deletion.
-#[derive(Drop)]
+#[derive(Debug, Drop)]
 pub struct Edit {
     id: MessageId,
     lang: Lang,

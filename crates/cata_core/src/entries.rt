@@ -11,7 +11,7 @@ use std::alloc::{AllocError, Global};
 use std::marker::Model;
 
 /// The answer of a filter, lent from the catalogue: languages with their labels and weights, in order.
-#[derive(Drop)]
+#[derive(Debug, Drop)]
 pub struct LentEntries<'a> {
     items: Vec<(&'a Lang, &'a Label, u16)>,
 }
@@ -56,7 +56,7 @@ impl<'a> LentEntries<'a> {
 }
 
 /// The answer of a filter: languages with their labels and weights, in order.
-#[derive(Drop)]
+#[derive(Debug, Drop)]
 pub struct Entries {
     items: Vec<(Lang, Label, u16)>,
 }

@@ -19,6 +19,16 @@ pub fn greatest(catalogue: &Catalogue) -> Option<Stamp>
     last
 }
 
+/// The greater of the stamps, where there are any.
+pub fn greater(first: Option<Stamp>, second: Option<Stamp>) -> Option<Stamp>
+    ensures { result ≡ joined_if_both joined_stamps first second }
+{
+    match second {
+        Some(stamp) => Some(later(first, stamp)),
+        None => first,
+    }
+}
+
 /// The greater of the stamps.
 fn later(last: Option<Stamp>, stamp: Stamp) -> Stamp
     ensures { Some result ≡ joined_if_both joined_stamps last (Some stamp) }

@@ -22,6 +22,8 @@ mod step;
 mod stepping;
 mod summary;
 mod syncing;
+#[cfg(test)]
+mod tests;
 mod walk;
 mod world;
 

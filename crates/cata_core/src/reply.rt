@@ -8,7 +8,7 @@ use lang_core::Lang;
 use std::alloc::{AllocError, Global};
 
 /// The answer of a lookup, lent from the catalogue.
-#[derive(Drop)]
+#[derive(Debug, Drop)]
 pub enum LentReply<'a> {
     /// The language found, with its label.
     Matched(&'a Lang, &'a Label),
@@ -18,7 +18,7 @@ pub enum LentReply<'a> {
 }
 
 /// The answer of a lookup.
-#[derive(Drop)]
+#[derive(Debug, Drop)]
 pub enum Reply {
     /// The language found, with its label.
     Matched(Lang, Label),

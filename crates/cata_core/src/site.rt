@@ -11,7 +11,7 @@ ghost use Rattle.cata_core.specs.Last.{last_of, IsLast};
 use crate::cata_fault::CataFault;
 use crate::catalogue::Catalogue;
 use crate::delta::{Delta, news};
-use crate::last::greatest;
+use crate::last::{greater, greatest};
 use crate::summary::Summary;
 use cell_core::{Cell, Label, MessageId, SiteName, Stamp};
 use lang_core::Lang;
@@ -19,7 +19,7 @@ use std::alloc::{AllocError, Global};
 use std::marker::Model;
 
 /// A catalogue with a name, which stamps its own edits and takes those of others.
-#[derive(Drop)]
+#[derive(Debug, Drop)]
 pub struct Site {
     own_name: SiteName,
     catalogue: Catalogue,
@@ -167,31 +167,51 @@ impl Site {
         if self.own_name != addressee {
             return Err(CataFault::NotForMe { addressee });
         }
-        self.merge(alloc, delta.cells())
+        self.merge(alloc, delta.cells(), greatest(delta.cells()))
     }
 
-    /// Joins the cells of the catalogue.
-    pub(crate) fn merge(&mut self, alloc: Global, other: &Catalogue) -> Result<(), CataFault>
+    /// Joins the cells of the catalogue, whose greatest stamp is this.
+    pub(crate) fn merge(
+        &mut self,
+        alloc: Global,
+        other: &Catalogue,
+        last: Option<Stamp>,
+    ) -> Result<(), CataFault>
+        requires { last ≡ last_of other.now }
         ensures ok { OnOk result (self.new ≡ record { name = self.old.name; cells = joined self.old.cells other.now }) }
         ensures agree { OnOk result (Agree self.old.cells other.now) }
         ensures fault { IfErr result (IsRefusal self.old.cells other.now) }
         ensures left { IfErr result (IsLeftSite self.old self.new other.now) }
     {
         let result = self.catalogue.merge(alloc, other);
-        // Cells may have come in although memory ran out.
-        self.greatest = greatest(&self.catalogue);
+        self.greatest = if result.is_ok() {
+            greater(self.greatest, last)
+        } else {
+            // Cells may have come in although memory ran out.
+            greatest(&self.catalogue)
+        };
         result
     }
 
-    /// Joins the cells of the catalogue, which agrees.
-    pub(crate) fn join(&mut self, alloc: Global, other: &Catalogue) -> Result<(), AllocError>
-        requires { Agree self.old.cells other.now }
+    /// Joins the cells of the catalogue, which agrees, and whose greatest stamp is this.
+    pub(crate) fn join(
+        &mut self,
+        alloc: Global,
+        other: &Catalogue,
+        last: Option<Stamp>,
+    ) -> Result<(), AllocError>
+        requires agree { Agree self.old.cells other.now }
+        requires last { last ≡ last_of other.now }
         ensures ok { OnOk result (self.new ≡ record { name = self.old.name; cells = joined self.old.cells other.now }) }
         ensures name { self.new.name ≡ self.old.name }
         ensures err { OnErr result (Between self.old.cells self.new.cells other.now) }
     {
         let result = self.catalogue.join(alloc, other);
-        self.greatest = greatest(&self.catalogue);
+        self.greatest = if result.is_ok() {
+            greater(self.greatest, last)
+        } else {
+            greatest(&self.catalogue)
+        };
         result
     }
 

@@ -14,7 +14,7 @@ use std::cmp::Ordering;
 use std::marker::Model;
 
 /// A message in a language, with the stamp that was told of it.
-#[derive(Drop)]
+#[derive(Debug, Drop)]
 pub(crate) struct Told {
     pub(crate) id: MessageId,
     pub(crate) lang: Lang,
@@ -33,7 +33,7 @@ impl Told {
 }
 
 /// The stamps of a site's cells, in strictly rising order of key, and the name of the site, its owner.
-#[derive(Drop)]
+#[derive(Debug, Drop)]
 pub struct Summary {
     owner: SiteName,
     told: Vec<Told>,
@@ -52,7 +52,8 @@ impl Model for Summary {
 }
 
 impl Summary {
-    ghost use Rattle.cata_core.specs.Told.{SummaryState, told_of, IsAboveAll};
+    ghost use Rattle.cata_core.specs.Entries.{IsAboveAll};
+    ghost use Rattle.cata_core.specs.Told.{SummaryState, told_of};
 
     /// The summary of this owner without a key, which grows by this allocator.
     pub fn new(alloc: Global, owner: SiteName) -> Summary
@@ -69,6 +70,16 @@ impl Summary {
         ensures { result ≡ self.now.owner }
     {
         self.owner
+    }
+
+    /// The same keys with their stamps, for another owner.
+    pub fn with_owner(self, owner: SiteName) -> Summary
+        ensures { result ≡ record { owner = owner; stamps = self.stamps } }
+    {
+        Summary {
+            owner,
+            told: self.told,
+        }
     }
 
     /// How many keys there are.

@@ -21,8 +21,8 @@ pub fn sync(alloc: Global, first: &mut Site, second: &mut Site) -> Result<(), Ca
     ensures left_first { IfErr result (IsLeftSite first.old first.new second.old.cells) }
     ensures left_second { IfErr result (IsLeftSite second.old second.new first.old.cells) }
 {
-    first.merge(alloc, second.catalogue())?;
-    match second.join(alloc, first.catalogue()) {
+    first.merge(alloc, second.catalogue(), second.last())?;
+    match second.join(alloc, first.catalogue(), first.last()) {
         Ok(()) => Ok(()),
         Err(_) => Err(CataFault::NoMemory),
     }

@@ -5,7 +5,7 @@ ghost use Rattle.std.specs.Option.{option_map};
 ghost use Rattle.cell_core.specs.Places.{place_of};
 ghost use Rattle.cata_core.specs.Flat.{flat};
 ghost use Rattle.cata_core.specs.Entries.{text_cmp, key_cmp};
-ghost use Rattle.cata_core.specs.Nested.{AllShort, IsCatalogueInMemory};
+ghost use Rattle.cata_core.specs.Nested.{IsCatalogue, IsCountable};
 
 use cell_core::{Cell, Keyed, MessageId};
 use lang_core::Lang;
@@ -13,8 +13,7 @@ use std::cmp::Ordering;
 
 /// How many cells there are.
 pub fn count(map: &Keyed<MessageId, Keyed<Lang, Cell>>) -> u128
-    ensures count { result ≡ length (flat map.now) }
-    ensures short { AllShort map.now }
+    ensures { result ≡ length (flat map.now) }
 {
     // No map has more entries than a `usize` counts.
     let _messages = map.len();
@@ -27,10 +26,10 @@ pub fn count(map: &Keyed<MessageId, Keyed<Lang, Cell>>) -> u128
 
 /// How many cells have lesser keys.
 pub fn place(map: &Keyed<MessageId, Keyed<Lang, Cell>>, id: &MessageId, lang: &Lang) -> u128
-    requires { IsCatalogueInMemory map.now }
+    requires nested { IsCatalogue map.now }
+    requires fits { IsCountable map.now }
     ensures { result ≡ place_of key_cmp (id.now, lang.now) (flat map.now) }
 {
-    let _messages = map.len();
     let mut total = 0u128;
     for (key, cells) in map.iter() {
         match id.cmp(key) {

@@ -1,4 +1,4 @@
-//! Worked examples, limits, texts of refusals, and each call once with ample memory.
+//! Worked examples, limits, texts of refusals, and each call once. All have ample memory.
 
 mod generic;
 mod growing_maps;
@@ -8,7 +8,5 @@ mod labels;
 mod makers;
 mod message_ids;
 mod refusals;
-mod refused_growths;
-mod refused_map_growths;
 mod site_names;
 mod stamps;

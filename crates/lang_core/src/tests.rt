@@ -1,20 +1,14 @@
-mod copies;
-mod faults;
-mod languages;
+//! Examples from the standards, and what no contract says: texts, and that calls can succeed.
+mod lengths;
 mod matching;
-mod memory;
-mod ranges;
-mod tags;
+mod parsing;
 mod truncations;
+mod values;
 
-use std::alloc::{AllocError, Global};
-
-/// A text of 255 bytes, which begins so.
-fn longest(alloc: Global, first: &str) -> Result<String, AllocError> {
-    let mut text = String::from_str(alloc, first)?;
-    for _ in 0..28 {
-        text.push_str("-aaaaaaaa")?;
-    }
-    text.push_str("-a")?;
-    Ok(text)
+/// The columns of a row, between bars. Those that are not there are empty.
+fn columns(row: &str) -> (&str, &str, &str, &str) {
+    let (first, rest) = row.split_once("|").unwrap_or((row, ""));
+    let (second, rest) = rest.split_once("|").unwrap_or((rest, ""));
+    let (third, fourth) = rest.split_once("|").unwrap_or((rest, ""));
+    (first, second, third, fourth)
 }

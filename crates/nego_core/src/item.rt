@@ -8,7 +8,7 @@ use lang_core::{Range, Tag};
 use std::marker::Model;
 
 /// A range of a priority list with its weight.
-#[derive(Drop)]
+#[derive(Debug, Drop)]
 pub struct Item {
     range: Range,
     weight: u16,

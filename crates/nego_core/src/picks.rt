@@ -5,7 +5,7 @@ use crate::pick::Pick;
 use std::marker::Model;
 
 /// A filter's answer, the best language first.
-#[derive(Drop)]
+#[derive(Debug, Drop)]
 pub struct Picks {
     picks: Vec<Pick>,
 }

@@ -21,6 +21,7 @@ use crate::scheme::Scheme;
 use crate::turn::Turn;
 use lang_core::{Lang, Tag};
 use std::alloc::Global;
+use std::fmt;
 use std::marker::Model;
 
 /// Ranges with weights, in the order in which they were written (RFC 4647 section 2.3).
@@ -186,5 +187,12 @@ impl PriorityList {
             Some(tag) => self.decision(scheme, tag),
             None => None,
         }
+    }
+}
+
+impl fmt::Debug for PriorityList {
+    /// Lists the items.
+    fn fmt<W: fmt::Write>(&self, f: &mut fmt::Formatter<W>) -> fmt::Result {
+        f.debug_list().entries(self.items()).finish()
     }
 }

@@ -6,7 +6,6 @@ mod fields;
 mod filtering;
 mod headers;
 mod held;
+mod long_lists;
 mod looking_up;
-mod memory;
-mod ranges;
 mod reading;

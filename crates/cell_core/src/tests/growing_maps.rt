@@ -2,15 +2,15 @@
 
 ghost use Rattle.std.proofs.lemmas.Map.Lookups.{exact_unsigned};
 
-use super::makers::{copy, deleted, join, labelled, put};
+use super::makers::{copy, deleted, joined, labelled, put};
 use crate::{Cell, Join, Key, Keyed, SiteName, Stamp};
 use std::alloc::{AllocError, Global};
 use std::process::Abort;
 
 /// A number as a key.
 #[derive(Clone, Copy, Debug, PartialEq, Eq, PartialOrd, Ord)]
-pub struct Number {
-    pub value: u64,
+struct Number {
+    value: u64,
 }
 
 impl Key for Number {
@@ -21,15 +21,15 @@ impl Key for Number {
     }
 }
 
-pub type Numbers = Keyed<Number, Stamp>;
+type Numbers = Keyed<Number, Stamp>;
 
 /// The key at a place, where keys go from the first one on in steps.
-pub fn nth_key(first: u64, step: u64, place: u64) -> Number {
+fn nth_key(first: u64, step: u64, place: u64) -> Number {
     let value = first.wrapping_add(place.wrapping_mul(step));
     Number { value }
 }
 
-pub fn stamp(time: u64) -> Stamp {
+fn stamp(time: u64) -> Stamp {
     Stamp {
         time,
         site: SiteName::of_number(1),
@@ -47,7 +47,7 @@ fn every(rt: &impl Abort, alloc: Global, first: u64, step: u64, count: u64, time
 }
 
 /// The walk meets just the keys from the first one on in steps, and finds each.
-pub fn assert_every(rt: &impl Abort, map: &Numbers, first: u64, step: u64, count: u64) {
+fn assert_every(rt: &impl Abort, map: &Numbers, first: u64, step: u64, count: u64) {
     assert_eq!(rt; map.len() as u64, count);
     for ((key, value), place) in map.iter().zip(0..count) {
         assert_eq!(rt; *key, nth_key(first, step, place));
@@ -99,16 +99,22 @@ fn mixed_keys(rt: HostRuntime) {
     assert_eq!(rt; time_of(&map, 617), Some(1001));
 }
 
+/// Gives a held key this time.
+fn change(map: &mut Numbers, value: u64, time: u64) {
+    if let Some(held) = map.get_mut(&Number { value }) {
+        *held = stamp(time);
+    }
+}
+
 #[test]
 fn changed_in_place(rt: HostRuntime) {
     let mut map = every(&rt, rt.alloc(), 0, 2, 500, 1);
-    if let Some(value) = map.get_mut(&Number { value: 700 }) {
-        *value = stamp(9);
-    }
+    change(&mut map, 700, 9);
+    change(&mut map, 701, 9);
+    assert_every(&rt, &map, 0, 2, 500);
     assert_eq!(rt; time_of(&map, 698), Some(1));
     assert_eq!(rt; time_of(&map, 700), Some(9));
     assert_eq!(rt; time_of(&map, 702), Some(1));
-    assert_every(&rt, &map, 0, 2, 500);
 }
 
 /// The even keys at time 1 are joined with the multiples of three at time 2.
@@ -121,11 +127,16 @@ fn assert_joined_at(rt: &impl Abort, map: &Numbers, value: u64) {
     assert_eq!(rt; time_of(map, value), time, "key {value}");
 }
 
+/// The join of two maps.
+fn both(rt: &impl Abort, alloc: Global, own: Numbers, other: Numbers) -> Numbers {
+    joined(rt, alloc, own, &other)
+}
+
 #[test]
 fn interleaved_joins(rt: HostRuntime) {
-    let mut map = every(&rt, rt.alloc(), 0, 2, 900, 1);
-    let other = every(&rt, rt.alloc(), 0, 3, 600, 2);
-    join(&rt, rt.alloc(), &mut map, &other);
+    let even = every(&rt, rt.alloc(), 0, 2, 900, 1);
+    let thirds = every(&rt, rt.alloc(), 0, 3, 600, 2);
+    let map = both(&rt, rt.alloc(), even, thirds);
     // Of each six in a row, two are in neither.
     assert_eq!(rt; map.len(), 1200);
     for value in 0..1800 {
@@ -135,18 +146,16 @@ fn interleaved_joins(rt: HostRuntime) {
 
 #[test]
 fn joins_of_apart_ranges(rt: HostRuntime) {
-    let mut low = every(&rt, rt.alloc(), 0, 1, 600, 1);
+    let low = every(&rt, rt.alloc(), 0, 1, 600, 1);
     let high = every(&rt, rt.alloc(), 600, 1, 600, 1);
-    join(&rt, rt.alloc(), &mut low, &high);
-    assert_every(&rt, &low, 0, 1, 1200);
+    assert_every(&rt, &both(&rt, rt.alloc(), low, high), 0, 1, 1200);
 }
 
 #[test]
 fn joins_of_apart_ranges_the_other_way_round(rt: HostRuntime) {
     let low = every(&rt, rt.alloc(), 0, 1, 600, 1);
-    let mut high = every(&rt, rt.alloc(), 600, 1, 600, 1);
-    join(&rt, rt.alloc(), &mut high, &low);
-    assert_every(&rt, &high, 0, 1, 1200);
+    let high = every(&rt, rt.alloc(), 600, 1, 600, 1);
+    assert_every(&rt, &both(&rt, rt.alloc(), high, low), 0, 1, 1200);
 }
 
 #[test]
@@ -157,20 +166,24 @@ fn copies_of_chunks(rt: HostRuntime) {
 
 #[test]
 fn joins_with_the_empty_map(rt: HostRuntime) {
-    let mut empty: Numbers = Keyed::new(rt.alloc());
-    let mut map = every(&rt, rt.alloc(), 5, 3, 700, 1);
-    join(&rt, rt.alloc(), &mut map, &empty);
+    let map = every(&rt, rt.alloc(), 5, 3, 700, 1);
+    let map = both(&rt, rt.alloc(), map, Keyed::new(rt.alloc()));
+    assert!(rt; !map.is_empty());
     assert_every(&rt, &map, 5, 3, 700);
-    assert!(rt; empty.is_empty() && !map.is_empty());
-    join(&rt, rt.alloc(), &mut empty, &map);
-    assert_every(&rt, &empty, 5, 3, 700);
+}
+
+#[test]
+fn joins_of_the_empty_map(rt: HostRuntime) {
+    let map = every(&rt, rt.alloc(), 5, 3, 700, 1);
+    let map = both(&rt, rt.alloc(), Keyed::new(rt.alloc()), map);
+    assert_every(&rt, &map, 5, 3, 700);
 }
 
 #[test]
 fn few_keys_into_many(rt: HostRuntime) {
-    let mut map = every(&rt, rt.alloc(), 0, 2, 1000, 1);
-    let other = every(&rt, rt.alloc(), 1, 500, 4, 2);
-    join(&rt, rt.alloc(), &mut map, &other);
+    let many = every(&rt, rt.alloc(), 0, 2, 1000, 1);
+    let few = every(&rt, rt.alloc(), 1, 500, 4, 2);
+    let map = both(&rt, rt.alloc(), many, few);
     assert_eq!(rt; map.len(), 1004);
     assert_eq!(rt; time_of(&map, 1), Some(2));
     assert_eq!(rt; time_of(&map, 1501), Some(2));
@@ -192,12 +205,22 @@ fn cells(rt: &impl Abort, alloc: Global, labelled_key: u64) -> Keyed<Number, Cel
     map
 }
 
+/// The deletions clash with a label at this key, whichever is asked.
+fn assert_clash(rt: &impl Abort, alloc: Global, labelled_key: u64) {
+    let deletions = cells(rt, alloc, 300);
+    let other = cells(rt, alloc, labelled_key);
+    assert!(rt; !deletions.agrees(&other) && !other.agrees(&deletions));
+}
+
 #[test]
 fn clashes_at_a_later_key(rt: HostRuntime) {
-    let map = cells(&rt, rt.alloc(), 300);
-    assert!(rt; !map.agrees(&cells(&rt, rt.alloc(), 0)));
-    assert!(rt; !map.agrees(&cells(&rt, rt.alloc(), 1)));
-    assert!(rt; !map.agrees(&cells(&rt, rt.alloc(), 299)));
-    assert!(rt; !cells(&rt, rt.alloc(), 299).agrees(&map));
-    assert!(rt; map.agrees(&cells(&rt, rt.alloc(), 300)));
+    assert_clash(&rt, rt.alloc(), 0);
+    assert_clash(&rt, rt.alloc(), 1);
+    assert_clash(&rt, rt.alloc(), 299);
+}
+
+#[test]
+fn agrees_over_chunks(rt: HostRuntime) {
+    let deletions = cells(&rt, rt.alloc(), 300);
+    assert!(rt; deletions.agrees(&cells(&rt, rt.alloc(), 300)));
 }

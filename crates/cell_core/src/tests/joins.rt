@@ -1,6 +1,6 @@
 //! Cells that agree and join, and lists of them.
 
-use super::makers::{copy, deleted, join, join_of, labelled, stamp};
+use super::makers::{copy, deleted, join_of, joined, labelled, stamp};
 use crate::{Cell, Join, Stamp, agree_all};
 use std::alloc::Global;
 use std::process::Abort;
@@ -22,7 +22,7 @@ fn middle(rt: &impl Abort, alloc: Global) -> Cell {
 
 fn assert_latest(rt: &impl Abort, alloc: Global, first: Cell, second: Cell, third: Cell) {
     let join = join_of(rt, alloc, &[first, second, third]);
-    assert!(rt; join.expect(rt, "memory for the join") == Some(latest(rt)));
+    assert!(rt; join == Some(latest(rt)));
 }
 
 #[test]
@@ -80,20 +80,37 @@ fn joins_three_cells_the_other_way_round(rt: HostRuntime) {
 #[test]
 fn joins_no_items(rt: HostRuntime) {
     let none: [Stamp; 0] = [];
-    let join = join_of(&rt, rt.alloc(), &none);
-    assert!(rt; join.expect(&rt, "memory for the join").is_none());
+    assert!(rt; join_of(&rt, rt.alloc(), &none).is_none());
+}
+
+/// A cell at the time that two sites have in common.
+fn nine(rt: &impl Abort, alloc: Global) -> Cell {
+    labelled(rt, alloc, stamp(rt, 5, "0000000009", 0), "x")
+}
+
+/// The same at the other site, whose name is greater.
+fn ten(rt: &impl Abort, alloc: Global) -> Cell {
+    labelled(rt, alloc, stamp(rt, 5, "0000000010", 0), "y")
 }
 
 #[test]
 fn keeps_the_later_cell(rt: HostRuntime) {
     let alloc = rt.alloc();
-    let mut early = labelled(&rt, alloc, stamp(&rt, 5, "0000000009", 0), "x");
-    let mut late = labelled(&rt, alloc, stamp(&rt, 5, "0000000010", 0), "y");
-    let before = copy(&rt, alloc, &early);
-    join(&rt, alloc, &mut early, &late);
-    assert!(rt; early == late);
-    join(&rt, alloc, &mut late, &before);
-    assert!(rt; early == late && before != late);
+    let join = joined(&rt, alloc, nine(&rt, alloc), &ten(&rt, alloc));
+    assert!(rt; join == ten(&rt, alloc));
+}
+
+#[test]
+fn keeps_its_own_later_cell(rt: HostRuntime) {
+    let alloc = rt.alloc();
+    let join = joined(&rt, alloc, ten(&rt, alloc), &nine(&rt, alloc));
+    assert!(rt; join == ten(&rt, alloc) && join != nine(&rt, alloc));
+}
+
+#[test]
+fn copies_are_equal(rt: HostRuntime) {
+    let cell = nine(&rt, rt.alloc());
+    assert!(rt; copy(&rt, rt.alloc(), &cell) == cell);
 }
 
 #[test]

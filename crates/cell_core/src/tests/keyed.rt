@@ -1,6 +1,6 @@
 //! Maps of cells by language.
 
-use super::makers::{copy, deleted, join, key_copy, labelled, lang, only, put, stamp};
+use super::makers::{copy, deleted, joined, key_copy, labelled, lang, only, put, stamp};
 use crate::{Cell, Join, Keyed};
 use lang_core::Lang;
 use std::alloc::Global;
@@ -31,26 +31,27 @@ fn assert_same(rt: &impl Abort, a: &Keyed<Lang, Cell>, b: &Keyed<Lang, Cell>) {
 
 #[test]
 fn joins_key_by_key(rt: HostRuntime) {
-    let mut map = one(&rt, rt.alloc(), "en", "a");
     let later = two(&rt, rt.alloc());
-    join(&rt, rt.alloc(), &mut map, &later);
-    assert_same(&rt, &map, &later);
+    let join = joined(&rt, rt.alloc(), one(&rt, rt.alloc(), "en", "a"), &later);
+    assert_same(&rt, &join, &later);
 }
 
 #[test]
 fn joins_the_other_way_round(rt: HostRuntime) {
-    let mut map = two(&rt, rt.alloc());
     let early = one(&rt, rt.alloc(), "en", "a");
-    join(&rt, rt.alloc(), &mut map, &early);
-    assert_same(&rt, &map, &two(&rt, rt.alloc()));
+    let join = joined(&rt, rt.alloc(), two(&rt, rt.alloc()), &early);
+    assert_same(&rt, &join, &two(&rt, rt.alloc()));
+}
+
+/// A copy of the map is equal to it.
+fn assert_copied(rt: &impl Abort, alloc: Global, map: &Keyed<Lang, Cell>) {
+    assert_same(rt, &copy(rt, alloc, map), map);
 }
 
 #[test]
 fn copies_are_equal(rt: HostRuntime) {
-    let map = one(&rt, rt.alloc(), "en", "a");
-    assert_same(&rt, &copy(&rt, rt.alloc(), &map), &map);
-    let later = two(&rt, rt.alloc());
-    assert_same(&rt, &copy(&rt, rt.alloc(), &later), &later);
+    assert_copied(&rt, rt.alloc(), &one(&rt, rt.alloc(), "en", "a"));
+    assert_copied(&rt, rt.alloc(), &two(&rt, rt.alloc()));
 }
 
 #[test]
@@ -68,35 +69,52 @@ fn agrees_at_common_keys(rt: HostRuntime) {
     assert!(rt; !a.agrees(&b) && a.agrees(&fr) && fr.agrees(&b));
 }
 
+/// The time of the language's cell.
+fn time_of(map: &Keyed<Lang, Cell>, key: &Lang) -> Option<u64> {
+    map.get(key).map(|cell| cell.stamp().time)
+}
+
 #[test]
-fn finds_what_was_put(rt: HostRuntime) {
+fn puts_a_held_key(rt: HostRuntime) {
     let mut map = two(&rt, rt.alloc());
-    let en = lang(&rt, rt.alloc(), "en");
-    assert!(rt; map.get(&en) == Some(&deleted(stamp(&rt, 7, "0000000001", 0))));
-    let cell = deleted(stamp(&rt, 9, "a", 0));
-    put(&rt, &mut map, lang(&rt, rt.alloc(), "en"), cell);
-    assert!(rt; map.get(&en) == Some(&deleted(stamp(&rt, 9, "a", 0))));
+    let late = deleted(stamp(&rt, 9, "a", 0));
+    put(&rt, &mut map, lang(&rt, rt.alloc(), "en"), late);
+    assert_eq!(rt; time_of(&map, &lang(&rt, rt.alloc(), "en")), Some(9));
+    assert_eq!(rt; time_of(&map, &lang(&rt, rt.alloc(), "fr")), Some(6));
     assert_eq!(rt; map.len(), 2);
+}
+
+/// Gives the language a deletion of this time, where it is held.
+fn delete(rt: &impl Abort, map: &mut Keyed<Lang, Cell>, key: &Lang, time: u64) -> bool {
+    match map.get_mut(key) {
+        Some(cell) => {
+            *cell = deleted(stamp(rt, time, "a", 0));
+            true
+        }
+        None => false,
+    }
 }
 
 #[test]
 fn changes_in_place(rt: HostRuntime) {
     let mut map = two(&rt, rt.alloc());
     let fr = lang(&rt, rt.alloc(), "fr");
-    if let Some(cell) = map.get_mut(&fr) {
-        *cell = deleted(stamp(&rt, 9, "a", 1));
-    }
-    assert!(rt; map.get(&fr) == Some(&deleted(stamp(&rt, 9, "a", 1))));
-    assert!(rt; map.get_mut(&Lang::none()).is_none());
+    assert!(rt; delete(&rt, &mut map, &fr, 9));
+    assert_eq!(rt; time_of(&map, &fr), Some(9));
+    assert!(rt; !delete(&rt, &mut map, &Lang::none(), 9));
+    assert_eq!(rt; time_of(&map, &Lang::none()), None);
+}
+
+fn tag_at(map: &Keyed<Lang, Cell>, place: usize) -> Option<&str> {
+    map.nth(place).map(|entry| entry.0.as_str())
 }
 
 #[test]
-fn walks_in_order_of_keys(rt: HostRuntime) {
+fn stands_in_order_of_keys(rt: HostRuntime) {
     let mut map = two(&rt, rt.alloc());
     put(&rt, &mut map, Lang::none(), deleted(stamp(&rt, 1, "a", 0)));
-    let mut keys = map.iter();
-    for tag in ["@none", "en", "fr"] {
-        assert_eq!(rt; keys.next().map(|entry| entry.0.as_str()), Some(tag));
-    }
-    assert!(rt; keys.next().is_none());
+    assert_eq!(rt; tag_at(&map, 0), Some("@none"));
+    assert_eq!(rt; tag_at(&map, 1), Some("en"));
+    assert_eq!(rt; tag_at(&map, 2), Some("fr"));
+    assert_eq!(rt; tag_at(&map, 3), None);
 }

@@ -1,6 +1,6 @@
 //! Which texts are labels.
 
-use super::makers::label;
+use super::makers;
 use crate::{CellFault, Label};
 use std::alloc::Global;
 use std::process::Abort;
@@ -33,18 +33,23 @@ fn assert_kept(rt: &impl Abort, alloc: Global, texts: Vec<String>) {
     assert!(rt; Label::from_texts(texts).expect(rt, "a label") == label);
 }
 
-fn copied(rt: &impl Abort, alloc: Global, text: &str) -> String {
-    String::from_str(alloc, text).expect(rt, "memory")
-}
-
 /// Two texts.
-fn two(rt: &impl Abort, alloc: Global, first: &str, second: &str) -> Vec<String> {
-    let texts = [copied(rt, alloc, first), copied(rt, alloc, second)];
-    Vec::from_array(alloc, texts).expect(rt, "memory")
+fn two(alloc: Global, first: &str, second: &str) -> Result<Vec<String>, CellFault> {
+    let mut texts = Vec::new(alloc);
+    texts.push(String::from_str(alloc, first)?)?;
+    texts.push(String::from_str(alloc, second)?)?;
+    Ok(texts)
 }
 
-fn label_of(rt: &impl Abort, texts: Vec<String>) -> Label {
+/// The label of two texts.
+fn pair(rt: &impl Abort, alloc: Global, first: &str, second: &str) -> Label {
+    let texts = two(alloc, first, second).expect(rt, "memory");
     Label::from_texts(texts).expect(rt, "a label")
+}
+
+/// One text.
+fn one(rt: &impl Abort, alloc: Global, text: String) -> Vec<String> {
+    Vec::from_array(alloc, [text]).expect(rt, "memory")
 }
 
 #[test]
@@ -75,22 +80,24 @@ fn keeps_64_texts(rt: HostRuntime) {
 #[test]
 fn keeps_texts_of_any_length(rt: HostRuntime) {
     let alloc = rt.alloc();
-    let texts = Vec::from_array(alloc, [copied(&rt, alloc, "")]);
-    assert_kept(&rt, alloc, texts.expect(&rt, "memory"));
-    let texts = Vec::from_array(alloc, [repeated(&rt, alloc, 65_535)]);
-    assert_kept(&rt, alloc, texts.expect(&rt, "memory"));
+    assert_kept(&rt, alloc, one(&rt, alloc, repeated(&rt, alloc, 0)));
+    assert_kept(&rt, alloc, one(&rt, alloc, repeated(&rt, alloc, 65_535)));
 }
 
 #[test]
 fn keeps_any_character(rt: HostRuntime) {
-    let alloc = rt.alloc();
-    assert_kept(&rt, alloc, two(&rt, alloc, "a\nb\0c", ""));
+    let texts = two(rt.alloc(), "a\nb\0c", "").expect(&rt, "memory");
+    assert_kept(&rt, rt.alloc(), texts);
 }
 
 #[test]
 fn counts_the_order(rt: HostRuntime) {
-    let alloc = rt.alloc();
-    let one = label_of(&rt, two(&rt, alloc, "a", "b"));
-    assert!(rt; one != label_of(&rt, two(&rt, alloc, "b", "a")));
-    assert!(rt; one != label(&rt, alloc, "a"));
+    let label = pair(&rt, rt.alloc(), "a", "b");
+    assert!(rt; label != pair(&rt, rt.alloc(), "b", "a"));
+}
+
+#[test]
+fn counts_the_texts(rt: HostRuntime) {
+    let label = pair(&rt, rt.alloc(), "a", "b");
+    assert!(rt; label != makers::label(&rt, rt.alloc(), "a"));
 }

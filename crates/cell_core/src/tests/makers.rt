@@ -2,7 +2,7 @@
 
 use crate::{Cell, Join, Key, Keyed, Label, MessageId, SiteName, Stamp, agree_all, join_all};
 use lang_core::Lang;
-use std::alloc::{AllocError, Global};
+use std::alloc::Global;
 use std::process::Abort;
 
 pub fn name(rt: &impl Abort, text: &str) -> SiteName {
@@ -54,20 +54,17 @@ pub fn copy<J: Join>(rt: &impl Abort, alloc: Global, value: &J) -> J {
     value.copy(alloc).expect(rt, "memory for the copy")
 }
 
-/// Joins a value that has to agree.
-pub fn join<J: Join>(rt: &impl Abort, alloc: Global, own: &mut J, other: &J) {
+/// The join of two values, which have to agree.
+pub fn joined<J: Join>(rt: &impl Abort, alloc: Global, mut own: J, other: &J) -> J {
     assert!(rt; own.agrees(other));
     assert!(rt; own.join(alloc, other).is_ok());
+    own
 }
 
-/// The join of a list, whose items have to agree; want of memory is handed on.
-pub fn join_of<J: Join>(
-    rt: &impl Abort,
-    alloc: Global,
-    items: &[J],
-) -> Result<Option<J>, AllocError> {
+/// The join of a list, whose items have to agree.
+pub fn join_of<J: Join>(rt: &impl Abort, alloc: Global, items: &[J]) -> Option<J> {
     assert!(rt; agree_all(items));
-    join_all(alloc, items)
+    join_all(alloc, items).expect(rt, "memory for the join")
 }
 
 pub fn key_copy<K: Key>(rt: &impl Abort, alloc: Global, key: &K) -> K {

@@ -1,48 +1,57 @@
+//! What lookup tries for a range.
+use super::columns;
 use crate::Range;
 use std::alloc::{AllocError, Global};
-use std::process::Abort;
 use std::test::Fail;
 
-/// The texts that the range is truncated to, with blanks between them.
+/// The texts that the range is truncated to, each after a blank.
 fn listed(alloc: Global, range: &Range) -> Result<String, AllocError> {
     let mut list = String::new(alloc);
     for text in range.truncations() {
-        if !list.is_empty() {
-            list.push_str(" ")?;
-        }
+        list.push_str(" ")?;
         list.push_str(text)?;
     }
     Ok(list)
 }
 
-fn basic(rt: &impl Abort, alloc: Global, text: &str, expected: &str) -> Result<(), Fail> {
-    let range = Range::parse_basic(alloc, text.as_bytes())?;
-    let list = listed(alloc, &range)?;
-    assert!(rt; list.as_str() == expected, "{list}");
-    extended(rt, alloc, text, expected)
-}
+/// Rows of `RANGE|SPECIFICITY|TRUNCATIONS`, the lookup text first. The example of RFC 4647 section
+/// 3.4 is the first.
+const ROWS: &str =
+    "zh-Hant-CN-x-private1-private2|6|zh-hant-cn-x-private1-private2 zh-hant-cn-x-private1 zh-hant-cn zh-hant zh
+zh-a-b-foo|4|zh-a-b-foo zh
+en-x-a-b|4|en-x-a-b en
+i-klingon|2|i-klingon
+x-foo|2|x-foo
+i|1|i
+en-x|2|en-x en
+*|0|*
+zh-*-a-*-foo|3|zh-a-foo zh
+de-*-DE|2|de-de de
+de-*|1|de
+*-CH|1|*";
 
-fn extended(rt: &impl Abort, alloc: Global, text: &str, expected: &str) -> Result<(), Fail> {
-    let range = Range::parse_extended(alloc, text.as_bytes())?;
-    let list = listed(alloc, &range)?;
-    assert!(rt; list.as_str() == expected, "{list}");
+#[test]
+fn rows(rt: HostRuntime) -> Result<(), Fail> {
+    for row in ROWS.lines() {
+        let (text, specificity, expected, _) = columns(row);
+        let range = Range::parse_extended(rt.alloc(), text.as_bytes())?;
+        let list = listed(rt.alloc(), &range)?;
+        assert!(rt; list.as_str().trim() == expected, "{row}: {list}");
+        let named = format!(in rt.alloc(); "{}", range.specificity())?;
+        assert!(rt; named.as_str() == specificity, "{row}: {named}");
+        assert!(rt; expected.starts_with(range.lookup_text()), "{row}");
+    }
     Ok(())
 }
 
-/// The example of RFC 4647 section 3.4, and others.
 #[test]
-fn truncations(rt: HostRuntime) -> Result<(), Fail> {
-    let alloc = rt.alloc();
-    let example = "zh-hant-cn-x-private1-private2 zh-hant-cn-x-private1 zh-hant-cn zh-hant zh";
-    basic(&rt, alloc, "zh-Hant-CN-x-private1-private2", example)?;
-    basic(&rt, alloc, "zh-a-b-foo", "zh-a-b-foo zh")?;
-    basic(&rt, alloc, "en-x-a-b", "en-x-a-b en")?;
-    basic(&rt, alloc, "i-klingon", "i-klingon")?;
-    basic(&rt, alloc, "x-foo", "x-foo")?;
-    basic(&rt, alloc, "i", "i")?;
-    basic(&rt, alloc, "en-x", "en-x en")?;
-    basic(&rt, alloc, "*", "*")?;
-    extended(&rt, alloc, "zh-*-a-*-foo", "zh-a-foo zh")?;
-    extended(&rt, alloc, "de-*-DE", "de-de de")?;
-    extended(&rt, alloc, "*-CH", "*")
+fn subtags(rt: HostRuntime) -> Result<(), Fail> {
+    let range = Range::parse_extended(rt.alloc(), b"zh-*-Hant")?;
+    let mut list = String::new(rt.alloc());
+    for subtag in range.subtags() {
+        list.push_str(subtag)?;
+        list.push_str(" ")?;
+    }
+    assert!(rt; list.as_str() == "zh * hant ");
+    Ok(())
 }

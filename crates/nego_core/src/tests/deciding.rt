@@ -1,65 +1,72 @@
 //! The item that decides a tag.
-use crate::tests::reading::{accept, ranges, tag};
+use crate::tests::reading::{columns, list_of, tag};
 use crate::{PriorityList, Scheme};
 use std::process::Abort;
 use std::test::Fail;
 
-fn is_decided(
+/// Checks rows of `TAG|PLACE WEIGHT`, where nothing after the bar says that no item decides.
+pub fn decides(
     rt: &(impl Abort + AllocGlobal),
     list: &PriorityList,
     scheme: Scheme,
-    text: &str,
-    item: Option<(usize, u16)>,
+    rows: &str,
 ) -> Result<(), Fail> {
-    let tag = tag(rt, text)?;
-    let place = list.item_for(scheme, &tag);
-    let weight = list.weight_for(scheme, &tag);
-    match item {
-        Some(item) => {
-            assert_eq!(rt; place, Some(item.0), "{text}");
-            assert_eq!(rt; weight, Some(item.1), "{text}");
+    for row in rows.lines() {
+        let (text, expected, _, _) = columns(row);
+        let tag = tag(rt, text)?;
+        let mut shown = String::new(rt.alloc());
+        if let Some(place) = list.item_for(scheme, &tag) {
+            shown = format!(in rt.alloc(); "{place}")?;
         }
-        None => {
-            assert_eq!(rt; place, None, "{text}");
-            assert_eq!(rt; weight, None, "{text}");
+        if let Some(weight) = list.weight_for(scheme, &tag) {
+            shown = format!(in rt.alloc(); "{shown} {weight}")?;
         }
+        assert!(rt; shown.as_str() == expected, "{row}: {shown}");
+    }
+    Ok(())
+}
+
+/// Rows of `FIELD|TAG|PLACE WEIGHT`, of both schemes.
+const BY_BOTH: &str = "en;q=0, *;q=0.1, en-GB;q=0.5, en;q=0.5, de-de|EN-US|0 0
+en;q=0, *;q=0.1, en-GB;q=0.5, en;q=0.5, de-de|en-GB-oed|2 500
+en;q=0, *;q=0.1, en-GB;q=0.5, en;q=0.5, de-de|fr|1 100
+en;q=0, *;q=0.1, en-GB;q=0.5, en;q=0.5, de-de|de|1 100
+en;q=0, *;q=0.1, en-GB;q=0.5, en;q=0.5, de-de|de-DE-1996|4 1000
+en;q=0, en;q=0.5|en|0 0
+de, de-deva;q=0.3|den|
+de, de-deva;q=0.3|de-Deva-DE|1 300
+de, de-deva;q=0.3|de-Devanaga|0 1000
+|de|
+ranges: |de|";
+
+/// The same of the extended scheme.
+const BY_EXTENDED: &str = "en, *;q=0.1, de-de|de-Latn-DE|2 1000
+ranges: de-*-DE, *-CH, de-*, *-*-ch|de-DE|0 1000
+ranges: de-*-DE, *-CH, de-*, *-*-ch|de-Latn-DE-1996|0 1000
+ranges: de-*-DE, *-CH, de-*, *-*-ch|de-AT|2 1000
+ranges: de-*-DE, *-CH, de-*, *-*-ch|fr-CH|1 1000
+ranges: de-*-DE, *-CH, de-*, *-*-ch|de-x-DE|2 1000
+ranges: de-*-DE, *-CH, de-*, *-*-ch|fr|";
+
+/// The same of the basic scheme.
+const BY_BASIC: &str = "en, *;q=0.1, de-de|de-Latn-DE|1 100\nranges: de-*-DE, de-*|de-DE|";
+
+fn rows(rt: &(impl Abort + AllocGlobal), scheme: Scheme, rows: &str) -> Result<(), Fail> {
+    for row in rows.lines() {
+        let (field, rest) = row.split_once("|").unwrap_or((row, ""));
+        decides(rt, &list_of(rt, field)?, scheme, rest)?;
     }
     Ok(())
 }
 
 #[test]
-fn by_accept(rt: HostRuntime) -> Result<(), Fail> {
-    let list = accept(&rt, "en;q=0, *;q=0.1, en-GB;q=0.5, en;q=0.5, de-de")?;
-    for scheme in [Scheme::Basic, Scheme::Extended] {
-        is_decided(&rt, &list, scheme, "en", Some((0, 0)))?;
-        is_decided(&rt, &list, scheme, "EN-US", Some((0, 0)))?;
-        is_decided(&rt, &list, scheme, "en-GB-oed", Some((2, 500)))?;
-        is_decided(&rt, &list, scheme, "fr", Some((1, 100)))?;
-        is_decided(&rt, &list, scheme, "de", Some((1, 100)))?;
-    }
-    is_decided(&rt, &list, Scheme::Basic, "de-Latn-DE", Some((1, 100)))?;
-    is_decided(&rt, &list, Scheme::Extended, "de-Latn-DE", Some((4, 1000)))?;
-    let short = accept(&rt, "de, de-deva;q=0.3")?;
-    is_decided(&rt, &short, Scheme::Basic, "den", None)?;
-    is_decided(&rt, &short, Scheme::Basic, "de-Deva-DE", Some((1, 300)))?;
-    is_decided(&rt, &short, Scheme::Basic, "de-Devanaga", Some((0, 1000)))?;
-    is_decided(&rt, &accept(&rt, "")?, Scheme::Basic, "de", None)
+fn by_the_basic_scheme(rt: HostRuntime) -> Result<(), Fail> {
+    rows(&rt, Scheme::Basic, BY_BOTH)?;
+    rows(&rt, Scheme::Basic, BY_BASIC)
 }
 
 #[test]
-fn by_ranges(rt: HostRuntime) -> Result<(), Fail> {
-    let list = ranges(&rt, "de-*-DE, *-CH, de-*, *-*-ch")?;
-    is_decided(&rt, &list, Scheme::Extended, "de-DE", Some((0, 1000)))?;
-    is_decided(
-        &rt,
-        &list,
-        Scheme::Extended,
-        "de-Latn-DE-1996",
-        Some((0, 1000)),
-    )?;
-    is_decided(&rt, &list, Scheme::Extended, "de-AT", Some((2, 1000)))?;
-    is_decided(&rt, &list, Scheme::Extended, "fr-CH", Some((1, 1000)))?;
-    is_decided(&rt, &list, Scheme::Extended, "de-x-DE", Some((2, 1000)))?;
-    is_decided(&rt, &list, Scheme::Extended, "fr", None)?;
-    is_decided(&rt, &list, Scheme::Basic, "de-DE", None)
+fn by_the_extended_scheme(rt: HostRuntime) -> Result<(), Fail> {
+    rows(&rt, Scheme::Extended, BY_BOTH)?;
+    rows(&rt, Scheme::Extended, BY_EXTENDED)
 }

@@ -1,27 +1,41 @@
-use Rattle.std.proofs.Common.{List, sym, ◌∙◌, ap, subst}
-use Rattle.std.specs.Ordering.{is_eq}
-use Rattle.std.specs.FinMap.Entries.{find}
+use Rattle.std.proofs.Common.{◌≡◌, ◌≢◌, List, sym, ◌∙◌, ap, subst}
+use Rattle.std.specs.declared.cmp.Ordering.TheVariants.{Less, Greater}
+use Rattle.std.specs.Ordering.{is_lt, is_eq}
+use Rattle.std.proofs.lemmas.List.{nil_from_length}
+use Rattle.std.specs.FinMap.Entries.{find, is_sorted, below_all}
 use Rattle.cell_core.specs.Maps.{IsMap}
 use Rattle.cata_core.specs.declared.summary.Told.{Told}
 use Rattle.cata_core.specs.Entries.{EntryKey, key_cmp}
-use Rattle.cata_core.specs.Seeking.{IsFrom}
 use Rattle.cata_core.specs.Told.{told_of}
-use Rattle.cata_core.proofs.ToldLists.{first_found, first_absent}
+use Rattle.cata_core.proofs.Basics.{second_part}
+use Rattle.cata_core.proofs.ToldLists.{passed, first_found, first_absent, not_greater_self}
 use Rattle.cata_core.proofs.delta.stamp_at.Goals as goal
 
-pub returns-then-is_eq : goal.returns-then-is_eq
-returns-then-is_eq c =
+pub loop-first-preserved : goal.loop-first-preserved
+loop-first-preserved c =
     let key : EntryKey = (c.args.id.now, c.args.lang.now) in
-    let k : EntryKey = (c.in_ok-first.first.now.id, c.in_ok-first.first.now.lang) in
-    first_found key k c.in_ok-first.first.now.stamp (told_of c.in_ok-first.field-0-1.now) (ap is_eq (sym c.compare.ensures) ∙ sym c.is_eq.ensures ∙ c.if-is_eq.true)
-    ∙ ap (λ (t : List Told). find key_cmp key (told_of t)) (sym c.in_ok-first.ensures.cases.0)
+    let k : EntryKey = (c.in-Some.first.now.id, c.in-Some.first.now.lang) in
+    let h = subst (λ (rest : List Told). IsMap key_cmp (told_of rest) × ((q : EntryKey) → key_cmp (c.args.id.now, c.args.lang.now) q ≢ Greater → find key_cmp q (told_of rest) ≡ find key_cmp q (told_of c.args.told.now))) c.in-Some.ensures.cases.0 c.loop-first.invariant in (
+      second_part (below_all key_cmp k (told_of c.in-Some.more.now)) (is_sorted key_cmp (told_of c.in-Some.more.now)) h.0,
+      λ q from. passed key k c.in-Some.first.now.stamp (told_of c.in-Some.more.now) (ap is_lt (sym c.in-Less.ensures)) q from ∙ h.1 q from,
+    )
 
-pub returns-else-is_eq : goal.returns-else-is_eq
-returns-else-is_eq c =
+pub returns-in-Equal-clause-stamp : goal.returns-in-Equal-clause-stamp
+returns-in-Equal-clause-stamp c =
     let key : EntryKey = (c.args.id.now, c.args.lang.now) in
-    let k : EntryKey = (c.in_ok-first.first.now.id, c.in_ok-first.first.now.lang) in
-    first_absent key k c.in_ok-first.first.now.stamp (told_of c.in_ok-first.field-0-1.now)
-    (subst (λ (t : List Told). IsMap key_cmp (told_of t)) c.in_ok-first.ensures.cases.0 c.requires.sorted)
-    (subst (λ (t : List Told). IsFrom (c.args.id.now, c.args.lang.now) (told_of t)) c.in_ok-first.ensures.cases.0 c.requires.first)
-    (ap is_eq (sym c.compare.ensures) ∙ sym c.is_eq.ensures ∙ c.if-is_eq.false)
-    ∙ ap (λ (t : List Told). find key_cmp key (told_of t)) (sym c.in_ok-first.ensures.cases.0)
+    let k : EntryKey = (c.in-Some.first.now.id, c.in-Some.first.now.lang) in
+    first_found key k c.in-Some.first.now.stamp (told_of c.in-Some.more.now) (ap is_eq (sym c.in-Equal.ensures))
+    ∙ ap (λ (rest : List Told). find key_cmp key (told_of rest)) (sym c.in-Some.ensures.cases.0) ∙ c.loop-first.invariant.1 key (not_greater_self key)
+
+pub returns-in-Greater-clause-stamp : goal.returns-in-Greater-clause-stamp
+returns-in-Greater-clause-stamp c =
+    let key : EntryKey = (c.args.id.now, c.args.lang.now) in
+    let k : EntryKey = (c.in-Some.first.now.id, c.in-Some.first.now.lang) in
+    let sorted = subst (λ (rest : List Told). IsMap key_cmp (told_of rest)) c.in-Some.ensures.cases.0 c.loop-first.invariant.0 in
+    first_absent key k c.in-Some.first.now.stamp (told_of c.in-Some.more.now) sorted (λ less. let no : Greater ≡ Less = c.in-Greater.ensures ∙ less in absurd (cc)) (ap is_eq (sym c.in-Greater.ensures))
+    ∙ ap (λ (rest : List Told). find key_cmp key (told_of rest)) (sym c.in-Some.ensures.cases.0) ∙ c.loop-first.invariant.1 key (not_greater_self key)
+
+pub returns-clause-stamp : goal.returns-clause-stamp
+returns-clause-stamp c =
+    let key : EntryKey = (c.args.id.now, c.args.lang.now) in
+    ap (λ (rest : List Told). find key_cmp key (told_of rest)) (sym (nil_from_length c.loop-first.rest.now c.in_default.ensures.cases)) ∙ c.loop-first.invariant.1 key (not_greater_self key)

@@ -4,8 +4,8 @@ use Rattle.cata_core.specs.Sites.{SiteState}
 use Rattle.cata_core.proofs.JoinTurns.{agrees_with_join, joined_to_join, between_join}
 use Rattle.cata_core.proofs.syncing.sync.Goals as goal
 
-pub join-requires : goal.join-requires
-join-requires c =
+pub join-requires-clause-agree : goal.join-requires-clause-agree
+join-requires-clause-agree c =
     let a = c.args.first.now.cells in
     let b = c.args.second.now.cells in
     let agree = subst (Agree c.args.first.now.cells) c.catalogue.ensures c.in_ok-merge.ensures.agree in

@@ -15,7 +15,7 @@ pub overflow_add-result : goal.overflow_add-result
 overflow_add-result c =
     let key : EntryKey = (c.args.id.now, c.args.lang.now) in
     let h = subst (λ left. IsInFront c.args.map.now left key c.loop-key.total) c.in-Some.ensures.steps c.loop-key.invariant in
-    let fits = in_front_fits c.args.map.now (entries_left c.next.new.self) key c.in-Some.key.now c.in-Some.cells.now c.loop-key.total h c.requires.short (omega arith) in
+    let fits = in_front_fits c.args.map.now (entries_left c.next.new.self) key c.in-Some.key.now c.in-Some.cells.now c.loop-key.total h c.requires.fits in
     omega (arith, fits, c.place_in.ensures, place_of-le text_cmp c.args.lang.now c.in-Some.cells.now)
 
 pub returns-in-Equal : goal.returns-in-Equal
@@ -29,7 +29,7 @@ pub overflow_add-total : goal.overflow_add-total
 overflow_add-total c =
     let key : EntryKey = (c.args.id.now, c.args.lang.now) in
     let h = subst (λ left. IsInFront c.args.map.now left key c.loop-key.total) c.in-Some.ensures.steps c.loop-key.invariant in
-    let fits = in_front_fits c.args.map.now (entries_left c.next.new.self) key c.in-Some.key.now c.in-Some.cells.now c.loop-key.total h c.requires.short (omega arith) in
+    let fits = in_front_fits c.args.map.now (entries_left c.next.new.self) key c.in-Some.key.now c.in-Some.cells.now c.loop-key.total h c.requires.fits in
     omega (arith, fits, c.len.ensures.len)
 
 pub loop-key-preserved : goal.loop-key-preserved

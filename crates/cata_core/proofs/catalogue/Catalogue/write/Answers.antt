@@ -1,28 +1,17 @@
-use Rattle.std.proofs.Common.{sym, ◌∙◌, ap, arith, true, false, ◌+◌}
-use Rattle.cata_core.proofs.Short.{length-bound}
+use Rattle.std.proofs.Common.{◌≡◌, ◌+◌, cond, length, sym, ◌∙◌, ap}
+use Rattle.std.specs.Option.{is_some}
 use Rattle.cata_core.proofs.Written.{length_written}
 use Rattle.cata_core.proofs.catalogue.Catalogue.write.Goals as goal
+use Rattle.cata_core.proofs.catalogue.Catalogue.write.Goals.{then-is_some, else-is_some}
 
-pub overflow_add-self : goal.overflow_add-self
-overflow_add-self c =
-    let more = length_written c.self.inside.map c.write_in.new.map c.self.invariant.nested c.args.self.now c.self.view_is (c.args.id.now, c.args.lang.now) c.args.cell c.cell.result c.cell.ensures c.in_ok-write_in.ensures.ok false c.if-not-held.ensures in
-    let bound = length-bound c.write_in.new.map c.write_in.ensures.kept.short in
-    omega (arith, more, bound, c.self.invariant.counted, c.len-messages.ensures.len, c.len-messages.type_inv)
-
-pub invariant_of-self-then-not-held : goal.invariant_of-self-then-not-held
-invariant_of-self-then-not-held c =
+pub invariant_of-self-2 : goal.invariant_of-self-2
+invariant_of-self-2 c =
+    let more : c.if-is_some.more ≡ cond (is_some c.cell.result) 0 1 = elim c.if-is_some.branch as (λ _. c.if-is_some.more ≡ cond (is_some c.cell.result) 0 1) [
+      | then-is_some w ↦ w.more-is ∙ ap (λ b. cond b 0 1) (sym w.if-is_some.true ∙ c.is_some.ensures)
+      | else-is_some w ↦ w.more-is ∙ ap (λ b. cond b 0 1) (sym w.if-is_some.false ∙ c.is_some.ensures)
+    ] in
     record {
-      nested = c.write_in.ensures.kept.nested;
-      short = c.write_in.ensures.kept.short;
-      counted = ap (λ n. n + 1) c.self.invariant.counted
-          ∙ sym (length_written c.self.inside.map c.write_in.new.map c.self.invariant.nested c.args.self.now c.self.view_is (c.args.id.now, c.args.lang.now) c.args.cell c.cell.result c.cell.ensures c.in_ok-write_in.ensures.ok false c.if-not-held.ensures);
-    }
-
-pub invariant_of-self-else-not-held : goal.invariant_of-self-else-not-held
-invariant_of-self-else-not-held c =
-    record {
-      nested = c.write_in.ensures.kept.nested;
-      short = c.write_in.ensures.kept.short;
-      counted = c.self.invariant.counted
-          ∙ sym (length_written c.self.inside.map c.write_in.new.map c.self.invariant.nested c.args.self.now c.self.view_is (c.args.id.now, c.args.lang.now) c.args.cell c.cell.result c.cell.ensures c.in_ok-write_in.ensures.ok true c.if-not-held.ensures);
+      nested = c.write_in.ensures.nested;
+      counted = c.in_ok-len.ensures ∙ ap (λ n. length c.args.self.now + n) more
+          ∙ sym (length_written c.self.inside.map c.write_in.new.map c.self.invariant.nested c.args.self.now c.self.view_is (c.args.id.now, c.args.lang.now) c.args.cell c.cell.result c.cell.ensures c.in_ok-write_in.ensures.ok);
     }

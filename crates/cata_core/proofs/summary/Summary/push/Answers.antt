@@ -1,8 +1,9 @@
 use Rattle.std.proofs.Common.{sym, ◌∙◌, ap, subst}
 use Rattle.cell_core.specs.Maps.{IsMap}
-use Rattle.cata_core.specs.Entries.{key_cmp}
-use Rattle.cata_core.specs.Told.{SummaryState, told_of, IsAboveAll}
-use Rattle.cata_core.proofs.ToldLists.{told_push, IsMap-behind}
+use Rattle.cata_core.specs.Entries.{key_cmp, IsAboveAll}
+use Rattle.cata_core.specs.Told.{SummaryState, told_of}
+use Rattle.cata_core.proofs.Behind.{IsMap-behind}
+use Rattle.cata_core.proofs.ToldLists.{told_push}
 use Rattle.cata_core.proofs.summary.Summary.push.Goals as goal
 
 pub invariant_of-self-2 : goal.invariant_of-self-2

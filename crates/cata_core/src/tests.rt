@@ -1,0 +1,14 @@
+//! Worked examples, places and order, texts of refusals, and each call once with ample memory.
+
+mod asking;
+mod catalogues;
+mod makers;
+mod refusals;
+mod run_faults;
+mod runs;
+mod shown;
+mod sites;
+mod steps;
+mod summaries;
+mod syncs;
+mod words;
