@@ -50,6 +50,28 @@ fn scattered(turn: u64) -> u64 {
     turn.wrapping_mul(6_364_136_223_846_793_005).wrapping_add(1_442_695_040_888_963_407) >> 20
 }
 
+/// Whether the cells of common keys agree: their stamps differ, or their labels are equal.
+fn agree(own: &[Entry], other: &[Entry]) -> bool {
+    let mut theirs = other.iter().peekable();
+    own.iter().all(|(key, cell)| {
+        while theirs.next_if(|entry| entry.0 < *key).is_some() {}
+        match theirs.next_if(|entry| entry.0 == *key) {
+            Some((_, new)) => cell.stamp != new.stamp || cell.label == new.label,
+            None => true,
+        }
+    })
+}
+
+/// The length of the join of a copy with another map; 0 where the two do not agree.
+fn joined_length(own: &[Entry], other: &[Entry]) -> u64 {
+    let mut copy = own.to_vec();
+    if !agree(&copy, other) {
+        return 0;
+    }
+    join(&mut copy, other);
+    copy.len() as u64
+}
+
 /// Joins the entries of a map with those of another, which are copied where they win or are new.
 fn join(own: &mut Vec<Entry>, other: &[Entry]) {
     let mut joined = Vec::with_capacity(own.len() + other.len());
@@ -132,11 +154,7 @@ pub fn run(work: &str, turns: u64) -> u64 {
             "keyed-get" => get_all(&map, &keys),
             "stamp-order" => compare_all(&stamps),
             "keyed-copy" => own.clone().len() as u64,
-            _ => {
-                let mut copy = own.clone();
-                join(&mut copy, &other);
-                copy.len() as u64
-            }
+            _ => joined_length(&own, &other),
         };
         sum = mixed(sum, found);
     }

@@ -154,8 +154,8 @@ fn stamps_of(alloc: Global) -> Result<Vec<Stamp>, AllocError> {
 
 fn compare_all(stamps: &[Stamp]) -> u64 {
     let mut sum = 0;
-    for (earlier, later) in stamps.iter().zip(stamps.iter().skip(1)) {
-        sum = match earlier.cmp(later) {
+    for at in 1..stamps.len() {
+        sum = match stamps[at - 1].cmp(&stamps[at]) {
             Ordering::Less => mixed(sum, 1),
             Ordering::Equal => mixed(sum, 2),
             Ordering::Greater => mixed(sum, 3),

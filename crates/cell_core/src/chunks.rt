@@ -14,7 +14,7 @@ use crate::pairs::bisect;
 use std::alloc::{AllocError, Global};
 
 /// A chunk that comes to hold so many entries is cut in two.
-pub(crate) const FULL: usize = 128;
+pub(crate) const FULL: usize = 64;
 
 /// The chunk where the key stands, or would go.
 pub(crate) fn chunk_for<K: Key, J>(chunks: &[Vec<(K, J)>], key: &K) -> usize

@@ -23,7 +23,7 @@ use std::marker::Model;
 /// A [`Join::join`] that ends for want of memory leaves each key with its old value, or without one as before, with
 /// the join's value, or with one that stands between them; a repeated join then gives the whole join.
 ///
-/// `get` and `put` search in about log2(n) steps. A `put` of a new key moves at most some hundred entries, and a key
+/// `get` and `put` search in about log2(n) steps. A `put` of a new key moves at most some sixty entries, and a key
 /// above all others goes behind them. A join takes time for the other map and for those parts of this one where the
 /// other's keys fall.
 ///
@@ -34,7 +34,7 @@ use std::marker::Model;
 /// ```
 #[derive(Drop)]
 pub struct Keyed<K: Key, J> {
-    // In chunks of fewer than 128 entries where memory allows, so that a new key moves few entries.
+    // In chunks of fewer than 64 entries where memory allows, so that a new key moves few entries.
     chunks: Vec<Vec<(K, J)>>,
     count: usize,
 }

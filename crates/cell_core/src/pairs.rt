@@ -1,6 +1,6 @@
 //! Entries in rising order of their keys, side by side in memory: the search, the comparison and the join of two runs.
 
-ghost use Rattle.std.specs.Prelude.{◌≡◌, ◌≤◌, ◌↔◌, IfOk, IfErr, OnErr, IsTrue};
+ghost use Rattle.std.specs.Prelude.{◌≡◌, ◌≤◌, ◌↔◌, ◌∷◌, ◌++◌, [], IfOk, IfErr, OnOk, OnErr, IsTrue};
 ghost use Rattle.std.specs.FinMap.Entries.{find};
 ghost use Rattle.cell_core.specs.Maps.{IsMap, AgreeIfBoth, BetweenAtKeys};
 ghost use Rattle.cell_core.specs.Places.{place_of, IsPlace, IsGap};
@@ -98,10 +98,21 @@ pub(crate) fn join_common<K: Key, J: Join>(
             }
             Err(place) => {
                 let pair = (key.copy(alloc)?, value.copy(alloc)?);
-                missing.push((place, pair))?;
+                push_in_room(&mut missing, (place, pair), theirs.len())?;
                 at = place;
             }
         }
     }
     Ok(missing)
+}
+
+/// Puts an item behind the others; the first one makes room for as many as there may be.
+fn push_in_room<T: Drop>(items: &mut Vec<T>, item: T, most: usize) -> Result<(), AllocError>
+    ensures { OnOk result (items.new.items ≡ items.old.items ++ item ∷ []) }
+{
+    if items.is_empty() {
+        items.reserve(most)?;
+    }
+    items.push(item)?;
+    Ok(())
 }
