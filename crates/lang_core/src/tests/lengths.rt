@@ -14,18 +14,20 @@ fn longest(alloc: Global, first: &str) -> Result<String, AllocError> {
     Ok(text)
 }
 
-/// A text that is too long is that, whatever else is wrong with it.
 #[test]
 fn tags(rt: HostRuntime) -> Result<(), Fail> {
     let alloc = rt.alloc();
-    let text = longest(alloc, "x")?;
+    let mut text = longest(alloc, "x")?;
     assert!(rt; shown_tag(alloc, text.as_bytes())? == text);
-    let long = longest(alloc, "_x")?;
-    let found = shown_tag(alloc, long.as_bytes())?;
+    text.push_str("a")?;
+    let found = shown_tag(alloc, text.as_bytes())?;
     assert!(rt; found.as_str() == "tag is over 255 bytes");
+    let broken = longest(alloc, "_x")?;
+    assert!(rt; shown_tag(alloc, broken.as_bytes())? == found);
     Ok(())
 }
 
+/// A text that is too long is that, whatever else is wrong with it.
 #[test]
 fn ranges(rt: HostRuntime) -> Result<(), Fail> {
     let alloc = rt.alloc();

@@ -66,7 +66,7 @@ fn basic(rt: HostRuntime) -> Result<(), Fail> {
 /// Rows of `RANGE|TEXT|ANSWER`, whose texts need be no tags.
 const TEXTS: &str =
     "de|DE-at|true\nde|de-|true\nde|dE|true\nde|De--x|true\nde|deu|false\nde||false\nde|d|false
-de|@none|false\nde|de_AT|false\nde|d\u{e9}|false\nde|-de|false\nde|de |false\n*|@none|true\n*||true";
+de|@none|false\nde|de_AT|false\nde|d\u{e9}|false\nde|-de|false\nde|de |false\n*|@none|true\n*||true\n*|DE-at|true\n*|deu|true\n*|d\u{e9}|true";
 
 #[test]
 fn texts(rt: HostRuntime) -> Result<(), Fail> {

@@ -80,7 +80,7 @@ fn ill_formed_tags(rt: HostRuntime) -> Result<(), Fail> {
 const ROWS: &str = "tag||tag is empty\ntag|en_US|subtag at 0\ntag|-en|subtag at 0\ntag|-|subtag at 0
 tag|@none|subtag at 0\ntag|e n|subtag at 0\ntag|\u{e9}n-US|subtag at 0\ntag|en\0|subtag at 0
 tag|abcdefghi-|subtag at 0\ntag|en--us|subtag at 3\ntag|en-toolongsub|subtag at 3
-tag|en-|subtag at 3\ntag|en-\u{20ac}|subtag at 3\ntag|en-a*|subtag at 3\ntag|en-_--|subtag at 3
+tag|en-|subtag at 3\ntag|en-\u{20ac}|subtag at 3\ntag|en-a*|subtag at 3\ntag|en-U S|subtag at 3\ntag|en-_--|subtag at 3
 lang|@none|@none\nlang|@NONE|subtag at 0\nlang|@none-x|subtag at 0\nlang| @none|subtag at 0
 lang|@|subtag at 0\nlang||tag is empty\nlang|en-x|tag is not well-formed\nlang|DE-at|de-at
 basic|*|*\nbasic|De-CH-1996|de-ch-1996\nbasic|i-klingon|i-klingon\nbasic|x|x

@@ -37,6 +37,9 @@ fn rows(rt: HostRuntime) -> Result<(), Fail> {
         let range = Range::parse_extended(rt.alloc(), text.as_bytes())?;
         let list = listed(rt.alloc(), &range)?;
         assert!(rt; list.as_str().trim() == expected, "{row}: {list}");
+        if let Ok(basic) = Range::parse_basic(rt.alloc(), text.as_bytes()) {
+            assert!(rt; listed(rt.alloc(), &basic)? == list, "{row}");
+        }
         let named = format!(in rt.alloc(); "{}", range.specificity())?;
         assert!(rt; named.as_str() == specificity, "{row}: {named}");
         assert!(rt; expected.starts_with(range.lookup_text()), "{row}");
