@@ -1,26 +1,39 @@
 -- What a catalogue has after a write.
-use Rattle.std.proofs.Common.{arith, ◌≡◌, ℕ, ◌+◌, length, cond, Bool, true, false, Option, Some, None, sym, ap, ◌∙◌, refl}
-use Rattle.std.specs.Option.{is_some, option_copied}
-use Rattle.std.specs.Borrow.{Bor}
+use Rattle.std.proofs.Common.{arith, List, ◌≡◌, ℕ, ◌+◌, length, cond, Bool, Option, Some, None, sym, ap, ◌∙◌, refl}
+use Rattle.std.specs.Prelude.{nat_lt}
+use Rattle.std.proofs.lemmas.Bool.Decides.{nat_tests}
+use Rattle.std.specs.declared.cmp.Ordering.{Ordering}
+use Rattle.std.specs.Cmp.{IsTotalOrder}
+use Rattle.std.specs.Cmp.Lexicographic.{nat_list_cmp_total}
+use Rattle.cell_core.specs.Maps.{IsMap}
+use Rattle.cata_core.proofs.Flat.{find-flat}
+use Rattle.std.specs.Option.{is_some, is_none}
 use Rattle.std.specs.FinMap.Entries.{find, put, length-put}
 use Rattle.cell_core.specs.declared.cell.Cell.{Cell}
-use Rattle.cata_core.specs.Flat.{flat}
-use Rattle.cata_core.specs.Entries.{EntryKey, Entries, key_cmp, key_cmp_total}
-use Rattle.cata_core.specs.Nested.{Nested, IsCatalogue}
+use Rattle.cata_core.specs.Flat.{flat, found_in}
+use Rattle.cata_core.specs.Entries.{EntryKey, Entries, text_cmp, key_cmp, key_cmp_total}
+use Rattle.cata_core.specs.Nested.{Inner, Nested, IsCatalogue}
 use Rattle.cata_core.proofs.NestedCatalogues.{IsMap-catalogue}
 
-copied_some : {X : Type 0} (o : Option (Bor X)) → is_some (option_copied o) ≡ is_some o
-copied_some None = refl
-copied_some (Some x) = refl
+-- what is put grows the map where its key is new
+pub grown : {K J : Type 0} (R : K → K → Ordering) → IsTotalOrder R → (k : K) (v : J) (es : List (K × J)) → IsMap R es → nat_lt (length es) (length (put R k v es)) ≡ is_none (find R k es)
+grown R total k v es m = ap (nat_lt (length es)) (length-put R total k v es m) ∙ more (find R k es)
+  where
+    more : {X : Type 0} (o : Option X) → nat_lt (length es) (cond (is_some o) (length es) (length es + 1)) ≡ is_none o
+    more None = grind (arith, nat_tests)
+    more (Some x) = grind (arith, nat_tests)
 
-counted : (b : Bool) (n : ℕ) → cond b n (n + 1) ≡ n + cond b 0 1
-counted true n = omega arith
-counted false n = refl
+-- a language of a message is new where its key is
+pub new_inside : (m : Nested) → IsCatalogue m → (id lang : List ℕ) (o : Option Inner) → o ≡ find text_cmp id m → is_none (found_in text_cmp lang o) ≡ is_none (find key_cmp (id, lang) (flat m))
+new_inside m n id lang o is = ap is_none (ap (found_in text_cmp lang) is ∙ sym (find-flat text_cmp text_cmp nat_list_cmp_total m n.outer (id, lang)))
 
 -- how many cells there are after a write
-pub length_written : (m new : Nested) → IsCatalogue m → (es : Entries) → flat m ≡ es → (key : EntryKey) (c : Cell) (o : Option (Bor Cell)) → option_copied o ≡ find key_cmp key es → flat new ≡ put key_cmp key c (flat m)
-    → length (flat new) ≡ length es + cond (is_some o) 0 1
-length_written m new n es same key c o found is =
-    ap length is ∙ length-put key_cmp key_cmp_total key c (flat m) (IsMap-catalogue m n)
-    ∙ (λ i. cond (is_some (find key_cmp key (same i))) (length (same i)) (length (same i) + 1))
-    ∙ ap (λ b. cond b (length es) (length es + 1)) (ap is_some (sym found) ∙ copied_some o) ∙ counted (is_some o) (length es)
+pub length_written : (m new : Nested) → IsCatalogue m → (es : Entries) → flat m ≡ es → (key : EntryKey) (c : Cell) (b : Bool) → b ≡ is_none (find key_cmp key (flat m)) → flat new ≡ put key_cmp key c (flat m)
+    → length (flat new) ≡ cond b (length es + 1) (length es)
+length_written m new n es same key c b added is =
+    ap length is ∙ length-put key_cmp key_cmp_total key c (flat m) (IsMap-catalogue m n) ∙ turned (find key_cmp key (flat m))
+    ∙ (λ i. cond (sym added i) (length (same i) + 1) (length (same i)))
+  where
+    turned : {X : Type 0} (o : Option X) → cond (is_some o) (length (flat m)) (length (flat m) + 1) ≡ cond (is_none o) (length (flat m) + 1) (length (flat m))
+    turned None = refl
+    turned (Some x) = refl

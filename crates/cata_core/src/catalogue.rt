@@ -1,7 +1,7 @@
 //! Catalogues: cells by message and language.
 
 ghost use Rattle.std.specs.Prelude.{◌≡◌, ◌+◌, [], ◌∷◌, ◌++◌, None, length, slice_get, OnOk, OnErr, IfOk, IfErr, IfSome, IsOk};
-ghost use Rattle.std.specs.Option.{option_map, option_copied};
+ghost use Rattle.std.specs.Option.{option_map, option_copied, is_none};
 ghost use Rattle.std.specs.Ordering.{is_lt};
 ghost use Rattle.std.specs.FinMap.Entries.{find, put};
 ghost use Rattle.cell_core.specs.Maps.{IsMap};
@@ -292,10 +292,11 @@ impl Catalogue {
         ensures ok { OnOk result (self.new ≡ put key_cmp (id.now, lang.now) cell self.old) }
         ensures err { OnErr result (self.new ≡ self.old) }
     {
-        let more = if self.cell(id, lang).is_some() { 0 } else { 1 };
-        let len = self.len_with(more)?;
-        write_in(&mut self.map, alloc, id, lang, cell)?;
-        self.len = len;
+        let len = self.len_with(1)?;
+        let is_new = write_in(&mut self.map, alloc, id, lang, cell)?;
+        if is_new {
+            self.len = len;
+        }
         Ok(())
     }
 }
@@ -307,23 +308,27 @@ impl fmt::Debug for Catalogue {
     }
 }
 
-/// Gives copies of the keys the cell.
+/// Gives copies of the keys the cell, and says whether they are new.
 fn write_in(
     map: &mut Keyed<MessageId, Keyed<Lang, Cell>>,
     alloc: Global,
     id: &MessageId,
     lang: &Lang,
     cell: Cell,
-) -> Result<(), AllocError>
+) -> Result<bool, AllocError>
     requires { IsCatalogue map.old }
     ensures nested { IsCatalogue map.new }
     ensures ok { OnOk result (flat map.new ≡ put key_cmp (id.now, lang.now) cell (flat map.old)) }
+    ensures new { IfOk result (λ new. new ≡ is_none (find key_cmp (id.now, lang.now) (flat map.old))) }
     ensures err { OnErr result (map.new ≡ map.old) }
 {
     let lang = lang.copy(alloc)?;
     match map.get_mut(id) {
-        Some(cells) => put(cells, lang, cell),
-        None => put_message(map, alloc, id.copy(alloc)?, lang, cell),
+        Some(cells) => put_counted(cells, lang, cell),
+        None => {
+            put_message(map, alloc, id.copy(alloc)?, lang, cell)?;
+            Ok(true)
+        }
     }
 }
 
@@ -370,6 +375,17 @@ fn is_older(mine: &Cell, other: &Cell) -> bool
     ensures { result ≡ is_lt (stamp_cmp mine.now.stamp other.now.stamp) }
 {
     mine.stamp().cmp(&other.stamp()).is_lt()
+}
+
+/// Gives the language the cell, and says whether it is new.
+fn put_counted(cells: &mut Keyed<Lang, Cell>, lang: Lang, cell: Cell) -> Result<bool, AllocError>
+    ensures ok { OnOk result (cells.new ≡ put text_cmp lang cell cells.old) }
+    ensures new { IfOk result (λ new. new ≡ is_none (find text_cmp lang cells.old)) }
+    ensures err { OnErr result (cells.new ≡ cells.old) }
+{
+    let before = cells.len();
+    put(cells, lang, cell)?;
+    Ok(cells.len() > before)
 }
 
 /// Gives the key the value.

@@ -1,17 +1,22 @@
-use Rattle.std.proofs.Common.{◌≡◌, ◌+◌, cond, length, sym, ◌∙◌, ap}
-use Rattle.std.specs.Option.{is_some}
+use Rattle.std.proofs.Common.{length, true, false, sym, ◌∙◌, ap}
+use Rattle.cata_core.specs.Entries.{EntryKey}
 use Rattle.cata_core.proofs.Written.{length_written}
 use Rattle.cata_core.proofs.catalogue.Catalogue.write.Goals as goal
-use Rattle.cata_core.proofs.catalogue.Catalogue.write.Goals.{then-is_some, else-is_some}
 
-pub invariant_of-self-2 : goal.invariant_of-self-2
-invariant_of-self-2 c =
-    let more : c.if-is_some.more ≡ cond (is_some c.cell.result) 0 1 = elim c.if-is_some.branch as (λ _. c.if-is_some.more ≡ cond (is_some c.cell.result) 0 1) [
-      | then-is_some w ↦ w.more-is ∙ ap (λ b. cond b 0 1) (sym w.if-is_some.true ∙ c.is_some.ensures)
-      | else-is_some w ↦ w.more-is ∙ ap (λ b. cond b 0 1) (sym w.if-is_some.false ∙ c.is_some.ensures)
-    ] in
+pub invariant_of-self-then-is_new : goal.invariant_of-self-then-is_new
+invariant_of-self-then-is_new c =
+    let key : EntryKey = (c.args.id.now, c.args.lang.now) in
     record {
       nested = c.write_in.ensures.nested;
-      counted = c.in_ok-len.ensures ∙ ap (λ n. length c.args.self.now + n) more
-          ∙ sym (length_written c.self.inside.map c.write_in.new.map c.self.invariant.nested c.args.self.now c.self.view_is (c.args.id.now, c.args.lang.now) c.args.cell c.cell.result c.cell.ensures c.in_ok-write_in.ensures.ok);
+      counted = c.in_ok-len.ensures
+          ∙ sym (length_written c.self.inside.map c.write_in.new.map c.self.invariant.nested c.args.self.now c.self.view_is key c.args.cell true (sym c.if-is_new.true ∙ c.in_ok-is_new.ensures.new) c.in_ok-is_new.ensures.ok);
+    }
+
+pub invariant_of-self-else-is_new : goal.invariant_of-self-else-is_new
+invariant_of-self-else-is_new c =
+    let key : EntryKey = (c.args.id.now, c.args.lang.now) in
+    record {
+      nested = c.write_in.ensures.nested;
+      counted = c.self.invariant.counted ∙ ap length c.self.view_is
+          ∙ sym (length_written c.self.inside.map c.write_in.new.map c.self.invariant.nested c.args.self.now c.self.view_is key c.args.cell false (sym c.if-is_new.false ∙ c.in_ok-is_new.ensures.new) c.in_ok-is_new.ensures.ok);
     }
