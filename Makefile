@@ -4,7 +4,7 @@ RT ?= rt
 PREFIX ?= /usr/local
 SOURCES := $(shell find crates -name out -prune -o -type f \( -name '*.rt' -o -name '*.antt' \) -print) crates.txt
 
-.PHONY: all demo test bench install clean
+.PHONY: all demo test papers bench bench-documents install clean
 
 all: build/lexicat
 
@@ -17,22 +17,47 @@ build/lexicat: $(SOURCES)
 # Which of the labels that are held does this reader get?
 demo: build/lexicat
 	build/lexicat pick zh-Hant-CN-x-private1-private2 zh-Hant en
+	PATH="$$PWD/build:$$PATH" examples/newsroom/story
 
-# The program that the compiler has to refuse; then every proof from nothing, the edits that the prover has to
-# refuse, the tests and the programs.
+# The program that the compiler has to refuse; every proof from nothing, the edits that the prover has to refuse, the
+# tests and the programs; then what the papers show.
 test:
 	RT='$(RT)' scripts/borrow-check
 	$(RT) ci
+	mkdir -p build
+	cp crates/lexicat/out/lexicat build/lexicat
+	$(MAKE) papers
 
-# Instructions and time beside plain Rust.
-bench:
+# Instructions and time beside plain Rust; large documents where Debian's serde_json is installed.
+bench: build/lexicat
 	cd crates/bench && $(RT) run > /dev/null
 	CARGO_TARGET_DIR=build/plain cargo build --release --offline --quiet --manifest-path bench/plain/Cargo.toml
 	bench/run
+	if [ -d /usr/share/cargo/registry ]; then $(MAKE) bench-documents; fi
+
+# Large documents, and random ones.
+bench-documents: build/lexicat
+	cd crates/bench && $(RT) run > /dev/null
+	cd bench/documents && CARGO_TARGET_DIR=../../build/documents cargo build --release --offline --quiet
+	bench/documents/run
+	bench/documents/rounds
 
 install: build/lexicat
-	mkdir -p $(DESTDIR)$(PREFIX)/bin
-	cp build/lexicat $(DESTDIR)$(PREFIX)/bin/lexicat
+	install -d $(DESTDIR)$(PREFIX)/bin $(DESTDIR)$(PREFIX)/share/man/man1
+	install -d $(DESTDIR)$(PREFIX)/share/bash-completion/completions
+	install -d $(DESTDIR)$(PREFIX)/share/zsh/site-functions $(DESTDIR)$(PREFIX)/share/fish/vendor_completions.d
+	install -m 755 build/lexicat $(DESTDIR)$(PREFIX)/bin/lexicat
+	install -m 644 man/lexicat.1 $(DESTDIR)$(PREFIX)/share/man/man1/lexicat.1
+	install -m 644 completions/lexicat.bash $(DESTDIR)$(PREFIX)/share/bash-completion/completions/lexicat
+	install -m 644 completions/_lexicat $(DESTDIR)$(PREFIX)/share/zsh/site-functions/_lexicat
+	install -m 644 completions/lexicat.fish $(DESTDIR)$(PREFIX)/share/fish/vendor_completions.d/lexicat.fish
+
+# What the papers show, run with the command.
+papers: build/lexicat
+	scripts/completions-check
+	scripts/readme-check
+	scripts/formats-check
+	scripts/newsroom-check
 
 clean:
 	rm -rf build

@@ -1,7 +1,8 @@
 //! Works of known size, which `bench/run` compares with plain Rust.
 //!
 //! `bench WORK TURNS` reads the load of a work from standard input and prints a checksum of what so many turns
-//! found. Without words it runs a small fixed case.
+//! found. `bench round-KIND 1` reads a document and prints what it is written as. Without words the program runs a
+//! small fixed case.
 #![tactic(auto)]
 
 mod asking;
@@ -11,6 +12,7 @@ mod keyed;
 mod makers;
 mod parsing;
 mod playing;
+mod rounds;
 mod sorted;
 mod works;
 
@@ -31,6 +33,18 @@ fn main(rt: HostRuntime) -> io::Result<()> {
         return eprintln!(rt; "the number of turns is no number");
     };
     let load = io::read_to_string(alloc, rt.stdin())?;
+    if let Some(kind) = work.as_str().strip_prefix("round-") {
+        return print_round(&rt, kind, load.as_bytes());
+    }
     let sum = works::run(alloc, work.as_str(), load.as_str(), turns)?;
     println!(rt; "{sum}")
+}
+
+/// Prints what a document is written as, or why it is none.
+fn print_round(rt: &HostRuntime, kind: &str, text: &[u8]) -> io::Result<()> {
+    match rounds::round(rt.alloc(), kind, text) {
+        Ok(Some(doc)) => io::Write::write_all(&mut rt.stdout(), doc.bytes()),
+        Ok(None) => eprintln!(*rt; "what was written is written otherwise when it is read"),
+        Err(fault) => eprintln!(*rt; "{fault}"),
+    }
 }

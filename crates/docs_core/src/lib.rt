@@ -1,19 +1,80 @@
-//! Whole documents over streams: every byte of a source, every byte into a sink.
+//! The product's documents: from bytes to values and back, over streams.
+//!
+//! A document is read from its text a value at a time, so that beside the text and what is made of
+//! it only one row is held: [`scanning`] gives the next value, [`rows`] tells the shapes of rows,
+//! and [`fields`] reads their parts. A document is written a token at a time into one buffer:
+//! [`open_cells`] or [`open_stamps`], then its rows by [`write_cell`] or [`write_stamp`], then
+//! [`close_site`], [`close_delta`] or [`close_summary`].
 //!
 //! [`read_all`] reads a [`Source`] up to its end and gives a [`Doc`]; [`write_out`] writes bytes to
 //! a [`Sink`]. [`Input`] and [`Output`] make a source and a sink of `std`'s `Read` and `Write`. A
 //! refusal is a [`DocFault`], whose number and text are the product's.
 #![tactic(auto)]
 
+pub mod arrays;
+mod asking;
+mod calls;
+mod cell_rows;
 mod doc;
+mod documents;
+mod drafts;
+pub mod entries;
+mod exchange;
+mod exporting;
 mod fault;
+pub mod fields;
+pub mod form;
+pub mod head;
+mod importing;
+mod keys;
+mod lang_map_labels;
+pub mod lang_map_laws;
+mod lang_map_members;
+mod lang_map_rows;
+mod lang_maps;
+mod lang_maps_reading;
+mod lang_maps_writing;
+pub mod laws;
+pub mod lines;
+pub mod migration;
+mod named;
+mod numbers;
+pub mod parts;
+pub mod reading;
+mod replaying;
+pub mod rows;
+pub mod scanning;
+pub mod script;
+mod script_document;
 mod sinks;
 mod sources;
+mod stamp_rows;
+pub mod status;
+pub mod step_fields;
+pub mod steps;
+mod writing;
 
+pub use asking::{Ask, ask_document};
+pub use calls::{
+    delta_document, edit_document, status_document, summary_document, sync_documents, take_document,
+};
 pub use doc::Doc;
-pub use fault::{DocCause, DocFault};
+pub use documents::{write_delta, write_site, write_summary};
+pub use drafts::{close_delta, close_site, close_summary, open_cells, open_stamps};
+pub use exchange::{export_document, import_document};
+pub use fault::{DocCause, DocFault, FieldFault, Spot};
+pub use lang_maps::LangMaps;
+pub use lang_maps_reading::read_langmaps;
+pub use lang_maps_writing::write_langmaps;
+pub use lines::answer_lines;
+pub use numbers::{is_in_range, whole_number};
+pub use reading::{read_delta, read_site, read_summary};
+pub use replaying::replay;
+pub use script::Script;
+pub use script_document::read_script;
 pub use sinks::{Output, Sink, write_out};
 pub use sources::{Input, MOST_BYTES, Source, read_all};
+pub use writing::{WrittenRow, write_cell, write_stamp, write_texts};
 
 #[cfg(test)]
 mod tests;

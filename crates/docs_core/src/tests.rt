@@ -1,6 +1,11 @@
 //! What no contract says: texts, and streams of every kind in action.
 
 mod doc;
+mod documents;
+mod exchange;
+mod lang_maps;
+mod lines;
+mod readers;
 mod reading;
 mod refusals;
 mod writing;

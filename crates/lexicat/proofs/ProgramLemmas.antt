@@ -6,7 +6,8 @@ use Rattle.clap.specs.Kinds.{Kinds, HasKind}
 use Rattle.clap.specs.declared.error.Error.{Error}
 use Rattle.clap.specs.declared.error.kind.ErrorKind.TheVariants.{OutOfMemory}
 use Rattle.clap.specs.declared.parser.matches.ArgMatches.{ArgMatches}
-use Rattle.lexicat.specs.Program.{Does, Ends, MatchesBy, TellsBy}
+use Rattle.lexicat.specs.Endings.{Ends}
+use Rattle.lexicat.specs.Program.{Does, MatchesBy, TellsBy}
 use Rattle.lexicat.specs.Words.{Schemes, lexicat_app}
 
 -- where memory ends before clap is asked
@@ -21,10 +22,10 @@ no_memory schemes are words (Err error) h = record {
 }
 
 -- where clap finds a fault, it is told, or memory ran out
-pub told : {W : Type 0} (contents : W → Option (List ℕ)) (failed : W → Bool) (kinds : Kinds) (met : Option (Text × List Row)) (error : Error) (old new : W) (status : ℕ)
-    → HasKind kinds error → TellsBy contents failed (kind_of error) old new status
-    → Does contents failed kinds met old new status ⊎ Ends contents failed 5 old new status
-told contents failed kinds met error old new status has (inl memory) = inr memory
-told contents failed kinds met error old new status (inl memory) (inr tells) = absurd (tells.0 memory)
-told contents failed [] met error old new status (inr among) (inr tells) = absurd among
-told contents failed (k ∷ ks) met error old new status (inr among) (inr tells) = inl (kind_of error, among, tells.1)
+pub told : {R W : Type 0} (remaining : R → Option (List ℕ)) (broken : R → Bool) (contents : W → Option (List ℕ)) (failed : W → Bool) (kinds : Kinds) (met : Option (Text × List Row)) (error : Error)
+    (r : R) (old new : W) (status : ℕ) → HasKind kinds error → TellsBy contents failed (kind_of error) old new status
+    → Does remaining broken contents failed kinds met r r old new status ⊎ ((r ≡ r) × Ends contents failed 5 old new status)
+told remaining broken contents failed kinds met error r old new status has (inl memory) = inr (refl, memory)
+told remaining broken contents failed kinds met error r old new status (inl memory) (inr tells) = absurd (tells.0 memory)
+told remaining broken contents failed [] met error r old new status (inr among) (inr tells) = absurd among
+told remaining broken contents failed (k ∷ ks) met error r old new status (inr among) (inr tells) = inl (refl, (kind_of error, among, tells.1))

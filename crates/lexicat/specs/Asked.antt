@@ -1,10 +1,16 @@
--- What the command `pick` holds of its words and of its answer.
-use Rattle.std.specs.Prelude.{◌≡◌, Option, map}
+-- What the commands hold of their words, and `pick` of its answer.
+use Rattle.std.specs.Prelude.{◌≡◌, Option, map, option_map}
 use Rattle.clap.specs.Words.{Text}
 use Rattle.lexicat.specs.Pick.{IsPicked, RefusesPick, pick_line}
 use Rattle.lexicat.specs.PickWords.{PickWords}
-use Rattle.lexicat.specs.Program.{pick_status}
+use Rattle.lexicat.specs.Picks.{pick_status}
+use Rattle.lexicat.specs.AskWords.{FilterWords, LookupWords}
+use Rattle.lexicat.specs.EditWords.{DeleteWords, PutWords}
+use Rattle.lexicat.specs.declared.commands.delete.Asked.{Asked as DeleteAsked}
+use Rattle.lexicat.specs.declared.commands.filter.Asked.{Asked as FilterAsked}
+use Rattle.lexicat.specs.declared.commands.lookup.Asked.{Asked as LookupAsked}
 use Rattle.lexicat.specs.declared.commands.pick.Asked.{Asked}
+use Rattle.lexicat.specs.declared.commands.put.Asked.{Asked as PutAsked}
 use Rattle.lexicat.specs.declared.commands.pick.Answer.{Answer}
 use Rattle.lexicat.specs.declared.pick_fault.PickFault.{PickFault}
 
@@ -17,3 +23,15 @@ IsAnswer words answer = (found : Option Text) × IsPicked words.scheme words.ran
 
 abbrev pub RefusesWords : PickWords → PickFault → Type 0
 RefusesWords words = RefusesPick words.scheme words.ranges words.tags
+
+abbrev pub put_asked : PutAsked → PutWords
+put_asked asked = record { now = asked.now; id = asked.id.now; lang = asked.lang.now; texts = map (λ s. s.now) asked.texts.now }
+
+abbrev pub delete_asked : DeleteAsked → DeleteWords
+delete_asked asked = record { now = asked.now; id = asked.id.now; lang = asked.lang.now }
+
+abbrev pub filter_asked : FilterAsked → FilterWords
+filter_asked asked = record { id = asked.id.now; scheme = asked.scheme; field = asked.field.now }
+
+abbrev pub lookup_asked : LookupAsked → LookupWords
+lookup_asked asked = record { id = asked.id.now; scheme = asked.scheme; default = option_map (λ s. s.now) asked.default; field = asked.field.now }

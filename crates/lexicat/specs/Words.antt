@@ -3,7 +3,7 @@ use Rattle.std.specs.Prelude.{ℕ, List, Some, true, codes}
 use Rattle.std.specs.Borrow.{Bor}
 use Rattle.clap.specs.Words.{App, Rule, new_app, new_rule, with_rule, with_subcommand}
 use Rattle.clap.specs.declared.builder.action.ArgAction.TheVariants.{Append}
-use Rattle.clap.specs.declared.builder.value_parser.ValueParser.TheVariants.{Names}
+use Rattle.clap.specs.declared.builder.value_parser.ValueParser.TheVariants.{Names, Unsigned}
 
 -- the words that a scheme may be, where they lie in memory
 abbrev pub Schemes : Type 0
@@ -22,9 +22,85 @@ tags_rule = record (new_rule (codes "tags")) { value_names = 1; required = true;
 abbrev pub pick_app : Schemes → App
 pick_app schemes = with_rule (with_rule (with_rule (new_app (codes "pick")) (scheme_rule schemes)) ranges_rule) tags_rule
 
+-- `--now N`, a number of 64 bits
+abbrev pub now_rule : Rule
+now_rule = record (new_rule (codes "now")) { long = Some (codes "now"); value_names = 1; required = true; parser = Some (Unsigned 0 18446744073709551615) }
+
+abbrev pub site_rule : Rule
+site_rule = record (new_rule (codes "site")) { long = Some (codes "site"); value_names = 1; required = true }
+
+abbrev pub id_rule : Rule
+id_rule = record (new_rule (codes "id")) { long = Some (codes "id"); value_names = 1; required = true }
+
+abbrev pub lang_rule : Rule
+lang_rule = record (new_rule (codes "lang")) { long = Some (codes "lang"); value_names = 1; required = true }
+
+abbrev pub default_rule : Rule
+default_rule = record (new_rule (codes "default")) { long = Some (codes "default"); value_names = 1 }
+
+abbrev pub field_rule : Rule
+field_rule = record (new_rule (codes "field")) { value_names = 1; required = true }
+
+abbrev pub texts_rule : Rule
+texts_rule = record (new_rule (codes "texts")) { value_names = 1; required = true; range = Some (record { start_inclusive = 1; end_inclusive = 18446744073709551615 }); action = Some Append }
+
+-- `new --site NAME`
+abbrev pub new_site_app : App
+new_site_app = with_rule (new_app (codes "new")) site_rule
+
+-- `put --now N --id ID --lang LANG TEXT..`
+abbrev pub put_app : App
+put_app = with_rule (with_rule (with_rule (with_rule (new_app (codes "put")) now_rule) id_rule) lang_rule) texts_rule
+
+-- `delete --now N --id ID --lang LANG`
+abbrev pub delete_app : App
+delete_app = with_rule (with_rule (with_rule (new_app (codes "delete")) now_rule) id_rule) lang_rule
+
+abbrev pub status_app : App
+status_app = new_app (codes "status")
+
+-- `import --now N`
+abbrev pub import_app : App
+import_app = with_rule (new_app (codes "import")) now_rule
+
+abbrev pub export_app : App
+export_app = new_app (codes "export")
+
+-- `filter --id ID [--scheme SCHEME] FIELD`
+abbrev pub filter_app : Schemes → App
+filter_app schemes = with_rule (with_rule (with_rule (new_app (codes "filter")) id_rule) (scheme_rule schemes)) field_rule
+
+-- `lookup --id ID [--scheme SCHEME] [--default LANG] FIELD`
+abbrev pub lookup_app : Schemes → App
+lookup_app schemes = with_rule (with_rule (with_rule (with_rule (new_app (codes "lookup")) id_rule) (scheme_rule schemes)) default_rule) field_rule
+
+abbrev pub summary_app : App
+summary_app = new_app (codes "summary")
+
+abbrev pub delta_app : App
+delta_app = new_app (codes "delta")
+
+abbrev pub take_app : App
+take_app = new_app (codes "take")
+
+abbrev pub sync_app : App
+sync_app = new_app (codes "sync")
+
+abbrev pub replay_app : App
+replay_app = new_app (codes "replay")
+
 -- the words do not begin with the program's name, and one of them names a subcommand
 abbrev pub bare_app : App
 bare_app = record (new_app (codes "lexicat")) { top = record (new_app (codes "lexicat")).top { has_version = true; no_binary_name = true; subcommand_required = true; disable_help_subcommand = true } }
 
+abbrev pub with_site_commands : Schemes → App → App
+with_site_commands schemes app = with_subcommand (with_subcommand (with_subcommand (with_subcommand (with_subcommand app (pick_app schemes).top) new_site_app.top) put_app.top) delete_app.top) status_app.top
+
+abbrev pub with_label_commands : Schemes → App → App
+with_label_commands schemes app = with_subcommand (with_subcommand (with_subcommand (with_subcommand app import_app.top) export_app.top) (filter_app schemes).top) (lookup_app schemes).top
+
+abbrev pub with_exchange_commands : App → App
+with_exchange_commands app = with_subcommand (with_subcommand (with_subcommand (with_subcommand (with_subcommand app summary_app.top) delta_app.top) take_app.top) sync_app.top) replay_app.top
+
 abbrev pub lexicat_app : Schemes → App
-lexicat_app schemes = with_subcommand bare_app (pick_app schemes).top
+lexicat_app schemes = with_exchange_commands (with_label_commands schemes (with_site_commands schemes bare_app))

@@ -1,9 +1,10 @@
 //! What follows clap: the command that was met.
 ghost use Rattle.std.specs.Prelude.{◌≡◌, ◌≤◌, false};
 ghost use Rattle.clap.specs.Words.{subcommand_rows_of};
-ghost use Rattle.lexicat.specs.Program.{ActsBy};
+ghost use Rattle.lexicat.specs.Acts.{ActsBy};
 
-use crate::given::given_under;
+use crate::given::met;
+use crate::verb::Verb;
 use crate::{commands, status};
 use clap::ArgMatches;
 use docs_core::{Sink, Source};
@@ -21,13 +22,26 @@ pub fn act<R: Source, W: Sink, F: Sink>(
     requires reads { R.failed reader.old ≡ false }
     requires writes { W.failed writer.old ≡ false }
     requires tells { F.failed faults.old ≡ false }
-    ensures acts { ActsBy W.contents W.failed (subcommand_rows_of matches.now) writer.old writer.new result }
-    ensures unread { reader.new ≡ reader.old }
+    ensures acts { ActsBy R.remaining R.failed W.contents W.failed (subcommand_rows_of matches.now) reader.old reader.new writer.old writer.new result }
     ensures quiet { result ≤ 1 → faults.new ≡ faults.old }
 {
-    let _ = reader.failed();
-    if let Some(given) = given_under(matches, "pick") {
-        return commands::pick::act(alloc, given, writer, faults);
+    let Some((verb, given)) = met(matches) else {
+        return status::USAGE;
+    };
+    match verb {
+        Verb::Pick => commands::pick::act(alloc, given, writer, faults),
+        Verb::New => commands::new::act(alloc, given, writer, faults),
+        Verb::Put => commands::put::act(alloc, given, reader, writer, faults),
+        Verb::Delete => commands::delete::act(alloc, given, reader, writer, faults),
+        Verb::Status => commands::status::act(alloc, reader, writer, faults),
+        Verb::Import => commands::import::act(alloc, given, reader, writer, faults),
+        Verb::Export => commands::export::act(alloc, reader, writer, faults),
+        Verb::Filter => commands::filter::act(alloc, given, reader, writer, faults),
+        Verb::Lookup => commands::lookup::act(alloc, given, reader, writer, faults),
+        Verb::Summary => commands::summary::act(alloc, reader, writer, faults),
+        Verb::Delta => commands::delta::act(alloc, reader, writer, faults),
+        Verb::Take => commands::take::act(alloc, reader, writer, faults),
+        Verb::Sync => commands::sync::act(alloc, reader, writer, faults),
+        Verb::Replay => commands::replay::act(alloc, reader, writer, faults),
     }
-    status::USAGE
 }

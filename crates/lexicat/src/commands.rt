@@ -1,9 +1,22 @@
 //! The command line: the program with its subcommands, each of which stands in a file of its own.
 ghost use Rattle.std.specs.Prelude.{◌≡◌, IfOk};
 ghost use Rattle.clap.specs.Words.{app_of};
-ghost use Rattle.lexicat.specs.Words.{bare_app, lexicat_app};
+ghost use Rattle.lexicat.specs.Words.{bare_app, lexicat_app, with_site_commands, with_label_commands, with_exchange_commands};
 
+pub mod delete;
+pub mod delta;
+pub mod export;
+pub mod filter;
+pub mod import;
+pub mod lookup;
+pub mod new;
 pub mod pick;
+pub mod put;
+pub mod replay;
+pub mod status;
+pub mod summary;
+pub mod sync;
+pub mod take;
 
 use clap::Command;
 use std::alloc::{AllocError, Global};
@@ -15,7 +28,10 @@ const VERSION: &str = "0.1.0";
 pub fn lexicat<'a>(alloc: Global, schemes: &'a [&'a str]) -> Result<Command<'a>, AllocError>
     ensures { IfOk result (λ c. app_of c ≡ lexicat_app schemes.entry) }
 {
-    bare(alloc)?.subcommand(pick::command(alloc, schemes)?)
+    let bare = bare(alloc)?;
+    let sites = site_commands(alloc, schemes, bare)?;
+    let labels = label_commands(alloc, schemes, sites)?;
+    exchange_commands(alloc, labels)
 }
 
 /// The program without its commands.
@@ -23,10 +39,58 @@ fn bare<'a>(alloc: Global) -> Result<Command<'a>, AllocError>
     ensures { IfOk result (λ c. app_of c ≡ bare_app) }
 {
     Command::new(alloc, "lexicat")
-        .about("Picks languages and keeps labels in many languages")
+        .about(
+            "Keeps labels in many languages at several sites, and picks the one that a reader wants",
+        )
+        .after_help(
+            "It reads standard input and writes standard output. 'lexicat COMMAND --help' has an example of each command.",
+        )
         .version(VERSION)
         .no_binary_name(true)
         .subcommand_required(true)
         .disable_help_subcommand(true)
         .bin_name("lexicat")
+}
+
+/// Adds the commands that pick, and that begin and edit a site.
+fn site_commands<'a>(
+    alloc: Global,
+    schemes: &'a [&'a str],
+    command: Command<'a>,
+) -> Result<Command<'a>, AllocError>
+    ensures { IfOk result (λ c. app_of c ≡ with_site_commands schemes.entry (app_of command.entry)) }
+{
+    command
+        .subcommand(pick::command(alloc, schemes)?)?
+        .subcommand(new::command(alloc)?)?
+        .subcommand(put::command(alloc)?)?
+        .subcommand(delete::command(alloc)?)?
+        .subcommand(status::command(alloc))
+}
+
+/// Adds the commands that bring labels in and out, and that ask for them.
+fn label_commands<'a>(
+    alloc: Global,
+    schemes: &'a [&'a str],
+    command: Command<'a>,
+) -> Result<Command<'a>, AllocError>
+    ensures { IfOk result (λ c. app_of c ≡ with_label_commands schemes.entry (app_of command.entry)) }
+{
+    command
+        .subcommand(import::command(alloc)?)?
+        .subcommand(export::command(alloc))?
+        .subcommand(filter::command(alloc, schemes)?)?
+        .subcommand(lookup::command(alloc, schemes)?)
+}
+
+/// Adds the commands by which sites exchange what they hold, and the one that replays a script.
+fn exchange_commands<'a>(alloc: Global, command: Command<'a>) -> Result<Command<'a>, AllocError>
+    ensures { IfOk result (λ c. app_of c ≡ with_exchange_commands (app_of command.entry)) }
+{
+    command
+        .subcommand(summary::command(alloc))?
+        .subcommand(delta::command(alloc))?
+        .subcommand(take::command(alloc))?
+        .subcommand(sync::command(alloc))?
+        .subcommand(replay::command(alloc))
 }

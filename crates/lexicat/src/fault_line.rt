@@ -1,9 +1,11 @@
 //! The line that tells a refusal, and the status that goes with it. The line takes no memory, and
 //! where its writer fails the rest of it is left out.
-ghost use Rattle.std.specs.Prelude.{◌≡◌, false};
+ghost use Rattle.std.specs.Prelude.{◌≡◌, ◌≤◌, false};
 ghost use Rattle.docs_core.specs.Faults.{number_of};
+ghost use Rattle.lexicat.specs.Refusals as refusals;
 ghost use Rattle.lexicat.specs.Status.{status_of};
 
+use crate::refusal::Refusal;
 use crate::status;
 use docs_core::{DocFault, Sink, write_out};
 use itoa::Buffer;
@@ -61,4 +63,16 @@ pub fn refuse_document<S: Sink>(faults: &mut S, fault: DocFault) -> u8
 {
     tell(faults, fault);
     status::of_refusal(fault.number())
+}
+
+/// Tells a refusal, and gives its status.
+pub fn refuse<S: Sink>(faults: &mut S, refusal: Refusal) -> u8
+    ensures { result ≡ status_of (refusals.number_of refusal) }
+{
+    match refusal {
+        Refusal::Lang(fault) => refuse_words(faults, fault.number(), &fault),
+        Refusal::Field(fault) => refuse_words(faults, fault.number(), &fault),
+        Refusal::Cell(fault) => refuse_words(faults, fault.number(), &fault),
+        Refusal::Document(fault) => refuse_document(faults, fault),
+    }
 }

@@ -1,16 +1,22 @@
 //! What the words give, as the rows of clap's matches have it.
 ghost use Rattle.std.specs.Prelude.{◌≡◌, map, option_map};
+ghost use Rattle.std.specs.Option.{option_copied};
 ghost use Rattle.clap.specs.Words.{all_of, first_of, found_of, rows_of, subcommand_rows_of};
-ghost use Rattle.lexicat.specs.Rows.{rows_under};
+ghost use Rattle.lexicat.specs.Given.{verb_met, GivesNow};
+ghost use Rattle.lexicat.specs.PickWords as spec;
 
+use crate::verb::{Verb, verb_of};
 use clap::ArgMatches;
+use nego_core::Scheme;
 
-/// The matches of the subcommand of this name, where it was used.
-pub fn given_under<'m, 'a>(matches: &'m ArgMatches<'a>, name: &str) -> Option<&'m ArgMatches<'a>>
-    ensures { option_map (λ m. rows_of (found_of m.now)) result
-        ≡ rows_under name.now (subcommand_rows_of matches.now) }
+/// The command that was met, with its matches.
+pub fn met<'m, 'a>(matches: &'m ArgMatches<'a>) -> Option<(Verb, &'m ArgMatches<'a>)>
+    ensures { option_map (λ p. (p.0, rows_of (found_of p.1.now))) result
+        ≡ verb_met (subcommand_rows_of matches.now) }
 {
-    matches.subcommand_matches(name)
+    let (name, given) = matches.subcommand()?;
+    let verb = verb_of(name)?;
+    Some((verb, given))
 }
 
 /// The first text of an argument.
@@ -26,4 +32,21 @@ pub fn texts_of<'m, 'a>(given: &'m ArgMatches<'a>, id: &str) -> Option<&'m [&'a 
         ≡ all_of id.now (rows_of (found_of given.now)) }
 {
     given.get_strs(id)
+}
+
+/// The moment that `--now` gives.
+pub fn now_of(given: &ArgMatches<'_>) -> Option<u64>
+    ensures { GivesNow (rows_of (found_of given.now)) result }
+{
+    given.get_one::<u64>("now")
+}
+
+/// The scheme of a word; where there is none, the basic one.
+pub fn scheme_of(word: Option<&str>) -> Scheme
+    ensures { result ≡ spec.scheme_of (option_copied word.entry) }
+{
+    match word {
+        Some("extended") => Scheme::Extended,
+        _ => Scheme::Basic,
+    }
 }

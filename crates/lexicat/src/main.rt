@@ -2,16 +2,21 @@
 #![tactic(auto)]
 
 mod act;
+mod answer;
 mod arguments;
 mod commands;
 mod fault_line;
 mod given;
+mod input;
 mod laws;
 mod pick;
 mod pick_fault;
 mod printing;
+mod refusal;
 mod run;
 mod status;
+mod verb;
+mod wording;
 
 use docs_core::{Input, Output};
 use run::run;

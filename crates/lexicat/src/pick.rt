@@ -66,7 +66,8 @@ fn looked_up(list: &PriorityList, mut langs: Vec<Lang>) -> Option<Lang>
     }
 }
 
-fn read_ranges(alloc: Global, scheme: Scheme, ranges: &str) -> Result<PriorityList, NegoFault>
+/// The priority list of RANGES, as the scheme reads it.
+pub fn read_ranges(alloc: Global, scheme: Scheme, ranges: &str) -> Result<PriorityList, NegoFault>
     ensures { MatchResult result (ReadsAs scheme ranges.now) (RefusesRanges scheme ranges.now) }
 {
     match scheme {

@@ -25,8 +25,7 @@ pub fn run<R: Source, W: Sink, F: Sink>(
     requires reads { R.failed reader.old ≡ false }
     requires writes { W.failed writer.old ≡ false }
     requires tells { F.failed faults.old ≡ false }
-    ensures runs { RunsBy W.contents W.failed (map string_bytes words.now) writer.old writer.new result }
-    ensures unread { reader.new ≡ reader.old }
+    ensures runs { RunsBy R.remaining R.failed W.contents W.failed (map string_bytes words.now) reader.old reader.new writer.old writer.new result }
     ensures quiet { result ≤ 1 → faults.new ≡ faults.old }
 {
     match matches_of(alloc, words) {

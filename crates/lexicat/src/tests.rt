@@ -1,9 +1,16 @@
 //! What no contract says: worked rows, texts, and streams that fail.
 
+mod documents;
 mod faults;
+mod growths;
 mod harness;
 mod help;
+mod matches;
+mod questions;
+mod refused_documents;
 mod rows;
 mod streams;
+mod texts;
 mod usage;
+mod wording;
 mod words;

@@ -1,16 +1,14 @@
 //! The command `pick`.
 ghost use Rattle.std.specs.Prelude.{◌≡◌, ◌≤◌, false, option_map, IfOk, MatchResult};
-ghost use Rattle.std.specs.Option.{option_copied};
 ghost use Rattle.clap.specs.Words.{app_of, found_of, rows_of};
 ghost use Rattle.clap.specs.declared.builder.command.Command.TheViews.{out-Command};
 ghost use Rattle.lexicat.specs.Words.{pick_app};
 ghost use Rattle.lexicat.specs.PickWords.{pick_words};
-ghost use Rattle.lexicat.specs.PickWords as spec;
 ghost use Rattle.lexicat.specs.Asked.{asked_words, IsAnswer, RefusesWords};
-ghost use Rattle.lexicat.specs.Program.{Picks};
+ghost use Rattle.lexicat.specs.Picks.{Picks};
 
 use crate::fault_line::refuse_words;
-use crate::given::{text_of, texts_of};
+use crate::given::{scheme_of, text_of, texts_of};
 use crate::pick::{line_of, picked};
 use crate::pick_fault::PickFault;
 use crate::printing::print;
@@ -53,16 +51,6 @@ fn asked_of<'m, 'a>(given: &'m ArgMatches<'a>) -> Option<Asked<'m, 'a>>
         ranges,
         tags,
     })
-}
-
-/// The scheme of a word; where there is none, the basic one.
-fn scheme_of(word: Option<&str>) -> Scheme
-    ensures { result ≡ spec.scheme_of (option_copied word.entry) }
-{
-    match word {
-        Some("extended") => Scheme::Extended,
-        _ => Scheme::Basic,
-    }
 }
 
 /// Prints the pick line of what is given, or tells its refusal.

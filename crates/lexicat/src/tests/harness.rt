@@ -5,36 +5,40 @@ use std::alloc::{AllocError, Global};
 use std::io;
 use std::io::{Read, Write};
 
-/// A writer that keeps what it took, or takes nothing.
+/// A writer that keeps what it took, and takes no more than it has room for.
 #[derive(Drop)]
 pub struct Page {
     pub bytes: Vec<u8>,
-    is_full: bool,
+    room: usize,
 }
 
 impl Page {
     pub fn new(alloc: Global) -> Page {
-        Page {
-            bytes: Vec::new(alloc),
-            is_full: false,
-        }
+        Page::with_room(alloc, usize::MAX)
     }
 
     pub fn full(alloc: Global) -> Page {
+        Page::with_room(alloc, 0)
+    }
+
+    /// It takes so many bytes, and then fails.
+    pub fn with_room(alloc: Global, room: usize) -> Page {
         Page {
             bytes: Vec::new(alloc),
-            is_full: true,
+            room,
         }
     }
 }
 
 impl Write for Page {
     fn write(&mut self, buf: &[u8]) -> io::Result<usize> {
-        if self.is_full {
+        let count = buf.len().min(self.room);
+        if count == 0 && !buf.is_empty() {
             return Err(io::Error::from(io::ErrorKind::StorageFull));
         }
-        self.bytes.extend_from_slice(buf)?;
-        Ok(buf.len())
+        self.bytes.extend_from_slice(&buf[..count])?;
+        self.room = self.room.saturating_sub(count);
+        Ok(count)
     }
 
     fn flush(&mut self) -> io::Result<()> {
@@ -42,16 +46,52 @@ impl Write for Page {
     }
 }
 
-/// A reader whose every read fails.
+/// A reader that gives a text, and fails at one of its reads, counted from 0.
 #[derive(Drop)]
-struct Broken {
-    is_read: bool,
+pub struct Tape<'a> {
+    text: &'a str,
+    given: usize,
+    reads: usize,
+    most: usize,
+    fails_at: usize,
 }
 
-impl Read for Broken {
-    fn read(&mut self, _buf: &mut [u8]) -> io::Result<usize> {
-        self.is_read = true;
-        Err(io::Error::from(io::ErrorKind::Other))
+impl<'a> Tape<'a> {
+    /// All of the text, as much of it at a read as there is room for.
+    pub fn of(text: &'a str) -> Tape<'a> {
+        Tape {
+            text,
+            given: 0,
+            reads: 0,
+            most: usize::MAX,
+            fails_at: usize::MAX,
+        }
+    }
+
+    /// The text by pieces of so many bytes, up to the read that fails.
+    pub fn failing(text: &'a str, most: usize, fails_at: usize) -> Tape<'a> {
+        Tape {
+            text,
+            given: 0,
+            reads: 0,
+            most,
+            fails_at,
+        }
+    }
+}
+
+impl Read for Tape<'_> {
+    fn read(&mut self, buf: &mut [u8]) -> io::Result<usize> {
+        if self.reads >= self.fails_at {
+            self.reads = self.reads.saturating_add(1);
+            return Err(io::Error::from(io::ErrorKind::Other));
+        }
+        self.reads = self.reads.saturating_add(1);
+        let left = self.text.as_bytes().get(self.given..).unwrap_or(&[]);
+        let count = left.len().min(buf.len()).min(self.most);
+        buf[..count].copy_from_slice(&left[..count]);
+        self.given = self.given.saturating_add(count);
+        Ok(count)
     }
 }
 
@@ -73,15 +113,16 @@ pub fn words_of(alloc: Global, words: &[&str]) -> Result<Vec<String>, AllocError
     Ok(all)
 }
 
-/// A run over these writers, and a reader whose every read fails.
-pub fn run_into(
+/// A run over these streams.
+pub fn run_over(
     alloc: Global,
     words: &[&str],
+    reader: Tape<'_>,
     writer: Page,
     faults: Page,
 ) -> Result<Ran, AllocError> {
     let words = words_of(alloc, words)?;
-    let mut reader = Broken { is_read: false };
+    let mut reader = reader;
     let mut writer = writer;
     let mut faults = faults;
     let status = run(
@@ -95,8 +136,29 @@ pub fn run_into(
         status,
         output: writer.bytes,
         told: faults.bytes,
-        is_read: reader.is_read,
+        is_read: reader.reads > 0,
     })
+}
+
+/// A run over these writers, and a reader whose every read fails.
+pub fn run_into(
+    alloc: Global,
+    words: &[&str],
+    writer: Page,
+    faults: Page,
+) -> Result<Ran, AllocError> {
+    run_over(alloc, words, Tape::failing("", 0, 0), writer, faults)
+}
+
+/// A run over an input, and writers that take everything.
+pub fn run_on(alloc: Global, words: &[&str], input: &str) -> Result<Ran, AllocError> {
+    run_over(
+        alloc,
+        words,
+        Tape::of(input),
+        Page::new(alloc),
+        Page::new(alloc),
+    )
 }
 
 /// A run over writers that take everything.
@@ -110,4 +172,14 @@ pub fn has_text(bytes: &[u8], text: &str) -> bool {
         Ok(all) => all.contains(text),
         Err(_) => false,
     }
+}
+
+/// Whether a run ended so, having written just this output, and told nothing.
+pub fn is_answered(ran: &Ran, status: u8, output: &str) -> bool {
+    ran.status == status && ran.output.as_slice() == output.as_bytes() && ran.told.is_empty()
+}
+
+/// Whether a run was refused with just this line, having written no output.
+pub fn is_refused(ran: &Ran, status: u8, line: &str) -> bool {
+    ran.status == status && ran.told.as_slice() == line.as_bytes() && ran.output.is_empty()
 }

@@ -48,3 +48,66 @@ fn failing_writers(rt: HostRuntime) -> Result<(), Fail> {
     }
     Ok(())
 }
+
+/// Each command's help has an example of it.
+#[test]
+fn examples(rt: HostRuntime) -> Result<(), Fail> {
+    let rows: [(&str, &str); 14] = [
+        ("pick", "Example: lexicat pick "),
+        ("new", "Example: lexicat new --site "),
+        ("put", "Example: lexicat put --now 5 --id "),
+        ("delete", "Example: lexicat delete --now 5 --id "),
+        ("status", "Example: lexicat status "),
+        ("import", "| lexicat import --now 5 "),
+        ("export", "Example: lexicat export "),
+        ("filter", "Example: lexicat filter --id "),
+        ("lookup", "Example: lexicat lookup --id "),
+        ("summary", "Example: lexicat summary "),
+        ("delta", "| lexicat delta "),
+        ("take", "| lexicat take "),
+        ("sync", "| lexicat sync "),
+        ("replay", "Example: lexicat replay "),
+    ];
+    for (name, text) in rows {
+        let ran = run_words(rt.alloc(), &[name, "--help"])?;
+        assert_eq!(rt; ran.status, 0, "{name}");
+        assert!(rt; has_text(&ran.output, text), "{name}");
+        assert!(rt; ran.told.is_empty() && !ran.is_read, "{name}");
+    }
+    Ok(())
+}
+
+/// Where document 1 ends, and what `new --site 1` makes, is told.
+#[test]
+fn warnings(rt: HostRuntime) -> Result<(), Fail> {
+    for name in ["import", "delta", "take", "sync"] {
+        let ran = run_words(rt.alloc(), &[name, "--help"])?;
+        assert!(rt;
+            has_text(&ran.output, "Document 1 of the input ends at the first LF"),
+            "{name}"
+        );
+    }
+    let ran = run_words(rt.alloc(), &["new", "--help"])?;
+    assert!(rt;
+        has_text(
+            &ran.output,
+            "The name 1 makes a new site, and not the old site 1, whose name is 0000000001."
+        )
+    );
+    Ok(())
+}
+
+/// A usage fault ends with a hint to the help.
+#[test]
+fn hint(rt: HostRuntime) -> Result<(), Fail> {
+    let rows: [&[&str]; 4] = [&[], &["choose"], &["put", "--now", "5"], &["new", "paris"]];
+    for words in rows {
+        let ran = run_words(rt.alloc(), words)?;
+        assert_eq!(rt; ran.status, 2, "{words:?}");
+        assert!(rt;
+            has_text(&ran.told, "\n\nFor more information, try '--help'.\n"),
+            "{words:?}"
+        );
+    }
+    Ok(())
+}

@@ -40,3 +40,43 @@ fn lone_dash(rt: HostRuntime) -> Result<(), Fail> {
     assert!(rt; ran.told.as_slice() == b"refused 3: subtag at 0\n".as_slice());
     Ok(())
 }
+
+/// Words that the other commands do not take, or lack.
+#[test]
+fn faults_in_the_words_of_documents(rt: HostRuntime) -> Result<(), Fail> {
+    let rows: [&[&str]; 18] = [
+        &["new"],
+        &["new", "--site"],
+        &["new", "--site", "a", "--site", "b"],
+        &["new", "--site", "a", "b"],
+        &["put", "--id", "m", "--lang", "en", "a"],
+        &["put", "--now", "5", "--lang", "en", "a"],
+        &["put", "--now", "5", "--id", "m", "a"],
+        &["put", "--now", "5", "--id", "m", "--lang", "en"],
+        &["put", "--now", "5", "--id", "m", "--lang", "en", "-x"],
+        &["put", "--now", "5", "--id", "-x", "--lang", "en", "a"],
+        &[
+            "delete",
+            "--now",
+            "18446744073709551616",
+            "--id",
+            "m",
+            "--lang",
+            "en",
+        ],
+        &["delete", "--now", "5", "--id", "m", "--lang", "en", "a"],
+        &["import", "--now", "-1"],
+        &["import", "--now", "5", "--now", "5"],
+        &["filter", "--id", "m", "--default", "en", "en"],
+        &["filter", "--id", "m", "--scheme", "other", "en"],
+        &["lookup", "--id", "m"],
+        &["status", "a"],
+    ];
+    for words in rows {
+        let ran = run_words(rt.alloc(), words)?;
+        assert_eq!(rt; ran.status, 2, "{words:?}");
+        assert!(rt; ran.output.is_empty() && !ran.is_read, "{words:?}");
+        assert!(rt; has_text(&ran.told, "--help"), "{words:?}");
+    }
+    Ok(())
+}

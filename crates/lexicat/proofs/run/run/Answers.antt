@@ -5,5 +5,5 @@ pub returns-in-Err-clause-runs : goal.returns-in-Err-clause-runs
 returns-in-Err-clause-runs g c = record {
   app = c.in-Err.ensures.app;
   app_ok = c.in-Err.ensures.app_ok;
-  done = told g.W.Sink.contents g.W.Sink.failed _ _ c.in-Err.error c.args.writer.now c.tell.new.writer c.tell.result c.in-Err.ensures.fails c.tell.ensures.tells;
+  done = told g.R.Source.remaining g.R.Source.failed g.W.Sink.contents g.W.Sink.failed _ _ c.in-Err.error c.args.reader.now c.args.writer.now c.tell.new.writer c.tell.result c.in-Err.ensures.fails c.tell.ensures.tells;
 }

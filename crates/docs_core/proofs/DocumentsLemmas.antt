@@ -1,0 +1,51 @@
+-- Rows that are written one after another.
+use Rattle.std.proofs.Common.{◌≡◌, ◌∙◌, ◌+◌, ◌<◌, ◌++◌, ℕ, zero, suc, List, [], ◌∷◌, codes, map, take, length, refl, ap, sym, append_assoc, add-one, arith}
+use Rattle.std.proofs.lemmas.List.{map-append}
+use Rattle.std.specs.Prelude.{Option, None, Some, slice_get}
+use Rattle.json.specs.Token.{begin_object, begin_array, key, string}
+use Rattle.json.specs.Written.{Written}
+use Rattle.serde_json.specs.Data.{Data}
+use Rattle.cata_core.specs.Entries.{Entries, Entry, EntryKey}
+use Rattle.cell_core.specs.declared.stamp.Stamp.{Stamp}
+use Rattle.docs_core.specs.Documents.{cells_values, entry_value, stamps_values, told_value}
+use Rattle.docs_core.specs.Texts.{Adds, HoldsCells, HoldsStamps, row_tokens, value_tokens}
+use Rattle.docs_core.proofs.TextsLemmas.{row_tokens-push}
+
+HoldsCells-adds : (a b : Written) (rows : List Data) (d : Data) → HoldsCells a rows → Adds a b (value_tokens d) → HoldsCells b (rows ++ d ∷ [])
+HoldsCells-adds a b rows d holds adds = (
+  adds.0 ∙ holds.0,
+  adds.1 ∙ (ap (λ t. t ++ value_tokens d) holds.1 ∙ ap (λ t. begin_object ∷ key (codes "cells") ∷ begin_array ∷ t) (sym (row_tokens-push rows d))),
+)
+
+HoldsStamps-adds : (a b : Written) (owner : List ℕ) (rows : List Data) (d : Data) → HoldsStamps a owner rows → Adds a b (value_tokens d) → HoldsStamps b owner (rows ++ d ∷ [])
+HoldsStamps-adds a b owner rows d holds adds = (
+  adds.0 ∙ holds.0,
+  adds.1 ∙ (ap (λ t. t ++ value_tokens d) holds.1
+      ∙ ap (λ t. begin_object ∷ key (codes "kind") ∷ string (codes "summary") ∷ key (codes "owner") ∷ string owner ∷ key (codes "stamps") ∷ begin_array ∷ t) (sym (row_tokens-push rows d))),
+)
+
+-- one cell more is written, and one less is left
+pub cell_more : (a b : Written) (done left all : Entries) (next : Entries) (e : Entry) → HoldsCells a (cells_values done) → Adds a b (value_tokens (entry_value e))
+    → done ++ left ≡ all → left ≡ e ∷ next
+    → HoldsCells b (cells_values (done ++ e ∷ [])) × ((done ++ e ∷ []) ++ next ≡ all)
+cell_more a b done left all next e holds adds so_far first = (
+  rw (map-append entry_value done (e ∷ [])) (HoldsCells-adds a b (cells_values done) (entry_value e) holds adds),
+  append_assoc done (e ∷ []) next ∙ (ap (λ t. done ++ t) (sym first) ∙ so_far),
+)
+
+taken : {A : Type 0} (xs : List A) (k : ℕ) (x : A) → slice_get xs k ≡ Some x → take (suc k) xs ≡ take k xs ++ x ∷ []
+taken [] k x is = cc
+taken (y ∷ xs) zero x is = cc
+taken (y ∷ xs) (suc k) x is = ap (λ t. y ∷ t) (taken xs k x is)
+
+-- one stamp more is written
+pub stamp_more : (a b : Written) (owner : List ℕ) (stamps : List (EntryKey × Stamp)) (k : ℕ) (t : EntryKey × Stamp) → HoldsStamps a owner (stamps_values (take k stamps))
+    → Adds a b (value_tokens (told_value t)) → slice_get stamps k ≡ Some t → HoldsStamps b owner (stamps_values (take (k + 1) stamps))
+stamp_more a b owner stamps k t holds adds is =
+    rw (add-one, taken stamps k t is, map-append told_value (take k stamps) (t ∷ [])) (HoldsStamps-adds a b owner (stamps_values (take k stamps)) (told_value t) holds adds)
+
+-- there is a stamp at each place
+pub some_at : {A : Type 0} (xs : List A) (k : ℕ) → k < length xs → slice_get xs k ≡ None → ⊥
+some_at [] k h is = omega (arith, h)
+some_at (x ∷ xs) zero h is = cc
+some_at (x ∷ xs) (suc k) h is = some_at xs k (omega (arith, h)) is

@@ -1,0 +1,30 @@
+-- What follows at each end of a call.
+use Rattle.std.proofs.Common.{◌≡◌, List, Bool, true, false}
+use Rattle.std.specs.Prelude.{◌⊎◌, IfErr, IfOk, MatchResult, OnOk, Result, Ok, Err, is_err}
+use Rattle.cata_core.specs.Answers.{AreAnswers, AreHeldAnswers}
+use Rattle.cata_core.specs.Edits.{IsConsistent}
+use Rattle.cata_core.specs.Faulty.{IsFirstFault, IsNoClash, NoDelivers, NoneFaulty}
+use Rattle.cata_core.specs.Taken.{edits_of}
+use Rattle.cata_core.specs.declared.answer.Answer.{Answer}
+use Rattle.cata_core.specs.declared.play_fault.PlayFault.{PlayFault}
+use Rattle.cata_core.specs.declared.play_fault.PlayFault.TheVariants.{NoMemory}
+use Rattle.docs_core.specs.Replays.{IsPlayed, RefusesRun}
+use Rattle.docs_core.specs.Scripts.{ScriptState}
+use Rattle.docs_core.specs.declared.fault.DocFault.{DocFault}
+
+pub played_or_refused : (r : Result (List Answer) PlayFault) (script : ScriptState)
+    → OnOk r (NoneFaulty script.sites script.steps) → IfOk r (AreHeldAnswers script.steps)
+    → IfOk r (λ answers. IsConsistent (edits_of script.steps) → AreAnswers script.steps answers) → IfOk r (λ answers. NoDelivers script.steps → AreAnswers script.steps answers)
+    → IfErr r (λ fault. (fault ≡ NoMemory) ⊎ IsFirstFault script.sites script.steps fault) → IfErr r (λ fault. IsConsistent (edits_of script.steps) → IsNoClash fault)
+    → MatchResult r (IsPlayed script) (RefusesRun script)
+played_or_refused (Ok answers) script sound held consistent undelivered first no_clash = record { sound = sound; held = held; consistent = consistent; undelivered = undelivered }
+played_or_refused (Err fault) script sound held consistent undelivered first no_clash = record { first = first; no_clash = no_clash }
+
+-- at the end of a write
+pub written : (r : Result (Unit {0}) DocFault) (P Q : Type 0) (failed : Bool) → OnOk r P → failed ≡ is_err r → (P → failed ≡ false → Q) → OnOk r Q
+written (Ok x) P Q failed h is more = more h is
+written (Err e) P Q failed h is more = tt
+
+pub not_written : (r : Result (Unit {0}) DocFault) (P Q : DocFault → Type 0) (failed : Bool) → IfErr r P → failed ≡ is_err r → ((e : DocFault) → P e → failed ≡ true → Q e) → IfErr r Q
+not_written (Ok x) P Q failed h is more = tt
+not_written (Err e) P Q failed h is more = more e h is

@@ -1,0 +1,7 @@
+use Rattle.std.proofs.Common.{take}
+use Rattle.docs_core.specs.Documents.{stamps_values}
+use Rattle.docs_core.specs.Texts.{HoldsStamps}
+use Rattle.docs_core.proofs.documents.stamps_draft.Given as goal
+
+abbrev pub invariant-stamps : goal.invariant-stamps
+invariant-stamps l = HoldsStamps l.draft l.fn.summary.owner (stamps_values (take l.place l.fn.summary.stamps))

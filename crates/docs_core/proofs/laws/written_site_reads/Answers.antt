@@ -1,0 +1,5 @@
+use Rattle.docs_core.proofs.RoundTrip.{site_again}
+use Rattle.docs_core.proofs.laws.written_site_reads.Goals as goal
+
+pub returns : goal.returns
+returns c = site_again

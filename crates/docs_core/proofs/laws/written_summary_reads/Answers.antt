@@ -1,0 +1,5 @@
+use Rattle.docs_core.proofs.RoundTrip.{summary_again}
+use Rattle.docs_core.proofs.laws.written_summary_reads.Goals as goal
+
+pub returns : goal.returns
+returns c = summary_again

@@ -1,0 +1,83 @@
+-- What the calls on whole documents answer, and which refusals. Own rules.
+use Rattle.std.specs.Prelude.{◌≡◌, ◌⊎◌, ℕ, List, Option}
+use Rattle.std.specs.FinMap.Entries.{put}
+use Rattle.cell_core.specs.Stamps.{IsNext}
+use Rattle.cell_core.specs.declared.stamp.Stamp.{Stamp}
+use Rattle.cata_core.specs.CataFaults.{IsRefusal}
+use Rattle.cata_core.specs.Deltas.{delta_of, summary_of}
+use Rattle.cata_core.specs.Entries.{Agree, EntryKey, joined, key_cmp}
+use Rattle.cata_core.specs.Last.{last_of}
+use Rattle.cata_core.specs.Sites.{RefusesDelta as NotTaken, RefusesEdit, SiteState}
+use Rattle.cata_core.specs.Told.{SummaryState}
+use Rattle.cata_core.specs.declared.cata_fault.CataFault.{CataFault}
+use Rattle.cata_core.specs.declared.delta.Delta.{Delta}
+use Rattle.docs_core.specs.Documents.{delta_text, site_text, summary_text}
+use Rattle.docs_core.specs.Faults.{of_no_document, of_site}
+use Rattle.docs_core.specs.ReadsAs.{IsOfDocument, ReadsAsDelta, ReadsAsSite, ReadsAsSummary, RefusesDelta, RefusesSite, RefusesSummary}
+use Rattle.docs_core.specs.Status.{status_line}
+use Rattle.docs_core.specs.declared.fault.DocFault.{DocFault}
+
+-- it is the refusal of a site's call
+abbrev pub IsOfSite : (CataFault → Type 0) → DocFault → Type 0
+IsOfSite Refuses fault = (cause : CataFault) × Refuses cause × (fault ≡ of_no_document (of_site cause))
+
+-- ---- edits
+
+-- the site with the next stamp and the label at this key, none where it is deleted
+abbrev pub IsEdited : List ℕ → ℕ → EntryKey → Option (List (List ℕ)) → List ℕ → Type 0
+IsEdited bytes now key label text =
+    (site : SiteState) × (stamp : Stamp) × ReadsAsSite bytes site × IsNext (last_of site.cells) now site.name stamp
+    × (text ≡ site_text (record { name = site.name; cells = put key_cmp key (record { stamp = stamp; label = label }) site.cells }))
+
+abbrev pub RefusesEditing : List ℕ → ℕ → DocFault → Type 0
+RefusesEditing bytes now fault =
+    IsOfDocument 1 (RefusesSite bytes) fault
+    ⊎ ((site : SiteState) × ReadsAsSite bytes site × IsOfSite (RefusesEdit site now) fault)
+
+-- ---- two sites
+
+-- both with the cells of both
+abbrev pub AreSynced : List ℕ → List ℕ → List ℕ → List ℕ → Type 0
+AreSynced a b x y =
+    (first second : SiteState) × ReadsAsSite a first × ReadsAsSite b second × Agree first.cells second.cells
+    × (x ≡ site_text (record { name = first.name; cells = joined first.cells second.cells }))
+    × (y ≡ site_text (record { name = second.name; cells = joined first.cells second.cells }))
+
+abbrev pub RefusesSync : List ℕ → List ℕ → DocFault → Type 0
+RefusesSync a b fault =
+    IsOfDocument 1 (RefusesSite a) fault
+    ⊎ ((first : SiteState) × ReadsAsSite a first × IsOfDocument 2 (RefusesSite b) fault)
+    ⊎ ((first second : SiteState) × ReadsAsSite a first × ReadsAsSite b second × IsOfSite (IsRefusal first.cells second.cells) fault)
+
+-- ---- summaries and deltas
+
+abbrev pub IsSummarised : List ℕ → List ℕ → Type 0
+IsSummarised bytes text = (site : SiteState) × ReadsAsSite bytes site × (text ≡ summary_text (record { owner = site.name; stamps = summary_of site.cells }))
+
+-- what the summary lacks, for its owner
+abbrev pub IsNewsFor : List ℕ → List ℕ → List ℕ → Type 0
+IsNewsFor a b text =
+    (site : SiteState) × (summary : SummaryState) × ReadsAsSite a site × ReadsAsSummary b summary
+    × (text ≡ delta_text (record { addressee = summary.owner; cells = delta_of site.cells summary.stamps }))
+
+abbrev pub RefusesNews : List ℕ → List ℕ → DocFault → Type 0
+RefusesNews a b fault =
+    IsOfDocument 1 (RefusesSite a) fault
+    ⊎ ((site : SiteState) × ReadsAsSite a site × IsOfDocument 2 (RefusesSummary b) fault)
+
+-- the site with the cells of a delta for it
+abbrev pub IsTaken : List ℕ → List ℕ → List ℕ → Type 0
+IsTaken a b text =
+    (site : SiteState) × (delta : Delta) × ReadsAsSite a site × ReadsAsDelta b delta × (site.name ≡ delta.addressee) × Agree site.cells delta.cells
+    × (text ≡ site_text (record { name = site.name; cells = joined site.cells delta.cells }))
+
+abbrev pub RefusesTaking : List ℕ → List ℕ → DocFault → Type 0
+RefusesTaking a b fault =
+    IsOfDocument 1 (RefusesSite a) fault
+    ⊎ ((site : SiteState) × ReadsAsSite a site × IsOfDocument 2 (RefusesDelta b) fault)
+    ⊎ ((site : SiteState) × (delta : Delta) × ReadsAsSite a site × ReadsAsDelta b delta × IsOfSite (NotTaken site delta) fault)
+
+-- ---- the status
+
+abbrev pub IsStatus : List ℕ → List ℕ → Type 0
+IsStatus bytes text = (site : SiteState) × ReadsAsSite bytes site × (text ≡ status_line site)

@@ -1,0 +1,11 @@
+-- Entries that were made, as pairs of a key and what it has.
+use Rattle.cell_core.specs.declared.stamp.Stamp.{Stamp}
+use Rattle.cata_core.specs.Entries.{Entry, EntryKey}
+use Rattle.docs_core.specs.declared.fields.CellEntry.{CellEntry}
+use Rattle.docs_core.specs.declared.fields.StampEntry.{StampEntry}
+
+abbrev pub told_by : StampEntry → EntryKey × Stamp
+told_by e = ((e.id, e.lang), e.stamp)
+
+abbrev pub entry_by : CellEntry → Entry
+entry_by e = ((e.id, e.lang), e.cell)

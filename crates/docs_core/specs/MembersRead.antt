@@ -1,0 +1,49 @@
+-- The members of a document as they are read. Each nests at most 126 deep.
+use Rattle.std.specs.Prelude.{◌≡◌, ◌⊎◌, ◌<◌, ℕ, List, ◌∷◌, Bool, true, false, length, None, Some}
+use Rattle.json.specs.Json.{members, value}
+use Rattle.json.specs.Token.{Token, begin_object, end_object, begin_array, end_array, key, string, number, boolean, null, bad}
+use Rattle.serde_json.specs.Data.{Data, Members, no_members}
+use Rattle.serde_json.specs.Read.{converted, of_json, of_members}
+use Rattle.docs_core.specs.Numbers.{are_in_range}
+use Rattle.docs_core.specs.Reads.{Reads}
+use Rattle.docs_core.specs.declared.fault.DocCause.{DocCause}
+use Rattle.docs_core.specs.declared.fault.DocCause.TheVariants.{NoMemory, NotJson}
+
+-- the next value was read
+pub record ReadsNext (old : List Token) (d : Data) (new : List Token) : Type 0 where
+  pub read : Reads 126 old d new
+  pub left : are_in_range new ≡ true
+  pub shorter : length new < length old
+
+-- there is no next value, or memory ran out
+abbrev pub ReadsNone : List Token → DocCause → Type 0
+ReadsNone old e = (e ≡ NoMemory) ⊎ ((e ≡ NotJson) × (converted of_json (value 126 old) ≡ None))
+
+-- behind its brace `old` is an object of these members, which nest at most this deep, and then `new`
+abbrev pub ReadsMembers : ℕ → List Token → Members → List Token → Type 0
+ReadsMembers depth old ms new = converted (λ ms. of_members ms no_members) (members (value depth) (length old) old) ≡ Some (ms, new)
+
+-- behind its brace `old` is no such object
+abbrev pub ReadsNoMembers : ℕ → List Token → Type 0
+ReadsNoMembers depth old = converted (λ ms. of_members ms no_members) (members (value depth) (length old) old) ≡ None
+
+-- behind its brace `old` is no such object that nothing follows
+abbrev pub IsNotWhole : List Token → Type 0
+IsNotWhole old = ReadsNoMembers 126 old ⊎ ((ms : Members) × (t : Token) × (rest : List Token) × ReadsMembers 126 old ms (t ∷ rest))
+
+-- no object comes first
+abbrev pub NoObject : List Token → Type 0
+NoObject old = (rest : List Token) → old ≡ begin_object ∷ rest → ⊥
+
+-- the token is a value of its own
+abbrev pub is_scalar : Token → Bool
+is_scalar begin_object = false
+is_scalar end_object = false
+is_scalar begin_array = false
+is_scalar end_array = false
+is_scalar (key s) = false
+is_scalar (string s) = true
+is_scalar (number s) = true
+is_scalar (boolean b) = true
+is_scalar null = true
+is_scalar bad = false

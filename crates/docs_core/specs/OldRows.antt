@@ -1,0 +1,81 @@
+-- Rows and scripts of version 1, with sites by their numbers. Own rule.
+use Rattle.std.specs.Prelude.{◌≡◌, ℕ, List, [], ◌∷◌, codes, true, Option, None, Some, map, option_map, option_and_then}
+use Rattle.std.specs.Str.{str_to_ascii_lowercase}
+use Rattle.cell_core.specs.Migration.{OldStamp}
+use Rattle.cata_core.specs.Entries.{EntryKey}
+use Rattle.cata_core.specs.Migration.{OldDelta, OldEntry, OldSite, OldSummary}
+use Rattle.cata_core.specs.OldSteps.{OldStep, OldEdit, migrated_step, migrated_steps}
+use Rattle.serde_json.specs.Data.{Data}
+use Rattle.serde_json.specs.Find.{as_str}
+use Rattle.docs_core.specs.Heads.{own_data, rows_in}
+use Rattle.docs_core.specs.Rows.{items_in, label_in, u32_in, u64_in}
+use Rattle.docs_core.specs.ScriptReads.{sites_in}
+use Rattle.docs_core.specs.Scripts.{ScriptState}
+use Rattle.docs_core.specs.StepFields.{IsStep}
+use Rattle.docs_core.specs.declared.form.Form.TheVariants.{Delta, Script, Site, Summary}
+
+-- the key and the stamp of a row; languages stand in lower case
+abbrev pub old_parts_in : Data → Data → Data → Data → Data → Option (EntryKey × OldStamp)
+old_parts_in i l t s c =
+    option_and_then (λ id. option_and_then (λ language. option_and_then (λ time. option_and_then (λ site. option_map (λ count.
+    ((id, str_to_ascii_lowercase language), record { time = time; site = site; count = count }))
+    (u32_in c)) (u32_in s)) (u64_in t)) (as_str l)) (as_str i)
+
+abbrev pub old_entry_of : List Data → Option OldEntry
+old_entry_of (i ∷ l ∷ t ∷ s ∷ c ∷ b ∷ []) = option_and_then (λ parts. option_map (λ label. (parts.0, record { stamp = parts.1; label = label })) (label_in b)) (old_parts_in i l t s c)
+old_entry_of _ = None
+
+-- a row of a site or a delta
+abbrev pub old_entry_in : Data → Option OldEntry
+old_entry_in d = option_and_then old_entry_of (items_in d)
+
+abbrev pub old_told_of : List Data → Option (EntryKey × OldStamp)
+old_told_of (i ∷ l ∷ t ∷ s ∷ c ∷ []) = old_parts_in i l t s c
+old_told_of _ = None
+
+-- a row of a summary
+abbrev pub old_told_in : Data → Option (EntryKey × OldStamp)
+old_told_in d = option_and_then old_told_of (items_in d)
+
+-- ---- documents that name a site
+
+pub record IsOldSiteDocument (d : Data) (site : OldSite) : Type 0 where
+  pub number : u32_in (own_data Site d) ≡ Some site.number
+  pub cells : map old_entry_in (rows_in Site d) ≡ map Some site.cells
+
+pub record IsOldDeltaDocument (d : Data) (delta : OldDelta) : Type 0 where
+  pub addressee : u32_in (own_data Delta d) ≡ Some delta.addressee
+  pub cells : map old_entry_in (rows_in Delta d) ≡ map Some delta.cells
+
+pub record IsOldSummaryDocument (d : Data) (summary : OldSummary) : Type 0 where
+  pub owner : u32_in (own_data Summary d) ≡ Some summary.owner
+  pub stamps : map old_told_in (rows_in Summary d) ≡ map Some summary.stamps
+
+-- ---- scripts
+
+-- an edit has such a row; the other steps are alike in both versions
+abbrev pub IsOldStepOf : Data → OldStep → Type 0
+IsOldStepOf d (OldEdit site edit) =
+    (word place row : Data) × (items_in d ≡ Some (word ∷ place ∷ row ∷ [])) × (as_str word ≡ Some (codes "edit")) × (u32_in place ≡ Some site) × (old_entry_in row ≡ Some edit)
+IsOldStepOf d step = IsStep true d (migrated_step step)
+
+-- each row is the step at its place
+abbrev pub AreOldStepsOf : List Data → List OldStep → Type 0
+AreOldStepsOf [] [] = Unit {0}
+AreOldStepsOf [] (step ∷ steps) = ⊥
+AreOldStepsOf (d ∷ ds) [] = ⊥
+AreOldStepsOf (d ∷ ds) (step ∷ steps) = IsOldStepOf d step × AreOldStepsOf ds steps
+
+-- how many sites there are, and the steps
+pub record OldScript : Type 0 where
+  pub sites : ℕ
+  pub steps : List OldStep
+
+-- the document of version 1 has these sites and steps
+pub record IsOldScriptDocument (d : Data) (script : OldScript) : Type 0 where
+  pub sites : sites_in (own_data Script d) ≡ Some script.sites
+  pub steps : AreOldStepsOf (rows_in Script d) script.steps
+
+-- the same with the padded names of the sites in the stamps
+abbrev pub migrated_script : OldScript → ScriptState
+migrated_script script = record { sites = script.sites; steps = migrated_steps script.steps }

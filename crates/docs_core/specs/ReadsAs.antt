@@ -1,0 +1,37 @@
+-- What the readers answer on the bytes of a document, and which refusals.
+use Rattle.std.specs.Prelude.{◌≡◌, ℕ, List}
+use Rattle.serde_json.specs.Data.{Data}
+use Rattle.cata_core.specs.declared.delta.Delta.{Delta}
+use Rattle.cata_core.specs.Sites.{SiteState}
+use Rattle.cata_core.specs.Told.{SummaryState}
+use Rattle.docs_core.specs.Checks.{AllPass, AreJson, Check, IsRefusal}
+use Rattle.docs_core.specs.Faults.{of_document}
+use Rattle.docs_core.specs.Named.{IsDeltaDocument, IsSiteDocument, IsSummaryDocument, delta_checks, site_checks, summary_checks}
+use Rattle.docs_core.specs.declared.fault.DocCause.{DocCause}
+use Rattle.docs_core.specs.declared.fault.DocFault.{DocFault}
+
+-- the bytes are a document that passes all tests, and its parts are those of x
+abbrev pub Reads : {X : Type 0} → (Data → List Check) → (Data → X → Type 0) → List ℕ → X → Type 0
+Reads checks Is bytes x = (d : Data) × AreJson bytes d × AllPass (checks d) × Is d x
+
+abbrev pub ReadsAsSite : List ℕ → SiteState → Type 0
+ReadsAsSite = Reads site_checks IsSiteDocument
+
+abbrev pub ReadsAsDelta : List ℕ → Delta → Type 0
+ReadsAsDelta = Reads delta_checks IsDeltaDocument
+
+abbrev pub ReadsAsSummary : List ℕ → SummaryState → Type 0
+ReadsAsSummary = Reads summary_checks IsSummaryDocument
+
+abbrev pub RefusesSite : List ℕ → DocCause → Type 0
+RefusesSite = IsRefusal site_checks
+
+abbrev pub RefusesDelta : List ℕ → DocCause → Type 0
+RefusesDelta = IsRefusal delta_checks
+
+abbrev pub RefusesSummary : List ℕ → DocCause → Type 0
+RefusesSummary = IsRefusal summary_checks
+
+-- it is the refusal of this input document by its reader
+abbrev pub IsOfDocument : ℕ → (DocCause → Type 0) → DocFault → Type 0
+IsOfDocument document Refuses fault = (cause : DocCause) × Refuses cause × (fault ≡ of_document document cause)

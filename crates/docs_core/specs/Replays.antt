@@ -1,0 +1,55 @@
+-- A script from bytes to bytes. Own rule.
+use Rattle.std.specs.Prelude.{◌≡◌, ◌⊎◌, List, ℕ, Bool, Option}
+use Rattle.cata_core.specs.Answers.{AreAnswers, AreHeldAnswers}
+use Rattle.cata_core.specs.Edits.{IsConsistent}
+use Rattle.cata_core.specs.Faulty.{IsFirstFault, IsNoClash, NoDelivers, NoneFaulty}
+use Rattle.cata_core.specs.Taken.{edits_of}
+use Rattle.cata_core.specs.declared.answer.Answer.{Answer}
+use Rattle.cata_core.specs.declared.play_fault.PlayFault.{PlayFault}
+use Rattle.cata_core.specs.declared.play_fault.PlayFault.TheVariants as play
+use Rattle.docs_core.specs.Faults.{of_no_document, of_step}
+use Rattle.docs_core.specs.Lines.{lines}
+use Rattle.docs_core.specs.ReadsAs.{IsOfDocument}
+use Rattle.docs_core.specs.ScriptReads.{ReadsAsScript, RefusesScript}
+use Rattle.docs_core.specs.Scripts.{ScriptState}
+use Rattle.docs_core.specs.Sources.{GivesCount, IsReadRefusal, is_read_cause}
+use Rattle.docs_core.specs.declared.fault.DocCause.TheVariants.{NoMemory, TooLarge}
+use Rattle.docs_core.specs.declared.fault.DocFault.{DocFault}
+
+-- no step is faulty, and these are the answers: by what the sites hold, and where no two edits clash, or nothing is delivered, the expected ones
+pub record IsPlayed (script : ScriptState) (answers : List Answer) : Type 0 where
+  pub sound : NoneFaulty script.sites script.steps
+  pub held : AreHeldAnswers script.steps answers
+  pub consistent : IsConsistent (edits_of script.steps) → AreAnswers script.steps answers
+  pub undelivered : NoDelivers script.steps → AreAnswers script.steps answers
+
+-- why the run is refused: its first faulty step, which where no two edits clash is no clash, or want of memory
+pub record RefusesRun (script : ScriptState) (fault : PlayFault) : Type 0 where
+  pub first : (fault ≡ play.NoMemory) ⊎ IsFirstFault script.sites script.steps fault
+  pub no_clash : IsConsistent (edits_of script.steps) → IsNoClash fault
+
+-- ---- from bytes to bytes
+
+-- the bytes are a script, and the text is the lines of its answers
+abbrev pub Replays : List ℕ → List ℕ → Type 0
+Replays bytes text = (script : ScriptState) × ReadsAsScript bytes script × ((answers : List Answer) × IsPlayed script answers × (text ≡ lines answers))
+
+-- the bytes are a script whose run is refused
+abbrev pub RefusesSteps : List ℕ → DocFault → Type 0
+RefusesSteps bytes fault = (script : ScriptState) × ReadsAsScript bytes script × ((refused : PlayFault) × RefusesRun script refused × (fault ≡ of_no_document (of_step refused)))
+
+-- the lines of the answers want memory
+abbrev pub RefusesLines : List ℕ → DocFault → Type 0
+RefusesLines bytes fault = (text : List ℕ) × Replays bytes text × (fault ≡ of_no_document NoMemory)
+
+-- why bytes are not replayed, by the first stage that refuses: the script, its steps, or the lines
+abbrev pub RefusesReplay : List ℕ → DocFault → Type 0
+RefusesReplay bytes fault = IsOfDocument 1 (RefusesScript bytes) fault ⊎ RefusesSteps bytes fault ⊎ RefusesLines bytes fault
+
+-- ---- over streams
+
+-- the source was not read to its end: the fault says why, and with 24 alone the source has failed
+pub record IsReadFault {S : Type 0} (failed : S → Bool) (remaining : S → Option (List ℕ)) (old new : S) (fault : DocFault) : Type 0 where
+  pub refused : IsReadRefusal fault
+  pub failing : failed new ≡ is_read_cause fault.cause
+  pub too_large : fault ≡ of_no_document TooLarge → GivesCount (remaining old) (remaining new) 67108865

@@ -1,0 +1,40 @@
+-- Documents of scripts: their tests in order, and what they read as. Own rule.
+use Rattle.std.specs.Prelude.{◌≡◌, ◌&&◌, ℕ, List, [], ◌∷◌, ◌++◌, true, Option, None, Some, is_some, nat_le, if◌then◌else◌, option_and_then}
+use Rattle.serde_json.specs.Data.{Data}
+use Rattle.docs_core.specs.Checks.{Check, IsRefusal, check, rows_checks}
+use Rattle.docs_core.specs.Heads.{head_checks, is_first, own_data, rows_in}
+use Rattle.docs_core.specs.ReadsAs.{Reads}
+use Rattle.docs_core.specs.Rows.{u64_in}
+use Rattle.docs_core.specs.Scripts.{ScriptState}
+use Rattle.docs_core.specs.StepFields.{AreSteps, step_checks}
+use Rattle.docs_core.specs.declared.fault.DocCause.{DocCause}
+use Rattle.docs_core.specs.declared.fault.DocCause.TheVariants.{Shape}
+use Rattle.docs_core.specs.declared.fault.Spot.TheVariants as spot
+use Rattle.docs_core.specs.declared.form.Form.TheVariants.{Script}
+
+-- 1 to 1,024
+abbrev pub count_of : ℕ → Option ℕ
+count_of n = if nat_le 1 n && nat_le n 1024 then Some n else None
+
+-- how many sites there are
+abbrev pub sites_in : Data → Option ℕ
+sites_in d = option_and_then count_of (u64_in d)
+
+abbrev pub sites_check : Data → Check
+sites_check own = check (is_some (sites_in own) ≡ true) (Shape spot.Document)
+
+abbrev pub script_checks : Data → List Check
+script_checks d = head_checks Script d ++ (sites_check (own_data Script d) ∷ rows_checks (step_checks (is_first d)) [] (rows_in Script d))
+
+-- the document has these sites and steps
+pub record IsScriptDocument (d : Data) (script : ScriptState) : Type 0 where
+  pub sites : sites_in (own_data Script d) ≡ Some script.sites
+  pub steps : AreSteps (is_first d) (rows_in Script d) script.steps
+
+-- the bytes are a document of this script
+abbrev pub ReadsAsScript : List ℕ → ScriptState → Type 0
+ReadsAsScript = Reads script_checks IsScriptDocument
+
+-- why they are no document of a script
+abbrev pub RefusesScript : List ℕ → DocCause → Type 0
+RefusesScript = IsRefusal script_checks

@@ -1,0 +1,21 @@
+-- The line of a site's status. Own rule.
+use Rattle.std.specs.Prelude.{ℕ, List, ◌∷◌, ◌++◌, codes, decimal, length, count_by, Bool, Option, None, Some, is_some}
+use Rattle.cell_core.specs.declared.stamp.Stamp.{Stamp}
+use Rattle.cata_core.specs.Entries.{Entry}
+use Rattle.cata_core.specs.Last.{last_of}
+use Rattle.cata_core.specs.Sites.{SiteState}
+use Rattle.docs_core.specs.Lines.{line}
+
+-- `TIME NAME COUNT`, or `none`
+abbrev pub last_text : Option Stamp → List ℕ
+last_text None = codes "none"
+last_text (Some stamp) = decimal stamp.time ++ 32 ∷ (stamp.site ++ 32 ∷ decimal stamp.count)
+
+-- whether the cell has a label
+abbrev pub is_labelled : Entry → Bool
+is_labelled entry = is_some entry.1.label
+
+-- `site NAME cells N labels N last ..`; labels are the cells that have one
+abbrev pub status_line : SiteState → List ℕ
+status_line site =
+    line (codes "site " ++ (site.name ++ (codes " cells " ++ (decimal (length site.cells) ++ (codes " labels " ++ (decimal (count_by is_labelled site.cells) ++ (codes " last " ++ last_text (last_of site.cells))))))))

@@ -1,0 +1,34 @@
+-- The text of a document, and what its pieces add to it.
+use Rattle.std.specs.Prelude.{◌≡◌, ℕ, List, [], ◌∷◌, ◌++◌, codes}
+use Rattle.json.specs.Token.{Token, begin_object, begin_array, key, string}
+use Rattle.json.specs.Tree.{json_tokens, items_tokens, members_tokens}
+use Rattle.json.specs.Written.{Written}
+use Rattle.serde_json.specs.Data.{Data, Items, no_items, item, Members}
+use Rattle.serde_json.specs.Written.{compact_text, outline, items_outline, members_outline}
+
+-- Own rule: the compact text of the value, and a line feed.
+abbrev pub text : Data → List ℕ
+text d = compact_text d ++ 10 ∷ []
+
+-- the tokens of a value
+abbrev pub value_tokens : Data → List Token
+value_tokens d = json_tokens (outline d)
+
+-- the tokens of some values, one after another
+abbrev pub row_tokens : List Data → List Token
+row_tokens [] = []
+row_tokens (d ∷ ds) = value_tokens d ++ row_tokens ds
+
+-- the draft grew by these tokens
+abbrev pub Adds : Written → Written → List Token → Type 0
+Adds old new tokens = (new.before ≡ old.before) × (new.tokens ≡ old.tokens ++ tokens)
+
+-- a site's or a delta's draft: it is open behind these rows
+abbrev pub HoldsCells : Written → List Data → Type 0
+HoldsCells draft rows = (draft.before ≡ []) × (draft.tokens ≡ begin_object ∷ key (codes "cells") ∷ begin_array ∷ row_tokens rows)
+
+-- a summary's draft of this owner: it is open behind these rows
+abbrev pub HoldsStamps : Written → List ℕ → List Data → Type 0
+HoldsStamps draft owner rows =
+    (draft.before ≡ [])
+    × (draft.tokens ≡ begin_object ∷ key (codes "kind") ∷ string (codes "summary") ∷ key (codes "owner") ∷ string owner ∷ key (codes "stamps") ∷ begin_array ∷ row_tokens rows)

@@ -1,0 +1,106 @@
+//! A document that is being written: what stands in front of its rows, and behind them.
+ghost use Rattle.std.specs.Prelude.{◌≡◌, ◌∷◌, [], ◌++◌, ℕ, List, IfOk, OnOk, codes};
+ghost use Rattle.json.specs.Print.{print};
+ghost use Rattle.json.specs.Token.{begin_object, end_object, begin_array, end_array, key, number, string};
+ghost use Rattle.serde_json.specs.Data.{Data};
+ghost use Rattle.docs_core.specs.Drafts.{name_tokens, version_tokens};
+ghost use Rattle.docs_core.specs.Texts.{Adds, HoldsCells, HoldsStamps, text};
+ghost use Rattle.docs_core.specs.Values.{delta_value, site_value, summary_value};
+
+use crate::doc::Doc;
+use json::Writer;
+use std::alloc::{AllocError, Global};
+
+/// Opens a site's or a delta's document, with no row yet.
+pub fn open_cells(alloc: Global) -> Result<Writer, AllocError>
+    ensures { IfOk result (λ draft. HoldsCells draft []) }
+{
+    let mut draft = Writer::new(Vec::new(alloc));
+    draft.begin_object()?;
+    draft.key("cells")?;
+    draft.begin_array()?;
+    Ok(draft)
+}
+
+/// Closes the document of a site behind its rows.
+pub fn close_site(draft: Writer, site: &str) -> Result<Doc, AllocError>
+    ensures { (rows : List Data) → HoldsCells draft rows
+        → IfOk result (λ doc. doc ≡ text (site_value site.now rows)) }
+{
+    close_named(draft, "site", "site", site)
+}
+
+/// Closes the document of a delta behind its rows.
+pub fn close_delta(draft: Writer, addressee: &str) -> Result<Doc, AllocError>
+    ensures { (rows : List Data) → HoldsCells draft rows
+        → IfOk result (λ doc. doc ≡ text (delta_value addressee.now rows)) }
+{
+    close_named(draft, "delta", "to", addressee)
+}
+
+/// Opens a summary's document, with no row yet.
+pub fn open_stamps(alloc: Global, owner: &str) -> Result<Writer, AllocError>
+    ensures { IfOk result (λ draft. HoldsStamps draft owner.now []) }
+{
+    let mut draft = Writer::new(Vec::new(alloc));
+    draft.begin_object()?;
+    write_name(&mut draft, "kind", "summary")?;
+    write_name(&mut draft, "owner", owner)?;
+    draft.key("stamps")?;
+    draft.begin_array()?;
+    Ok(draft)
+}
+
+/// Closes the document of a summary behind its rows.
+pub fn close_summary(draft: Writer) -> Result<Doc, AllocError>
+    ensures { (owner : List ℕ) (rows : List Data) → HoldsStamps draft owner rows
+        → IfOk result (λ doc. doc ≡ text (summary_value owner rows)) }
+{
+    close_rows(draft)
+}
+
+// Closes the rows, and adds the version.
+fn close_rows(mut draft: Writer) -> Result<Doc, AllocError>
+    ensures { IfOk result (λ doc. doc ≡ draft.before ++ (print (draft.tokens ++ end_array ∷ version_tokens) ++ 10 ∷ [])) }
+{
+    draft.end_array()?;
+    write_version(&mut draft)?;
+    finish(draft)
+}
+
+// Closes the rows, and adds the kind, a name and the version.
+fn close_named(mut draft: Writer, kind: &str, member: &str, name: &str) -> Result<Doc, AllocError>
+    ensures { IfOk result (λ doc. doc ≡ draft.before ++ (print (draft.tokens ++ end_array ∷ (name_tokens (codes "kind") kind.now ++ (name_tokens member.now name.now ++ version_tokens))) ++ 10 ∷ [])) }
+{
+    draft.end_array()?;
+    write_name(&mut draft, "kind", kind)?;
+    write_name(&mut draft, member, name)?;
+    write_version(&mut draft)?;
+    finish(draft)
+}
+
+// Adds a member that is a text.
+fn write_name(draft: &mut Writer, member: &str, name: &str) -> Result<(), AllocError>
+    ensures { OnOk result (Adds draft.old draft.new (name_tokens member.now name.now)) }
+{
+    draft.key(member)?;
+    draft.string(name)
+}
+
+// Adds the version, and closes the document's object.
+fn write_version(draft: &mut Writer) -> Result<(), AllocError>
+    ensures { OnOk result (Adds draft.old draft.new version_tokens) }
+{
+    draft.key("version")?;
+    draft.u64(2)?;
+    draft.end_object()
+}
+
+// The text with its line feed.
+pub(crate) fn finish(draft: Writer) -> Result<Doc, AllocError>
+    ensures { IfOk result (λ doc. doc ≡ draft.before ++ (print draft.tokens ++ 10 ∷ [])) }
+{
+    let mut bytes = draft.into_inner();
+    bytes.push(b'\n')?;
+    Ok(Doc::from(bytes))
+}

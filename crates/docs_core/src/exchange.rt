@@ -1,0 +1,46 @@
+//! Language maps put into the document of a site, and made of it.
+ghost use Rattle.std.specs.Prelude.{MatchResult};
+ghost use Rattle.docs_core.specs.Exchange.{IsExported, IsImported, RefusesImport};
+ghost use Rattle.docs_core.specs.ReadsAs.{IsOfDocument, RefusesSite};
+
+use crate::doc::Doc;
+use crate::documents::write_site;
+use crate::exporting::write_live;
+use crate::fault::DocFault;
+use crate::importing::put_labels;
+use crate::lang_maps_reading::langmaps_of_document;
+use crate::reading::site_at;
+use std::alloc::Global;
+
+/// The document of the site after each label of the language maps was put, in rising order of key,
+/// at the time `now`: each with the next stamp of the site. A label that is held already is put
+/// again and gets a new stamp; no other cell changes.
+///
+/// Refusals, in their order: a reader's with document 1, a reader's with document 2, then 14 where
+/// there is no next stamp for a label, which refuses the whole. Want of memory (26) may come before.
+pub fn import_document(
+    alloc: Global,
+    site: &[u8],
+    now: u64,
+    langmaps: &[u8],
+) -> Result<Doc, DocFault>
+    ensures { MatchResult result (IsImported site.now now langmaps.now) (RefusesImport site.now now langmaps.now) }
+{
+    let mut site = site_at(alloc, 1, site)?;
+    let maps = langmaps_of_document(alloc, 2, langmaps)?;
+    put_labels(alloc, &mut site, now, &maps)?;
+    let doc = write_site(alloc, &site)?;
+    Ok(doc)
+}
+
+/// The language-map document of the live labels of the site: deletions are left out, and so is a
+/// message without a live label.
+///
+/// Refusals: a reader's with document 1. Want of memory (26) may come before.
+pub fn export_document(alloc: Global, site: &[u8]) -> Result<Doc, DocFault>
+    ensures { MatchResult result (IsExported site.now) (IsOfDocument 1 (RefusesSite site.now)) }
+{
+    let site = site_at(alloc, 1, site)?;
+    let doc = write_live(alloc, site.catalogue())?;
+    Ok(doc)
+}

@@ -1,0 +1,12 @@
+//! The rows of a language-map document, as they were read.
+
+use std::collections::BTreeMap;
+
+/// The strings of a value; none where it has not the shape of a label.
+pub(crate) type Strings = Option<Vec<String>>;
+
+/// The keys of a language map with their values.
+pub(crate) type Keys = BTreeMap<String, Strings>;
+
+/// Names with language maps, or with none where the value is no object.
+pub(crate) type Rows = BTreeMap<String, Option<Keys>>;

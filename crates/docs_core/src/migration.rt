@@ -1,0 +1,45 @@
+//! Laws: a document of version 1 is read as what its plain data become.
+ghost use Rattle.std.specs.Prelude.{◌≡◌, true, Some, List, Option, ℕ};
+ghost use Rattle.serde_json.specs.Data.{Data};
+ghost use Rattle.cata_core.specs.Migration.{OldDelta, OldEntry, OldSite, OldSummary, migrated_delta, migrated_entry, migrated_site, migrated_summary};
+ghost use Rattle.cata_core.specs.Sites.{SiteState};
+ghost use Rattle.cata_core.specs.Told.{SummaryState};
+ghost use Rattle.cata_core.specs.declared.delta.Delta.{Delta};
+ghost use Rattle.docs_core.specs.Fields.{entry_of};
+ghost use Rattle.docs_core.specs.Heads.{is_first};
+ghost use Rattle.docs_core.specs.OldRows.{IsOldDeltaDocument, IsOldScriptDocument, IsOldSiteDocument, IsOldSummaryDocument, OldScript, migrated_script, old_entry_in};
+ghost use Rattle.docs_core.specs.Named.{IsDeltaDocument, IsSiteDocument, IsSummaryDocument};
+ghost use Rattle.docs_core.specs.Rows.{cell_in};
+ghost use Rattle.docs_core.specs.ScriptReads.{IsScriptDocument};
+ghost use Rattle.docs_core.specs.Scripts.{ScriptState};
+ghost use Rattle.docs_core.specs.Values.{Row};
+
+/// A row with a cell is read as the migrated cell that it has.
+pub fn a_row_reads_as_migrated()
+    ensures { (d : Data) (p : Row × Option (List (List ℕ))) → cell_in true d ≡ Some p
+        → (old : OldEntry) × (old_entry_in d ≡ Some old) × (migrated_entry old ≡ entry_of p.0 p.1) }
+{}
+
+/// A site is read as the migrated site that its document has.
+pub fn a_site_reads_as_migrated()
+    ensures { (d : Data) (site : SiteState) → is_first d ≡ true → IsSiteDocument d site
+        → (old : OldSite) × IsOldSiteDocument d old × (site ≡ migrated_site old) }
+{}
+
+/// A delta is read as the migrated delta that its document has.
+pub fn a_delta_reads_as_migrated()
+    ensures { (d : Data) (delta : Delta) → is_first d ≡ true → IsDeltaDocument d delta
+        → (old : OldDelta) × IsOldDeltaDocument d old × (delta ≡ migrated_delta old) }
+{}
+
+/// A summary is read as the migrated summary that its document has.
+pub fn a_summary_reads_as_migrated()
+    ensures { (d : Data) (summary : SummaryState) → is_first d ≡ true → IsSummaryDocument d summary
+        → (old : OldSummary) × IsOldSummaryDocument d old × (summary ≡ migrated_summary old) }
+{}
+
+/// A script is read as the migrated script that its document has.
+pub fn a_script_reads_as_migrated()
+    ensures { (d : Data) (script : ScriptState) → is_first d ≡ true → IsScriptDocument d script
+        → (old : OldScript) × IsOldScriptDocument d old × (script ≡ migrated_script old) }
+{}

@@ -1,0 +1,97 @@
+//! Documents of scripts, read.
+ghost use Rattle.std.specs.Prelude.{◌≡◌, None, Some, is_some, true, MatchResult};
+ghost use Rattle.serde_json.specs.Data.{Data};
+ghost use Rattle.docs_core.specs.Checks.{AllPass, AreJson};
+ghost use Rattle.docs_core.specs.Heads.{IsOwn, is_first, own_data, rows_in};
+ghost use Rattle.docs_core.specs.ReadsAs.{IsOfDocument};
+ghost use Rattle.docs_core.specs.ScriptReads.{ReadsAsScript, RefusesScript, count_of, script_checks, sites_in};
+ghost use Rattle.docs_core.specs.Scripts.{IsSiteCount};
+ghost use Rattle.docs_core.specs.StepFields.{AreSteps};
+ghost use Rattle.docs_core.specs.declared.fault.DocCause.TheVariants.{Shape};
+ghost use Rattle.docs_core.specs.declared.fault.Spot.TheVariants as spot;
+ghost use Rattle.docs_core.specs.declared.form.Form.TheVariants as form;
+
+use crate::fault::{DocCause, DocFault, Spot};
+use crate::form::Form;
+use crate::head::Own;
+use crate::parts::read_parts;
+use crate::script::{Script, Steps};
+use std::alloc::Global;
+
+/// The most sites of a script.
+const MOST_SITES: u64 = 1024;
+
+/// The script of a document of version 1 or 2. In version 1 each site number of a stamp is read as
+/// its padded name; the sites of steps are places in both.
+///
+/// Refusals, in their order: 18, 19, 20 for the document, 28, 20 for the document, also where there
+/// are not 1 to 1,024 sites; each row 20, then the fields of its step: message id (10), language (1
+/// to 4), site name (27) and label (12, 11) of an edit, message id (10), priority list (8, 9) and
+/// default (1 to 4) of a question; 26, which may come before a later one. All but 26 name document 1.
+pub fn read_script(alloc: Global, bytes: &[u8]) -> Result<Script, DocFault>
+    ensures { MatchResult result (ReadsAsScript bytes.now) (IsOfDocument 1 (RefusesScript bytes.now)) }
+{
+    match script_from(alloc, bytes) {
+        Ok(script) => Ok(script),
+        Err(cause) => Err(DocFault::of_document(1, cause)),
+    }
+}
+
+fn script_from(alloc: Global, bytes: &[u8]) -> Result<Script, DocCause>
+    ensures { MatchResult result (ReadsAsScript bytes.now) (RefusesScript bytes.now) }
+{
+    let mut steps = Steps::new(alloc);
+    match read_steps(alloc, bytes, &mut steps) {
+        Ok(sites) => Ok(steps.into_script(sites)),
+        Err(cause) => Err(cause),
+    }
+}
+
+// Reads the steps, and answers how many sites there are.
+fn read_steps(alloc: Global, bytes: &[u8], steps: &mut Steps) -> Result<usize, DocCause>
+    ensures { MatchResult result
+        (λ sites. (d : Data) × AreJson bytes.now d × AllPass (script_checks d) × IsSiteCount sites × (sites_in (own_data form.Script d) ≡ Some sites)
+        × AreSteps (is_first d) (rows_in form.Script d) steps.new.steps.items)
+        (RefusesScript bytes.now) }
+{
+    let parts = match read_parts(alloc, bytes, Form::Script, steps) {
+        Ok(parts) => parts,
+        Err(cause) => return Err(cause),
+    };
+    let sites = match site_count(parts.own) {
+        Ok(sites) => sites,
+        Err(cause) => return Err(cause),
+    };
+    match parts.refusal {
+        Some(cause) => Err(cause),
+        None => Ok(sites),
+    }
+}
+
+// How many sites there are.
+fn site_count(own: Own) -> Result<usize, DocCause>
+    ensures { (d : Data) → IsOwn own d → MatchResult result
+        (λ sites. IsSiteCount sites × (sites_in d ≡ Some sites))
+        (λ e. (¬ (is_some (sites_in d) ≡ true)) × (e ≡ Shape spot.Document)) }
+{
+    match own {
+        Own::Number(number) => counted(number),
+        _ => Err(DocCause::Shape {
+            spot: Spot::Document,
+        }),
+    }
+}
+
+fn counted(number: u64) -> Result<usize, DocCause>
+    ensures { MatchResult result
+        (λ sites. IsSiteCount sites × (count_of number ≡ Some sites))
+        (λ e. (count_of number ≡ None) × (e ≡ Shape spot.Document)) }
+{
+    if number >= 1 && number <= MOST_SITES {
+        Ok(number as usize)
+    } else {
+        Err(DocCause::Shape {
+            spot: Spot::Document,
+        })
+    }
+}

@@ -1,0 +1,13 @@
+use Rattle.std.proofs.Common.{Some}
+use Rattle.lexicat.specs.Acts.{IsImport, RefusesImport}
+use Rattle.lexicat.specs.Wording.{BarsNone, NoWords}
+use Rattle.lexicat.proofs.ActsLemmas.{treated}
+use Rattle.lexicat.proofs.commands.import.act.Goals as goal
+
+pub returns-clause-acts : goal.returns-clause-acts
+returns-clause-acts g c = (
+  Some c.in-Some.now,
+  c.in-Some.ensures,
+  treated g.R.Source.remaining g.R.Source.failed g.W.Sink.contents g.W.Sink.failed NoWords BarsNone (IsImport c.in-Some.now) (RefusesImport c.in-Some.now)
+      c.args.reader.now c.answer_of.new.reader c.args.writer.now c.finish.new.writer c.finish.result c.answer_of.result c.answer_of.ensures c.finish.ensures.ends,
+)

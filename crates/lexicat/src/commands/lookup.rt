@@ -1,0 +1,97 @@
+//! The command `lookup`.
+ghost use Rattle.std.specs.Prelude.{◌≡◌, ◌≤◌, false, option_map, IfOk, MatchResult};
+ghost use Rattle.clap.specs.Words.{app_of, found_of, rows_of};
+ghost use Rattle.clap.specs.declared.builder.command.Command.TheViews.{out-Command};
+ghost use Rattle.lexicat.specs.Acts.{ActsLookup};
+ghost use Rattle.lexicat.specs.Asked.{lookup_asked};
+ghost use Rattle.lexicat.specs.Acts.{FitsLookup, BarsLookup, IsLookup, RefusesAsk};
+ghost use Rattle.lexicat.specs.AskWords.{lookup_words};
+ghost use Rattle.lexicat.specs.Reading.{AnswersInput, RefusesInput};
+ghost use Rattle.lexicat.specs.Words.{lookup_app};
+
+use crate::answer::{Answer, finish};
+use crate::given::{scheme_of, text_of};
+use crate::pick::read_ranges;
+use crate::refusal::Refusal;
+use crate::wording::read_default;
+use crate::{arguments, status};
+use cell_core::MessageId;
+use clap::{ArgMatches, Command};
+use docs_core::{Ask, Sink, Source, ask_document, read_all};
+use nego_core::Scheme;
+use std::alloc::{AllocError, Global};
+
+/// `lookup --id ID [--scheme SCHEME] [--default LANG] FIELD`
+pub fn command<'a>(alloc: Global, schemes: &'a [&'a str]) -> Result<Command<'a>, AllocError>
+    ensures app { IfOk result (λ c. app_of c ≡ lookup_app schemes.entry) }
+    ensures local { IfOk result (λ c. (out-Command c).has_globals ≡ false) }
+{
+    Command::new(alloc, "lookup")
+        .about("Prints the one label of a message that fits best, or the default's, or nothing")
+        .after_help(
+            "Reads a site document.\nExample: lexicat lookup --id greeting --default en \"da, fr;q=0.5\" < paris.json",
+        )
+        .arg(arguments::id(alloc))?
+        .arg(arguments::scheme(alloc, schemes))?
+        .arg(arguments::default(alloc))?
+        .arg(arguments::field(alloc))
+}
+
+/// What the words of `lookup` ask.
+#[derive(Clone, Copy)]
+struct Asked<'a> {
+    id: &'a str,
+    scheme: Scheme,
+    default: Option<&'a str>,
+    field: &'a str,
+}
+
+/// What is asked, where no word is missing.
+fn asked_of<'a>(given: &ArgMatches<'a>) -> Option<Asked<'a>>
+    ensures { option_map lookup_asked result ≡ lookup_words (rows_of (found_of given.now)) }
+{
+    let id = text_of(given, "id")?;
+    let field = text_of(given, "field")?;
+    let scheme = scheme_of(text_of(given, "scheme"));
+    let default = text_of(given, "default");
+    Some(Asked {
+        id,
+        scheme,
+        default,
+        field,
+    })
+}
+
+/// Prints the line of the lookup, or tells the refusal.
+pub fn act<R: Source, W: Sink, F: Sink>(
+    alloc: Global,
+    given: &ArgMatches<'_>,
+    reader: &mut R,
+    writer: &mut W,
+    faults: &mut F,
+) -> u8
+    requires reads { R.failed reader.old ≡ false }
+    requires writes { W.failed writer.old ≡ false }
+    ensures acts { ActsLookup R.remaining R.failed W.contents W.failed (rows_of (found_of given.now)) reader.old reader.new writer.old writer.new result }
+    ensures quiet { result ≤ 1 → faults.new ≡ faults.old }
+{
+    let Some(asked) = asked_of(given) else {
+        return status::USAGE;
+    };
+    finish(answer_of(alloc, asked, reader), writer, faults)
+}
+
+fn answer_of<R: Source>(alloc: Global, asked: Asked<'_>, reader: &mut R) -> Result<Answer, Refusal>
+    requires { R.failed reader.old ≡ false }
+    ensures { let words = lookup_asked asked.entry in MatchResult result
+        (λ answer. AnswersInput R.remaining (IsLookup words) reader.old reader.new answer.text answer.status)
+        (RefusesInput R.remaining R.failed (FitsLookup words) (BarsLookup words) RefusesAsk reader.old reader.new) }
+{
+    let id = MessageId::new(alloc, asked.id)?;
+    let default = read_default(alloc, asked.default)?;
+    let list = read_ranges(alloc, asked.scheme, asked.field)?;
+    let site = read_all(alloc, reader)?;
+    let ask = Ask::Lookup(list, default);
+    let (text, is_found) = ask_document(alloc, site.bytes(), &id, &ask)?;
+    Ok(Answer::question(text, is_found))
+}

@@ -1,0 +1,43 @@
+//! The command `replay`.
+ghost use Rattle.std.specs.Prelude.{◌≡◌, ◌≤◌, false};
+ghost use Rattle.clap.specs.Words.{app_of};
+ghost use Rattle.clap.specs.declared.builder.command.Command.TheViews.{out-Command};
+ghost use Rattle.docs_core.specs.Replays.{RefusesReplay};
+ghost use Rattle.lexicat.specs.Acts.{IsReplay};
+ghost use Rattle.lexicat.specs.Reading.{Treats};
+ghost use Rattle.lexicat.specs.Wording.{NoWords, BarsNone};
+ghost use Rattle.lexicat.specs.Words.{replay_app};
+
+use crate::fault_line::refuse_document;
+use crate::status;
+use clap::Command;
+use docs_core::{Sink, Source, replay};
+use std::alloc::Global;
+
+/// `replay`
+pub fn command<'a>(alloc: Global) -> Command<'a>
+    ensures app { app_of result ≡ replay_app }
+    ensures local { (out-Command result).has_globals ≡ false }
+{
+    Command::new(alloc, "replay")
+        .about("Runs a script of sites from their beginning, and prints the answers")
+        .after_help("Reads a script document.\nExample: lexicat replay < script.json")
+}
+
+/// Replays the script, or tells the refusal.
+pub fn act<R: Source, W: Sink, F: Sink>(
+    alloc: Global,
+    reader: &mut R,
+    writer: &mut W,
+    faults: &mut F,
+) -> u8
+    requires reads { R.failed reader.old ≡ false }
+    requires writes { W.failed writer.old ≡ false }
+    ensures acts { Treats R.remaining R.failed W.contents W.failed NoWords BarsNone IsReplay RefusesReplay reader.old reader.new writer.old writer.new result }
+    ensures quiet { result ≤ 1 → faults.new ≡ faults.old }
+{
+    match replay(alloc, reader, writer) {
+        Ok(()) => status::ANSWERED,
+        Err(fault) => refuse_document(faults, fault),
+    }
+}

@@ -1,0 +1,55 @@
+//! The command `take`.
+ghost use Rattle.std.specs.Prelude.{◌≡◌, ◌≤◌, false, IfOk, MatchResult};
+ghost use Rattle.clap.specs.Words.{app_of};
+ghost use Rattle.clap.specs.declared.builder.command.Command.TheViews.{out-Command};
+ghost use Rattle.lexicat.specs.Acts.{IsTake, RefusesTake};
+ghost use Rattle.lexicat.specs.Reading.{AnswersInput, RefusesInput};
+ghost use Rattle.lexicat.specs.Reading.{Treats};
+ghost use Rattle.lexicat.specs.Words.{take_app};
+ghost use Rattle.lexicat.specs.Wording.{NoWords, BarsNone};
+
+use crate::answer::{Answer, finish};
+use crate::input::two_documents;
+use crate::refusal::Refusal;
+use clap::Command;
+use docs_core::{Sink, Source, read_all, take_document};
+use std::alloc::Global;
+
+/// `take`
+pub fn command<'a>(alloc: Global) -> Command<'a>
+    ensures app { app_of result ≡ take_app }
+    ensures local { (out-Command result).has_globals ≡ false }
+{
+    Command::new(alloc, "take")
+        .about("Joins a delta into the site that it is for")
+        .after_help(
+            "Reads a site document, then a delta.\nDocument 1 of the input ends at the first LF, and all behind it is document 2.\nExample: cat tokyo.json delta.json | lexicat take > next.json",
+        )
+}
+
+/// Prints the site with the delta taken in, or tells the refusal.
+pub fn act<R: Source, W: Sink, F: Sink>(
+    alloc: Global,
+    reader: &mut R,
+    writer: &mut W,
+    faults: &mut F,
+) -> u8
+    requires reads { R.failed reader.old ≡ false }
+    requires writes { W.failed writer.old ≡ false }
+    ensures acts { Treats R.remaining R.failed W.contents W.failed NoWords BarsNone IsTake RefusesTake reader.old reader.new writer.old writer.new result }
+    ensures quiet { result ≤ 1 → faults.new ≡ faults.old }
+{
+    finish(answer_of(alloc, reader), writer, faults)
+}
+
+fn answer_of<R: Source>(alloc: Global, reader: &mut R) -> Result<Answer, Refusal>
+    requires { R.failed reader.old ≡ false }
+    ensures { MatchResult result
+        (λ answer. AnswersInput R.remaining IsTake reader.old reader.new answer.text answer.status)
+        (RefusesInput R.remaining R.failed NoWords BarsNone RefusesTake reader.old reader.new) }
+{
+    let input = read_all(alloc, reader)?;
+    let (site, delta) = two_documents(input.bytes());
+    let text = take_document(alloc, site, delta)?;
+    Ok(Answer::document(text))
+}

@@ -1,0 +1,20 @@
+//! The documents of an input.
+ghost use Rattle.std.specs.Prelude.{◌≡◌, ◌==◌, position};
+ghost use Rattle.lexicat.specs.Input.{AreDocuments};
+
+/// Document 1 is what stands in front of the first LF, and document 2 what stands behind it; without
+/// an LF all is document 1, and document 2 is empty.
+pub fn two_documents(input: &[u8]) -> (&[u8], &[u8])
+    ensures { AreDocuments input.now result.0.now result.1.now }
+{
+    match first_line_feed(input) {
+        Some(at) => (&input[..at], &input[at + 1..]),
+        None => (input, &input[input.len()..]),
+    }
+}
+
+fn first_line_feed(input: &[u8]) -> Option<usize>
+    ensures { result ≡ position (λ byte. byte == 10) input.now }
+{
+    input.iter().position(|&byte| byte == b'\n')
+}

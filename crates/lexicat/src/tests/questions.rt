@@ -1,0 +1,62 @@
+//! Questions to a site, row by row.
+use super::harness::{is_answered, run_on};
+use super::texts::QUESTIONS;
+use std::test::Fail;
+
+#[test]
+fn lookups(rt: HostRuntime) -> Result<(), Fail> {
+    let rows: [(&[&str], u8, &str); 5] = [
+        (
+            &["lookup", "--id", "m", "--default", "fr", "de, en;q=0.5"],
+            0,
+            "matched en [\"Hello\"]\n",
+        ),
+        (
+            &["lookup", "--id", "m", "--default", "fr", "de, *;q=0"],
+            1,
+            "nothing\n",
+        ),
+        (
+            &["lookup", "--id", "m", "--default", "fr", "de"],
+            0,
+            "default fr [\"Bonjour\"]\n",
+        ),
+        (
+            &["lookup", "--id", "m", "--scheme", "extended", "fr-*-CH"],
+            0,
+            "matched fr [\"Bonjour\"]\n",
+        ),
+        (
+            &["lookup", "--id", "m", "en-GB, *;q=0"],
+            0,
+            "matched en [\"Hello\"]\n",
+        ),
+    ];
+    for (words, status, line) in rows {
+        let ran = run_on(rt.alloc(), words, QUESTIONS)?;
+        assert!(rt; is_answered(&ran, status, line), "{words:?}");
+    }
+    Ok(())
+}
+
+#[test]
+fn filters(rt: HostRuntime) -> Result<(), Fail> {
+    let rows: [(&[&str], u8, &str); 3] = [
+        (
+            &["filter", "--id", "m", "fr;q=0.5, en"],
+            0,
+            "filter 2\nen 1000 [\"Hello\"]\nfr 500 [\"Bonjour\"]\n",
+        ),
+        (&["filter", "--id", "z", "en"], 1, "filter 0\n"),
+        (
+            &["filter", "--id", "m", "--scheme", "extended", "*"],
+            0,
+            "filter 2\nen 1000 [\"Hello\"]\nfr 1000 [\"Bonjour\"]\n",
+        ),
+    ];
+    for (words, status, line) in rows {
+        let ran = run_on(rt.alloc(), words, QUESTIONS)?;
+        assert!(rt; is_answered(&ran, status, line), "{words:?}");
+    }
+    Ok(())
+}
