@@ -25,7 +25,7 @@ test:
 	RT='$(RT)' scripts/borrow-check
 	$(RT) ci
 	mkdir -p build
-	cp crates/lexicat/out/lexicat build/lexicat
+	if [ -x crates/lexicat/out/lexicat ]; then cp crates/lexicat/out/lexicat build/lexicat; fi
 	$(MAKE) papers
 
 # Instructions and time beside plain Rust; large documents where Debian's serde_json is installed.
