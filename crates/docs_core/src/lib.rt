@@ -1,14 +1,20 @@
 //! The product's documents: from bytes to values and back, over streams.
 //!
-//! A document is read from its text a value at a time, so that beside the text and what is made of
-//! it only one row is held: [`scanning`] gives the next value, [`rows`] tells the shapes of rows,
-//! and [`fields`] reads their parts. A document is written a token at a time into one buffer:
-//! [`open_cells`] or [`open_stamps`], then its rows by [`write_cell`] or [`write_stamp`], then
-//! [`close_site`], [`close_delta`] or [`close_summary`].
+//! - [`read_site`], [`read_delta`], [`read_summary`], [`read_script`] and [`read_langmaps`] read a
+//!   document; [`write_site`], [`write_delta`], [`write_summary`] and [`write_langmaps`] write one.
+//! - [`edit_document`], [`import_document`], [`export_document`], [`sync_documents`],
+//!   [`summary_document`], [`delta_document`], [`take_document`], [`ask_document`] and
+//!   [`status_document`] treat whole documents, from bytes to bytes.
+//! - [`replay`] runs the script of a [`Source`] and writes the lines of its answers to a [`Sink`];
+//!   [`read_all`] and [`write_out`] are its two ends. [`Input`] and [`Output`] make a source and a
+//!   sink of `std`'s `Read` and `Write`.
 //!
-//! [`read_all`] reads a [`Source`] up to its end and gives a [`Doc`]; [`write_out`] writes bytes to
-//! a [`Sink`]. [`Input`] and [`Output`] make a source and a sink of `std`'s `Read` and `Write`. A
-//! refusal is a [`DocFault`], whose number and text are the product's.
+//! A refusal is a [`DocFault`], whose number and text are the product's.
+//!
+//! A document is read from its text a value at a time, so that beside the text and what is made of
+//! it only one row is held, and it is written a token at a time into one buffer. Laws stand in
+//! [`laws`], [`lang_map_laws`] and [`migration`]; the other modules are the parts of which the calls
+//! are made.
 #![tactic(auto)]
 
 pub mod arrays;
