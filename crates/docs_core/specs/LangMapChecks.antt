@@ -3,15 +3,12 @@ use Rattle.std.specs.Prelude.{◌≡◌, ◌==◌, ℕ, ◌+◌, Bool, true, fal
 use Rattle.std.specs.List.{list_any}
 use Rattle.std.specs.Str.{bytes_eq, str_to_ascii_lowercase}
 use Rattle.cell_core.specs.Labels.{IsLabel}
-use Rattle.cell_core.specs.MessageIds.{IsMessageId}
-use Rattle.cell_core.specs.declared.fault.CellFault.TheVariants.{IdRefused}
 use Rattle.serde_json.specs.Data.{Data}
 use Rattle.docs_core.specs.Checks.{Check, check}
-use Rattle.docs_core.specs.Fields.{IsLabelRefusal, IsLanguageRefusal, IsSpelled}
+use Rattle.docs_core.specs.Fields.{IsLabelRefusal, id_check, language_check}
 use Rattle.docs_core.specs.LangMapRows.{Keys, Rows, Strings, rows_in}
 use Rattle.docs_core.specs.declared.fault.DocCause.{DocCause}
-use Rattle.docs_core.specs.declared.fault.DocCause.TheVariants.{Field, RepeatedTag, Shape}
-use Rattle.docs_core.specs.declared.fault.FieldFault.TheVariants.{Cell}
+use Rattle.docs_core.specs.declared.fault.DocCause.TheVariants.{RepeatedTag, Shape}
 use Rattle.docs_core.specs.declared.fault.Spot.TheVariants.{Document, Row}
 
 -- an earlier key is equal without case
@@ -27,9 +24,6 @@ IsLabelOrNone (t ∷ ts) = IsLabel (t ∷ ts)
 abbrev pub IsStringsRefusal : ℕ → List (List ℕ) → DocCause → Type 0
 IsStringsRefusal k [] e = ⊥
 IsStringsRefusal k (t ∷ ts) e = IsLabelRefusal k (Some (t ∷ ts)) e
-
-abbrev pub language_check : ℕ → List ℕ → Check
-language_check k key = record { passes = IsSpelled key; refuses = IsLanguageRefusal k key }
 
 abbrev pub label_check : ℕ → List (List ℕ) → Check
 label_check k strings = record { passes = IsLabelOrNone strings; refuses = IsStringsRefusal k strings }
@@ -55,7 +49,7 @@ is_marked (b ∷ name) = b == 64
 -- the tests of a message
 abbrev pub message_checks : ℕ → List ℕ → Option Keys → List Check
 message_checks k name keys =
-    check (IsMessageId name) (Field k (Cell IdRefused))
+    id_check k name
     ∷ check (is_some keys ≡ true) (Shape (Row k))
     ∷ keys_checks k [] (unwrap_or keys [])
 

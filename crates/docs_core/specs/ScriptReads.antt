@@ -1,20 +1,20 @@
 -- Documents of scripts: their tests in order, and what they read as. Own rule.
-use Rattle.std.specs.Prelude.{◌≡◌, ◌&&◌, ℕ, List, [], ◌∷◌, ◌++◌, true, Option, None, Some, is_some, nat_le, if◌then◌else◌, option_and_then}
+use Rattle.std.specs.Prelude.{◌≡◌, ℕ, List, [], ◌∷◌, ◌++◌, true, Option, None, Some, is_some, if◌then◌else◌, option_and_then}
 use Rattle.serde_json.specs.Data.{Data}
 use Rattle.docs_core.specs.Checks.{Check, IsRefusal, check, rows_checks}
 use Rattle.docs_core.specs.Heads.{head_checks, is_first, own_data, rows_in}
 use Rattle.docs_core.specs.ReadsAs.{Reads}
 use Rattle.docs_core.specs.Rows.{u64_in}
-use Rattle.docs_core.specs.Scripts.{ScriptState}
+use Rattle.docs_core.specs.Scripts.{ScriptState, is_site_count}
 use Rattle.docs_core.specs.StepFields.{AreSteps, step_checks}
 use Rattle.docs_core.specs.declared.fault.DocCause.{DocCause}
 use Rattle.docs_core.specs.declared.fault.DocCause.TheVariants.{Shape}
 use Rattle.docs_core.specs.declared.fault.Spot.TheVariants as spot
 use Rattle.docs_core.specs.declared.form.Form.TheVariants.{Script}
 
--- 1 to 1,024
+-- as many sites as there may be
 abbrev pub count_of : ℕ → Option ℕ
-count_of n = if nat_le 1 n && nat_le n 1024 then Some n else None
+count_of n = if is_site_count n then Some n else None
 
 -- how many sites there are
 abbrev pub sites_in : Data → Option ℕ

@@ -12,25 +12,24 @@
 //! A refusal is a [`DocFault`], whose number and text are the product's.
 //!
 //! A document is read from its text a value at a time, so that beside the text and what is made of
-//! it only one row is held, and it is written a token at a time into one buffer. Laws stand in
-//! [`laws`], [`lang_map_laws`] and [`migration`]; the other modules are the parts of which the calls
-//! are made.
+//! it only one row is held, and it is written a token at a time into one buffer. The public modules
+//! are laws: [`laws`], [`lang_map_laws`] and [`migration`].
 #![tactic(auto)]
 
-pub mod arrays;
+mod arrays;
 mod asking;
 mod calls;
 mod cell_rows;
 mod doc;
 mod documents;
 mod drafts;
-pub mod entries;
+mod entries;
 mod exchange;
 mod exporting;
 mod fault;
-pub mod fields;
-pub mod form;
-pub mod head;
+mod fields;
+mod form;
+mod head;
 mod importing;
 mod keys;
 mod lang_map_labels;
@@ -41,23 +40,23 @@ mod lang_maps;
 mod lang_maps_reading;
 mod lang_maps_writing;
 pub mod laws;
-pub mod lines;
+mod lines;
 pub mod migration;
 mod named;
 mod numbers;
-pub mod parts;
-pub mod reading;
+mod parts;
+mod reading;
 mod replaying;
-pub mod rows;
-pub mod scanning;
-pub mod script;
+mod rows;
+mod scanning;
+mod script;
 mod script_document;
 mod sinks;
 mod sources;
 mod stamp_rows;
-pub mod status;
-pub mod step_fields;
-pub mod steps;
+mod status;
+mod step_fields;
+mod steps;
 mod writing;
 
 pub use asking::{Ask, ask_document};
@@ -66,21 +65,18 @@ pub use calls::{
 };
 pub use doc::Doc;
 pub use documents::{write_delta, write_site, write_summary};
-pub use drafts::{close_delta, close_site, close_summary, open_cells, open_stamps};
 pub use exchange::{export_document, import_document};
 pub use fault::{DocCause, DocFault, FieldFault, Spot};
 pub use lang_maps::LangMaps;
 pub use lang_maps_reading::read_langmaps;
 pub use lang_maps_writing::write_langmaps;
 pub use lines::answer_lines;
-pub use numbers::{is_in_range, whole_number};
 pub use reading::{read_delta, read_site, read_summary};
 pub use replaying::replay;
 pub use script::Script;
 pub use script_document::read_script;
 pub use sinks::{Output, Sink, write_out};
 pub use sources::{Input, MOST_BYTES, Source, read_all};
-pub use writing::{WrittenRow, write_cell, write_stamp, write_texts};
 
 #[cfg(test)]
 mod tests;
