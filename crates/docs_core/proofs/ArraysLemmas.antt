@@ -1,9 +1,9 @@
 -- Items in front of what is left of an array.
-use Rattle.std.proofs.Common.{◌≡◌, ◌++◌, ℕ, length, List, [], ◌∷◌, refl, ap, inl, inr}
+use Rattle.std.proofs.Common.{◌≡◌, ◌++◌, List, [], ◌∷◌, refl, ap, inl, inr}
 use Rattle.std.specs.Prelude.{◌⊎◌, Option, None, Some}
 use Rattle.json.specs.Json.{parse_map}
 use Rattle.json.specs.Token.{Token}
-use Rattle.serde_json.specs.Data.{Data, Items, no_items, item}
+use Rattle.serde_json.specs.Data.{Data, Items, item}
 use Rattle.docs_core.specs.Arrays.{TakesNext, TakesRows}
 use Rattle.docs_core.specs.Checks.{Check}
 use Rattle.docs_core.specs.Rows.{list_of}

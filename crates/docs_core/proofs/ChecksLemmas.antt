@@ -1,6 +1,5 @@
 -- Tests of a list, and of what follows it.
-use Rattle.std.proofs.Common.{◌≡◌, ◌∙◌, ◌++◌, List, [], ◌∷◌, refl, ap, sym, subst, append_assoc, append-nil, inl, inr}
-use Rattle.std.specs.Prelude.{◌⊎◌}
+use Rattle.std.proofs.Common.{◌≡◌, ◌++◌, List, [], ◌∷◌, sym, subst, append_assoc, append-nil, inl, inr}
 use Rattle.serde_json.specs.Data.{Data}
 use Rattle.docs_core.specs.Checks.{AllPass, Check, FirstFails, rows_checks}
 use Rattle.docs_core.specs.declared.fault.DocCause.{DocCause}

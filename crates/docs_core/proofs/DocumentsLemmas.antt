@@ -1,14 +1,14 @@
 -- Rows that are written one after another.
-use Rattle.std.proofs.Common.{◌≡◌, ◌∙◌, ◌+◌, ◌<◌, ◌++◌, ℕ, zero, suc, List, [], ◌∷◌, codes, map, take, length, refl, ap, sym, append_assoc, add-one, arith}
+use Rattle.std.proofs.Common.{◌≡◌, ◌∙◌, ◌+◌, ◌<◌, ◌++◌, ℕ, zero, suc, List, [], ◌∷◌, codes, take, length, ap, sym, append_assoc, add-one, arith}
 use Rattle.std.proofs.lemmas.List.{map-append}
-use Rattle.std.specs.Prelude.{Option, None, Some, slice_get}
+use Rattle.std.specs.Prelude.{None, Some, slice_get}
 use Rattle.json.specs.Token.{begin_object, begin_array, key, string}
 use Rattle.json.specs.Written.{Written}
 use Rattle.serde_json.specs.Data.{Data}
 use Rattle.cata_core.specs.Entries.{Entries, Entry, EntryKey}
 use Rattle.cell_core.specs.declared.stamp.Stamp.{Stamp}
 use Rattle.docs_core.specs.Documents.{cells_values, entry_value, stamps_values, told_value}
-use Rattle.docs_core.specs.Texts.{Adds, HoldsCells, HoldsStamps, row_tokens, value_tokens}
+use Rattle.docs_core.specs.Texts.{Adds, HoldsCells, HoldsStamps, value_tokens}
 use Rattle.docs_core.proofs.TextsLemmas.{row_tokens-push}
 
 HoldsCells-adds : (a b : Written) (rows : List Data) (d : Data) → HoldsCells a rows → Adds a b (value_tokens d) → HoldsCells b (rows ++ d ∷ [])

@@ -1,9 +1,9 @@
 -- The texts of a label, and refusals of fields.
-use Rattle.std.proofs.Common.{◌≡◌, ◌∙◌, ◌+◌, ◌<◌, ◌++◌, ℕ, List, [], ◌∷◌, Bool, true, Global, String, string_bytes, map, take, length, get_or, refl, ap, sym, add-one, inl, inr}
+use Rattle.std.proofs.Common.{◌≡◌, ◌∙◌, ◌+◌, ◌<◌, ◌++◌, ℕ, List, [], ◌∷◌, true, Global, String, string_bytes, map, take, length, get_or, refl, ap, sym, add-one, inl, inr}
 use Rattle.std.proofs.Math.Seq.{take-suc}
 use Rattle.std.proofs.lemmas.List.{map-append}
 use Rattle.std.specs.List.{cons_option, filter_map}
-use Rattle.std.specs.Prelude.{◌⊎◌, Option, None, Some, is_some, option_and_then, option_map, unwrap_or}
+use Rattle.std.specs.Prelude.{Option, None, Some, is_some, option_and_then, option_map, unwrap_or}
 use Rattle.std.specs.Str.{str_to_ascii_lowercase}
 use Rattle.json.specs.declared.value.Value.{Value}
 use Rattle.serde_json.specs.Data.{Data}
@@ -15,7 +15,6 @@ use Rattle.lang_core.specs.Lang.{SpellsLang}
 use Rattle.docs_core.specs.Fields.{cell_cause}
 use Rattle.docs_core.specs.Reads.{seen}
 use Rattle.docs_core.specs.Rows.{texts_in}
-use Rattle.docs_core.specs.declared.fault.DocCause.{DocCause}
 use Rattle.docs_core.specs.declared.fault.DocCause.TheVariants.{Field}
 use Rattle.docs_core.specs.declared.fault.FieldFault.TheVariants.{Cell}
 

@@ -1,6 +1,6 @@
 -- A list of labels that rises is told by its labels.
-use Rattle.std.proofs.Common.{◌≡◌, ◌∙◌, ◌+◌, ◌<◌, ℕ, zero, suc, List, [], ◌∷◌, Option, Some, length, get_or, false, refl, sym, ap, ap₂, subst, add-one, arith}
-use Rattle.std.specs.Prelude.{T, IsSorted, IsPermutation}
+use Rattle.std.proofs.Common.{◌≡◌, ◌∙◌, ◌<◌, ℕ, zero, suc, List, [], ◌∷◌, length, get_or, false, refl, sym, ap, ap₂, subst, add-one, arith}
+use Rattle.std.specs.Prelude.{IsSorted, IsPermutation}
 use Rattle.std.proofs.lemmas.Cmp.{lists_total, nat_list_cmp_total}
 use Rattle.std.proofs.lemmas.Map.Lookups.{exact_pairs}
 use Rattle.std.proofs.lemmas.Option.{same_Some}
@@ -9,16 +9,16 @@ use Rattle.std.specs.Cmp.Lexicographic.{slice_cmp}
 use Rattle.std.specs.FinMap.Entries.{below_all, is_sorted}
 use Rattle.std.specs.Ordering.{is_lt, ordering_reverse, ordering_then}
 use Rattle.std.specs.declared.cmp.Ordering.{Ordering}
-use Rattle.std.specs.declared.cmp.Ordering.TheVariants.{Less, Equal, Greater}
+use Rattle.std.specs.declared.cmp.Ordering.TheVariants.{Less, Equal}
 use Rattle.cell_core.specs.Maps.{IsMap}
 use Rattle.cata_core.proofs.Basics.{first_part, second_part}
 use Rattle.cata_core.proofs.Flat.{pair_total}
 use Rattle.cata_core.proofs.Places.{below-at}
-use Rattle.cata_core.specs.Entries.{EntryKey, key_cmp, key_cmp_exact, key_cmp_total, pair_cmp, text_cmp}
+use Rattle.cata_core.specs.Entries.{key_cmp, key_cmp_exact, key_cmp_total, pair_cmp, text_cmp}
 use Rattle.nego_core.proofs.Unique.{one_order, text_tied, then_tied}
 use Rattle.serde_json.specs.Data.{Data}
 use Rattle.docs_core.specs.LangMapLabels.{AreLangMaps, ReadsAsLangMaps, rows_labels}
-use Rattle.docs_core.specs.LangMapRows.{Rows, rows_in}
+use Rattle.docs_core.specs.LangMapRows.{Rows}
 use Rattle.docs_core.specs.LangMaps.{Labelled}
 
 texts_tied : (x y : List (List ℕ)) → slice_cmp text_cmp x y ≡ Equal → x ≡ y

@@ -1,6 +1,6 @@
 -- What is written of labels reads as those labels.
-use Rattle.std.proofs.Common.{◌≡◌, ◌∙◌, ◌≢◌, ◌≤◌, ◌<◌, ◌+◌, ◌++◌, ℕ, zero, suc, Bool, true, false, List, [], ◌∷◌, map, Option, None, Some, length, refl, sym, ap, ap₂, subst, append_assoc, append-nil, inl, inr, arith, true≢false, take, get_or, add-one}
-use Rattle.std.specs.Prelude.{◌⊎◌, ◌&&◌, nat_le, ◌||◌, ◌==◌, Decides, IsUtf8, T, if◌then◌else◌, is_some, option_map, option_and_then, unwrap_or, slice_get}
+use Rattle.std.proofs.Common.{◌≡◌, ◌∙◌, ◌≢◌, ◌≤◌, ◌<◌, ◌+◌, ◌++◌, ℕ, suc, Bool, true, false, List, [], ◌∷◌, map, Option, None, Some, length, refl, sym, ap, ap₂, subst, append_assoc, append-nil, inl, inr, arith, true≢false, take, get_or, add-one}
+use Rattle.std.specs.Prelude.{◌&&◌, nat_le, ◌||◌, ◌==◌, Decides, IsUtf8, T, if◌then◌else◌, option_map, option_and_then, slice_get}
 use Rattle.std.proofs.lemmas.Bool.{eqb-true}
 use Rattle.std.proofs.lemmas.Bool.Decides.{nat_tests}
 use Rattle.std.proofs.lemmas.Cmp.{nat_list_cmp_total, tied_itself}

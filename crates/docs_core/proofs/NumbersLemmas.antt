@@ -1,8 +1,8 @@
 -- Numbers below zero are no unsigned whole numbers.
-use Rattle.std.proofs.Common.{◌≡◌, ◌∙◌, ◌==◌, ℕ, List, Bool, true, false, drop, get_or, refl, ap, sym}
-use Rattle.std.specs.Prelude.{ℤ, Float, Option, None, Some, if◌then◌else◌, option_and_then}
+use Rattle.std.proofs.Common.{◌≡◌, ◌==◌, ℕ, List, Bool, true, false, drop, get_or, refl}
+use Rattle.std.specs.Prelude.{ℤ, Float, None, Some, if◌then◌else◌, option_and_then}
 use Rattle.fast_float.specs.Text.{Parts, scan}
-use Rattle.serde_json.specs.Data.{Num, negative, float}
+use Rattle.serde_json.specs.Data.{negative, float}
 use Rattle.serde_json.specs.Find.{as_u64}
 use Rattle.serde_json.specs.Read.{number_from, number_of}
 

@@ -1,8 +1,8 @@
 -- A text reads as one value at most.
-use Rattle.std.proofs.Common.{◌≡◌, ◌∙◌, ℕ, List, [], ◌∷◌, Bool, map, refl, ap, ap₂, sym, subst}
-use Rattle.std.specs.Prelude.{Option, None, Some, unwrap_or}
+use Rattle.std.proofs.Common.{◌≡◌, ◌∙◌, ℕ, List, [], ◌∷◌, map, refl, ap, ap₂, sym, subst}
+use Rattle.std.specs.Prelude.{Option, Some, unwrap_or}
 use Rattle.serde_json.specs.Data.{Data}
-use Rattle.cata_core.specs.Entries.{Entries, Entry, EntryKey}
+use Rattle.cata_core.specs.Entries.{Entries, EntryKey}
 use Rattle.cata_core.specs.Sites.{SiteState}
 use Rattle.cata_core.specs.Told.{SummaryState}
 use Rattle.cata_core.specs.declared.delta.Delta.{Delta}

@@ -1,5 +1,5 @@
 -- A value is read where its numbers are in range.
-use Rattle.std.proofs.Common.{◌≡◌, ◌∙◌, ◌++◌, ℕ, List, Bool, true, false, ◌&&◌, refl, ap, ap₂, sym}
+use Rattle.std.proofs.Common.{◌≡◌, ◌∙◌, ℕ, List, Bool, true, false, ◌&&◌, refl, ap, ap₂, sym}
 use Rattle.std.specs.Prelude.{Option, None, Some, is_some, option_map, option_and_then, unwrap_or}
 use Rattle.std.proofs.lemmas.List.Folds.{list_all-append}
 use Rattle.json.specs.Json as json
@@ -7,7 +7,7 @@ use Rattle.json.specs.Json.{value}
 use Rattle.json.specs.Token.{Token}
 use Rattle.json.specs.Tree.{json_tokens, items_tokens, members_tokens}
 use Rattle.json.proofs.Unique.Spelling.{value-json_tokens_back}
-use Rattle.serde_json.specs.Data.{Data, Items, Members, number, array, object, item, put}
+use Rattle.serde_json.specs.Data.{Data, Members, number, array, object, item, put}
 use Rattle.serde_json.specs.Read.{converted, number_of, of_json, of_items, of_members}
 use Rattle.docs_core.specs.Numbers.{are_in_range, is_token_in_range}
 use Rattle.docs_core.specs.Reads.{IsRead, Reads, data_of}

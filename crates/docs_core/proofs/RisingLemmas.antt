@@ -1,9 +1,8 @@
 -- One entry more.
-use Rattle.std.proofs.Common.{◌≡◌, ◌∙◌, ◌-◌, ◌++◌, ℕ, Bool, zero, suc, List, [], ◌∷◌, map, length, length-append, refl, ap, ap₂, sym, arith, inl, inr}
+use Rattle.std.proofs.Common.{◌≡◌, ◌∙◌, ◌-◌, ◌++◌, ℕ, Bool, zero, suc, List, [], ◌∷◌, length, length-append, refl, ap, ap₂, sym, arith, inl, inr}
 use Rattle.std.specs.declared.cmp.Ordering.TheVariants.{Less}
-use Rattle.std.specs.List.{All}
 use Rattle.std.specs.Option.{option_to_list}
-use Rattle.std.specs.Prelude.{◌⊎◌, MatchResult, OnErr, OnOk, Option, None, Some, Result, Ok, Err, option_and_then, option_map, slice_get, unwrap_or}
+use Rattle.std.specs.Prelude.{◌⊎◌, MatchResult, OnErr, OnOk, Option, None, Some, Result, Ok, Err, option_map, slice_get, unwrap_or}
 use Rattle.std.proofs.lemmas.List.{map-append}
 use Rattle.std.proofs.lemmas.List.Elements.{All-append}
 use Rattle.serde_json.specs.Data.{Data}

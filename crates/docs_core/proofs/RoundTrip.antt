@@ -1,5 +1,5 @@
 -- A document that was written passes all tests, and reads as what it was written for.
-use Rattle.std.proofs.Common.{◌≡◌, ◌∙◌, ◌||◌, ◌++◌, ℕ, List, [], Bool, true, false, codes, refl, ap, sym, inr}
+use Rattle.std.proofs.Common.{◌≡◌, ◌∙◌, ◌||◌, ◌++◌, ℕ, List, [], Bool, true, false, codes, refl, ap, inr}
 use Rattle.std.specs.Prelude.{Option, Some, IsUtf8, is_some}
 use Rattle.std.specs.Ordering.{is_eq, match_ordering, nat_cmp}
 use Rattle.std.specs.declared.cmp.Ordering.{Ordering}
@@ -17,7 +17,7 @@ use Rattle.docs_core.specs.Checks.{AllPass, Check, rows_checks}
 use Rattle.docs_core.specs.Documents.{cells_values, delta_text, site_text, stamps_values, summary_text}
 use Rattle.docs_core.specs.Forms.{names_of}
 use Rattle.docs_core.specs.Heads.{HasJust, head_checks, is_first, own_data, rows_in}
-use Rattle.docs_core.specs.Named.{delta_checks, own_checks, site_checks, summary_checks}
+use Rattle.docs_core.specs.Named.{own_checks}
 use Rattle.docs_core.specs.ReadsAs.{ReadsAsDelta, ReadsAsSite, ReadsAsSummary}
 use Rattle.docs_core.specs.Rising.{cell_checks, stamp_checks}
 use Rattle.docs_core.specs.Valid.{AreKeptCells, AreKeptStamps}

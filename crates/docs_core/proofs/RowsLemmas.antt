@@ -1,5 +1,5 @@
 -- A row of six parts.
-use Rattle.std.proofs.Common.{◌≡◌, ◌∙◌, ℕ, ◌<◌, ◌≤◌, List, [], ◌∷◌, Bool, Global, length, get_or, map, ap, sym, arith}
+use Rattle.std.proofs.Common.{◌≡◌, ◌∙◌, ℕ, ◌<◌, ◌≤◌, List, [], ◌∷◌, Bool, Global, length, get_or, map, ap, arith}
 use Rattle.std.specs.Prelude.{Option, Some, option_and_then, option_map}
 use Rattle.json.specs.declared.value.Value.{Value}
 use Rattle.serde_json.specs.Data.{Data}

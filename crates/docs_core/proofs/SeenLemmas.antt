@@ -1,8 +1,7 @@
 -- The data of an array are the data of its items.
-use Rattle.std.proofs.Common.{◌≡◌, ◌∙◌, ℕ, zero, suc, ◌<◌, List, [], ◌∷◌, Bool, true, false, ◌&&◌, Global, Vec, length, get_or, map, refl, ap, sym, arith}
+use Rattle.std.proofs.Common.{◌≡◌, ◌∙◌, ℕ, zero, suc, ◌<◌, List, [], ◌∷◌, true, ◌&&◌, Global, Vec, length, get_or, map, refl, ap, sym, arith}
 use Rattle.std.specs.Prelude.{Option, None, Some, is_some, option_map, option_and_then, unwrap_or}
 use Rattle.std.specs.List.{list_all}
-use Rattle.json.specs.Json as json
 use Rattle.json.specs.Value.{items_view, value_view}
 use Rattle.json.specs.declared.value.Value.{Value, Array}
 use Rattle.json.proofs.Trees.{view-Array}

@@ -1,11 +1,10 @@
 -- Rows that were written are read as the entries that they were written for.
-use Rattle.std.proofs.Common.{◌≡◌, ◌∙◌, ◌<◌, ◌^◌, ◌++◌, ℕ, List, [], ◌∷◌, Bool, true, false, ◌&&◌, T, map, length, refl, ap, ap₂, sym, subst, lt-ltb}
+use Rattle.std.proofs.Common.{◌≡◌, ◌<◌, ◌^◌, ◌++◌, ℕ, List, [], ◌∷◌, false, T, map, length, refl, ap, ap₂, lt-ltb}
 use Rattle.std.specs.List.{All}
-use Rattle.std.specs.Prelude.{Option, None, Some, option_map}
+use Rattle.std.specs.Prelude.{Option, None, Some}
 use Rattle.std.specs.Ordering.{is_lt}
 use Rattle.std.specs.FinMap.Entries.{below_all, is_sorted}
 use Rattle.cell_core.specs.declared.stamp.Stamp.{Stamp}
-use Rattle.cell_core.specs.Maps.{IsMap}
 use Rattle.cata_core.specs.Entries.{Entries, Entry, EntryKey, key_cmp}
 use Rattle.cata_core.proofs.Basics.{first_part, less_than, second_part}
 use Rattle.cata_core.proofs.Flat.{all_first, all_rest}
@@ -17,8 +16,8 @@ use Rattle.docs_core.specs.Entries.{row_of}
 use Rattle.docs_core.specs.Fields.{IsBehind, key_of, order_check}
 use Rattle.docs_core.specs.Rising.{AreEntries, cell_checks, cell_row, entry_in, last_key, own_cell_checks, own_stamp_checks, stamp_checks, stamp_row, told_in}
 use Rattle.docs_core.specs.Rows.{cell_in, label_in, list_of, narrowed, stamp_in, texts_in}
-use Rattle.docs_core.specs.Valid.{AreKeptCells, AreKeptStamps, IsKept, IsKeptCell, IsKeptStamp}
-use Rattle.docs_core.specs.Values.{Row, label_value}
+use Rattle.docs_core.specs.Valid.{AreKeptCells, AreKeptStamps, IsKeptCell, IsKeptStamp}
+use Rattle.docs_core.specs.Values.{label_value}
 use Rattle.docs_core.proofs.ChecksLemmas.{AllPass-both}
 use Rattle.docs_core.proofs.LowerLemmas.{lower-IsLang, spells-IsLang}
 use Rattle.docs_core.proofs.RisingLemmas.{last_key-push}

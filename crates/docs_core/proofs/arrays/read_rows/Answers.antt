@@ -1,5 +1,5 @@
-use Rattle.std.proofs.Common.{◌≡◌, ◌<◌, ◌++◌, ◌-◌, ◌∙◌, [], ◌∷◌, None, ap, append-nil, arith, length, length-append, refl}
-use Rattle.json.specs.Json.{after_end_array, parse_map, value}
+use Rattle.std.proofs.Common.{◌<◌, ◌++◌, ◌-◌, ◌∙◌, [], ◌∷◌, ap, append-nil, arith, length, length-append, refl}
+use Rattle.json.specs.Json.{parse_map, value}
 use Rattle.serde_json.specs.Data.{no_items}
 use Rattle.serde_json.specs.Read.{converted, of_json}
 use Rattle.docs_core.proofs.ReadingLemmas.{item_read, item_refused, items_over}

@@ -1,4 +1,3 @@
-use Rattle.std.proofs.Common.{inl, inr}
 use Rattle.std.proofs.lemmas.Result.{err_from_is_err_and}
 use Rattle.docs_core.specs.Named.{site_checks}
 use Rattle.docs_core.proofs.CallsLemmas.{no_memory}

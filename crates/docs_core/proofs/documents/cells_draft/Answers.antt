@@ -1,8 +1,6 @@
 use Rattle.std.proofs.Common.{◌≡◌, ◌∙◌, ◌++◌, [], ◌∷◌, append-nil, ap, sym}
 use Rattle.cata_core.specs.CellsLeft.{cells_left}
 use Rattle.cata_core.specs.Entries.{Entries, Entry}
-use Rattle.docs_core.specs.Documents.{cells_values}
-use Rattle.docs_core.specs.Texts.{HoldsCells}
 use Rattle.docs_core.proofs.DocumentsLemmas.{cell_more}
 use Rattle.docs_core.proofs.documents.cells_draft.Goals as goal
 

@@ -1,5 +1,4 @@
-use Rattle.std.proofs.Common.{◌∙◌, map, sym, subst, rules, inl, inr}
-use Rattle.cell_core.specs.Labels.{IsLabel}
+use Rattle.std.proofs.Common.{◌∙◌, map, subst, inr}
 use Rattle.docs_core.specs.Reads.{seen}
 use Rattle.cell_core.specs.Refusals.{RefusesTexts}
 use Rattle.docs_core.proofs.FieldsLemmas.{among-texts_in, texts_cause}

@@ -1,10 +1,9 @@
-use Rattle.std.proofs.Common.{◌≡◌, ◌∙◌, ◌+◌, ◌++◌, List, ◌∷◌, drop, length, take, ap, refl, subst, arith}
+use Rattle.std.proofs.Common.{◌≡◌, ◌∙◌, ◌+◌, ◌++◌, List, drop, length, ap, refl, subst, arith}
 use Rattle.std.proofs.Math.Seq.{take-length}
 use Rattle.std.proofs.lemmas.Result.{IfOk-weaker}
 use Rattle.std.specs.Prelude.{None, option_map}
-use Rattle.docs_core.specs.LangMapLaws.{AreWritable}
 use Rattle.docs_core.specs.LangMaps.{Labelled, labels_of}
-use Rattle.docs_core.specs.LangMapsWritten.{label_tokens, labels_tokens, opening_tokens}
+use Rattle.docs_core.specs.LangMapsWritten.{labels_tokens}
 use Rattle.docs_core.proofs.LangMapMembersLemmas.{first_left}
 use Rattle.docs_core.proofs.LangMapTripLemmas.{writable_next}
 use Rattle.docs_core.proofs.LangMapsLemmas.{one_written}

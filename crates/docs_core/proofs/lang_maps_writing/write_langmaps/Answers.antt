@@ -6,7 +6,7 @@ use Rattle.json.specs.Token.{begin_object}
 use Rattle.json.specs.Written.{Written}
 use Rattle.docs_core.specs.LangMapLabels.{AreLangMaps}
 use Rattle.docs_core.specs.LangMapLaws.{AreWritable}
-use Rattle.docs_core.specs.LangMaps.{Labelled, labels_of}
+use Rattle.docs_core.specs.LangMaps.{labels_of}
 use Rattle.docs_core.specs.LangMapsValue.{langmaps_value}
 use Rattle.docs_core.specs.LangMapsWritten.{labels_tokens}
 use Rattle.docs_core.specs.Texts.{text}

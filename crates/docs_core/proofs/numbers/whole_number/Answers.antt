@@ -1,4 +1,4 @@
-use Rattle.std.proofs.Common.{◌≡◌, ◌∙◌, false, drop, ap, sym}
+use Rattle.std.proofs.Common.{◌∙◌, false, drop, ap, sym}
 use Rattle.std.specs.Prelude.{option_and_then}
 use Rattle.fast_float.specs.Text.{scan}
 use Rattle.serde_json.specs.Find.{as_u64}

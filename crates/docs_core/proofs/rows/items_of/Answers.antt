@@ -1,4 +1,3 @@
-use Rattle.std.proofs.Common.{◌∙◌, ap, sym}
 use Rattle.docs_core.proofs.SeenLemmas.{items_in-Array, AreRead-Array}
 use Rattle.docs_core.proofs.rows.items_of.Goals as goal
 

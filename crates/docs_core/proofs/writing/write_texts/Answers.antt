@@ -1,8 +1,5 @@
-use Rattle.std.proofs.Common.{◌∙◌, ◌≡◌, ◌∷◌, [], ap, arith, length, take}
+use Rattle.std.proofs.Common.{◌≡◌, arith, length}
 use Rattle.std.proofs.Math.Seq.{take-length}
-use Rattle.json.specs.Token.{begin_array, end_array}
-use Rattle.docs_core.specs.Texts.{row_tokens}
-use Rattle.docs_core.specs.Written.{texts_of}
 use Rattle.docs_core.proofs.TextsLemmas.{Adds-then, array_closed, row_tokens-text}
 use Rattle.docs_core.proofs.writing.write_texts.Goals as goal
 

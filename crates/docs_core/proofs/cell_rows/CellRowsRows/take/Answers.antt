@@ -1,8 +1,8 @@
 use Rattle.docs_core.specs.EntriesSeen.{entry_by}
 use Rattle.docs_core.specs.Reads.{seen}
 use Rattle.docs_core.specs.Rising.{entry_in, own_cell_checks}
-use Rattle.std.proofs.Common.{inl, inr}
-use Rattle.docs_core.proofs.RisingLemmas.{fails_alone, fails_row, key_of_cell, MakesEntries-push, passes_row}
+use Rattle.std.proofs.Common.{inr}
+use Rattle.docs_core.proofs.RisingLemmas.{fails_row, key_of_cell, MakesEntries-push, passes_row}
 use Rattle.docs_core.proofs.cell_rows.CellRowsRows.take.Goals as goal
 
 pub returns-clause-ok : goal.returns-clause-ok

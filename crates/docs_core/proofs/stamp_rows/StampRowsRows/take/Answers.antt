@@ -1,8 +1,8 @@
 use Rattle.docs_core.specs.EntriesSeen.{told_by}
 use Rattle.docs_core.specs.Reads.{seen}
 use Rattle.docs_core.specs.Rising.{told_in, own_stamp_checks}
-use Rattle.std.proofs.Common.{inl, inr}
-use Rattle.docs_core.proofs.RisingLemmas.{fails_alone, fails_row, key_of_stamp, MakesEntries-push, passes_row}
+use Rattle.std.proofs.Common.{inr}
+use Rattle.docs_core.proofs.RisingLemmas.{fails_row, key_of_stamp, MakesEntries-push, passes_row}
 use Rattle.docs_core.proofs.stamp_rows.StampRowsRows.take.Goals as goal
 
 pub returns-clause-ok : goal.returns-clause-ok
