@@ -1,7 +1,9 @@
--- Rows that are written one after another.
-use Rattle.std.proofs.Common.{◌≡◌, ◌∙◌, ◌+◌, ◌<◌, ◌++◌, ℕ, zero, suc, List, [], ◌∷◌, codes, take, length, ap, sym, append_assoc, add-one, arith}
+-- Rows that are written one after another, and documents that read as what they were written for.
+use Rattle.std.proofs.Common.{◌≡◌, ◌∙◌, ◌+◌, ◌<◌, ◌++◌, ℕ, zero, suc, List, [], ◌∷◌, codes, take, length, ap, sym, subst, append_assoc, add-one, arith}
 use Rattle.std.proofs.lemmas.List.{map-append}
-use Rattle.std.specs.Prelude.{None, Some, slice_get}
+use Rattle.std.proofs.lemmas.List.Elements.{All-append, All-cons, All-nil}
+use Rattle.std.specs.List.{All}
+use Rattle.std.specs.Prelude.{IfOk, IsUtf8, None, Ok, Err, Result, Some, slice_get}
 use Rattle.json.specs.Token.{begin_object, begin_array, key, string}
 use Rattle.json.specs.Written.{Written}
 use Rattle.serde_json.specs.Data.{Data}
@@ -49,3 +51,16 @@ pub some_at : {A : Type 0} (xs : List A) (k : ℕ) → k < length xs → slice_g
 some_at [] k h is = omega (arith, h)
 some_at (x ∷ xs) zero h is = cc
 some_at (x ∷ xs) (suc k) h is = some_at xs k (omega (arith, h)) is
+
+-- one more is as all before it
+pub kept_more : {X : Type 0} (P : X → Type 0) (xs : List X) (x : X) → All P xs → P x → All P (xs ++ x ∷ [])
+kept_more P xs x all one = All-append P xs (x ∷ []) all (All-cons P x [] one (All-nil P))
+
+pub kept_next : {X : Type 0} (P : X → Type 0) (xs : List X) (k : ℕ) (x : X) → slice_get xs k ≡ Some x → All P (take k xs) → P x → All P (take (k + 1) xs)
+kept_next P xs k x is all one = rw (add-one, taken xs k x is) (kept_more P (take k xs) x all one)
+
+-- a text that was written reads back where it does so as UTF-8
+pub written_reads : {E : Type 0} (written : List ℕ) (Back : List ℕ → Type 0) (result : Result (List ℕ) E) → IfOk result (λ doc. doc ≡ written) → IfOk result (λ doc. IsUtf8 doc)
+    → (IsUtf8 written → Back written) → IfOk result Back
+written_reads written Back (Ok doc) is utf8 back = subst Back (sym is) (back (subst IsUtf8 is utf8))
+written_reads written Back (Err e) is utf8 back = tt

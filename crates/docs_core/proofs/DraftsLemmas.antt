@@ -1,5 +1,8 @@
--- A draft that is closed is the text of its document.
-use Rattle.std.proofs.Common.{◌≡◌, ◌∙◌, ◌++◌, ℕ, List, [], ◌∷◌, codes, ap, sym}
+-- A draft that is closed is the text of its document, and is UTF-8.
+use Rattle.std.proofs.Common.{◌≡◌, ◌∙◌, ◌++◌, ℕ, List, [], ◌∷◌, codes, refl, ap, sym, subst}
+use Rattle.std.specs.Prelude.{IsUtf8}
+use Rattle.std.proofs.lemmas.Str.{IsUtf8-append}
+use Rattle.json.proofs.Printed.Utf8.{IsUtf8-are_ascii}
 use Rattle.json.specs.Print.{print}
 use Rattle.json.specs.Token.{Token, begin_object, begin_array, end_array, key, string}
 use Rattle.json.specs.Tree.{items_tokens}
@@ -37,3 +40,7 @@ summary_closed draft owner rows holds =
     (ap (λ t. t ++ end_array ∷ version_tokens) holds.1
     ∙ ap (λ t. begin_object ∷ key (codes "kind") ∷ string (codes "summary") ∷ key (codes "owner") ∷ string owner ∷ key (codes "stamps") ∷ begin_array ∷ t)
     (sym (rows_member rows version_tokens)))
+
+-- a text in UTF-8 behind nothing, and its line feed
+pub utf8_line : (before bytes : List ℕ) → IsUtf8 bytes → before ≡ [] → IsUtf8 (before ++ (bytes ++ 10 ∷ []))
+utf8_line before bytes utf8 none = subst (λ b. IsUtf8 (b ++ (bytes ++ 10 ∷ []))) (sym none) (IsUtf8-append bytes (10 ∷ []) utf8 (IsUtf8-are_ascii (10 ∷ []) refl))

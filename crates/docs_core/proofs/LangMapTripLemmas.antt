@@ -24,12 +24,8 @@ use Rattle.cata_core.specs.Flat.{flat, under}
 use Rattle.json.specs.Json.{value}
 use Rattle.json.specs.Lex.{tokens}
 use Rattle.json.specs.Tree.{HasNumbers, ItemsHaveNumbers, MembersHaveNumbers, depth, items_depth, json_tokens, members_depth}
-use Rattle.json.specs.Print.{ArePrintable, print}
-use Rattle.json.specs.Token.{Token}
 use Rattle.json.proofs.Printed.Tokens.{tokens-print}
-use Rattle.json.proofs.Printed.Utf8.{IsUtf8-are_ascii}
 use Rattle.std.proofs.Math.Seq.{take-suc}
-use Rattle.std.proofs.lemmas.Str.{IsUtf8-append}
 use Rattle.docs_core.proofs.LangMapsLemmas.{labels_push}
 use Rattle.docs_core.specs.declared.lang_maps.KeyedLabel.{KeyedLabel}
 use Rattle.json.proofs.Printed.Trees.{ArePrintable-json_tokens, value-json_tokens}
@@ -428,10 +424,3 @@ pub writable_next : (labels : List KeyedLabel) (k : ℕ) (l : KeyedLabel) → k 
 writable_next labels k l h is all one =
     let taken : take (k + 1) labels ≡ take k labels ++ l ∷ [] = rw (add-one, take-suc labels k l h) (ap (λ (x : KeyedLabel). take k labels ++ x ∷ []) (sym is)) in
     subst AreWritable (sym (ap labels_of taken ∙ labels_push (take k labels) l)) (writable_push (labels_of (take k labels)) ((l.id, l.lang), l.label) all one)
-
--- what a writer holds is UTF-8
-pub utf8_print : (bytes : List ℕ) (printed ts : List Token) → ArePrintable printed → bytes ≡ print printed → IsUtf8 bytes → tokens bytes ≡ ts → IsUtf8 (print ts)
-utf8_print bytes printed ts can is utf8 same = subst IsUtf8 (is ∙ ap print (sym (tokens-print printed can) ∙ ap tokens (sym is) ∙ same)) utf8
-
-pub utf8_line : (bytes : List ℕ) → IsUtf8 bytes → IsUtf8 (bytes ++ 10 ∷ [])
-utf8_line bytes utf8 = IsUtf8-append bytes (10 ∷ []) utf8 (IsUtf8-are_ascii (10 ∷ []) refl)

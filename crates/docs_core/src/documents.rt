@@ -1,7 +1,10 @@
 //! The documents of sites, deltas and summaries, written.
 ghost use Rattle.std.specs.Prelude.{◌≡◌, IfOk, OnOk};
+ghost use Rattle.cell_core.specs.SiteNames.{IsSiteName};
 ghost use Rattle.docs_core.specs.Documents.{cells_values, delta_text, site_text, stamps_values, summary_text, told_value};
+ghost use Rattle.docs_core.specs.ReadsAs.{ReadsAsDelta, ReadsAsSite, ReadsAsSummary};
 ghost use Rattle.docs_core.specs.Texts.{Adds, HoldsCells, HoldsStamps, value_tokens};
+ghost use Rattle.docs_core.specs.Valid.{AreKeptCells, AreKeptStamps, IsKeptStamp};
 
 use crate::doc::Doc;
 use crate::drafts::{close_delta, close_site, close_summary, open_cells, open_stamps};
@@ -17,7 +20,8 @@ use std::alloc::{AllocError, Global};
 ///
 /// Its one refusal is want of memory (26).
 pub fn write_site(alloc: Global, site: &Site) -> Result<Doc, AllocError>
-    ensures { IfOk result (λ doc. doc ≡ site_text site.now) }
+    ensures text { IfOk result (λ doc. doc ≡ site_text site.now) }
+    ensures reads { IfOk result (λ doc. ReadsAsSite doc site.now) }
 {
     let draft = cells_draft(alloc, site.catalogue())?;
     close_site(draft, site.name().as_str())
@@ -27,7 +31,8 @@ pub fn write_site(alloc: Global, site: &Site) -> Result<Doc, AllocError>
 ///
 /// Its one refusal is want of memory (26).
 pub fn write_delta(alloc: Global, delta: &Delta) -> Result<Doc, AllocError>
-    ensures { IfOk result (λ doc. doc ≡ delta_text delta.now) }
+    ensures text { IfOk result (λ doc. doc ≡ delta_text delta.now) }
+    ensures reads { IfOk result (λ doc. ReadsAsDelta doc delta.now) }
 {
     let draft = cells_draft(alloc, delta.cells())?;
     close_delta(draft, delta.addressee().as_str())
@@ -37,7 +42,8 @@ pub fn write_delta(alloc: Global, delta: &Delta) -> Result<Doc, AllocError>
 ///
 /// Its one refusal is want of memory (26).
 pub fn write_summary(alloc: Global, summary: &Summary) -> Result<Doc, AllocError>
-    ensures { IfOk result (λ doc. doc ≡ summary_text summary.now) }
+    ensures text { IfOk result (λ doc. doc ≡ summary_text summary.now) }
+    ensures reads { IfOk result (λ doc. ReadsAsSummary doc summary.now) }
 {
     let draft = stamps_draft(alloc, summary)?;
     close_summary(draft)
@@ -45,7 +51,8 @@ pub fn write_summary(alloc: Global, summary: &Summary) -> Result<Doc, AllocError
 
 // A site's or a delta's document, open behind all cells.
 fn cells_draft(alloc: Global, cells: &Catalogue) -> Result<Writer, AllocError>
-    ensures { IfOk result (λ draft. HoldsCells draft (cells_values cells.now)) }
+    ensures rows { IfOk result (λ draft. HoldsCells draft (cells_values cells.now)) }
+    ensures kept { IfOk result (λ _. AreKeptCells cells.now) }
 {
     let mut draft = open_cells(alloc)?;
     'cells: for (id, lang, cell) in cells.iter() {
@@ -56,7 +63,9 @@ fn cells_draft(alloc: Global, cells: &Catalogue) -> Result<Writer, AllocError>
 
 // A summary's document, open behind all stamps.
 fn stamps_draft(alloc: Global, summary: &Summary) -> Result<Writer, AllocError>
-    ensures { IfOk result (λ draft. HoldsStamps draft summary.now.owner (stamps_values summary.now.stamps)) }
+    ensures rows { IfOk result (λ draft. HoldsStamps draft summary.now.owner (stamps_values summary.now.stamps)) }
+    ensures owner { IfOk result (λ _. IsSiteName summary.now.owner) }
+    ensures kept { IfOk result (λ _. AreKeptStamps summary.now.stamps) }
 {
     let mut draft = open_stamps(alloc, summary.owner().as_str())?;
     'stamps: for place in 0..summary.len() {
@@ -69,7 +78,8 @@ fn stamps_draft(alloc: Global, summary: &Summary) -> Result<Writer, AllocError>
 
 // Adds the `STAMP` of a key.
 fn write_told(out: &mut Writer, id: &MessageId, lang: &Lang, stamp: Stamp) -> Result<(), AllocError>
-    ensures { OnOk result (Adds out.old out.new (value_tokens (told_value ((id.now, lang.now), stamp)))) }
+    ensures tokens { OnOk result (Adds out.old out.new (value_tokens (told_value ((id.now, lang.now), stamp)))) }
+    ensures kept { OnOk result (IsKeptStamp ((id.now, lang.now), stamp)) }
 {
     let row = WrittenRow {
         id: id.as_str(),

@@ -1,5 +1,5 @@
 //! A document that is being written: what stands in front of its rows, and behind them.
-ghost use Rattle.std.specs.Prelude.{◌≡◌, ◌∷◌, [], ◌++◌, ℕ, List, IfOk, OnOk, codes};
+ghost use Rattle.std.specs.Prelude.{◌≡◌, ◌∷◌, [], ◌++◌, ℕ, List, IfOk, IsUtf8, OnOk, codes};
 ghost use Rattle.json.specs.Print.{print};
 ghost use Rattle.json.specs.Token.{begin_object, end_object, begin_array, end_array, key, number, string};
 ghost use Rattle.serde_json.specs.Data.{Data};
@@ -24,16 +24,18 @@ pub fn open_cells(alloc: Global) -> Result<Writer, AllocError>
 
 /// Closes the document of a site behind its rows.
 pub fn close_site(draft: Writer, site: &str) -> Result<Doc, AllocError>
-    ensures { (rows : List Data) → HoldsCells draft rows
+    ensures text { (rows : List Data) → HoldsCells draft rows
         → IfOk result (λ doc. doc ≡ text (site_value site.now rows)) }
+    ensures utf8 { IfOk result (λ doc. draft.before ≡ [] → IsUtf8 doc) }
 {
     close_named(draft, "site", "site", site)
 }
 
 /// Closes the document of a delta behind its rows.
 pub fn close_delta(draft: Writer, addressee: &str) -> Result<Doc, AllocError>
-    ensures { (rows : List Data) → HoldsCells draft rows
+    ensures text { (rows : List Data) → HoldsCells draft rows
         → IfOk result (λ doc. doc ≡ text (delta_value addressee.now rows)) }
+    ensures utf8 { IfOk result (λ doc. draft.before ≡ [] → IsUtf8 doc) }
 {
     close_named(draft, "delta", "to", addressee)
 }
@@ -53,15 +55,17 @@ pub fn open_stamps(alloc: Global, owner: &str) -> Result<Writer, AllocError>
 
 /// Closes the document of a summary behind its rows.
 pub fn close_summary(draft: Writer) -> Result<Doc, AllocError>
-    ensures { (owner : List ℕ) (rows : List Data) → HoldsStamps draft owner rows
+    ensures text { (owner : List ℕ) (rows : List Data) → HoldsStamps draft owner rows
         → IfOk result (λ doc. doc ≡ text (summary_value owner rows)) }
+    ensures utf8 { IfOk result (λ doc. draft.before ≡ [] → IsUtf8 doc) }
 {
     close_rows(draft)
 }
 
 // Closes the rows, and adds the version.
 fn close_rows(mut draft: Writer) -> Result<Doc, AllocError>
-    ensures { IfOk result (λ doc. doc ≡ draft.before ++ (print (draft.tokens ++ end_array ∷ version_tokens) ++ 10 ∷ [])) }
+    ensures text { IfOk result (λ doc. doc ≡ draft.before ++ (print (draft.tokens ++ end_array ∷ version_tokens) ++ 10 ∷ [])) }
+    ensures utf8 { IfOk result (λ doc. draft.before ≡ [] → IsUtf8 doc) }
 {
     draft.end_array()?;
     write_version(&mut draft)?;
@@ -70,7 +74,8 @@ fn close_rows(mut draft: Writer) -> Result<Doc, AllocError>
 
 // Closes the rows, and adds the kind, a name and the version.
 fn close_named(mut draft: Writer, kind: &str, member: &str, name: &str) -> Result<Doc, AllocError>
-    ensures { IfOk result (λ doc. doc ≡ draft.before ++ (print (draft.tokens ++ end_array ∷ (name_tokens (codes "kind") kind.now ++ (name_tokens member.now name.now ++ version_tokens))) ++ 10 ∷ [])) }
+    ensures text { IfOk result (λ doc. doc ≡ draft.before ++ (print (draft.tokens ++ end_array ∷ (name_tokens (codes "kind") kind.now ++ (name_tokens member.now name.now ++ version_tokens))) ++ 10 ∷ [])) }
+    ensures utf8 { IfOk result (λ doc. draft.before ≡ [] → IsUtf8 doc) }
 {
     draft.end_array()?;
     write_name(&mut draft, "kind", kind)?;
@@ -98,7 +103,8 @@ fn write_version(draft: &mut Writer) -> Result<(), AllocError>
 
 // The text with its line feed.
 pub(crate) fn finish(draft: Writer) -> Result<Doc, AllocError>
-    ensures { IfOk result (λ doc. doc ≡ draft.before ++ (print draft.tokens ++ 10 ∷ [])) }
+    ensures text { IfOk result (λ doc. doc ≡ draft.before ++ (print draft.tokens ++ 10 ∷ [])) }
+    ensures utf8 { IfOk result (λ doc. draft.before ≡ [] → IsUtf8 doc) }
 {
     let mut bytes = draft.into_inner();
     bytes.push(b'\n')?;

@@ -2,6 +2,7 @@
 ghost use Rattle.std.specs.Prelude.{OnOk};
 ghost use Rattle.docs_core.specs.Entries.{row_of};
 ghost use Rattle.docs_core.specs.Texts.{Adds, value_tokens};
+ghost use Rattle.docs_core.specs.Valid.{IsKeptCell};
 ghost use Rattle.docs_core.specs.Values.{cell_value};
 
 use crate::writing::{WrittenRow, write_cell};
@@ -17,14 +18,16 @@ pub fn write_entry(
     lang: &Lang,
     cell: &Cell,
 ) -> Result<(), AllocError>
-    ensures { OnOk result (Adds out.old out.new (value_tokens (cell_value (row_of ((id.now, lang.now), cell.now)) cell.now.label))) }
+    ensures tokens { OnOk result (Adds out.old out.new (value_tokens (cell_value (row_of ((id.now, lang.now), cell.now)) cell.now.label))) }
+    ensures kept { OnOk result (IsKeptCell ((id.now, lang.now), cell.now)) }
 {
+    let stamp = cell.stamp();
     let row = WrittenRow {
         id: id.as_str(),
         language: lang.as_str(),
-        time: cell.stamp.time,
-        site: cell.stamp.site.as_str(),
-        count: cell.stamp.count,
+        time: stamp.time,
+        site: stamp.site.as_str(),
+        count: stamp.count,
     };
     match cell.label() {
         Some(label) => write_cell(out, &row, Some(label.texts())),

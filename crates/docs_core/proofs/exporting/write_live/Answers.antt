@@ -13,4 +13,4 @@ returns c =
     let none : c.write_cells.new.out.before ≡ [] = wrote.0 ∙ opened.room.0 ∙ c.new-draft.ensures.before ∙ c.new.ensures.items in
     let tokens : c.write_cells.new.out.tokens ≡ begin_object ∷ labels_tokens None (live_labels c.args.catalogue.now) =
     wrote.1 ∙ ap (λ t. t ++ labels_tokens None (live_labels c.args.catalogue.now)) (opened.ok ∙ ap (λ t. t ++ begin_object ∷ []) c.new-draft.ensures.tokens) in
-    IfOk-weaker c.finish.result _ _ (λ _ is. is ∙ written_whole c.write_cells.new.out (live_labels c.args.catalogue.now) none tokens) c.finish.ensures
+    IfOk-weaker c.finish.result _ _ (λ _ is. is ∙ written_whole c.write_cells.new.out (live_labels c.args.catalogue.now) none tokens) c.finish.ensures.text
