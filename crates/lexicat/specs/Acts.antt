@@ -13,6 +13,7 @@ use Rattle.docs_core.specs.Documents.{site_text}
 use Rattle.docs_core.specs.ReadsAs.{IsOfDocument, RefusesSite}
 use Rattle.docs_core.specs.Asks.{IsAsked}
 use Rattle.docs_core.specs.Exchange as exchange
+use Rattle.docs_core.specs.Fields.{IsSpelled}
 use Rattle.docs_core.specs.Replays.{RefusesReplay, Replays}
 use Rattle.docs_core.specs.declared.fault.DocCause.TheVariants.{NoMemory}
 use Rattle.docs_core.specs.declared.fault.DocFault.{DocFault}
@@ -29,7 +30,7 @@ use Rattle.lexicat.specs.Picks.{Picks}
 use Rattle.lexicat.specs.Reading.{Treats}
 use Rattle.lexicat.specs.Refusals.{number_of}
 use Rattle.lexicat.specs.Status.{status_of}
-use Rattle.lexicat.specs.Wording.{BarsNone, IsDefault, IsSpelled, NoWords, RefusesDefault, RefusesKey, RefusesLabelWords}
+use Rattle.lexicat.specs.Wording.{BarsNone, IsDefault, NoWords, RefusesDefault, RefusesKey, RefusesLabelWords}
 use Rattle.lexicat.specs.declared.refusal.Refusal.{Refusal}
 use Rattle.lexicat.specs.declared.refusal.Refusal.TheVariants as refusal
 use Rattle.lexicat.specs.declared.verb.Verb.{Verb}
@@ -76,23 +77,18 @@ RefusesDeletion words input fault = call.RefusesEditing input words.now fault
 
 -- ---- one document
 
+-- why the only document is no site
+abbrev pub RefusesOnly : List ℕ → DocFault → Type 0
+RefusesOnly input = IsOfDocument 1 (RefusesSite input)
+
 abbrev pub IsStatus : List ℕ → List ℕ → ℕ → Type 0
 IsStatus input text answered = call.IsStatus input text × (answered ≡ 0)
-
-abbrev pub RefusesStatus : List ℕ → DocFault → Type 0
-RefusesStatus input = IsOfDocument 1 (RefusesSite input)
 
 abbrev pub IsExport : List ℕ → List ℕ → ℕ → Type 0
 IsExport input text answered = exchange.IsExported input text × (answered ≡ 0)
 
-abbrev pub RefusesExport : List ℕ → DocFault → Type 0
-RefusesExport input = IsOfDocument 1 (RefusesSite input)
-
 abbrev pub IsSummary : List ℕ → List ℕ → ℕ → Type 0
 IsSummary input text answered = call.IsSummarised input text × (answered ≡ 0)
-
-abbrev pub RefusesSummary : List ℕ → DocFault → Type 0
-RefusesSummary input = IsOfDocument 1 (RefusesSite input)
 
 -- ---- two documents
 
@@ -152,9 +148,6 @@ abbrev pub IsLookup : LookupWords → List ℕ → List ℕ → ℕ → Type 0
 IsLookup words input text answered = (list : List Item) × (default : Option (List ℕ)) × (found : Bool) × IsMessageId words.id × IsDefault words.default default × ReadsAs words.scheme words.field list
     × IsAsked input words.id (ask.Lookup list default) text found × (answered ≡ (if found then 0 else 1))
 
-abbrev pub RefusesAsk : List ℕ → DocFault → Type 0
-RefusesAsk input = IsOfDocument 1 (RefusesSite input)
-
 -- ---- `replay`
 
 -- the lines of the answers of the script
@@ -189,11 +182,11 @@ module _ {R W : Type 0} (remaining : R → Option (List ℕ)) (broken : R → Bo
 
   abbrev pub ActsFilter : List Row → R → R → W → W → ℕ → Type 0
   ActsFilter rows r r' w w' status = MatchOption (filter_words rows) (IsMisused r r' w w' status)
-      (λ words. Treats remaining broken contents failed (FitsFilter words) (BarsFilter words) (IsFilter words) RefusesAsk r r' w w' status)
+      (λ words. Treats remaining broken contents failed (FitsFilter words) (BarsFilter words) (IsFilter words) RefusesOnly r r' w w' status)
 
   abbrev pub ActsLookup : List Row → R → R → W → W → ℕ → Type 0
   ActsLookup rows r r' w w' status = MatchOption (lookup_words rows) (IsMisused r r' w w' status)
-      (λ words. Treats remaining broken contents failed (FitsLookup words) (BarsLookup words) (IsLookup words) RefusesAsk r r' w w' status)
+      (λ words. Treats remaining broken contents failed (FitsLookup words) (BarsLookup words) (IsLookup words) RefusesOnly r r' w w' status)
 
   -- what the commands without words do
   abbrev pub Plain : (List ℕ → List ℕ → ℕ → Type 0) → (List ℕ → DocFault → Type 0) → R → R → W → W → ℕ → Type 0
@@ -204,12 +197,12 @@ module _ {R W : Type 0} (remaining : R → Option (List ℕ)) (broken : R → Bo
   Obeys verb.New rows r r' w w' status = (r' ≡ r) × ActsNew contents failed rows w w' status
   Obeys verb.Put rows r r' w w' status = ActsPut rows r r' w w' status
   Obeys verb.Delete rows r r' w w' status = ActsDelete rows r r' w w' status
-  Obeys verb.Status rows r r' w w' status = Plain IsStatus RefusesStatus r r' w w' status
+  Obeys verb.Status rows r r' w w' status = Plain IsStatus RefusesOnly r r' w w' status
   Obeys verb.Import rows r r' w w' status = ActsImport rows r r' w w' status
-  Obeys verb.Export rows r r' w w' status = Plain IsExport RefusesExport r r' w w' status
+  Obeys verb.Export rows r r' w w' status = Plain IsExport RefusesOnly r r' w w' status
   Obeys verb.Filter rows r r' w w' status = ActsFilter rows r r' w w' status
   Obeys verb.Lookup rows r r' w w' status = ActsLookup rows r r' w w' status
-  Obeys verb.Summary rows r r' w w' status = Plain IsSummary RefusesSummary r r' w w' status
+  Obeys verb.Summary rows r r' w w' status = Plain IsSummary RefusesOnly r r' w w' status
   Obeys verb.Delta rows r r' w w' status = Plain IsDelta RefusesDelta r r' w w' status
   Obeys verb.Take rows r r' w w' status = Plain IsTake RefusesTake r r' w w' status
   Obeys verb.Sync rows r r' w w' status = Plain IsSync RefusesSync r r' w w' status

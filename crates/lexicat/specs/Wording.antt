@@ -19,10 +19,6 @@ NoWords = Unit {0}
 abbrev pub BarsNone : Refusal → Type 0
 BarsNone _ = ⊥
 
--- the word spells some language
-abbrev pub IsSpelled : Text → Type 0
-IsSpelled word = (lang : List ℕ) × SpellsLang word lang
-
 -- the words name this id and this language
 abbrev pub IsKey : Text → Text → Key → Type 0
 IsKey id lang key = IsMessageId id × (key.id ≡ id) × SpellsLang lang key.lang

@@ -2,7 +2,7 @@
 ghost use Rattle.std.specs.Prelude.{◌≡◌, ◌≤◌, false, IfOk, MatchResult};
 ghost use Rattle.clap.specs.Words.{app_of};
 ghost use Rattle.clap.specs.declared.builder.command.Command.TheViews.{out-Command};
-ghost use Rattle.lexicat.specs.Acts.{IsExport, RefusesExport};
+ghost use Rattle.lexicat.specs.Acts.{IsExport, RefusesOnly};
 ghost use Rattle.lexicat.specs.Reading.{AnswersInput, RefusesInput};
 ghost use Rattle.lexicat.specs.Reading.{Treats};
 ghost use Rattle.lexicat.specs.Words.{export_app};
@@ -33,7 +33,7 @@ pub fn act<R: Source, W: Sink, F: Sink>(
 ) -> u8
     requires reads { R.failed reader.old ≡ false }
     requires writes { W.failed writer.old ≡ false }
-    ensures acts { Treats R.remaining R.failed W.contents W.failed NoWords BarsNone IsExport RefusesExport reader.old reader.new writer.old writer.new result }
+    ensures acts { Treats R.remaining R.failed W.contents W.failed NoWords BarsNone IsExport RefusesOnly reader.old reader.new writer.old writer.new result }
     ensures quiet { result ≤ 1 → faults.new ≡ faults.old }
 {
     finish(answer_of(alloc, reader), writer, faults)
@@ -43,7 +43,7 @@ fn answer_of<R: Source>(alloc: Global, reader: &mut R) -> Result<Answer, Refusal
     requires { R.failed reader.old ≡ false }
     ensures { MatchResult result
         (λ answer. AnswersInput R.remaining IsExport reader.old reader.new answer.text answer.status)
-        (RefusesInput R.remaining R.failed NoWords BarsNone RefusesExport reader.old reader.new) }
+        (RefusesInput R.remaining R.failed NoWords BarsNone RefusesOnly reader.old reader.new) }
 {
     let site = read_all(alloc, reader)?;
     let text = export_document(alloc, site.bytes())?;

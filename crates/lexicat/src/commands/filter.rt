@@ -4,7 +4,7 @@ ghost use Rattle.clap.specs.Words.{app_of, found_of, rows_of};
 ghost use Rattle.clap.specs.declared.builder.command.Command.TheViews.{out-Command};
 ghost use Rattle.lexicat.specs.Acts.{ActsFilter};
 ghost use Rattle.lexicat.specs.Asked.{filter_asked};
-ghost use Rattle.lexicat.specs.Acts.{FitsFilter, BarsFilter, IsFilter, RefusesAsk};
+ghost use Rattle.lexicat.specs.Acts.{FitsFilter, BarsFilter, IsFilter, RefusesOnly};
 ghost use Rattle.lexicat.specs.AskWords.{filter_words};
 ghost use Rattle.lexicat.specs.Reading.{AnswersInput, RefusesInput};
 ghost use Rattle.lexicat.specs.Words.{filter_app};
@@ -76,7 +76,7 @@ fn answer_of<R: Source>(alloc: Global, asked: Asked<'_>, reader: &mut R) -> Resu
     requires { R.failed reader.old ≡ false }
     ensures { let words = filter_asked asked.entry in MatchResult result
         (λ answer. AnswersInput R.remaining (IsFilter words) reader.old reader.new answer.text answer.status)
-        (RefusesInput R.remaining R.failed (FitsFilter words) (BarsFilter words) RefusesAsk reader.old reader.new) }
+        (RefusesInput R.remaining R.failed (FitsFilter words) (BarsFilter words) RefusesOnly reader.old reader.new) }
 {
     let id = MessageId::new(alloc, asked.id)?;
     let list = read_ranges(alloc, asked.scheme, asked.field)?;

@@ -4,7 +4,7 @@ ghost use Rattle.clap.specs.Words.{app_of, found_of, rows_of};
 ghost use Rattle.clap.specs.declared.builder.command.Command.TheViews.{out-Command};
 ghost use Rattle.lexicat.specs.Acts.{ActsLookup};
 ghost use Rattle.lexicat.specs.Asked.{lookup_asked};
-ghost use Rattle.lexicat.specs.Acts.{FitsLookup, BarsLookup, IsLookup, RefusesAsk};
+ghost use Rattle.lexicat.specs.Acts.{FitsLookup, BarsLookup, IsLookup, RefusesOnly};
 ghost use Rattle.lexicat.specs.AskWords.{lookup_words};
 ghost use Rattle.lexicat.specs.Reading.{AnswersInput, RefusesInput};
 ghost use Rattle.lexicat.specs.Words.{lookup_app};
@@ -85,7 +85,7 @@ fn answer_of<R: Source>(alloc: Global, asked: Asked<'_>, reader: &mut R) -> Resu
     requires { R.failed reader.old ≡ false }
     ensures { let words = lookup_asked asked.entry in MatchResult result
         (λ answer. AnswersInput R.remaining (IsLookup words) reader.old reader.new answer.text answer.status)
-        (RefusesInput R.remaining R.failed (FitsLookup words) (BarsLookup words) RefusesAsk reader.old reader.new) }
+        (RefusesInput R.remaining R.failed (FitsLookup words) (BarsLookup words) RefusesOnly reader.old reader.new) }
 {
     let id = MessageId::new(alloc, asked.id)?;
     let default = read_default(alloc, asked.default)?;
