@@ -1,12 +1,10 @@
 -- What each command does (own rules). The answers and refusals of documents are those of the document calls.
-use Rattle.std.specs.Prelude.{◌≡◌, ◌⊎◌, ◌++◌, ℕ, Bool, List, [], Option, None, Some, Result, Ok, Err, codes, if◌then◌else◌, MatchOption}
+use Rattle.std.specs.Prelude.{◌≡◌, ◌⊎◌, ◌++◌, ℕ, Bool, List, [], Option, None, Some, codes, if◌then◌else◌, MatchOption}
 use Rattle.clap.specs.Words.{Row, Text, first_of}
-use Rattle.cata_core.specs.Sites.{SiteState}
 use Rattle.cell_core.specs.Labels.{IsLabel}
 use Rattle.cell_core.specs.MessageIds.{IsMessageId}
 use Rattle.cell_core.specs.Refusals.{RefusesId, RefusesName}
 use Rattle.cell_core.specs.SiteNames.{IsSiteName}
-use Rattle.cell_core.specs.declared.fault.CellFault.TheVariants as cell
 use Rattle.docs_core.specs.Faults as doc
 use Rattle.docs_core.specs.Calls as call
 use Rattle.docs_core.specs.Documents.{site_text}
@@ -18,7 +16,7 @@ use Rattle.docs_core.specs.Replays.{RefusesReplay, Replays}
 use Rattle.docs_core.specs.declared.fault.DocCause.TheVariants.{NoMemory}
 use Rattle.docs_core.specs.declared.fault.DocFault.{DocFault}
 use Rattle.docs_core.specs.declared.asking.Ask.TheVariants as ask
-use Rattle.lang_core.specs.Lang.{SpellsLang, RefusesLang}
+use Rattle.lang_core.specs.Lang.{SpellsLang}
 use Rattle.nego_core.specs.Item.{Item}
 use Rattle.lexicat.specs.AskWords.{FilterWords, LookupWords, filter_words, lookup_words}
 use Rattle.lexicat.specs.EditWords.{DeleteWords, PutWords, delete_words, put_words}

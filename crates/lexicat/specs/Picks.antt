@@ -1,5 +1,5 @@
 -- What the command `pick` does (own rules).
-use Rattle.std.specs.Prelude.{◌≡◌, ◌⊎◌, ℕ, Bool, List, Option, None, Some, MatchOption}
+use Rattle.std.specs.Prelude.{◌⊎◌, ℕ, Bool, List, Option, None, Some, MatchOption}
 use Rattle.clap.specs.Words.{Row, Text}
 use Rattle.lexicat.specs.Endings.{Ends, Writes}
 use Rattle.lexicat.specs.Pick.{IsPicked, RefusesPick, pick_line}
