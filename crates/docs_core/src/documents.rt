@@ -16,7 +16,8 @@ use json::Writer;
 use lang_core::Lang;
 use std::alloc::{AllocError, Global};
 
-/// The document of a site, version 2: its cells in rising order of key, deletions among them.
+/// The document of a site, version 2: its cells in rising order of key, deletions among them. It
+/// reads as this site.
 ///
 /// Its one refusal is want of memory (26).
 pub fn write_site(alloc: Global, site: &Site) -> Result<Doc, AllocError>
@@ -27,7 +28,7 @@ pub fn write_site(alloc: Global, site: &Site) -> Result<Doc, AllocError>
     close_site(draft, site.name().as_str())
 }
 
-/// The document of a delta, version 2.
+/// The document of a delta, version 2. It reads as this delta.
 ///
 /// Its one refusal is want of memory (26).
 pub fn write_delta(alloc: Global, delta: &Delta) -> Result<Doc, AllocError>
@@ -38,7 +39,8 @@ pub fn write_delta(alloc: Global, delta: &Delta) -> Result<Doc, AllocError>
     close_delta(draft, delta.addressee().as_str())
 }
 
-/// The document of a summary, version 2: its stamps in rising order of key.
+/// The document of a summary, version 2: its stamps in rising order of key. It reads as this
+/// summary.
 ///
 /// Its one refusal is want of memory (26).
 pub fn write_summary(alloc: Global, summary: &Summary) -> Result<Doc, AllocError>
