@@ -29,7 +29,7 @@ malformed_is_no_field kind bytes offset items m f =
 
 -- ---- what a field says of its items
 
-all_items : (P : Item → Type 0) (kind : FieldKind) → ((piece : List ℕ) (i : Item) → IsPadded kind piece i → P i) → (pieces : List (List ℕ)) (items : List Item) → ArePieces kind pieces items → All P items
+pub all_items : (P : Item → Type 0) (kind : FieldKind) → ((piece : List ℕ) (i : Item) → IsPadded kind piece i → P i) → (pieces : List (List ℕ)) (items : List Item) → ArePieces kind pieces items → All P items
 all_items P kind f [] [] a = All-nil P
 all_items P kind f [] (i ∷ items) a = absurd a
 all_items P kind f (p ∷ pieces) [] a = All-nil P

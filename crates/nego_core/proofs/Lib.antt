@@ -7,10 +7,12 @@ pub mod FieldWalk
 pub mod SeparatorLaws
 pub mod FieldLaws
 pub mod FieldUnique
+pub mod WeightBounds
 pub mod BestLaws
 pub mod RangeIndexLaws
 pub mod MarksLaws
 pub mod DecidingLaws
+pub mod MatchedLaws
 pub mod NamedLaws
 pub mod Unique
 pub mod OrderTurns

@@ -1,12 +1,13 @@
 //! Laws about the definitions alone: each function's contract is the law.
 ghost use Rattle.std.specs.Prelude.{◌≡◌, ◌≤◌, ◌↔◌, ℕ, List, Option, Bool, All, Contains};
+ghost use Rattle.lang_core.specs.Text.{pieces};
 ghost use Rattle.nego_core.specs.Item.{Item};
 ghost use Rattle.nego_core.specs.declared.scheme.Scheme.{Scheme};
 ghost use Rattle.nego_core.specs.Filtered.{IsFiltered, IsPicked};
 ghost use Rattle.nego_core.specs.Order.{IsOrder};
 ghost use Rattle.nego_core.specs.LookedUp.{IsLookedUp};
 ghost use Rattle.nego_core.specs.Handed.{IsFound};
-ghost use Rattle.nego_core.specs.Deciding.{IsDeciding, IsDecidedBy, NamedRefuse, named_items};
+ghost use Rattle.nego_core.specs.Deciding.{Matches, IsDeciding, IsDecidedBy, NamedRefuse, named_items};
 ghost use Rattle.nego_core.specs.declared.scheme.Scheme.TheVariants as scheme;
 ghost use Rattle.nego_core.specs.Field.{IsField, IsFirstMalformed, IsOfOneKind};
 ghost use Rattle.nego_core.specs.declared.field_kind.FieldKind.{FieldKind};
@@ -62,4 +63,9 @@ pub fn malformed_is_no_field()
 /// A tag has one deciding item.
 pub fn one_deciding()
     ensures { (scheme : Scheme) (items : List Item) (tag : List (List ℕ)) (p q : ℕ) → IsDeciding scheme items tag p → IsDeciding scheme items tag q → q ≡ p }
+{}
+
+/// Where the range of an item matches a tag, some item decides it.
+pub fn a_match_has_a_deciding_item()
+    ensures { (scheme : Scheme) (items : List Item) (tag : List (List ℕ)) (item : Item) → Contains items item → Matches scheme (pieces item.range) tag → (place : ℕ) × IsDeciding scheme items tag place }
 {}

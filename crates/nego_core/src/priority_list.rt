@@ -1,4 +1,4 @@
-ghost use Rattle.std.specs.Prelude.{◌≡◌, ◌≤◌, ◌<◌, ℕ, length, MatchResult, MatchOption, IfSome};
+ghost use Rattle.std.specs.Prelude.{◌≡◌, ◌≤◌, ◌<◌, ℕ, length, All, MatchResult, MatchOption, IfSome};
 ghost use Rattle.lang_core.specs.Text.{pieces};
 ghost use Rattle.nego_core.specs.Basics.{IsTheOne};
 ghost use Rattle.nego_core.specs.Best.{IsBest};
@@ -35,7 +35,7 @@ pub struct PriorityList {
 }
 
 impl Model for PriorityList {
-    ghost use Rattle.std.specs.Prelude.{List, IfSome};
+    ghost use Rattle.std.specs.Prelude.{◌≤◌, List, All, IfSome};
     ghost use Rattle.nego_core.specs.Item.{Item};
 
     ghost Value = { List Item };
@@ -46,11 +46,12 @@ impl Model for PriorityList {
 
     ghost view = { λ l. l.items.items };
 
-    ghost invariant = { λ l. AreTurns l.items.items l.turns.items × IfSome l.index (IsIndex l.items.items) × IsOfOneKind l.items.items };
+    ghost invariant = { λ l. AreTurns l.items.items l.turns.items × IfSome l.index (IsIndex l.items.items) × IsOfOneKind l.items.items × All (λ i. i.weight ≤ 1000) l.items.items };
 }
 
 fn list_of(alloc: Global, items: Vec<Item>) -> Result<PriorityList, NegoFault>
-    requires { IsOfOneKind items.items }
+    requires one_kind { IsOfOneKind items.items }
+    requires small { All (λ i. i.weight ≤ 1000) items.items }
     ensures { MatchResult result (λ list. list ≡ items.items) (λ fault. (fault ≡ NoMemory) × (0 < length items.items)) }
 {
     if items.is_empty() {
@@ -111,6 +112,7 @@ impl PriorityList {
     pub fn items(&self) -> &[Item]
         ensures items { result.now ≡ self.now }
         ensures one_kind { IsOfOneKind self.now }
+        ensures small { All (λ i. i.weight ≤ 1000) self.now }
     {
         &self.items
     }

@@ -61,13 +61,24 @@ fn malformed_ranges(rt: HostRuntime) {
     }
 }
 
+fn is_malformed_at(rt: &(impl Abort + AllocGlobal), field: &[u8], offset: &str) -> bool {
+    is_refused_at(PriorityList::from_accept(rt.alloc(), field), offset)
+}
+
 /// Line ends are no blanks.
 #[test]
 fn other_bytes(rt: HostRuntime) {
-    let list = PriorityList::from_accept(rt.alloc(), b"en, \r\n fr");
-    assert!(rt; is_refused_at(list, "4"));
-    let list = PriorityList::from_accept(rt.alloc(), b"en,\xff\xfe");
-    assert!(rt; is_refused_at(list, "3"));
+    assert!(rt;
+        is_malformed_at(&rt, b"en, \r\n fr", "4")
+            && is_malformed_at(&rt, b"en,\nfr", "3")
+            && is_malformed_at(&rt, b"en,\xff\xfe", "3")
+    );
+}
+
+/// Whether a field is refused for its length, of whichever ranges.
+fn is_too_long(rt: &(impl Abort + AllocGlobal), field: &[u8]) -> bool {
+    PriorityList::from_accept(rt.alloc(), field).err() == Some(NegoFault::FieldTooLong)
+        && PriorityList::from_ranges(rt.alloc(), field).err() == Some(NegoFault::FieldTooLong)
 }
 
 #[test]
@@ -83,11 +94,9 @@ fn lengths(rt: HostRuntime) -> Result<(), Fail> {
         &PriorityList::from_ranges(rt.alloc(), &commas[1..])?,
         "",
     )?;
+    assert!(rt; is_too_long(&rt, &commas));
     commas[0] = b'!';
-    let long = PriorityList::from_accept(rt.alloc(), &commas).err();
-    assert!(rt; long == Some(NegoFault::FieldTooLong));
-    let long = PriorityList::from_ranges(rt.alloc(), &commas).err();
-    assert!(rt; long == Some(NegoFault::FieldTooLong));
+    assert!(rt; is_too_long(&rt, &commas));
     Ok(())
 }
 
