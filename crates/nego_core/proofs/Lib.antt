@@ -21,5 +21,6 @@ pub mod FilteredKeys
 pub mod FilteredLaws
 pub mod FilteredEach
 pub mod LookedUpLaws
+pub mod FoundLaws
 pub mod ChosenLaws
 pub mod HandedLaws

@@ -1,5 +1,5 @@
 -- Where a range matches, an item decides.
-use Rattle.std.proofs.Common.{ℕ, ◌≡◌, ◌+◌, ◌⊎◌, List, [], ◌∷◌, inl, inr, refl, sym, ap, subst, arith, length}
+use Rattle.std.proofs.Common.{ℕ, ◌≡◌, ◌⊎◌, List, [], ◌∷◌, inl, inr, refl, sym, ap, subst, arith, length}
 use Rattle.std.specs.Prelude.{zero, suc, Option, Some, None, Contains}
 use Rattle.std.specs.List.{slice_get}
 use Rattle.std.specs.Str.{bytes_eq}

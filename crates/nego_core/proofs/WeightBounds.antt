@@ -1,5 +1,5 @@
 -- No weight of a field is above 1000.
-use Rattle.std.proofs.Common.{ℕ, ◌≡◌, ◌≤◌, ◌-◌, List, [], ◌∷◌, true, inl, inr, refl, sym, subst, arith}
+use Rattle.std.proofs.Common.{ℕ, ◌≡◌, ◌≤◌, ◌-◌, List, [], ◌∷◌, true, inl, inr, arith}
 use Rattle.std.specs.Prelude.{zero, suc, All, slice_index}
 use Rattle.std.specs.List.{list_all}
 use Rattle.std.proofs.lemmas.Bool.{and_parts}
@@ -8,8 +8,7 @@ use Rattle.lang_core.specs.Text.{pieces_by}
 use Rattle.lang_core.specs.Grammar.{is_digit}
 use Rattle.nego_core.proofs.FieldLaws.{all_items}
 use Rattle.nego_core.specs.Qvalue.{IsQvalue, thousandths}
-use Rattle.nego_core.specs.Weight.{IsWeight}
-use Rattle.nego_core.specs.Element.{WeightGrammar, IsPadded}
+use Rattle.nego_core.specs.Element.{WeightGrammar}
 use Rattle.nego_core.specs.Item.{Item}
 use Rattle.nego_core.specs.Field.{IsField}
 use Rattle.nego_core.specs.declared.field_kind.FieldKind.{FieldKind}

@@ -1,11 +1,11 @@
 //! Laws about the definitions alone: each function's contract is the law.
-ghost use Rattle.std.specs.Prelude.{◌≡◌, ◌≤◌, ◌↔◌, ℕ, List, Option, Bool, All, Contains};
+ghost use Rattle.std.specs.Prelude.{◌≡◌, ◌≤◌, ◌↔◌, ℕ, List, Option, Some, Bool, All, Contains};
 ghost use Rattle.lang_core.specs.Text.{pieces};
 ghost use Rattle.nego_core.specs.Item.{Item};
 ghost use Rattle.nego_core.specs.declared.scheme.Scheme.{Scheme};
 ghost use Rattle.nego_core.specs.Filtered.{IsFiltered, IsPicked};
 ghost use Rattle.nego_core.specs.Order.{IsOrder};
-ghost use Rattle.nego_core.specs.LookedUp.{IsLookedUp};
+ghost use Rattle.nego_core.specs.LookedUp.{IsLookedUp, candidates_of};
 ghost use Rattle.nego_core.specs.Handed.{IsFound};
 ghost use Rattle.nego_core.specs.Deciding.{Matches, IsDeciding, IsDecidedBy, NamedRefuse, named_items};
 ghost use Rattle.nego_core.specs.declared.scheme.Scheme.TheVariants as scheme;
@@ -32,6 +32,11 @@ pub fn named_refuse_alone()
 /// Lookup finds one text, or none (RFC 4647 section 3.4).
 pub fn one_lookup()
     ensures { (items : List Item) (held : List ℕ → Bool) (a b : Option (List (List ℕ))) → IsLookedUp items held a → IsLookedUp items held b → a ≡ b }
+{}
+
+/// What lookup finds is the lookup text of an item's range, or a truncation of it.
+pub fn found_is_a_candidate()
+    ensures { (items : List Item) (held : List ℕ → Bool) (found : List (List ℕ)) → IsLookedUp items held (Some found) → (item : Item) × Contains items item × Contains (candidates_of item) found }
 {}
 
 /// Lookup among languages that are handed in has one answer.
