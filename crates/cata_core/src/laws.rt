@@ -3,8 +3,11 @@
 ghost use Rattle.std.specs.Prelude.{◌≡◌, ◌↔◌, ◌<◌, [], ◌∷◌, ◌++◌, ℕ, List, Contains, Some, IsSome, length};
 ghost use Rattle.std.specs.FinMap.Entries.{find};
 ghost use Rattle.cell_core.specs.declared.cell.Cell.{Cell};
+ghost use Rattle.cell_core.specs.Joins.{JoinLaws};
 ghost use Rattle.cell_core.specs.Maps.{IsMap};
-ghost use Rattle.cata_core.specs.Entries.{EntryKey, Entry, Entries, key_cmp, Agree, joined, IsBelowCells};
+ghost use Rattle.cata_core.specs.Entries.{EntryKey, Entry, Entries, key_cmp, Agree, Between, joined, IsBelowCells};
+ghost use Rattle.cata_core.specs.Flat.{flat};
+ghost use Rattle.cata_core.specs.Nested.{AgreeNested, IsCatalogue, Nested, joined_nested};
 ghost use Rattle.cata_core.specs.Deltas.{Stamps, HasAll, IsPart, IsBelowStamps, summary_of, delta_of};
 ghost use Rattle.cata_core.specs.declared.step.Step.{Step};
 ghost use Rattle.cata_core.specs.declared.step.Step.TheVariants.{Edit, Tell, Post, Deliver};
@@ -18,6 +21,18 @@ ghost use Rattle.cata_core.specs.Migration.{OldEntries, IsOldMap, AgreeOld, join
 ghost use Rattle.cell_core.specs.declared.stamp.Stamp.{Stamp};
 ghost use Rattle.cata_core.specs.Clashes.{IsFirstClash};
 ghost use Rattle.cata_core.specs.Edits.{IsConsistent, IsBest, IsSettled, SameMembers, catalogue_of};
+
+/// The laws of joins hold for catalogues, seen as lists of entries.
+pub fn catalogues_obey_the_join_laws()
+    ensures { JoinLaws Agree joined Between }
+{}
+
+/// A map of maps and its list of entries say the same: one map has the list, and both agree and join alike.
+pub fn lists_tell_the_maps()
+    ensures one { (a b : Nested) → IsCatalogue a → IsCatalogue b → flat a ≡ flat b → a ≡ b }
+    ensures agree { (a b : Nested) → IsCatalogue a → IsCatalogue b → AgreeNested a b ↔ Agree (flat a) (flat b) }
+    ensures join { (a b : Nested) → IsCatalogue a → IsCatalogue b → flat (joined_nested a b) ≡ joined (flat a) (flat b) }
+{}
 
 /// The catalogue of a settled list has exactly the best edit of each key that occurs.
 pub fn catalogue_has_best_edits()

@@ -3,7 +3,7 @@
 use super::makers::{empty_site, id, label, lang, site};
 use super::shown;
 use super::words::gives;
-use crate::{Site, sync};
+use crate::{Catalogue, Site, sync};
 use std::alloc::Global;
 use std::test::Fail;
 
@@ -33,19 +33,29 @@ fn a_clash_leaves_both(rt: HostRuntime) -> Result<(), Fail> {
     )
 }
 
-/// Sites that clash, after a later put at the first.
+/// Sites that clashed, after a later put at the first.
 fn resolved(alloc: Global) -> Result<(Site, Site), Fail> {
     let mut first = site(alloc, "1", "m en 5 1 0 one")?;
-    let second = site(alloc, "2", "m en 5 1 0 two")?;
+    let mut second = site(alloc, "2", "m en 5 1 0 two")?;
+    let _ = sync(alloc, &mut first, &mut second);
     let (id, lang, label) = (id(alloc, "m")?, lang(alloc, "en")?, label(alloc, "three")?);
     first.put(alloc, 6, &id, &lang, &label)?;
     Ok((first, second))
+}
+
+/// The catalogue of both sites.
+fn merged(alloc: Global, first: &Site, second: &Site) -> Result<String, Fail> {
+    let mut both = Catalogue::new(alloc);
+    both.merge(alloc, first.catalogue())?;
+    both.merge(alloc, second.catalogue())?;
+    shown::cells(alloc, &both)
 }
 
 #[test]
 fn a_later_put_resolves_a_clash(rt: HostRuntime) -> Result<(), Fail> {
     let alloc = rt.alloc();
     let (mut first, mut second) = resolved(alloc)?;
+    gives(merged(alloc, &first, &second), "m en 6 0000000001 0 three")?;
     gives(
         synced(alloc, &mut first, &mut second),
         "done: m en 6 0000000001 0 three | m en 6 0000000001 0 three",
