@@ -48,7 +48,7 @@ fn merged(alloc: Global, first: &Site, second: &Site) -> Result<String, Fail> {
     let mut both = Catalogue::new(alloc);
     both.merge(alloc, first.catalogue())?;
     both.merge(alloc, second.catalogue())?;
-    shown::cells(alloc, &both)
+    Ok(shown::cells(alloc, &both)?)
 }
 
 #[test]
