@@ -1,12 +1,17 @@
 //! Laws over the definitions alone, each the contract of a function that does nothing.
 ghost use Rattle.std.specs.Prelude.{◌≡◌, ℕ, List, IsUtf8};
 ghost use Rattle.cell_core.specs.SiteNames.{IsSiteName};
+ghost use Rattle.cata_core.specs.Deltas.{HasAll, Stamps, delta_of};
+ghost use Rattle.cata_core.specs.Entries.{Agree, Entries, joined};
 ghost use Rattle.cata_core.specs.Sites.{SiteState};
 ghost use Rattle.cata_core.specs.Told.{SummaryState};
 ghost use Rattle.cata_core.specs.declared.delta.Delta.{Delta};
-ghost use Rattle.docs_core.specs.Documents.{delta_text, site_text, summary_text};
+ghost use Rattle.docs_core.specs.Calls.{AreSynced, IsTaken};
+ghost use Rattle.docs_core.specs.Documents.{cells_values, delta_text, site_text, summary_text};
 ghost use Rattle.docs_core.specs.ReadsAs.{ReadsAsDelta, ReadsAsSite, ReadsAsSummary};
+ghost use Rattle.docs_core.specs.Texts.{text};
 ghost use Rattle.docs_core.specs.Valid.{AreKeptCells, AreKeptStamps};
+ghost use Rattle.docs_core.specs.Values.{site_value};
 
 /// The text that is written for a site reads as that site.
 pub fn written_site_reads()
@@ -36,4 +41,20 @@ pub fn one_delta()
 /// A text reads as one summary at most.
 pub fn one_summary()
     ensures { (bytes : List ℕ) (s t : SummaryState) → ReadsAsSummary bytes s → ReadsAsSummary bytes t → s ≡ t }
+{}
+
+/// A delta suffices: made against a summary that the site has in full, by a sender that agrees with
+/// it, it leaves the document of the site with all cells of the sender.
+pub fn a_delta_document_suffices()
+    ensures { (a b text : List ℕ) (site : SiteState) (sender : Entries) (told : Stamps)
+        → ReadsAsSite a site → ReadsAsDelta b (record { addressee = site.name; cells = delta_of sender told })
+        → Agree site.cells sender → HasAll site.cells told → IsTaken a b text
+        → text ≡ site_text (record { name = site.name; cells = joined site.cells sender }) }
+{}
+
+/// Synced documents have equal `cells`: those of both sites.
+pub fn synced_documents_have_equal_cells()
+    ensures { (a b x y : List ℕ) (first second : SiteState) → ReadsAsSite a first → ReadsAsSite b second → AreSynced a b x y
+        → let cells = cells_values (joined first.cells second.cells) in
+        (x ≡ text (site_value first.name cells)) × (y ≡ text (site_value second.name cells)) }
 {}

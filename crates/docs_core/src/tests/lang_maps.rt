@@ -1,6 +1,7 @@
 use crate::{DocCause, DocFault, FieldFault, LangMaps, Spot, read_langmaps, write_langmaps};
-use cell_core::CellFault;
-use lang_core::LangFault;
+use cell_core::{CellFault, Label, MessageId};
+use lang_core::{Lang, LangFault};
+use std::alloc::Global;
 use std::test::Fail;
 
 // The first row is no message; languages stand in any order and case.
@@ -56,6 +57,36 @@ fn what_is_imported_is_exported(rt: HostRuntime) -> Result<(), Fail> {
 fn what_is_exported_is_exported_again(rt: HostRuntime) -> Result<(), Fail> {
     let text = r#"{"m":{"@none":"c","en":"a","fr":"b"}}"#;
     assert!(rt; is_written(&rt, text, EXPORT)?);
+    Ok(())
+}
+
+fn label(alloc: Global, text: &str) -> Result<Label, Fail> {
+    let mut texts = Vec::new(alloc);
+    texts.push(String::from_str(alloc, text)?)?;
+    Ok(Label::from_texts(texts)?)
+}
+
+// What is written of pushed labels, which are those of the import.
+#[test]
+fn labels_are_pushed(rt: HostRuntime) -> Result<(), Fail> {
+    let alloc = rt.alloc();
+    let mut maps = LangMaps::new(alloc);
+    maps.push(
+        MessageId::new(alloc, "m")?,
+        Lang::none(),
+        label(alloc, "c")?,
+    )?;
+    maps.push(
+        MessageId::new(alloc, "m")?,
+        Lang::parse(alloc, b"en")?,
+        label(alloc, "a")?,
+    )?;
+    maps.push(
+        MessageId::new(alloc, "m")?,
+        Lang::parse(alloc, b"fr")?,
+        label(alloc, "b")?,
+    )?;
+    assert!(rt; write_langmaps(alloc, &maps)?.bytes() == EXPORT);
     Ok(())
 }
 

@@ -147,6 +147,18 @@ fn steps_that_are_refused(rt: HostRuntime) {
 }
 
 #[test]
+fn an_unknown_summary(rt: HostRuntime) {
+    let script =
+        r#"{"kind":"script","sites":2,"steps":[["tell",1],["edit",0,["m","en",5,1,0,["a"]]],["post",0,0],["edit",1,["m","en",7,2,0,null]],["deliver",0],["deliver",0],["cells",1],["post",0,1]],"version":1}"#;
+    let (written, end) = run(rt.alloc(), script.as_bytes(), 10_000);
+    assert_eq!(rt;
+        end,
+        refused(DocCause::Step(PlayFault::NoSuchPost { step: 7 }))
+    );
+    assert_eq!(rt; written.len(), 0);
+}
+
+#[test]
 fn edits_that_clash(rt: HostRuntime) {
     let (written, end) = run(rt.alloc(), CLASH.as_bytes(), 10_000);
     let step = PlayFault::StampReused {
@@ -201,6 +213,18 @@ fn writers_that_stop(rt: HostRuntime) {
 fn endless_blanks(rt: HostRuntime) {
     let (written, end) = run_over(rt.alloc(), io::repeat(b' '), 10_000);
     assert_eq!(rt; end, refused(DocCause::TooLarge));
+    assert_eq!(rt; written.len(), 0);
+}
+
+// Just as many blanks as are read.
+#[test]
+fn blanks_up_to_the_limit(rt: HostRuntime) {
+    let (written, end) = run_over(rt.alloc(), io::repeat(b' ').take(67_108_864), 10_000);
+    let not_json = DocFault {
+        document: 1,
+        cause: DocCause::NotJson,
+    };
+    assert_eq!(rt; end, Some(not_json));
     assert_eq!(rt; written.len(), 0);
 }
 

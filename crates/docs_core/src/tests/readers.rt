@@ -74,6 +74,13 @@ fn values_that_are_no_document(rt: HostRuntime) {
 }
 
 #[test]
+fn a_number_of_400_digits(rt: HostRuntime) {
+    let mut text = Vec::new(rt.alloc());
+    text.resize(400, b'1').expect(&rt, "memory");
+    assert_eq!(rt; refusal(rt.alloc(), &text), of(DocCause::NotJson));
+}
+
+#[test]
 fn versions_that_are_unknown(rt: HostRuntime) {
     for text in [
         r#"{"cells":[],"kind":"site","site":"","version":3}"#,
@@ -199,4 +206,14 @@ fn a_summary_out_of_order(rt: HostRuntime) {
         br#"{"kind":"summary","owner":7,"stamps":[["m","fr",5,1,0],["m","EN",5,1,0]],"version":1}"#;
     let refused = read_summary(rt.alloc(), text).err();
     assert_eq!(rt; refused, of(DocCause::CellOrder { row: 1 }));
+}
+
+#[test]
+fn numbers_that_no_site_of_version_1_has(rt: HostRuntime) {
+    let to = br#"{"cells":[],"kind":"delta","to":4294967296,"version":1}"#;
+    assert_eq!(rt; read_delta(rt.alloc(), to).err(), shape());
+    let owner = br#"{"kind":"summary","owner":4294967296,"stamps":[],"version":1}"#;
+    assert_eq!(rt; read_summary(rt.alloc(), owner).err(), shape());
+    let stamp = br#"{"kind":"summary","owner":7,"stamps":[["m","en",5,4294967296,0]],"version":1}"#;
+    assert_eq!(rt; read_summary(rt.alloc(), stamp).err(), shape_of_row_0());
 }

@@ -1,0 +1,5 @@
+use Rattle.docs_core.proofs.ExchangedLemmas.{taken_suffices}
+use Rattle.docs_core.proofs.laws.a_delta_document_suffices.Goals as goal
+
+pub returns : goal.returns
+returns c = taken_suffices
