@@ -49,33 +49,53 @@ impl Write for Page {
 /// A reader that gives a text, and fails at one of its reads, counted from 0.
 #[derive(Drop)]
 pub struct Tape<'a> {
-    text: &'a str,
+    text: &'a [u8],
     given: usize,
     reads: usize,
     most: usize,
     fails_at: usize,
+    is_endless: bool,
 }
 
 impl<'a> Tape<'a> {
     /// All of the text, as much of it at a read as there is room for.
     pub fn of(text: &'a str) -> Tape<'a> {
+        Tape::of_bytes(text.as_bytes())
+    }
+
+    /// All of these bytes, whether they are a text or not.
+    pub fn of_bytes(text: &'a [u8]) -> Tape<'a> {
         Tape {
             text,
             given: 0,
             reads: 0,
             most: usize::MAX,
             fails_at: usize::MAX,
+            is_endless: false,
+        }
+    }
+
+    /// Blanks without an end.
+    pub fn endless() -> Tape<'a> {
+        Tape {
+            text: &[],
+            given: 0,
+            reads: 0,
+            most: usize::MAX,
+            fails_at: usize::MAX,
+            is_endless: true,
         }
     }
 
     /// The text by pieces of so many bytes, up to the read that fails.
     pub fn failing(text: &'a str, most: usize, fails_at: usize) -> Tape<'a> {
         Tape {
-            text,
+            text: text.as_bytes(),
             given: 0,
             reads: 0,
             most,
             fails_at,
+            is_endless: false,
         }
     }
 }
@@ -87,7 +107,11 @@ impl Read for Tape<'_> {
             return Err(io::Error::from(io::ErrorKind::Other));
         }
         self.reads = self.reads.saturating_add(1);
-        let left = self.text.as_bytes().get(self.given..).unwrap_or(&[]);
+        if self.is_endless {
+            buf.fill(b' ');
+            return Ok(buf.len());
+        }
+        let left = self.text.get(self.given..).unwrap_or(&[]);
         let count = left.len().min(buf.len()).min(self.most);
         buf[..count].copy_from_slice(&left[..count]);
         self.given = self.given.saturating_add(count);

@@ -35,6 +35,101 @@ fn sites(rt: HostRuntime) -> Result<(), Fail> {
     Ok(())
 }
 
+/// The refusals of rows.
+#[test]
+fn rows_of_sites(rt: HostRuntime) -> Result<(), Fail> {
+    let rows = [
+        (
+            r#"{"cells":[["m","en",5,"a",0,"a"]],"kind":"site","site":"a","version":2}"#,
+            "refused 20: shape in row 0 of document 1\n",
+        ),
+        (
+            r#"{"cells":[["m","en",5,"A",0,["a"]]],"kind":"site","site":"a","version":2}"#,
+            "refused 27: site name in row 0 of document 1\n",
+        ),
+        (
+            r#"{"cells":[["m","en",5,"a",0,[]]],"kind":"site","site":"a","version":2}"#,
+            "refused 12: label has 0 texts in row 0 of document 1\n",
+        ),
+        (
+            r#"{"cells":[["n","en",1,1,0,null],["m","en",1,1,1,null]],"kind":"site","site":1,"version":1}"#,
+            "refused 21: cell order in row 1 of document 1\n",
+        ),
+    ];
+    for (input, line) in rows {
+        let ran = run_on(rt.alloc(), &["status"], input)?;
+        assert!(rt; is_refused(&ran, 3, line), "{input}");
+    }
+    Ok(())
+}
+
+/// Steps that name no site and no post, and a step that uses a stamp again.
+#[test]
+fn steps(rt: HostRuntime) -> Result<(), Fail> {
+    let rows = [
+        (
+            r#"{"kind":"script","sites":1,"steps":[["cells",0],["cells",0],["cells",0],["cells",1]],"version":2}"#,
+            "refused 16: step 3 names no site\n",
+        ),
+        (
+            r#"{"kind":"script","sites":2,"steps":[["tell",1],["edit",0,["m","en",5,1,0,["a"]]],["post",0,0],["edit",1,["m","en",7,2,0,null]],["deliver",0],["deliver",0],["cells",1],["post",0,1]],"version":1}"#,
+            "refused 17: step 7 names no post\n",
+        ),
+        (
+            r#"{"kind":"script","sites":1,"steps":[["cells",0],["cells",0],["cells",0],["edit",0,["m","en",5,1,0,["a"]]],["edit",0,["m","en",5,1,0,["b"]]]],"version":1}"#,
+            "refused 13: stamp 5 0000000001 0 used twice, cell 0, step 4\n",
+        ),
+    ];
+    for (input, line) in rows {
+        let ran = run_on(rt.alloc(), &["replay"], input)?;
+        assert!(rt; is_refused(&ran, 3, line), "{input}");
+    }
+    Ok(())
+}
+
+/// One language twice in document 2, whose row 0 is passed over.
+#[test]
+fn repeated_language(rt: HostRuntime) -> Result<(), Fail> {
+    let input =
+        "{\"cells\":[],\"kind\":\"site\",\"site\":\"0000000001\",\"version\":2}\n{\"@context\":{},\"m\":{\"EN\":\"a\",\"en\":\"d\"}}";
+    let ran = run_on(rt.alloc(), &["import", "--now", "10"], input)?;
+    assert!(rt;
+        is_refused(
+            &ran,
+            3,
+            "refused 22: language repeated in row 1 of document 2\n"
+        )
+    );
+    Ok(())
+}
+
+/// Bytes that are no text, and more bytes than a document may have.
+#[test]
+fn no_documents(rt: HostRuntime) -> Result<(), Fail> {
+    let alloc = rt.alloc();
+    let rows = [
+        (
+            Tape::of_bytes(b"{\xff".as_slice()),
+            "refused 18: not UTF-8 at 1 of document 1\n",
+        ),
+        (
+            Tape::endless(),
+            "refused 23: document is over 67108864 bytes\n",
+        ),
+    ];
+    for (reader, line) in rows {
+        let ran = run_over(
+            alloc,
+            &["status"],
+            reader,
+            Page::new(alloc),
+            Page::new(alloc),
+        )?;
+        assert!(rt; is_refused(&ran, 3, line), "{line}");
+    }
+    Ok(())
+}
+
 #[test]
 fn delta_for_another_site(rt: HostRuntime) -> Result<(), Fail> {
     let input =
@@ -87,6 +182,44 @@ fn reader_that_fails_at_its_second_read(rt: HostRuntime) -> Result<(), Fail> {
         Page::new(alloc),
     )?;
     assert!(rt; is_refused(&ran, 4, "refused 24: read fault\n"));
+    Ok(())
+}
+
+/// A reader of single bytes that fails at any of its reads, the one that would tell the end among
+/// them.
+#[test]
+fn reader_that_fails_at_every_byte(rt: HostRuntime) -> Result<(), Fail> {
+    let alloc = rt.alloc();
+    let script = r#"{"kind":"script","sites":1,"steps":[["cells",0]],"version":2}"#;
+    for (word, text) in [("replay", script), ("status", EMPTY_ONE)] {
+        for at in 0..text.len() + 1 {
+            let reader = Tape::failing(text, 1, at);
+            let ran = run_over(alloc, &[word], reader, Page::new(alloc), Page::new(alloc))?;
+            assert!(rt;
+                is_refused(&ran, 4, "refused 24: read fault\n"),
+                "{word} {at}"
+            );
+        }
+    }
+    Ok(())
+}
+
+/// A faults writer that fails within the line leaves the status as it is.
+#[test]
+fn faults_that_fail_at_every_byte(rt: HostRuntime) -> Result<(), Fail> {
+    let alloc = rt.alloc();
+    let rows: [(&[&str], &str); 2] = [
+        (&["new", "--site", "Paris"], "refused 27: site name\n"),
+        (&["status"], "refused 19: not JSON of document 1\n"),
+    ];
+    for (words, line) in rows {
+        for room in 0..line.len() {
+            let faults = Page::with_room(alloc, room);
+            let ran = run_over(alloc, words, Tape::of(""), Page::new(alloc), faults)?;
+            assert!(rt; ran.status == 3 && ran.output.is_empty(), "{line}");
+            assert!(rt; ran.told.as_slice() == &line.as_bytes()[..room], "{line}");
+        }
+    }
     Ok(())
 }
 

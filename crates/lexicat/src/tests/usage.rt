@@ -44,7 +44,7 @@ fn lone_dash(rt: HostRuntime) -> Result<(), Fail> {
 /// Words that the other commands do not take, or lack.
 #[test]
 fn faults_in_the_words_of_documents(rt: HostRuntime) -> Result<(), Fail> {
-    let rows: [&[&str]; 18] = [
+    let rows: [&[&str]; 20] = [
         &["new"],
         &["new", "--site"],
         &["new", "--site", "a", "--site", "b"],
@@ -69,7 +69,9 @@ fn faults_in_the_words_of_documents(rt: HostRuntime) -> Result<(), Fail> {
         &["import", "--now", "5", "--now", "5"],
         &["filter", "--id", "m", "--default", "en", "en"],
         &["filter", "--id", "m", "--scheme", "other", "en"],
+        &["filter", "--id", "m", "-x"],
         &["lookup", "--id", "m"],
+        &["lookup", "--id", "m", "-x"],
         &["status", "a"],
     ];
     for words in rows {

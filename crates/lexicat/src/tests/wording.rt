@@ -49,7 +49,7 @@ fn edits_are_refused_by_their_words(rt: HostRuntime) -> Result<(), Fail> {
 /// The id, then the default, then the field.
 #[test]
 fn questions_are_refused_by_their_words(rt: HostRuntime) -> Result<(), Fail> {
-    let rows: [(&[&str], &str); 6] = [
+    let rows: [(&[&str], &str); 8] = [
         (
             &["filter", "--id", "@m", "en;q=2"],
             "refused 10: message id\n",
@@ -72,6 +72,15 @@ fn questions_are_refused_by_their_words(rt: HostRuntime) -> Result<(), Fail> {
         ),
         (
             &["lookup", "--id", "m", "--default", "fr", "de-*-DE"],
+            "refused 9: field element at 0\n",
+        ),
+        // A FIELD that begins with "-" is no option after "--".
+        (
+            &["filter", "--id", "m", "--", "-x"],
+            "refused 9: field element at 0\n",
+        ),
+        (
+            &["lookup", "--id", "m", "--", "-x"],
             "refused 9: field element at 0\n",
         ),
     ];
@@ -131,7 +140,7 @@ fn commands_that_read(rt: HostRuntime) -> Result<(), Fail> {
     Ok(())
 }
 
-/// A label of 65 texts, and one with a text of 65,536 bytes.
+/// A label of 65 texts, and two with a text of 65,536 bytes.
 #[test]
 fn labels_over_the_limits(rt: HostRuntime) -> Result<(), Fail> {
     let alloc = rt.alloc();
@@ -142,6 +151,20 @@ fn labels_over_the_limits(rt: HostRuntime) -> Result<(), Fail> {
     let ran = run_words(alloc, words.as_slice())?;
     assert!(rt; is_refused(&ran, 3, "refused 12: label has 65 texts\n"));
     let long = "a".repeat(alloc, 65_536)?;
+    let ran = run_words(
+        alloc,
+        &[
+            "put",
+            "--now",
+            "5",
+            "--id",
+            "m",
+            "--lang",
+            "en",
+            long.as_str(),
+        ],
+    )?;
+    assert!(rt; is_refused(&ran, 3, "refused 11: text 0 is over 65535 bytes\n"));
     let ran = run_words(
         alloc,
         &[
