@@ -54,6 +54,7 @@ install: build/lexicat
 
 # What the papers show, run with the command.
 papers: build/lexicat
+	scripts/words-check
 	scripts/completions-check
 	scripts/readme-check
 	scripts/formats-check
