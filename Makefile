@@ -20,10 +20,12 @@ demo: build/lexicat
 	PATH="$$PWD/build:$$PATH" examples/newsroom/story
 
 # The program that the compiler has to refuse; every proof from nothing, the edits that the prover has to refuse, the
-# tests and the programs; then what the papers show.
+# tests and the programs; then what the papers show. Each processor up to four takes a task: a check takes up to 4 GB,
+# and with its own guess of five times as much `rt ci` would have the largest crates wait for all others.
+LANES := $(shell n=$$(nproc); if [ $$n -gt 4 ]; then echo 4; else echo $$n; fi)
 test:
 	RT='$(RT)' scripts/borrow-check
-	$(RT) ci
+	RT_JOBS=$${RT_JOBS:-$(LANES)} $(RT) ci
 	mkdir -p build
 	if [ -x crates/lexicat/out/lexicat ]; then cp crates/lexicat/out/lexicat build/lexicat; fi
 	$(MAKE) papers
