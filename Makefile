@@ -1,5 +1,6 @@
 # `make` builds the proved command, `make demo` shows it, `make test` is the whole gate.
 # Needed: make and the Rattle kit (`rt`); for `make bench` also cargo and valgrind.
+SHELL := bash
 RT ?= rt
 PREFIX ?= /usr/local
 SOURCES := $(shell find crates -name out -prune -o -type f \( -name '*.rt' -o -name '*.antt' \) -print) crates.txt
@@ -22,13 +23,15 @@ demo: build/lexicat
 # The program that the compiler has to refuse; every proof from nothing, the edits that the prover has to refuse, the
 # tests and the programs; then what the papers show. Each processor up to four takes a task: a check takes up to 4 GB,
 # and with its own guess of five times as much `rt ci` would have the largest crates wait for all others.
+# The last line is that of the proofs, edits, tests and programs again.
 LANES := $(shell n=$$(nproc); if [ $$n -gt 4 ]; then echo 4; else echo $$n; fi)
 test:
 	RT='$(RT)' scripts/borrow-check
-	RT_JOBS=$${RT_JOBS:-$(LANES)} $(RT) ci
 	mkdir -p build
+	set -o pipefail; RT_JOBS=$${RT_JOBS:-$(LANES)} $(RT) ci | tee build/gate.txt
 	if [ -x crates/lexicat/out/lexicat ]; then cp crates/lexicat/out/lexicat build/lexicat; fi
 	$(MAKE) papers
+	@tail -n 1 build/gate.txt
 
 # Instructions and time beside plain Rust; large documents where Debian's serde_json is installed.
 bench: build/lexicat
