@@ -1,69 +1,74 @@
 # `make` builds the proved command, `make demo` shows it, `make test` is the whole gate.
-# Needed: make and the Rattle kit (`rt`); for `make bench` also cargo and valgrind.
+# Needed: make and the Rattle kit (`rt`, which brings python3); for `make bench` also cargo,
+# valgrind and GNU time.
 SHELL := bash
 RT ?= rt
 PREFIX ?= /usr/local
-SOURCES := $(shell find crates -name out -prune -o -type f \( -name '*.rt' -o -name '*.antt' \) -print) crates.txt
+# (the tests and the examples are no part of the command)
+SOURCES := crates.txt $(shell find crates \
+	\( -name out -o -name '*_tests' -o -name 'example_*' -o -name bench \) -prune \
+	-o -type f \( -name '*.rt' -o -name '*.antt' \) -print)
 
-.PHONY: all demo test papers bench bench-documents install clean
+.PHONY: all demo test test-alone check-docs bench bench-documents install uninstall clean
 
 all: build/lexicat
 
-# The crate is proved, and only then built. What was proved before is not proved again.
+# Each crate is proved, and only then built. What was proved before is not proved again.
 build/lexicat: $(SOURCES)
-	cd crates/lexicat && $(RT) run -- --version
-	mkdir -p build
-	cp crates/lexicat/out/lexicat build/lexicat
+	RT='$(RT)' scripts/build
 
-# Which of the labels that are held does this reader get?
+# Shows one query and an example session.
 demo: build/lexicat
 	build/lexicat pick zh-Hant-CN-x-private1-private2 zh-Hant en
 	PATH="$$PWD/build:$$PATH" examples/newsroom/story
 
-# The program that the compiler has to refuse; every proof from nothing, the edits that the prover has to refuse, the
-# tests and the programs; then what the papers show. Each processor up to four takes a task: a check takes up to 4 GB,
-# and with its own guess of five times as much `rt ci` would have the largest crates wait for all others.
-# The last line is that of the proofs, edits, tests and programs again.
-LANES := $(shell n=$$(nproc); if [ $$n -gt 4 ]; then echo 4; else echo $$n; fi)
+# The program that the compiler has to refuse; every proof from nothing, the tests and the programs;
+# the edits that the prover has to refuse, many in one check; then what the docs show. The last line
+# counts them all.
 test:
-	RT='$(RT)' scripts/borrow-check
-	mkdir -p build
-	set -o pipefail; RT_JOBS=$${RT_JOBS:-$(LANES)} $(RT) ci | tee build/gate.txt
-	if [ -x crates/lexicat/out/lexicat ]; then cp crates/lexicat/out/lexicat build/lexicat; fi
-	$(MAKE) papers
-	@tail -n 1 build/gate.txt
+	RT='$(RT)' scripts/gate
 
-# Instructions and time beside plain Rust; large documents where Debian's serde_json is installed.
+# The same by `rt ci` alone over the repository as it stands, with each edit tried alone: some hours.
+test-alone:
+	RT='$(RT)' scripts/gate --alone
+
+# Instructions, time and memory beside plain Rust. WALL=0 leaves time out; WRITE=1 keeps the figures.
 bench: build/lexicat
 	cd crates/bench && $(RT) run > /dev/null
 	CARGO_TARGET_DIR=build/plain cargo build --release --offline --quiet --manifest-path bench/plain/Cargo.toml
 	bench/run
-	if [ -d /usr/share/cargo/registry ]; then $(MAKE) bench-documents; fi
+	$(MAKE) bench-documents
 
 # Large documents, and random ones.
 bench-documents: build/lexicat
 	cd crates/bench && $(RT) run > /dev/null
-	cd bench/documents && CARGO_TARGET_DIR=../../build/documents cargo build --release --offline --quiet
+	CARGO_TARGET_DIR=build/documents cargo build --release --offline --quiet --manifest-path bench/documents/Cargo.toml
 	bench/documents/run
 	bench/documents/rounds
 
+BIN = $(DESTDIR)$(PREFIX)/bin
+SHARE = $(DESTDIR)$(PREFIX)/share
 install: build/lexicat
-	install -d $(DESTDIR)$(PREFIX)/bin $(DESTDIR)$(PREFIX)/share/man/man1
-	install -d $(DESTDIR)$(PREFIX)/share/bash-completion/completions
-	install -d $(DESTDIR)$(PREFIX)/share/zsh/site-functions $(DESTDIR)$(PREFIX)/share/fish/vendor_completions.d
-	install -m 755 build/lexicat $(DESTDIR)$(PREFIX)/bin/lexicat
-	install -m 644 man/lexicat.1 $(DESTDIR)$(PREFIX)/share/man/man1/lexicat.1
-	install -m 644 completions/lexicat.bash $(DESTDIR)$(PREFIX)/share/bash-completion/completions/lexicat
-	install -m 644 completions/_lexicat $(DESTDIR)$(PREFIX)/share/zsh/site-functions/_lexicat
-	install -m 644 completions/lexicat.fish $(DESTDIR)$(PREFIX)/share/fish/vendor_completions.d/lexicat.fish
+	install -d "$(BIN)" "$(SHARE)/man/man1" "$(SHARE)/man/man5"
+	install -d "$(SHARE)/bash-completion/completions" "$(SHARE)/zsh/site-functions"
+	install -d "$(SHARE)/fish/vendor_completions.d"
+	install -m 755 build/lexicat "$(BIN)/lexicat"
+	install -m 644 man/lexicat.1 "$(SHARE)/man/man1/lexicat.1"
+	install -m 644 man/lexicat-formats.5 "$(SHARE)/man/man5/lexicat-formats.5"
+	install -m 644 completions/lexicat.bash "$(SHARE)/bash-completion/completions/lexicat"
+	install -m 644 completions/_lexicat "$(SHARE)/zsh/site-functions/_lexicat"
+	install -m 644 completions/lexicat.fish "$(SHARE)/fish/vendor_completions.d/lexicat.fish"
 
-# What the papers show, run with the command.
-papers: build/lexicat
-	scripts/words-check
-	scripts/completions-check
-	scripts/readme-check
-	scripts/formats-check
-	scripts/newsroom-check
+# Takes away the files that `make install` put in place, by the same PREFIX and DESTDIR.
+uninstall:
+	rm -f "$(BIN)/lexicat"
+	rm -f "$(SHARE)/man/man1/lexicat.1" "$(SHARE)/man/man5/lexicat-formats.5"
+	rm -f "$(SHARE)/bash-completion/completions/lexicat" "$(SHARE)/zsh/site-functions/_lexicat"
+	rm -f "$(SHARE)/fish/vendor_completions.d/lexicat.fish"
+
+# What the docs name and show: names and links, and the examples run with the command.
+check-docs: build/lexicat
+	for script in $(filter-out scripts/borrow-check,$(wildcard scripts/*-check)); do $$script || exit 1; done
 
 clean:
 	rm -rf build

@@ -20,7 +20,7 @@ complete -c lexicat -n "$first" -a take -d 'Join a delta into the site that it i
 complete -c lexicat -n "$first" -a sync -d 'Merge two sites with one another'
 complete -c lexicat -n "$first" -a replay -d 'Run a script of sites'
 complete -c lexicat -n '__fish_seen_subcommand_from new' -x -l site -d 'The name of the site'
-complete -c lexicat -n '__fish_seen_subcommand_from put delete import' -x -l now -d 'The moment of the edit'
+complete -c lexicat -n '__fish_seen_subcommand_from put delete import' -x -l now -d 'The time of the edit'
 complete -c lexicat -n '__fish_seen_subcommand_from put delete filter lookup' -x -l id -d 'The message'
 complete -c lexicat -n '__fish_seen_subcommand_from put delete' -x -l lang -d 'A language tag, or @none'
 complete -c lexicat -n '__fish_seen_subcommand_from pick filter lookup' -x -l scheme -a 'basic extended' -d 'How the ranges are read'

@@ -1,4 +1,4 @@
-/* Preloaded by scripts/command-growths: refuses the Nth growth of a program, counted from 1, N from the variable
+/* Preloaded by scripts/command-growths: refuses the Nth allocation of a program, counted from 1, N from the variable
  * REFUSED_GROWTH. Where N is 0 it refuses none, and writes at the end how many there were. */
 #define _GNU_SOURCE
 #include <dlfcn.h>

@@ -1,46 +1,97 @@
 //! Language maps (JSON-LD 1.1, section 9.8): message id to language to text or texts.
 
-use crate::checks::{is_label, is_message_id};
-use crate::tag::Lang;
-use serde::Deserialize;
-use std::collections::BTreeMap;
+use crate::checks::{is_message_id, MAX_TEXTS, MAX_TEXT_LEN};
+use crate::json::{Input, Read, Span};
+use crate::site::{write_label, Known};
 
-#[derive(Deserialize)]
-#[serde(untagged)]
-enum Texts {
-    One(String),
-    Many(Vec<Option<String>>),
+/// A label with its key; the label is the text that is written for it, and none where there is no
+/// text.
+#[derive(Clone, Copy)]
+pub struct Entry {
+    id: Span,
+    lang: Span,
+    label: Span,
 }
 
-pub type LangMaps = BTreeMap<String, BTreeMap<String, Vec<String>>>;
+/// The labels in order of key.
+pub struct LangMaps<'a> {
+    input: Input<'a>,
+    pub entries: Vec<Entry>,
+}
 
-pub fn read(text: &str) -> Result<LangMaps, String> {
-    let document: BTreeMap<String, BTreeMap<String, Option<Texts>>> =
-        serde_json::from_str(text).map_err(|e| e.to_string())?;
-    let mut maps = LangMaps::new();
-    for (id, languages) in document {
-        if id.starts_with('@') {
-            continue;
+/// What is written for a text, for texts, or for null.
+fn label(input: &mut Input) -> Read<Span> {
+    let mut texts = Vec::new();
+    let mut take = |input: &mut Input| {
+        if input.peek() == b'n' {
+            return input.null();
         }
-        if !is_message_id(&id) {
-            return Err(id);
+        let text = input.string()?;
+        if texts.len() == MAX_TEXTS || input.get(text).len() > MAX_TEXT_LEN {
+            return input.refused();
         }
-        let mut labels = BTreeMap::new();
-        for (language, texts) in languages {
-            let lang = Lang::parse(language.as_bytes()).map_err(|_| language.clone())?;
-            let texts: Vec<String> = match texts {
-                None => Vec::new(),
-                Some(Texts::One(text)) => vec![text],
-                Some(Texts::Many(texts)) => texts.into_iter().flatten().collect(),
-            };
-            if !texts.is_empty() {
-                if !is_label(&texts) {
-                    return Err(language);
-                }
-                labels.insert(lang.as_str().to_string(), texts);
-            }
-        }
-        maps.insert(id, labels);
+        texts.push(text);
+        Ok(())
+    };
+    if input.peek() == b'[' {
+        input.items(take)?;
+    } else {
+        take(input)?;
     }
-    Ok(maps)
+    Ok(if texts.is_empty() {
+        Span::NONE
+    } else {
+        write_label(input, &texts)
+    })
+}
+
+impl<'a> LangMaps<'a> {
+    pub fn read(text: &'a [u8]) -> Read<LangMaps<'a>> {
+        let mut input = Input::new(text)?;
+        let mut entries: Vec<Entry> = Vec::new();
+        let mut known = Known::default();
+        let mut rising = true;
+        input.members(|input, id| {
+            if input.get(id).first() == Some(&b'@') {
+                return input.pass();
+            }
+            if !is_message_id(input.get(id)) {
+                return input.refused();
+            }
+            rising = rising
+                && entries
+                    .last()
+                    .is_none_or(|last| input.get(last.id) < input.get(id));
+            let first = entries.len();
+            input.members(|input, lang| {
+                let lang = known.check(input, lang)?;
+                let last = entries.get(first..).and_then(<[Entry]>::last);
+                rising = rising && last.is_none_or(|last| input.get(last.lang) < input.get(lang));
+                let label = label(input)?;
+                entries.push(Entry { id, lang, label });
+                Ok(())
+            })
+        })?;
+        input.ends()?;
+        if !rising {
+            // Of entries with one key the last stands.
+            entries.reverse();
+            entries.sort_by(|one, other| key(&input, one).cmp(&key(&input, other)));
+            entries.dedup_by(|one, other| key(&input, one) == key(&input, other));
+        }
+        entries.retain(|entry| !entry.label.is_empty());
+        Ok(LangMaps { input, entries })
+    }
+
+    pub fn key(&self, entry: &Entry) -> (&[u8], &[u8]) {
+        key(&self.input, entry)
+    }
+
+    pub fn label(&self, entry: &Entry) -> &[u8] {
+        self.input.get(entry.label)
+    }
+}
+
+fn key<'a>(input: &'a Input, entry: &Entry) -> (&'a [u8], &'a [u8]) {
+    (input.get(entry.id), input.get(entry.lang))
 }

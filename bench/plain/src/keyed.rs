@@ -1,162 +1,162 @@
-//! Maps of cells that join key by key, in plain Rust: sorted vectors for joins, `BTreeMap` for single keys.
+//! Maps of cells that join key by key.
 
+use crate::cell_core::{Keyed, Stamp};
+use crate::checksum::{mixed, mixed_place};
+use crate::makers::{id_of, label, name, scattered};
 use std::cmp::Ordering;
-use std::collections::BTreeMap;
+use std::hint::black_box;
 
-#[derive(Debug, Clone, Copy, PartialEq, Eq, PartialOrd, Ord)]
-pub struct Stamp {
-    pub time: u64,
-    pub site: [u8; 16],
-    pub count: u32,
-}
+const SIZE: u64 = 100_000;
 
-#[derive(Debug, Clone, PartialEq, Eq)]
-pub struct Cell {
-    pub stamp: Stamp,
-    pub label: Option<Vec<String>>,
-}
-
-pub type Entry = (String, Cell);
-
-pub const SIZE: u64 = 100_000;
-
-pub fn mixed(sum: u64, value: u64) -> u64 {
-    sum.wrapping_mul(31).wrapping_add(value)
-}
-
-fn site() -> [u8; 16] {
-    *b"paris\0\0\0\0\0\0\0\0\0\0\0"
-}
-
-pub fn stamp_of(number: u64) -> Stamp {
-    Stamp { time: number % 1000, site: site(), count: (number % 7) as u32 }
-}
-
-pub fn key_of(number: u64) -> String {
-    format!("message/{number:020}")
-}
-
-fn cell_of(number: u64) -> Cell {
-    Cell { stamp: stamp_of(number), label: Some(vec!["label".to_string()]) }
+fn stamp_of(number: u64) -> Stamp {
+    Stamp {
+        time: number % 1000,
+        site: name("paris"),
+        count: (number % 7) as u32,
+    }
 }
 
 /// So many entries from a number on, so far apart.
-fn rising(from: u64, step: u64, count: u64) -> Vec<Entry> {
-    (0..count).map(|turn| from + turn * step).map(|number| (key_of(number), cell_of(number))).collect()
+fn rising(from: u64, step: u64, count: u64) -> Keyed {
+    let label = label();
+    let mut map = Keyed::default();
+    for number in (0..count).map(|turn| from + turn * step) {
+        map.put(id_of(number).as_bytes(), stamp_of(number), Some(&label));
+    }
+    map
 }
 
-/// A number that looks random.
-fn scattered(turn: u64) -> u64 {
-    turn.wrapping_mul(6_364_136_223_846_793_005).wrapping_add(1_442_695_040_888_963_407) >> 20
+/// The first map of a work.
+fn own_of(work: &str) -> Keyed {
+    match work {
+        "keyed-copy" | "keyed-equal" | "keyed-disjoint" | "keyed-interleaved" => rising(0, 2, SIZE),
+        "keyed-few" | "keyed-walk" => rising(0, 2, SIZE),
+        _ => Keyed::default(),
+    }
 }
 
-/// Whether the cells of common keys agree: their stamps differ, or their labels are equal.
-fn agree(own: &[Entry], other: &[Entry]) -> bool {
-    let mut theirs = other.iter().peekable();
-    own.iter().all(|(key, cell)| {
-        while theirs.next_if(|entry| entry.0 < *key).is_some() {}
-        match theirs.next_if(|entry| entry.0 == *key) {
-            Some((_, new)) => cell.stamp != new.stamp || cell.label == new.label,
-            None => true,
-        }
-    })
+/// The map that it is joined with.
+fn other_of(work: &str) -> Keyed {
+    match work {
+        "keyed-equal" => rising(0, 2, SIZE),
+        "keyed-disjoint" => rising(2 * SIZE, 2, SIZE),
+        "keyed-interleaved" => rising(1, 2, SIZE),
+        "keyed-few" => rising(1, 2000, 100),
+        _ => Keyed::default(),
+    }
+}
+
+fn copy_length(own: &Keyed) -> u64 {
+    black_box(own.clone()).len() as u64
 }
 
 /// The length of the join of a copy with another map; 0 where the two do not agree.
-fn joined_length(own: &[Entry], other: &[Entry]) -> u64 {
-    let mut copy = own.to_vec();
-    if !agree(&copy, other) {
+fn joined_length(own: &Keyed, other: &Keyed) -> u64 {
+    let mut copy = own.clone();
+    if !copy.join(other) {
         return 0;
     }
-    join(&mut copy, other);
-    copy.len() as u64
+    black_box(copy).len() as u64
 }
 
-/// Joins the entries of a map with those of another, which are copied where they win or are new.
-fn join(own: &mut Vec<Entry>, other: &[Entry]) {
-    let mut joined = Vec::with_capacity(own.len() + other.len());
-    let mut theirs = other.iter().peekable();
-    for (key, cell) in std::mem::take(own) {
-        while let Some(entry) = theirs.next_if(|entry| entry.0 < key) {
-            joined.push(entry.clone());
-        }
-        match theirs.next_if(|entry| entry.0 == key) {
-            Some((_, new)) if cell.stamp < new.stamp => joined.push((key, new.clone())),
-            _ => joined.push((key, cell)),
-        }
+fn sum_of_walk(own: &Keyed) -> u64 {
+    own.cells()
+        .iter()
+        .fold(0, |sum, cell| mixed(sum, cell.time))
+}
+
+/// Keys in rising order, or such as look random.
+fn keys_put(random: bool) -> Vec<String> {
+    (0..SIZE)
+        .map(|turn| id_of(if random { scattered(turn) } else { turn }))
+        .collect()
+}
+
+/// Puts copies of the keys, each with a stamp that tells its turn.
+fn put_all(keys: &[String]) -> u64 {
+    let mut map = Keyed::default();
+    for (turn, key) in (0..).zip(keys) {
+        map.put(key.as_bytes(), stamp_of(turn), None);
     }
-    joined.extend(theirs.cloned());
-    *own = joined;
+    map.settle();
+    map.cells()
+        .iter()
+        .fold(mixed_place(0, map.len()), |sum, cell| mixed(sum, cell.time))
 }
 
-fn sum_of<'a>(entries: impl Iterator<Item = &'a Cell>) -> u64 {
-    entries.fold(0, |sum, cell| mixed(sum, cell.stamp.time))
-}
-
-fn put_all(number_of: impl Fn(u64) -> u64) -> u64 {
-    let mut map = BTreeMap::new();
+fn stamps_held() -> Keyed {
+    let mut map = Keyed::default();
     for turn in 0..SIZE {
-        let number = number_of(turn);
-        map.insert(key_of(number), stamp_of(number));
+        map.put(id_of(2 * turn).as_bytes(), stamp_of(2 * turn), None);
     }
-    map.values().fold(map.len() as u64, |sum, stamp| mixed(sum, stamp.time))
+    map
 }
 
-fn get_all(map: &BTreeMap<String, Stamp>, keys: &[String]) -> u64 {
-    keys.iter().fold(0, |sum, key| mixed(sum, map.get(key).map_or(1, |stamp| stamp.time)))
+fn keys_asked() -> Vec<String> {
+    (0..SIZE)
+        .map(|turn| id_of(scattered(turn) % (2 * SIZE)))
+        .collect()
+}
+
+fn get_all(map: &Keyed, keys: &[String]) -> u64 {
+    keys.iter().fold(0, |sum, key| {
+        mixed(sum, map.get(key.as_bytes()).map_or(1, |cell| cell.time))
+    })
+}
+
+fn stamps_of() -> Vec<Stamp> {
+    (0..SIZE)
+        .map(|turn| stamp_of(scattered(turn) % 3000))
+        .collect()
 }
 
 fn compare_all(stamps: &[Stamp]) -> u64 {
-    let mut sum = 0;
-    for pair in stamps.windows(2) {
-        sum = mixed(sum, match pair[0].cmp(&pair[1]) {
-            Ordering::Less => 1,
-            Ordering::Equal => 2,
-            Ordering::Greater => 3,
-        });
-    }
-    sum
+    stamps
+        .windows(2)
+        .fold(0, |sum, pair| match pair[0].cmp(&pair[1]) {
+            Ordering::Less => mixed(sum, 1),
+            Ordering::Equal => mixed(sum, 2),
+            Ordering::Greater => mixed(sum, 3),
+        })
+}
+
+fn repeated(turns: u64, found: impl Fn() -> u64) -> u64 {
+    (0..turns).fold(0, |sum, _| mixed(sum, found()))
+}
+
+fn run_joins(work: &str, turns: u64) -> u64 {
+    let own = own_of(work);
+    let other = other_of(work);
+    repeated(turns, || match work {
+        "keyed-copy" => copy_length(&own),
+        "keyed-walk" => sum_of_walk(&own),
+        _ => joined_length(&own, &other),
+    })
+}
+
+fn run_puts(random: bool, turns: u64) -> u64 {
+    let keys = keys_put(random);
+    repeated(turns, || put_all(&keys))
+}
+
+fn run_gets(turns: u64) -> u64 {
+    let map = stamps_held();
+    let keys = keys_asked();
+    repeated(turns, || get_all(&map, &keys))
+}
+
+fn run_order(turns: u64) -> u64 {
+    let stamps = stamps_of();
+    repeated(turns, || compare_all(&stamps))
 }
 
 /// The checksum of so many turns of a work over maps of 100,000 entries.
 pub fn run(work: &str, turns: u64) -> u64 {
-    let own = match work {
-        "keyed-copy" | "keyed-equal" | "keyed-disjoint" | "keyed-interleaved" | "keyed-few" | "keyed-walk" => {
-            rising(0, 2, SIZE)
-        }
-        _ => Vec::new(),
-    };
-    let other = match work {
-        "keyed-equal" => rising(0, 2, SIZE),
-        "keyed-disjoint" => rising(2 * SIZE, 2, SIZE),
-        "keyed-interleaved" => rising(1, 2, SIZE),
-        "keyed-few" => rising(1, 2 * SIZE / 100, 100),
-        _ => Vec::new(),
-    };
-    let keys: Vec<String> = match work {
-        "keyed-get" => (0..SIZE).map(|turn| key_of(scattered(turn) % (2 * SIZE))).collect(),
-        _ => Vec::new(),
-    };
-    let map: BTreeMap<String, Stamp> = match work {
-        "keyed-get" => (0..SIZE).map(|turn| (key_of(2 * turn), stamp_of(2 * turn))).collect(),
-        _ => BTreeMap::new(),
-    };
-    let stamps: Vec<Stamp> = match work {
-        "stamp-order" => (0..SIZE).map(|turn| stamp_of(scattered(turn) % 3000)).collect(),
-        _ => Vec::new(),
-    };
-    let mut sum = 0;
-    for _ in 0..turns {
-        let found = match work {
-            "keyed-walk" => sum_of(own.iter().map(|entry| &entry.1)),
-            "keyed-put-rising" => put_all(|turn| turn),
-            "keyed-put-random" => put_all(scattered),
-            "keyed-get" => get_all(&map, &keys),
-            "stamp-order" => compare_all(&stamps),
-            "keyed-copy" => own.clone().len() as u64,
-            _ => joined_length(&own, &other),
-        };
-        sum = mixed(sum, found);
+    match work {
+        "keyed-put-rising" => run_puts(false, turns),
+        "keyed-put-random" => run_puts(true, turns),
+        "keyed-get" => run_gets(turns),
+        "stamp-order" => run_order(turns),
+        _ => run_joins(work, turns),
     }
-    sum
 }

@@ -1,7 +1,10 @@
 //! Works over catalogues of 100,000 cells.
 
 use crate::checksum::mixed;
-use crate::makers::{catalogue_of, ids_of, label, langs_of_tags, many_langs, name, scattered};
+use crate::makers::{
+    catalogue_of, edit_of, id_of, ids_of, label, langs_of_tags, many_langs, name, numbered_lang,
+    scattered, stamp_of,
+};
 use cata_core::{CataFault, Catalogue, LentReply, Site, Summary};
 use cell_core::{Label, MessageId};
 use lang_core::Lang;
@@ -11,6 +14,8 @@ use std::alloc::{AllocError, Global};
 const TURNS: u64 = 100_000;
 
 const MESSAGES: u64 = 10_000;
+
+const LANGUAGES: u64 = 800_000;
 
 /// Most of its ranges are held by no message, so that lookup has to try several of them.
 const SELDOM: &str =
@@ -146,27 +151,54 @@ fn look_up_all(catalogue: &Catalogue, ids: &[MessageId], list: &PriorityList) ->
     sum
 }
 
-fn run_lookups(alloc: Global, turns: u64) -> Result<u64, AllocError> {
-    let langs = many_langs(alloc)?;
-    let own = catalogue_of(alloc, 0, 2_000, &langs, 0)?;
-    let ids = ids_of(alloc, 100, 17)?;
-    let Ok(list) = PriorityList::from_accept(alloc, SELDOM.as_bytes()) else {
+/// One message in so many languages.
+fn message_of(alloc: Global, langs: u64) -> Result<Catalogue, AllocError> {
+    let mut catalogue = Catalogue::new(alloc);
+    let id = id_of(alloc, 0)?;
+    let stamp = stamp_of(0, 0)?;
+    for number in 0..langs {
+        let edit = edit_of(alloc, &id, &numbered_lang(alloc, number)?, &stamp)?;
+        catalogue.apply(alloc, &edit).map_err(no_memory)?;
+    }
+    Ok(catalogue)
+}
+
+fn run_lookups(
+    alloc: Global,
+    own: &Catalogue,
+    ids: &[MessageId],
+    field: &str,
+    turns: u64,
+) -> Result<u64, AllocError> {
+    let Ok(list) = PriorityList::from_accept(alloc, field.as_bytes()) else {
         return Err(AllocError);
     };
     let mut sum = 0;
     for _ in 0..turns {
-        sum = mixed(sum, look_up_all(&own, &ids, &list));
+        sum = mixed(sum, look_up_all(own, ids, &list));
     }
     Ok(sum)
 }
 
+fn run_few_lookups(alloc: Global, turns: u64) -> Result<u64, AllocError> {
+    let own = catalogue_of(alloc, 0, 2_000, &many_langs(alloc)?, 0)?;
+    run_lookups(alloc, &own, &ids_of(alloc, 100, 17)?, SELDOM, turns)
+}
+
+/// A field of many ranges, looked up in one message of many languages.
+fn run_long_lookups(alloc: Global, load: &str, turns: u64) -> Result<u64, AllocError> {
+    let own = message_of(alloc, LANGUAGES)?;
+    run_lookups(alloc, &own, &ids_of(alloc, 1, 1)?, load, turns)
+}
+
 /// The checksum of so many turns of a work.
-pub fn run(alloc: Global, work: &str, turns: u64) -> Result<u64, AllocError> {
+pub fn run(alloc: Global, work: &str, load: &str, turns: u64) -> Result<u64, AllocError> {
     match work {
         "catalogue-walk" => run_walks(alloc, turns),
         "catalogue-delta" => run_deltas(alloc, turns),
         "catalogue-puts" => run_puts(alloc, turns),
-        "catalogue-lookup" => run_lookups(alloc, turns),
+        "catalogue-lookup" => run_few_lookups(alloc, turns),
+        "catalogue-long-lookup" => run_long_lookups(alloc, load, turns),
         _ => run_merges(alloc, work, turns),
     }
 }

@@ -1,7 +1,7 @@
 //! Maps of cells that join key by key.
 
 use crate::checksum::{mixed, mixed_place};
-use cell_core::{Cell, CellFault, Join, Keyed, Label, MessageId, SiteName, Stamp};
+use cell_core::{Cell, CellFault, Join, Key, Keyed, Label, MessageId, SiteName, Stamp};
 use std::alloc::{AllocError, Global};
 use std::cmp::Ordering;
 
@@ -99,11 +99,21 @@ fn sum_of_walk(own: &Cells) -> u64 {
     sum
 }
 
-fn put_all(alloc: Global, random: bool) -> Result<u64, AllocError> {
-    let mut map: Keyed<MessageId, Stamp> = Keyed::new(alloc);
+/// Keys in rising order, or such as look random.
+fn keys_put(alloc: Global, random: bool) -> Result<Vec<MessageId>, AllocError> {
+    let mut keys = Vec::new(alloc);
     for turn in 0..SIZE {
         let number = if random { scattered(turn) } else { turn };
-        let Ok(()) = map.put(key_of(alloc, number)?, stamp_of(number)?) else {
+        keys.push(key_of(alloc, number)?)?;
+    }
+    Ok(keys)
+}
+
+/// Puts copies of the keys, each with a stamp that tells its turn.
+fn put_all(alloc: Global, keys: &[MessageId]) -> Result<u64, AllocError> {
+    let mut map: Keyed<MessageId, Stamp> = Keyed::new(alloc);
+    for turn in 0..keys.len() {
+        let Ok(()) = map.put(keys[turn].copy(alloc)?, stamp_of(turn as u64)?) else {
             return Err(AllocError);
         };
     }
@@ -180,9 +190,10 @@ fn run_joins(alloc: Global, work: &str, turns: u64) -> Result<u64, AllocError> {
 }
 
 fn run_puts(alloc: Global, random: bool, turns: u64) -> Result<u64, AllocError> {
+    let keys = keys_put(alloc, random)?;
     let mut sum = 0;
     for _ in 0..turns {
-        sum = mixed(sum, put_all(alloc, random)?);
+        sum = mixed(sum, put_all(alloc, &keys)?);
     }
     Ok(sum)
 }

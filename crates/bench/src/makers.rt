@@ -74,6 +74,12 @@ pub fn many_langs(alloc: Global) -> Result<Vec<Lang>, AllocError> {
     Ok(langs)
 }
 
+/// A language that is private, in the order of its number.
+pub fn numbered_lang(alloc: Global, number: u64) -> Result<Lang, AllocError> {
+    let text = format!(in alloc; "x-{number:06}")?;
+    Lang::parse(alloc, text.as_bytes()).map_err(no_lang)
+}
+
 pub fn label(alloc: Global) -> Result<Label, AllocError> {
     let mut texts = Vec::new(alloc);
     texts.push("label".to_string(alloc)?)?;
@@ -111,7 +117,8 @@ fn apply_all(
     Ok(())
 }
 
-/// So many messages from a number on in each of the languages; every hundredth message is later by so much.
+/// So many messages from a number on in each of the languages; every hundredth message is later by
+/// so much.
 pub fn catalogue_of(
     alloc: Global,
     from: u64,

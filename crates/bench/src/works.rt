@@ -95,7 +95,7 @@ pub fn run(alloc: Global, work: &str, load: &str, turns: u64) -> Result<u64, All
     match work {
         "tags" | "long-tag" => Ok(parse(alloc, load, turns)),
         "play" => playing::run(alloc, turns),
-        _ if work.starts_with("catalogue-") => catalogues::run(alloc, work, turns),
+        _ if work.starts_with("catalogue-") => catalogues::run(alloc, work, load, turns),
         _ if work.starts_with("keyed-") || work.starts_with("stamp-") => keyed::run(
             alloc, work, turns,
         ),

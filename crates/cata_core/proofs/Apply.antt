@@ -16,7 +16,7 @@ use Rattle.cata_core.proofs.Basics.{tied}
 use Rattle.cata_core.proofs.NestedCatalogues.{put_same}
 use Rattle.cata_core.proofs.Places.{stands_at_place, before_place}
 
-with_none : (o : Option Cell) → AgreeIfBoth AgreeCells o None
+pub with_none : (o : Option Cell) → AgreeIfBoth AgreeCells o None
 with_none None = tt
 with_none (Some c) = tt
 

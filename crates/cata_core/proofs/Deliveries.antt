@@ -1,16 +1,17 @@
 -- What a delivery brings, by the steps before its post and before the summary that was told.
-use Rattle.std.proofs.Common.{◌≡◌, ℕ, List, [], ◌∷◌, ◌++◌, Some, length, refl, sym, ap, ◌∙◌}
-use Rattle.std.specs.Prelude.{slice_get}
+use Rattle.std.proofs.Common.{◌≡◌, ◌≢◌, ℕ, true, false, List, [], ◌∷◌, ◌++◌, Some, length, refl, sym, ap, ◌∙◌}
+use Rattle.std.specs.Prelude.{◌==◌, slice_get, if◌then◌else◌}
+use Rattle.std.proofs.lemmas.Bool.{eqb-true, eqb-false}
 use Rattle.cata_core.specs.declared.step.Step.{Step}
 use Rattle.cata_core.specs.declared.step.Step.TheVariants.{Tell, Post, Deliver}
+use Rattle.cata_core.specs.Entries.{Entries, joined}
 use Rattle.cata_core.specs.Deltas.{summary_of, delta_of}
 use Rattle.cata_core.specs.Taken.{PostedEdits, Taken, taken_step, taken_after, nothing_taken, taken, edits_in, edits_delivered, tellers_by, post_to}
-use Rattle.cata_core.specs.Held.{Told, PostedCells, Held, held_step, held_after, nothing_held, held, cells_in, cells_delivered, told_by, delta_to, cells_posted}
+use Rattle.cata_core.specs.Held.{Told, PostedCells, Held, held_step, held_after, nothing_held, held, cells_in, cells_delivered, joins, told_by, delta_to, cells_posted}
+use Rattle.cata_core.proofs.Deltas.{nothing_lost_of_maps}
+use Rattle.cata_core.proofs.Machine.{held_one_more}
 use Rattle.cata_core.proofs.Spreading.{after_append, get_kept, get_next, post_stays}
-
-held_append : (w : Held) (xs ys : List Step) → held_after w (xs ++ ys) ≡ held_after (held_after w xs) ys
-held_append w [] ys = refl
-held_append w (x ∷ xs) ys = held_append (held_step w x) xs ys
+use Rattle.cata_core.proofs.HeldRises.{held_append, held-IsMap, later_has, told_serves}
 
 teller_stays : (w : Taken) (steps : List Step) (i : ℕ) (t : ℕ) → slice_get w.tellers i ≡ Some t → let v = taken_after w steps in slice_get v.tellers i ≡ Some t
 teller_stays w [] i t e = e
@@ -62,3 +63,48 @@ delivered_taken a b c s t =
     (λ i. let wi = same i in edits_delivered (let zi = all i in slice_get zi.posts (length wi.posts)))
     ∙ ap edits_delivered kept
     ∙ ap (λ (y : Taken). Some (t, y.of_site s)) (sym same)
+
+-- ---- a delivery acts as a merge
+
+-- what comes in at a site is joined to what it holds
+joins_here : (of : ℕ → Entries) (c : ℕ × Entries) → joins of (Some c) c.0 ≡ joined (of c.0) c.1
+joins_here of c = elim (c.0 == c.0) as (λ b. (c.0 == c.0) ≡ b → (if b then joined (of c.0) c.1 else of c.0) ≡ joined (of c.0) c.1) [
+  | true ↦ λ b. refl
+  | false ↦ λ b. absurd (eqb-false c.0 c.0 b refl)
+] refl
+
+-- and the other sites hold what they held
+joins_there : (of : ℕ → Entries) (c : ℕ × Entries) (s : ℕ) → s ≢ c.0 → joins of (Some c) s ≡ of s
+joins_there of c s other = elim (s == c.0) as (λ b. (s == c.0) ≡ b → (if b then joined (of s) c.1 else of s) ≡ of s) [
+  | true ↦ λ b. absurd (other (eqb-true s c.0 b))
+  | false ↦ λ b. refl
+] refl
+
+pub delivery_leaves_others : (a b c : List Step) (s t other : ℕ) → let v = held_after nothing_held a in let before = a ++ Tell t ∷ b in let w = held_after nothing_held before in
+    let steps = before ++ Post s (length v.told) ∷ c in
+    other ≢ t → held (steps ++ Deliver (length w.posts) ∷ []) other ≡ held steps other
+delivery_leaves_others a b c s t other differs =
+    let v = held_after nothing_held a in
+    let before = a ++ Tell t ∷ b in
+    let w = held_after nothing_held before in
+    let steps = before ++ Post s (length v.told) ∷ c in
+    let x = held_after nothing_held steps in
+    ap (λ (y : Held). y.of_site other) (held_one_more nothing_held steps (Deliver (length w.posts)))
+    ∙ ap (λ o. joins x.of_site o other) (delivered_delta a b c s t)
+    ∙ joins_there x.of_site (t, delta_of (held before s) (summary_of (held a t))) other differs
+
+pub delivery_merges : (a b c : List Step) (s t : ℕ) → let v = held_after nothing_held a in let before = a ++ Tell t ∷ b in let w = held_after nothing_held before in
+    let steps = before ++ Post s (length v.told) ∷ c in
+    held (steps ++ Deliver (length w.posts) ∷ []) t ≡ joined (held steps t) (held before s)
+delivery_merges a b c s t =
+    let v = held_after nothing_held a in
+    let before = a ++ Tell t ∷ b in
+    let w = held_after nothing_held before in
+    let post = Post s (length v.told) in
+    let steps = before ++ post ∷ c in
+    let x = held_after nothing_held steps in
+    let told = summary_of (held a t) in
+    ap (λ (y : Held). y.of_site t) (held_one_more nothing_held steps (Deliver (length w.posts)))
+    ∙ ap (λ o. joins x.of_site o t) (delivered_delta a b c s t)
+    ∙ joins_here x.of_site (t, delta_of (held before s) told)
+    ∙ nothing_lost_of_maps (held steps t) (held before s) told (held-IsMap steps t) (held-IsMap before s) (later_has before (post ∷ c) t told (told_serves a (Tell t ∷ b) t))

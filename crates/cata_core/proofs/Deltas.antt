@@ -27,7 +27,7 @@ sent_or_not own told (Some c) has = elim (is_news told c.stamp) as (λ b. is_new
   | false ↦ λ b. unsent own told c has b
 ] refl
 
-nothing_lost_of_maps : (own sender : Entries) (summary : Stamps) → IsMap key_cmp own → IsMap key_cmp sender → HasAll own summary → joined own (delta_of sender summary) ≡ joined own sender
+pub nothing_lost_of_maps : (own sender : Entries) (summary : Stamps) → IsMap key_cmp own → IsMap key_cmp sender → HasAll own summary → joined own (delta_of sender summary) ≡ joined own sender
 nothing_lost_of_maps own sender summary m n has =
     let news = λ (e : Entry). is_news (find key_cmp e.0 summary) e.1.stamp in
     let delta = delta_of sender summary in

@@ -2,8 +2,8 @@
 use Rattle.std.proofs.Common.{◌≡◌, ◌≢◌, ℕ, List, true, false, cond, [], ◌∷◌, Option, Some, None, inl, inr, refl, sym, ap, ◌∙◌, subst}
 use Rattle.std.specs.declared.cmp.Ordering.{Ordering}
 use Rattle.std.specs.declared.cmp.Ordering.TheVariants.{Less, Equal, Greater}
-use Rattle.std.specs.Ordering.{is_lt, ordering_reverse}
-use Rattle.std.specs.FinMap.Entries.{put, by_order}
+use Rattle.std.specs.Ordering.{is_lt, eq_by_cmp, ordering_reverse}
+use Rattle.std.specs.FinMap.Entries.{find, put, by_order}
 use Rattle.cell_core.specs.declared.cell.Cell.{Cell}
 use Rattle.cell_core.specs.declared.stamp.Stamp.{Stamp}
 use Rattle.cell_core.specs.Cells.{AgreeStamps, joined_stamps, stamp_laws, stamp_cmp_total}
@@ -58,6 +58,15 @@ above_second a (Some t) s h = elim (is_lt (stamp_cmp a t)) as (λ b. is_lt (stam
     below Less e never k = stamp_cmp_total.trans t a s e k
     below Equal e never k = stamp_cmp_total.congr t a s e ∙ k
     below Greater e never k = absurd (never (stamp_cmp_total.antisymm a t ∙ ap ordering_reverse e))
+
+-- each cell that is held has a lesser stamp than what is above all
+pub held_less : (es : Entries) (k : EntryKey) (c : Cell) (s : Stamp) → IsAbove (last_of es) s → find key_cmp k es ≡ Some c → stamp_cmp c.stamp s ≡ Less
+held_less [] k c s h is = absurd (cc)
+held_less (e ∷ es) k c s h is =
+    elim (eq_by_cmp key_cmp k e.0) as (λ t. cond t (Some e.1) (find key_cmp k es) ≡ Some c → stamp_cmp c.stamp s ≡ Less) [
+      | true ↦ λ is. subst (λ (x : Cell). stamp_cmp x.stamp s ≡ Less) (some_same e.1 c is) (above_first e.1.stamp (last_of es) s h)
+      | false ↦ λ is. held_less es k c s (above_second e.1.stamp (last_of es) s h) is
+    ] is
 
 joined_above : (o : Option Stamp) (s : Stamp) → IsAbove o s → joined_if_both joined_stamps o (Some s) ≡ Some s
 joined_above None s h = refl

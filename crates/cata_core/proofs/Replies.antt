@@ -11,7 +11,7 @@ use Rattle.cata_core.specs.Entries.{text_cmp}
 use Rattle.cata_core.specs.Lent.{with_key}
 use Rattle.cata_core.specs.Live.{Labelled, is_live}
 
-joined-pieces : (text : List ℕ) → joined (pieces text) ≡ text
+pub joined-pieces : (text : List ℕ) → joined (pieces text) ≡ text
 unfolding pieces_by
 joined-pieces text = join_with_byte-slice_split 45 text
 

@@ -36,7 +36,7 @@ summaries_rise p q s = summary_rises (taken (p ++ q) s) (taken p s) (taken_grows
 
 -- ---- only edits of the steps
 
-get_in : {X : Type 0} (xs : List X) (i : ℕ) (x : X) → slice_get xs i ≡ Some x → In xs x
+pub get_in : {X : Type 0} (xs : List X) (i : ℕ) (x : X) → slice_get xs i ≡ Some x → In xs x
 get_in [] i x e = absurd (cc)
 get_in (y ∷ ys) zero x e = inl (cc)
 get_in (y ∷ ys) (suc i) x e = inr (get_in ys i x e)
@@ -96,6 +96,10 @@ edits_have (step ∷ steps) s f h = elim h as (λ _. In (edits_by step ++ edits_
   | inl is ↦ subst (λ x. In (edits_by x ++ edits_of steps) f) (sym is) (inl refl)
   | inr k ↦ in_append_right (edits_by step) (edits_of steps) f (edits_have steps s f k)
 ]
+
+-- what a site took are edits of the steps
+pub only_edits_taken : (steps : List Step) (s : ℕ) (f : Entry) → In (taken steps s) f → In (edits_of steps) f
+only_edits_taken steps s = only_taken (λ f. In (edits_of steps) f) steps (edits_have steps) s
 
 by_step : (step : Step) (f : Entry) → In (edits_by step) f → (s : ℕ) × (step ≡ Edit s f)
 by_step (Edit site edit) f h = elim h as (λ _. (s : ℕ) × (Edit site edit ≡ Edit s f)) [ inl is ↦ (site, ap (Edit site) is) | inr gone ↦ absurd gone ]
@@ -190,7 +194,7 @@ reaches_all sites steps spread t lt f h =
 -- all sites come to the catalogue of all edits
 pub converges : (sites : ℕ) (steps : List Step) → IsConsistent (edits_of steps) → AllReached sites steps → (t : ℕ) → t < sites → catalogue_of (taken steps t) ≡ catalogue_of (edits_of steps)
 converges sites steps consistent spread t lt =
-    let there : (f : Entry) → In (taken steps t) f → In (edits_of steps) f = only_taken (λ f. In (edits_of steps) f) steps (edits_have steps) t in
+    let there = only_edits_taken steps t in
     let back = reaches_all sites steps spread t lt in
     same_catalogue (taken steps t) (edits_of steps) (settled_part (edits_of steps) (taken steps t) consistent there)
     (λ e. (

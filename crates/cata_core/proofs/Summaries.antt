@@ -1,5 +1,5 @@
 -- Summaries: what they have at a key, and that they rise.
-use Rattle.std.proofs.Common.{◌≡◌, ◌≢◌, true, false, cond, List, Option, Some, None, inr, refl, sym, ap, ◌∙◌, subst}
+use Rattle.std.proofs.Common.{◌≡◌, ◌≢◌, true, false, cond, List, Option, Some, None, inl, inr, refl, sym, ap, ◌∙◌, subst}
 use Rattle.std.specs.declared.cmp.Ordering.TheVariants.{Less}
 use Rattle.std.specs.Ordering.{is_lt}
 use Rattle.std.specs.Option.{option_map}
@@ -7,13 +7,13 @@ use Rattle.std.specs.FinMap.Entries.{find}
 use Rattle.cell_core.specs.declared.cell.Cell.{Cell}
 use Rattle.cell_core.specs.declared.stamp.Stamp.{Stamp}
 use Rattle.cell_core.specs.Stamps.{stamp_cmp}
-use Rattle.cell_core.specs.Cells.{AgreeStamps, joined_stamps}
+use Rattle.cell_core.specs.Cells.{AgreeStamps, joined_stamps, joined_cells}
 use Rattle.cell_core.specs.Maps.{IsMap, AgreeIfBoth, joined_maps, joined_if_both, joined_maps-IsMap, find-joined_maps, same_maps}
-use Rattle.cata_core.specs.Entries.{EntryKey, key_cmp, key_cmp_total, key_cmp_exact, Entry, Entries}
+use Rattle.cata_core.specs.Entries.{EntryKey, key_cmp, key_cmp_total, key_cmp_exact, Entry, Entries, joined, IsBelowCells}
 use Rattle.cata_core.specs.Edits.{catalogue_of}
 use Rattle.cata_core.specs.Deltas.{Stamps, summary_of, HasAll, HasAtLeast, IsBelowStamps}
-use Rattle.cata_core.proofs.Basics.{not_less_of}
-use Rattle.cata_core.proofs.StampOrder.{not_less_self, same_stamp}
+use Rattle.cata_core.proofs.Basics.{less_of, not_less_of}
+use Rattle.cata_core.proofs.StampOrder.{not_less_self, not_less_back, not_less_trans, same_stamp}
 use Rattle.cata_core.proofs.Members.{In, Contains-from_in}
 use Rattle.cata_core.proofs.Best.{best_in}
 use Rattle.cata_core.proofs.Mapped.{mapped-IsMap, find-mapped}
@@ -78,3 +78,23 @@ has_own own k s e = at (find key_cmp k own) (sym (find-summary_of k own) ∙ e)
     at : (o : Option Cell) → stamp_if o ≡ Some s → HasAtLeast o s
     at None e = absurd (cc)
     at (Some c) e = let same : c.stamp ≡ s = cc in subst (λ t. stamp_cmp c.stamp t ≢ Less) same (not_less_self c.stamp)
+
+-- one who has all of it has it still when cells are joined, whether or not they agree
+pub has_joined : (own other : Entries) (summary : Stamps) → IsMap key_cmp own → IsMap key_cmp other → HasAll own summary → HasAll (joined own other) summary
+has_joined own other summary m n has k s told =
+    subst (λ o. HasAtLeast o s) (sym (find-joined_maps key_cmp key_cmp_total joined_cells own other m n k)) (at (find key_cmp k own) (find key_cmp k other) (has k s told))
+  where
+    at : (a b : Option Cell) → HasAtLeast a s → HasAtLeast (joined_if_both joined_cells a b) s
+    at None b h = absurd h
+    at (Some c) None h = h
+    at (Some c) (Some d) h = elim (is_lt (stamp_cmp c.stamp d.stamp)) as (λ t. is_lt (stamp_cmp c.stamp d.stamp) ≡ t → HasAtLeast (Some (cond t d c)) s) [
+      | true ↦ λ t. not_less_trans d.stamp c.stamp s (not_less_back c.stamp d.stamp (less_of (stamp_cmp c.stamp d.stamp) t)) h
+      | false ↦ λ t. h
+    ] refl
+
+-- and when risen
+pub has_risen : (old new : Entries) (summary : Stamps) → HasAll old summary → IsBelowCells old new → HasAll new summary
+has_risen old new summary has below = elim below.0 as (λ _. HasAll new summary) [
+  | inl e ↦ subst (λ (es : Entries). HasAll es summary) e has
+  | inr r ↦ subst (λ (es : Entries). HasAll es summary) below.1 (has_joined old new summary r.first r.second has)
+]

@@ -1,3 +1,4 @@
+pub mod Alike
 pub mod Answers
 pub mod Asking
 pub mod CataFaults
@@ -20,6 +21,7 @@ pub mod LiveLeft
 pub mod Migration
 pub mod Nested
 pub mod OldSteps
+pub mod Parts
 pub mod Seeking
 pub mod Settled
 pub mod Sites

@@ -35,7 +35,8 @@ impl Catalogue {
         Live::new(self.map().get(id))
     }
 
-    /// The live labels of a message whose languages the list takes, in its order (RFC 4647, sections 3.3.1 and 3.3.2).
+    /// The live labels of a message whose languages the list takes, in its order (RFC 4647,
+    /// sections 3.3.1 and 3.3.2).
     pub fn ask_filter<'a>(
         &'a self,
         alloc: Global,
@@ -53,7 +54,8 @@ impl Catalogue {
         }
     }
 
-    /// The live label of a message that the list looks up (RFC 4647, section 3.4), or that of the default, or nothing.
+    /// The live label of a message that the list looks up (RFC 4647, section 3.4), or that of the
+    /// default, or nothing.
     ///
     /// It takes no memory. A default counts as held only where it has a live label.
     pub fn ask_lookup<'a>(

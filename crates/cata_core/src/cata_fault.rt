@@ -10,8 +10,9 @@ use thiserror::Error;
 /// Why a catalogue or a site refuses a call.
 #[derive(Clone, Copy, Debug, PartialEq, Eq, Error)]
 pub enum CataFault {
-    /// At a key the cell that came in has the stamp of the held one and another label. The place is that of the key in
-    /// the catalogue that takes, from 0, and the stamp the one that stands there.
+    /// At a key the cell that came in has the stamp of the held one and another label. The place is
+    /// that of the key in the catalogue that takes, from 0, and the stamp the one that stands
+    /// there.
     #[error("stamp {} {} {} used twice, cell {place}", .stamp.time, .stamp.site.as_str(), .stamp.count)]
     StampReused { place: u128, stamp: Stamp },
     /// The site can have no stamp above the last one.
@@ -20,7 +21,7 @@ pub enum CataFault {
     /// The delta is for another site.
     #[error("delta is for site {}", .addressee.as_str())]
     NotForMe { addressee: SiteName },
-    /// A growth was refused.
+    /// An allocation was refused.
     #[error("out of memory")]
     NoMemory,
 }

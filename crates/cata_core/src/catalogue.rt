@@ -25,13 +25,14 @@ use std::alloc::{AllocError, Global};
 use std::fmt;
 use std::marker::Model;
 
-/// A search for a cell takes about the time of a walk over so many messages.
+/// Searching one cell costs about as much as visiting this many messages.
 const SEARCHES: u128 = 64;
 
-/// Cells by message and language, in rising order of the bytes of the id, then of the bytes of the language.
+/// Cells by message and language, in rising order of the bytes of the id, then of the bytes of the
+/// language.
 ///
-/// At each key stands the cell of the greatest stamp that came in: a last-writer-wins register (INRIA RR-7506, 3.2.1).
-/// A deletion is a cell without a label, and is kept.
+/// At each key stands the cell of the greatest stamp that came in: a last-writer-wins register
+/// (INRIA RR-7506, 3.2.1). A deletion is a cell without a label, and is kept.
 #[derive(Drop)]
 pub struct Catalogue {
     map: Keyed<MessageId, Keyed<Lang, Cell>>,
@@ -87,7 +88,8 @@ impl Catalogue {
         self.len
     }
 
-    /// The cell at a place in rising order of key, from 0, with its message and language; none from `len` on.
+    /// The cell at a place in rising order of key, from 0, with its message and language; none from
+    /// `len` on.
     ///
     /// It walks over the messages in front: to see all cells, take [`Catalogue::iter`].
     pub fn nth(&self, place: u128) -> Option<(&MessageId, &Lang, &Cell)>
@@ -106,8 +108,8 @@ impl Catalogue {
 
     /// Joins the one cell of an edit. An edit that is not newer than the held cell takes no memory.
     ///
-    /// Refused, and then unchanged, by [`CataFault::StampReused`] (13) where the held cell has the same stamp and
-    /// another label, and by [`CataFault::NoMemory`] (26).
+    /// Refused, and then unchanged, by [`CataFault::StampReused`] (13) where the held cell has the
+    /// same stamp and another label, and by [`CataFault::NoMemory`] (26).
     pub fn apply(&mut self, alloc: Global, edit: &Edit) -> Result<(), CataFault>
         ensures ok { OnOk result (self.new ≡ joined self.old (edit.now ∷ [])) }
         ensures agree { OnOk result (Agree self.old (edit.now ∷ [])) }
@@ -118,7 +120,7 @@ impl Catalogue {
         self.apply_cell(alloc, edit.id(), edit.lang(), edit.cell())
     }
 
-    /// The same, by the parts of the edit.
+    /// Joins one cell, by its key's parts.
     fn apply_cell(
         &mut self,
         alloc: Global,
@@ -151,9 +153,9 @@ impl Catalogue {
 
     /// Joins the cells of the other catalogue: it becomes the least upper bound of both.
     ///
-    /// Refused, and then unchanged, by [`CataFault::StampReused`] (13) with the least place where the two do not agree.
-    /// After [`CataFault::NoMemory`] (26) each key has its old cell, or none as before, or that of the join, so that a
-    /// repeat gives the join.
+    /// Refused, and then unchanged, by [`CataFault::StampReused`] (13) with the least place where
+    /// the two do not agree. After [`CataFault::NoMemory`] (26) each key has its old cell, or none
+    /// as before, or that of the join, so that a repeat gives the join.
     pub fn merge(&mut self, alloc: Global, other: &Catalogue) -> Result<(), CataFault>
         ensures ok { OnOk result (self.new ≡ joined self.old other.now) }
         ensures agree { OnOk result (Agree self.old other.now) }
@@ -191,8 +193,8 @@ impl Catalogue {
         }
     }
 
-    /// How many cells the join with the other has, where the other is so small that to search for its cells is less
-    /// than to walk over the own messages.
+    /// How many cells the join with the other has, where the other is so small that to search for
+    /// its cells is less than to walk over the own messages.
     fn joined_len(&self, other: &Catalogue) -> Option<u128>
         ensures { IfSome result (λ len. len ≡ length (joined self.now other.now)) }
     {
@@ -219,7 +221,8 @@ impl Catalogue {
 
     /// Puts a cell behind all that are there; its key has to be greater than theirs.
     ///
-    /// What is handed in is not copied. For want of memory (26) it is dropped, and the catalogue is unchanged.
+    /// What is passed in is not copied. When memory runs out (26) it is dropped, and the catalogue
+    /// is unchanged.
     pub fn push(
         &mut self,
         alloc: Global,
@@ -237,7 +240,7 @@ impl Catalogue {
         Ok(())
     }
 
-    /// The same with copies.
+    /// Puts copies behind all cells that are there.
     pub(crate) fn push_copy(
         &mut self,
         alloc: Global,
@@ -256,7 +259,7 @@ impl Catalogue {
         Ok(())
     }
 
-    /// How many cells there are with so many more. Memory ends long before there are too many.
+    /// The length after adding `more` cells; `u128` cannot overflow in practice.
     fn len_with(&self, more: u128) -> Result<u128, AllocError>
         ensures { IfOk result (λ len. len ≡ length self.now + more) }
     {

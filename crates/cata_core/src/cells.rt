@@ -5,7 +5,8 @@ ghost use Rattle.std.specs.Iterator.{YieldsFirstBy, item_count};
 use cell_core::{Cell, Entries, Keyed, MessageId};
 use lang_core::Lang;
 
-/// Lends the cells of a message, each with the message and its language, in rising order of language.
+/// Lends the cells of a message, each with the message and its language, in rising order of
+/// language.
 #[derive(Drop)]
 struct MessageCells<'a> {
     id: &'a MessageId,
@@ -39,6 +40,7 @@ impl<'a> Cells<'a> {
     ghost use Rattle.cata_core.specs.Flat.{flat};
     ghost use Rattle.cata_core.specs.CellsLeft.{cells_left};
 
+    /// All cells of a map of maps, in rising order of key.
     pub fn new(map: &'a Keyed<MessageId, Keyed<Lang, Cell>>) -> Cells<'a>
         ensures { cells_left result ≡ flat map.now }
     {

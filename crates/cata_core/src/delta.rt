@@ -45,7 +45,7 @@ impl Delta {
     }
 }
 
-/// The cells whose key the summary lacks or has with a lesser stamp.
+/// The cells whose key the summary lacks or has with an older stamp.
 pub(crate) fn news(
     alloc: Global,
     catalogue: &Catalogue,
@@ -66,7 +66,7 @@ pub(crate) fn news(
     Ok(news)
 }
 
-/// What was told of the key, and what is left without the lesser keys in front.
+/// What was told of the key, and what is left without the smaller keys in front.
 fn stamp_at<'a>(told: &'a [Told], id: &MessageId, lang: &Lang) -> (Option<Stamp>, &'a [Told])
     requires { IsMap key_cmp (told_of told.now) }
     ensures stamp { result.0 ≡ find key_cmp (id.now, lang.now) (told_of told.now) }
@@ -83,7 +83,7 @@ fn stamp_at<'a>(told: &'a [Told], id: &MessageId, lang: &Lang) -> (Option<Stamp>
     (None, rest)
 }
 
-/// Whether nothing was told, or a lesser stamp.
+/// Whether nothing was told, or an older stamp.
 fn is_news(told: Option<Stamp>, stamp: Stamp) -> bool
     ensures { result ≡ is_news told stamp }
 {

@@ -10,10 +10,11 @@ use nego_core::{Pick, Picks};
 use std::alloc::{AllocError, Global};
 use std::marker::Model;
 
-/// The answer of a filter, lent from the catalogue: languages with their labels and weights, in order.
+/// The answer of a filter, lent from the catalogue: languages with their labels and weights, in
+/// order.
 #[derive(Debug, Drop)]
 pub struct LentEntries<'a> {
-    items: Vec<(&'a Lang, &'a Label, u16)>,
+    lent: Vec<(&'a Lang, &'a Label, u16)>,
 }
 
 impl<'a> Model for LentEntries<'a> {
@@ -22,7 +23,7 @@ impl<'a> Model for LentEntries<'a> {
 
     ghost Value = { Weighed };
 
-    ghost view = { λ e. weighed_of e.items.items };
+    ghost view = { λ e. weighed_of e.lent.items };
 }
 
 impl<'a> LentEntries<'a> {
@@ -30,14 +31,15 @@ impl<'a> LentEntries<'a> {
     pub fn len(&self) -> usize
         ensures { result ≡ length self.now }
     {
-        self.items.len()
+        self.lent.len()
     }
 
-    /// The language, the label and the weight in thousandths at a place, from 0; none from `len` on.
+    /// The language, the label and the weight in thousandths at a place, from 0; none from `len`
+    /// on.
     pub fn nth(&self, place: usize) -> Option<(&'a Lang, &'a Label, u16)>
         ensures { lent_weighed result ≡ slice_get self.now place }
     {
-        match self.items.get(place) {
+        match self.lent.get(place) {
             Some(item) => Some((item.0, item.1, item.2)),
             None => None,
         }
@@ -47,8 +49,8 @@ impl<'a> LentEntries<'a> {
     pub fn copy(&self, alloc: Global) -> Result<Entries, AllocError>
         ensures { IfOk result (λ copied. copied ≡ self.now) }
     {
-        let mut items = Vec::with_capacity(alloc, self.items.len())?;
-        for (lang, label, weight) in &self.items {
+        let mut items = Vec::with_capacity(alloc, self.lent.len())?;
+        for (lang, label, weight) in &self.lent {
             items.push((lang.copy(alloc)?, label.copy(alloc)?, *weight))?;
         }
         Ok(Entries { items })
@@ -77,7 +79,8 @@ impl Entries {
         self.items.len()
     }
 
-    /// The language, the label and the weight in thousandths at a place, from 0; none from `len` on.
+    /// The language, the label and the weight in thousandths at a place, from 0; none from `len`
+    /// on.
     pub fn nth(&self, place: usize) -> Option<(&Lang, &Label, u16)>
         ensures { lent_weighed result ≡ slice_get self.now place }
     {
@@ -104,7 +107,7 @@ pub(crate) fn pick_all<'a>(
             }
         }
     }
-    Ok(LentEntries { items })
+    Ok(LentEntries { lent: items })
 }
 
 /// The language and label at the place of one pick.

@@ -7,7 +7,8 @@ ghost use Rattle.cata_core.specs.LiveLeft.{live_left};
 use cell_core::{Cell, Entries, Keyed, Label};
 use lang_core::Lang;
 
-/// Lends the languages of a message whose cell has a label, each with its label, in rising order of their bytes.
+/// Lends the languages of a message whose cell has a label, each with its label, in rising order of
+/// their bytes.
 #[derive(Drop)]
 pub struct Labels<'a> {
     cells: Option<Entries<'a, Lang, Cell>>,

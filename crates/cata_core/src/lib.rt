@@ -1,4 +1,23 @@
 //! The catalogue, its sites and deltas, and runs of them.
+//!
+//! - [`Catalogue`] maps messages and languages to cells, and keeps of each key the edit with the
+//!   greatest stamp. [`Catalogue::ask_lookup`] and [`Catalogue::ask_filter`] answer a reader.
+//! - [`Site`] is a catalogue with a name: it puts and deletes labels under stamps of its own.
+//! - Sites exchange cells whole by [`sync`], or by a [`Summary`] of what one has and the [`Delta`]
+//!   of what it lacks, which may come late, again, or out of order.
+//! - [`play`] runs any list of [`Step`]s over sites, and its contract is the main promise: sites
+//!   that took the same edits hold equal catalogues and give equal answers.
+//!
+//! ```text
+//! let mut paris = Site::new(alloc, SiteName::new("paris")?);
+//! let mut tokyo = Site::new(alloc, SiteName::new("tokyo")?);
+//! paris.put(alloc, 5, &id, &fr, &bonjour)?;
+//! sync(alloc, &mut paris, &mut tokyo)?;
+//! tokyo.catalogue().ask_lookup(&id, &list, None)     LentReply::Matched(fr, bonjour)
+//! ```
+//!
+//! Refusals are a [`CataFault`], or of a run a [`PlayFault`] with its step. The laws of catalogues,
+//! deltas and runs stand in [`laws`].
 #![tactic(auto)]
 
 mod answer;
@@ -22,8 +41,6 @@ mod step;
 mod stepping;
 mod summary;
 mod syncing;
-#[cfg(test)]
-mod tests;
 mod walk;
 mod world;
 

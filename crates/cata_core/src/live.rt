@@ -64,7 +64,8 @@ fn label_in<'a>(cells: &'a Keyed<Lang, Cell>, text: &str) -> Option<(&'a Lang, &
     }
 }
 
-/// The language of this text with its cell, by halves: the map asks for a language where there is a text alone.
+/// The language of this text with its cell, by halves: the map asks for a language where there is a
+/// text alone.
 fn search<'a>(cells: &'a Keyed<Lang, Cell>, text: &str) -> Option<(&'a Lang, &'a Cell)>
     ensures found { lent_pair result ≡ with_key text.now (find text_cmp text.now cells.now) }
     ensures map { IsMap text_cmp cells.now }

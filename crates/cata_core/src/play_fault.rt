@@ -7,10 +7,11 @@ use cell_core::Stamp;
 use std::alloc::{AllocError, AllocFailed};
 use thiserror::Error;
 
-/// Why a run is refused: by its first faulty step, or for want of memory.
+/// Why a run is refused: by its first faulty step, or since memory ran out.
 #[derive(Clone, Copy, Debug, PartialEq, Eq, Error)]
 pub enum PlayFault {
-    /// One stamp of one key would have two labels; the place is that of the key in the site that takes.
+    /// One stamp of one key would have two labels; the place is that of the key in the site that
+    /// takes.
     #[error("stamp {} {} {} used twice, cell {place}, step {step}", .stamp.time, .stamp.site.as_str(), .stamp.count)]
     StampReused {
         step: usize,
@@ -27,7 +28,7 @@ pub enum PlayFault {
     NoSuchPost {
         step: usize,
     },
-    /// A growth was refused.
+    /// An allocation was refused.
     #[error("out of memory")]
     NoMemory,
 }

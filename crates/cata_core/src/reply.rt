@@ -14,6 +14,7 @@ pub enum LentReply<'a> {
     Matched(&'a Lang, &'a Label),
     /// The default, with its label.
     Default(&'a Lang, &'a Label),
+    /// Nothing fits, and no default is open.
     Nothing,
 }
 
@@ -24,6 +25,7 @@ pub enum Reply {
     Matched(Lang, Label),
     /// The default, with its label.
     Default(Lang, Label),
+    /// Nothing fits, and no default is open.
     Nothing,
 }
 

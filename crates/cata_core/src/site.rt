@@ -89,10 +89,11 @@ impl Site {
         self.greatest
     }
 
-    /// Gives the key this label, and answers the stamp of the edit, which is above all that the site holds.
+    /// Gives the key this label, and answers the stamp of the edit, which is above all that the
+    /// site holds.
     ///
-    /// Refused, and then unchanged, by [`CataFault::ClockSpent`] (14) where there is no such stamp with a time of at
-    /// least `now`, and by [`CataFault::NoMemory`] (26).
+    /// Refused, and then unchanged, by [`CataFault::ClockSpent`] (14) where there is no such stamp
+    /// with a time of at least `now`, and by [`CataFault::NoMemory`] (26).
     pub fn put(
         &mut self,
         alloc: Global,
@@ -113,8 +114,8 @@ impl Site {
         }
     }
 
-    /// Deletes the label of the key, which need not be held, and answers the stamp of the edit. The cell stays, without
-    /// a label, so that no older label comes back.
+    /// Deletes the label of the key, which need not be held, and answers the stamp of the edit. The
+    /// cell stays, without a label, so that no older label comes back.
     ///
     /// Refused as [`Site::put`] is.
     pub fn delete(
@@ -143,7 +144,8 @@ impl Site {
         Summary::of(alloc, self.own_name, &self.catalogue)
     }
 
-    /// The cells whose key the summary lacks or has with a lesser stamp, for the owner of the summary.
+    /// The cells whose key the summary lacks or has with an older stamp, for the owner of the
+    /// summary.
     pub fn delta_for(&self, alloc: Global, summary: &Summary) -> Result<Delta, AllocError>
         ensures { IfOk result (λ delta. delta ≡ record { addressee = summary.now.owner; cells = delta_of self.now.cells summary.now.stamps }) }
     {
@@ -153,9 +155,10 @@ impl Site {
 
     /// Joins the cells of a delta for this site.
     ///
-    /// Refused, and then unchanged, by [`CataFault::NotForMe`] (15) where the delta is for another site, then by
-    /// [`CataFault::StampReused`] (13) as [`Catalogue::merge`] is. After [`CataFault::NoMemory`] (26) each key has its
-    /// old cell, or none as before, or that of the join.
+    /// Refused, and then unchanged, by [`CataFault::NotForMe`] (15) where the delta is for another
+    /// site, then by [`CataFault::StampReused`] (13) as [`Catalogue::merge`] is. After
+    /// [`CataFault::NoMemory`] (26) each key has its old cell, or none as before, or that of the
+    /// join.
     pub fn take(&mut self, alloc: Global, delta: &Delta) -> Result<(), CataFault>
         ensures ok { OnOk result (self.new ≡ record { name = self.old.name; cells = joined self.old.cells delta.now.cells }) }
         ensures agree { OnOk result (Agree self.old.cells delta.now.cells) }

@@ -5,7 +5,8 @@ use cell_core::MessageId;
 use lang_core::Lang;
 use nego_core::{PriorityList, Scheme};
 
-/// What happens at a site, or between two. Sites are named by place, told summaries and posts by number, all from 0.
+/// What happens at a site, or between two. Sites are named by place, told summaries and posts by
+/// number, all from 0.
 #[derive(Drop)]
 pub enum Step {
     /// The site applies the edit. The name in the edit's stamp need not be that of the site.

@@ -32,7 +32,8 @@ impl Told {
     }
 }
 
-/// The stamps of a site's cells, in strictly rising order of key, and the name of the site, its owner.
+/// The stamps of a site's cells, in strictly rising order of key, and the name of the site, its
+/// owner.
 #[derive(Debug, Drop)]
 pub struct Summary {
     owner: SiteName,
@@ -102,7 +103,7 @@ impl Summary {
 
     /// Puts a key behind all that are there; it has to be greater than they are.
     ///
-    /// For want of memory (26) the summary is unchanged, and what was handed in is dropped.
+    /// When memory runs out (26) the summary is unchanged, and what was passed in is dropped.
     pub fn push(&mut self, id: MessageId, lang: Lang, stamp: Stamp) -> Result<(), AllocError>
         requires { IsAboveAll (id, lang) self.old.stamps }
         ensures ok { OnOk result (self.new ≡ record { owner = self.old.owner; stamps = self.old.stamps ++ ((id, lang), stamp) ∷ [] }) }

@@ -1,6 +1,6 @@
 //! Two sites take each other's cells.
 
-ghost use Rattle.std.specs.Prelude.{◌≡◌, OnOk, IfErr};
+ghost use Rattle.std.specs.Prelude.{◌≡◌, ◌⊎◌, OnOk, OnErr, IfErr};
 ghost use Rattle.cata_core.specs.CataFaults.{IsRefusal};
 ghost use Rattle.cata_core.specs.Entries.{Agree, joined};
 ghost use Rattle.cata_core.specs.Sites.{SiteState, IsLeftSite};
@@ -11,8 +11,10 @@ use std::alloc::Global;
 
 /// Gives both sites the join of their catalogues, so that they hold equal ones.
 ///
-/// Refused, and then both unchanged, by [`CataFault::StampReused`] (13) with the place in the first site. After
-/// [`CataFault::NoMemory`] (26) each key of each site has its old cell, or none as before, or that of the join.
+/// Refused, and then both unchanged, by [`CataFault::StampReused`] (13) with the place in the first
+/// site. After [`CataFault::NoMemory`] (26) each key of each site has its old cell, or none as
+/// before, or that of the join; the second site is untouched, or the first holds the whole join;
+/// and a repeat gives the join.
 pub fn sync(alloc: Global, first: &mut Site, second: &mut Site) -> Result<(), CataFault>
     ensures first { OnOk result (first.new ≡ record { name = first.old.name; cells = joined first.old.cells second.old.cells }) }
     ensures second { OnOk result (second.new ≡ record { name = second.old.name; cells = joined first.old.cells second.old.cells }) }
@@ -20,6 +22,7 @@ pub fn sync(alloc: Global, first: &mut Site, second: &mut Site) -> Result<(), Ca
     ensures fault { IfErr result (IsRefusal first.old.cells second.old.cells) }
     ensures left_first { IfErr result (IsLeftSite first.old first.new second.old.cells) }
     ensures left_second { IfErr result (IsLeftSite second.old second.new first.old.cells) }
+    ensures one_by_one { OnErr result ((second.new ≡ second.old) ⊎ (first.new.cells ≡ joined first.old.cells second.old.cells)) }
 {
     first.merge(alloc, second.catalogue(), second.last())?;
     match second.join(alloc, first.catalogue(), first.last()) {

@@ -24,7 +24,7 @@ pub fn count(map: &Keyed<MessageId, Keyed<Lang, Cell>>) -> u128
     total
 }
 
-/// How many cells have lesser keys.
+/// How many cells have smaller keys.
 pub fn place(map: &Keyed<MessageId, Keyed<Lang, Cell>>, id: &MessageId, lang: &Lang) -> u128
     requires nested { IsCatalogue map.now }
     requires fits { IsCountable map.now }
@@ -41,7 +41,7 @@ pub fn place(map: &Keyed<MessageId, Keyed<Lang, Cell>>, id: &MessageId, lang: &L
     total
 }
 
-/// How many of the languages are lesser.
+/// How many of the languages are smaller.
 fn place_in(cells: &Keyed<Lang, Cell>, lang: &Lang) -> usize
     ensures { result ≡ place_of text_cmp lang.now cells.now }
 {

@@ -15,7 +15,9 @@ use std::alloc::{AllocError, Global};
 /// A cell without a label is a deletion: a stamped edit like any other, and kept.
 #[derive(Debug, PartialEq, Eq, Drop)]
 pub struct Cell {
+    /// The stamp of the last edit.
     pub stamp: Stamp,
+    /// The label, or none where it was deleted.
     pub label: Option<Label>,
 }
 
@@ -55,7 +57,7 @@ impl Join for Cell {
         other.stamp != self.stamp || self.label == other.label
     }
 
-    /// Keeps the cell with the greater stamp; for want of memory this one stays as it was.
+    /// Keeps the cell with the greater stamp; when memory runs out this one stays as it was.
     fn join(&mut self, alloc: Global, other: &Cell) -> Result<(), AllocError>
         requires { AgreeCells self.old other.now }
         ensures ok { OnOk result (self.new ≡ joined_cells self.old other.now) }

@@ -1,4 +1,5 @@
-//! The comparison and the join of entries in chunks, run by run: a run is what of the other map goes to one chunk.
+//! The comparison and the join of entries in chunks, run by run: a run
+//! is the part of the other map whose keys fall into one chunk.
 
 ghost use Rattle.std.specs.Prelude.{◌≡◌, ◌<◌, ◌≤◌, ◌↔◌, IfOk, OnOk, OnErr, IsTrue, length, take};
 ghost use Rattle.std.specs.FinMap.Entries.{find};
@@ -32,7 +33,7 @@ pub(crate) fn agree_chunks<K: Key, J: Join>(mine: &[Vec<(K, J)>], theirs: &[Vec<
     true
 }
 
-/// The same of entries side by side.
+/// Whether the values of common keys agree, of entries side by side.
 fn agree_all_of<K: Key, J: Join>(pairs: &[(K, J)], theirs: &[Vec<(K, J)>]) -> bool
     requires pairs { IsMap K.cmp pairs.now }
     requires theirs { IsChunked K.cmp theirs.now }

@@ -1,4 +1,5 @@
-//! Entries in rising order of their keys, in chunks: a new key moves the entries of one chunk alone.
+//! Entries in rising order of their keys, in chunks: a new key moves the entries of one chunk
+//! alone.
 
 ghost use Rattle.std.specs.Prelude.{◌≡◌, ◌+◌, ◌<◌, ◌∷◌, ◌++◌, [], IfOk, IfErr, OnOk, IsOk, IsSome, IsTrue, false, length, slice_get};
 ghost use Rattle.std.specs.Option.{option_copied};
@@ -13,7 +14,7 @@ use crate::key::Key;
 use crate::pairs::bisect;
 use std::alloc::{AllocError, Global};
 
-/// A chunk that comes to hold so many entries is cut in two.
+/// A chunk that reaches this length is split in two.
 pub(crate) const FULL: usize = 64;
 
 /// The chunk where the key stands, or would go.
@@ -76,7 +77,7 @@ fn copy_pairs<K: Key, J: Join>(alloc: Global, pairs: &[(K, J)]) -> Result<Vec<(K
     Ok(copied)
 }
 
-/// Gives the key the value; without memory for a new key the pair comes back.
+/// Gives the key the value; if a new key cannot be stored, the pair is returned.
 pub(crate) fn put_pair<K: Key, J: Drop>(
     chunks: &mut Vec<Vec<(K, J)>>,
     key: K,
@@ -183,7 +184,8 @@ fn push_chunk<T: Drop>(chunks: &mut Vec<Vec<T>>, item: T) -> Result<(), T>
     Ok(())
 }
 
-/// Gives the key the value in a chunk, and says whether the key is new; without memory for one the pair comes back.
+/// Gives the key the value in a chunk, and says whether the key is new; if a new one cannot be
+/// stored, the pair is returned.
 fn put_in<K: Key, J: Drop>(
     pairs: &mut Vec<(K, J)>,
     key: K,
@@ -216,7 +218,7 @@ fn put_in<K: Key, J: Drop>(
     }
 }
 
-/// Cuts a full chunk into two halves, where there is memory; else it stays as it is.
+/// Splits a full chunk into halves; if that cannot allocate, it stays as it is.
 pub(crate) fn cut_if_full<K: Key, J: Drop>(chunks: &mut Vec<Vec<(K, J)>>, at: usize)
     requires at { at < vec_len chunks.old }
     requires chunked { IsChunked K.cmp chunks.old.items }

@@ -21,7 +21,7 @@ pub enum CellFault {
     /// The site can have no stamp above the last one.
     #[error("clock is spent")]
     ClockSpent,
-    /// A growth was refused.
+    /// An allocation was refused.
     #[error("out of memory")]
     NoMemory,
     /// The text is no site name.

@@ -27,7 +27,7 @@ pub trait Join: Drop {
 
     /// Joins the other value, which has to agree, to this one.
     ///
-    /// Where memory is wanting, this value is then between what it was and the join, so that a
+    /// If memory runs out, this value is between what it was and the join, so that a
     /// repeat gives the join.
     fn join(&mut self, alloc: Global, other: &Self) -> Result<(), AllocError>
         requires { agree self.old other.now }
@@ -44,7 +44,8 @@ pub trait Join: Drop {
 
 /// Whether each two of the items agree.
 ///
-/// It compares each with each, since agreement is not transitive: use it on short lists.
+/// It compares each with each, since agreement is not transitive: it is for callers that want to
+/// meet the condition of [`join_all`], on short lists.
 pub fn agree_all<J: Join>(items: &[J]) -> bool
     ensures { IsTrue result ↔ AllPairs J.agree items.now }
 {

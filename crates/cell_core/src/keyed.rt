@@ -18,14 +18,15 @@ use std::marker::Model;
 
 /// A finite map from keys to values, whose entries stand in strictly rising order of the keys.
 ///
-/// Maps of values that join, join key by key; see [`Join`]. Two maps agree where their values agree at each key that
-/// both hold, and their join has at a key of one alone that one's value, and at a key of both the two values joined.
-/// A [`Join::join`] that ends for want of memory leaves each key with its old value, or without one as before, with
-/// the join's value, or with one that stands between them; a repeated join then gives the whole join.
+/// Maps of values that join, join key by key; see [`Join`]. Two maps agree where their values agree
+/// at each key that both hold, and their join has at a key of one alone that one's value, and at a
+/// key of both the two values joined. A [`Join::join`] that runs out of memory leaves each key with
+/// its old value, or without one as before, with the join's value, or with one that stands between
+/// them; a repeated join then gives the whole join.
 ///
-/// `get` and `put` search in about log2(n) steps. A `put` of a new key moves at most some sixty entries, and a key
-/// above all others goes behind them. A join takes time for the other map and for those parts of this one where the
-/// other's keys fall.
+/// `get` and `put` search in about log2(n) steps. A `put` of a new key moves at most some sixty
+/// entries, and a key above all others goes behind them. A join takes time for the other map and
+/// for those parts of this one where the other's keys fall.
 ///
 /// ```text
 /// let mut map = Keyed::new(alloc);
@@ -105,8 +106,8 @@ impl<K: Key, J> Keyed<K, J> {
         }
     }
 
-    /// The value of the key, if it is held, to be changed: whatever is written through it, the map is then the old one
-    /// with that value at that key.
+    /// The value of the key, if it is held, to be changed: whatever is written through it, the map
+    /// is then the old one with that value at that key.
     pub fn get_mut(&mut self, key: &K) -> Option<&mut J>
         ensures* lends { sem 𝓛 (LendsIf (the_row K.row J.row (record { cmp = K.cmp }) (record { eq = K.eq }) (record { partial_cmp = K.partial_cmp })) J.row self.entry result (λ w. put K.cmp key.now w self.old) self.old) }
         ensures value { option_copied_mut result ≡ find K.cmp key.now self.old }
@@ -124,8 +125,8 @@ impl<K: Key, J> Keyed<K, J> {
 
     /// Gives the key the value, whether it was held or is new.
     ///
-    /// A held key takes no memory, and its `put` always succeeds. Where there is no memory for a new key, that very
-    /// pair comes back, and the map is as it was.
+    /// A held key takes no memory, and its `put` always succeeds. Where there is no memory for a
+    /// new key, that very pair comes back, and the map is as it was.
     pub fn put(&mut self, key: K, value: J) -> Result<(), (K, J)>
     where
         J: Drop,

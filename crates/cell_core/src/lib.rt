@@ -1,8 +1,9 @@
 //! Site names, stamps, message ids, labels and cells, and how they join.
 //!
 //! A cell is a last-writer-wins register (INRIA RR-7506, 3.2.1): of two cells the one with the
-//! greater stamp is kept. What joins keeps the laws of a join semilattice (RR-7506, 2.2 and 2.3), so
-//! that replicas converge: they stand on the trait [`Join`], and each implementation proves them.
+//! greater stamp is kept. What joins keeps the laws of a join semilattice (RR-7506, 2.2 and 2.3),
+//! so that replicas converge: they stand on the trait [`Join`], and each implementation proves
+//! them.
 #![tactic(auto)]
 
 mod cell;
@@ -31,6 +32,3 @@ pub use label::Label;
 pub use message_id::MessageId;
 pub use site_name::SiteName;
 pub use stamp::Stamp;
-
-#[cfg(test)]
-mod tests;

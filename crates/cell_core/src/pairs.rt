@@ -1,4 +1,5 @@
-//! Entries in rising order of their keys, side by side in memory: the search, the comparison and the join of two runs.
+//! Entries in rising order of their keys, side by side in memory: the search, the comparison and
+//! the join of two runs.
 
 ghost use Rattle.std.specs.Prelude.{◌≡◌, ◌≤◌, ◌↔◌, ◌∷◌, ◌++◌, [], IfOk, IfErr, OnOk, OnErr, IsTrue};
 ghost use Rattle.std.specs.FinMap.Entries.{find};
@@ -30,7 +31,7 @@ pub(crate) fn bisect<K: Key, J>(pairs: &[(K, J)], key: &K) -> Result<usize, usiz
     Err(low)
 }
 
-/// The same, at or after a place in front of which all keys are lesser. The steps grow until the key is passed.
+/// Galloping search from a place; all keys before it are smaller.
 fn seek<K: Key, J>(pairs: &[(K, J)], key: &K, from: usize) -> Result<usize, usize>
     requires map { IsMap K.cmp pairs.now }
     requires from { from ≤ place_of K.cmp key.now pairs.now }
@@ -74,7 +75,8 @@ pub(crate) fn agree_pairs<K: Key, J: Join>(mine: &[(K, J)], theirs: &[(K, J)]) -
     true
 }
 
-/// Joins the values of common keys in place, and copies the other pairs, each with the place where it goes.
+/// Joins the values of common keys in place, and copies the other pairs, each with the place where
+/// it goes.
 pub(crate) fn join_common<K: Key, J: Join>(
     mine: &mut [(K, J)],
     alloc: Global,

@@ -17,8 +17,11 @@ use std::fmt;
 /// Stamps are ordered by time, then by the bytes of the site's name, then by count.
 #[derive(Clone, Copy, Debug, PartialEq, Eq, PartialOrd, Ord)]
 pub struct Stamp {
+    /// When: by custom milliseconds since 1970, though any number that grows will do.
     pub time: u64,
+    /// The site that made the edit.
     pub site: SiteName,
+    /// Counts the edits of one site at one time, from 0.
     pub count: u32,
 }
 

@@ -87,7 +87,7 @@ fn weave<K: Key, J: Drop>(
     move_front(pairs, &mut tail, left);
 }
 
-/// Moves so many pairs from the front of the tail.
+/// Moves this many pairs from the front of the tail.
 fn move_front<T: Drop>(items: &mut Vec<T>, tail: &mut IntoIter<T, Global>, count: usize)
     requires there { count ≤ into_iter_len tail.old }
     requires room { vec_len items.old + count ≤ vec_capacity items.old }

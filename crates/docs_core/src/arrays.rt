@@ -42,8 +42,8 @@ pub trait Rows {
             → FirstFails (Checks numbered before (seen row.now)) e)) };
 }
 
-/// Hands on the values of an array whose bracket was read. The first refusal of a row is answered
-/// beside what is left, since a fault of the text behind it comes before it.
+/// Reads an array after its `[`. Returns the first refused row, if any, but reads on: a syntax
+/// error later in the text takes precedence.
 pub fn read_rows<R: Rows>(
     alloc: Global,
     reader: &mut Reader<'_>,
@@ -113,7 +113,7 @@ fn take_row<R: Rows>(
     }
 }
 
-// Takes a row, or says why it is refused; want of memory is no refusal.
+// Takes a row, or says why it is refused; out of memory is no refusal.
 fn taken<R: Rows>(
     alloc: Global,
     numbered: bool,
@@ -135,7 +135,7 @@ fn taken<R: Rows>(
     }
 }
 
-// The refusal, unless it is want of memory.
+// The refusal, unless it is out of memory.
 fn unless_memory(cause: DocCause) -> Result<DocCause, DocCause>
     ensures { MatchResult result (λ e. (e ≡ cause) × (cause ≢ NoMemory)) (λ e. e ≡ NoMemory) }
 {

@@ -26,7 +26,8 @@ pub enum Ask {
 /// The lines of the answer of a site to a question about a message, and whether anything was found:
 /// nothing was exactly where the lines are `filter 0` or `nothing`.
 ///
-/// Refused as the document of the site is by its reader, with document 1, or by want of memory (26).
+/// Refused as the document of the site is by its reader, with document 1, or since memory ran out
+/// (26).
 pub fn ask_document(
     alloc: Global,
     site: &[u8],

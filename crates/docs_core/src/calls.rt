@@ -21,7 +21,7 @@ use std::alloc::Global;
 /// The document of the site after an edit at the time `now`: a label is put, and none deletes.
 ///
 /// Refusals, in their order: a reader's with document 1, then 14 where the site has no next stamp.
-/// Want of memory (26) may come before.
+/// Out of memory (26) may come before.
 pub fn edit_document(
     alloc: Global,
     site: &[u8],
@@ -57,10 +57,10 @@ fn edit(
     }
 }
 
-/// The documents of both sites after each took the other's cells, in the order handed in.
+/// The documents of both sites after each took the other's cells, in the order given.
 ///
 /// Refusals, in their order: a reader's with document 1, a reader's with document 2, then 13 with
-/// the place in the first site. Want of memory (26) may come before.
+/// the place in the first site. Out of memory (26) may come before.
 pub fn sync_documents(alloc: Global, first: &[u8], second: &[u8]) -> Result<(Doc, Doc), DocFault>
     ensures { MatchResult result (λ docs. AreSynced first.now second.now docs.0 docs.1) (RefusesSync first.now second.now) }
 {
@@ -74,7 +74,7 @@ pub fn sync_documents(alloc: Global, first: &[u8], second: &[u8]) -> Result<(Doc
 
 /// The document of the site's summary: the stamps of its cells, deletions among them.
 ///
-/// Refusals: a reader's with document 1. Want of memory (26) may come before.
+/// Refusals: a reader's with document 1. Out of memory (26) may come before.
 pub fn summary_document(alloc: Global, site: &[u8]) -> Result<Doc, DocFault>
     ensures { MatchResult result (IsSummarised site.now) (IsOfDocument 1 (RefusesSite site.now)) }
 {
@@ -86,7 +86,7 @@ pub fn summary_document(alloc: Global, site: &[u8]) -> Result<Doc, DocFault>
 
 /// The document of the delta of what the summary lacks, for the summary's owner.
 ///
-/// Refusals, in their order: a reader's with document 1, a reader's with document 2. Want of memory
+/// Refusals, in their order: a reader's with document 1, a reader's with document 2. Out of memory
 /// (26) may come before.
 pub fn delta_document(alloc: Global, site: &[u8], summary: &[u8]) -> Result<Doc, DocFault>
     ensures { MatchResult result (IsNewsFor site.now summary.now) (RefusesNews site.now summary.now) }
@@ -101,7 +101,7 @@ pub fn delta_document(alloc: Global, site: &[u8], summary: &[u8]) -> Result<Doc,
 /// The document of the site after it took the delta.
 ///
 /// Refusals, in their order: a reader's with document 1, a reader's with document 2, then 15 where
-/// the delta is for another site, then 13 with the place in the site. Want of memory (26) may come
+/// the delta is for another site, then 13 with the place in the site. Out of memory (26) may come
 /// before.
 pub fn take_document(alloc: Global, site: &[u8], delta: &[u8]) -> Result<Doc, DocFault>
     ensures { MatchResult result (IsTaken site.now delta.now) (RefusesTaking site.now delta.now) }
@@ -115,7 +115,7 @@ pub fn take_document(alloc: Global, site: &[u8], delta: &[u8]) -> Result<Doc, Do
 
 /// The status line of the site: how many cells and labels it has, and its greatest stamp.
 ///
-/// Refusals: a reader's with document 1. Want of memory (26) may come before.
+/// Refusals: a reader's with document 1. Out of memory (26) may come before.
 pub fn status_document(alloc: Global, site: &[u8]) -> Result<Doc, DocFault>
     ensures { MatchResult result (IsStatus site.now) (IsOfDocument 1 (RefusesSite site.now)) }
 {

@@ -5,7 +5,7 @@ use std::marker::Model;
 
 /// The bytes of a document or of an answer. A contract sees them as a list.
 ///
-/// It is made of bytes or of text that stand ready: `Doc::from(bytes)`, `Doc::from(text)`. No
+/// It is made from existing bytes or text: `Doc::from(bytes)`, `Doc::from(text)`. No
 /// method takes memory.
 #[derive(Debug, Drop)]
 pub struct Doc {

@@ -19,7 +19,7 @@ use std::alloc::{AllocError, Global};
 /// The document of a site, version 2: its cells in rising order of key, deletions among them. It
 /// reads as this site.
 ///
-/// Its one refusal is want of memory (26).
+/// Its one refusal is out of memory (26).
 pub fn write_site(alloc: Global, site: &Site) -> Result<Doc, AllocError>
     ensures text { IfOk result (λ doc. doc ≡ site_text site.now) }
     ensures reads { IfOk result (λ doc. ReadsAsSite doc site.now) }
@@ -30,7 +30,7 @@ pub fn write_site(alloc: Global, site: &Site) -> Result<Doc, AllocError>
 
 /// The document of a delta, version 2. It reads as this delta.
 ///
-/// Its one refusal is want of memory (26).
+/// Its one refusal is out of memory (26).
 pub fn write_delta(alloc: Global, delta: &Delta) -> Result<Doc, AllocError>
     ensures text { IfOk result (λ doc. doc ≡ delta_text delta.now) }
     ensures reads { IfOk result (λ doc. ReadsAsDelta doc delta.now) }
@@ -42,7 +42,7 @@ pub fn write_delta(alloc: Global, delta: &Delta) -> Result<Doc, AllocError>
 /// The document of a summary, version 2: its stamps in rising order of key. It reads as this
 /// summary.
 ///
-/// Its one refusal is want of memory (26).
+/// Its one refusal is out of memory (26).
 pub fn write_summary(alloc: Global, summary: &Summary) -> Result<Doc, AllocError>
     ensures text { IfOk result (λ doc. doc ≡ summary_text summary.now) }
     ensures reads { IfOk result (λ doc. ReadsAsSummary doc summary.now) }

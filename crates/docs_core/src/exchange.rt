@@ -17,7 +17,7 @@ use std::alloc::Global;
 /// again and gets a new stamp; no other cell changes.
 ///
 /// Refusals, in their order: a reader's with document 1, a reader's with document 2, then 14 where
-/// there is no next stamp for a label, which refuses the whole. Want of memory (26) may come before.
+/// there is no next stamp for a label, which refuses the whole. Out of memory (26) may come before.
 pub fn import_document(
     alloc: Global,
     site: &[u8],
@@ -36,7 +36,7 @@ pub fn import_document(
 /// The language-map document of the live labels of the site: deletions are left out, and so is a
 /// message without a live label.
 ///
-/// Refusals: a reader's with document 1. Want of memory (26) may come before.
+/// Refusals: a reader's with document 1. Out of memory (26) may come before.
 pub fn export_document(alloc: Global, site: &[u8]) -> Result<Doc, DocFault>
     ensures { MatchResult result (IsExported site.now) (IsOfDocument 1 (RefusesSite site.now)) }
 {

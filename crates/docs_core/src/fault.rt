@@ -13,11 +13,13 @@ use thiserror::Error;
 /// What a refusal points at: the whole document, or one of its rows, counted from 0.
 #[derive(Clone, Copy, Debug, PartialEq, Eq)]
 pub enum Spot {
+    /// The document as a whole.
     Document,
+    /// The row at this place, from 0.
     Row(usize),
 }
 
-/// Which rule a field of a row breaks, as the call that reads the field says it. Want of memory is
+/// Which rule a field of a row breaks, as the call that reads the field says it. Out of memory is
 /// no such rule: it is [`DocCause::NoMemory`].
 #[derive(Clone, Copy, Debug, PartialEq, Eq, Error)]
 pub enum FieldFault {
@@ -49,7 +51,7 @@ impl FieldFault {
 
 /// Which rule is broken, or what failed. Its text says this alone, without row and document.
 ///
-/// Each refusal has one form: want of memory is always [`DocCause::NoMemory`], never a fault inside
+/// Each refusal has one form: out of memory is always [`DocCause::NoMemory`], never a fault inside
 /// another cause.
 #[derive(Clone, Copy, Debug, PartialEq, Eq, Error)]
 pub enum DocCause {
@@ -158,14 +160,17 @@ impl<T: Drop> From<AllocFailed<T>> for DocCause {
     }
 }
 
-/// A refusal, with the input document that it means, counted from 1. Faults of streams and want of
+/// A refusal, with the input document that it means, counted from 1. Faults of streams and out of
 /// memory mean none, which is 0.
 ///
-/// Its text is the whole line that a user reads, as `refused 21: cell order in row 1 of document 1`.
+/// Its text is the whole line that a user reads, as `refused 21: cell order in row 1 of document
+/// 1`.
 #[derive(Clone, Copy, Debug, PartialEq, Eq, Error)]
 #[error("refused {number}: {cause}{row}{document}", number = .cause.number(), row = InRow(.cause.row()), document = OfDocument(*.document))]
 pub struct DocFault {
+    /// The input document, from 1; 0 means none.
     pub document: u8,
+    /// Why it is refused.
     pub cause: DocCause,
 }
 
@@ -179,7 +184,7 @@ impl DocFault {
         DocFault { document: 0, cause }
     }
 
-    /// The refusal of this input document by its reader; want of memory means none.
+    /// The refusal of this input document by its reader; out of memory means none.
     pub fn of_document(document: u8, cause: DocCause) -> DocFault
         ensures { result ≡ of_document document cause }
     {

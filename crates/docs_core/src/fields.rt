@@ -151,7 +151,7 @@ pub fn cell_entry(alloc: Global, place: usize, cell: CellRow<'_, '_>) -> Result<
     Ok(CellEntry { id, lang, cell })
 }
 
-// A refusal of a field; want of memory has no row.
+// A refusal of a field; out of memory has no row.
 fn of_cell(place: usize, fault: CellFault) -> DocCause
     ensures { result ≡ cell_cause place fault }
 {

@@ -25,7 +25,7 @@ use std::alloc::Global;
 // How deep a member of the outermost object nests at most.
 const MEMBER_DEPTH: usize = 126;
 
-/// What names a site or says how many there are, as far as a document may ask.
+/// The value of `site`, `to`, `owner` or `sites`.
 #[derive(Clone, Copy, Debug)]
 pub enum Own {
     Name(SiteName),

@@ -16,8 +16,8 @@ pub(crate) struct KeyedLabel {
     pub(crate) label: Label,
 }
 
-/// The labels of messages by language, in strictly rising order of key: by the bytes of the id, then
-/// by those of the language. A contract sees them as a list.
+/// The labels of messages by language, in strictly rising order of key: by the bytes of the id,
+/// then by those of the language. A contract sees them as a list.
 #[derive(Drop)]
 pub struct LangMaps {
     labels: Vec<KeyedLabel>,
@@ -77,7 +77,7 @@ impl LangMaps {
 
     /// Puts a label behind all that are there; its key has to be greater than theirs.
     ///
-    /// For want of memory (26) the list is unchanged, and what was handed in is dropped.
+    /// When memory runs out (26) the list is unchanged, and what was passed in is dropped.
     pub fn push(&mut self, id: MessageId, lang: Lang, label: Label) -> Result<(), AllocError>
         requires { IsAboveAll (id, lang) self.old }
         ensures ok { OnOk result (self.new ≡ self.old ++ ((id, lang), label) ∷ []) }

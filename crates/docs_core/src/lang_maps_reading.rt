@@ -15,14 +15,14 @@ use std::alloc::Global;
 /// language map (JSON-LD 1.1, sections 4.6.2 and 9.8).
 ///
 /// A member whose name begins with `@` is skipped. A string is a label of one text, an array one of
-/// its strings; nulls are skipped, and where no string is left there is no label. Languages are read
-/// without case.
+/// its strings; nulls are skipped, and where no string is left there is no label. Languages are
+/// read without case.
 ///
-/// Refused, with document 1, where the bytes are not UTF-8 (18) or no JSON text (19), where the value
-/// is no object (20), and by its first row that fails, in byte order of the names: by its id (10) or
-/// shape (20), or by its first key that fails: by its language (1 to 4), because an earlier key is
-/// equal without case (22), or by its value's shape (20) or label (12, 11). Want of memory (26) may
-/// come first, and means no document.
+/// Refused, with document 1, where the bytes are not UTF-8 (18) or no JSON text (19), where the
+/// value is no object (20), and by its first row that fails, in byte order of the names: by its id
+/// (10) or shape (20), or by its first key that fails: by its language (1 to 4), because an earlier
+/// key is equal without case (22), or by its value's shape (20) or label (12, 11). Out of memory
+/// (26) may come first, and means no document.
 pub fn read_langmaps(alloc: Global, bytes: &[u8]) -> Result<LangMaps, DocFault>
     ensures { MatchResult result (AreLangMaps bytes.now) (IsOfDocument 1 (RefusesLangMaps bytes.now)) }
 {

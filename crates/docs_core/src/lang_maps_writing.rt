@@ -22,8 +22,8 @@ use std::alloc::{AllocError, Global};
 /// The text of the language-map document of these labels, with its line feed: one object from
 /// message id to language map (JSON-LD 1.1, section 9.8), in rising order of key.
 ///
-/// A label of one text is a string, one of several an array of strings. Refused for want of memory
-/// alone (26).
+/// A label of one text is a string, one of several an array of strings. Refused when memory runs
+/// out alone (26).
 pub fn write_langmaps(alloc: Global, maps: &LangMaps) -> Result<Doc, AllocError>
     ensures text { IfOk result (λ doc. doc ≡ text (langmaps_value maps.now)) }
     ensures reads { IfOk result (λ doc. AreLangMaps doc maps.now) }

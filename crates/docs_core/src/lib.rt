@@ -77,6 +77,3 @@ pub use script::Script;
 pub use script_document::read_script;
 pub use sinks::{Output, Sink, write_out};
 pub use sources::{Input, MOST_BYTES, Source, read_all};
-
-#[cfg(test)]
-mod tests;

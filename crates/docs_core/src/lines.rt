@@ -19,9 +19,9 @@ use std::marker::Model;
 /// The lines of the answers, in order.
 ///
 /// A filter gives `filter N` and N lines `LANGUAGE WEIGHT LABEL`, with the weight in thousandths. A
-/// lookup gives `matched LANGUAGE LABEL`, `default LANGUAGE LABEL` or `nothing`. The cells of a site
-/// give `cells N` and N lines, each the compact text of the cell's row in a document of version 2. A
-/// label is the compact JSON array of its texts.
+/// lookup gives `matched LANGUAGE LABEL`, `default LANGUAGE LABEL` or `nothing`. The cells of a
+/// site give `cells N` and N lines, each the compact text of the cell's row in a document of
+/// version 2. A label is the compact JSON array of its texts.
 pub fn answer_lines(alloc: Global, answers: &Answers) -> Result<Doc, AllocError>
     ensures { IfOk result (λ doc. doc ≡ lines answers.now) }
 {

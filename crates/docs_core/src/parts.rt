@@ -26,7 +26,7 @@ use std::alloc::Global;
 // How deep a text nests at most, as `serde_json` reads it.
 const MOST_DEPTH: usize = 127;
 
-/// What a document has beside its rows, and the first refusal of a row.
+/// The header of a document, and the first refusal of a row.
 #[derive(Clone, Copy, Debug)]
 pub struct Parts {
     /// The version is 1.
@@ -38,10 +38,10 @@ pub struct Parts {
 
 /// The parts of a document of this form, whose rows are taken by `rows`.
 ///
-/// Refused where the bytes are not UTF-8 (18) or no JSON (19), then where the kind or the version is
-/// not what it should be (20, 28), then where the members are not exactly those of the form (20); or
-/// by want of memory (26). The first refusal of a row is handed out, since the document is refused
-/// for its own member first.
+/// Refused where the bytes are not UTF-8 (18) or no JSON (19), then where the kind or the version
+/// is not what it should be (20, 28), then where the members are not exactly those of the form
+/// (20); or when memory runs out (26). The first refusal of a row is returned, since the document
+/// is refused for its own member first.
 pub fn read_parts<R: Rows>(
     alloc: Global,
     bytes: &[u8],

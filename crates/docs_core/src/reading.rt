@@ -11,8 +11,8 @@ use std::alloc::Global;
 /// name.
 ///
 /// Refusals, in their order: 18, 19, 20 for the document, 28, 20 for the document, 27 for the
-/// document; each row 20, 10, 1 to 4, 27, 12, 11, 21; 26, which may come before a later one. All but
-/// 26 name document 1.
+/// document; each row 20, 10, 1 to 4, 27, 12, 11, 21; 26, which may come before a later one. All
+/// but 26 name document 1.
 pub fn read_site(alloc: Global, bytes: &[u8]) -> Result<Site, DocFault>
     ensures { MatchResult result (ReadsAsSite bytes.now) (IsOfDocument 1 (RefusesSite bytes.now)) }
 {

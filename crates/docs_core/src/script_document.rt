@@ -27,7 +27,8 @@ const MOST_SITES: u64 = 1024;
 /// Refusals, in their order: 18, 19, 20 for the document, 28, 20 for the document, also where there
 /// are not 1 to 1,024 sites; each row 20, then the fields of its step: message id (10), language (1
 /// to 4), site name (27) and label (12, 11) of an edit, message id (10), priority list (8, 9) and
-/// default (1 to 4) of a question; 26, which may come before a later one. All but 26 name document 1.
+/// default (1 to 4) of a question; 26, which may come before a later one. All but 26 name document
+/// 1.
 pub fn read_script(alloc: Global, bytes: &[u8]) -> Result<Script, DocFault>
     ensures { MatchResult result (ReadsAsScript bytes.now) (IsOfDocument 1 (RefusesScript bytes.now)) }
 {

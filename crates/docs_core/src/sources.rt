@@ -85,7 +85,8 @@ pub fn read_all<S: Source>(alloc: Global, reader: &mut S) -> Result<Doc, DocFaul
     ensures ok { IfOk result (λ doc. GivesAll (S.remaining reader.old) (S.remaining reader.new) doc) }
     ensures fits { IfOk result (λ doc. length doc ≤ MOST_BYTES) }
 
-    // At any end the source gave at most one byte past the limit, and with 23 just that byte past it.
+    // At any end the source gave at most one byte past the limit, and with 23 just that byte past
+    // it.
     ensures most { GivesAtMost (S.remaining reader.old) (S.remaining reader.new) (MOST_BYTES + 1) }
     ensures too_large { result ≡ Err (of_no_document TooLarge)
         → GivesCount (S.remaining reader.old) (S.remaining reader.new) (MOST_BYTES + 1) }

@@ -21,8 +21,8 @@ use json::Value;
 use std::alloc::{AllocError, Global};
 use std::marker::Model;
 
-/// The keys and stamps of the rows that were taken, in rising order of key. The last one waits outside of the
-/// summary, so that the next row's key is compared with its.
+/// The keys and stamps of the rows that were taken, in rising order of key. The last one waits
+/// outside of the summary, so that the next row's key is compared with its.
 #[derive(Drop)]
 pub struct StampRows {
     summary: Summary,

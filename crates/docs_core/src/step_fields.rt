@@ -20,8 +20,8 @@ use std::alloc::Global;
 /// What the fields of a step make.
 ///
 /// Refused by the first field that breaks its rule: message id (10), language (1 to 4), site name
-/// (27) and label (12, 11) of an edit; message id (10), priority list (8, 9) and default (1 to 4) of
-/// a question; or by want of memory (26).
+/// (27) and label (12, 11) of an edit; message id (10), priority list (8, 9) and default (1 to 4)
+/// of a question; or since memory ran out (26).
 pub fn read_step(alloc: Global, place: usize, row: StepRow<'_, '_>) -> Result<Step, DocCause>
     requires { HasTexts row }
     ensures { MatchResult result (λ step. AllPass (step_fields place (text_of row.entry)) × Makes (text_of row.entry) step)

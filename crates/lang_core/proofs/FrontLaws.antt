@@ -27,14 +27,14 @@ joined_some [] t after n = absurd (omega arith)
 joined_some (s ∷ front) t after n = joined_two s front t after
 
 -- a text that goes on where a subtag of it ends has the front's subtags first
-front_of_rest : (front rest : List ℕ) → ends_subtag rest ≡ true → IsFront (pieces front) (pieces (front ++ rest))
+pub front_of_rest : (front rest : List ℕ) → ends_subtag rest ≡ true → IsFront (pieces front) (pieces (front ++ rest))
 front_of_rest front [] h = ([], ap pieces (append-nil front) ∙ sym (append-nil (pieces front)))
 front_of_rest front (b ∷ rest) h =
     let hyphen : b ≡ 45 = grind (arith, nat_tests) in
     (pieces rest, ap (λ (c : ℕ). pieces (front ++ c ∷ rest)) hyphen ∙ pieces_join front rest)
 
 -- and the other way round
-rest_of_front : (front text : List ℕ) → IsFront (pieces front) (pieces text) → (rest : List ℕ) × ((text ≡ front ++ rest) × (ends_subtag rest ≡ true))
+pub rest_of_front : (front text : List ℕ) → IsFront (pieces front) (pieces text) → (rest : List ℕ) × ((text ≡ front ++ rest) × (ends_subtag rest ≡ true))
 rest_of_front front text (more, e) = of more e where
   whole : (more : List (List ℕ)) → pieces text ≡ pieces front ++ more → text ≡ joined (pieces front ++ more)
   whole more e = sym (joined-pieces text) ∙ ap joined e

@@ -7,12 +7,15 @@ pub mod PiecesLaws
 pub mod StageSound
 pub mod StageComplete
 pub mod GrammarLaws
+pub mod OneOffset
 pub mod Walks
 pub mod TagText
 pub mod RangeText
 pub mod Embedding
 pub mod BasicLaw
 pub mod FrontLaws
+pub mod BasicBytes
 pub mod CandidateLaws
 pub mod LookupLaws
+pub mod TruncationSteps
 pub mod LangLaws

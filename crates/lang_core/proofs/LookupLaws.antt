@@ -105,7 +105,7 @@ star_among kind [] apart h e = cc
 star_among kind (b ∷ []) apart h e = apart b (each_true (kind b) true h).0 e
 star_among kind (b ∷ c ∷ s) apart h e = cc
 
-no_star : (place : ℕ) (s : List ℕ) → basic_piece place s ≡ true → is_star s ≡ false
+pub no_star : (place : ℕ) (s : List ℕ) → basic_piece place s ≡ true → is_star s ≡ false
 unfolding is_private_piece
 no_star zero s h = is_false (is_star s) (λ e. star_among is_letter s star_letter (run_of is_letter 1 8 s h).all e)
 no_star (suc place) s h = is_false (is_star s) (λ e. star_among is_alphanum s star_alphanum (run_of is_alphanum 1 8 s h).all e)

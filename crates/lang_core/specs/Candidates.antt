@@ -1,4 +1,5 @@
-use Rattle.std.specs.Prelude.{ℕ, ◌-◌, ◌||◌, not, zero, suc, Bool, true, List, [], ◌∷◌, length, take, filter}
+use Rattle.std.specs.Prelude.{ℕ, ◌-◌, ◌||◌, not, zero, suc, Bool, true, List, [], ◌∷◌, length, take, filter, if◌then◌else◌}
+use Rattle.std.specs.List.{list_all}
 use Rattle.lang_core.specs.Grammar.{is_alphanum, is_run, is_star}
 
 -- the fronts of n, n - 1, .. and 1 subtags
@@ -29,3 +30,25 @@ truncated range = filter (λ front. not (is_cut front)) (fronts_from (length ran
 -- the range and its truncations, longest first
 abbrev pub candidates : List (List ℕ) → List (List (List ℕ))
 candidates range = range ∷ truncated range
+
+-- ---- the same in the steps of RFC 4647 section 3.4
+
+-- without the last subtag
+abbrev pub without_last : List (List ℕ) → List (List ℕ)
+without_last [] = []
+without_last (s ∷ []) = []
+without_last (s ∷ t ∷ more) = s ∷ without_last (t ∷ more)
+
+-- without the single letters and digits that stand last
+abbrev pub without_last_singles : List (List ℕ) → List (List ℕ)
+without_last_singles [] = []
+without_last_singles (s ∷ more) = if list_all is_single (s ∷ more) then [] else s ∷ without_last_singles more
+
+-- one step: the last subtag goes, and the single letters and digits right before it go with it
+abbrev pub shortened : List (List ℕ) → List (List ℕ)
+shortened range = without_last_singles (without_last range)
+
+-- a range and its truncations, or none where no subtag is left
+abbrev pub candidates_left : List (List ℕ) → List (List (List ℕ))
+candidates_left [] = []
+candidates_left (s ∷ more) = candidates (s ∷ more)

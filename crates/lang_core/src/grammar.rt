@@ -14,14 +14,11 @@ use crate::subtag::Subtag;
 ///
 /// ```text
 /// Language-Tag = langtag / privateuse / grandfathered
-/// langtag      = language ["-" script] ["-" region] *("-" variant) *("-" extension) ["-" privateuse]
-/// language     = 2*3ALPHA ["-" extlang] / 4ALPHA / 5*8ALPHA
-/// extlang      = 3ALPHA *2("-" 3ALPHA)
-/// script       = 4ALPHA
-/// region       = 2ALPHA / 3DIGIT
-/// variant      = 5*8alphanum / (DIGIT 3alphanum)
-/// extension    = singleton 1*("-" (2*8alphanum))
-/// privateuse   = "x" 1*("-" (1*8alphanum))
+/// langtag      = language ["-" script] ["-" region] *("-" variant) *("-" extension) ["-"
+/// privateuse] language     = 2*3ALPHA ["-" extlang] / 4ALPHA / 5*8ALPHA extlang      = 3ALPHA
+/// *2("-" 3ALPHA) script       = 4ALPHA region       = 2ALPHA / 3DIGIT variant      = 5*8alphanum /
+/// (DIGIT 3alphanum) extension    = singleton 1*("-" (2*8alphanum)) privateuse   = "x" 1*("-"
+/// (1*8alphanum))
 /// ```
 pub fn tag_fault(text: &[u8]) -> Option<LangFault>
     requires { (0 < length text.now) × (length text.now ≤ 255) }

@@ -95,7 +95,8 @@ impl Lang {
         }
     }
 
-    /// An equal language, by one allocation. A copy of `@none` takes no memory and is never refused.
+    /// An equal language, by one allocation. A copy of `@none` takes no memory and is never
+    /// refused.
     pub fn copy(&self, alloc: Global) -> Result<Lang, AllocError>
         ensures equal { IfOk result (λ lang. lang ≡ self.now) }
         ensures none { self.now ≡ none_text → IsOk result }

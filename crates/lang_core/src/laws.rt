@@ -1,9 +1,11 @@
 //! Laws about the definitions alone: each function's contract is the law.
-ghost use Rattle.std.specs.Prelude.{ℕ, ◌≡◌, List, IsTrue, ◌↔◌};
+ghost use Rattle.std.specs.Prelude.{ℕ, ◌≡◌, ◌⊎◌, List, [], ◌∷◌, Bool, IsTrue, ◌↔◌};
+ghost use Rattle.lang_core.specs.Text.{pieces};
 ghost use Rattle.lang_core.specs.Fault.{IsTag};
-ghost use Rattle.lang_core.specs.Grammar.{BasicRange, ExtendedRange};
+ghost use Rattle.lang_core.specs.Grammar.{BasicRange, ExtendedRange, IsFirstRefused};
 ghost use Rattle.lang_core.specs.Lang.{none_text};
-ghost use Rattle.lang_core.specs.Matching.{Basic, Embeds, greedy, is_basic_match, without_stars, as_basic};
+ghost use Rattle.lang_core.specs.Matching.{Basic, BasicInBytes, Embeds, greedy, is_basic_match, without_stars, as_basic};
+ghost use Rattle.lang_core.specs.Candidates.{candidates, candidates_left, shortened};
 
 /// A range's subtags other than "*" embed in a tag's exactly where pairing them greedily succeeds
 /// (RFC 4647 section 3.3.2).
@@ -16,6 +18,12 @@ pub fn basic_is_front()
     ensures { (range tag : List (List ℕ)) → IsTrue (is_basic_match range tag) ↔ Basic range tag }
 {}
 
+/// Basic matching of subtags is that of texts: the range is "*", equals the tag, or is what stands
+/// before a hyphen of it (RFC 4647 section 3.3.1).
+pub fn basic_in_bytes()
+    ensures { (range tag : List ℕ) → Basic (pieces range) (pieces tag) ↔ BasicInBytes range tag }
+{}
+
 /// An extended range as a basic one is a basic range, and a basic range stays as it is
 /// (RFC 4647 section 3.2).
 pub fn as_basic_is_basic()
@@ -26,4 +34,19 @@ pub fn as_basic_is_basic()
 /// The text `@none` is no tag, so a language is a tag or `@none`, and never both.
 pub fn none_is_no_tag()
     ensures { ¬ IsTag none_text }
+{}
+
+/// A range is truncated by steps: the last subtag goes, and the single letters and digits right
+/// before it go with it, until no subtag is left (RFC 4647 section 3.4).
+pub fn truncation_by_steps()
+    ensures step { (range : List (List ℕ)) → BasicRange range
+        → candidates range ≡ range ∷ candidates_left (shortened range) }
+    ensures basic { (range : List (List ℕ)) → BasicRange range
+        → (shortened range ≡ []) ⊎ BasicRange (shortened range) }
+{}
+
+/// The first subtag that may not stand where it does begins at one offset.
+pub fn one_refused_offset()
+    ensures { (allowed : ℕ → List ℕ → Bool) (list : List (List ℕ)) (a b : ℕ)
+        → IsFirstRefused allowed list a → IsFirstRefused allowed list b → a ≡ b }
 {}

@@ -33,8 +33,6 @@ mod stage;
 mod subtag;
 mod subtags;
 mod tag;
-#[cfg(test)]
-mod tests;
 mod text;
 mod truncations;
 

@@ -56,7 +56,7 @@ pub fn matches_extended(range: &[u8], tag: &[u8]) -> bool
     }
 }
 
-/// The front of the text of so many bytes, if a subtag ends after it.
+/// The first `len` bytes of the text, if a subtag ends there.
 fn front_of(text: &[u8], len: usize) -> Option<&[u8]>
     ensures ends { is_some result ≡ ends_at text.now len }
     ensures front { IfSome result (λ front. front.now ≡ take len text.now) }
@@ -88,7 +88,7 @@ fn is_front(front: &[u8], text: &[u8]) -> bool
     }
 }
 
-/// The same, without regard to case.
+/// Whether the text's first subtags are those of the front, without regard to case.
 fn is_front_in_any_case(front: &[u8], text: &[u8]) -> bool
     ensures { IsTrue result ↔ IsFront (subtags front.now) (subtags text.now) }
 {
@@ -116,7 +116,7 @@ pub fn matches_basic(range: &[u8], tag: &[u8]) -> bool
     is_star(range) || is_front(range, tag)
 }
 
-/// The same, with a text in any case.
+/// Basic filtering (RFC 4647 section 3.3.1), of a text in any case.
 pub fn matches_basic_text(range: &[u8], text: &[u8]) -> bool
     requires { str_to_ascii_lowercase range.now ≡ range.now }
     ensures { IsTrue result ↔ Basic (pieces range.now) (subtags text.now) }

@@ -47,7 +47,7 @@ impl Range {
     ///
     /// Refused are, in this order, an empty text, one over 255 bytes, and the first subtag that a
     /// basic range may not have at its place. Only then one allocation is made, of the range's
-    /// size, and want of memory is the last refusal.
+    /// size, and out of memory is the last refusal.
     ///
     /// ```text
     /// Range::parse_basic(alloc, b"de-CH")?.as_str()  "de-ch"
@@ -73,7 +73,7 @@ impl Range {
     ///
     /// Refused are, in this order, an empty text, one over 255 bytes, and the first subtag that an
     /// extended range may not have at its place. Only then two allocations are made, for the text
-    /// and the lookup text, and want of memory is the last refusal.
+    /// and the lookup text, and out of memory is the last refusal.
     ///
     /// ```text
     /// Range::parse_extended(alloc, b"de-*-CH")?.lookup_text()  "de-ch"

@@ -8,7 +8,7 @@ use crate::subtag::Subtag;
 #[derive(Clone, Copy)]
 pub enum Stage {
     Start,
-    /// A language part, which takes so many more extlangs.
+    /// A language subtag; up to this many extlangs may still follow.
     Language { extlangs_left: u8 },
     Script,
     /// A region or a variant.

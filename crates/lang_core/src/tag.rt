@@ -37,7 +37,7 @@ impl Tag {
     ///
     /// Refused are, in this order, an empty text, one over 255 bytes, the first subtag that is not
     /// 1 to 8 letters or digits, and subtags that make no tag. Only then one allocation is made, of
-    /// the tag's size, and want of memory is the last refusal.
+    /// the tag's size, and out of memory is the last refusal.
     ///
     /// ```text
     /// Tag::parse(alloc, b"zh-Hant-CN")?.as_str()  "zh-hant-cn"

@@ -9,7 +9,7 @@ use std::alloc::Global;
 /// The most bytes of a tag or a range.
 pub const MAX_LEN: usize = 255;
 
-/// An ASCII text in lower case, by one growth.
+/// An ASCII text in lower case, by one allocation.
 pub fn lower_text(alloc: Global, bytes: &[u8]) -> Result<String, LangFault>
     requires { IsAscii (str_to_ascii_lowercase bytes.now) }
     ensures { MatchResult result (λ text. string_bytes text ≡ str_to_ascii_lowercase bytes.now) (λ fault. fault ≡ NoMemory) }

@@ -1,4 +1,4 @@
-//! What the words give, as the rows of clap's matches have it.
+//! Values of the arguments, from clap's matches.
 ghost use Rattle.std.specs.Prelude.{◌≡◌, map, option_map};
 ghost use Rattle.std.specs.Option.{option_copied};
 ghost use Rattle.clap.specs.Words.{all_of, first_of, found_of, rows_of, subcommand_rows_of};
@@ -34,7 +34,7 @@ pub fn texts_of<'m, 'a>(given: &'m ArgMatches<'a>, id: &str) -> Option<&'m [&'a 
     given.get_strs(id)
 }
 
-/// The moment that `--now` gives.
+/// The time that `--now` gives.
 pub fn now_of(given: &ArgMatches<'_>) -> Option<u64>
     ensures { GivesNow (rows_of (found_of given.now)) result }
 {

@@ -24,7 +24,7 @@ pub fn pick(alloc: Global, ranges: &str, tags: &[String]) -> Result<Doc, PickFau
 /// The pick line of RANGES over the tags: `matched TAG`, or `nothing`, and LF. TAG is what lookup
 /// finds among the tags, in lower case; `@none` is a tag that is never found.
 ///
-/// Refused are RANGES first (8, 9), then each tag in order (1 to 4). Want of memory (26) may come
+/// Refused are RANGES first (8, 9), then each tag in order (1 to 4). Out of memory (26) may come
 /// before a refusal that stands later.
 pub fn pick_scheme(
     alloc: Global,

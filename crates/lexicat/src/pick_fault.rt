@@ -6,7 +6,7 @@ use nego_core::NegoFault;
 use std::alloc::{AllocError, AllocFailed};
 use thiserror::Error;
 
-/// Why a pick is refused. Want of memory is always `NoMemory`, never a cause of another kind.
+/// Why a pick is refused. Out of memory is always `NoMemory`, never a cause of another kind.
 #[derive(Clone, Copy, Debug, PartialEq, Eq, Error)]
 pub enum PickFault {
     /// The ranges are no priority list: 8, 9.

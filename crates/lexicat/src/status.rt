@@ -8,7 +8,7 @@ pub const ANSWERED: u8 = 0;
 /// The answer is that nothing fits.
 pub const NOTHING: u8 = 1;
 
-/// The words are no command of the program.
+/// Usage error.
 pub const USAGE: u8 = 2;
 
 /// The command is refused for what stands in its words or its input.

@@ -1,9 +1,11 @@
 -- Small facts on tests, options and list places.
-use Rattle.std.proofs.Common.{ℕ, ◌≡◌, ◌<◌, ◌+◌, List, ◌∷◌, Option, Some, None, Bool, true, false, cond, length, get_or, drop, refl, sym, ◌∙◌, ap, arith, drop-cons, add-one}
-use Rattle.std.specs.Prelude.{Result, Ok, Err, IfOk, Contains, map, not}
+use Rattle.std.proofs.Common.{ℕ, ◌≡◌, ◌<◌, ◌+◌, inl, inr, List, [], ◌∷◌, Option, Some, None, Bool, true, false, cond, length, get_or, drop, refl, sym, ◌∙◌, ap, subst, arith, drop-cons, add-one}
+use Rattle.std.specs.Prelude.{Result, Ok, Err, IfOk, All, AllPairs, Contains, map, filter, not, zero, suc}
 use Rattle.std.proofs.lemmas.List.{length-map, get_or-map}
 use Rattle.std.specs.List.{slice_get}
-use Rattle.std.proofs.lemmas.Option.{slice_get_read, slice_get-get_or}
+use Rattle.std.proofs.lemmas.Bool.{cases_Bool}
+use Rattle.std.proofs.lemmas.List.Elements.{All-nil, All-cons, All-head, All-tail, Contains-get_or}
+use Rattle.std.proofs.lemmas.Option.{slice_get_read, slice_get-get_or, slice_get_within, get_or_from_slice_get}
 use Rattle.nego_core.specs.Basics.{IsTheOne}
 
 pub false_true : false ≡ true → ⊥
@@ -56,3 +58,39 @@ contains_later y x xs c = (c.0 + 1, (let low = c.1 in omega arith), rw add-one c
 
 pub contains_map : {X Y : Type 0} (f : X → Y) (xs : List X) (x : X) → Contains xs x → Contains (map f xs) (f x)
 contains_map {X = X} f xs x c = (c.0, (let size : length (map f xs) ≡ length xs = simp length-map in let low = c.1 in omega arith), get_or-map f xs c.0 x (f x) c.1 ∙ ap f c.2)
+
+-- ---- what holds of each
+
+pub all_at : {X : Type 0} (P : X → Type 0) (xs : List X) (k : ℕ) (x : X) → All P xs → slice_get xs k ≡ Some x → P x
+all_at P xs k x all s = subst P (get_or_from_slice_get xs k x x s) (all k x (slice_get_within xs k x s))
+
+pub contains_from_map : {X Y : Type 0} (f : X → Y) (xs : List X) (y : Y) → Contains (map f xs) y → (x : X) × Contains xs x × (f x ≡ y)
+contains_from_map f [] y c = absurd (let low = c.1 in omega arith)
+contains_from_map f (x ∷ xs) y c =
+    let size : length (map f (x ∷ xs)) ≡ length (x ∷ xs) = simp length-map in
+    let low : c.0 < length (x ∷ xs) = (let l = c.1 in omega arith) in
+    (get_or (x ∷ xs) c.0 x, Contains-get_or (x ∷ xs) c.0 x low, sym (get_or-map f (x ∷ xs) c.0 x y low) ∙ c.2)
+
+-- what passes a test, and so has what follows from that
+pub all_passed : {X : Type 0} (P Q : X → Type 0) (p : X → Bool) (xs : List X) → ((x : X) → P x → p x ≡ true → Q x) → All P xs → All Q (filter p xs)
+all_passed P Q p [] f h = All-nil Q
+all_passed P Q p (x ∷ xs) f h = elim (cases_Bool (p x)) [
+  | inl e ↦ rw e (All-cons Q x (filter p xs) (f x (All-head P x xs h) e) (all_passed P Q p xs f (All-tail P x xs h)))
+  | inr e ↦ rw e (all_passed P Q p xs f (All-tail P x xs h))
+]
+
+pub contains_passed : {X : Type 0} (p : X → Bool) (xs : List X) (k : ℕ) (x : X) → slice_get xs k ≡ Some x → p x ≡ true → Contains (filter p xs) x
+contains_passed p [] k x s t = cc
+contains_passed p (y ∷ xs) zero x s t = let e : y ≡ x = cc in let u : p y ≡ true = ap p e ∙ t in rw u (subst (Contains (y ∷ filter p xs)) e (contains_first y (filter p xs)))
+contains_passed p (y ∷ xs) (suc k) x s t = elim (cases_Bool (p y)) [
+  | inl e ↦ rw e (contains_later y x (filter p xs) (contains_passed p xs k x s t))
+  | inr e ↦ rw e (contains_passed p xs k x s t)
+]
+
+pub pairs_map : {X Y : Type 0} (R : Y → Y → Type 0) (f : X → Y) (xs : List X) → AllPairs (λ a b. R (f a) (f b)) xs → AllPairs R (map f xs)
+pairs_map R f [] h = λ i j d lt low. absurd (omega arith)
+pairs_map R f (x ∷ xs) h = λ i j d lt low.
+    let size : length (map f (x ∷ xs)) ≡ length (x ∷ xs) = simp length-map in
+    let one = get_or-map f (x ∷ xs) i x d (omega arith) in
+    let two = get_or-map f (x ∷ xs) j x d (omega arith) in
+    rw (one, two) (h i j x lt (omega arith))

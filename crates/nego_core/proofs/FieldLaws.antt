@@ -1,5 +1,6 @@
 -- What a malformed element says of the whole field.
-use Rattle.std.proofs.Common.{ℕ, ◌≡◌, ◌<◌, ◌≤◌, List, [], ◌∷◌, ◌++◌, inl, inr, length, refl, sym, ap, subst, arith}
+use Rattle.std.proofs.Common.{ℕ, ◌≡◌, ◌<◌, ◌≤◌, ◌+◌, List, [], ◌∷◌, ◌++◌, inl, inr, length, sum_by, refl, sym, ◌∙◌, ap, subst, arith}
+use Rattle.std.specs.List.{prefix_len}
 use Rattle.std.specs.Prelude.{All, Result, Ok, Err, MatchResult}
 use Rattle.nego_core.specs.declared.fault.NegoFault.{NegoFault}
 use Rattle.nego_core.specs.declared.fault.NegoFault.TheVariants.{NoMemory}
@@ -9,7 +10,7 @@ use Rattle.lang_core.specs.Grammar.{BasicRange}
 use Rattle.nego_core.proofs.FieldWalk.{padded_not_blank}
 use Rattle.nego_core.specs.declared.field_kind.FieldKind.TheVariants.{Accept, Ranges}
 use Rattle.nego_core.specs.Item.{Item}
-use Rattle.nego_core.specs.Blanks.{AreBlanks}
+use Rattle.nego_core.specs.Blanks.{is_blank, AreBlanks}
 use Rattle.nego_core.specs.Element.{IsPadded}
 use Rattle.nego_core.specs.Field.{ArePieces, IsField, IsFirstMalformed, IsOfOneKind, HasElement, RefusesField}
 use Rattle.nego_core.specs.declared.field_kind.FieldKind.{FieldKind}
@@ -26,6 +27,36 @@ no_pieces kind (p ∷ before) after piece (i ∷ items) blank none a = elim a [
 pub malformed_is_no_field : (kind : FieldKind) (bytes : List ℕ) (offset : ℕ) (items : List Item) → IsFirstMalformed kind bytes offset → ¬ IsField kind bytes items
 malformed_is_no_field kind bytes offset items m f =
     no_pieces kind m.before m.read_to.after m.piece items m.read_to.not_blank m.malformed (subst (λ (x : List (List ℕ)). ArePieces kind x items) m.read_to.whole f)
+
+-- the pieces behind the first give items as well
+later_pieces : (kind : FieldKind) (p : List ℕ) (pieces : List (List ℕ)) (items : List Item) → ArePieces kind (p ∷ pieces) items → (later : List Item) × ArePieces kind pieces later
+later_pieces kind p pieces [] a = ([], a.1)
+later_pieces kind p pieces (i ∷ items) a = elim a [ inl x ↦ (i ∷ items, x.1) | inr x ↦ (items, x.1) ]
+
+-- a piece that is not blank, and that no item fits
+abbrev IsBad : FieldKind → List ℕ → Type 0
+IsBad kind piece = (¬ AreBlanks piece) × ((item : Item) → ¬ IsPadded kind piece item)
+
+-- two first ones of one list are the same
+same_bad : (kind : FieldKind) (b c a d : List (List ℕ)) (x y : List ℕ) (xs ys : List Item) → b ++ x ∷ a ≡ c ++ y ∷ d → ArePieces kind b xs → ArePieces kind c ys → IsBad kind x → IsBad kind y → (b ≡ c) × (x ≡ y)
+same_bad kind [] [] a d x y xs ys e f g p q = (refl, (cc))
+same_bad kind [] (z ∷ c) a d x y xs ys e f g p q =
+    absurd (let same : x ≡ z = cc in no_pieces kind [] c x ys p.0 p.1 (subst (λ (s : List ℕ). ArePieces kind (s ∷ c) ys) (sym same) g))
+same_bad kind (z ∷ b) [] a d x y xs ys e f g p q =
+    absurd (let same : y ≡ z = cc in no_pieces kind [] b y xs q.0 q.1 (subst (λ (s : List ℕ). ArePieces kind (s ∷ b) xs) (sym same) f))
+same_bad kind (z ∷ b) (w ∷ c) a d x y xs ys e f g p q =
+    let head : z ≡ w = cc in
+    let more = later_pieces kind z b xs f in
+    let others = later_pieces kind w c ys g in
+    let rest = same_bad kind b c a d x y more.0 others.0 (cc) more.1 others.1 p q in
+    let tail : b ≡ c = rest.0 in
+    ((cc), rest.1)
+
+pub one_malformed : (kind : FieldKind) (bytes : List ℕ) (a b : ℕ) → IsFirstMalformed kind bytes a → IsFirstMalformed kind bytes b → a ≡ b
+one_malformed kind bytes a b f g =
+    let same = same_bad kind f.before g.before f.read_to.after g.read_to.after f.piece g.piece f.read_to.items g.read_to.items (sym f.read_to.whole ∙ g.read_to.whole) f.read_to.before_ok g.read_to.before_ok (f.read_to.not_blank, f.malformed) (g.read_to.not_blank, g.malformed) in
+    f.begins ∙ (ap (λ (x : List (List ℕ)). sum_by (λ p. length p + 1) x + prefix_len is_blank f.piece) same.0
+    ∙ (ap (λ (p : List ℕ). sum_by (λ q. length q + 1) g.before + prefix_len is_blank p) same.1 ∙ sym g.begins))
 
 -- ---- what a field says of its items
 

@@ -16,16 +16,16 @@ use Rattle.nego_core.specs.declared.pick.Pick.{Pick}
 use Rattle.nego_core.specs.declared.scheme.Scheme.{Scheme}
 
 -- the key of a language that stands so many places further on
-record IsKeyFrom (scheme : Scheme) (items : List Item) (from : ℕ) (langs : List (List ℕ)) (key : Key) : Type 0 where
-  n : ℕ
-  lang : List ℕ
-  stands : slice_get langs n ≡ Some lang
-  key_ok : IsKey scheme items lang (from + n) key
+pub record IsKeyFrom (scheme : Scheme) (items : List Item) (from : ℕ) (langs : List (List ℕ)) (key : Key) : Type 0 where
+  pub n : ℕ
+  pub lang : List ℕ
+  pub stands : slice_get langs n ≡ Some lang
+  pub key_ok : IsKey scheme items lang (from + n) key
 
 key_later : (scheme : Scheme) (items : List Item) (from : ℕ) (l : List ℕ) (langs : List (List ℕ)) (key : Key) → IsKeyFrom scheme items (from + 1) langs key → IsKeyFrom scheme items from (l ∷ langs) key
 key_later scheme items from l langs key k = record { n = suc k.n; lang = k.lang; stands = k.stands; key_ok = subst (λ (x : ℕ). IsKey scheme items k.lang x key) (omega arith) k.key_ok }
 
-keys_right : (scheme : Scheme) (items : List Item) (from : ℕ) (langs : List (List ℕ)) (keys : List Key) → AreKeys scheme items from langs keys → All (IsKeyFrom scheme items from langs) keys
+pub keys_right : (scheme : Scheme) (items : List Item) (from : ℕ) (langs : List (List ℕ)) (keys : List Key) → AreKeys scheme items from langs keys → All (IsKeyFrom scheme items from langs) keys
 keys_right scheme items from [] [] a = All-nil (IsKeyFrom scheme items from [])
 keys_right scheme items from [] (k ∷ keys) a = absurd a
 keys_right scheme items from (l ∷ langs) [] a = All-nil (IsKeyFrom scheme items from (l ∷ langs))
@@ -35,7 +35,7 @@ keys_right scheme items from (l ∷ langs) (k ∷ keys) a = elim a [
       (All-weaker (IsKeyFrom scheme items (from + 1) langs) (IsKeyFrom scheme items from (l ∷ langs)) (key_later scheme items from l langs) keys (keys_right scheme items (from + 1) langs keys x.1))
 ]
 
-keys_all : (scheme : Scheme) (items : List Item) (from n : ℕ) (langs : List (List ℕ)) (keys : List Key) (lang : List ℕ) (key : Key) → AreKeys scheme items from langs keys → slice_get langs n ≡ Some lang → IsKey scheme items lang (from + n) key → Contains keys key
+pub keys_all : (scheme : Scheme) (items : List Item) (from n : ℕ) (langs : List (List ℕ)) (keys : List Key) (lang : List ℕ) (key : Key) → AreKeys scheme items from langs keys → slice_get langs n ≡ Some lang → IsKey scheme items lang (from + n) key → Contains keys key
 keys_all scheme items from n [] keys lang key a s k = cc
 keys_all scheme items from zero (l ∷ langs) [] lang key a s k = absurd (let e : l ≡ lang = cc in a.0 key (subst (λ (x : List ℕ). IsKey scheme items x from key) (sym e) (subst (λ (m : ℕ). IsKey scheme items lang m key) (omega arith) k)))
 keys_all scheme items from zero (l ∷ langs) (j ∷ keys) lang key a s k =

@@ -1,9 +1,8 @@
 -- Keys of the languages, and their order.
 use Rattle.std.proofs.Common.{ℕ, ◌≡◌, ◌+◌, ◌-◌, ◌<◌, ◌≤◌, inl, inr, take, length-take-le, take-suc, List, [], ◌∷◌, ◌++◌, refl, sym, ◌∙◌, ap, subst, arith, length, get_or, add-one}
 use Rattle.std.specs.Prelude.{map, IsSorted, IsPermutation}
-use Rattle.std.specs.Borrow.{Bor}
 use Rattle.std.proofs.lemmas.List.{length-map, get_or-map, map-append}
-use Rattle.nego_core.specs.Filtered.{rank_cmp, IsFiltered, IsKey, HasNoKey, AreKeys, pick_of, Key, key_cmp, key_of, lent}
+use Rattle.nego_core.specs.Filtered.{rank_cmp, IsFiltered, IsKey, HasNoKey, AreKeys, pick_of, Key, key_cmp, key_of}
 use Rattle.nego_core.specs.Deciding.{DecidesLang}
 use Rattle.nego_core.specs.Item.{Item}
 use Rattle.std.proofs.lemmas.List.Sorted.{IsPermutation-map}
@@ -48,11 +47,11 @@ push_key scheme items from (t ∷ tags) (k ∷ keys) tag key a h = elim a [
 take_next : (tags : List (List ℕ)) (k : ℕ) (t : List ℕ) → k < length tags → t ≡ get_or tags k t → take (k + 1) tags ≡ take k tags ++ t ∷ []
 take_next tags k t low e = rw (add-one, take-suc tags k t low) (ap (λ (x : List ℕ). take k tags ++ x ∷ []) (sym e))
 
-pub lent_within : (langs : List (Bor (List ℕ))) (k : ℕ) → k < length langs → k < length (lent langs)
-lent_within langs k low = let size : length (lent langs) ≡ length langs = simp length-map in omega arith
+pub text_within : {X : Type 0} (text : X → List ℕ) (langs : List X) (k : ℕ) → k < length langs → k < length (map text langs)
+text_within text langs k low = let size : length (map text langs) ≡ length langs = simp length-map in omega arith
 
-pub lent_at : (langs : List (Bor (List ℕ))) (k : ℕ) (l : Bor (List ℕ)) → k < length langs → l ≡ get_or langs k l → l.now ≡ get_or (lent langs) k l.now
-lent_at langs k l low e = ap (λ (x : Bor (List ℕ)). x.now) e ∙ sym (get_or-map (λ (x : Bor (List ℕ)). x.now) langs k l l.now low)
+pub text_at : {X : Type 0} (text : X → List ℕ) (langs : List X) (k : ℕ) (l : X) → k < length langs → l ≡ get_or langs k l → text l ≡ get_or (map text langs) k (text l)
+text_at text langs k l low e = ap text e ∙ sym (get_or-map text langs k l (text l) low)
 
 pub none_next : (scheme : Scheme) (items : List Item) (tags : List (List ℕ)) (k : ℕ) (t : List ℕ) (ranks : List Rank) → k < length tags → t ≡ get_or tags k t → AreKeys scheme items 0 (take k tags) (map key_of ranks) → HasNoKey scheme items t k → AreKeys scheme items 0 (take (k + 1) tags) (map key_of ranks)
 none_next scheme items tags k t ranks low e a h =

@@ -67,6 +67,10 @@ pub record IsPicked (scheme : Scheme) (items : List Item) (langs : List (List �
   pub decided : DecidesLang scheme items lang item pick.weight
   pub positive : 0 < pick.weight
 
+-- something is picked
+abbrev pub HasPick : Scheme → List Item → List (List ℕ) → Type 0
+HasPick scheme items langs = (pick : Pick) × IsPicked scheme items langs pick
+
 -- languages that are lent
 abbrev pub lent : List (Bor (List ℕ)) → List (List ℕ)
 lent langs = map (λ l. l.now) langs

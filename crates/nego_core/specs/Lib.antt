@@ -17,3 +17,4 @@ pub mod Filtered
 pub mod LookedUp
 pub mod Chosen
 pub mod Handed
+pub mod Unweighted

@@ -31,7 +31,7 @@ pub fn better(best: Option<Best>, other: Option<Best>) -> Option<Best>
     }
 }
 
-/// Whether so many subtags are more than the best has.
+/// Whether `named` exceeds the best specificity so far.
 pub fn is_above(best: Option<Best>, named: usize) -> bool
     ensures { result ≡ is_above best named }
 {

@@ -3,7 +3,8 @@
 pub enum Choice<'a> {
     /// The language found, by its text: a slice from the front of an item's lookup text.
     Matched(&'a str),
-    /// The default that was handed in.
+    /// The default.
     Default,
+    /// Nothing fits, and no default is open.
     Nothing,
 }

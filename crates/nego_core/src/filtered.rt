@@ -1,5 +1,5 @@
-ghost use Rattle.std.specs.Prelude.{◌≡◌, ◌≤◌, MatchOption, MatchResult, IfOk, OnOk, IsPermutation, IsSorted, map};
-ghost use Rattle.nego_core.specs.Filtered.{IsFiltered, IsKey, HasNoKey, AreKeys, key_of, pick_of, rank_cmp, lent};
+ghost use Rattle.std.specs.Prelude.{◌≡◌, ◌≤◌, ℕ, List, MatchOption, MatchResult, IfOk, IsPermutation, IsSorted, map};
+ghost use Rattle.nego_core.specs.Filtered.{IsFiltered, IsKey, HasNoKey, HasPick, AreKeys, key_of, pick_of, rank_cmp, lent};
 ghost use Rattle.nego_core.specs.declared.fault.NegoFault.TheVariants.{NoMemory};
 
 use crate::fault::NegoFault;
@@ -30,17 +30,44 @@ fn rank_of<'a>(
     }
 }
 
-fn ranks_of<'a>(
+/// A language, itself or lent.
+trait AsLang {
+    /// Its text.
+    ghost text: { Self → List ℕ };
+
+    fn as_lang(&self) -> &Lang
+        ensures { result.now ≡ text self.now };
+}
+
+impl AsLang for Lang {
+    ghost text = { λ l. l };
+
+    fn as_lang(&self) -> &Lang {
+        self
+    }
+}
+
+impl AsLang for &Lang {
+    ghost text = { λ l. l.now };
+
+    fn as_lang(&self) -> &Lang {
+        self
+    }
+}
+
+fn ranks_of<'a, L: AsLang>(
     alloc: Global,
     list: &PriorityList,
     scheme: Scheme,
-    langs: &[&'a Lang],
+    langs: &'a [L],
 ) -> Result<Vec<Rank<'a>>, AllocError>
-    ensures { IfOk result (λ ranks. AreKeys scheme list.now 0 (lent langs.now) (map key_of ranks.items)) }
+    ensures { MatchResult result
+        (λ ranks. AreKeys scheme list.now 0 (map L.text langs.now) (map key_of ranks.items))
+        (λ _. HasPick scheme list.now (map L.text langs.now)) }
 {
     let mut ranks = Vec::new(alloc);
     for (place, lang) in langs.iter().enumerate() {
-        match rank_of(list, scheme, *lang, place) {
+        match rank_of(list, scheme, lang.as_lang(), place) {
             Some(rank) => ranks.push(rank)?,
             None => {}
         }
@@ -67,40 +94,50 @@ fn picks_of(alloc: Global, ranks: &[Rank]) -> Result<Vec<Pick>, AllocError>
         .collect(alloc)
 }
 
+fn filter_by<L: AsLang>(
+    alloc: Global,
+    list: &PriorityList,
+    scheme: Scheme,
+    langs: &[L],
+) -> Result<Picks, NegoFault>
+    ensures { MatchResult result (IsFiltered scheme list.now (map L.text langs.now))
+        (λ fault. (fault ≡ NoMemory) × HasPick scheme list.now (map L.text langs.now)) }
+{
+    let mut ranks = ranks_of(alloc, list, scheme, langs)?;
+    if ranks.is_empty() {
+        return Ok(Picks::new(Vec::new(alloc)));
+    }
+    sort_ranks(&mut ranks);
+    let picks = picks_of(alloc, &ranks)?;
+    Ok(Picks::new(picks))
+}
+
 /// Filtering (RFC 4647 section 3.3) over languages that are lent: those that an item of positive
 /// weight decides, each once, by weight downwards, then by the item's place, the language's bytes
 /// and its place. `@none` is never picked.
 ///
-/// The only refusal is `NoMemory`.
+/// The only refusal is `NoMemory`, and it comes only where there is something to pick.
 pub fn filter_lent(
     alloc: Global,
     list: &PriorityList,
     scheme: Scheme,
     langs: &[&Lang],
 ) -> Result<Picks, NegoFault>
-    ensures { MatchResult result (IsFiltered scheme list.now (lent langs.now)) (λ fault. fault ≡ NoMemory) }
+    ensures { MatchResult result (IsFiltered scheme list.now (lent langs.now))
+        (λ fault. (fault ≡ NoMemory) × HasPick scheme list.now (lent langs.now)) }
 {
-    let mut ranks = ranks_of(alloc, list, scheme, langs)?;
-    sort_ranks(&mut ranks);
-    let picks = picks_of(alloc, &ranks)?;
-    Ok(Picks::new(picks))
+    filter_by(alloc, list, scheme, langs)
 }
 
-fn lent_of(alloc: Global, langs: &[Lang]) -> Result<Vec<&Lang>, AllocError>
-    ensures { IfOk result (λ all. lent all.items ≡ langs.now) }
-{
-    langs.iter().collect(alloc)
-}
-
-/// Filtering (RFC 4647 section 3.3) as `filter_lent` does it, over languages that are handed in.
+/// Filtering (RFC 4647 section 3.3) as `filter_lent` does it, over a slice of languages.
 pub fn filter(
     alloc: Global,
     list: &PriorityList,
     scheme: Scheme,
     langs: &[Lang],
 ) -> Result<Picks, NegoFault>
-    ensures { MatchResult result (IsFiltered scheme list.now langs.now) (λ fault. fault ≡ NoMemory) }
+    ensures { MatchResult result (IsFiltered scheme list.now langs.now)
+        (λ fault. (fault ≡ NoMemory) × HasPick scheme list.now langs.now) }
 {
-    let lent = lent_of(alloc, langs)?;
-    filter_lent(alloc, list, scheme, &lent)
+    filter_by(alloc, list, scheme, langs)
 }

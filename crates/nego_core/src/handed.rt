@@ -9,7 +9,7 @@ use crate::holds::Holds;
 use crate::priority_list::PriorityList;
 use lang_core::Lang;
 
-/// Languages that are handed in.
+/// Languages in a slice.
 #[derive(Clone, Copy)]
 struct Handed<'a> {
     langs: &'a [Lang],
@@ -40,7 +40,7 @@ fn held_place(langs: &[Lang], text: &str) -> usize
     }
 }
 
-/// Lookup (RFC 4647 section 3.4) over languages that are handed in: as `choose`, with places in
+/// Lookup (RFC 4647 section 3.4) over a slice of languages: as `choose`, with places in
 /// place of texts. It takes no memory.
 pub fn lookup(list: &PriorityList, langs: &[Lang], default: Option<&Lang>) -> Found
     ensures { IsFound list.now langs.now (option_map (λ l. l.now) default.entry) result }

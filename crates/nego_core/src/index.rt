@@ -6,10 +6,10 @@ use crate::marks::marks_of;
 use crate::range_index::places_of;
 use std::alloc::{AllocError, Global};
 
-/// So many items are asked one after another faster than by an index.
+/// Up to this many items, a scan is faster than the index.
 const FEW: usize = 16;
 
-/// What makes a long list cheap to ask.
+/// What makes questions to a long list fast.
 #[derive(Drop)]
 pub struct Index {
     /// The places of the items in the order of their ranges' bytes.

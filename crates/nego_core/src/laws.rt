@@ -1,13 +1,14 @@
 //! Laws about the definitions alone: each function's contract is the law.
-ghost use Rattle.std.specs.Prelude.{◌≡◌, ◌≤◌, ◌↔◌, ℕ, List, Option, Some, Bool, All, Contains};
-ghost use Rattle.lang_core.specs.Text.{pieces};
+ghost use Rattle.std.specs.Prelude.{◌≡◌, ◌≢◌, ◌≤◌, ◌==◌, ◌↔◌, ℕ, List, Option, Some, None, Bool, IsTrue, All, AllPairs, Contains, IsPermutation, filter, map};
+ghost use Rattle.lang_core.specs.Text.{pieces, joined};
 ghost use Rattle.nego_core.specs.Item.{Item};
 ghost use Rattle.nego_core.specs.declared.scheme.Scheme.{Scheme};
 ghost use Rattle.nego_core.specs.Filtered.{IsFiltered, IsPicked};
-ghost use Rattle.nego_core.specs.Order.{IsOrder};
+ghost use Rattle.nego_core.specs.Order.{is_tried, IsOrder};
 ghost use Rattle.nego_core.specs.LookedUp.{IsLookedUp, candidates_of};
 ghost use Rattle.nego_core.specs.Handed.{IsFound};
-ghost use Rattle.nego_core.specs.Deciding.{Matches, IsDeciding, IsDecidedBy, NamedRefuse, named_items};
+ghost use Rattle.nego_core.specs.Deciding.{Matches, IsDeciding, IsDecidedBy, NamedRefuse, RefusesLang, named_items};
+ghost use Rattle.nego_core.specs.Unweighted.{AllPositive, AllUnweighted, IsMatchedAt, IsFirstHeld};
 ghost use Rattle.nego_core.specs.declared.scheme.Scheme.TheVariants as scheme;
 ghost use Rattle.nego_core.specs.Field.{IsField, IsFirstMalformed, IsOfOneKind};
 ghost use Rattle.nego_core.specs.declared.field_kind.FieldKind.{FieldKind};
@@ -29,17 +30,43 @@ pub fn named_refuse_alone()
     ensures { (items : List Item) (tag : List (List ℕ)) → NamedRefuse items tag ↔ ((place : ℕ) × IsDecidedBy scheme.Basic (named_items items) tag place 0) }
 {}
 
+/// Where no weight is 0, no tag and no language is refused.
+pub fn nothing_refused()
+    ensures tags { (items : List Item) (tag : List (List ℕ))
+        → AllPositive items → ¬ NamedRefuse items tag }
+    ensures langs { (scheme : Scheme) (items : List Item) (lang : List ℕ)
+        → AllPositive items → ¬ RefusesLang scheme items lang }
+{}
+
 /// Lookup finds one text, or none (RFC 4647 section 3.4).
 pub fn one_lookup()
     ensures { (items : List Item) (held : List ℕ → Bool) (a b : Option (List (List ℕ))) → IsLookedUp items held a → IsLookedUp items held b → a ≡ b }
 {}
 
-/// What lookup finds is the lookup text of an item's range, or a truncation of it.
+/// What lookup finds is the lookup text of the range of an item that it tries, or a truncation of
+/// it; it is held, and the items other than "*" do not refuse it. Where lookup finds nothing there
+/// is no such text.
 pub fn found_is_a_candidate()
-    ensures { (items : List Item) (held : List ℕ → Bool) (found : List (List ℕ)) → IsLookedUp items held (Some found) → (item : Item) × Contains items item × Contains (candidates_of item) found }
+    ensures candidate { (items : List Item) (held : List ℕ → Bool) (found : List (List ℕ))
+        → IsLookedUp items held (Some found)
+        → (item : Item) × Contains items item × Contains (candidates_of item) found × IsTrue (is_tried item) }
+    ensures open { (items : List Item) (held : List ℕ → Bool) (found : List (List ℕ))
+        → IsLookedUp items held (Some found)
+        → IsTrue (held (joined found)) × ¬ NamedRefuse items found }
+    ensures none { (items : List Item) (held : List ℕ → Bool) (item : Item) (candidate : List (List ℕ))
+        → IsLookedUp items held None → Contains items item → IsTrue (is_tried item)
+        → Contains (candidates_of item) candidate
+        → ¬ (IsTrue (held (joined candidate)) × ¬ NamedRefuse items candidate) }
 {}
 
-/// Lookup among languages that are handed in has one answer.
+/// By a list without weights lookup finds the first text that is held, of the ranges other than
+/// "*" as written, each through its truncations (RFC 4647 section 3.4).
+pub fn unweighted_lookup()
+    ensures { (items : List Item) (held : List ℕ → Bool) (found : Option (List (List ℕ)))
+        → AllUnweighted items → IsLookedUp items held found ↔ IsFirstHeld items held found }
+{}
+
+/// Lookup over a slice of languages has one answer.
 pub fn one_found()
     ensures { (items : List Item) (langs : List (List ℕ)) (default : Option (List ℕ)) (a b : Found) → IsFound items langs default a → IsFound items langs default b → a ≡ b }
 {}
@@ -55,14 +82,49 @@ pub fn filtered_has_each()
     ensures { (scheme : Scheme) (items : List Item) (langs : List (List ℕ)) (picks : List Pick) → All (λ i. i.weight ≤ 1000) items → IsFiltered scheme items langs picks → (pick : Pick) → Contains picks pick ↔ IsPicked scheme items langs pick }
 {}
 
+/// No place is picked twice.
+pub fn picks_differ()
+    ensures { (scheme : Scheme) (items : List Item) (langs : List (List ℕ)) (picks : List Pick)
+        → IsFiltered scheme items langs picks → AllPairs (λ p q. p.place ≢ q.place) picks }
+{}
+
+/// By a list without a weight 0 filtering gives all tags that some range of the list matches
+/// (RFC 4647 section 3.3).
+pub fn unweighted_filtering()
+    ensures { (scheme : Scheme) (items : List Item) (langs : List (List ℕ)) (picks : List Pick)
+        → AllPositive items → IsFiltered scheme items langs picks
+        → (place : ℕ) → Contains (map (λ p. p.place) picks) place ↔ IsMatchedAt scheme items langs place }
+{}
+
 /// There is one order of a list's items.
 pub fn one_order()
     ensures { (items a b : List Item) → IsOrder items a → IsOrder items b → a ≡ b }
 {}
 
+/// The order has each item that lookup tries, as often as the list has it.
+pub fn order_has_each_once()
+    ensures { (items ordered : List Item)
+        → IsOrder items ordered → IsPermutation (filter is_tried items) ordered }
+{}
+
+/// The order falls by weight, and the items of one weight stand in it as written.
+pub fn order_falls()
+    ensures falls { (items ordered : List Item) → All (λ i. i.weight ≤ 1000) items
+        → IsOrder items ordered → AllPairs (λ i j. j.weight ≤ i.weight) ordered }
+    ensures written { (items ordered : List Item) → IsOrder items ordered → (weight : ℕ)
+        → filter (λ i. i.weight == weight) ordered
+        ≡ filter (λ i. i.weight == weight) (filter is_tried items) }
+{}
+
 /// A field with a malformed element gives no items.
 pub fn malformed_is_no_field()
     ensures { (kind : FieldKind) (bytes : List ℕ) (offset : ℕ) (items : List Item) → IsFirstMalformed kind bytes offset → ¬ IsField kind bytes items }
+{}
+
+/// The first malformed element of a field begins at one offset.
+pub fn one_malformed_offset()
+    ensures { (kind : FieldKind) (bytes : List ℕ) (a b : ℕ)
+        → IsFirstMalformed kind bytes a → IsFirstMalformed kind bytes b → a ≡ b }
 {}
 
 /// A tag has one deciding item.

@@ -1,5 +1,25 @@
 //! Language negotiation: priority lists (RFC 9110 section 12.5.4, RFC 4647 section 2.3), filtering
 //! (RFC 4647 section 3.3) and lookup (RFC 4647 section 3.4).
+//!
+//! - [`PriorityList`] is what a reader asks for: ranges with weights, read from an Accept-Language
+//!   field or from a list of extended ranges.
+//! - [`filter`] gives all languages of a slice that the list asks for, best first.
+//! - [`lookup`] gives the one that fits best, or a default; [`choose`] does so over any set that
+//!   tells whether it holds a text ([`Holds`]).
+//! - [`NegoFault`] says why a field is refused, and where.
+//!
+//! A field is read whole or refused. Of several ranges that match a tag the one with the most
+//! subtags other than "*" decides, and weight 0 refuses. Questions allocate nothing but the list of
+//! a filter.
+//!
+//! ```text
+//! let list = PriorityList::from_accept(alloc, b"da, en-GB;q=0.8, en;q=0.7")?;
+//! let langs = [Lang::parse(alloc, b"de")?, Lang::parse(alloc, b"en")?];
+//! lookup(&list, &langs, None)                        Found::Matched(1)
+//! filter(alloc, &list, Scheme::Basic, &langs)?       en, weight 700
+//! ```
+//!
+//! The laws of these definitions stand in [`laws`].
 #![tactic(auto)]
 
 mod best;
@@ -45,6 +65,3 @@ pub use pick::Pick;
 pub use picks::Picks;
 pub use priority_list::PriorityList;
 pub use scheme::Scheme;
-
-#[cfg(test)]
-mod tests;

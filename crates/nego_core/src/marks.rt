@@ -58,7 +58,7 @@ pub fn marked_by(tag: &Tag) -> [bool; 256]
     marked
 }
 
-/// Whether the mark is set; no mark is always set.
+/// Whether the range may match: it has no mark, or the tag has its mark too.
 pub fn is_marked(marked: &[bool; 256], mark: Option<u8>) -> bool
     ensures { result ≡ is_marked marked.now mark }
 {

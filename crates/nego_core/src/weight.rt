@@ -50,7 +50,7 @@ pub fn read_weight(text: &[u8]) -> Option<u16>
     }
 }
 
-/// The same where no weight may stand.
+/// Reads the end of an element that may have no weight.
 pub fn read_no_weight(text: &[u8]) -> Option<u16>
     ensures only { IsTheOne result (IsTail IsNoWeight text.now) }
     ensures small { IfSome result (λ n. n ≤ 1000) }

@@ -1,4 +1,4 @@
-use Rattle.std.proofs.Common.{◌≡◌, sym, ◌∙◌, ap, subst}
+use Rattle.std.proofs.Common.{◌≡◌, inr, sym, ◌∙◌, ap, subst}
 use Rattle.cata_core.specs.Entries.{Entries, Agree, joined, Between, catalogue_laws}
 use Rattle.cata_core.specs.Sites.{SiteState}
 use Rattle.cata_core.proofs.JoinTurns.{agrees_with_join, joined_to_join, between_join}
@@ -42,3 +42,6 @@ returns-in-Err-clause-left_second c =
       name = c.join.ensures.name;
       cells = between_join b c.join.new.self.cells a agree (subst (Between c.args.second.now.cells c.join.new.self.cells) both c.in-Err.ensures.err);
     }
+
+pub returns-in-Err-clause-one_by_one : goal.returns-in-Err-clause-one_by_one
+returns-in-Err-clause-one_by_one c = inr (ap (λ (s : SiteState). s.cells) c.in_ok-merge.ensures.ok ∙ ap (joined c.args.first.now.cells) c.catalogue.ensures)

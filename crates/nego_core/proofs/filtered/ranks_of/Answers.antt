@@ -1,10 +1,24 @@
-use Rattle.nego_core.proofs.FilteredKeys.{key_next, none_next, lent_within, lent_at}
-use Rattle.nego_core.specs.Filtered.{lent}
+use Rattle.std.specs.Prelude.{map}
+use Rattle.nego_core.specs.Filtered.{AreKeys, HasPick, key_of}
+use Rattle.nego_core.proofs.FilteredKeys.{key_next, none_next, text_within, text_at}
+use Rattle.nego_core.proofs.FilteredSome.{pick_given, refused}
 use Rattle.nego_core.proofs.filtered.ranks_of.Goals as goal
 use Rattle.nego_core.proofs.filtered.ranks_of.Goals.{in-Some+in_ok-push-in-Some, in-None}
 
+pub returns-in_err-push-in-Some : goal.returns-in_err-push-in-Some
+returns-in_err-push-in-Some g c =
+    let text = g.L.AsLang.text in
+    let langs = c.args.langs.now in
+    refused (λ ranks. AreKeys c.args.scheme c.args.list.now 0 (map text langs) (map key_of ranks.items)) (HasPick c.args.scheme c.args.list.now (map text langs)) c.from_residual.result c.from_residual.ensures.0
+    (pick_given c.args.scheme c.args.list.now text langs c.loop-place.place c.index-langs-place.result (key_of c.in-Some.rank) c.loop-place-test.true c.index-langs-place.is (rw c.as_lang.ensures at c.in-Some.ensures))
+
 pub loop-place-preserved : goal.loop-place-preserved
-loop-place-preserved c = elim c.match-rank_of.branch [
-  | in-Some+in_ok-push-in-Some w ↦ rw (w.ranks-is, w.in_ok-push-in-Some.ensures.items) (key_next _ _ (lent c.args.langs.now) _ _ _ _ (lent_within c.args.langs.now _ c.loop-place-test.true) (lent_at c.args.langs.now _ c.index-langs-place.result c.loop-place-test.true c.index-langs-place.is) c.loop-place.invariant w.in-Some.ensures)
-  | in-None w ↦ rw w.ranks-is (none_next _ _ (lent c.args.langs.now) _ _ _ (lent_within c.args.langs.now _ c.loop-place-test.true) (lent_at c.args.langs.now _ c.index-langs-place.result c.loop-place-test.true c.index-langs-place.is) c.loop-place.invariant w.in-None.ensures)
-]
+loop-place-preserved g c =
+    let text = g.L.AsLang.text in
+    let langs = c.args.langs.now in
+    let within = text_within text langs c.loop-place.place c.loop-place-test.true in
+    let here = text_at text langs c.loop-place.place c.index-langs-place.result c.loop-place-test.true c.index-langs-place.is in
+    elim c.match-rank_of.branch [
+      | in-Some+in_ok-push-in-Some w ↦ rw (w.ranks-is, w.in_ok-push-in-Some.ensures.items) (key_next _ _ (map text langs) _ _ _ _ within here c.loop-place.invariant (rw c.as_lang.ensures at w.in-Some.ensures))
+      | in-None w ↦ rw w.ranks-is (none_next _ _ (map text langs) _ _ _ within here c.loop-place.invariant (rw c.as_lang.ensures at w.in-None.ensures))
+    ]

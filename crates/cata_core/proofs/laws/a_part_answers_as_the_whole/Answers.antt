@@ -1,0 +1,8 @@
+use Rattle.cata_core.proofs.Parts.{part_filters, part_looks_up}
+use Rattle.cata_core.proofs.laws.a_part_answers_as_the_whole.Goals as goal
+
+pub returns-clause-filter : goal.returns-clause-filter
+returns-clause-filter c = part_filters
+
+pub returns-clause-lookup : goal.returns-clause-lookup
+returns-clause-lookup c = part_looks_up

@@ -1,0 +1,144 @@
+//! Priority lists over the live labels of a message.
+
+use super::makers::{catalogue, default, id, list};
+use super::shown;
+use super::words::gives;
+use cata_core::{Catalogue, Labels};
+use nego_core::Scheme;
+use std::alloc::Global;
+use std::test::Fail;
+
+/// A message with a label without language, one in English, one in French, and none left in German.
+fn greetings(alloc: Global) -> Result<Catalogue, Fail> {
+    catalogue(
+        alloc,
+        "m fr 1 1 2 Bonjour; m en 1 1 1 Hello; m @none 1 1 0 x; m de 1 1 3 -",
+    )
+}
+
+/// The labels that are left, between blanks.
+fn listed(alloc: Global, labels: Labels) -> Result<String, Fail> {
+    let mut text = String::new(alloc);
+    for (lang, label) in labels {
+        let shown = format!(in alloc; "{} {};", lang.as_str(), shown::text_of(label))?;
+        text.push_str(&shown)?;
+    }
+    Ok(text)
+}
+
+#[test]
+fn live_labels_are_in_order(rt: HostRuntime) -> Result<(), Fail> {
+    let alloc = rt.alloc();
+    let catalogue = greetings(alloc)?;
+    gives(
+        listed(alloc, catalogue.labels(&id(alloc, "m")?)),
+        "@none x;en Hello;fr Bonjour;",
+    )
+}
+
+#[test]
+fn an_unknown_message_has_no_labels(rt: HostRuntime) -> Result<(), Fail> {
+    let alloc = rt.alloc();
+    let catalogue = greetings(alloc)?;
+    gives(listed(alloc, catalogue.labels(&id(alloc, "z")?)), "")
+}
+
+/// What a list takes of a message, copied.
+fn filtered(alloc: Global, message: &str, scheme: Scheme, field: &str) -> Result<String, Fail> {
+    let catalogue = greetings(alloc)?;
+    let list = list(alloc, scheme, field)?;
+    let lent = catalogue.ask_filter(alloc, &id(alloc, message)?, &list, scheme)?;
+    let entries = lent.copy(alloc)?;
+    Ok(shown::entries(alloc, &entries)?)
+}
+
+#[test]
+fn a_filter_answers_by_weight(rt: HostRuntime) -> Result<(), Fail> {
+    gives(
+        filtered(rt.alloc(), "m", Scheme::Basic, "fr;q=0.5, en"),
+        "filter; en Hello 1000; fr Bonjour 500",
+    )
+}
+
+#[test]
+fn a_filter_of_an_unknown_message_is_empty(rt: HostRuntime) -> Result<(), Fail> {
+    gives(
+        filtered(rt.alloc(), "z", Scheme::Basic, "fr;q=0.5, en"),
+        "filter",
+    )
+}
+
+#[test]
+fn a_filter_by_extended_ranges(rt: HostRuntime) -> Result<(), Fail> {
+    gives(
+        filtered(rt.alloc(), "m", Scheme::Extended, "fr-*, en"),
+        "filter; fr Bonjour 1000; en Hello 1000",
+    )
+}
+
+/// The language and weight at a place of what a list takes of a message, as it is lent.
+fn lent_at(alloc: Global, field: &str, place: usize) -> Result<String, Fail> {
+    let catalogue = greetings(alloc)?;
+    let list = list(alloc, Scheme::Basic, field)?;
+    let lent = catalogue.ask_filter(alloc, &id(alloc, "m")?, &list, Scheme::Basic)?;
+    match lent.nth(place) {
+        Some((lang, _, weight)) => {
+            Ok(format!(in alloc; "{} {weight} of {}", lang.as_str(), lent.len())?)
+        }
+        None => Ok("none".to_string(alloc)?),
+    }
+}
+
+#[test]
+fn lent_entries_are_counted_from_0(rt: HostRuntime) -> Result<(), Fail> {
+    gives(lent_at(rt.alloc(), "fr;q=0.5, en", 1), "fr 500 of 2")
+}
+
+/// What a list looks up in a message, copied.
+fn found(alloc: Global, held: &Catalogue, field: &str, tag: &str) -> Result<String, Fail> {
+    let list = list(alloc, Scheme::Basic, field)?;
+    let default = default(alloc, tag)?;
+    let lent = held.ask_lookup(&id(alloc, "m")?, &list, default.as_ref());
+    let reply = lent.copy(alloc)?;
+    Ok(shown::reply(alloc, &reply)?)
+}
+
+fn looked_up(alloc: Global, field: &str, tag: &str) -> Result<String, Fail> {
+    let held = greetings(alloc)?;
+    found(alloc, &held, field, tag)
+}
+
+#[test]
+fn a_lookup_answers_the_default(rt: HostRuntime) -> Result<(), Fail> {
+    gives(looked_up(rt.alloc(), "de", "fr"), "default fr Bonjour")
+}
+
+#[test]
+fn a_lookup_finds_a_label(rt: HostRuntime) -> Result<(), Fail> {
+    gives(
+        looked_up(rt.alloc(), "de, en;q=0.5", "fr"),
+        "matched en Hello",
+    )
+}
+
+#[test]
+fn a_lookup_refuses_all(rt: HostRuntime) -> Result<(), Fail> {
+    gives(looked_up(rt.alloc(), "de, *;q=0", "fr"), "nothing")
+}
+
+#[test]
+fn a_deleted_default_is_nothing(rt: HostRuntime) -> Result<(), Fail> {
+    gives(looked_up(rt.alloc(), "de", "de"), "nothing")
+}
+
+#[test]
+fn a_lookup_without_default_is_nothing(rt: HostRuntime) -> Result<(), Fail> {
+    gives(looked_up(rt.alloc(), "de", "-"), "nothing")
+}
+
+#[test]
+fn a_message_without_live_labels_answers_nothing(rt: HostRuntime) -> Result<(), Fail> {
+    let alloc = rt.alloc();
+    let held = catalogue(alloc, "m en 1 1 0 -")?;
+    gives(found(alloc, &held, "en", "en"), "nothing")
+}

@@ -1,0 +1,185 @@
+//! Catalogues: what wins, where a key stands, and which clash is told.
+
+use super::makers::{catalogue, cell, edit, id, lang};
+use super::shown;
+use super::words::{Words, gives};
+use cata_core::{CataFault, Catalogue};
+use std::alloc::Global;
+use std::test::Fail;
+
+/// What stands in a catalogue after these edits.
+fn applied(alloc: Global, edits: &str) -> Result<String, Fail> {
+    Ok(shown::cells(alloc, &catalogue(alloc, edits)?)?)
+}
+
+/// How one more edit ends, and what then stands there.
+fn applying(alloc: Global, held: &str, coming: &str) -> Result<String, Fail> {
+    let mut own = catalogue(alloc, held)?;
+    let coming = edit(alloc, coming)?;
+    shown_end(alloc, own.apply(alloc, &coming), &own)
+}
+
+/// How a merge ends, and what then stands in the first.
+fn merged(alloc: Global, own: &str, other: &str) -> Result<String, Fail> {
+    let mut own = catalogue(alloc, own)?;
+    let other = catalogue(alloc, other)?;
+    shown_end(alloc, own.merge(alloc, &other), &own)
+}
+
+fn shown_end(
+    alloc: Global,
+    ended: Result<(), CataFault>,
+    left: &Catalogue,
+) -> Result<String, Fail> {
+    let outcome = shown::outcome(alloc, &ended)?;
+    let cells = shown::cells(alloc, left)?;
+    Ok(format!(in alloc; "{outcome}: {cells}")?)
+}
+
+#[test]
+fn a_later_deletion_stays(rt: HostRuntime) -> Result<(), Fail> {
+    gives(
+        applied(rt.alloc(), "m en 9 1 0 -; m en 5 2 0 x"),
+        "m en 9 0000000001 0 -",
+    )
+}
+
+#[test]
+fn keys_rise_by_id_then_language(rt: HostRuntime) -> Result<(), Fail> {
+    let edits = "n en 1 1 0 a; m fr 1 1 0 b; m @none 1 1 0 c; m de 1 1 0 -; M en 1 1 0 d";
+    gives(
+        applied(rt.alloc(), edits),
+        "M en 1 0000000001 0 d; m @none 1 0000000001 0 c; m de 1 0000000001 0 -; m fr 1 0000000001 0 b; n en 1 0000000001 0 a",
+    )
+}
+
+/// The message and language at a place.
+fn key_at(alloc: Global, held: &str, place: u128) -> Result<String, Fail> {
+    let catalogue = catalogue(alloc, held)?;
+    match catalogue.nth(place) {
+        Some((id, lang, _)) => Ok(format!(in alloc; "{} {}", id.as_str(), lang.as_str())?),
+        None => Ok("none".to_string(alloc)?),
+    }
+}
+
+#[test]
+fn the_first_place_is_without_language(rt: HostRuntime) -> Result<(), Fail> {
+    gives(
+        key_at(rt.alloc(), "n en 1 1 0 a; m fr 1 1 0 b; m @none 1 1 0 c", 0),
+        "m @none",
+    )
+}
+
+#[test]
+fn places_go_on_over_messages(rt: HostRuntime) -> Result<(), Fail> {
+    gives(
+        key_at(rt.alloc(), "n en 1 1 0 a; m fr 1 1 0 b; m @none 1 1 0 c", 2),
+        "n en",
+    )
+}
+
+#[test]
+fn no_key_stands_behind_the_last(rt: HostRuntime) -> Result<(), Fail> {
+    gives(
+        key_at(rt.alloc(), "n en 1 1 0 a; m fr 1 1 0 b; m @none 1 1 0 c", 3),
+        "none",
+    )
+}
+
+fn lengths(alloc: Global, held: &str) -> Result<String, Fail> {
+    let held = catalogue(alloc, held)?;
+    Ok(format!(in alloc; "{} in {}", held.len(), held.map().len())?)
+}
+
+#[test]
+fn lengths_count_cells_and_messages(rt: HostRuntime) -> Result<(), Fail> {
+    gives(
+        lengths(rt.alloc(), "n en 1 1 0 a; m fr 1 1 0 b; m @none 1 1 0 -"),
+        "3 in 2",
+    )
+}
+
+/// The cell of a message in a language.
+fn cell_at(alloc: Global, held: &str, message: &str, tag: &str) -> Result<String, Fail> {
+    let catalogue = catalogue(alloc, held)?;
+    match catalogue.cell(&id(alloc, message)?, &lang(alloc, tag)?) {
+        Some(cell) => Ok(shown::cell(alloc, cell)?),
+        None => Ok("none".to_string(alloc)?),
+    }
+}
+
+#[test]
+fn a_cell_is_found_by_its_language(rt: HostRuntime) -> Result<(), Fail> {
+    gives(
+        cell_at(rt.alloc(), "m en 1 1 0 a; m fr 2 1 0 b", "m", "fr"),
+        "2 0000000001 0 b",
+    )
+}
+
+#[test]
+fn no_cell_is_found_in_another_language(rt: HostRuntime) -> Result<(), Fail> {
+    gives(
+        cell_at(rt.alloc(), "m en 1 1 0 a; n fr 2 1 0 b", "m", "fr"),
+        "none",
+    )
+}
+
+#[test]
+fn an_equal_cell_is_no_clash(rt: HostRuntime) -> Result<(), Fail> {
+    gives(
+        applying(rt.alloc(), "m en 4 1 0 x", "m en 4 1 0 x"),
+        "done: m en 4 0000000001 0 x",
+    )
+}
+
+#[test]
+fn a_deletion_clashes_with_a_label(rt: HostRuntime) -> Result<(), Fail> {
+    gives(
+        applying(rt.alloc(), "a en 1 1 0 x; b en 4 1 0 x", "b en 4 1 0 -"),
+        "13 stamp 4 0000000001 0 used twice, cell 1: a en 1 0000000001 0 x; b en 4 0000000001 0 x",
+    )
+}
+
+#[test]
+fn the_least_clash_is_told(rt: HostRuntime) -> Result<(), Fail> {
+    let other = "b en 4 1 0 y; b de 3 1 0 y; c en 1 1 0 y";
+    let merged = merged(
+        rt.alloc(),
+        "a en 1 1 0 x; b de 3 1 0 x; b en 4 1 0 x",
+        other,
+    );
+    gives(
+        merged,
+        "13 stamp 3 0000000001 0 used twice, cell 1: a en 1 0000000001 0 x; b de 3 0000000001 0 x; b en 4 0000000001 0 x",
+    )
+}
+
+/// A catalogue of one edit that is put behind all others.
+fn pushed(alloc: Global) -> Result<Catalogue, Fail> {
+    let mut catalogue = Catalogue::new(alloc);
+    let cell = cell(alloc, &mut Words::new("5 1 0 a"))?;
+    catalogue.push(alloc, id(alloc, "m")?, lang(alloc, "en")?, cell)?;
+    Ok(catalogue)
+}
+
+#[test]
+fn a_pushed_cell_is_held(rt: HostRuntime) -> Result<(), Fail> {
+    let alloc = rt.alloc();
+    let catalogue = pushed(alloc)?;
+    gives(
+        Ok(shown::cells(alloc, &catalogue)?),
+        "m en 5 0000000001 0 a",
+    )
+}
+
+#[test]
+fn merging_keeps_both(rt: HostRuntime) -> Result<(), Fail> {
+    gives(
+        merged(
+            rt.alloc(),
+            "m en 1 1 0 a; m fr 1 1 1 b",
+            "m en 2 1 0 -; z en 3 1 0 c",
+        ),
+        "done: m en 2 0000000001 0 -; m fr 1 0000000001 1 b; z en 3 0000000001 0 c",
+    )
+}

@@ -1,0 +1,5 @@
+use Rattle.nego_core.proofs.FieldLaws.{one_malformed}
+use Rattle.nego_core.proofs.laws.one_malformed_offset.Goals as goal
+
+pub returns : goal.returns
+returns c = one_malformed

@@ -1,0 +1,98 @@
+//! Lists of more than 16 items, which are asked by an index. What is expected follows from the
+//! definitions, as for short lists.
+use crate::tests::deciding::decides;
+use crate::tests::filtering::picks;
+use crate::tests::looking_up::finds;
+use crate::tests::reading::{accept, columns, ranges};
+use nego_core::Scheme;
+use std::test::Fail;
+
+/// 22 items: doubles at 1 and 18, and at 4 and 5; weight 0 at 3, 5, 12, 18 and 21; "*" at 16.
+const FIELD: &str =
+    "de, de-CH, fr;q=0.9, en-GB;q=0, en;q=0.8, en;q=0, zh-Hant, zh, es-419;q=0.5, es;q=0.5, pt-BR, pt, it;q=0, ja, ko, ru, *;q=0.1, sr-Latn, de-CH;q=0, zh-Hant-TW;q=0.3, nl-BE;q=0.6, nl;q=0";
+
+/// 19 items: doubles at 1 and 18; "*" at 10.
+const RANGES: &str =
+    "de-*-CH, de-*-DE, *-Latn, sr-*, zh-*-CN, fr-*-FR, en-GB, en-*-x-*-a, *-419, es, *, pt-*, ja, ko, ru, it, sv, *-CH, de-*-DE";
+
+/// Tags of the field and what decides them under both schemes.
+const DECIDED: &str =
+    "de-AT|0 1000\nde-CH-1996|1 1000\nen-GB-oed|3 0\nen-US|4 800\nzh-Hant-TW|19 300
+zh-Hant-HK|6 1000\nzh-Latn|7 1000\nit-CH|12 0\nsv|16 100\nes-419|8 500\nsr-Cyrl|16 100
+sr-Latn-RS|17 1000\nden|16 100\nnl-BE|20 600\nnl-NL|21 0\nx-de|16 100\ni-klingon|16 100";
+
+#[test]
+fn decided_by_basic(rt: HostRuntime) -> Result<(), Fail> {
+    let list = accept(&rt, FIELD)?;
+    decides(&rt, &list, Scheme::Basic, DECIDED)?;
+    decides(
+        &rt,
+        &list,
+        Scheme::Basic,
+        "de-Latn-CH|0 1000\nen-Latn-GB|4 800",
+    )
+}
+
+#[test]
+fn decided_by_extended(rt: HostRuntime) -> Result<(), Fail> {
+    let list = accept(&rt, FIELD)?;
+    decides(&rt, &list, Scheme::Extended, DECIDED)?;
+    decides(
+        &rt,
+        &list,
+        Scheme::Extended,
+        "de-Latn-CH|1 1000\nen-Latn-GB|3 0",
+    )
+}
+
+#[test]
+fn decided_among_ranges(rt: HostRuntime) -> Result<(), Fail> {
+    let list = ranges(&rt, RANGES)?;
+    decides(
+        &rt,
+        &list,
+        Scheme::Extended,
+        "de-Latn-DE|1 1000\nsr-Latn-RS|2 1000\nsr-Cyrl|3 1000\nde-CH|0 1000\nfr-CH|17 1000
+es-419|8 1000\nzh-Hans-CN|4 1000\nnl|10 1000\nen-GB-x-a|7 1000\nen-a-bbb-x-a|10 1000
+fr-Latn-FR-1990|5 1000",
+    )?;
+    decides(
+        &rt,
+        &list,
+        Scheme::Basic,
+        "de-DE|10 1000\nes-419|9 1000\nen-GB|6 1000\nja-JP|12 1000\nsr|10 1000",
+    )
+}
+
+#[test]
+fn filtered(rt: HostRuntime) -> Result<(), Fail> {
+    picks(
+        &rt,
+        &accept(&rt, FIELD)?,
+        Scheme::Basic,
+        "de-AT en-GB en-US @none sv zh-Hant-TW de-CH it es-419 es",
+        "0;1000 6;1000 2;800 8;500 9;500 5;300 4;100",
+    )?;
+    picks(
+        &rt,
+        &ranges(&rt, RANGES)?,
+        Scheme::Extended,
+        "es-419 sr-Latn de-DE nl",
+        "2;1000 1;1000 0;1000 3;1000",
+    )
+}
+
+/// Rows of `LANGUAGES|DEFAULT|ANSWER`.
+const FOUND: &str =
+    "es en||Matched(1)\nsr de-CH||Matched(1)\nzh-Hant-TW zh||Matched(1)\nen-GB es||Matched(1)
+nl sv|sv|Default(1)\nnl||Nothing\nit|it|Nothing\nsv||Nothing";
+
+#[test]
+fn looked_up(rt: HostRuntime) -> Result<(), Fail> {
+    let list = accept(&rt, FIELD)?;
+    for row in FOUND.lines() {
+        let (texts, default, expected, _) = columns(row);
+        finds(&rt, &list, texts, default, expected)?;
+    }
+    finds(&rt, &ranges(&rt, RANGES)?, "nl fr en", "", "Matched(1)")
+}

@@ -1,0 +1,126 @@
+"""Completes lines in real shells, those of bash, zsh and fish that are installed.
+
+It is run by scripts/completions-check. A script stands for lexicat, which writes its arguments and
+its input into a file. A line is typed, then a tab and the end of the line, and the file shows what
+was completed.
+"""
+import os
+import pty
+import re
+import select
+import shutil
+import sys
+import tempfile
+import time
+
+ROOT = os.path.dirname(os.path.dirname(os.path.abspath(__file__)))
+
+# What is typed before the tab, and what lexicat then gets, as a pattern: its arguments and input.
+LINES = [
+    ("lexicat sta", "args:status input:"),
+    ("lexicat pick --sch", "args:pick --scheme=? input:"),
+    ("lexicat lookup --d", "args:lookup --default=? input:"),
+    ("lexicat pick --scheme e", "args:pick --scheme extended input:"),
+    ("lexicat pick --scheme=b", "args:pick --scheme=basic input:"),
+    ("lexicat status < zz", "args:status input:held"),
+    ("lexicat status <zz", "args:status input:held"),
+    ("lexicat export > zz", "args:export input:"),
+]
+
+SETUP = {
+    "bash": (
+        ["bash", "--norc", "--noprofile", "-i"],
+        ["PS1=; bind 'set enable-bracketed-paste off'",
+         f". {ROOT}/completions/lexicat.bash"],
+    ),
+    "zsh": (
+        ["zsh", "-f", "-i"],
+        ["unset zle_bracketed_paste; PS1=; setopt no_prompt_sp clobber",
+         f"fpath=({ROOT}/completions $fpath); autoload -Uz compinit; compinit -u -D"],
+    ),
+    "fish": (
+        ["fish", "--no-config", "-i"],
+        ["function fish_prompt; end", f"source {ROOT}/completions/lexicat.fish"],
+    ),
+}
+
+
+LEXICAT = """#!/bin/sh
+if [ -t 0 ]; then held=; else held=$(cat); fi
+echo "args:$* input:$held" >> "$SAID"
+"""
+
+
+def drain(terminal, seconds):
+    """Reads what the shell prints, until it is silent for a while."""
+    printed = b""
+    while select.select([terminal], [], [], seconds)[0]:
+        try:
+            printed += os.read(terminal, 65536)
+        except OSError:
+            break
+        if b"\x1b[c" in printed[-64:] or b"\x1b[0c" in printed[-64:]:
+            os.write(terminal, b"\x1b[?6c")  # a terminal that is asked what it is
+    return printed
+
+
+def said_by(shell):
+    """What lexicat got at each line."""
+    room = tempfile.mkdtemp()
+    said = os.path.join(room, "said")
+    os.mkdir(os.path.join(room, "bin"))
+    with open(os.path.join(room, "bin", "lexicat"), "w", encoding="utf-8") as file:
+        file.write(LEXICAT)
+    os.chmod(os.path.join(room, "bin", "lexicat"), 0o755)
+    command, setup = SETUP[shell]
+    process, terminal = pty.fork()
+    if process == 0:
+        os.chdir(room)
+        os.environ.update(HOME=room, TERM="dumb", LC_ALL="C.UTF-8", SAID=said)
+        os.environ.update(ZDOTDIR=room, XDG_CONFIG_HOME=room)
+        os.environ["PATH"] = os.path.join(room, "bin") + ":" + os.environ["PATH"]
+        os.execvp(command[0], command)
+    try:
+        drain(terminal, 1.0)
+        for line in setup:
+            os.write(terminal, line.encode() + b"\n")
+            drain(terminal, 0.3)
+        got = []
+        for typed, _ in LINES:
+            with open(os.path.join(room, "zz_file.json"), "w", encoding="utf-8") as file:
+                file.write("held")
+            open(said, "w", encoding="utf-8").close()
+            os.write(terminal, typed.encode() + b"\t")
+            drain(terminal, 0.5)
+            os.write(terminal, b"\n")
+            end = time.monotonic() + 10
+            while time.monotonic() < end and os.path.getsize(said) == 0:
+                drain(terminal, 0.05)
+            with open(said, encoding="utf-8") as file:
+                got.append(re.sub(r"\s+", " ", file.read()).strip())
+            os.write(terminal, b"\x15")
+            if typed.endswith("> zz"):
+                files = sorted(name for name in os.listdir(room) if name.startswith("zz"))
+                if files != ["zz_file.json"]:
+                    got[-1] = f"wrote {' '.join(files)}"
+        return got
+    finally:
+        os.close(terminal)
+        os.kill(process, 9)
+        os.waitpid(process, 0)
+        shutil.rmtree(room, ignore_errors=True)
+
+
+faults, tried = 0, []
+for shell in SETUP:
+    if shutil.which(shell) is None:
+        continue
+    tried.append(shell)
+    for (typed, wanted), got in zip(LINES, said_by(shell)):
+        if not re.fullmatch(wanted, got):
+            told = f"{shell}: {typed!r} and a tab: {got!r}, wanted {wanted!r}"
+            print(f"completions-check: {told}", file=sys.stderr)
+            faults += 1
+if faults:
+    sys.exit(1)
+print(f"completions-check: {len(LINES)} lines completed in {', '.join(tried)}")
