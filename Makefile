@@ -1,6 +1,6 @@
 # `make` builds the proved command, `make demo` shows it, `make test` is the whole gate.
 # Needed: make and the Rattle kit (`rt`, which brings python3); for `make bench` also cargo,
-# valgrind and GNU time.
+# valgrind and GNU time; for `make dist` git, strip, objdump and dpkg-deb.
 SHELL := bash
 RT ?= rt
 PREFIX ?= /usr/local
@@ -9,7 +9,7 @@ SOURCES := crates.txt $(shell find crates \
 	\( -name out -o -name '*_tests' -o -name 'example_*' -o -name bench \) -prune \
 	-o -type f \( -name '*.rt' -o -name '*.antt' \) -print)
 
-.PHONY: all demo test test-alone check-docs bench bench-documents install uninstall clean
+.PHONY: all demo test test-alone check-docs bench bench-documents install uninstall dist clean
 
 all: build/lexicat
 
@@ -65,6 +65,10 @@ uninstall:
 	rm -f "$(SHARE)/man/man1/lexicat.1" "$(SHARE)/man/man5/lexicat-formats.5"
 	rm -f "$(SHARE)/bash-completion/completions/lexicat" "$(SHARE)/zsh/site-functions/_lexicat"
 	rm -f "$(SHARE)/fish/vendor_completions.d/lexicat.fish"
+
+# A tarball and a Debian package for those who have no Rattle kit, in build/dist.
+dist:
+	RT='$(RT)' scripts/dist
 
 # What the docs name and show: names and links, and the examples run with the command.
 check-docs: build/lexicat
