@@ -49,6 +49,7 @@ fn every(rt: &impl Abort, alloc: Global, first: u64, step: u64, count: u64, time
 /// The walk meets just the keys from the first one on in steps, and finds each.
 fn assert_every(rt: &impl Abort, map: &Numbers, first: u64, step: u64, count: u64) {
     assert_eq!(rt; map.len() as u64, count);
+    assert_eq!(rt; map.iter().count() as u64, count);
     for ((key, value), place) in map.iter().zip(0..count) {
         assert_eq!(rt; *key, nth_key(first, step, place));
         assert_eq!(rt; map.get(key), Some(value));

@@ -24,6 +24,8 @@ fn two(rt: &impl Abort, alloc: Global) -> Keyed<Lang, Cell> {
 /// The two have the same languages with the same cells.
 fn assert_same(rt: &impl Abort, a: &Keyed<Lang, Cell>, b: &Keyed<Lang, Cell>) {
     assert_eq!(rt; a.len(), b.len());
+    assert_eq!(rt; a.iter().count(), a.len());
+    assert_eq!(rt; b.iter().count(), b.len());
     for (mine, theirs) in a.iter().zip(b.iter()) {
         assert!(rt; mine.0 == theirs.0 && mine.1 == theirs.1);
     }
