@@ -2,7 +2,7 @@
 
 _lexicat() {
     local word=${COMP_WORDS[COMP_CWORD]} before=${COMP_WORDS[COMP_CWORD-1]} command='' i
-    local commands='pick new put delete status import export filter lookup summary delta take sync replay'
+    local commands='pick new put delete status import update export missing filter lookup bundle summary delta take sync replay'
     COMPREPLY=()
     # Bash cuts words at "=": `--scheme=b` comes as three.
     if [[ $word == '=' ]]; then
@@ -25,13 +25,16 @@ _lexicat() {
     local options
     case $command in
         '') options="$commands --help --version -h -V" ;;
-        pick) options='--scheme --help -h' ;;
+        pick) options='--scheme --lenient --default --help -h' ;;
         new) options='--site --help -h' ;;
         put) options='--now --id --lang --help -h' ;;
         delete) options='--now --id --lang --help -h' ;;
-        import) options='--now --help -h' ;;
-        filter) options='--id --scheme --help -h' ;;
-        lookup) options='--id --scheme --default --help -h' ;;
+        import | update) options='--now --help -h' ;;
+        missing) options='--lang --help -h' ;;
+        filter) options='--id --scheme --lenient --help -h' ;;
+        lookup) options='--id --scheme --lenient --default --help -h' ;;
+        bundle) options='--scheme --lenient --default --help -h' ;;
+        help) options=$commands ;;
         status | export | summary | delta | take | sync | replay) options='--help -h' ;;
         *) return ;;
     esac

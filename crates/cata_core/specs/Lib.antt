@@ -18,6 +18,8 @@ pub mod LentEntries
 pub mod Live
 pub mod LiveIn
 pub mod LiveLeft
+pub mod LiveMessages
+pub mod MessagesLeft
 pub mod Migration
 pub mod Nested
 pub mod OldSteps

@@ -1,7 +1,8 @@
 //! The answers of a run.
 
-ghost use Rattle.std.specs.Prelude.{◌≡◌, length, slice_get, IfOk};
+ghost use Rattle.std.specs.Prelude.{◌≡◌, length, slice_get, IfOk, IsTrue, ◌↔◌, []};
 ghost use Rattle.std.specs.Option.{option_copied};
+ghost use Rattle.std.specs.Slice.Iter.{iter_rest};
 
 use crate::catalogue::Catalogue;
 use crate::edit::Edit;
@@ -10,6 +11,7 @@ use crate::reply::Reply;
 use cell_core::{Join, Key};
 use std::alloc::{AllocError, Global};
 use std::marker::Model;
+use std::slice;
 
 /// A list of edits.
 #[derive(Debug, Drop)]
@@ -45,11 +47,25 @@ impl Edits {
         self.edits.len()
     }
 
+    /// Whether there is none.
+    pub fn is_empty(&self) -> bool
+        ensures empty { IsTrue result ↔ (self.now ≡ []) }
+    {
+        self.edits.is_empty()
+    }
+
     /// The edit at a place, from 0; none from `len` on.
     pub fn nth(&self, place: usize) -> Option<&Edit>
         ensures { option_copied result ≡ slice_get self.now place }
     {
         self.edits.get(place)
+    }
+
+    /// All of them, in order.
+    pub fn iter(&self) -> slice::Iter<'_, Edit>
+        ensures { iter_rest result ≡ self.now }
+    {
+        self.edits.iter()
     }
 }
 
@@ -94,10 +110,24 @@ impl Answers {
         self.answers.len()
     }
 
+    /// Whether there is none.
+    pub fn is_empty(&self) -> bool
+        ensures empty { IsTrue result ↔ (self.now ≡ []) }
+    {
+        self.answers.is_empty()
+    }
+
     /// The answer at a place, from 0; none from `len` on.
     pub fn nth(&self, place: usize) -> Option<&Answer>
         ensures { option_copied result ≡ slice_get self.now place }
     {
         self.answers.get(place)
+    }
+
+    /// All of them, in order.
+    pub fn iter(&self) -> slice::Iter<'_, Answer>
+        ensures { iter_rest result ≡ self.now }
+    {
+        self.answers.iter()
     }
 }

@@ -1,7 +1,9 @@
 //! What a catalogue answers to a priority list.
 
-ghost use Rattle.std.specs.Prelude.{◌≡◌, IfOk};
+ghost use Rattle.std.specs.Prelude.{◌≡◌, ℕ, List, IfOk};
 ghost use Rattle.std.specs.Option.{option_map};
+ghost use Rattle.cell_core.specs.Maps.{IsMap};
+ghost use Rattle.cata_core.specs.Entries.{text_cmp};
 ghost use Rattle.cata_core.specs.Live.{live, languages};
 ghost use Rattle.nego_core.specs.Filtered.{lent};
 ghost use Rattle.cata_core.specs.LiveLeft.{labels_left};
@@ -9,15 +11,18 @@ ghost use Rattle.cata_core.specs.LiveIn.{live_in};
 ghost use Rattle.cata_core.specs.LentEntries.{labelled_of};
 ghost use Rattle.cata_core.specs.LentAnswers.{reply_of};
 ghost use Rattle.cata_core.specs.Asking.{IsFilterAnswer, IsLookupAnswer};
+ghost use Rattle.cata_core.specs.LiveMessages.{AreMessages};
+ghost use Rattle.cata_core.specs.MessagesLeft.{messages_left};
 
 use crate::catalogue::Catalogue;
 use crate::entries::{LentEntries, pick_all};
 use crate::labels::Labels;
 use crate::live::Live;
+use crate::messages::Messages;
 use crate::reply::LentReply;
 use cell_core::{Label, MessageId};
 use lang_core::Lang;
-use nego_core::{Choice, PriorityList, Scheme, choose, filter_lent};
+use nego_core::{PriorityList, Scheme, filter_lent};
 use std::alloc::{AllocError, Global};
 
 impl Catalogue {
@@ -28,7 +33,18 @@ impl Catalogue {
         Labels::new(self.map().get(id))
     }
 
-    /// The same, as a set.
+    /// The messages that have a live label, each once, in rising order of the ids' bytes. What has
+    /// cells without labels alone is left out.
+    ///
+    /// It takes no memory, and goes once over the messages and their cells.
+    pub fn messages(&self) -> Messages<'_>
+        ensures messages { AreMessages self.now (messages_left result) }
+        ensures languages { (id : List ℕ) → IsMap text_cmp (live self.now id) }
+    {
+        Messages::new(self.map())
+    }
+
+    /// The live labels of a message, as a set.
     fn live(&self, id: &MessageId) -> Live<'_>
         ensures { live_in result ≡ live self.now id.now }
     {
@@ -66,21 +82,7 @@ impl Catalogue {
     ) -> LentReply<'a>
         ensures { IsLookupAnswer self.now id.now list.now (option_map (λ l. l.now) default.entry) (reply_of result) }
     {
-        let live = self.live(id);
-        match choose(list, &live, default) {
-            Choice::Matched(text) => match live.label(text) {
-                Some((lang, label)) => LentReply::Matched(lang, label),
-                None => LentReply::Nothing,
-            },
-            Choice::Default => match default {
-                Some(default) => match live.label(default.as_str()) {
-                    Some((lang, label)) => LentReply::Default(lang, label),
-                    None => LentReply::Nothing,
-                },
-                None => LentReply::Nothing,
-            },
-            Choice::Nothing => LentReply::Nothing,
-        }
+        self.live(id).look_up(list, default)
     }
 }
 

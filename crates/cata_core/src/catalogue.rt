@@ -1,6 +1,6 @@
 //! Catalogues: cells by message and language.
 
-ghost use Rattle.std.specs.Prelude.{◌≡◌, ◌+◌, [], ◌∷◌, ◌++◌, None, length, slice_get, OnOk, OnErr, IfOk, IfErr, IfSome, IsOk};
+ghost use Rattle.std.specs.Prelude.{◌≡◌, ◌+◌, [], ◌∷◌, ◌++◌, None, length, slice_get, OnOk, OnErr, IfOk, IfErr, IfSome, IsOk, IsTrue, ◌↔◌};
 ghost use Rattle.std.specs.Option.{option_map, option_copied, is_none};
 ghost use Rattle.std.specs.Ordering.{is_lt};
 ghost use Rattle.std.specs.FinMap.Entries.{find, put};
@@ -86,6 +86,13 @@ impl Catalogue {
         ensures sorted { IsMap key_cmp self.now }
     {
         self.len
+    }
+
+    /// Whether there is no cell.
+    pub fn is_empty(&self) -> bool
+        ensures empty { IsTrue result ↔ (self.now ≡ []) }
+    {
+        self.len == 0
     }
 
     /// The cell at a place in rising order of key, from 0, with its message and language; none from
@@ -219,7 +226,18 @@ impl Catalogue {
         count
     }
 
-    /// Puts a cell behind all that are there; its key has to be greater than theirs.
+    /// Whether the key is greater than all that are there, as [`Catalogue::push`] asks.
+    pub fn is_above_all(&self, id: &MessageId, lang: &Lang) -> bool
+        ensures { IsTrue result ↔ IsAboveAll (id.now, lang.now) self.now }
+    {
+        match walk::last(&self.map) {
+            Some((last, held, _)) => last.cmp(id).then(held.cmp(lang)).is_lt(),
+            None => true,
+        }
+    }
+
+    /// Puts a cell behind all that are there; its key has to be greater than theirs
+    /// ([`Catalogue::is_above_all`]).
     ///
     /// What is passed in is not copied. When memory runs out (26) it is dropped, and the catalogue
     /// is unchanged.

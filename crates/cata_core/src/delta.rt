@@ -43,6 +43,13 @@ impl Delta {
     {
         &self.cells
     }
+
+    /// The cells, for which the delta is given up.
+    pub fn into_cells(self) -> Catalogue
+        ensures { result ≡ self.cells }
+    {
+        self.cells
+    }
 }
 
 /// The cells whose key the summary lacks or has with an older stamp.

@@ -1,14 +1,16 @@
 //! Answers of filters.
 
-ghost use Rattle.std.specs.Prelude.{◌≡◌, length, slice_get, IfOk};
+ghost use Rattle.std.specs.Prelude.{◌≡◌, length, slice_get, IfOk, IsTrue, ◌↔◌, []};
 ghost use Rattle.cata_core.specs.Asking.{picked, with_weight};
-ghost use Rattle.cata_core.specs.LentEntries.{lent_weighed, labelled_of};
+ghost use Rattle.std.specs.Slice.Iter.{iter_rest};
+ghost use Rattle.cata_core.specs.LentEntries.{lent_weighed, labelled_of, weighed_of};
 
 use cell_core::Label;
 use lang_core::Lang;
 use nego_core::{Pick, Picks};
 use std::alloc::{AllocError, Global};
 use std::marker::Model;
+use std::slice;
 
 /// The answer of a filter, lent from the catalogue: languages with their labels and weights, in
 /// order.
@@ -34,6 +36,13 @@ impl<'a> LentEntries<'a> {
         self.lent.len()
     }
 
+    /// Whether there is none.
+    pub fn is_empty(&self) -> bool
+        ensures empty { IsTrue result ↔ (self.now ≡ []) }
+    {
+        self.lent.is_empty()
+    }
+
     /// The language, the label and the weight in thousandths at a place, from 0; none from `len`
     /// on.
     pub fn nth(&self, place: usize) -> Option<(&'a Lang, &'a Label, u16)>
@@ -43,6 +52,13 @@ impl<'a> LentEntries<'a> {
             Some(item) => Some((item.0, item.1, item.2)),
             None => None,
         }
+    }
+
+    /// All of them, in order.
+    pub fn iter(&self) -> slice::Iter<'_, (&'a Lang, &'a Label, u16)>
+        ensures { weighed_of (iter_rest result) ≡ self.now }
+    {
+        self.lent.iter()
     }
 
     /// The list, copied.
@@ -79,6 +95,13 @@ impl Entries {
         self.items.len()
     }
 
+    /// Whether there is none.
+    pub fn is_empty(&self) -> bool
+        ensures empty { IsTrue result ↔ (self.now ≡ []) }
+    {
+        self.items.is_empty()
+    }
+
     /// The language, the label and the weight in thousandths at a place, from 0; none from `len`
     /// on.
     pub fn nth(&self, place: usize) -> Option<(&Lang, &Label, u16)>
@@ -88,6 +111,13 @@ impl Entries {
             Some(item) => Some((&item.0, &item.1, item.2)),
             None => None,
         }
+    }
+
+    /// All of them, in order.
+    pub fn iter(&self) -> slice::Iter<'_, (Lang, Label, u16)>
+        ensures { iter_rest result ≡ self.now }
+    {
+        self.items.iter()
     }
 }
 

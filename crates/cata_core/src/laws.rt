@@ -1,13 +1,13 @@
 //! Laws over the definitions alone: each function's contract is one, for all values that it names.
 
-ghost use Rattle.std.specs.Prelude.{◌≡◌, ◌≢◌, ◌↔◌, ◌⊎◌, ◌<◌, [], ◌∷◌, ◌++◌, ℕ, List, Bool, IsTrue, Contains, Option, Some, IsSome, length};
+ghost use Rattle.std.specs.Prelude.{◌≡◌, ◌≢◌, ◌↔◌, ◌⊎◌, ◌<◌, [], ◌∷◌, ◌++◌, ℕ, List, Bool, IsTrue, Contains, Option, Some, None, IsSome, length};
 ghost use Rattle.std.specs.FinMap.Entries.{find, put};
 ghost use Rattle.cell_core.specs.declared.cell.Cell.{Cell};
 ghost use Rattle.cell_core.specs.Joins.{JoinLaws};
 ghost use Rattle.cell_core.specs.Stamps.{IsAbove};
 ghost use Rattle.cell_core.specs.Maps.{IsMap, IsJoinedWith, joined_if_both};
 ghost use Rattle.cell_core.specs.Cells.{joined_stamps, joined_cells};
-ghost use Rattle.cata_core.specs.Entries.{EntryKey, Entry, Entries, key_cmp, Agree, Between, joined, IsBelowCells};
+ghost use Rattle.cata_core.specs.Entries.{EntryKey, Entry, Entries, text_cmp, key_cmp, Agree, Between, joined, IsBelowCells};
 ghost use Rattle.cata_core.specs.Last.{last_of, IsLast};
 ghost use Rattle.cata_core.specs.Flat.{flat};
 ghost use Rattle.cata_core.specs.Nested.{AgreeNested, IsCatalogue, Nested, joined_nested};
@@ -21,7 +21,9 @@ ghost use Rattle.nego_core.specs.Item.{Item};
 ghost use Rattle.nego_core.specs.declared.scheme.Scheme.{Scheme};
 ghost use Rattle.cata_core.specs.declared.answer.Answer.{Answer};
 ghost use Rattle.cata_core.specs.declared.reply.Reply.{Reply};
-ghost use Rattle.cata_core.specs.Asking.{Weighed, IsFilterAnswer, IsLookupAnswer};
+ghost use Rattle.cata_core.specs.Live.{Labelled};
+ghost use Rattle.cata_core.specs.LiveMessages.{LiveMessage, AreMessages};
+ghost use Rattle.cata_core.specs.Asking.{Weighed, IsFilterAnswer, IsLookedUpOf, IsLookupAnswer};
 ghost use Rattle.cata_core.specs.Answers.{cells_answer, AreHeldAnswers, AreAnswers};
 ghost use Rattle.cata_core.specs.Alike.{AnswerAlike};
 ghost use Rattle.cata_core.specs.Faulty.{IsNoDeliver, NoDelivers, NoneFaulty, Clashes, Unsettles};
@@ -157,6 +159,20 @@ pub fn one_filter_answer()
 pub fn one_lookup_answer()
     ensures { (cells : Entries) (id : List ℕ) (items : List Item) (default : Option (List ℕ)) (a b : Reply)
         → IsLookupAnswer cells id items default a → IsLookupAnswer cells id items default b → a ≡ b }
+{}
+
+/// A catalogue has one list of the messages that have live labels.
+pub fn one_list_of_messages()
+    ensures { (cells : Entries) (a b : List LiveMessage) → AreMessages cells a → AreMessages cells b → a ≡ b }
+{}
+
+/// A message that has live labels answers a lookup as its catalogue does; a lookup over any other
+/// message answers nothing.
+pub fn messages_answer_as_the_catalogue()
+    ensures held { (cells : Entries) (messages : List LiveMessage) → AreMessages cells messages → (id : List ℕ) (labels : Labelled) → find text_cmp id messages ≡ Some labels
+        → (items : List Item) (default : Option (List ℕ)) (reply : Reply) → IsLookedUpOf labels items default reply ↔ IsLookupAnswer cells id items default reply }
+    ensures absent { (cells : Entries) (messages : List LiveMessage) → AreMessages cells messages → (id : List ℕ) → find text_cmp id messages ≡ None
+        → (items : List Item) (default : Option (List ℕ)) (reply : Reply) → IsLookupAnswer cells id items default reply → reply ≡ Reply.Nothing }
 {}
 
 /// The steps of a run have one list of answers by what the sites hold, and one by what they took.

@@ -1,7 +1,8 @@
 //! The catalogue, its sites and deltas, and runs of them.
 //!
 //! - [`Catalogue`] maps messages and languages to cells, and keeps of each key the edit with the
-//!   greatest stamp. [`Catalogue::ask_lookup`] and [`Catalogue::ask_filter`] answer a reader.
+//!   greatest stamp. [`Catalogue::ask_lookup`] and [`Catalogue::ask_filter`] answer a reader, and
+//!   [`Catalogue::messages`] lends each [`Message`] that has a live label.
 //! - [`Site`] is a catalogue with a name: it puts and deletes labels under stamps of its own.
 //! - Sites exchange cells whole by [`sync`], or by a [`Summary`] of what one has and the [`Delta`]
 //!   of what it lacks, which may come late, again, or out of order.
@@ -33,6 +34,7 @@ mod labels;
 mod last;
 pub mod laws;
 mod live;
+mod messages;
 mod play_fault;
 mod reply;
 mod runs;
@@ -52,6 +54,7 @@ pub use delta::Delta;
 pub use edit::Edit;
 pub use entries::{Entries, LentEntries};
 pub use labels::Labels;
+pub use messages::{Message, Messages};
 pub use play_fault::PlayFault;
 pub use reply::{LentReply, Reply};
 pub use runs::play;

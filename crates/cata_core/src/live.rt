@@ -7,9 +7,10 @@ ghost use Rattle.cata_core.specs.Entries.{text_cmp};
 ghost use Rattle.cata_core.specs.Live.{live_of};
 ghost use Rattle.cata_core.specs.Lent.{lent_pair, with_key};
 
+use crate::reply::LentReply;
 use cell_core::{Cell, Keyed, Label};
 use lang_core::Lang;
-use nego_core::Holds;
+use nego_core::{Choice, Holds, PriorityList, choose};
 use std::cmp::Ordering;
 
 /// The live labels of a message, which a lookup searches by their languages' texts.
@@ -19,8 +20,10 @@ pub(crate) struct Live<'a> {
 }
 
 impl<'a> Live<'a> {
-    ghost use Rattle.std.specs.Option.{option_copied};
+    ghost use Rattle.std.specs.Option.{option_copied, option_map};
+    ghost use Rattle.cata_core.specs.Asking.{IsLookedUpOf};
     ghost use Rattle.cata_core.specs.Flat.{inner_of};
+    ghost use Rattle.cata_core.specs.LentAnswers.{reply_of};
     ghost use Rattle.cata_core.specs.LiveIn.{live_in};
 
     pub(crate) fn new(cells: Option<&'a Keyed<Lang, Cell>>) -> Live<'a>
@@ -36,6 +39,27 @@ impl<'a> Live<'a> {
         match self.cells {
             Some(cells) => label_in(cells, text),
             None => None,
+        }
+    }
+
+    /// The live label that the list looks up (RFC 4647, section 3.4), or that of the default, or
+    /// nothing.
+    pub(crate) fn look_up(&self, list: &PriorityList, default: Option<&Lang>) -> LentReply<'a>
+        ensures { IsLookedUpOf (live_in self.now) list.now (option_map (λ l. l.now) default.entry) (reply_of result) }
+    {
+        match choose(list, self, default) {
+            Choice::Matched(text) => match self.label(text) {
+                Some((lang, label)) => LentReply::Matched(lang, label),
+                None => LentReply::Nothing,
+            },
+            Choice::Default => match default {
+                Some(default) => match self.label(default.as_str()) {
+                    Some((lang, label)) => LentReply::Default(lang, label),
+                    None => LentReply::Nothing,
+                },
+                None => LentReply::Nothing,
+            },
+            Choice::Nothing => LentReply::Nothing,
         }
     }
 }

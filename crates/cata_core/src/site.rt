@@ -1,16 +1,18 @@
 //! Sites: catalogues with a name, which edit, tell and take.
 
-ghost use Rattle.std.specs.Prelude.{◌≡◌, [], OnOk, OnErr, IfOk, IfErr, MatchResult, Some, None};
+ghost use Rattle.std.specs.Prelude.{◌≡◌, [], ◌∷◌, OnOk, OnErr, IfOk, IfErr, IsOk, MatchResult, Some, None};
 ghost use Rattle.std.specs.FinMap.Entries.{put};
 ghost use Rattle.cell_core.specs.Stamps.{IsNext, IsAbove};
 ghost use Rattle.cata_core.specs.CataFaults.{IsRefusal, IsLeft};
 ghost use Rattle.cata_core.specs.Deltas.{summary_of, delta_of};
 ghost use Rattle.cata_core.specs.Entries.{key_cmp, Agree, joined, Between};
 ghost use Rattle.cata_core.specs.Last.{last_of, IsLast};
+ghost use Rattle.cata_core.specs.Settled.{IsSettledIn};
 
 use crate::cata_fault::CataFault;
 use crate::catalogue::Catalogue;
 use crate::delta::{Delta, news};
+use crate::edit::Edit;
 use crate::last::{greater, greatest};
 use crate::summary::Summary;
 use cell_core::{Cell, Label, MessageId, SiteName, Stamp};
@@ -79,6 +81,13 @@ impl Site {
         &self.catalogue
     }
 
+    /// Its catalogue, for which the site is given up.
+    pub fn into_catalogue(self) -> Catalogue
+        ensures { result ≡ self.cells }
+    {
+        self.catalogue
+    }
+
     /// The greatest stamp of its cells, deletions among them; none where it has no cell.
     ///
     /// A key keeps its greatest stamp, so this is the greatest stamp that the site ever took in.
@@ -137,6 +146,23 @@ impl Site {
         }
     }
 
+    /// Joins the one cell of an edit, whose stamp may name any site. An edit that is not newer than
+    /// the held cell takes no memory.
+    ///
+    /// Refused, and then unchanged, by [`CataFault::StampReused`] (13) as [`Catalogue::apply`] is,
+    /// and by [`CataFault::NoMemory`] (26).
+    pub fn apply(&mut self, alloc: Global, edit: &Edit) -> Result<(), CataFault>
+        ensures ok { OnOk result (self.new ≡ record { name = self.old.name; cells = joined self.old.cells (edit.now ∷ []) }) }
+        ensures agree { OnOk result (Agree self.old.cells (edit.now ∷ [])) }
+        ensures err { OnErr result (self.new ≡ self.old) }
+        ensures fault { IfErr result (IsRefusal self.old.cells (edit.now ∷ [])) }
+        ensures settled { IsSettledIn self.old.cells edit.now → IsOk result }
+    {
+        self.catalogue.apply(alloc, edit)?;
+        self.greatest = greater(self.greatest, Some(edit.cell().stamp()));
+        Ok(())
+    }
+
     /// The stamps of its cells, with its name as owner.
     pub fn summary(&self, alloc: Global) -> Result<Summary, AllocError>
         ensures { IfOk result (λ summary. summary ≡ record { owner = self.now.name; stamps = summary_of self.now.cells }) }
@@ -170,11 +196,25 @@ impl Site {
         if self.own_name != addressee {
             return Err(CataFault::NotForMe { addressee });
         }
-        self.merge(alloc, delta.cells(), greatest(delta.cells()))
+        self.merge(alloc, delta.cells())
+    }
+
+    /// Joins the cells of the catalogue: its own becomes the least upper bound of both.
+    ///
+    /// Refused, and then unchanged, by [`CataFault::StampReused`] (13) as [`Catalogue::merge`] is.
+    /// After [`CataFault::NoMemory`] (26) each key has its old cell, or none as before, or that of
+    /// the join, so that a repeat gives the join.
+    pub fn merge(&mut self, alloc: Global, other: &Catalogue) -> Result<(), CataFault>
+        ensures ok { OnOk result (self.new ≡ record { name = self.old.name; cells = joined self.old.cells other.now }) }
+        ensures agree { OnOk result (Agree self.old.cells other.now) }
+        ensures fault { IfErr result (IsRefusal self.old.cells other.now) }
+        ensures left { IfErr result (IsLeftSite self.old self.new other.now) }
+    {
+        self.merge_with(alloc, other, greatest(other))
     }
 
     /// Joins the cells of the catalogue, whose greatest stamp is this.
-    pub(crate) fn merge(
+    pub(crate) fn merge_with(
         &mut self,
         alloc: Global,
         other: &Catalogue,

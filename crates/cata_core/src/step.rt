@@ -7,7 +7,7 @@ use nego_core::{PriorityList, Scheme};
 
 /// What happens at a site, or between two. Sites are named by place, told summaries and posts by
 /// number, all from 0.
-#[derive(Drop)]
+#[derive(Debug, Drop)]
 pub enum Step {
     /// The site applies the edit. The name in the edit's stamp need not be that of the site.
     Edit {

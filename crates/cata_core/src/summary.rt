@@ -1,6 +1,6 @@
 //! Summaries: the stamps of a site's cells.
 
-ghost use Rattle.std.specs.Prelude.{◌≡◌, ◌++◌, ◌∷◌, [], IfOk, OnOk, OnErr, Some, length, slice_get};
+ghost use Rattle.std.specs.Prelude.{◌≡◌, ◌++◌, ◌∷◌, [], IfOk, OnOk, OnErr, IsTrue, ◌↔◌, Some, length, slice_get};
 ghost use Rattle.std.specs.Option.{option_map};
 ghost use Rattle.cell_core.specs.Maps.{IsMap};
 ghost use Rattle.cata_core.specs.Deltas.{summary_of};
@@ -91,6 +91,13 @@ impl Summary {
         self.told.len()
     }
 
+    /// Whether there is no key.
+    pub fn is_empty(&self) -> bool
+        ensures empty { IsTrue result ↔ (self.now.stamps ≡ []) }
+    {
+        self.told.is_empty()
+    }
+
     /// The key and stamp at a place in rising order of key, from 0; none from `len` on.
     pub fn nth(&self, place: usize) -> Option<(&MessageId, &Lang, Stamp)>
         ensures { option_map (λ e. ((e.0.now, e.1.now), e.2)) result ≡ slice_get self.now.stamps place }
@@ -101,7 +108,18 @@ impl Summary {
         }
     }
 
-    /// Puts a key behind all that are there; it has to be greater than they are.
+    /// Whether the key is greater than all that are there, as [`Summary::push`] asks.
+    pub fn is_above_all(&self, id: &MessageId, lang: &Lang) -> bool
+        ensures { IsTrue result ↔ IsAboveAll (id.now, lang.now) self.now.stamps }
+    {
+        match self.told.last() {
+            Some(last) => last.compare(id, lang).is_lt(),
+            None => true,
+        }
+    }
+
+    /// Puts a key behind all that are there; it has to be greater than they are
+    /// ([`Summary::is_above_all`]).
     ///
     /// When memory runs out (26) the summary is unchanged, and what was passed in is dropped.
     pub fn push(&mut self, id: MessageId, lang: Lang, stamp: Stamp) -> Result<(), AllocError>

@@ -24,7 +24,7 @@ pub fn sync(alloc: Global, first: &mut Site, second: &mut Site) -> Result<(), Ca
     ensures left_second { IfErr result (IsLeftSite second.old second.new first.old.cells) }
     ensures one_by_one { OnErr result ((second.new ≡ second.old) ⊎ (first.new.cells ≡ joined first.old.cells second.old.cells)) }
 {
-    first.merge(alloc, second.catalogue(), second.last())?;
+    first.merge_with(alloc, second.catalogue(), second.last())?;
     match second.join(alloc, first.catalogue(), first.last()) {
         Ok(()) => Ok(()),
         Err(_) => Err(CataFault::NoMemory),

@@ -1,6 +1,6 @@
 //! Walks over maps of maps.
 
-ghost use Rattle.std.specs.Prelude.{◌≡◌, length, slice_get};
+ghost use Rattle.std.specs.Prelude.{◌≡◌, ◌-◌, length, slice_get};
 ghost use Rattle.std.specs.Option.{option_map};
 ghost use Rattle.cell_core.specs.Places.{place_of};
 ghost use Rattle.cata_core.specs.Flat.{flat};
@@ -75,4 +75,14 @@ pub fn entry(
         left -= count;
     }
     None
+}
+
+/// The last cell, with its keys.
+pub fn last(map: &Keyed<MessageId, Keyed<Lang, Cell>>) -> Option<(&MessageId, &Lang, &Cell)>
+    requires { IsCatalogue map.now }
+    ensures { option_map (λ e. ((e.0.now, e.1.now), e.2.now)) result ≡ slice_get (flat map.now) (length (flat map.now) - 1) }
+{
+    let (id, cells) = map.nth(map.len().saturating_sub(1))?;
+    let (lang, cell) = cells.nth(cells.len().saturating_sub(1))?;
+    Some((id, lang, cell))
 }

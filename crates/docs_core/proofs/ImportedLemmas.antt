@@ -1,6 +1,6 @@
 -- One label more is put.
 use Rattle.std.proofs.Common.{◌≡◌, ℕ, List, ◌∷◌, refl, subst, inl, inr}
-use Rattle.std.specs.Prelude.{◌⊎◌}
+use Rattle.std.specs.Prelude.{◌⊎◌, Some}
 use Rattle.cell_core.specs.Stamps.{IsNext, NoNext}
 use Rattle.cell_core.specs.declared.stamp.Stamp.{Stamp}
 use Rattle.cata_core.specs.Entries.{Entries}
@@ -8,15 +8,16 @@ use Rattle.cata_core.specs.Last.{last_of}
 use Rattle.cata_core.specs.Sites.{RefusesEdit, SiteState}
 use Rattle.cata_core.specs.declared.cata_fault.CataFault.{CataFault}
 use Rattle.cata_core.specs.declared.cata_fault.CataFault.TheVariants.{ClockSpent, NoMemory, NotForMe, StampReused}
-use Rattle.docs_core.specs.Imported.{Imports, SpendsClock, with_label}
+use Rattle.docs_core.specs.Imported.{Imports, SpendsImport}
 use Rattle.docs_core.specs.LangMaps.{Labelled}
+use Rattle.docs_core.specs.Made.{with_change}
 
-module _ (now : ℕ) (name : List ℕ) (e : Labelled) (es : List Labelled) (old mid : Entries) (stamp : Stamp) (next : IsNext (last_of old) now name stamp) (is : mid ≡ with_label e stamp old) where
+module _ (now : ℕ) (name : List ℕ) (e : Labelled) (es : List Labelled) (old mid : Entries) (stamp : Stamp) (next : IsNext (last_of old) now name stamp) (is : mid ≡ with_change (e.0, Some e.1) stamp old) where
   pub Imports-next : (new : Entries) → Imports now name es mid new → Imports now name (e ∷ es) old new
   Imports-next new rest = (stamp, next, subst (λ (cells : Entries). Imports now name es cells new) is rest)
 
-  pub SpendsClock-next : SpendsClock now name es mid → SpendsClock now name (e ∷ es) old
-  SpendsClock-next rest = inr (stamp, next, subst (λ (cells : Entries). SpendsClock now name es cells) is rest)
+  pub SpendsImport-next : SpendsImport now name es mid → SpendsImport now name (e ∷ es) old
+  SpendsImport-next rest = inr (stamp, next, subst (λ (cells : Entries). SpendsImport now name es cells) is rest)
 
 -- why a label is not put
 pub not_put : (site : SiteState) (now : ℕ) (fault : CataFault) → RefusesEdit site now fault → (fault ≡ NoMemory) ⊎ ((fault ≡ ClockSpent) × NoNext (last_of site.cells) now site.name)

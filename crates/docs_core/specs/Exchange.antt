@@ -6,12 +6,11 @@ use Rattle.cata_core.specs.declared.cata_fault.CataFault.TheVariants.{ClockSpent
 use Rattle.docs_core.specs.Documents.{site_text}
 use Rattle.docs_core.specs.Exported.{live_labels}
 use Rattle.docs_core.specs.Faults.{of_no_document, of_site}
-use Rattle.docs_core.specs.Imported.{Imports, SpendsClock}
+use Rattle.docs_core.specs.Imported.{Imports, SpendsImport}
 use Rattle.docs_core.specs.LangMapLabels.{AreLangMaps, RefusesLangMaps}
+use Rattle.docs_core.specs.LangMapTexts.{IsTextOf}
 use Rattle.docs_core.specs.LangMaps.{Labelled}
-use Rattle.docs_core.specs.LangMapsValue.{langmaps_value}
 use Rattle.docs_core.specs.ReadsAs.{IsOfDocument, ReadsAsSite, RefusesSite}
-use Rattle.docs_core.specs.Texts.{text}
 use Rattle.docs_core.specs.declared.fault.DocFault.{DocFault}
 
 -- the site with each label of the language maps put at this time, in rising order of key
@@ -26,8 +25,8 @@ RefusesImport bytes now maps fault =
     IsOfDocument 1 (RefusesSite bytes) fault
     ⊎ ((site : SiteState) × ReadsAsSite bytes site × IsOfDocument 2 (RefusesLangMaps maps) fault)
     ⊎ ((site : SiteState) × (labels : List Labelled) × ReadsAsSite bytes site × AreLangMaps maps labels
-    × SpendsClock now site.name labels site.cells × (fault ≡ of_no_document (of_site ClockSpent)))
+    × SpendsImport now site.name labels site.cells × (fault ≡ of_no_document (of_site ClockSpent)))
 
 -- the language maps of the site's live labels
 abbrev pub IsExported : List ℕ → List ℕ → Type 0
-IsExported bytes doc = (site : SiteState) × ReadsAsSite bytes site × (doc ≡ text (langmaps_value (live_labels site.cells)))
+IsExported bytes doc = (site : SiteState) × ReadsAsSite bytes site × IsTextOf (live_labels site.cells) doc

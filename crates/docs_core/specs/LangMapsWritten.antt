@@ -1,7 +1,10 @@
 -- What a label adds to language maps that are being written.
-use Rattle.std.specs.Prelude.{ℕ, List, [], ◌∷◌, ◌++◌, Option, None, Some, if◌then◌else◌}
+use Rattle.std.specs.Prelude.{◌≡◌, ◌||◌, ℕ, List, [], ◌∷◌, ◌++◌, Option, None, Some, is_some, if◌then◌else◌}
 use Rattle.std.specs.Str.{bytes_eq}
 use Rattle.json.specs.Token.{Token, begin_object, end_object, key}
+use Rattle.json.specs.Written.{Written}
+use Rattle.docs_core.specs.LangMapLaws.{AreWritable}
+use Rattle.docs_core.specs.LangMapTexts.{has_label}
 use Rattle.docs_core.specs.LangMaps.{Labelled}
 use Rattle.docs_core.specs.LangMapsValue.{language_value}
 use Rattle.docs_core.specs.Texts.{value_tokens}
@@ -24,3 +27,10 @@ label_tokens e = key e.0.1 ∷ value_tokens (language_value e.1)
 abbrev pub labels_tokens : Option (List ℕ) → List Labelled → List Token
 labels_tokens current [] = closing_tokens current ++ end_object ∷ []
 labels_tokens current (e ∷ es) = opening_tokens current e.0.0 ++ (label_tokens e ++ labels_tokens (Some e.0.0) es)
+
+-- a draft in the current message: with what is left it comes to all labels
+pub record IsWriting (draft : Written) (current : Option (List ℕ)) (left all : List Labelled) : Type 0 where
+  pub before : draft.before ≡ []
+  pub tokens : draft.tokens ++ labels_tokens current left ≡ begin_object ∷ labels_tokens None all
+  pub writable : AreWritable left → AreWritable all
+  pub found : (is_some current || has_label left) ≡ has_label all

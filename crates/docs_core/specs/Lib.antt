@@ -1,7 +1,9 @@
 pub mod Arrays
 pub mod Asks
+pub mod Bundled
 pub mod Calls
 pub mod Checks
+pub mod Chosen
 pub mod Documents
 pub mod Drafts
 pub mod Entries
@@ -20,11 +22,15 @@ pub mod LangMapLaws
 pub mod LangMapMembers
 pub mod LangMapRows
 pub mod LangMapRowsSeen
+pub mod LangMapTexts
 pub mod LangMaps
 pub mod LangMapsValue
 pub mod LangMapsWritten
 pub mod Lines
+pub mod LooksUp
+pub mod Made
 pub mod MembersRead
+pub mod Missing
 pub mod Named
 pub mod Numbers
 pub mod OldRows
@@ -33,6 +39,7 @@ pub mod PartsSeen
 pub mod Reads
 pub mod ReadsAs
 pub mod Replays
+pub mod Revised
 pub mod Rising
 pub mod Rows
 pub mod RowsSeen
@@ -45,6 +52,7 @@ pub mod StepFields
 pub mod Steps
 pub mod StepsSeen
 pub mod Texts
+pub mod Updated
 pub mod Valid
 pub mod Values
 pub mod Written

@@ -5,10 +5,9 @@ use Rattle.nego_core.specs.Field.{IsField, RefusesField}
 use Rattle.nego_core.specs.Item.{Item}
 use Rattle.nego_core.specs.declared.fault.NegoFault.{NegoFault}
 use Rattle.nego_core.specs.declared.fault.NegoFault.TheVariants as nego
-use Rattle.nego_core.specs.declared.field_kind.FieldKind.{FieldKind}
-use Rattle.nego_core.specs.declared.field_kind.FieldKind.TheVariants.{Accept, Ranges}
+use Rattle.nego_core.specs.declared.malformed.Malformed.TheVariants.{Refused}
 use Rattle.nego_core.specs.declared.scheme.Scheme.{Scheme}
-use Rattle.nego_core.specs.declared.scheme.Scheme.TheVariants.{Basic, Extended}
+use Rattle.nego_core.specs.declared.scheme.Scheme.TheVariants.{Basic}
 use Rattle.cata_core.specs.declared.step.Step.{Step}
 use Rattle.cata_core.specs.declared.step.Step.TheVariants.{Edit, Merge, AskFilter, AskLookup, AskCells, Tell, Post, Deliver}
 use Rattle.serde_json.specs.Data.{Data}
@@ -22,18 +21,13 @@ use Rattle.docs_core.specs.declared.fault.Spot.TheVariants as spot
 
 -- ---- priority lists
 
--- basic filtering and lookup go by an Accept-Language field, extended filtering by extended ranges
-abbrev pub kind_of : Scheme → FieldKind
-kind_of Basic = Accept
-kind_of Extended = Ranges
-
--- the text is a field of this list
+-- the text is a field of this list, each element of it well-formed
 abbrev pub Lists : Scheme → List ℕ → List Item → Type 0
-Lists scheme text items = (length text ≤ 65535) × IsField (kind_of scheme) text items
+Lists scheme text items = (length text ≤ 65535) × IsField scheme Refused text items
 
 -- e says why the text in row k is no priority list
 abbrev pub IsListRefusal : ℕ → Scheme → List ℕ → DocCause → Type 0
-IsListRefusal k scheme text e = (fault : NegoFault) × (fault ≢ nego.NoMemory) × RefusesField (kind_of scheme) text fault × (e ≡ Field k (Priorities fault))
+IsListRefusal k scheme text e = (fault : NegoFault) × (fault ≢ nego.NoMemory) × RefusesField scheme Refused text fault × (e ≡ Field k (Priorities fault))
 
 abbrev pub list_check : ℕ → Scheme → List ℕ → Check
 list_check k scheme text = record { passes = (items : List Item) × Lists scheme text items; refuses = IsListRefusal k scheme text }

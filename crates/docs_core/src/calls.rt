@@ -38,8 +38,8 @@ pub fn edit_document(
     Ok(doc)
 }
 
-// Puts the label, or deletes it where there is none.
-fn edit(
+/// Puts the label, or deletes it where there is none.
+pub(crate) fn edit(
     alloc: Global,
     site: &mut Site,
     now: u64,

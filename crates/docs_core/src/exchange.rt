@@ -1,6 +1,7 @@
 //! Language maps put into the document of a site, and made of it.
 ghost use Rattle.std.specs.Prelude.{MatchResult};
 ghost use Rattle.docs_core.specs.Exchange.{IsExported, IsImported, RefusesImport};
+ghost use Rattle.docs_core.specs.Missing.{IsMissing};
 ghost use Rattle.docs_core.specs.ReadsAs.{IsOfDocument, RefusesSite};
 
 use crate::doc::Doc;
@@ -10,6 +11,7 @@ use crate::fault::DocFault;
 use crate::importing::put_labels;
 use crate::lang_maps_reading::langmaps_of_document;
 use crate::reading::site_at;
+use lang_core::Lang;
 use std::alloc::Global;
 
 /// The document of the site after each label of the language maps was put, in rising order of key,
@@ -41,6 +43,19 @@ pub fn export_document(alloc: Global, site: &[u8]) -> Result<Doc, DocFault>
     ensures { MatchResult result (IsExported site.now) (IsOfDocument 1 (RefusesSite site.now)) }
 {
     let site = site_at(alloc, 1, site)?;
-    let doc = write_live(alloc, site.catalogue())?;
-    Ok(doc)
+    let written = write_live(alloc, site.catalogue(), None)?;
+    Ok(written.0)
+}
+
+/// The language-map document of the messages that have a live label but none of just this language,
+/// each with all its live labels, and whether there is one. A deleted label is none, and `fr-ca` is
+/// not `fr`.
+///
+/// Refusals: a reader's with document 1. Out of memory (26) may come before.
+pub fn missing_document(alloc: Global, site: &[u8], lang: &Lang) -> Result<(Doc, bool), DocFault>
+    ensures { MatchResult result (λ answer. IsMissing site.now lang.now answer.0 answer.1) (IsOfDocument 1 (RefusesSite site.now)) }
+{
+    let site = site_at(alloc, 1, site)?;
+    let answer = write_live(alloc, site.catalogue(), Some(lang))?;
+    Ok(answer)
 }

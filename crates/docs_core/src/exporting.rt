@@ -1,38 +1,60 @@
 //! The live labels of a catalogue, written.
-ghost use Rattle.std.specs.Prelude.{◌≡◌, IfOk, None, OnOk};
-ghost use Rattle.docs_core.specs.Exported.{live_labels};
-ghost use Rattle.docs_core.specs.LangMapsValue.{langmaps_value};
-ghost use Rattle.docs_core.specs.LangMapsWritten.{labels_tokens};
-ghost use Rattle.docs_core.specs.Texts.{Adds, text};
+ghost use Rattle.std.specs.Prelude.{◌≡◌, IfOk, option_map};
+ghost use Rattle.std.specs.Option.{option_copied};
+ghost use Rattle.docs_core.specs.Chosen.{chosen_labels, is_chosen};
+ghost use Rattle.docs_core.specs.Exported.{label_at};
+ghost use Rattle.docs_core.specs.LangMapTexts.{AreWritten};
 
 use crate::doc::Doc;
-use crate::drafts::finish;
-use crate::lang_maps_writing::{close_labels, write_label};
+use crate::lang_maps_writing::{close_labels, open_labels, write_label};
 use cata_core::Catalogue;
-use cell_core::MessageId;
-use json::Writer;
+use cell_core::{Label, MessageId};
+use lang_core::Lang;
 use std::alloc::{AllocError, Global};
 
-/// The text of the language-map document of the live labels of a catalogue, lent from it.
-pub(crate) fn write_live(alloc: Global, catalogue: &Catalogue) -> Result<Doc, AllocError>
-    ensures { IfOk result (λ doc. doc ≡ text (langmaps_value (live_labels catalogue.now))) }
+/// The language-map document of live labels of a catalogue, lent from it, and whether there is one:
+/// of all messages, or of those alone that lack a language.
+pub(crate) fn write_live(
+    alloc: Global,
+    catalogue: &Catalogue,
+    lacking: Option<&Lang>,
+) -> Result<(Doc, bool), AllocError>
+    ensures { IfOk result (λ written. AreWritten (chosen_labels (option_map (λ l. l.now) lacking.entry) catalogue.now) written.0 written.1) }
 {
-    let mut draft = Writer::new(Vec::new(alloc));
-    draft.begin_object()?;
-    write_cells(&mut draft, catalogue)?;
-    finish(draft)
-}
-
-// Adds the live labels by their messages, and closes the outer object.
-fn write_cells(out: &mut Writer, catalogue: &Catalogue) -> Result<(), AllocError>
-    ensures { OnOk result (Adds out.old out.new (labels_tokens None (live_labels catalogue.now))) }
-{
+    let mut draft = open_labels(alloc)?;
     let mut current: Option<&MessageId> = None;
     'cells: for (id, lang, cell) in catalogue.iter() {
         if let Some(label) = cell.label() {
-            write_label(out, current, id, lang, label)?;
-            current = Some(id);
+            if is_chosen(catalogue, id, lacking) {
+                write_label(&mut draft, current, id, lang, label)?;
+                current = Some(id);
+            }
         }
     }
-    close_labels(out, current)
+    let doc = close_labels(draft, current)?;
+    Ok((doc, current.is_some()))
+}
+
+// Whether no language is asked for, or the message has no live label in it.
+fn is_chosen(catalogue: &Catalogue, id: &MessageId, lacking: Option<&Lang>) -> bool
+    ensures { result ≡ is_chosen (option_map (λ l. l.now) lacking.entry) catalogue.now id.now }
+{
+    match lacking {
+        Some(lang) => label_at(catalogue, id, lang).is_none(),
+        None => true,
+    }
+}
+
+/// The live label of a message in a language.
+pub(crate) fn label_at<'a>(
+    catalogue: &'a Catalogue,
+    id: &MessageId,
+    lang: &Lang,
+) -> Option<&'a Label>
+    ensures { option_copied result ≡ label_at (id.now, lang.now) catalogue.now }
+{
+    match catalogue.cell(id, lang) {
+        Some(cell) => cell.label(),
+        None => None,
+    }
 }

@@ -1,18 +1,21 @@
 //! Language maps written piece by piece into one buffer.
-ghost use Rattle.std.specs.Prelude.{◌≡◌, ◌∷◌, [], ◌++◌, List, ℕ, IfOk, OnOk, Some, option_map};
+ghost use Rattle.std.specs.Prelude.{◌≡◌, ◌∷◌, [], ◌++◌, List, IfOk, None, OnOk, option_map};
 ghost use Rattle.json.specs.Token.{begin_object, end_object, key};
 ghost use Rattle.cell_core.specs.Labels.{texts_of};
+ghost use Rattle.cell_core.specs.Maps.{IsMap};
 ghost use Rattle.cell_core.specs.MessageIds.{IsMessageId};
+ghost use Rattle.cata_core.specs.Entries.{key_cmp};
 ghost use Rattle.docs_core.specs.LangMapLabels.{AreLangMaps};
-ghost use Rattle.docs_core.specs.LangMapLaws.{AreWritable, IsWritable};
-ghost use Rattle.docs_core.specs.LangMaps.{labels_of};
+ghost use Rattle.docs_core.specs.LangMapLaws.{IsWritable};
+ghost use Rattle.docs_core.specs.LangMapTexts.{IsTextOf};
+ghost use Rattle.docs_core.specs.LangMaps.{Labelled};
 ghost use Rattle.docs_core.specs.LangMapsValue.{language_value, langmaps_value};
-ghost use Rattle.docs_core.specs.LangMapsWritten.{label_tokens, labels_tokens, opening_tokens};
+ghost use Rattle.docs_core.specs.LangMapsWritten.{IsWriting, label_tokens, labels_tokens, opening_tokens};
 ghost use Rattle.docs_core.specs.Texts.{Adds, text, value_tokens};
 
 use crate::doc::Doc;
 use crate::drafts::finish;
-use crate::lang_maps::{KeyedLabel, LangMaps};
+use crate::lang_maps::LangMaps;
 use crate::writing::write_texts;
 use cell_core::{Label, MessageId};
 use json::Writer;
@@ -28,27 +31,38 @@ pub fn write_langmaps(alloc: Global, maps: &LangMaps) -> Result<Doc, AllocError>
     ensures text { IfOk result (λ doc. doc ≡ text (langmaps_value maps.now)) }
     ensures reads { IfOk result (λ doc. AreLangMaps doc maps.now) }
 {
+    let mut draft = open_labels(alloc)?;
+    let mut current: Option<&MessageId> = None;
+    'labels: for label in maps.labels() {
+        write_label(&mut draft, current, &label.id, &label.lang, &label.label)?;
+        current = Some(&label.id);
+    }
+    close_labels(draft, current)
+}
+
+/// Opens the language maps of any labels, with none yet.
+pub(crate) fn open_labels(alloc: Global) -> Result<Writer, AllocError>
+    ensures { IfOk result (λ draft. (labels : List Labelled) → IsWriting draft None labels labels) }
+{
     let mut draft = Writer::new(Vec::new(alloc));
     draft.begin_object()?;
-    write_labels(&mut draft, maps.labels())?;
+    Ok(draft)
+}
+
+/// Closes the language maps behind all their labels.
+pub(crate) fn close_labels(
+    mut draft: Writer,
+    current: Option<&MessageId>,
+) -> Result<Doc, AllocError>
+    ensures { (labels : List Labelled) → IsMap key_cmp labels → IsWriting draft (option_map (λ id. id.now) current.entry) [] labels
+        → IfOk result (IsTextOf labels) }
+{
+    close_objects(&mut draft, current)?;
     finish(draft)
 }
 
-// Adds the labels by their messages, and closes the outer object.
-fn write_labels(out: &mut Writer, labels: &[KeyedLabel]) -> Result<(), AllocError>
-    ensures tokens { OnOk result (Adds out.old out.new (labels_tokens None (labels_of labels.now))) }
-    ensures valid { OnOk result (AreWritable (labels_of labels.now)) }
-{
-    let mut current: Option<&MessageId> = None;
-    'labels: for label in labels {
-        write_label(out, current, &label.id, &label.lang, &label.label)?;
-        current = Some(&label.id);
-    }
-    close_labels(out, current)
-}
-
 // Closes the current message and the outer object.
-pub(crate) fn close_labels(out: &mut Writer, current: Option<&MessageId>) -> Result<(), AllocError>
+fn close_objects(out: &mut Writer, current: Option<&MessageId>) -> Result<(), AllocError>
     ensures { OnOk result (Adds out.old out.new (labels_tokens (option_map (λ id. id.now) current.entry) [])) }
 {
     if current.is_some() {
@@ -57,7 +71,7 @@ pub(crate) fn close_labels(out: &mut Writer, current: Option<&MessageId>) -> Res
     out.end_object()
 }
 
-// Adds a label, in a message of its own unless that is the current one.
+/// Adds a label, in a message of its own unless that is the current one.
 pub(crate) fn write_label(
     out: &mut Writer,
     current: Option<&MessageId>,

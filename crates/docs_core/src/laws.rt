@@ -1,15 +1,24 @@
 //! Laws over the definitions alone, each the contract of a function that does nothing.
-ghost use Rattle.std.specs.Prelude.{◌≡◌, ℕ, List, IsUtf8};
+ghost use Rattle.std.specs.Prelude.{◌≡◌, ℕ, Contains, List, IsUtf8, Option};
+ghost use Rattle.std.specs.FinMap.Entries.{find};
+ghost use Rattle.cell_core.specs.Maps.{IsMap};
 ghost use Rattle.cell_core.specs.SiteNames.{IsSiteName};
+ghost use Rattle.nego_core.specs.Item.{Item};
 ghost use Rattle.cata_core.specs.Deltas.{HasAll, Stamps, delta_of};
-ghost use Rattle.cata_core.specs.Entries.{Agree, Entries, joined};
+ghost use Rattle.cata_core.specs.Entries.{Agree, Entries, EntryKey, joined, key_cmp};
 ghost use Rattle.cata_core.specs.Sites.{SiteState};
 ghost use Rattle.cata_core.specs.Told.{SummaryState};
 ghost use Rattle.cata_core.specs.declared.delta.Delta.{Delta};
+ghost use Rattle.docs_core.specs.Bundled.{IsBundle};
 ghost use Rattle.docs_core.specs.Calls.{AreSynced, IsTaken};
 ghost use Rattle.docs_core.specs.Documents.{cells_values, delta_text, site_text, summary_text};
+ghost use Rattle.docs_core.specs.Exported.{live_labels};
+ghost use Rattle.docs_core.specs.LangMapLabels.{AreLangMaps};
+ghost use Rattle.docs_core.specs.LangMaps.{Labelled};
+ghost use Rattle.docs_core.specs.Made.{Change};
 ghost use Rattle.docs_core.specs.ReadsAs.{ReadsAsDelta, ReadsAsSite, ReadsAsSummary};
 ghost use Rattle.docs_core.specs.Texts.{text};
+ghost use Rattle.docs_core.specs.Updated.{AreChanges, IsUpdated, Updates};
 ghost use Rattle.docs_core.specs.Valid.{AreKeptCells, AreKeptStamps};
 ghost use Rattle.docs_core.specs.Values.{site_value};
 
@@ -57,4 +66,46 @@ pub fn synced_documents_have_equal_cells()
     ensures { (a b x y : List ℕ) (first second : SiteState) → ReadsAsSite a first → ReadsAsSite b second → AreSynced a b x y
         → let cells = cells_values (joined first.cells second.cells) in
         (x ≡ text (site_value first.name cells)) × (y ≡ text (site_value second.name cells)) }
+{}
+
+// ---- updates
+
+/// From old labels to new ones there is one list of changes.
+pub fn one_list_of_changes()
+    ensures there { (old new : List Labelled) (cells : Entries) → (changes : List Change) × AreChanges old new cells changes }
+    ensures one { (old new : List Labelled) (cells : Entries) (x y : List Change) → AreChanges old new cells x → AreChanges old new cells y → x ≡ y }
+{}
+
+/// Where the old and the new labels are equal an update changes nothing, whatever the site holds.
+pub fn equal_labels_change_nothing()
+    ensures cells { (now : ℕ) (name : List ℕ) (labels : List Labelled) (cells updated : Entries) → Updates now name labels labels cells updated → updated ≡ cells }
+    ensures document { (bytes old new doc : List ℕ) (now : ℕ) (site : SiteState) (labels : List Labelled)
+        → ReadsAsSite bytes site → AreLangMaps old labels → AreLangMaps new labels → IsUpdated bytes now old new doc → doc ≡ site_text site }
+{}
+
+/// A key on which the old and the new labels agree keeps its cell.
+pub fn an_update_keeps_what_is_equal()
+    ensures { (now : ℕ) (name : List ℕ) (old new : List Labelled) (cells updated : Entries) (key : EntryKey)
+        → Updates now name old new cells updated → find key_cmp key old ≡ find key_cmp key new → find key_cmp key updated ≡ find key_cmp key cells }
+{}
+
+/// On a site whose live labels are the old ones the live labels become the new ones.
+pub fn an_update_of_the_live_labels_brings_the_new_ones()
+    ensures { (now : ℕ) (name : List ℕ) (new : List Labelled) (cells updated : Entries) → IsMap key_cmp cells → IsMap key_cmp new
+        → Updates now name (live_labels cells) new cells updated → live_labels updated ≡ new }
+{}
+
+/// An update that is made twice, at whatever times, is made once.
+pub fn an_update_twice_is_one()
+    ensures cells { (now later : ℕ) (name : List ℕ) (old new : List Labelled) (cells once twice : Entries)
+        → Updates now name old new cells once → Updates later name old new once twice → twice ≡ once }
+    ensures document { (bytes old new once twice : List ℕ) (now later : ℕ) → IsUpdated bytes now old new once → IsUpdated once later old new twice → twice ≡ once }
+{}
+
+// ---- bundles
+
+/// Each label of a bundle is one of the live labels, as an export has them.
+pub fn a_bundle_is_of_the_live_labels()
+    ensures { (cells : Entries) (items : List Item) (default : Option (List ℕ)) (labels : List Labelled) (e : Labelled)
+        → IsBundle cells items default labels → Contains labels e → Contains (live_labels cells) e }
 {}

@@ -2,9 +2,10 @@
 //!
 //! - [`read_site`], [`read_delta`], [`read_summary`], [`read_script`] and [`read_langmaps`] read a
 //!   document; [`write_site`], [`write_delta`], [`write_summary`] and [`write_langmaps`] write one.
-//! - [`edit_document`], [`import_document`], [`export_document`], [`sync_documents`],
-//!   [`summary_document`], [`delta_document`], [`take_document`], [`ask_document`] and
-//!   [`status_document`] treat whole documents, from bytes to bytes.
+//! - [`edit_document`], [`import_document`], [`update_document`], [`export_document`],
+//!   [`bundle_document`], [`missing_document`], [`sync_documents`], [`summary_document`],
+//!   [`delta_document`], [`take_document`], [`ask_document`] and [`status_document`] treat whole
+//!   documents, from bytes to bytes.
 //! - [`replay`] runs the script of a [`Source`] and writes the lines of its answers to a [`Sink`];
 //!   [`read_all`] and [`write_out`] are its two ends. [`Input`] and [`Output`] make a source and a
 //!   sink of `std`'s `Read` and `Write`.
@@ -18,6 +19,7 @@
 
 mod arrays;
 mod asking;
+mod bundling;
 mod calls;
 mod cell_rows;
 mod doc;
@@ -57,15 +59,17 @@ mod stamp_rows;
 mod status;
 mod step_fields;
 mod steps;
+mod updating;
 mod writing;
 
 pub use asking::{Ask, ask_document};
+pub use bundling::bundle_document;
 pub use calls::{
     delta_document, edit_document, status_document, summary_document, sync_documents, take_document,
 };
 pub use doc::Doc;
 pub use documents::{write_delta, write_site, write_summary};
-pub use exchange::{export_document, import_document};
+pub use exchange::{export_document, import_document, missing_document};
 pub use fault::{DocCause, DocFault, FieldFault, Spot};
 pub use lang_maps::LangMaps;
 pub use lang_maps_reading::read_langmaps;
@@ -77,3 +81,4 @@ pub use script::Script;
 pub use script_document::read_script;
 pub use sinks::{Output, Sink, write_out};
 pub use sources::{Input, MOST_BYTES, Source, read_all};
+pub use updating::update_document;

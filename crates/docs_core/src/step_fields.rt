@@ -14,7 +14,7 @@ use crate::rows::CellRow;
 use crate::steps::StepRow;
 use cata_core::{Edit, Step};
 use lang_core::Lang;
-use nego_core::{NegoFault, PriorityList, Scheme};
+use nego_core::{Malformed, NegoFault, PriorityList, Scheme};
 use std::alloc::Global;
 
 /// What the fields of a step make.
@@ -134,11 +134,7 @@ fn list_of(
     ensures { MatchResult result (Lists scheme field.now)
         (λ e. (e ≡ NoMemory) ⊎ IsListRefusal place scheme field.now e) }
 {
-    let list = match scheme {
-        Scheme::Basic => PriorityList::from_accept(alloc, field.as_bytes()),
-        Scheme::Extended => PriorityList::from_ranges(alloc, field.as_bytes()),
-    };
-    match list {
+    match PriorityList::parse(alloc, scheme, Malformed::Refused, field.as_bytes()) {
         Ok(list) => Ok(list),
         Err(NegoFault::NoMemory) => Err(DocCause::NoMemory),
         Err(fault) => Err(DocCause::Field {

@@ -12,3 +12,4 @@ pub mod Lang
 pub mod Choice
 pub mod LookupText
 pub mod Fronts
+pub mod LowerText

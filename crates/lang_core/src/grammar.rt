@@ -1,3 +1,4 @@
+//! The grammar of tags (RFC 5646 section 2.1).
 ghost use Rattle.std.specs.Prelude.{◌≡◌, ◌<◌, ◌≤◌, [], ◌||◌, length, MatchOption};
 ghost use Rattle.std.specs.Str.{str_to_ascii_lowercase};
 ghost use Rattle.lang_core.specs.Fault.{IsTag, RefusesTagFirst};
@@ -14,15 +15,20 @@ use crate::subtag::Subtag;
 ///
 /// ```text
 /// Language-Tag = langtag / privateuse / grandfathered
-/// langtag      = language ["-" script] ["-" region] *("-" variant) *("-" extension) ["-"
-/// privateuse] language     = 2*3ALPHA ["-" extlang] / 4ALPHA / 5*8ALPHA extlang      = 3ALPHA
-/// *2("-" 3ALPHA) script       = 4ALPHA region       = 2ALPHA / 3DIGIT variant      = 5*8alphanum /
-/// (DIGIT 3alphanum) extension    = singleton 1*("-" (2*8alphanum)) privateuse   = "x" 1*("-"
-/// (1*8alphanum))
+/// langtag      = language ["-" script] ["-" region] *("-" variant)
+///                *("-" extension) ["-" privateuse]
+/// language     = 2*3ALPHA ["-" extlang] / 4ALPHA / 5*8ALPHA
+/// extlang      = 3ALPHA *2("-" 3ALPHA)
+/// script       = 4ALPHA
+/// region       = 2ALPHA / 3DIGIT
+/// variant      = 5*8alphanum / (DIGIT 3alphanum)
+/// extension    = singleton 1*("-" (2*8alphanum))
+/// privateuse   = "x" 1*("-" (1*8alphanum))
 /// ```
-pub fn tag_fault(text: &[u8]) -> Option<LangFault>
+pub(crate) fn tag_fault(text: &[u8]) -> Option<LangFault>
     requires { (0 < length text.now) × (length text.now ≤ 255) }
-    ensures { let lower = str_to_ascii_lowercase text.now in MatchOption result (IsTag lower) (RefusesTagFirst lower) }
+    ensures { let lower = str_to_ascii_lowercase text.now in
+        MatchOption result (IsTag lower) (RefusesTagFirst lower) }
 {
     let mut stage = Some(Stage::Start);
     let mut offset = 0;

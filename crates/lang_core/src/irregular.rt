@@ -1,3 +1,4 @@
+//! The irregular tags (RFC 5646 section 2.1).
 ghost use Rattle.std.specs.Prelude.{◌≡◌};
 ghost use Rattle.std.specs.List.{list_any};
 ghost use Rattle.std.specs.Str.{bytes_eq, str_to_ascii_lowercase};
@@ -24,16 +25,18 @@ const IRREGULAR: [&[u8]; 17] = [
     b"sgn-ch-de",
 ];
 
-fn is_among(tags: &[&[u8]], text: &[u8]) -> bool
-    ensures { result ≡ list_any (λ tag. bytes_eq (str_to_ascii_lowercase tag.now) (str_to_ascii_lowercase text.now)) tags.now }
-{
-    tags.iter().any(|tag| tag.eq_ignore_ascii_case(text))
-}
-
 /// Whether the text is an irregular tag, in any case.
 #[tactic(auto, unfolding(crate::specs::Grammar::is_irregular))]
-pub fn is_irregular(text: &[u8]) -> bool
+pub(crate) fn is_irregular(text: &[u8]) -> bool
     ensures { result ≡ is_irregular (str_to_ascii_lowercase text.now) }
 {
     is_among(&IRREGULAR, text)
+}
+
+/// Whether the text is among the tags, in any case.
+fn is_among(tags: &[&[u8]], text: &[u8]) -> bool
+    ensures { let lower = str_to_ascii_lowercase text.now in
+        result ≡ list_any (λ tag. bytes_eq (str_to_ascii_lowercase tag.now) lower) tags.now }
+{
+    tags.iter().any(|tag| tag.eq_ignore_ascii_case(text))
 }

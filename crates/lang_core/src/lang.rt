@@ -1,9 +1,12 @@
+//! Languages of texts: tags, and `@none` (JSON-LD 1.1 section 9.8).
 ghost use Rattle.std.specs.Prelude.{◌≡◌, List, ℕ, MatchResult, IfOk, IsOk, IfSome, Some, Option};
 ghost use Rattle.std.specs.Option.{option_copied};
 ghost use Rattle.std.specs.Str.{bytes_eq};
 ghost use Rattle.std.specs.Ordering.{nat_cmp};
 ghost use Rattle.std.specs.Cmp.Lexicographic.{slice_cmp};
-ghost use Rattle.std.specs.Cmp.Rules.{comparing};
+ghost use Rattle.std.specs.Cmp.Rules.{comparing, hashing};
+ghost use Rattle.std.specs.Fmt.{padded};
+ghost use Rattle.std.specs.Hash as fed;
 ghost use Rattle.lang_core.specs.Fault.{IsTag};
 ghost use Rattle.lang_core.specs.Lang.{IsLang, none_text, tag_of, SpellsLang, RefusesLang};
 ghost use borrow.Author.Rules.{rules};
@@ -13,6 +16,7 @@ use crate::tag::Tag;
 use std::alloc::{AllocError, Global};
 use std::cmp::Ordering;
 use std::fmt;
+use std::hash::{Hash, Hasher};
 use std::marker::Model;
 
 /// The text of the language that is none (JSON-LD 1.1 section 9.8).
@@ -95,7 +99,17 @@ impl Lang {
         }
     }
 
-    /// An equal language, by one allocation. A copy of `@none` takes no memory and is never
+    /// The tag itself, or `None` for `@none`.
+    pub fn into_tag(self) -> Option<Tag>
+        ensures { result ≡ tag_of self }
+    {
+        match self.choice {
+            Choice::Tagged(owned) => Some(owned),
+            Choice::NoLanguage => None,
+        }
+    }
+
+    /// An equal language, by as many allocations as it was parsed with. A copy of `@none` is never
     /// refused.
     pub fn copy(&self, alloc: Global) -> Result<Lang, AllocError>
         ensures equal { IfOk result (λ lang. lang ≡ self.now) }
@@ -110,11 +124,25 @@ impl Lang {
     }
 }
 
+impl From<Tag> for Lang {
+    ghost from_gives = { λ tag lang. lang ≡ tag };
+
+    fn from(tag: Tag) -> Lang {
+        // No effect at run time: the proof reads that the text is a tag's.
+        let _ = tag.as_str();
+        Lang {
+            choice: Choice::Tagged(tag),
+        }
+    }
+}
+
 impl fmt::Display for Lang {
     ghost output = { λ lang. Some lang };
 
+    ghost styled_output = { λ lang spec. Some (padded spec lang) };
+
     fn fmt<W: fmt::Write>(&self, f: &mut fmt::Formatter<W>) -> fmt::Result {
-        f.write_str(self.as_str())
+        f.pad(self.as_str())
     }
 }
 
@@ -153,5 +181,15 @@ impl Ord for Lang {
 
     fn cmp(&self, other: &Lang) -> Ordering {
         self.as_str().cmp(other.as_str())
+    }
+}
+
+impl Hash for Lang {
+    ghost hash_input = { λ lang. fed.str lang };
+
+    ghost respects_eq = { Prim.search (hashing, rules) };
+
+    fn hash<H: Hasher>(&self, state: &mut H) {
+        self.as_str().hash(state);
     }
 }

@@ -10,7 +10,8 @@ ghost use Rattle.lang_core.specs.Candidates.{candidates, candidates_left, shorte
 /// A range's subtags other than "*" embed in a tag's exactly where pairing them greedily succeeds
 /// (RFC 4647 section 3.3.2).
 pub fn greedy_pairs_all()
-    ensures { (range given : List (List ℕ)) → IsTrue (greedy range given) ↔ Embeds (without_stars range) given }
+    ensures { (range given : List (List ℕ))
+        → IsTrue (greedy range given) ↔ Embeds (without_stars range) given }
 {}
 
 /// The test for basic matching is the relation (RFC 4647 section 3.3.1).

@@ -1,3 +1,4 @@
+//! An extended range as a basic one (RFC 4647 section 3.2).
 ghost use Rattle.std.specs.Prelude.{◌≡◌, ◌++◌, IfOk, OnOk};
 ghost use Rattle.std.specs.String.{string_bytes};
 ghost use Rattle.lang_core.specs.LookupText.{lookup_text, hyphened};
@@ -10,7 +11,7 @@ use std::alloc::{AllocError, Global};
 
 /// The text of the range as a basic one: "*" where it begins with "*", else its subtags
 /// without each "*" (RFC 4647 section 3.2).
-pub fn make_lookup_text(alloc: Global, range: &str) -> Result<String, AllocError>
+pub(crate) fn make_lookup_text(alloc: Global, range: &str) -> Result<String, AllocError>
     ensures { IfOk result (λ text. string_bytes text ≡ lookup_text range.now) }
 {
     let mut text = String::with_capacity(alloc, range.len())?;
@@ -26,7 +27,8 @@ pub fn make_lookup_text(alloc: Global, range: &str) -> Result<String, AllocError
 
 /// Adds the subtags other than "*", each after a hyphen.
 fn push_subtags(text: &mut String, subtags: Subtags) -> Result<(), AllocError>
-    ensures { OnOk result (string_bytes text.new ≡ string_bytes text.old ++ hyphened (without_stars (subtags_left subtags.entry))) }
+    ensures { OnOk result (string_bytes text.new
+        ≡ string_bytes text.old ++ hyphened (without_stars (subtags_left subtags.entry))) }
 {
     for subtag in subtags {
         if !is_star(subtag.as_bytes()) {

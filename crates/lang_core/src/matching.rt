@@ -1,3 +1,4 @@
+//! Basic and extended filtering of texts (RFC 4647 sections 3.3.1 and 3.3.2).
 ghost use Rattle.std.specs.Prelude.{◌≡◌, false, ◌&&◌, ◌∷◌, ◌↔◌, ◌⊎◌, ◌≤◌, length, IsTrue, List, ℕ, is_some, IfSome, take};
 ghost use Rattle.std.specs.Str.{str_to_ascii_lowercase};
 ghost use Rattle.lang_core.specs.Text.{pieces, subtags};
@@ -9,43 +10,23 @@ ghost use Rattle.lang_core.specs.Matching.{Basic, IsFront, Extended, greedy, wit
 use crate::pieces::{HYPHEN, Pieces};
 use crate::range_syntax::is_star;
 
-/// Takes pieces up to and with the one that is wanted, and passes over no single character.
-fn finds(given: &mut Pieces, wanted: &[u8]) -> bool
-    requires { is_star wanted.now ≡ false }
-    ensures { (rest : List (List ℕ)) → greedy (wanted.now ∷ rest) (pieces_left given.old) ≡ (result && greedy rest (pieces_left given.new)) }
+/// Basic filtering (RFC 4647 section 3.3.1), of texts in lower case.
+pub(crate) fn matches_basic(range: &[u8], tag: &[u8]) -> bool
+    ensures { IsTrue result ↔ Basic (pieces range.now) (pieces tag.now) }
 {
-    while let Some(piece) = given.next() {
-        if wanted == piece {
-            return true;
-        }
-        if piece.len() <= 1 {
-            return false;
-        }
-    }
-    false
+    is_star(range) || is_front(range, tag)
 }
 
-/// Pairs each wanted piece but "*" with the first given one that is left and equal to it
-/// (RFC 4647 section 3.3.2, steps 3 and 4).
-fn pairs(wanted: Pieces, mut given: Pieces) -> bool
-    ensures { result ≡ greedy (pieces_left wanted.entry) (pieces_left given.entry) }
+/// Basic filtering (RFC 4647 section 3.3.1), of a text in any case.
+pub(crate) fn matches_basic_text(range: &[u8], text: &[u8]) -> bool
+    requires { str_to_ascii_lowercase range.now ≡ range.now }
+    ensures { IsTrue result ↔ Basic (pieces range.now) (subtags text.now) }
 {
-    for piece in wanted {
-        if !is_star(piece) && !finds(&mut given, piece) {
-            return false;
-        }
-    }
-    true
-}
-
-fn begins(wanted: &[u8], given: &[u8]) -> bool
-    ensures { IsTrue result ↔ (IsTrue (is_star wanted.now) ⊎ (wanted.now ≡ given.now)) }
-{
-    is_star(wanted) || wanted == given
+    is_star(range) || is_front_in_any_case(range, text)
 }
 
 /// RFC 4647 section 3.3.2, of texts in lower case.
-pub fn matches_extended(range: &[u8], tag: &[u8]) -> bool
+pub(crate) fn matches_extended(range: &[u8], tag: &[u8]) -> bool
     ensures { IsTrue result ↔ Extended (pieces range.now) (pieces tag.now) }
 {
     let mut wanted = Pieces::new(range, HYPHEN);
@@ -53,6 +34,37 @@ pub fn matches_extended(range: &[u8], tag: &[u8]) -> bool
     match (wanted.next(), given.next()) {
         (Some(first), Some(first_given)) if begins(first, first_given) => pairs(wanted, given),
         _ => false,
+    }
+}
+
+/// The number of subtags other than "*".
+#[tactic(auto, unfolding(crate::specs::Matching::specificity))]
+pub(crate) fn specificity(range: &[u8]) -> usize
+    requires { length range.now ≤ 255 }
+    ensures { result ≡ specificity (pieces range.now) }
+{
+    Pieces::new(range, HYPHEN)
+        .filter(|piece| !is_star(piece))
+        .count()
+}
+
+/// Whether the text's first subtags are those of the front.
+fn is_front(front: &[u8], text: &[u8]) -> bool
+    ensures { IsTrue result ↔ IsFront (pieces front.now) (pieces text.now) }
+{
+    match front_of(text, front.len()) {
+        Some(start) => start == front,
+        None => false,
+    }
+}
+
+/// Whether the text's first subtags are those of the front, without regard to case.
+fn is_front_in_any_case(front: &[u8], text: &[u8]) -> bool
+    ensures { IsTrue result ↔ IsFront (subtags front.now) (subtags text.now) }
+{
+    match front_of(text, front.len()) {
+        Some(start) => start.eq_ignore_ascii_case(front),
+        None => false,
     }
 }
 
@@ -78,48 +90,39 @@ fn ends_subtag(rest: &[u8]) -> bool
     }
 }
 
-/// Whether the text's first subtags are those of the front.
-fn is_front(front: &[u8], text: &[u8]) -> bool
-    ensures { IsTrue result ↔ IsFront (pieces front.now) (pieces text.now) }
+/// Whether the first subtag of a range matches that of a tag.
+fn begins(wanted: &[u8], given: &[u8]) -> bool
+    ensures { IsTrue result ↔ (IsTrue (is_star wanted.now) ⊎ (wanted.now ≡ given.now)) }
 {
-    match front_of(text, front.len()) {
-        Some(start) => start == front,
-        None => false,
+    is_star(wanted) || wanted == given
+}
+
+/// Pairs each wanted piece but "*" with the first given one that is left and equal to it
+/// (RFC 4647 section 3.3.2, steps 3 and 4).
+fn pairs(wanted: Pieces, mut given: Pieces) -> bool
+    ensures { result ≡ greedy (pieces_left wanted.entry) (pieces_left given.entry) }
+{
+    for piece in wanted {
+        if !is_star(piece) && !finds(&mut given, piece) {
+            return false;
+        }
     }
+    true
 }
 
-/// Whether the text's first subtags are those of the front, without regard to case.
-fn is_front_in_any_case(front: &[u8], text: &[u8]) -> bool
-    ensures { IsTrue result ↔ IsFront (subtags front.now) (subtags text.now) }
+/// Takes pieces up to and with the one that is wanted, and passes over no single character.
+fn finds(given: &mut Pieces, wanted: &[u8]) -> bool
+    requires { is_star wanted.now ≡ false }
+    ensures { (rest : List (List ℕ)) → greedy (wanted.now ∷ rest) (pieces_left given.old)
+        ≡ (result && greedy rest (pieces_left given.new)) }
 {
-    match front_of(text, front.len()) {
-        Some(start) => start.eq_ignore_ascii_case(front),
-        None => false,
+    while let Some(piece) = given.next() {
+        if wanted == piece {
+            return true;
+        }
+        if piece.len() <= 1 {
+            return false;
+        }
     }
-}
-
-/// The number of subtags other than "*".
-#[tactic(auto, unfolding(crate::specs::Matching::specificity))]
-pub fn specificity(range: &[u8]) -> usize
-    requires { length range.now ≤ 255 }
-    ensures { result ≡ specificity (pieces range.now) }
-{
-    Pieces::new(range, HYPHEN)
-        .filter(|piece| !is_star(piece))
-        .count()
-}
-
-/// Basic filtering (RFC 4647 section 3.3.1), of texts in lower case.
-pub fn matches_basic(range: &[u8], tag: &[u8]) -> bool
-    ensures { IsTrue result ↔ Basic (pieces range.now) (pieces tag.now) }
-{
-    is_star(range) || is_front(range, tag)
-}
-
-/// Basic filtering (RFC 4647 section 3.3.1), of a text in any case.
-pub fn matches_basic_text(range: &[u8], text: &[u8]) -> bool
-    requires { str_to_ascii_lowercase range.now ≡ range.now }
-    ensures { IsTrue result ↔ Basic (pieces range.now) (subtags text.now) }
-{
-    is_star(range) || is_front_in_any_case(range, text)
+    false
 }

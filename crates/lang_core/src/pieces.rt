@@ -1,13 +1,14 @@
+//! Texts cut at a separator.
 ghost use Rattle.std.specs.Prelude.{◌≡◌, ◌==◌, ◌∷◌, [], ◌<◌, length, position, IfSome, IfNone};
 ghost use Rattle.std.specs.Iterator.{YieldsFirstBy, item_count};
 ghost use Rattle.lang_core.specs.Text.{pieces_by};
 
 /// What stands between the subtags of a tag or a range.
-pub const HYPHEN: u8 = b'-';
+pub(crate) const HYPHEN: u8 = b'-';
 
 /// The pieces of a text between its separators, in order. A text with n separators has n + 1
 /// pieces, and some of them may be empty.
-#[derive(Drop)]
+#[derive(Clone, Debug, Drop)]
 pub struct Pieces<'a> {
     separator: u8,
     rest: Option<&'a [u8]>,
@@ -51,17 +52,18 @@ impl<'a> Iterator for Pieces<'a> {
     }
 }
 
-pub fn separator_at(text: &[u8], separator: u8) -> Option<usize>
+pub(crate) fn separator_at(text: &[u8], separator: u8) -> Option<usize>
     ensures { result ≡ position (λ b. b == separator) text.now }
 {
     text.iter().position(|b| *b == separator)
 }
 
-#[tactic(auto, using(crate::proofs::PiecesLaws::cuts))]
 /// The first piece and the text after its separator, where there is one.
+#[tactic(auto, using(crate::proofs::PiecesLaws::cuts))]
 fn cut(text: &[u8], separator: u8) -> Option<(&[u8], &[u8])>
     ensures whole { IfNone result (pieces_by separator text.now ≡ text.now ∷ []) }
-    ensures parts { IfSome result (λ x. pieces_by separator text.now ≡ x.0.now ∷ pieces_by separator x.1.now) }
+    ensures parts { IfSome result
+        (λ x. pieces_by separator text.now ≡ x.0.now ∷ pieces_by separator x.1.now) }
 {
     match separator_at(text, separator) {
         Some(at) => Some((&text[..at], &text[at + 1..])),

@@ -1,7 +1,10 @@
-ghost use Rattle.std.specs.Prelude.{◌≡◌, List, ℕ, IsTrue, MatchResult, ◌↔◌, Some};
+//! Language ranges (RFC 4647 section 2).
+ghost use Rattle.std.specs.Prelude.{◌≡◌, List, ℕ, IsTrue, MatchResult, IfOk, ◌↔◌, Some};
 ghost use Rattle.std.specs.Option.{option_map_or};
 ghost use Rattle.std.specs.String.{string_bytes};
-ghost use Rattle.std.specs.Str.{str_to_ascii_lowercase};
+ghost use Rattle.std.specs.Str.{bytes_eq, str_to_ascii_lowercase};
+ghost use Rattle.std.specs.Cmp.Rules.{comparing};
+ghost use Rattle.std.specs.Fmt.{padded};
 ghost use Rattle.lang_core.specs.Text.{pieces, subtags};
 ghost use Rattle.lang_core.specs.Grammar.{BasicRange, ExtendedRange, basic_piece, extended_piece};
 ghost use Rattle.lang_core.specs.Fault.{IsRange, RefusesRange};
@@ -10,6 +13,7 @@ ghost use Rattle.lang_core.specs.Candidates.{candidates};
 ghost use Rattle.lang_core.specs.LookupText.{lookup_text};
 ghost use Rattle.lang_core.specs.Subtags.{subtags_left};
 ghost use Rattle.lang_core.specs.Truncations.{truncations_left};
+ghost use borrow.Author.Rules.{rules};
 
 use crate::fault::LangFault;
 use crate::lookup_text::make_lookup_text;
@@ -17,9 +21,9 @@ use crate::matching::{matches_basic, matches_basic_text, matches_extended, speci
 use crate::range_syntax::{basic_fault, extended_fault};
 use crate::subtags::Subtags;
 use crate::tag::Tag;
-use crate::text::{MAX_LEN, lower_text};
+use crate::text::{LowerText, MAX_LEN};
 use crate::truncations::Truncations;
-use std::alloc::Global;
+use std::alloc::{AllocError, Global};
 use std::fmt;
 use std::marker::Model;
 
@@ -28,33 +32,45 @@ use std::marker::Model;
 /// Each range is an extended one; a basic range is one whose only "*", if any, is the whole range.
 #[derive(Debug, Drop)]
 pub struct Range {
-    text: String,
+    text: LowerText,
     /// The text as a basic range, where it is kept apart.
     lookup: Option<String>,
 }
 
 impl Model for Range {
+    ghost use Rattle.std.specs.Prelude.{List, ℕ, ◌≡◌};
+    ghost use Rattle.std.specs.Option.{option_map_or};
+    ghost use Rattle.std.specs.String.{string_bytes};
+    ghost use Rattle.lang_core.specs.Fault.{IsRange};
+    ghost use Rattle.lang_core.specs.Grammar.{ExtendedRange};
+    ghost use Rattle.lang_core.specs.LookupText.{lookup_text};
+    ghost use Rattle.lang_core.specs.LowerText.{lower_bytes};
+
     ghost Value = { List ℕ };
 
-    ghost view = { λ r. string_bytes r.text };
+    ghost view = { λ r. lower_bytes r.text };
 
-    ghost invariant = { λ r. IsRange ExtendedRange (string_bytes r.text)
-        × (option_map_or string_bytes r.lookup (string_bytes r.text) ≡ lookup_text (string_bytes r.text)) };
+    ghost invariant = { λ r. IsRange ExtendedRange (lower_bytes r.text)
+        × (option_map_or string_bytes r.lookup (lower_bytes r.text)
+        ≡ lookup_text (lower_bytes r.text)) };
 }
 
 impl Range {
     /// The basic range that the bytes spell in any case (RFC 4647 section 2.1), as `de-ch` or `*`.
     ///
     /// Refused are, in this order, an empty text, one over 255 bytes, and the first subtag that a
-    /// basic range may not have at its place. Only then one allocation is made, of the range's
-    /// size, and out of memory is the last refusal.
+    /// basic range may not have at its place. Only then a range of more than 16 bytes
+    /// makes one allocation, of its size; out of memory is the last refusal.
     ///
     /// ```text
     /// Range::parse_basic(alloc, b"de-CH")?.as_str()  "de-ch"
     /// Range::parse_basic(alloc, b"de-*")             Err(RangeSubtag { offset: 3 })
     /// ```
     pub fn parse_basic(alloc: Global, text: &[u8]) -> Result<Range, LangFault>
-        ensures { let lower = str_to_ascii_lowercase text.now in MatchResult result (λ range. IsRange BasicRange lower × (range ≡ lower)) (RefusesRange BasicRange basic_piece lower) }
+        ensures { let lower = str_to_ascii_lowercase text.now in
+            MatchResult result
+            (λ range. IsRange BasicRange lower × (range ≡ lower))
+            (RefusesRange BasicRange basic_piece lower) }
     {
         if text.is_empty() {
             return Err(LangFault::RangeEmpty);
@@ -65,22 +81,25 @@ impl Range {
         if let Some(offset) = basic_fault(text) {
             return Err(LangFault::RangeSubtag { offset });
         }
-        let text = lower_text(alloc, text)?;
+        let text = LowerText::new(alloc, text)?;
         Ok(Range { text, lookup: None })
     }
 
     /// The extended range that the bytes spell in any case (RFC 4647 section 2.2), as `de-*-ch`.
     ///
     /// Refused are, in this order, an empty text, one over 255 bytes, and the first subtag that an
-    /// extended range may not have at its place. Only then two allocations are made, for the text
-    /// and the lookup text, and out of memory is the last refusal.
+    /// extended range may not have at its place. Only then one allocation is made for the lookup
+    /// text, and one for a text of more than 16 bytes; out of memory is the last refusal.
     ///
     /// ```text
     /// Range::parse_extended(alloc, b"de-*-CH")?.lookup_text()  "de-ch"
     /// Range::parse_extended(alloc, b"*-")                      Err(RangeSubtag { offset: 2 })
     /// ```
     pub fn parse_extended(alloc: Global, text: &[u8]) -> Result<Range, LangFault>
-        ensures { let lower = str_to_ascii_lowercase text.now in MatchResult result (λ range. IsRange ExtendedRange lower × (range ≡ lower)) (RefusesRange ExtendedRange extended_piece lower) }
+        ensures { let lower = str_to_ascii_lowercase text.now in
+            MatchResult result
+            (λ range. IsRange ExtendedRange lower × (range ≡ lower))
+            (RefusesRange ExtendedRange extended_piece lower) }
     {
         if text.is_empty() {
             return Err(LangFault::RangeEmpty);
@@ -91,7 +110,7 @@ impl Range {
         if let Some(offset) = extended_fault(text) {
             return Err(LangFault::RangeSubtag { offset });
         }
-        let text = lower_text(alloc, text)?;
+        let text = LowerText::new(alloc, text)?;
         let lookup = make_lookup_text(alloc, text.as_str())?;
         Ok(Range {
             text,
@@ -173,12 +192,42 @@ impl Range {
     {
         Truncations::new(self.lookup_text())
     }
+
+    /// An equal range, by as many allocations as it was parsed with.
+    pub fn copy(&self, alloc: Global) -> Result<Range, AllocError>
+        ensures { IfOk result (λ range. range ≡ self.now) }
+    {
+        let text = self.text.copy(alloc)?;
+        match &self.lookup {
+            Some(kept) => {
+                let lookup = Some(String::from_str(alloc, kept.as_str())?);
+                Ok(Range { text, lookup })
+            }
+            None => Ok(Range { text, lookup: None }),
+        }
+    }
 }
 
 impl fmt::Display for Range {
     ghost output = { λ range. Some range };
 
+    ghost styled_output = { λ range spec. Some (padded spec range) };
+
     fn fmt<W: fmt::Write>(&self, f: &mut fmt::Formatter<W>) -> fmt::Result {
-        f.write_str(self.as_str())
+        f.pad(self.as_str())
     }
+}
+
+impl PartialEq for Range {
+    ghost eq = { bytes_eq };
+
+    ghost laws = { Prim.search (comparing, rules) };
+
+    fn eq(&self, other: &Range) -> bool {
+        self.as_str() == other.as_str()
+    }
+}
+
+impl Eq for Range {
+    ghost laws = { Prim.search (comparing, rules) };
 }

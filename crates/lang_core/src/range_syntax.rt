@@ -1,3 +1,4 @@
+//! Which subtags a range may have (RFC 4647 sections 2.1 and 2.2).
 ghost use Rattle.std.specs.Prelude.{◌≡◌, ◌≤◌, length, MatchOption, IsTrue};
 ghost use Rattle.std.specs.Str.{str_to_ascii_lowercase};
 ghost use Rattle.lang_core.specs.Text.{subtags};
@@ -8,9 +9,11 @@ use crate::subtag::Subtag;
 
 /// Where the first piece begins that a basic range may not have there (RFC 4647 section 2.1):
 /// `(1*8ALPHA *("-" 1*8alphanum)) / "*"`.
-pub fn basic_fault(text: &[u8]) -> Option<usize>
+pub(crate) fn basic_fault(text: &[u8]) -> Option<usize>
     requires { length text.now ≤ 255 }
-    ensures { MatchOption result (BasicRange (subtags text.now)) (λ offset. ¬ BasicRange (subtags text.now) × IsFirstRefused basic_piece (subtags text.now) offset) }
+    ensures { let list = subtags text.now in MatchOption result
+        (BasicRange list)
+        (λ offset. ¬ BasicRange list × IsFirstRefused basic_piece list offset) }
 {
     if is_star(text) {
         return None;
@@ -20,15 +23,17 @@ pub fn basic_fault(text: &[u8]) -> Option<usize>
 
 /// The same for an extended range (RFC 4647 section 2.2):
 /// `(1*8ALPHA / "*") *("-" (1*8alphanum / "*"))`.
-pub fn extended_fault(text: &[u8]) -> Option<usize>
+pub(crate) fn extended_fault(text: &[u8]) -> Option<usize>
     requires { length text.now ≤ 255 }
-    ensures { MatchOption result (ExtendedRange (subtags text.now)) (λ offset. ¬ ExtendedRange (subtags text.now) × IsFirstRefused extended_piece (subtags text.now) offset) }
+    ensures { let list = subtags text.now in MatchOption result
+        (ExtendedRange list)
+        (λ offset. ¬ ExtendedRange list × IsFirstRefused extended_piece list offset) }
 {
     RangeSyntax::Extended.first_refused(text)
 }
 
 #[tactic(auto, unfolding(crate::specs::Grammar::is_star))]
-pub fn is_star(piece: &[u8]) -> bool
+pub(crate) fn is_star(piece: &[u8]) -> bool
     ensures { result ≡ is_star piece.now }
 {
     match piece {
@@ -59,7 +64,9 @@ impl RangeSyntax {
     /// Where the first piece begins that is not allowed at its place.
     fn first_refused(self, text: &[u8]) -> Option<usize>
         requires { length text.now ≤ 255 }
-        ensures { MatchOption result (IsTrue (are_allowed (allowed_by self) 0 (subtags text.now))) (IsFirstRefused (allowed_by self) (subtags text.now)) }
+        ensures { let list = subtags text.now in MatchOption result
+            (IsTrue (are_allowed (allowed_by self) 0 list))
+            (IsFirstRefused (allowed_by self) list) }
     {
         let mut offset = 0;
         let mut place = 0;

@@ -1,3 +1,4 @@
+//! How far a tag is read, from one subtag to the next (RFC 5646 section 2.1).
 ghost use Rattle.std.specs.Prelude.{◌≡◌};
 ghost use Rattle.lang_core.specs.Stage.{next_stage, is_complete, start_stage, language_stage, region_stage, variant_stage, extension_stage, private_stage};
 ghost use Rattle.lang_core.specs.declared.stage.Stage.TheVariants.{Singleton, Extension, Private};
@@ -6,7 +7,7 @@ use crate::subtag::Subtag;
 
 /// What was read last, and so what may come next.
 #[derive(Clone, Copy)]
-pub enum Stage {
+pub(crate) enum Stage {
     Start,
     /// A language subtag; up to this many extlangs may still follow.
     Language { extlangs_left: u8 },
@@ -20,7 +21,7 @@ pub enum Stage {
 }
 
 impl Stage {
-    pub fn next(self, subtag: &Subtag) -> Option<Stage>
+    pub(crate) fn next(self, subtag: &Subtag) -> Option<Stage>
         ensures { result ≡ next_stage self subtag.now }
     {
         match self {
@@ -35,7 +36,7 @@ impl Stage {
     }
 
     /// Whether a tag may end here.
-    pub fn is_complete(self) -> bool
+    pub(crate) fn is_complete(self) -> bool
         ensures { result ≡ is_complete self }
     {
         match self {

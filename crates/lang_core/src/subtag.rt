@@ -1,3 +1,4 @@
+//! Subtags, and which kinds of the grammar each of them is (RFC 5646 section 2.1).
 ghost use Rattle.std.specs.Prelude.{◌≡◌, IsTrue, MatchOption, take, ◌&&◌, nat_le, length, false};
 ghost use Rattle.std.specs.List.{list_all, list_any};
 ghost use Rattle.std.specs.Char.{is_ascii_alphabetic, is_ascii_digit, is_ascii_alphanumeric};
@@ -8,7 +9,7 @@ use std::marker::Model;
 
 /// A subtag of 1 to 8 letters or digits in any case. Contracts see it in lower case.
 #[derive(Drop)]
-pub struct Subtag<'a> {
+pub(crate) struct Subtag<'a> {
     text: &'a [u8],
     has_letters_only: bool,
     has_digits_only: bool,
@@ -29,28 +30,12 @@ impl<'a> Model for Subtag<'a> {
         × (s.has_digits_only ≡ list_all is_digit (str_to_ascii_lowercase s.text.now)) };
 }
 
-fn all_letters(text: &[u8]) -> bool
-    ensures { result ≡ list_all is_ascii_alphabetic text.now }
-{
-    text.iter().all(|b| b.is_ascii_alphabetic())
-}
-
-fn all_digits(text: &[u8]) -> bool
-    ensures { result ≡ list_all is_ascii_digit text.now }
-{
-    text.iter().all(|b| b.is_ascii_digit())
-}
-
-fn all_alphanums(text: &[u8]) -> bool
-    ensures { result ≡ list_all is_ascii_alphanumeric text.now }
-{
-    text.iter().all(|b| b.is_ascii_alphanumeric())
-}
-
 impl<'a> Subtag<'a> {
     /// The subtag, if the text is one.
-    pub fn read(text: &'a [u8]) -> Option<Subtag<'a>>
-        ensures { let lower = str_to_ascii_lowercase text.now in MatchOption result (is_private_piece lower ≡ false) (λ subtag. (subtag ≡ lower) × IsTrue (is_private_piece lower)) }
+    pub(crate) fn read(text: &'a [u8]) -> Option<Subtag<'a>>
+        ensures { let lower = str_to_ascii_lowercase text.now in MatchOption result
+            (is_private_piece lower ≡ false)
+            (λ subtag. (subtag ≡ lower) × IsTrue (is_private_piece lower)) }
     {
         if text.is_empty() || text.len() > 8 {
             return None;
@@ -93,49 +78,49 @@ impl<'a> Subtag<'a> {
 
     /// 1*8ALPHA, the first subtag of a range.
     #[tactic(auto, unfolding(crate::specs::Grammar::is_run))]
-    pub fn is_first_of_range(&self) -> bool
+    pub(crate) fn is_first_of_range(&self) -> bool
         ensures { result ≡ is_run is_letter 1 8 self.now }
     {
         self.is_letters(1, 8)
     }
 
     #[tactic(auto, unfolding(crate::specs::Grammar::is_short_language))]
-    pub fn is_short_language(&self) -> bool
+    pub(crate) fn is_short_language(&self) -> bool
         ensures { result ≡ is_short_language self.now }
     {
         self.is_letters(2, 3)
     }
 
     #[tactic(auto, unfolding(crate::specs::Grammar::is_long_language))]
-    pub fn is_long_language(&self) -> bool
+    pub(crate) fn is_long_language(&self) -> bool
         ensures { result ≡ is_long_language self.now }
     {
         self.is_letters(4, 8)
     }
 
     #[tactic(auto, unfolding(crate::specs::Grammar::is_extlang))]
-    pub fn is_extlang(&self) -> bool
+    pub(crate) fn is_extlang(&self) -> bool
         ensures { result ≡ is_extlang self.now }
     {
         self.is_letters(3, 3)
     }
 
     #[tactic(auto, unfolding(crate::specs::Grammar::is_script))]
-    pub fn is_script(&self) -> bool
+    pub(crate) fn is_script(&self) -> bool
         ensures { result ≡ is_script self.now }
     {
         self.is_letters(4, 4)
     }
 
     #[tactic(auto, unfolding(crate::specs::Grammar::is_region))]
-    pub fn is_region(&self) -> bool
+    pub(crate) fn is_region(&self) -> bool
         ensures { result ≡ is_region self.now }
     {
         self.is_letters(2, 2) || self.is_digits(3, 3)
     }
 
     #[tactic(auto, unfolding(crate::specs::Grammar::is_variant))]
-    pub fn is_variant(&self) -> bool
+    pub(crate) fn is_variant(&self) -> bool
         ensures { result ≡ is_variant self.now }
     {
         self.is_alphanums(5, 8) || (self.is_alphanums(4, 4) && self.begins_with_digit())
@@ -151,7 +136,7 @@ impl<'a> Subtag<'a> {
     }
 
     #[tactic(auto, unfolding(crate::specs::Grammar::is_x))]
-    pub fn is_x(&self) -> bool
+    pub(crate) fn is_x(&self) -> bool
         ensures { result ≡ is_x self.now }
     {
         match self.text {
@@ -161,23 +146,41 @@ impl<'a> Subtag<'a> {
     }
 
     #[tactic(auto, unfolding(crate::specs::Grammar::is_singleton))]
-    pub fn is_singleton(&self) -> bool
+    pub(crate) fn is_singleton(&self) -> bool
         ensures { result ≡ is_singleton self.now }
     {
         self.is_alphanums(1, 1) && !self.is_x()
     }
 
     #[tactic(auto, unfolding(crate::specs::Grammar::is_extension_piece))]
-    pub fn is_extension_piece(&self) -> bool
+    pub(crate) fn is_extension_piece(&self) -> bool
         ensures { result ≡ is_extension_piece self.now }
     {
         self.is_alphanums(2, 8)
     }
 
     #[tactic(auto, unfolding(crate::specs::Grammar::is_private_piece))]
-    pub fn is_private_piece(&self) -> bool
+    pub(crate) fn is_private_piece(&self) -> bool
         ensures { result ≡ is_private_piece self.now }
     {
         self.is_alphanums(1, 8)
     }
+}
+
+fn all_letters(text: &[u8]) -> bool
+    ensures { result ≡ list_all is_ascii_alphabetic text.now }
+{
+    text.iter().all(|b| b.is_ascii_alphabetic())
+}
+
+fn all_digits(text: &[u8]) -> bool
+    ensures { result ≡ list_all is_ascii_digit text.now }
+{
+    text.iter().all(|b| b.is_ascii_digit())
+}
+
+fn all_alphanums(text: &[u8]) -> bool
+    ensures { result ≡ list_all is_ascii_alphanumeric text.now }
+{
+    text.iter().all(|b| b.is_ascii_alphanumeric())
 }

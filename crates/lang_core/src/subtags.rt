@@ -1,11 +1,12 @@
+//! The subtags of a tag or a range, one after another.
 ghost use Rattle.std.specs.Prelude.{◌≡◌, ◌∷◌, [], MatchOption, position};
 ghost use Rattle.std.specs.Iterator.{YieldsFirstBy, item_count};
 ghost use Rattle.lang_core.specs.Text.{pieces};
 
 use crate::pieces::{HYPHEN, separator_at};
 
-/// The subtags of a range as slices of its text, in order; each "*" is one. It takes no memory.
-#[derive(Drop)]
+/// The subtags of a tag or a range as slices of its text, in order; each "*" is one. It takes no memory.
+#[derive(Clone, Debug, Drop)]
 pub struct Subtags<'a> {
     rest: Option<&'a str>,
 }
@@ -46,7 +47,9 @@ impl<'a> Iterator for Subtags<'a> {
 
 /// The first subtag and the text after its hyphen, where there is one.
 fn cut_first(text: &str) -> Option<(&str, &str)>
-    ensures { MatchOption result (pieces text.now ≡ text.now ∷ []) (λ x. pieces text.now ≡ x.0.now ∷ pieces x.1.now) }
+    ensures { MatchOption result
+        (pieces text.now ≡ text.now ∷ [])
+        (λ x. pieces text.now ≡ x.0.now ∷ pieces x.1.now) }
 {
     match separator_at(text.as_bytes(), HYPHEN) {
         Some(at) => Some((&text[..at], &text[at + 1..])),

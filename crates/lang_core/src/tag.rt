@@ -1,18 +1,24 @@
+//! Tags (RFC 5646 section 2.1).
 ghost use Rattle.std.specs.Prelude.{◌≡◌, List, ℕ, MatchResult, IfOk, Some, Option};
-ghost use Rattle.std.specs.String.{string_bytes};
 ghost use Rattle.std.specs.Str.{bytes_eq, str_to_ascii_lowercase};
 ghost use Rattle.std.specs.Ordering.{nat_cmp};
 ghost use Rattle.std.specs.Cmp.Lexicographic.{slice_cmp};
-ghost use Rattle.std.specs.Cmp.Rules.{comparing};
+ghost use Rattle.std.specs.Cmp.Rules.{comparing, hashing};
+ghost use Rattle.std.specs.Fmt.{padded};
+ghost use Rattle.std.specs.Hash as fed;
 ghost use Rattle.lang_core.specs.Fault.{IsTag, RefusesTag};
+ghost use Rattle.lang_core.specs.Subtags.{subtags_left};
+ghost use Rattle.lang_core.specs.Text.{pieces};
 ghost use borrow.Author.Rules.{rules};
 
 use crate::fault::LangFault;
 use crate::grammar::tag_fault;
-use crate::text::{MAX_LEN, lower_text};
+use crate::subtags::Subtags;
+use crate::text::{LowerText, MAX_LEN};
 use std::alloc::{AllocError, Global};
 use std::cmp::Ordering;
 use std::fmt;
+use std::hash::{Hash, Hasher};
 use std::marker::Model;
 
 /// A well-formed language tag of 1 to 255 bytes, in lower case (RFC 5646 section 2.1).
@@ -21,30 +27,35 @@ use std::marker::Model;
 /// repeated. Tags are compared by the bytes of their texts.
 #[derive(Debug, Drop)]
 pub struct Tag {
-    text: String,
+    text: LowerText,
 }
 
 impl Model for Tag {
+    ghost use Rattle.std.specs.Prelude.{List, ℕ};
+    ghost use Rattle.lang_core.specs.Fault.{IsTag};
+    ghost use Rattle.lang_core.specs.LowerText.{lower_bytes};
+
     ghost Value = { List ℕ };
 
-    ghost view = { λ t. string_bytes t.text };
+    ghost view = { λ t. lower_bytes t.text };
 
-    ghost invariant = { λ t. IsTag (string_bytes t.text) };
+    ghost invariant = { λ t. IsTag (lower_bytes t.text) };
 }
 
 impl Tag {
     /// The tag that the bytes spell in any case, kept in lower case.
     ///
     /// Refused are, in this order, an empty text, one over 255 bytes, the first subtag that is not
-    /// 1 to 8 letters or digits, and subtags that make no tag. Only then one allocation is made, of
-    /// the tag's size, and out of memory is the last refusal.
+    /// 1 to 8 letters or digits, and subtags that make no tag. Only then a tag of more than 16 bytes
+    /// makes one allocation, of its size; out of memory is the last refusal.
     ///
     /// ```text
     /// Tag::parse(alloc, b"zh-Hant-CN")?.as_str()  "zh-hant-cn"
     /// Tag::parse(alloc, b"en--us")                Err(TagSubtag { offset: 3 })
     /// ```
     pub fn parse(alloc: Global, text: &[u8]) -> Result<Tag, LangFault>
-        ensures { let lower = str_to_ascii_lowercase text.now in MatchResult result (λ tag. IsTag lower × (tag ≡ lower)) (RefusesTag lower) }
+        ensures { let lower = str_to_ascii_lowercase text.now in
+            MatchResult result (λ tag. IsTag lower × (tag ≡ lower)) (RefusesTag lower) }
     {
         if text.is_empty() {
             return Err(LangFault::TagEmpty);
@@ -55,7 +66,7 @@ impl Tag {
         if let Some(fault) = tag_fault(text) {
             return Err(fault);
         }
-        let text = lower_text(alloc, text)?;
+        let text = LowerText::new(alloc, text)?;
         Ok(Tag { text })
     }
 
@@ -67,11 +78,18 @@ impl Tag {
         self.text.as_str()
     }
 
-    /// An equal tag, by one allocation.
+    /// The subtags, in order.
+    pub fn subtags(&self) -> Subtags<'_>
+        ensures { subtags_left result ≡ pieces self.now }
+    {
+        Subtags::new(self.text.as_str())
+    }
+
+    /// An equal tag, by as many allocations as it was parsed with.
     pub fn copy(&self, alloc: Global) -> Result<Tag, AllocError>
         ensures { IfOk result (λ tag. tag ≡ self.now) }
     {
-        let text = String::from_str(alloc, self.as_str())?;
+        let text = self.text.copy(alloc)?;
         Ok(Tag { text })
     }
 }
@@ -79,8 +97,10 @@ impl Tag {
 impl fmt::Display for Tag {
     ghost output = { λ tag. Some tag };
 
+    ghost styled_output = { λ tag spec. Some (padded spec tag) };
+
     fn fmt<W: fmt::Write>(&self, f: &mut fmt::Formatter<W>) -> fmt::Result {
-        f.write_str(self.as_str())
+        f.pad(self.as_str())
     }
 }
 
@@ -119,5 +139,15 @@ impl Ord for Tag {
 
     fn cmp(&self, other: &Tag) -> Ordering {
         self.as_str().cmp(other.as_str())
+    }
+}
+
+impl Hash for Tag {
+    ghost hash_input = { λ tag. fed.str tag };
+
+    ghost respects_eq = { Prim.search (hashing, rules) };
+
+    fn hash<H: Hasher>(&self, state: &mut H) {
+        self.as_str().hash(state);
     }
 }

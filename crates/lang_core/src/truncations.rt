@@ -1,3 +1,4 @@
+//! A range truncated for lookup (RFC 4647 section 3.4).
 ghost use Rattle.std.specs.Prelude.{◌≡◌, ◌≢◌, ◌<◌, ◌++◌, ◌∷◌, ◌||◌, [], ℕ, List, length, slice_index, MatchOption, IfSome};
 ghost use Rattle.std.specs.Iterator.{YieldsFirstBy, item_count};
 ghost use Rattle.lang_core.specs.Text.{pieces};
@@ -9,7 +10,7 @@ use crate::range_syntax::is_star;
 
 /// The lookup text of a range and its truncations as slices of it, longest first (RFC 4647
 /// section 3.4). It takes no memory.
-#[derive(Drop)]
+#[derive(Clone, Debug, Drop)]
 pub struct Truncations<'a> {
     next: Option<&'a str>,
 }
@@ -43,7 +44,8 @@ impl<'a> Iterator for Truncations<'a> {
 fn last_hyphen(text: &str) -> Option<usize>
     ensures { MatchOption result
         ((k : ℕ) → k < length text.now → slice_index text.now k ≢ 45)
-        (λ at. (at < length text.now) × (slice_index text.now at ≡ 45) × ((k : ℕ) → at < k → k < length text.now → slice_index text.now k ≢ 45)) }
+        (λ at. (at < length text.now) × (slice_index text.now at ≡ 45)
+        × ((k : ℕ) → at < k → k < length text.now → slice_index text.now k ≢ 45)) }
 {
     let bytes = text.as_bytes();
     for at in (0..bytes.len()).rev() {
@@ -56,7 +58,9 @@ fn last_hyphen(text: &str) -> Option<usize>
 
 /// The text before the last hyphen, and the last piece.
 fn cut_last(text: &str) -> Option<(&str, &str)>
-    ensures parts { MatchOption result (pieces text.now ≡ text.now ∷ []) (λ x. pieces text.now ≡ pieces x.0.now ++ x.1.now ∷ []) }
+    ensures parts { MatchOption result
+        (pieces text.now ≡ text.now ∷ [])
+        (λ x. pieces text.now ≡ pieces x.0.now ++ x.1.now ∷ []) }
     ensures shorter { IfSome result (λ x. length x.0.now < length text.now) }
 {
     match last_hyphen(text) {
@@ -96,7 +100,9 @@ fn is_cut(text: &str) -> bool
 
 /// The next truncation.
 fn shorter(text: &str) -> Option<&str>
-    ensures { MatchOption result (truncated (pieces text.now) ≡ []) (λ front. truncated (pieces text.now) ≡ candidates (pieces front.now)) }
+    ensures { MatchOption result
+        (truncated (pieces text.now) ≡ [])
+        (λ front. truncated (pieces text.now) ≡ candidates (pieces front.now)) }
 {
     let mut rest = text;
     while let Some((front, _)) = cut_last(rest) {

@@ -10,25 +10,28 @@ use Rattle.docs_core.specs.Calls as call
 use Rattle.docs_core.specs.Documents.{site_text}
 use Rattle.docs_core.specs.ReadsAs.{IsOfDocument, RefusesSite}
 use Rattle.docs_core.specs.Asks.{IsAsked}
+use Rattle.docs_core.specs.Bundled.{IsBundled}
 use Rattle.docs_core.specs.Exchange as exchange
 use Rattle.docs_core.specs.Fields.{IsSpelled}
+use Rattle.docs_core.specs.Missing as missing
 use Rattle.docs_core.specs.Replays.{RefusesReplay, Replays}
+use Rattle.docs_core.specs.Updated as updated
 use Rattle.docs_core.specs.declared.fault.DocCause.TheVariants.{NoMemory}
 use Rattle.docs_core.specs.declared.fault.DocFault.{DocFault}
 use Rattle.docs_core.specs.declared.asking.Ask.TheVariants as ask
-use Rattle.lang_core.specs.Lang.{SpellsLang}
+use Rattle.lang_core.specs.Lang.{RefusesLang, SpellsLang}
 use Rattle.nego_core.specs.Item.{Item}
-use Rattle.lexicat.specs.AskWords.{FilterWords, LookupWords, filter_words, lookup_words}
+use Rattle.lexicat.specs.AskWords.{BundleWords, FilterWords, LookupWords, bundle_words, filter_words, lookup_words}
 use Rattle.lexicat.specs.EditWords.{DeleteWords, PutWords, delete_words, put_words}
 use Rattle.lexicat.specs.Endings.{Ends, Writes}
 use Rattle.lexicat.specs.Given.{GivesNow, verb_met}
-use Rattle.lexicat.specs.Input.{AreDocuments}
+use Rattle.lexicat.specs.Input.{AreDocuments, AreThreeDocuments}
 use Rattle.lexicat.specs.Pick.{HasList, ReadsAs, RefusesRanges}
 use Rattle.lexicat.specs.Picks.{Picks}
 use Rattle.lexicat.specs.Reading.{Treats}
 use Rattle.lexicat.specs.Refusals.{number_of}
 use Rattle.lexicat.specs.Status.{status_of}
-use Rattle.lexicat.specs.Wording.{BarsNone, IsDefault, NoWords, RefusesDefault, RefusesKey, RefusesLabelWords}
+use Rattle.lexicat.specs.Wording.{BarsNone, HasDefault, IsDefault, NoWords, RefusesDefault, RefusesKey, RefusesLabelWords}
 use Rattle.lexicat.specs.declared.refusal.Refusal.{Refusal}
 use Rattle.lexicat.specs.declared.refusal.Refusal.TheVariants as refusal
 use Rattle.lexicat.specs.declared.verb.Verb.{Verb}
@@ -118,33 +121,63 @@ RefusesSync input fault = (first second : List ℕ) × AreDocuments input first 
 -- ---- `filter` and `lookup`
 
 abbrev pub FitsFilter : FilterWords → Type 0
-FitsFilter words = IsMessageId words.id × HasList words.scheme words.field
+FitsFilter words = IsMessageId words.id × HasList words.scheme words.malformed words.field
 
 abbrev pub BarsFilter : FilterWords → Refusal → Type 0
 BarsFilter words (refusal.Cell fault) = RefusesId words.id fault
-BarsFilter words (refusal.Field fault) = IsMessageId words.id × RefusesRanges words.scheme words.field fault
+BarsFilter words (refusal.Field fault) = IsMessageId words.id × RefusesRanges words.scheme words.malformed words.field fault
 BarsFilter words _ = ⊥
 
 abbrev pub IsFilter : FilterWords → List ℕ → List ℕ → ℕ → Type 0
-IsFilter words input text answered = (list : List Item) × (found : Bool) × IsMessageId words.id × ReadsAs words.scheme words.field list
+IsFilter words input text answered = (list : List Item) × (found : Bool) × IsMessageId words.id × ReadsAs words.scheme words.malformed words.field list
     × IsAsked input words.id (ask.Filter words.scheme list) text found × (answered ≡ (if found then 0 else 1))
 
-abbrev pub HasDefault : Option Text → Type 0
-HasDefault word = (default : Option (List ℕ)) × IsDefault word default
-
 abbrev pub FitsLookup : LookupWords → Type 0
-FitsLookup words = IsMessageId words.id × HasDefault words.default × HasList words.scheme words.field
+FitsLookup words = IsMessageId words.id × HasDefault words.default × HasList words.scheme words.malformed words.field
 
 -- the id, the default and then the field
 abbrev pub BarsLookup : LookupWords → Refusal → Type 0
 BarsLookup words (refusal.Cell fault) = RefusesId words.id fault
 BarsLookup words (refusal.Lang fault) = IsMessageId words.id × RefusesDefault words.default fault
-BarsLookup words (refusal.Field fault) = IsMessageId words.id × HasDefault words.default × RefusesRanges words.scheme words.field fault
+BarsLookup words (refusal.Field fault) = IsMessageId words.id × HasDefault words.default × RefusesRanges words.scheme words.malformed words.field fault
 BarsLookup words _ = ⊥
 
 abbrev pub IsLookup : LookupWords → List ℕ → List ℕ → ℕ → Type 0
-IsLookup words input text answered = (list : List Item) × (default : Option (List ℕ)) × (found : Bool) × IsMessageId words.id × IsDefault words.default default × ReadsAs words.scheme words.field list
+IsLookup words input text answered = (list : List Item) × (default : Option (List ℕ)) × (found : Bool) × IsMessageId words.id × IsDefault words.default default × ReadsAs words.scheme words.malformed words.field list
     × IsAsked input words.id (ask.Lookup list default) text found × (answered ≡ (if found then 0 else 1))
+
+-- ---- `bundle` and `missing`
+
+abbrev pub FitsBundle : BundleWords → Type 0
+FitsBundle words = HasDefault words.default × HasList words.scheme words.malformed words.field
+
+-- the default and then the field
+abbrev pub BarsBundle : BundleWords → Refusal → Type 0
+BarsBundle words (refusal.Lang fault) = RefusesDefault words.default fault
+BarsBundle words (refusal.Field fault) = HasDefault words.default × RefusesRanges words.scheme words.malformed words.field fault
+BarsBundle words _ = ⊥
+
+abbrev pub IsBundle : BundleWords → List ℕ → List ℕ → ℕ → Type 0
+IsBundle words input text answered = (list : List Item) × (default : Option (List ℕ)) × (found : Bool) × IsDefault words.default default × ReadsAs words.scheme words.malformed words.field list
+    × IsBundled input list default text found × (answered ≡ (if found then 0 else 1))
+
+abbrev pub FitsMissing : Text → Type 0
+FitsMissing word = IsSpelled word
+
+abbrev pub BarsMissing : Text → Refusal → Type 0
+BarsMissing word (refusal.Lang fault) = RefusesLang word fault
+BarsMissing word _ = ⊥
+
+abbrev pub IsMissing : Text → List ℕ → List ℕ → ℕ → Type 0
+IsMissing word input text answered = (lang : List ℕ) × (found : Bool) × SpellsLang word lang × missing.IsMissing input lang text found × (answered ≡ (if found then 0 else 1))
+
+-- ---- three documents
+
+abbrev pub IsUpdate : ℕ → List ℕ → List ℕ → ℕ → Type 0
+IsUpdate now input text answered = (site old new : List ℕ) × AreThreeDocuments input site old new × updated.IsUpdated site now old new text × (answered ≡ 0)
+
+abbrev pub RefusesUpdate : ℕ → List ℕ → DocFault → Type 0
+RefusesUpdate now input fault = (site old new : List ℕ) × AreThreeDocuments input site old new × updated.RefusesUpdate site now old new fault
 
 -- ---- `replay`
 
@@ -186,6 +219,18 @@ module _ {R W : Type 0} (remaining : R → Option (List ℕ)) (broken : R → Bo
   ActsLookup rows r r' w w' status = MatchOption (lookup_words rows) (IsMisused r r' w w' status)
       (λ words. Treats remaining broken contents failed (FitsLookup words) (BarsLookup words) (IsLookup words) RefusesOnly r r' w w' status)
 
+  abbrev pub ActsBundle : List Row → R → R → W → W → ℕ → Type 0
+  ActsBundle rows r r' w w' status = MatchOption (bundle_words rows) (IsMisused r r' w w' status)
+      (λ words. Treats remaining broken contents failed (FitsBundle words) (BarsBundle words) (IsBundle words) RefusesOnly r r' w w' status)
+
+  abbrev pub ActsMissing : List Row → R → R → W → W → ℕ → Type 0
+  ActsMissing rows r r' w w' status = MatchOption (first_of (codes "lang") rows) (IsMisused r r' w w' status)
+      (λ word. Treats remaining broken contents failed (FitsMissing word) (BarsMissing word) (IsMissing word) RefusesOnly r r' w w' status)
+
+  abbrev pub ActsUpdate : List Row → R → R → W → W → ℕ → Type 0
+  ActsUpdate rows r r' w w' status = (given : Option ℕ) × GivesNow rows given × MatchOption given (IsMisused r r' w w' status)
+      (λ now. Treats remaining broken contents failed NoWords BarsNone (IsUpdate now) (RefusesUpdate now) r r' w w' status)
+
   -- what the commands without words do
   abbrev pub Plain : (List ℕ → List ℕ → ℕ → Type 0) → (List ℕ → DocFault → Type 0) → R → R → W → W → ℕ → Type 0
   Plain answers refuses = Treats remaining broken contents failed NoWords BarsNone answers refuses
@@ -200,6 +245,9 @@ module _ {R W : Type 0} (remaining : R → Option (List ℕ)) (broken : R → Bo
   Obeys verb.Export rows r r' w w' status = Plain IsExport RefusesOnly r r' w w' status
   Obeys verb.Filter rows r r' w w' status = ActsFilter rows r r' w w' status
   Obeys verb.Lookup rows r r' w w' status = ActsLookup rows r r' w w' status
+  Obeys verb.Bundle rows r r' w w' status = ActsBundle rows r r' w w' status
+  Obeys verb.Missing rows r r' w w' status = ActsMissing rows r r' w w' status
+  Obeys verb.Update rows r r' w w' status = ActsUpdate rows r r' w w' status
   Obeys verb.Summary rows r r' w w' status = Plain IsSummary RefusesOnly r r' w w' status
   Obeys verb.Delta rows r r' w w' status = Plain IsDelta RefusesDelta r r' w w' status
   Obeys verb.Take rows r r' w w' status = Plain IsTake RefusesTake r r' w w' status

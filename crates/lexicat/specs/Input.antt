@@ -6,3 +6,7 @@ abbrev pub AreDocuments : List ℕ → List ℕ → List ℕ → Type 0
 AreDocuments input first second = MatchOption (position (λ byte. byte == 10) input)
     ((first ≡ input) × (second ≡ []))
     (λ at. (first ≡ take at input) × (second ≡ drop (at + 1) input))
+
+-- what stands in front of the first LF, between it and the second, and behind both
+abbrev pub AreThreeDocuments : List ℕ → List ℕ → List ℕ → List ℕ → Type 0
+AreThreeDocuments input first second third = (rest : List ℕ) × AreDocuments input first rest × AreDocuments rest second third

@@ -4,6 +4,7 @@ pub mod Asked
 pub mod EditWords
 pub mod Endings
 pub mod Given
+pub mod Help
 pub mod Input
 pub mod Pick
 pub mod PickFault

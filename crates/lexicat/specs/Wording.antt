@@ -44,6 +44,9 @@ IsDefault None default = default ≡ None
 IsDefault (Some word) None = ⊥
 IsDefault (Some word) (Some lang) = SpellsLang word lang
 
+abbrev pub HasDefault : Option Text → Type 0
+HasDefault word = (default : Option (List ℕ)) × IsDefault word default
+
 -- why its word is no language
 abbrev pub RefusesDefault : Option Text → LangFault → Type 0
 RefusesDefault None fault = ⊥

@@ -2,7 +2,7 @@
 use Rattle.std.specs.Prelude.{ℕ, List, Some, true, codes}
 use Rattle.std.specs.Borrow.{Bor}
 use Rattle.clap.specs.Words.{App, Rule, new_app, new_rule, with_rule, with_subcommand}
-use Rattle.clap.specs.declared.builder.action.ArgAction.TheVariants.{Append}
+use Rattle.clap.specs.declared.builder.action.ArgAction.TheVariants.{Append, SetTrue}
 use Rattle.clap.specs.declared.builder.value_parser.ValueParser.TheVariants.{Names, Unsigned}
 
 -- the words that a scheme may be, where they lie in memory
@@ -12,15 +12,22 @@ Schemes = Bor (List (Bor (List ℕ)))
 abbrev pub scheme_rule : Schemes → Rule
 scheme_rule schemes = record (new_rule (codes "scheme")) { long = Some (codes "scheme"); value_names = 1; parser = Some (Names schemes) }
 
+-- `--lenient`, without a value
+abbrev pub lenient_rule : Rule
+lenient_rule = record (new_rule (codes "lenient")) { long = Some (codes "lenient"); action = Some SetTrue }
+
+abbrev pub default_rule : Rule
+default_rule = record (new_rule (codes "default")) { long = Some (codes "default"); value_names = 1 }
+
 abbrev pub ranges_rule : Rule
 ranges_rule = record (new_rule (codes "ranges")) { value_names = 1; required = true }
 
 abbrev pub tags_rule : Rule
 tags_rule = record (new_rule (codes "tags")) { value_names = 1; required = true; range = Some (record { start_inclusive = 1; end_inclusive = 18446744073709551615 }); action = Some Append }
 
--- `pick [--scheme SCHEME] RANGES TAG..`
+-- `pick [--scheme SCHEME] [--lenient] [--default LANG] RANGES TAG..`
 abbrev pub pick_app : Schemes → App
-pick_app schemes = with_rule (with_rule (with_rule (new_app (codes "pick")) (scheme_rule schemes)) ranges_rule) tags_rule
+pick_app schemes = with_rule (with_rule (with_rule (with_rule (with_rule (new_app (codes "pick")) (scheme_rule schemes)) lenient_rule) default_rule) ranges_rule) tags_rule
 
 -- `--now N`, a number of 64 bits
 abbrev pub now_rule : Rule
@@ -34,9 +41,6 @@ id_rule = record (new_rule (codes "id")) { long = Some (codes "id"); value_names
 
 abbrev pub lang_rule : Rule
 lang_rule = record (new_rule (codes "lang")) { long = Some (codes "lang"); value_names = 1; required = true }
-
-abbrev pub default_rule : Rule
-default_rule = record (new_rule (codes "default")) { long = Some (codes "default"); value_names = 1 }
 
 abbrev pub field_rule : Rule
 field_rule = record (new_rule (codes "field")) { value_names = 1; required = true }
@@ -66,13 +70,25 @@ import_app = with_rule (new_app (codes "import")) now_rule
 abbrev pub export_app : App
 export_app = new_app (codes "export")
 
--- `filter --id ID [--scheme SCHEME] FIELD`
+-- `filter --id ID [--scheme SCHEME] [--lenient] FIELD`
 abbrev pub filter_app : Schemes → App
-filter_app schemes = with_rule (with_rule (with_rule (new_app (codes "filter")) id_rule) (scheme_rule schemes)) field_rule
+filter_app schemes = with_rule (with_rule (with_rule (with_rule (new_app (codes "filter")) id_rule) (scheme_rule schemes)) lenient_rule) field_rule
 
--- `lookup --id ID [--scheme SCHEME] [--default LANG] FIELD`
+-- `lookup --id ID [--scheme SCHEME] [--lenient] [--default LANG] FIELD`
 abbrev pub lookup_app : Schemes → App
-lookup_app schemes = with_rule (with_rule (with_rule (with_rule (new_app (codes "lookup")) id_rule) (scheme_rule schemes)) default_rule) field_rule
+lookup_app schemes = with_rule (with_rule (with_rule (with_rule (with_rule (new_app (codes "lookup")) id_rule) (scheme_rule schemes)) lenient_rule) default_rule) field_rule
+
+-- `bundle [--scheme SCHEME] [--lenient] [--default LANG] FIELD`
+abbrev pub bundle_app : Schemes → App
+bundle_app schemes = with_rule (with_rule (with_rule (with_rule (new_app (codes "bundle")) (scheme_rule schemes)) lenient_rule) default_rule) field_rule
+
+-- `missing --lang LANG`
+abbrev pub missing_app : App
+missing_app = with_rule (new_app (codes "missing")) lang_rule
+
+-- `update --now N`
+abbrev pub update_app : App
+update_app = with_rule (new_app (codes "update")) now_rule
 
 abbrev pub summary_app : App
 summary_app = new_app (codes "summary")
@@ -96,11 +112,14 @@ bare_app = record (new_app (codes "lexicat")) { top = record (new_app (codes "le
 abbrev pub with_site_commands : Schemes → App → App
 with_site_commands schemes app = with_subcommand (with_subcommand (with_subcommand (with_subcommand (with_subcommand app (pick_app schemes).top) new_site_app.top) put_app.top) delete_app.top) status_app.top
 
-abbrev pub with_label_commands : Schemes → App → App
-with_label_commands schemes app = with_subcommand (with_subcommand (with_subcommand (with_subcommand app import_app.top) export_app.top) (filter_app schemes).top) (lookup_app schemes).top
+abbrev pub with_label_commands : App → App
+with_label_commands app = with_subcommand (with_subcommand (with_subcommand (with_subcommand app import_app.top) update_app.top) export_app.top) missing_app.top
+
+abbrev pub with_questions : Schemes → App → App
+with_questions schemes app = with_subcommand (with_subcommand (with_subcommand app (filter_app schemes).top) (lookup_app schemes).top) (bundle_app schemes).top
 
 abbrev pub with_exchange_commands : App → App
 with_exchange_commands app = with_subcommand (with_subcommand (with_subcommand (with_subcommand (with_subcommand app summary_app.top) delta_app.top) take_app.top) sync_app.top) replay_app.top
 
 abbrev pub lexicat_app : Schemes → App
-lexicat_app schemes = with_exchange_commands (with_label_commands schemes (with_site_commands schemes bare_app))
+lexicat_app schemes = with_exchange_commands (with_questions schemes (with_label_commands (with_site_commands schemes bare_app)))

@@ -1,7 +1,7 @@
 //! The arguments of the commands, each with its rule.
 ghost use Rattle.std.specs.Prelude.{◌≡◌, false};
 ghost use Rattle.clap.specs.Words.{rule_of};
-ghost use Rattle.lexicat.specs.Words.{default_rule, field_rule, id_rule, lang_rule, now_rule, ranges_rule, scheme_rule, site_rule, tags_rule, texts_rule};
+ghost use Rattle.lexicat.specs.Words.{default_rule, field_rule, id_rule, lang_rule, lenient_rule, now_rule, ranges_rule, scheme_rule, site_rule, tags_rule, texts_rule};
 
 use clap::{Arg, ArgAction, value_parser};
 use std::alloc::Global;
@@ -16,6 +16,19 @@ pub fn scheme<'a>(alloc: Global, schemes: &'a [&'a str]) -> Arg<'a>
         .value_name("SCHEME")
         .help("How the ranges are read: with weights (basic), or with * anywhere (extended)")
         .value_parser(schemes)
+}
+
+/// `--lenient`, which takes no value.
+pub fn lenient<'a>(alloc: Global) -> Arg<'a>
+    ensures rule { rule_of result ≡ lenient_rule }
+    ensures local { result.global ≡ false }
+{
+    Arg::new(alloc, "lenient")
+        .long("lenient")
+        .help(
+            "Pass over malformed elements of the ranges, also one that would refuse a language, as de;q=0.0000",
+        )
+        .action(ArgAction::SetTrue)
 }
 
 /// RANGES, a priority list of language ranges.
@@ -91,7 +104,7 @@ pub fn lang<'a>(alloc: Global) -> Arg<'a>
         .required(true)
 }
 
-/// `--default`, the language that a lookup falls back to.
+/// `--default`, the language that a lookup or a pick falls back to.
 pub fn default<'a>(alloc: Global) -> Arg<'a>
     ensures rule { rule_of result ≡ default_rule }
     ensures local { result.global ≡ false }
@@ -100,7 +113,7 @@ pub fn default<'a>(alloc: Global) -> Arg<'a>
         .long("default")
         .value_name("LANG")
         .help(
-            "The language to answer where nothing fits, if it has a label and FIELD does not refuse it",
+            "The language to answer where nothing fits, if it is there and the ranges do not refuse it",
         )
 }
 

@@ -1,14 +1,16 @@
 //! The command line: the program with its subcommands, each of which stands in a file of its own.
 ghost use Rattle.std.specs.Prelude.{◌≡◌, IfOk};
 ghost use Rattle.clap.specs.Words.{app_of};
-ghost use Rattle.lexicat.specs.Words.{bare_app, lexicat_app, with_site_commands, with_label_commands, with_exchange_commands};
+ghost use Rattle.lexicat.specs.Words.{bare_app, lexicat_app, with_site_commands, with_label_commands, with_questions, with_exchange_commands};
 
+pub mod bundle;
 pub mod delete;
 pub mod delta;
 pub mod export;
 pub mod filter;
 pub mod import;
 pub mod lookup;
+pub mod missing;
 pub mod new;
 pub mod pick;
 pub mod put;
@@ -17,12 +19,13 @@ pub mod status;
 pub mod summary;
 pub mod sync;
 pub mod take;
+pub mod update;
 
 use clap::Command;
 use std::alloc::{AllocError, Global};
 
 /// The version that `--version` tells.
-const VERSION: &str = "0.1.0";
+const VERSION: &str = "0.2.0";
 
 /// The program and all its commands.
 pub fn lexicat<'a>(alloc: Global, schemes: &'a [&'a str]) -> Result<Command<'a>, AllocError>
@@ -30,8 +33,9 @@ pub fn lexicat<'a>(alloc: Global, schemes: &'a [&'a str]) -> Result<Command<'a>,
 {
     let bare = bare(alloc)?;
     let sites = site_commands(alloc, schemes, bare)?;
-    let labels = label_commands(alloc, schemes, sites)?;
-    exchange_commands(alloc, labels)
+    let labels = label_commands(alloc, sites)?;
+    let questions = questions(alloc, schemes, labels)?;
+    exchange_commands(alloc, questions)
 }
 
 /// The program without its commands.
@@ -43,7 +47,7 @@ fn bare<'a>(alloc: Global) -> Result<Command<'a>, AllocError>
             "Keeps labels in many languages at several sites, and picks the one that a reader wants",
         )
         .after_help(
-            "It reads standard input and writes standard output. 'lexicat COMMAND --help' has an example of each command.",
+            "It reads standard input and writes standard output. 'lexicat help COMMAND' has an example of each command; they run one after another, in the order above.\nA line 'refused N: TEXT' is refusal N of the table in 'man lexicat', under DIAGNOSTICS.",
         )
         .version(VERSION)
         .no_binary_name(true)
@@ -68,19 +72,29 @@ fn site_commands<'a>(
         .subcommand(status::command(alloc))
 }
 
-/// Adds the commands that bring labels in and out, and that ask for them.
-fn label_commands<'a>(
+/// Adds the commands that bring labels in and out.
+fn label_commands<'a>(alloc: Global, command: Command<'a>) -> Result<Command<'a>, AllocError>
+    ensures { IfOk result (λ c. app_of c ≡ with_label_commands (app_of command.entry)) }
+{
+    command
+        .subcommand(import::command(alloc)?)?
+        .subcommand(update::command(alloc)?)?
+        .subcommand(export::command(alloc))?
+        .subcommand(missing::command(alloc)?)
+}
+
+/// Adds the commands that ask for labels.
+fn questions<'a>(
     alloc: Global,
     schemes: &'a [&'a str],
     command: Command<'a>,
 ) -> Result<Command<'a>, AllocError>
-    ensures { IfOk result (λ c. app_of c ≡ with_label_commands schemes.entry (app_of command.entry)) }
+    ensures { IfOk result (λ c. app_of c ≡ with_questions schemes.entry (app_of command.entry)) }
 {
     command
-        .subcommand(import::command(alloc)?)?
-        .subcommand(export::command(alloc))?
         .subcommand(filter::command(alloc, schemes)?)?
-        .subcommand(lookup::command(alloc, schemes)?)
+        .subcommand(lookup::command(alloc, schemes)?)?
+        .subcommand(bundle::command(alloc, schemes)?)
 }
 
 /// Adds the commands by which sites exchange what they hold, and the one that replays a script.

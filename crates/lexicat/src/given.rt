@@ -7,7 +7,7 @@ ghost use Rattle.lexicat.specs.PickWords as spec;
 
 use crate::verb::{Verb, verb_of};
 use clap::ArgMatches;
-use nego_core::Scheme;
+use nego_core::{Malformed, Scheme};
 
 /// The command that was met, with its matches.
 pub fn met<'m, 'a>(matches: &'m ArgMatches<'a>) -> Option<(Verb, &'m ArgMatches<'a>)>
@@ -48,5 +48,16 @@ pub fn scheme_of(word: Option<&str>) -> Scheme
     match word {
         Some("extended") => Scheme::Extended,
         _ => Scheme::Basic,
+    }
+}
+
+/// What becomes of malformed elements: clap gives the flag `--lenient` the text "true" where it
+/// stands, and else "false".
+pub fn malformed_of(word: Option<&str>) -> Malformed
+    ensures { result ≡ spec.malformed_of (option_copied word.entry) }
+{
+    match word {
+        Some("true") => Malformed::PassedOver,
+        _ => Malformed::Refused,
     }
 }

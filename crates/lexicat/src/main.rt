@@ -1,6 +1,8 @@
 //! `lexicat`: language negotiation on the command line.
 #![tactic(auto)]
 
+ghost use Rattle.std.specs.Prelude.{◌≡◌, false};
+
 mod act;
 mod answer;
 mod arguments;
@@ -18,7 +20,8 @@ mod status;
 mod verb;
 mod wording;
 
-use docs_core::{Input, Output};
+use docs_core::{Input, Output, Sink, write_out};
+use fault_line::refuse_for_memory;
 use run::run;
 use std::env::Env;
 use std::process::ExitCode;
@@ -27,7 +30,10 @@ use std::{env, io};
 fn main(rt: HostRuntime) -> ExitCode {
     let words = match words_of(&rt) {
         Ok(words) => words,
-        Err(error) => return ExitCode::from(refuse_process(&rt, &error)),
+        Err(error) => {
+            let status = refuse_process(&mut Output::new(rt.stderr()), &error);
+            return ExitCode::from(status);
+        }
     };
     ExitCode::from(run(
         rt.alloc(),
@@ -38,13 +44,15 @@ fn main(rt: HostRuntime) -> ExitCode {
     ))
 }
 
-/// The status where the process's words can't be had: one is not UTF-8, or there is no memory for
-/// them.
-fn refuse_process(rt: &impl Eprint, error: &io::Error) -> u8 {
+/// Tells why the process's words can't be had, and gives the status: there is no memory for them,
+/// or one is not UTF-8.
+fn refuse_process<F: Sink>(faults: &mut F, error: &io::Error) -> u8
+    requires { F.failed faults.old ≡ false }
+{
     if error.kind() == io::ErrorKind::OutOfMemory {
-        return status::OUT_OF_MEMORY;
+        return refuse_for_memory(faults);
     }
-    let _ = eprintln!(rt; "error: a word is not UTF-8");
+    let _ = write_out(faults, b"error: a word is not UTF-8\n");
     status::USAGE
 }
 

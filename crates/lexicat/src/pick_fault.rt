@@ -12,7 +12,7 @@ pub enum PickFault {
     /// The ranges are no priority list: 8, 9.
     #[error("{0}")]
     Ranges(NegoFault),
-    /// A tag is no language: 1 to 4.
+    /// The default or a tag is no language: 1 to 4.
     #[error("{0}")]
     Tag(LangFault),
     /// 26.

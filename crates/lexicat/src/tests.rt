@@ -11,6 +11,7 @@ mod refused_documents;
 mod rows;
 mod streams;
 mod texts;
+mod translators;
 mod usage;
 mod wording;
 mod words;

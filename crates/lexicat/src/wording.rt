@@ -26,7 +26,7 @@ pub fn read_key(alloc: Global, id: &str, lang: &str) -> Result<Key, Refusal>
 }
 
 /// The language of this word.
-fn read_lang(alloc: Global, word: &str) -> Result<Lang, LangFault>
+pub fn read_lang(alloc: Global, word: &str) -> Result<Lang, LangFault>
     ensures { MatchResult result (SpellsLang word.now) (RefusesLang word.now) }
 {
     Lang::parse(alloc, word.as_bytes())

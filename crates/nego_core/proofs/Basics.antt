@@ -1,5 +1,5 @@
 -- Small facts on tests, options and list places.
-use Rattle.std.proofs.Common.{ℕ, ◌≡◌, ◌<◌, ◌+◌, inl, inr, List, [], ◌∷◌, Option, Some, None, Bool, true, false, cond, length, get_or, drop, refl, sym, ◌∙◌, ap, subst, arith, drop-cons, add-one}
+use Rattle.std.proofs.Common.{ℕ, ◌≡◌, ◌<◌, ◌+◌, ◌⊎◌, inl, inr, List, [], ◌∷◌, Option, Some, None, Bool, true, false, cond, length, get_or, drop, refl, sym, ◌∙◌, ap, subst, arith, drop-cons, add-one}
 use Rattle.std.specs.Prelude.{Result, Ok, Err, IfOk, All, AllPairs, Contains, map, filter, not, zero, suc}
 use Rattle.std.proofs.lemmas.List.{length-map, get_or-map}
 use Rattle.std.specs.List.{slice_get}
@@ -55,6 +55,13 @@ contains_first x xs = (0, omega arith, refl)
 
 pub contains_later : {X : Type 0} (y x : X) (xs : List X) → Contains xs x → Contains (y ∷ xs) x
 contains_later y x xs c = (c.0 + 1, (let low = c.1 in omega arith), rw add-one c.2)
+
+cases_at : {X : Type 0} (x y : X) (xs : List X) (k : ℕ) → k < length (x ∷ xs) → get_or (x ∷ xs) k y ≡ y → (x ≡ y) ⊎ Contains xs y
+cases_at x y xs zero low e = inl e
+cases_at x y xs (suc k) low e = inr (k, omega arith, e)
+
+pub contains_cases : {X : Type 0} (x y : X) (xs : List X) → Contains (x ∷ xs) y → (x ≡ y) ⊎ Contains xs y
+contains_cases x y xs c = cases_at x y xs c.0 c.1 c.2
 
 pub contains_map : {X Y : Type 0} (f : X → Y) (xs : List X) (x : X) → Contains xs x → Contains (map f xs) (f x)
 contains_map {X = X} f xs x c = (c.0, (let size : length (map f xs) ≡ length xs = simp length-map in let low = c.1 in omega arith), get_or-map f xs c.0 x (f x) c.1 ∙ ap f c.2)

@@ -16,18 +16,18 @@ use Rattle.nego_core.specs.Blanks.{is_blank, AreBlanks, skip_blanks, is_plain, E
 use Rattle.nego_core.specs.Element.{RangeGrammar, WeightGrammar, IsPadded, IsStart, HasStart}
 use Rattle.nego_core.specs.Weight.{HasWeight, IsTail}
 use Rattle.nego_core.specs.Item.{Item}
-use Rattle.nego_core.specs.declared.field_kind.FieldKind.{FieldKind}
-use Rattle.nego_core.specs.declared.field_kind.FieldKind.TheVariants.{Accept, Ranges}
+use Rattle.nego_core.specs.declared.scheme.Scheme.{Scheme}
+use Rattle.nego_core.specs.declared.scheme.Scheme.TheVariants.{Basic, Extended}
 
 -- ---- the bytes of a range
 
-range_is_extended : (kind : FieldKind) (text : List ℕ) → IsRange (RangeGrammar kind) text → ExtendedRange (pieces text)
-range_is_extended Accept text h = basic_extended (pieces text) h.1
-range_is_extended Ranges text h = h.1
+range_is_extended : (scheme : Scheme) (text : List ℕ) → IsRange (RangeGrammar scheme) text → ExtendedRange (pieces text)
+range_is_extended Basic text h = basic_extended (pieces text) h.1
+range_is_extended Extended text h = h.1
 
-range_is_sized : (kind : FieldKind) (text : List ℕ) → IsRange (RangeGrammar kind) text → IsSized text
-range_is_sized Accept text h = h.0
-range_is_sized Ranges text h = h.0
+pub range_is_sized : (scheme : Scheme) (text : List ℕ) → IsRange (RangeGrammar scheme) text → IsSized text
+range_is_sized Basic text h = h.0
+range_is_sized Extended text h = h.0
 
 stop_is : (b : ℕ) → is_plain b ≡ false → (b ≡ 32) ⊎ ((b ≡ 9) ⊎ (b ≡ 59))
 stop_is b h = grind (arith, nat_tests)
@@ -52,17 +52,17 @@ all_lower_plain (b ∷ text) h =
     let parts = and_parts (is_range_byte (to_ascii_lowercase b)) (list_all is_range_byte (str_to_ascii_lowercase text)) h in
     and_from _ _ (lower_plain b parts.0) (all_lower_plain text parts.1)
 
-range_plain : (kind : FieldKind) (text : List ℕ) → IsRange (RangeGrammar kind) (str_to_ascii_lowercase text) → list_all is_plain text ≡ true
-range_plain kind text h = all_lower_plain text (range_bytes (str_to_ascii_lowercase text) (range_is_extended kind (str_to_ascii_lowercase text) h))
+range_plain : (scheme : Scheme) (text : List ℕ) → IsRange (RangeGrammar scheme) (str_to_ascii_lowercase text) → list_all is_plain text ≡ true
+range_plain scheme text h = all_lower_plain text (range_bytes (str_to_ascii_lowercase text) (range_is_extended scheme (str_to_ascii_lowercase text) h))
 
-range_some : (kind : FieldKind) (text : List ℕ) → IsRange (RangeGrammar kind) (str_to_ascii_lowercase text) → 0 < length text
-range_some kind text h =
-    let sized = range_is_sized kind (str_to_ascii_lowercase text) h in
+range_some : (scheme : Scheme) (text : List ℕ) → IsRange (RangeGrammar scheme) (str_to_ascii_lowercase text) → 0 < length text
+range_some scheme text h =
+    let sized = range_is_sized scheme (str_to_ascii_lowercase text) h in
     let size : length (str_to_ascii_lowercase text) ≡ length text = simp length-map in
     omega arith
 
-pub start_some : (kind : FieldKind) (text : List ℕ) (item : Item) → IsStart kind text item → 0 < length text
-start_some kind text item s = longer s.range s.rest text s.whole (range_some kind s.range s.range_ok) where
+pub start_some : (scheme : Scheme) (text : List ℕ) (item : Item) → IsStart scheme text item → 0 < length text
+start_some scheme text item s = longer s.range s.rest text s.whole (range_some scheme s.range s.range_ok) where
   longer : (range rest text : List ℕ) → text ≡ range ++ rest → 0 < length range → 0 < length text
   longer [] rest text e n = absurd (omega arith)
   longer (b ∷ range) rest text e n = let size : length text ≡ length (b ∷ (range ++ rest)) = ap length e in omega arith
@@ -81,43 +81,43 @@ weight_ends text weight after n e w =
 empty_ends : (text weight after : List ℕ) → text ≡ weight ++ after → weight ≡ [] → AreBlanks after → EndsPlain text
 empty_ends text weight after e none blank = subst EndsPlain (sym (e ∙ ap (λ (x : List ℕ). x ++ after) none)) (blanks_end after blank)
 
-tail_ends : (kind : FieldKind) (text : List ℕ) (n : ℕ) → IsTail (WeightGrammar kind) text n → EndsPlain text
-tail_ends Accept text n t = elim t.weight_ok [
+pub tail_ends : (scheme : Scheme) (text : List ℕ) (n : ℕ) → IsTail (WeightGrammar scheme) text n → EndsPlain text
+tail_ends Basic text n t = elim t.weight_ok [
   | inl none ↦ empty_ends text t.weight t.after t.whole none.0 t.after_ok
   | inr w ↦ weight_ends text t.weight t.after n t.whole w
 ]
-tail_ends Ranges text n t = empty_ends text t.weight t.after t.whole t.weight_ok.0 t.after_ok
+tail_ends Extended text n t = empty_ends text t.weight t.after t.whole t.weight_ok.0 t.after_ok
 
 -- ---- a range and what follows it
 
 -- the bytes up to a stop are the range
-record IsItemOf (kind : FieldKind) (token rest : List ℕ) (item : Item) : Type 0 where
-  range_ok : IsRange (RangeGrammar kind) (str_to_ascii_lowercase token)
+record IsItemOf (scheme : Scheme) (token rest : List ℕ) (item : Item) : Type 0 where
+  range_ok : IsRange (RangeGrammar scheme) (str_to_ascii_lowercase token)
   range_is : item.range ≡ str_to_ascii_lowercase token
-  rest_ok : IsTail (WeightGrammar kind) rest item.weight
+  rest_ok : IsTail (WeightGrammar scheme) rest item.weight
 
-item_of : (kind : FieldKind) (text token rest : List ℕ) (item : Item) → IsCut text token rest → IsStart kind text item → IsItemOf kind token rest item
-item_of kind text token rest item c s =
-    let same = cut_only token rest s.range s.rest (sym c.whole ∙ s.whole) c.plain (range_plain kind s.range s.range_ok) c.ends (tail_ends kind s.rest item.weight s.rest_ok) in
+item_of : (scheme : Scheme) (text token rest : List ℕ) (item : Item) → IsCut text token rest → IsStart scheme text item → IsItemOf scheme token rest item
+item_of scheme text token rest item c s =
+    let same = cut_only token rest s.range s.rest (sym c.whole ∙ s.whole) c.plain (range_plain scheme s.range s.range_ok) c.ends (tail_ends scheme s.rest item.weight s.rest_ok) in
     record {
-      range_ok = subst (λ (x : List ℕ). IsRange (RangeGrammar kind) (str_to_ascii_lowercase x)) (sym same.0) s.range_ok;
+      range_ok = subst (λ (x : List ℕ). IsRange (RangeGrammar scheme) (str_to_ascii_lowercase x)) (sym same.0) s.range_ok;
       range_is = s.range_is ∙ ap str_to_ascii_lowercase (sym same.0);
-      rest_ok = subst (λ (x : List ℕ). IsTail (WeightGrammar kind) x item.weight) (sym same.1) s.rest_ok;
+      rest_ok = subst (λ (x : List ℕ). IsTail (WeightGrammar scheme) x item.weight) (sym same.1) s.rest_ok;
     }
 
 -- a range and what follows it are told by the text
-pub start_is : (kind : FieldKind) (text : List ℕ) (i j : Item) → (s : IsStart kind text i) → (t : IsStart kind text j) → (s.range ≡ t.range) × (s.rest ≡ t.rest)
-start_is kind text i j s t =
-    cut_only s.range s.rest t.range t.rest (sym s.whole ∙ t.whole) (range_plain kind s.range s.range_ok) (range_plain kind t.range t.range_ok) (tail_ends kind s.rest i.weight s.rest_ok) (tail_ends kind t.rest j.weight t.rest_ok)
+pub start_is : (scheme : Scheme) (text : List ℕ) (i j : Item) → (s : IsStart scheme text i) → (t : IsStart scheme text j) → (s.range ≡ t.range) × (s.rest ≡ t.rest)
+start_is scheme text i j s t =
+    cut_only s.range s.rest t.range t.rest (sym s.whole ∙ t.whole) (range_plain scheme s.range s.range_ok) (range_plain scheme t.range t.range_ok) (tail_ends scheme s.rest i.weight s.rest_ok) (tail_ends scheme t.rest j.weight t.rest_ok)
 
-pub no_item_range : (kind : FieldKind) (text token rest : List ℕ) → IsCut text token rest → ¬ IsRange (RangeGrammar kind) (str_to_ascii_lowercase token) → (item : Item) → ¬ IsStart kind text item
-no_item_range kind text token rest c h item s = h (item_of kind text token rest item c s).range_ok
+pub no_item_range : (scheme : Scheme) (text token rest : List ℕ) → IsCut text token rest → ¬ IsRange (RangeGrammar scheme) (str_to_ascii_lowercase token) → (item : Item) → ¬ IsStart scheme text item
+no_item_range scheme text token rest c h item s = h (item_of scheme text token rest item c s).range_ok
 
-pub no_item_weight : (kind : FieldKind) (text token rest : List ℕ) → IsCut text token rest → ((n : ℕ) → ¬ IsTail (WeightGrammar kind) rest n) → (item : Item) → ¬ IsStart kind text item
-no_item_weight kind text token rest c h item s = h item.weight (item_of kind text token rest item c s).rest_ok
+pub no_item_weight : (scheme : Scheme) (text token rest : List ℕ) → IsCut text token rest → ((n : ℕ) → ¬ IsTail (WeightGrammar scheme) rest n) → (item : Item) → ¬ IsStart scheme text item
+no_item_weight scheme text token rest c h item s = h item.weight (item_of scheme text token rest item c s).rest_ok
 
-pub has_item : (kind : FieldKind) (text token rest : List ℕ) (n : ℕ) → IsCut text token rest → IsRange (RangeGrammar kind) (str_to_ascii_lowercase token) → IsTail (WeightGrammar kind) rest n → HasStart kind text
-has_item kind text token rest n c r t = (record { range = str_to_ascii_lowercase token; weight = n }, record { range = token; rest = rest; whole = c.whole; range_ok = r; range_is = refl; rest_ok = t })
+pub has_item : (scheme : Scheme) (text token rest : List ℕ) (n : ℕ) → IsCut text token rest → IsRange (RangeGrammar scheme) (str_to_ascii_lowercase token) → IsTail (WeightGrammar scheme) rest n → HasStart scheme text
+has_item scheme text token rest n c r t = (record { range = str_to_ascii_lowercase token; weight = n }, record { range = token; rest = rest; whole = c.whole; range_ok = r; range_is = refl; rest_ok = t })
 
 -- ---- and the blanks before it
 
@@ -130,21 +130,21 @@ skip_plain (b ∷ range) rest n h =
       | inr e ↦ skip_none b (range ++ rest) e
     ]
 
-pub start_of_padded : (kind : FieldKind) (piece : List ℕ) (item : Item) → IsPadded kind piece item → IsStart kind (skip_blanks piece) item
-start_of_padded kind piece item p =
+pub start_of_padded : (scheme : Scheme) (piece : List ℕ) (item : Item) → IsPadded scheme piece item → IsStart scheme (skip_blanks piece) item
+start_of_padded scheme piece item p =
     let e = p.element_ok in
     let whole : p.element ++ p.after ≡ e.range ++ (e.weight ++ p.after) = ap (λ (x : List ℕ). x ++ p.after) e.whole ∙ append_assoc e.range e.weight p.after in
     record {
       range = e.range;
       rest = e.weight ++ p.after;
-      whole = ap skip_blanks p.whole ∙ (skip_all p.before (p.element ++ p.after) p.before_ok ∙ (ap skip_blanks whole ∙ skip_plain e.range (e.weight ++ p.after) (range_some kind e.range e.range_ok) (range_plain kind e.range e.range_ok)));
+      whole = ap skip_blanks p.whole ∙ (skip_all p.before (p.element ++ p.after) p.before_ok ∙ (ap skip_blanks whole ∙ skip_plain e.range (e.weight ++ p.after) (range_some scheme e.range e.range_ok) (range_plain scheme e.range e.range_ok)));
       range_ok = e.range_ok;
       range_is = e.range_is;
       rest_ok = record { weight = e.weight; after = p.after; whole = refl; after_ok = p.after_ok; weight_ok = e.weight_ok };
     }
 
-padded_from : (kind : FieldKind) (piece text : List ℕ) (item : Item) → IsTrimmed piece text → IsStart kind text item → IsPadded kind piece item
-padded_from kind piece text item t s =
+padded_from : (scheme : Scheme) (piece text : List ℕ) (item : Item) → IsTrimmed piece text → IsStart scheme text item → IsPadded scheme piece item
+padded_from scheme piece text item t s =
     let tail = s.rest_ok in
     let whole : text ≡ (s.range ++ tail.weight) ++ tail.after = s.whole ∙ (ap (λ (x : List ℕ). s.range ++ x) tail.whole ∙ sym (append_assoc s.range tail.weight tail.after)) in
     record {
@@ -157,5 +157,5 @@ padded_from kind piece text item t s =
       element_ok = record { range = s.range; weight = tail.weight; whole = refl; range_ok = s.range_ok; range_is = s.range_is; weight_ok = tail.weight_ok };
     }
 
-pub padded_of_start : (kind : FieldKind) (piece : List ℕ) (item : Item) → IsStart kind (skip_blanks piece) item → IsPadded kind piece item
-padded_of_start kind piece item s = padded_from kind piece (skip_blanks piece) item (trimmed piece) s
+pub padded_of_start : (scheme : Scheme) (piece : List ℕ) (item : Item) → IsStart scheme (skip_blanks piece) item → IsPadded scheme piece item
+padded_of_start scheme piece item s = padded_from scheme piece (skip_blanks piece) item (trimmed piece) s

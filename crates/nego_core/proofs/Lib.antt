@@ -4,9 +4,11 @@ pub mod BlanksLaws
 pub mod WeightLaws
 pub mod ElementLaws
 pub mod FieldWalk
+pub mod OverlongLaws
 pub mod SeparatorLaws
 pub mod FieldLaws
 pub mod FieldUnique
+pub mod LenientLaws
 pub mod WeightBounds
 pub mod BestLaws
 pub mod RangeIndexLaws

@@ -1,6 +1,6 @@
 -- Marks of subtags.
 use Rattle.std.proofs.Common.{ℕ, ◌≡◌, ◌<◌, ◌+◌, ◌⊎◌, List, [], ◌∷◌, Option, Some, None, Bool, true, false, inl, inr, length, get_or, refl, sym, ◌∙◌, ap, subst, arith}
-use Rattle.std.specs.Prelude.{Contains, option_map, map, slice_set, zero, suc}
+use Rattle.std.specs.Prelude.{Contains, option_map, map, slice_set}
 use Rattle.std.specs.Str.{bytes_eq}
 use Rattle.std.proofs.lemmas.Bool.{cases_Bool}
 use Rattle.lang_core.specs.Text.{pieces}
@@ -10,7 +10,7 @@ use Rattle.std.proofs.lemmas.Grind.{common_steps}
 use Rattle.std.proofs.lemmas.List.{get_or-map}
 use Rattle.std.proofs.lemmas.Option.{slice_get-get_or}
 use Rattle.std.proofs.Math.ListN.{length-set}
-use Rattle.nego_core.proofs.Basics.{false_true, contains_first, contains_later}
+use Rattle.nego_core.proofs.Basics.{false_true, contains_first, contains_later, contains_cases}
 use Rattle.nego_core.proofs.BestLaws.{Before, passed}
 use Rattle.nego_core.specs.Best.{IsBest}
 use Rattle.nego_core.specs.declared.best.Best.{Best}
@@ -106,17 +106,11 @@ pub record AreMarkedSoFar (list left : List (List ℕ)) (marked : List Bool) : T
 pub none_marked : (list : List (List ℕ)) (marked : List Bool) → length marked ≡ 256 → AreMarkedSoFar list list marked
 none_marked list marked e = record { full = e; set = λ s c. inl c }
 
-first_or_later : (p s : List ℕ) (left : List (List ℕ)) → Contains (p ∷ left) s → (p ≡ s) ⊎ Contains left s
-first_or_later p s left c = at_place c.0 p s left c.1 c.2 where
-  at_place : (k : ℕ) (p s : List ℕ) (left : List (List ℕ)) → k < length (p ∷ left) → get_or (p ∷ left) k s ≡ s → (p ≡ s) ⊎ Contains left s
-  at_place zero p s left low e = inl e
-  at_place (suc k) p s left low e = inr (k, (omega arith), e)
-
 pub one_marked : (list left : List (List ℕ)) (p : List ℕ) (mark : ℕ) (marked : List Bool) → AreMarkedSoFar list (p ∷ left) marked → mark ≡ mark_of p → mark < 256 → AreMarkedSoFar list left (slice_set marked mark true)
 one_marked list left p mark marked m e low = record {
   full = length-set marked mark true ∙ m.full;
   set = λ s c. elim (m.set s c) [
-    | inl old ↦ elim (first_or_later p s left old) [
+    | inl old ↦ elim (contains_cases p s left old) [
       | inl same ↦ inr (marked_here marked mark (mark_of s) (e ∙ ap mark_of same) (let f = m.full in omega arith))
       | inr later ↦ inl later
     ]

@@ -8,14 +8,18 @@ use Rattle.std.proofs.lemmas.List.Sums.{sum_by-append}
 use Rattle.std.specs.List.{list_all}
 use Rattle.lang_core.specs.Text.{pieces_by}
 use Rattle.lang_core.proofs.PiecesLaws.{size_pieces, size_cons}
-use Rattle.nego_core.proofs.FieldWalk.{IsWalked, walked_start, walked_blank, walked_item, walked_all, stops_malformed, stops_fitting}
+use Rattle.nego_core.proofs.FieldWalk.{IsWalked, walked_start, walked_blank, walked_item, walked_over, walked_all, stops_malformed, stops_fitting}
 use Rattle.nego_core.proofs.WeightLaws.{skip_all, skip_only, skip_none}
 use Rattle.nego_core.specs.Blanks.{is_blank, AreBlanks, skip_blanks}
-use Rattle.nego_core.specs.Element.{IsStart, HasStart}
-use Rattle.nego_core.specs.Field.{IsField, IsFirstMalformed, HasElement}
+use Rattle.nego_core.proofs.OverlongLaws.{overlong_piece}
+use Rattle.nego_core.specs.Element.{IsStart, HasStart, BeginsOverlong}
+use Rattle.nego_core.specs.Field.{IsField, IsFirstMalformed, HasElement, RefusesField}
 use Rattle.nego_core.specs.Item.{Item}
 use Rattle.nego_core.specs.Separators.{is_separator, skip_separators, IsFirstPiece}
-use Rattle.nego_core.specs.declared.field_kind.FieldKind.{FieldKind}
+use Rattle.nego_core.specs.declared.scheme.Scheme.{Scheme}
+use Rattle.nego_core.specs.declared.malformed.Malformed.{Malformed}
+use Rattle.nego_core.specs.declared.malformed.Malformed.TheVariants.{Refused, PassedOver}
+use Rattle.nego_core.specs.declared.fault.NegoFault.TheVariants.{FieldMalformed}
 
 -- ---- separators
 
@@ -79,22 +83,22 @@ push_blank (x ∷ blanks) b h e = let parts = and_parts (is_blank x) (list_all i
 -- ---- the walk
 
 -- the bytes that are left are the end of the pieces that are left, after some blanks
-pub record IsWalkedTo (kind : FieldKind) (field : List ℕ) (items : List Item) (rest : List ℕ) : Type 0 where
+pub record IsWalkedTo (scheme : Scheme) (malformed : Malformed) (field : List ℕ) (items : List Item) (rest : List ℕ) : Type 0 where
   pub tail : List (List ℕ)
   pub offset : ℕ
-  pub walked : IsWalked kind field items tail offset
+  pub walked : IsWalked scheme malformed field items tail offset
   pub blanks : List ℕ
   pub blanks_ok : AreBlanks blanks
   pub tail_is : (tail ≡ pieces_by 44 (blanks ++ rest)) ⊎ ((tail ≡ []) × (rest ≡ []))
 
-from_piece : (kind : FieldKind) (field : List ℕ) (items : List Item) (rest : List ℕ) (offset : ℕ) → IsWalked kind field items (pieces_by 44 rest) offset → IsWalkedTo kind field items rest
-from_piece kind field items rest offset w = record { tail = pieces_by 44 rest; offset = offset; walked = w; blanks = []; blanks_ok = refl; tail_is = inl refl }
+from_piece : (scheme : Scheme) (malformed : Malformed) (field : List ℕ) (items : List Item) (rest : List ℕ) (offset : ℕ) → IsWalked scheme malformed field items (pieces_by 44 rest) offset → IsWalkedTo scheme malformed field items rest
+from_piece scheme malformed field items rest offset w = record { tail = pieces_by 44 rest; offset = offset; walked = w; blanks = []; blanks_ok = refl; tail_is = inl refl }
 
-step : (kind : FieldKind) (field : List ℕ) (items : List Item) (b : ℕ) (rest : List ℕ) → IsWalkedTo kind field items (b ∷ rest) → is_separator b ≡ true → IsWalkedTo kind field items rest
-step kind field items b rest w h = elim w.tail_is [
+step : (scheme : Scheme) (malformed : Malformed) (field : List ℕ) (items : List Item) (b : ℕ) (rest : List ℕ) → IsWalkedTo scheme malformed field items (b ∷ rest) → is_separator b ≡ true → IsWalkedTo scheme malformed field items rest
+step scheme malformed field items b rest w h = elim w.tail_is [
   | inl e ↦ elim (comma_or_blank b h) [
     | inl comma ↦ (let cut : w.tail ≡ w.blanks ∷ pieces_by 44 rest = e ∙ (pieces_after_blanks w.blanks (b ∷ rest) [] (pieces_by 44 rest) w.blanks_ok (rw comma (pieces_at_comma rest)) ∙ ap (λ (x : List ℕ). x ∷ pieces_by 44 rest) (append-nil w.blanks)) in
-        from_piece kind field items rest (w.offset + (length w.blanks + 1)) (walked_blank kind field items w.blanks [] (pieces_by 44 rest) w.offset (subst (λ (x : List (List ℕ)). IsWalked kind field items x w.offset) cut w.walked) (sym (skip_only w.blanks w.blanks_ok)) refl))
+        from_piece scheme malformed field items rest (w.offset + (length w.blanks + 1)) (walked_blank scheme malformed field items w.blanks [] (pieces_by 44 rest) w.offset (subst (λ (x : List (List ℕ)). IsWalked scheme malformed field items x w.offset) cut w.walked) (sym (skip_only w.blanks w.blanks_ok)) refl))
     | inr blank ↦ record {
       tail = w.tail;
       offset = w.offset;
@@ -107,21 +111,21 @@ step kind field items b rest w h = elim w.tail_is [
   | inr e ↦ absurd (let size : length (b ∷ rest) ≡ 0 = ap length e.1 in omega arith)
 ]
 
-pub walked_skip : (kind : FieldKind) (field : List ℕ) (items : List Item) (rest : List ℕ) → IsWalkedTo kind field items rest → IsWalkedTo kind field items (skip_separators rest)
-walked_skip kind field items [] w = w
-walked_skip kind field items (b ∷ rest) w = elim (cases_Bool (is_separator b)) [
-  | inl e ↦ rw e (walked_skip kind field items rest (step kind field items b rest w e))
+pub walked_skip : (scheme : Scheme) (malformed : Malformed) (field : List ℕ) (items : List Item) (rest : List ℕ) → IsWalkedTo scheme malformed field items rest → IsWalkedTo scheme malformed field items (skip_separators rest)
+walked_skip scheme malformed field items [] w = w
+walked_skip scheme malformed field items (b ∷ rest) w = elim (cases_Bool (is_separator b)) [
+  | inl e ↦ rw e (walked_skip scheme malformed field items rest (step scheme malformed field items b rest w e))
   | inr e ↦ rw e w
 ]
 
-pub walked_from : (kind : FieldKind) (field : List ℕ) → IsWalkedTo kind field [] (skip_separators field)
-walked_from kind field = walked_skip kind field [] field (from_piece kind field [] field 0 (walked_start kind field))
+pub walked_from : (scheme : Scheme) (malformed : Malformed) (field : List ℕ) → IsWalkedTo scheme malformed field [] (skip_separators field)
+walked_from scheme malformed field = walked_skip scheme malformed field [] field (from_piece scheme malformed field [] field 0 (walked_start scheme malformed field))
 
-pub walked_to_end : (kind : FieldKind) (field : List ℕ) (items : List Item) (rest : List ℕ) → IsWalkedTo kind field items rest → rest ≡ [] → IsField kind field items
-walked_to_end kind field items rest w none = elim w.tail_is [
+pub walked_to_end : (scheme : Scheme) (malformed : Malformed) (field : List ℕ) (items : List Item) (rest : List ℕ) → IsWalkedTo scheme malformed field items rest → rest ≡ [] → IsField scheme malformed field items
+walked_to_end scheme malformed field items rest w none = elim w.tail_is [
   | inl e ↦ (let last : w.tail ≡ w.blanks ∷ [] = e ∙ (ap (λ (x : List ℕ). pieces_by 44 (w.blanks ++ x)) none ∙ (pieces_after_blanks w.blanks [] [] [] w.blanks_ok no_pieces ∙ ap (λ (x : List ℕ). x ∷ []) (append-nil w.blanks))) in
-      walked_all kind field items (w.offset + (length w.blanks + 1)) (walked_blank kind field items w.blanks [] [] w.offset (subst (λ (x : List (List ℕ)). IsWalked kind field items x w.offset) last w.walked) (sym (skip_only w.blanks w.blanks_ok)) refl))
-  | inr e ↦ walked_all kind field items w.offset (subst (λ (x : List (List ℕ)). IsWalked kind field items x w.offset) e.0 w.walked)
+      walked_all scheme malformed field items (w.offset + (length w.blanks + 1)) (walked_blank scheme malformed field items w.blanks [] [] w.offset (subst (λ (x : List (List ℕ)). IsWalked scheme malformed field items x w.offset) last w.walked) (sym (skip_only w.blanks w.blanks_ok)) refl))
+  | inr e ↦ walked_all scheme malformed field items w.offset (subst (λ (x : List (List ℕ)). IsWalked scheme malformed field items x w.offset) e.0 w.walked)
 ]
 
 -- ---- an element
@@ -166,16 +170,16 @@ bare_piece blanks [] h n = skip_all blanks [] h
 bare_piece blanks (b ∷ piece) h n = skip_all blanks (b ∷ piece) h ∙ skip_none b piece (no_separator b n).1
 
 -- the piece that an element begins, and where it stands
-pub record IsAtElement (kind : FieldKind) (field : List ℕ) (items : List Item) (rest element : List ℕ) (more : List (List ℕ)) : Type 0 where
+pub record IsAtElement (scheme : Scheme) (malformed : Malformed) (field : List ℕ) (items : List Item) (rest element : List ℕ) (more : List (List ℕ)) : Type 0 where
   pub blanks : List ℕ
   pub offset : ℕ
-  pub walked : IsWalked kind field items ((blanks ++ element) ∷ more) offset
+  pub walked : IsWalked scheme malformed field items ((blanks ++ element) ∷ more) offset
   pub bare : element ≡ skip_blanks (blanks ++ element)
   pub some : 0 < length element
   pub begins : length field - length rest ≡ offset + (length (blanks ++ element) - length element)
 
-stands_there : (kind : FieldKind) (field : List ℕ) (items : List Item) (blanks rest element : List ℕ) (more : List (List ℕ)) (offset : ℕ) → IsWalked kind field items ((blanks ++ element) ∷ more) offset → pieces_by 44 rest ≡ element ∷ more → length field - length rest ≡ offset + (length (blanks ++ element) - length element)
-stands_there kind field items blanks rest element more offset w e =
+stands_there : (scheme : Scheme) (malformed : Malformed) (field : List ℕ) (items : List Item) (blanks rest element : List ℕ) (more : List (List ℕ)) (offset : ℕ) → IsWalked scheme malformed field items ((blanks ++ element) ∷ more) offset → pieces_by 44 rest ≡ element ∷ more → length field - length rest ≡ offset + (length (blanks ++ element) - length element)
+stands_there scheme malformed field items blanks rest element more offset w e =
     let whole : sum_by (λ s. length s + 1) (w.before ++ (blanks ++ element) ∷ more) ≡ length field + 1 = sym (ap (sum_by (λ s. length s + 1)) w.whole) ∙ size_pieces 44 field in
     let split : sum_by (λ s. length s + 1) (w.before ++ (blanks ++ element) ∷ more) ≡ sum_by (λ s. length s + 1) w.before + sum_by (λ s. length s + 1) ((blanks ++ element) ∷ more) = rw sum_by-append refl in
     let one = size_cons (blanks ++ element) more in
@@ -185,9 +189,9 @@ stands_there kind field items blanks rest element more offset w e =
     let o = w.offset_is in
     omega arith
 
-pub at_element : (kind : FieldKind) (field : List ℕ) (items : List Item) (rest element : List ℕ) (more : List (List ℕ)) → IsWalkedTo kind field items rest → BeginsElement rest → 0 < length rest → pieces_by 44 rest ≡ element ∷ more → IsAtElement kind field items rest element more
-at_element kind field items rest element more w n some e = elim w.tail_is [
-  | inl t ↦ (let walked : IsWalked kind field items ((w.blanks ++ element) ∷ more) w.offset = subst (λ (x : List (List ℕ)). IsWalked kind field items x w.offset) (t ∙ pieces_after_blanks w.blanks rest element more w.blanks_ok e) w.walked in
+pub at_element : (scheme : Scheme) (malformed : Malformed) (field : List ℕ) (items : List Item) (rest element : List ℕ) (more : List (List ℕ)) → IsWalkedTo scheme malformed field items rest → BeginsElement rest → 0 < length rest → pieces_by 44 rest ≡ element ∷ more → IsAtElement scheme malformed field items rest element more
+at_element scheme malformed field items rest element more w n some e = elim w.tail_is [
+  | inl t ↦ (let walked : IsWalked scheme malformed field items ((w.blanks ++ element) ∷ more) w.offset = subst (λ (x : List (List ℕ)). IsWalked scheme malformed field items x w.offset) (t ∙ pieces_after_blanks w.blanks rest element more w.blanks_ok e) w.walked in
       let first = begins_too rest element more n some e in
       record {
         blanks = w.blanks;
@@ -195,39 +199,63 @@ at_element kind field items rest element more w n some e = elim w.tail_is [
         walked = walked;
         bare = sym (bare_piece w.blanks element w.blanks_ok first.1);
         some = first.0;
-        begins = stands_there kind field items w.blanks rest element more w.offset walked e;
+        begins = stands_there scheme malformed field items w.blanks rest element more w.offset walked e;
       })
   | inr t ↦ absurd (let size : length rest ≡ 0 = ap length t.1 in omega arith)
 ]
 
-pub element_read : (kind : FieldKind) (field : List ℕ) (items : List Item) (item : Item) (rest element after : List ℕ) → IsWalkedTo kind field items rest → BeginsElement rest → 0 < length rest → IsFirstPiece rest element after → IsStart kind element item → IsWalkedTo kind field (items ++ item ∷ []) (skip_separators after)
-element_read kind field items item rest element after w n some f s =
+pub element_read : (scheme : Scheme) (malformed : Malformed) (field : List ℕ) (items : List Item) (item : Item) (rest element after : List ℕ) → IsWalkedTo scheme malformed field items rest → BeginsElement rest → 0 < length rest → IsFirstPiece rest element after → IsStart scheme element item → IsWalkedTo scheme malformed field (items ++ item ∷ []) (skip_separators after)
+element_read scheme malformed field items item rest element after w n some f s =
     let cut = cut_piece rest element after f in
-    let at = at_element kind field items rest element cut.more w n some cut.whole in
-    walked_skip kind field (items ++ item ∷ []) after (record {
+    let at = at_element scheme malformed field items rest element cut.more w n some cut.whole in
+    walked_skip scheme malformed field (items ++ item ∷ []) after (record {
       tail = cut.more;
       offset = at.offset + (length (at.blanks ++ element) + 1);
-      walked = walked_item kind field items item (at.blanks ++ element) element cut.more at.offset at.walked at.bare s;
+      walked = walked_item scheme malformed field items item (at.blanks ++ element) element cut.more at.offset at.walked at.bare s;
       blanks = [];
       blanks_ok = refl;
       tail_is = cut.more_is;
     })
 
-pub element_malformed : (kind : FieldKind) (field : List ℕ) (items : List Item) (rest element after : List ℕ) → IsWalkedTo kind field items rest → BeginsElement rest → 0 < length rest → IsFirstPiece rest element after → ((item : Item) → ¬ IsStart kind element item) → IsFirstMalformed kind field (length field - length rest)
-element_malformed kind field items rest element after w n some f none =
+-- a malformed element is passed over, or refuses the field
+pub element_passed : (scheme : Scheme) (malformed : Malformed) (field : List ℕ) (items : List Item) (rest element after : List ℕ) → malformed ≡ PassedOver → IsWalkedTo scheme malformed field items rest → BeginsElement rest → 0 < length rest → IsFirstPiece rest element after → ((item : Item) → ¬ IsStart scheme element item) → IsWalkedTo scheme malformed field items (skip_separators after)
+element_passed scheme Refused field items rest element after e w n some f none = absurd (cc)
+element_passed scheme PassedOver field items rest element after e w n some f none =
     let cut = cut_piece rest element after f in
-    let at = at_element kind field items rest element cut.more w n some cut.whole in
-    subst (IsFirstMalformed kind field) (sym at.begins) (stops_malformed kind field items (at.blanks ++ element) element cut.more at.offset at.walked at.bare at.some none)
+    let at = at_element scheme PassedOver field items rest element cut.more w n some cut.whole in
+    walked_skip scheme PassedOver field items after (record {
+      tail = cut.more;
+      offset = at.offset + (length (at.blanks ++ element) + 1);
+      walked = walked_over scheme field items (at.blanks ++ element) element cut.more at.offset at.walked at.bare none;
+      blanks = [];
+      blanks_ok = refl;
+      tail_is = cut.more_is;
+    })
 
-pub element_fits : (kind : FieldKind) (field : List ℕ) (items : List Item) (rest element after : List ℕ) → IsWalkedTo kind field items rest → BeginsElement rest → 0 < length rest → IsFirstPiece rest element after → HasStart kind element → HasElement kind field
-element_fits kind field items rest element after w n some f s =
+element_malformed : (scheme : Scheme) (field : List ℕ) (items : List Item) (rest element after : List ℕ) → IsWalkedTo scheme Refused field items rest → BeginsElement rest → 0 < length rest → IsFirstPiece rest element after → ((item : Item) → ¬ IsStart scheme element item) → IsFirstMalformed scheme field (length field - length rest)
+element_malformed scheme field items rest element after w n some f none =
     let cut = cut_piece rest element after f in
-    let at = at_element kind field items rest element cut.more w n some cut.whole in
-    stops_fitting kind field items (at.blanks ++ element) element cut.more at.offset at.walked at.bare at.some s
+    let at = at_element scheme Refused field items rest element cut.more w n some cut.whole in
+    subst (IsFirstMalformed scheme field) (sym at.begins) (stops_malformed scheme field items (at.blanks ++ element) element cut.more at.offset at.walked at.bare at.some none)
+
+pub element_refused : (scheme : Scheme) (malformed : Malformed) (field : List ℕ) (items : List Item) (rest element after : List ℕ) → malformed ≡ Refused → length field ≤ 65535 → IsWalkedTo scheme malformed field items rest → BeginsElement rest → 0 < length rest → IsFirstPiece rest element after → ((item : Item) → ¬ IsStart scheme element item) → RefusesField scheme malformed field (FieldMalformed (length field - length rest))
+element_refused scheme PassedOver field items rest element after e short w n some f none = absurd (cc)
+element_refused scheme Refused field items rest element after e short w n some f none = (short, element_malformed scheme field items rest element after w n some f none)
+
+pub overlong_refused : (scheme : Scheme) (malformed : Malformed) (field : List ℕ) (items : List Item) (rest : List ℕ) → malformed ≡ Refused → length field ≤ 65535 → IsWalkedTo scheme malformed field items rest → BeginsElement rest → 0 < length rest → BeginsOverlong rest → RefusesField scheme malformed field (FieldMalformed (length field - length rest))
+overlong_refused scheme malformed field items rest e short w n some long =
+    let p = overlong_piece scheme rest long in
+    element_refused scheme malformed field items rest p.element p.after e short w n some p.first p.none
+
+pub element_fits : (scheme : Scheme) (malformed : Malformed) (field : List ℕ) (items : List Item) (rest element after : List ℕ) → IsWalkedTo scheme malformed field items rest → BeginsElement rest → 0 < length rest → IsFirstPiece rest element after → HasStart scheme element → HasElement scheme malformed field
+element_fits scheme malformed field items rest element after w n some f s =
+    let cut = cut_piece rest element after f in
+    let at = at_element scheme malformed field items rest element cut.more w n some cut.whole in
+    stops_fitting scheme malformed field items (at.blanks ++ element) element cut.more at.offset at.walked at.bare at.some s
 
 -- what is left is no longer than the field
-pub rest_fits : (kind : FieldKind) (field : List ℕ) (items : List Item) (rest : List ℕ) → IsWalkedTo kind field items rest → length rest ≤ length field
-rest_fits kind field items rest w = elim w.tail_is [
+pub rest_fits : (scheme : Scheme) (malformed : Malformed) (field : List ℕ) (items : List Item) (rest : List ℕ) → IsWalkedTo scheme malformed field items rest → length rest ≤ length field
+rest_fits scheme malformed field items rest w = elim w.tail_is [
   | inl e ↦ (let whole : sum_by (λ s. length s + 1) (w.walked.before ++ w.tail) ≡ length field + 1 = sym (ap (sum_by (λ s. length s + 1)) w.walked.whole) ∙ size_pieces 44 field in
       let split : sum_by (λ s. length s + 1) (w.walked.before ++ w.tail) ≡ sum_by (λ s. length s + 1) w.walked.before + sum_by (λ s. length s + 1) w.tail = rw sum_by-append refl in
       let left : sum_by (λ s. length s + 1) w.tail ≡ length (w.blanks ++ rest) + 1 = ap (sum_by (λ s. length s + 1)) e ∙ size_pieces 44 (w.blanks ++ rest) in

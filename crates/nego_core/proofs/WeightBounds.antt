@@ -11,8 +11,9 @@ use Rattle.nego_core.specs.Qvalue.{IsQvalue, thousandths}
 use Rattle.nego_core.specs.Element.{WeightGrammar}
 use Rattle.nego_core.specs.Item.{Item}
 use Rattle.nego_core.specs.Field.{IsField}
-use Rattle.nego_core.specs.declared.field_kind.FieldKind.{FieldKind}
-use Rattle.nego_core.specs.declared.field_kind.FieldKind.TheVariants.{Accept, Ranges}
+use Rattle.nego_core.specs.declared.scheme.Scheme.{Scheme}
+use Rattle.nego_core.specs.declared.malformed.Malformed.{Malformed}
+use Rattle.nego_core.specs.declared.scheme.Scheme.TheVariants.{Basic, Extended}
 
 digit_small : (b : ℕ) → is_digit b ≡ true → b ≤ 57
 digit_small b h = grind (arith, nat_tests)
@@ -40,13 +41,13 @@ qvalue_small (b ∷ point ∷ digits) n q = elim q.2 [
   | inr x ↦ (let e = x.2 in omega arith)
 ]
 
-weight_small : (kind : FieldKind) (text : List ℕ) (n : ℕ) → WeightGrammar kind text n → n ≤ 1000
-weight_small Accept text n w = elim w [
+weight_small : (scheme : Scheme) (text : List ℕ) (n : ℕ) → WeightGrammar scheme text n → n ≤ 1000
+weight_small Basic text n w = elim w [
   | inl none ↦ (let e = none.1 in omega arith)
   | inr some ↦ qvalue_small some.qvalue n some.qvalue_ok
 ]
-weight_small Ranges text n w = let e = w.1 in omega arith
+weight_small Extended text n w = let e = w.1 in omega arith
 
 -- the weights of a field's items
-pub small_weights : (kind : FieldKind) (bytes : List ℕ) (items : List Item) → IsField kind bytes items → All (λ i. i.weight ≤ 1000) items
-small_weights kind bytes items f = all_items (λ i. i.weight ≤ 1000) kind (λ piece i p. weight_small kind p.element_ok.weight i.weight p.element_ok.weight_ok) (pieces_by 44 bytes) items f
+pub small_weights : (scheme : Scheme) (malformed : Malformed) (bytes : List ℕ) (items : List Item) → IsField scheme malformed bytes items → All (λ i. i.weight ≤ 1000) items
+small_weights scheme malformed bytes items f = all_items (λ i. i.weight ≤ 1000) scheme malformed (λ piece i p. weight_small scheme p.element_ok.weight i.weight p.element_ok.weight_ok) (pieces_by 44 bytes) items f

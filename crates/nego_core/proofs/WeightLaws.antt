@@ -9,8 +9,8 @@ use Rattle.lang_core.specs.Grammar.{is_digit}
 use Rattle.nego_core.proofs.Basics.{the_one}
 use Rattle.nego_core.proofs.BlanksLaws.{cut_only, cut_front, blanks_end}
 use Rattle.nego_core.specs.Element.{WeightGrammar}
-use Rattle.nego_core.specs.declared.field_kind.FieldKind.{FieldKind}
-use Rattle.nego_core.specs.declared.field_kind.FieldKind.TheVariants.{Accept, Ranges}
+use Rattle.nego_core.specs.declared.scheme.Scheme.{Scheme}
+use Rattle.nego_core.specs.declared.scheme.Scheme.TheVariants.{Basic, Extended}
 use Rattle.nego_core.specs.Blanks.{is_blank, AreBlanks, skip_blanks, is_plain, IsCut}
 use Rattle.nego_core.specs.Qvalue.{IsQvalue, is_zero_digit}
 use Rattle.nego_core.specs.Weight.{HasWeight, IsWeight, IsLastQvalue, FollowsSemicolon, IsNamedQvalue, IsTail}
@@ -250,6 +250,6 @@ one_bare : (text : List ℕ) (m n : ℕ) → IsBareTail text m → IsBareTail te
 one_bare [] m n p q = p ∙ sym q
 one_bare (b ∷ rest) m n p q = one_named (skip_blanks rest) m n (named_of rest m p.1) (named_of rest n q.1)
 
-pub one_tail : (kind : FieldKind) (text : List ℕ) (m n : ℕ) → IsTail (WeightGrammar kind) text m → IsTail (WeightGrammar kind) text n → m ≡ n
-one_tail Accept text m n p q = one_bare (skip_blanks text) m n (bare_of text m p) (bare_of text n q)
-one_tail Ranges text m n p q = p.weight_ok.1 ∙ sym q.weight_ok.1
+pub one_tail : (scheme : Scheme) (text : List ℕ) (m n : ℕ) → IsTail (WeightGrammar scheme) text m → IsTail (WeightGrammar scheme) text n → m ≡ n
+one_tail Basic text m n p q = one_bare (skip_blanks text) m n (bare_of text m p) (bare_of text n q)
+one_tail Extended text m n p q = p.weight_ok.1 ∙ sym q.weight_ok.1

@@ -5,60 +5,68 @@ use Rattle.lang_core.specs.Grammar.{BasicRange}
 use Rattle.nego_core.specs.Blanks.{is_blank, AreBlanks}
 use Rattle.nego_core.specs.Element.{IsPadded}
 use Rattle.nego_core.specs.Item.{Item}
-use Rattle.nego_core.specs.declared.field_kind.FieldKind.{FieldKind}
-use Rattle.nego_core.specs.declared.field_kind.FieldKind.TheVariants.{Accept, Ranges}
+use Rattle.nego_core.specs.declared.scheme.Scheme.{Scheme}
+use Rattle.nego_core.specs.declared.scheme.Scheme.TheVariants.{Basic, Extended}
+use Rattle.nego_core.specs.declared.malformed.Malformed.{Malformed}
+use Rattle.nego_core.specs.declared.malformed.Malformed.TheVariants.{Refused, PassedOver}
 use Rattle.nego_core.specs.declared.fault.NegoFault.{NegoFault}
 use Rattle.nego_core.specs.declared.fault.NegoFault.TheVariants.{FieldTooLong, FieldMalformed, NoMemory}
 
--- RFC 9110 section 5.6.1: each piece is blank, or an element between blanks, and the elements give the items in order
-abbrev pub ArePieces : FieldKind → List (List ℕ) → List Item → Type 0
-ArePieces kind [] [] = Unit {0}
-ArePieces kind [] (i ∷ items) = ⊥
-ArePieces kind (p ∷ pieces) [] = AreBlanks p × ArePieces kind pieces []
-ArePieces kind (p ∷ pieces) (i ∷ items) = (AreBlanks p × ArePieces kind pieces (i ∷ items)) ⊎ (IsPadded kind p i × ArePieces kind pieces items)
+-- What a piece is that gives no item: blanks (RFC 9110 section 5.6.1); and where malformed pieces are passed over, as RFC 9110 section 12.5.4 leaves it to a server, anything that is no element (own rule).
+abbrev pub GivesNone : Scheme → Malformed → List ℕ → Type 0
+GivesNone scheme Refused piece = AreBlanks piece
+GivesNone scheme PassedOver piece = (item : Item) → ¬ IsPadded scheme piece item
 
--- RFC 9110 section 5.6.1: the bytes are elements between commas, which give the items
-abbrev pub IsField : FieldKind → List ℕ → List Item → Type 0
-IsField kind bytes items = ArePieces kind (pieces_by 44 bytes) items
+-- RFC 9110 section 5.6.1: each piece gives none, or is an element between blanks, and the elements give the items in order
+abbrev pub ArePieces : Scheme → Malformed → List (List ℕ) → List Item → Type 0
+ArePieces scheme malformed [] [] = Unit {0}
+ArePieces scheme malformed [] (i ∷ items) = ⊥
+ArePieces scheme malformed (p ∷ pieces) [] = GivesNone scheme malformed p × ArePieces scheme malformed pieces []
+ArePieces scheme malformed (p ∷ pieces) (i ∷ items) = (GivesNone scheme malformed p × ArePieces scheme malformed pieces (i ∷ items)) ⊎ (IsPadded scheme p i × ArePieces scheme malformed pieces items)
+
+-- RFC 9110 section 5.6.1: the bytes are pieces between commas, which give the items
+abbrev pub IsField : Scheme → Malformed → List ℕ → List Item → Type 0
+IsField scheme malformed bytes items = ArePieces scheme malformed (pieces_by 44 bytes) items
 
 -- RFC 9110 section 12.5.4: Accept-Language = #( language-range [ weight ] )
 abbrev pub IsAccept : List ℕ → List Item → Type 0
-IsAccept = IsField Accept
+IsAccept = IsField Basic Refused
 
 -- the same of extended ranges without weights (own rule)
 abbrev pub IsAcceptRanges : List ℕ → List Item → Type 0
-IsAcceptRanges = IsField Ranges
+IsAcceptRanges = IsField Extended Refused
 
 -- A list of one field: all its ranges are basic, or all its weights are full. So no list has a weight 0 beside an extended range.
 abbrev pub IsOfOneKind : List Item → Type 0
 IsOfOneKind items = All (λ i. BasicRange (pieces i.range)) items ⊎ All (λ i. i.weight ≡ 1000) items
 
 -- the pieces of a field up to one that is not blank
-pub record IsReadTo (kind : FieldKind) (bytes : List ℕ) (before : List (List ℕ)) (piece : List ℕ) : Type 0 where
+pub record IsReadTo (scheme : Scheme) (malformed : Malformed) (bytes : List ℕ) (before : List (List ℕ)) (piece : List ℕ) : Type 0 where
   pub after : List (List ℕ)
   pub items : List Item
   pub whole : pieces_by 44 bytes ≡ before ++ piece ∷ after
-  pub before_ok : ArePieces kind before items
+  pub before_ok : ArePieces scheme malformed before items
   pub not_blank : ¬ AreBlanks piece
 
 -- the first element that no item fits begins at the offset, after its leading blanks
-pub record IsFirstMalformed (kind : FieldKind) (bytes : List ℕ) (offset : ℕ) : Type 0 where
+pub record IsFirstMalformed (scheme : Scheme) (bytes : List ℕ) (offset : ℕ) : Type 0 where
   pub before : List (List ℕ)
   pub piece : List ℕ
-  pub read_to : IsReadTo kind bytes before piece
-  pub malformed : (item : Item) → ¬ IsPadded kind piece item
+  pub read_to : IsReadTo scheme Refused bytes before piece
+  pub malformed : (item : Item) → ¬ IsPadded scheme piece item
   pub begins : offset ≡ sum_by (λ p. length p + 1) before + prefix_len is_blank piece
 
--- an element that some item fits, and so do those before it
-pub record HasElement (kind : FieldKind) (bytes : List ℕ) : Type 0 where
+-- an element that some item fits, behind pieces that are read
+pub record HasElement (scheme : Scheme) (malformed : Malformed) (bytes : List ℕ) : Type 0 where
   pub before : List (List ℕ)
   pub piece : List ℕ
-  pub read_to : IsReadTo kind bytes before piece
+  pub read_to : IsReadTo scheme malformed bytes before piece
   pub item : Item
-  pub fits : IsPadded kind piece item
+  pub fits : IsPadded scheme piece item
 
--- Why the bytes give no list. Memory can end only where an element was read, and never in place of the limit.
-abbrev pub RefusesField : FieldKind → List ℕ → NegoFault → Type 0
-RefusesField kind bytes FieldTooLong = 65535 < length bytes
-RefusesField kind bytes (FieldMalformed offset) = (length bytes ≤ 65535) × IsFirstMalformed kind bytes offset
-RefusesField kind bytes NoMemory = (length bytes ≤ 65535) × HasElement kind bytes
+-- Why the bytes give no list. No malformed element refuses them where such are passed over. Memory can end only where an element was read, and never in place of the limit.
+abbrev pub RefusesField : Scheme → Malformed → List ℕ → NegoFault → Type 0
+RefusesField scheme malformed bytes FieldTooLong = 65535 < length bytes
+RefusesField scheme Refused bytes (FieldMalformed offset) = (length bytes ≤ 65535) × IsFirstMalformed scheme bytes offset
+RefusesField scheme PassedOver bytes (FieldMalformed offset) = ⊥
+RefusesField scheme malformed bytes NoMemory = (length bytes ≤ 65535) × HasElement scheme malformed bytes

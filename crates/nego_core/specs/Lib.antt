@@ -5,6 +5,7 @@ pub mod Separators
 pub mod Qvalue
 pub mod Weight
 pub mod Item
+pub mod Equal
 pub mod Element
 pub mod Field
 pub mod Deciding

@@ -29,7 +29,8 @@ pub fn trim_start(text: &[u8]) -> &[u8]
     rest
 }
 
-fn is_stop(byte: u8) -> bool
+/// A blank or a semicolon.
+pub fn is_stop(byte: u8) -> bool
     ensures { result ≡ is_stop byte }
 {
     is_blank(byte) || byte == b';'

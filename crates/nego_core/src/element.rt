@@ -1,19 +1,44 @@
-ghost use Rattle.std.specs.Prelude.{◌≡◌, ◌≤◌, ℕ, MatchOption, MatchResult, IfSome, Some};
+ghost use Rattle.std.specs.Prelude.{◌≡◌, ◌≤◌, ◌↔◌, ℕ, IsTrue, MatchOption, MatchResult, IfSome, Some};
+ghost use Rattle.std.specs.List.{list_all};
 ghost use Rattle.std.specs.Str.{str_to_ascii_lowercase};
 ghost use Rattle.lang_core.specs.Fault.{IsRange};
 ghost use Rattle.nego_core.specs.Basics.{IsTheOne};
 ghost use Rattle.nego_core.specs.Weight.{IsTail};
-ghost use Rattle.nego_core.specs.Element.{RangeGrammar, WeightGrammar, IsStart, HasStart, fitting};
+ghost use Rattle.nego_core.specs.Element.{RangeGrammar, WeightGrammar, IsStart, HasStart, fitting, is_inner, BeginsOverlong};
 ghost use Rattle.nego_core.specs.Item.{Item};
 ghost use Rattle.nego_core.specs.declared.fault.NegoFault.TheVariants.{NoMemory};
 
-use crate::blanks::cut_token;
+use crate::blanks::{cut_token, is_stop};
 use crate::fault::NegoFault;
-use crate::field_kind::FieldKind;
 use crate::item::Item;
+use crate::scheme::Scheme;
 use crate::weight::{read_no_weight, read_weight};
 use lang_core::{LangFault, Range};
 use std::alloc::Global;
+
+/// The most bytes that a range has.
+const MAX_RANGE_LEN: usize = 255;
+
+/// What ends no range.
+fn is_inner(byte: u8) -> bool
+    ensures { result ≡ is_inner byte }
+{
+    !is_stop(byte) && byte != b','
+}
+
+fn all_inner(text: &[u8]) -> bool
+    ensures { result ≡ list_all is_inner text.now }
+{
+    text.iter().all(|b| is_inner(*b))
+}
+
+/// Whether no element begins the text, since more bytes than a range has stand there before one
+/// could end.
+pub fn begins_overlong(text: &[u8]) -> bool
+    ensures { IsTrue result ↔ BeginsOverlong text.now }
+{
+    text.len() > MAX_RANGE_LEN && all_inner(&text[..MAX_RANGE_LEN + 1])
+}
 
 /// No range, where the text is none.
 fn fitting(parsed: Result<Range, LangFault>) -> Result<Option<Range>, NegoFault>
@@ -26,38 +51,38 @@ fn fitting(parsed: Result<Range, LangFault>) -> Result<Option<Range>, NegoFault>
     }
 }
 
-fn read_range(alloc: Global, kind: FieldKind, text: &[u8]) -> Result<Option<Range>, NegoFault>
+fn read_range(alloc: Global, scheme: Scheme, text: &[u8]) -> Result<Option<Range>, NegoFault>
     ensures { let lower = str_to_ascii_lowercase text.now in MatchResult result
-        (λ found. MatchOption found (¬ IsRange (RangeGrammar kind) lower) (λ range. IsRange (RangeGrammar kind) lower × (range ≡ lower)))
-        (λ fault. (fault ≡ NoMemory) × IsRange (RangeGrammar kind) lower) }
+        (λ found. MatchOption found (¬ IsRange (RangeGrammar scheme) lower) (λ range. IsRange (RangeGrammar scheme) lower × (range ≡ lower)))
+        (λ fault. (fault ≡ NoMemory) × IsRange (RangeGrammar scheme) lower) }
 {
-    match kind {
-        FieldKind::Accept => fitting(Range::parse_basic(alloc, text)),
-        FieldKind::Ranges => fitting(Range::parse_extended(alloc, text)),
+    match scheme {
+        Scheme::Basic => fitting(Range::parse_basic(alloc, text)),
+        Scheme::Extended => fitting(Range::parse_extended(alloc, text)),
     }
 }
 
-fn read_weight_of(kind: FieldKind, text: &[u8]) -> Option<u16>
-    ensures only { IsTheOne result (IsTail (WeightGrammar kind) text.now) }
+fn read_weight_of(scheme: Scheme, text: &[u8]) -> Option<u16>
+    ensures only { IsTheOne result (IsTail (WeightGrammar scheme) text.now) }
     ensures small { IfSome result (λ n. n ≤ 1000) }
 {
-    match kind {
-        FieldKind::Accept => read_weight(text),
-        FieldKind::Ranges => read_no_weight(text),
+    match scheme {
+        Scheme::Basic => read_weight(text),
+        Scheme::Extended => read_no_weight(text),
     }
 }
 
 /// The item of an element that begins the text and that blanks alone follow.
-pub fn read_item(alloc: Global, kind: FieldKind, text: &[u8]) -> Result<Option<Item>, NegoFault>
+pub fn read_item(alloc: Global, scheme: Scheme, text: &[u8]) -> Result<Option<Item>, NegoFault>
     ensures { MatchResult result
-        (λ found. MatchOption found ((item : Item) → ¬ IsStart kind text.now item) (IsStart kind text.now))
-        (λ fault. (fault ≡ NoMemory) × HasStart kind text.now) }
+        (λ found. MatchOption found ((item : Item) → ¬ IsStart scheme text.now item) (IsStart scheme text.now))
+        (λ fault. (fault ≡ NoMemory) × HasStart scheme text.now) }
 {
     let (range, rest) = cut_token(text);
-    let Some(weight) = read_weight_of(kind, rest) else {
+    let Some(weight) = read_weight_of(scheme, rest) else {
         return Ok(None);
     };
-    match read_range(alloc, kind, range)? {
+    match read_range(alloc, scheme, range)? {
         Some(range) => Ok(Some(Item::new(range, weight))),
         None => Ok(None),
     }

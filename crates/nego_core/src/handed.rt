@@ -1,27 +1,11 @@
 ghost use Rattle.std.specs.Prelude.{◌≡◌, IsTrue, Some, option_map};
-ghost use Rattle.std.specs.Str.{bytes_eq};
 ghost use Rattle.nego_core.specs.Handed.{IsFound, is_among, least_place};
 
 use crate::choice::Choice;
 use crate::chosen::choose;
 use crate::found::Found;
-use crate::holds::Holds;
 use crate::priority_list::PriorityList;
 use lang_core::Lang;
-
-/// Languages in a slice.
-#[derive(Clone, Copy)]
-struct Handed<'a> {
-    langs: &'a [Lang],
-}
-
-impl<'a> Holds for Handed<'a> {
-    ghost held = { λ h text. is_among h.langs.now text };
-
-    fn holds(&self, lang: &str) -> bool {
-        self.langs.iter().any(|other| other.as_str() == lang)
-    }
-}
 
 fn place_of(langs: &[Lang], text: &str) -> Option<usize>
     ensures { result ≡ least_place langs.now text.now }
@@ -45,8 +29,7 @@ fn held_place(langs: &[Lang], text: &str) -> usize
 pub fn lookup(list: &PriorityList, langs: &[Lang], default: Option<&Lang>) -> Found
     ensures { IsFound list.now langs.now (option_map (λ l. l.now) default.entry) result }
 {
-    let held = Handed { langs };
-    match choose(list, &held, default) {
+    match choose(list, &langs, default) {
         Choice::Matched(text) => Found::Matched(held_place(langs, text)),
         Choice::Default => match default {
             Some(lang) => Found::Default(held_place(langs, lang.as_str())),

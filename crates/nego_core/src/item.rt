@@ -2,13 +2,16 @@ ghost use Rattle.std.specs.Prelude.{◌≡◌, ◌≤◌, ◌↔◌, IsTrue};
 ghost use Rattle.nego_core.specs.Deciding.{Matches};
 ghost use Rattle.lang_core.specs.Text.{pieces};
 ghost use Rattle.lang_core.specs.Matching.{specificity};
+ghost use Rattle.std.specs.Cmp as laws_of;
+ghost use Rattle.nego_core.specs.Equal.{item_eq, item_equiv};
 
 use crate::scheme::Scheme;
 use lang_core::{Range, Tag};
+use std::fmt;
 use std::marker::Model;
 
 /// A range of a priority list with its weight.
-#[derive(Debug, Drop)]
+#[derive(Drop)]
 pub struct Item {
     range: Range,
     weight: u16,
@@ -72,5 +75,29 @@ impl Item {
         ensures { result ≡ specificity (pieces self.now.range) }
     {
         self.named
+    }
+}
+
+impl PartialEq for Item {
+    ghost eq = { item_eq };
+
+    ghost laws = { laws_of.partial_equiv_from_equiv item_equiv };
+
+    fn eq(&self, other: &Item) -> bool {
+        self.range.as_str() == other.range.as_str() && self.weight == other.weight
+    }
+}
+
+impl Eq for Item {
+    ghost laws = { item_equiv };
+}
+
+impl fmt::Debug for Item {
+    /// Shows the range's text and the weight.
+    fn fmt<W: fmt::Write>(&self, f: &mut fmt::Formatter<W>) -> fmt::Result {
+        f.debug_struct("Item")
+            .field("range", &self.range.as_str())
+            .field("weight", &self.weight)
+            .finish()
     }
 }

@@ -1,7 +1,8 @@
 //! Laws about the definitions alone: each function's contract is the law.
 ghost use Rattle.std.specs.Prelude.{◌≡◌, ◌≢◌, ◌≤◌, ◌==◌, ◌↔◌, ℕ, List, Option, Some, None, Bool, IsTrue, All, AllPairs, Contains, IsPermutation, filter, map};
-ghost use Rattle.lang_core.specs.Text.{pieces, joined};
+ghost use Rattle.lang_core.specs.Text.{pieces, pieces_by, joined};
 ghost use Rattle.nego_core.specs.Item.{Item};
+ghost use Rattle.nego_core.specs.Element.{IsPadded};
 ghost use Rattle.nego_core.specs.declared.scheme.Scheme.{Scheme};
 ghost use Rattle.nego_core.specs.Filtered.{IsFiltered, IsPicked};
 ghost use Rattle.nego_core.specs.Order.{is_tried, IsOrder};
@@ -11,18 +12,36 @@ ghost use Rattle.nego_core.specs.Deciding.{Matches, IsDeciding, IsDecidedBy, Nam
 ghost use Rattle.nego_core.specs.Unweighted.{AllPositive, AllUnweighted, IsMatchedAt, IsFirstHeld};
 ghost use Rattle.nego_core.specs.declared.scheme.Scheme.TheVariants as scheme;
 ghost use Rattle.nego_core.specs.Field.{IsField, IsFirstMalformed, IsOfOneKind};
-ghost use Rattle.nego_core.specs.declared.field_kind.FieldKind.{FieldKind};
+ghost use Rattle.nego_core.specs.declared.malformed.Malformed.{Malformed};
+ghost use Rattle.nego_core.specs.declared.malformed.Malformed.TheVariants.{Refused, PassedOver};
 ghost use Rattle.nego_core.specs.declared.found.Found.{Found};
 ghost use Rattle.nego_core.specs.declared.pick.Pick.{Pick};
 
-/// A field gives one list of items (RFC 9110 section 12.5.4).
+/// A field gives one list of items (RFC 9110 section 12.5.4), and one where malformed elements
+/// are passed over.
 pub fn one_item_list()
-    ensures { (kind : FieldKind) (bytes : List ℕ) (a b : List Item) → IsField kind bytes a → IsField kind bytes b → a ≡ b }
+    ensures { (scheme : Scheme) (malformed : Malformed) (bytes : List ℕ) (a b : List Item)
+        → IsField scheme malformed bytes a → IsField scheme malformed bytes b → a ≡ b }
+{}
+
+/// A field without a malformed element gives the same items where such are passed over.
+pub fn same_items_where_none_is_malformed()
+    ensures { (scheme : Scheme) (bytes : List ℕ) (items : List Item)
+        → IsField scheme Refused bytes items → IsField scheme PassedOver bytes items }
+{}
+
+/// The items of a field are those of its elements. So passing over malformed ones takes nothing
+/// else away.
+pub fn items_are_of_elements()
+    ensures { (scheme : Scheme) (malformed : Malformed) (bytes : List ℕ) (items : List Item)
+        → IsField scheme malformed bytes items → (item : Item) → Contains items item
+        ↔ ((piece : List ℕ) × Contains (pieces_by 44 bytes) piece × IsPadded scheme piece item) }
 {}
 
 /// A field gives a list without a weight 0 beside a range that is not basic.
 pub fn field_is_of_one_kind()
-    ensures { (kind : FieldKind) (bytes : List ℕ) (items : List Item) → IsField kind bytes items → IsOfOneKind items }
+    ensures { (scheme : Scheme) (malformed : Malformed) (bytes : List ℕ) (items : List Item)
+        → IsField scheme malformed bytes items → IsOfOneKind items }
 {}
 
 /// The items other than "*" refuse a tag exactly where the list without "*" does.
@@ -116,15 +135,15 @@ pub fn order_falls()
         ≡ filter (λ i. i.weight == weight) (filter is_tried items) }
 {}
 
-/// A field with a malformed element gives no items.
+/// A field with a malformed element gives no items where such are refused.
 pub fn malformed_is_no_field()
-    ensures { (kind : FieldKind) (bytes : List ℕ) (offset : ℕ) (items : List Item) → IsFirstMalformed kind bytes offset → ¬ IsField kind bytes items }
+    ensures { (scheme : Scheme) (bytes : List ℕ) (offset : ℕ) (items : List Item) → IsFirstMalformed scheme bytes offset → ¬ IsField scheme Refused bytes items }
 {}
 
 /// The first malformed element of a field begins at one offset.
 pub fn one_malformed_offset()
-    ensures { (kind : FieldKind) (bytes : List ℕ) (a b : ℕ)
-        → IsFirstMalformed kind bytes a → IsFirstMalformed kind bytes b → a ≡ b }
+    ensures { (scheme : Scheme) (bytes : List ℕ) (a b : ℕ)
+        → IsFirstMalformed scheme bytes a → IsFirstMalformed scheme bytes b → a ≡ b }
 {}
 
 /// A tag has one deciding item.

@@ -2,13 +2,14 @@
 //! (RFC 4647 section 3.3) and lookup (RFC 4647 section 3.4).
 //!
 //! - [`PriorityList`] is what a reader asks for: ranges with weights, read from an Accept-Language
-//!   field or from a list of extended ranges.
+//!   field or from a list of extended ranges. [`Malformed`] tells whether a malformed element
+//!   refuses the field or is passed over.
 //! - [`filter`] gives all languages of a slice that the list asks for, best first.
 //! - [`lookup`] gives the one that fits best, or a default; [`choose`] does so over any set that
 //!   tells whether it holds a text ([`Holds`]).
 //! - [`NegoFault`] says why a field is refused, and where.
 //!
-//! A field is read whole or refused. Of several ranges that match a tag the one with the most
+//! Of several ranges that match a tag the one with the most
 //! subtags other than "*" decides, and weight 0 refuses. Questions allocate nothing but the list of
 //! a filter.
 //!
@@ -31,7 +32,6 @@ mod element;
 mod entry;
 mod fault;
 mod field;
-mod field_kind;
 mod filtered;
 mod found;
 mod handed;
@@ -40,6 +40,7 @@ mod index;
 mod item;
 pub mod laws;
 mod looked_up;
+mod malformed;
 mod marks;
 mod order;
 mod pick;
@@ -61,6 +62,7 @@ pub use found::Found;
 pub use handed::lookup;
 pub use holds::Holds;
 pub use item::Item;
+pub use malformed::Malformed;
 pub use pick::Pick;
 pub use picks::Picks;
 pub use priority_list::PriorityList;

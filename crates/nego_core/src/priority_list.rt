@@ -1,21 +1,25 @@
 ghost use Rattle.std.specs.Prelude.{◌≡◌, ◌≤◌, ◌<◌, ℕ, length, All, MatchResult, MatchOption, IfSome};
+ghost use Rattle.std.specs.Cmp as laws_of;
+ghost use Rattle.std.specs.Cmp.Lexicographic.{pointwise, lists_equiv};
 ghost use Rattle.lang_core.specs.Text.{pieces};
+ghost use Rattle.nego_core.specs.Equal.{item_eq, item_equiv};
 ghost use Rattle.nego_core.specs.Basics.{IsTheOne};
 ghost use Rattle.nego_core.specs.Best.{IsBest};
 ghost use Rattle.nego_core.specs.Deciding.{Matches, IsDeciding, IsDecidedBy, IsDecidingWeight, DecidesLang};
 ghost use Rattle.nego_core.specs.Order.{AreTurns};
 ghost use Rattle.nego_core.specs.RangeIndex.{IsRangeIndex};
 ghost use Rattle.nego_core.specs.Field.{IsField, IsAccept, IsAcceptRanges, IsOfOneKind, RefusesField};
-ghost use Rattle.nego_core.specs.declared.field_kind.FieldKind.TheVariants.{Accept, Ranges};
+ghost use Rattle.nego_core.specs.declared.scheme.Scheme.TheVariants.{Basic, Extended};
+ghost use Rattle.nego_core.specs.declared.malformed.Malformed.TheVariants.{Refused};
 ghost use Rattle.nego_core.specs.declared.fault.NegoFault.TheVariants.{NoMemory};
 
 use crate::best::Best;
 use crate::deciding::{best_basic, best_extended, best_of};
 use crate::fault::NegoFault;
 use crate::field::read_items;
-use crate::field_kind::FieldKind;
 use crate::index::{Index, index_of};
 use crate::item::Item;
+use crate::malformed::Malformed;
 use crate::order::order_of;
 use crate::scheme::Scheme;
 use crate::turn::Turn;
@@ -70,13 +74,6 @@ fn list_of(alloc: Global, items: Vec<Item>) -> Result<PriorityList, NegoFault>
     })
 }
 
-fn read_field(alloc: Global, kind: FieldKind, field: &[u8]) -> Result<PriorityList, NegoFault>
-    ensures { MatchResult result (λ list. (length field.now ≤ 65535) × IsField kind field.now list) (RefusesField kind field.now) }
-{
-    let items = read_items(alloc, kind, field)?;
-    list_of(alloc, items)
-}
-
 /// The item that decides a tag or a language.
 #[derive(Clone, Copy)]
 pub struct Decision {
@@ -85,27 +82,46 @@ pub struct Decision {
 }
 
 impl PriorityList {
-    /// The list of an Accept-Language field (RFC 9110 section 12.5.4): basic ranges between
-    /// commas, each with a weight or none.
+    /// The list of a field, read under a scheme.
     ///
-    /// Blanks may stand around an element and around the ";" before its weight; empty elements are
-    /// passed over, so an empty field gives the empty list. Where no weight is written it is 1000.
+    /// Under `Scheme::Basic` the elements between commas are basic ranges, each with a weight or
+    /// none, which is 1000 (Accept-Language, RFC 9110 section 12.5.4); under `Scheme::Extended`
+    /// extended ranges without weights (RFC 4647 section 2.2), each of weight 1000. Blanks (spaces
+    /// and tabs) may stand around an element and around the ";" before its weight. What is empty
+    /// or blank between commas is no element, so an empty field gives the empty list.
+    ///
+    /// `Malformed` tells what becomes of a malformed element. Passing it over takes nothing else
+    /// away: `en_US, fr` gives fr alone. It may be one that refuses a language, as `de;q=0.0000`.
     ///
     /// Refusals: `FieldTooLong` where the field has more than 65,535 bytes; else, at the first
-    /// element that breaks the grammar, `FieldMalformed` with the offset in the field at which the
-    /// element begins; `NoMemory`.
-    pub fn from_accept(alloc: Global, field: &[u8]) -> Result<PriorityList, NegoFault>
-        ensures { MatchResult result (λ list. (length field.now ≤ 65535) × IsAccept field.now list) (RefusesField Accept field.now) }
+    /// malformed element where such are refused, `FieldMalformed` with the offset in the field at
+    /// which the element begins; `NoMemory`.
+    pub fn parse(
+        alloc: Global,
+        scheme: Scheme,
+        malformed: Malformed,
+        field: &[u8],
+    ) -> Result<PriorityList, NegoFault>
+        ensures { MatchResult result (λ list. (length field.now ≤ 65535) × IsField scheme malformed field.now list) (RefusesField scheme malformed field.now) }
     {
-        read_field(alloc, FieldKind::Accept, field)
+        let items = read_items(alloc, scheme, malformed, field)?;
+        list_of(alloc, items)
     }
 
-    /// The list of extended ranges between commas (RFC 4647 section 2.2), without weights: each
-    /// has weight 1000. Blanks, empty elements and refusals are as in `from_accept`.
-    pub fn from_ranges(alloc: Global, field: &[u8]) -> Result<PriorityList, NegoFault>
-        ensures { MatchResult result (λ list. (length field.now ≤ 65535) × IsAcceptRanges field.now list) (RefusesField Ranges field.now) }
+    /// The list of an Accept-Language field (RFC 9110 section 12.5.4): `parse` under
+    /// `Scheme::Basic`, with its refusals, where the first malformed element refuses the field.
+    pub fn from_accept(alloc: Global, field: &[u8]) -> Result<PriorityList, NegoFault>
+        ensures { MatchResult result (λ list. (length field.now ≤ 65535) × IsAccept field.now list) (RefusesField Basic Refused field.now) }
     {
-        read_field(alloc, FieldKind::Ranges, field)
+        PriorityList::parse(alloc, Scheme::Basic, Malformed::Refused, field)
+    }
+
+    /// The list of extended ranges between commas (RFC 4647 section 2.2): `parse` under
+    /// `Scheme::Extended`, with its refusals, where the first malformed element refuses the field.
+    pub fn from_ranges(alloc: Global, field: &[u8]) -> Result<PriorityList, NegoFault>
+        ensures { MatchResult result (λ list. (length field.now ≤ 65535) × IsAcceptRanges field.now list) (RefusesField Extended Refused field.now) }
+    {
+        PriorityList::parse(alloc, Scheme::Extended, Malformed::Refused, field)
     }
 
     /// The items in written order. No list has a weight 0 beside a range that is not basic.
@@ -190,6 +206,21 @@ impl PriorityList {
             None => None,
         }
     }
+}
+
+/// Lists are equal whose items are.
+impl PartialEq for PriorityList {
+    ghost eq = { pointwise item_eq };
+
+    ghost laws = { laws_of.partial_equiv_from_equiv (lists_equiv item_equiv) };
+
+    fn eq(&self, other: &PriorityList) -> bool {
+        self.items == other.items
+    }
+}
+
+impl Eq for PriorityList {
+    ghost laws = { lists_equiv item_equiv };
 }
 
 impl fmt::Debug for PriorityList {

@@ -1,4 +1,4 @@
-ghost use Rattle.std.specs.Prelude.{◌≡◌, ◌==◌, position};
+ghost use Rattle.std.specs.Prelude.{◌≡◌, ◌≤◌, ◌==◌, length, position};
 ghost use Rattle.nego_core.specs.Separators.{is_separator, skip_separators, IsFirstPiece};
 
 use crate::blanks::is_blank;
@@ -12,6 +12,21 @@ fn is_separator(byte: u8) -> bool
     byte == COMMA || is_blank(byte)
 }
 
+/// So many commas are skipped at once.
+const COMMAS: &[u8] = b",,,,,,,,,,,,,,,,";
+
+/// The text without commas at its front, of which fewer than `COMMAS` may be left.
+fn skip_commas(text: &[u8]) -> &[u8]
+    ensures same { skip_separators result.now ≡ skip_separators text.now }
+    ensures shorter { length result.now ≤ length text.now }
+{
+    let mut rest = text;
+    while let Some(others) = rest.strip_prefix(COMMAS) {
+        rest = others;
+    }
+    rest
+}
+
 /// The text without the separators at its front.
 pub fn skip_separators(text: &[u8]) -> &[u8]
     ensures { result.now ≡ skip_separators text.now }
@@ -21,7 +36,7 @@ pub fn skip_separators(text: &[u8]) -> &[u8]
         if !is_separator(*first) {
             return rest;
         }
-        rest = others;
+        rest = skip_commas(others);
     }
     rest
 }

@@ -6,6 +6,7 @@ mod fields;
 mod filtering;
 mod headers;
 mod held;
+mod lenient;
 mod long_lists;
 mod looking_up;
 mod reading;

@@ -26,7 +26,7 @@ pub fn command<'a>(alloc: Global) -> Result<Command<'a>, AllocError>
     Command::new(alloc, "delete")
         .about("Deletes a label of a site, with a new stamp")
         .after_help(
-            "Reads a site document and prints the new one. The deletion is kept, so that no older label comes back.\nExample: lexicat delete --now 5 --id greeting --lang en < paris.json > next.json",
+            "Reads a site document and prints the new one. The deletion is kept, so that no older label comes back.\nExample: lexicat delete --now 6 --id greeting --lang en < one.json > two.json",
         )
         .arg(arguments::now(alloc))?
         .arg(arguments::id(alloc))?

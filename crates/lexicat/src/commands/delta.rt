@@ -23,7 +23,7 @@ pub fn command<'a>(alloc: Global) -> Command<'a>
     Command::new(alloc, "delta")
         .about("Prints the cells of a site that the owner of a summary lacks")
         .after_help(
-            "Reads a site document, then a summary.\nDocument 1 of the input ends at the first LF, and all behind it is document 2.\nExample: cat paris.json summary.json | lexicat delta > delta.json",
+            "Reads a site document, then a summary.\nDocument 1 of the input ends at the first LF, and all behind it is document 2.\nExample: cat three.json summary.json | lexicat delta > delta.json",
         )
 }
 

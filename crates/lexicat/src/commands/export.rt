@@ -21,7 +21,7 @@ pub fn command<'a>(alloc: Global) -> Command<'a>
 {
     Command::new(alloc, "export")
         .about("Prints the labels of a site as language maps")
-        .after_help("Reads a site document.\nExample: lexicat export < paris.json")
+        .after_help("Reads a site document.\nExample: lexicat export < three.json")
 }
 
 /// Prints the live labels of the site as language maps, or tells the refusal.

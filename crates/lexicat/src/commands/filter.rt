@@ -10,17 +10,17 @@ ghost use Rattle.lexicat.specs.Reading.{AnswersInput, RefusesInput};
 ghost use Rattle.lexicat.specs.Words.{filter_app};
 
 use crate::answer::{Answer, finish};
-use crate::given::{scheme_of, text_of};
+use crate::given::{malformed_of, scheme_of, text_of};
 use crate::pick::read_ranges;
 use crate::refusal::Refusal;
 use crate::{arguments, status};
 use cell_core::MessageId;
 use clap::{ArgMatches, Command};
 use docs_core::{Ask, Sink, Source, ask_document, read_all};
-use nego_core::Scheme;
+use nego_core::{Malformed, Scheme};
 use std::alloc::{AllocError, Global};
 
-/// `filter --id ID [--scheme SCHEME] FIELD`
+/// `filter --id ID [--scheme SCHEME] [--lenient] FIELD`
 pub fn command<'a>(alloc: Global, schemes: &'a [&'a str]) -> Result<Command<'a>, AllocError>
     ensures app { IfOk result (λ c. app_of c ≡ filter_app schemes.entry) }
     ensures local { IfOk result (λ c. (out-Command c).has_globals ≡ false) }
@@ -28,10 +28,11 @@ pub fn command<'a>(alloc: Global, schemes: &'a [&'a str]) -> Result<Command<'a>,
     Command::new(alloc, "filter")
         .about("Prints the labels of a message whose languages fit, best first")
         .after_help(
-            "Reads a site document.\nExample: lexicat filter --id greeting \"fr;q=0.5, en\" < paris.json",
+            "Reads a site document.\nExample: lexicat filter --id greeting \"fr;q=0.5, en\" < three.json",
         )
         .arg(arguments::id(alloc))?
         .arg(arguments::scheme(alloc, schemes))?
+        .arg(arguments::lenient(alloc))?
         .arg(arguments::field(alloc))
 }
 
@@ -40,6 +41,7 @@ pub fn command<'a>(alloc: Global, schemes: &'a [&'a str]) -> Result<Command<'a>,
 struct Asked<'a> {
     id: &'a str,
     scheme: Scheme,
+    malformed: Malformed,
     field: &'a str,
 }
 
@@ -50,7 +52,13 @@ fn asked_of<'a>(given: &ArgMatches<'a>) -> Option<Asked<'a>>
     let id = text_of(given, "id")?;
     let field = text_of(given, "field")?;
     let scheme = scheme_of(text_of(given, "scheme"));
-    Some(Asked { id, scheme, field })
+    let malformed = malformed_of(text_of(given, "lenient"));
+    Some(Asked {
+        id,
+        scheme,
+        malformed,
+        field,
+    })
 }
 
 /// Prints the lines of the filter, or tells the refusal.
@@ -79,7 +87,7 @@ fn answer_of<R: Source>(alloc: Global, asked: Asked<'_>, reader: &mut R) -> Resu
         (RefusesInput R.remaining R.failed (FitsFilter words) (BarsFilter words) RefusesOnly reader.old reader.new) }
 {
     let id = MessageId::new(alloc, asked.id)?;
-    let list = read_ranges(alloc, asked.scheme, asked.field)?;
+    let list = read_ranges(alloc, asked.scheme, asked.malformed, asked.field)?;
     let site = read_all(alloc, reader)?;
     let ask = Ask::Filter(asked.scheme, list);
     let (text, is_found) = ask_document(alloc, site.bytes(), &id, &ask)?;

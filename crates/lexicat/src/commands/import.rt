@@ -24,7 +24,7 @@ pub fn command<'a>(alloc: Global) -> Result<Command<'a>, AllocError>
     Command::new(alloc, "import")
         .about("Puts the labels of language maps into a site, each with a new stamp")
         .after_help(
-            "Reads a site document, then language maps, and prints the new site.\nDocument 1 of the input ends at the first LF, and all behind it is document 2.\nExample: cat paris.json maps.json | lexicat import --now 5 > next.json",
+            "Reads a site document, then language maps, and prints the new site.\nDocument 1 of the input ends at the first LF, and all behind it is document 2.\nExample: (cat one.json; echo '{\"greeting\":{\"fr\":\"Bonjour\"}}') | lexicat import --now 7 > three.json",
         )
         .arg(arguments::now(alloc))
 }

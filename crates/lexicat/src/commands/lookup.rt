@@ -10,7 +10,7 @@ ghost use Rattle.lexicat.specs.Reading.{AnswersInput, RefusesInput};
 ghost use Rattle.lexicat.specs.Words.{lookup_app};
 
 use crate::answer::{Answer, finish};
-use crate::given::{scheme_of, text_of};
+use crate::given::{malformed_of, scheme_of, text_of};
 use crate::pick::read_ranges;
 use crate::refusal::Refusal;
 use crate::wording::read_default;
@@ -18,10 +18,10 @@ use crate::{arguments, status};
 use cell_core::MessageId;
 use clap::{ArgMatches, Command};
 use docs_core::{Ask, Sink, Source, ask_document, read_all};
-use nego_core::Scheme;
+use nego_core::{Malformed, Scheme};
 use std::alloc::{AllocError, Global};
 
-/// `lookup --id ID [--scheme SCHEME] [--default LANG] FIELD`
+/// `lookup --id ID [--scheme SCHEME] [--lenient] [--default LANG] FIELD`
 pub fn command<'a>(alloc: Global, schemes: &'a [&'a str]) -> Result<Command<'a>, AllocError>
     ensures app { IfOk result (λ c. app_of c ≡ lookup_app schemes.entry) }
     ensures local { IfOk result (λ c. (out-Command c).has_globals ≡ false) }
@@ -29,10 +29,11 @@ pub fn command<'a>(alloc: Global, schemes: &'a [&'a str]) -> Result<Command<'a>,
     Command::new(alloc, "lookup")
         .about("Prints the one label of a message that fits best, or the default's, or nothing")
         .after_help(
-            "Reads a site document.\nExample: lexicat lookup --id greeting --default en \"da, fr;q=0.5\" < paris.json",
+            "Reads a site document.\nExample: lexicat lookup --id greeting --default en \"da, fr;q=0.5\" < three.json",
         )
         .arg(arguments::id(alloc))?
         .arg(arguments::scheme(alloc, schemes))?
+        .arg(arguments::lenient(alloc))?
         .arg(arguments::default(alloc))?
         .arg(arguments::field(alloc))
 }
@@ -42,6 +43,7 @@ pub fn command<'a>(alloc: Global, schemes: &'a [&'a str]) -> Result<Command<'a>,
 struct Asked<'a> {
     id: &'a str,
     scheme: Scheme,
+    malformed: Malformed,
     default: Option<&'a str>,
     field: &'a str,
 }
@@ -53,10 +55,12 @@ fn asked_of<'a>(given: &ArgMatches<'a>) -> Option<Asked<'a>>
     let id = text_of(given, "id")?;
     let field = text_of(given, "field")?;
     let scheme = scheme_of(text_of(given, "scheme"));
+    let malformed = malformed_of(text_of(given, "lenient"));
     let default = text_of(given, "default");
     Some(Asked {
         id,
         scheme,
+        malformed,
         default,
         field,
     })
@@ -89,7 +93,7 @@ fn answer_of<R: Source>(alloc: Global, asked: Asked<'_>, reader: &mut R) -> Resu
 {
     let id = MessageId::new(alloc, asked.id)?;
     let default = read_default(alloc, asked.default)?;
-    let list = read_ranges(alloc, asked.scheme, asked.field)?;
+    let list = read_ranges(alloc, asked.scheme, asked.malformed, asked.field)?;
     let site = read_all(alloc, reader)?;
     let ask = Ask::Lookup(list, default);
     let (text, is_found) = ask_document(alloc, site.bytes(), &id, &ask)?;

@@ -8,25 +8,27 @@ ghost use Rattle.lexicat.specs.Asked.{asked_words, IsAnswer, RefusesWords};
 ghost use Rattle.lexicat.specs.Picks.{Picks};
 
 use crate::fault_line::refuse_words;
-use crate::given::{scheme_of, text_of, texts_of};
-use crate::pick::{line_of, picked};
+use crate::given::{malformed_of, scheme_of, text_of, texts_of};
+use crate::pick::{Finding, line_of, picked};
 use crate::pick_fault::PickFault;
 use crate::printing::print;
 use crate::{arguments, status};
 use clap::{ArgMatches, Command};
 use docs_core::{Doc, Sink};
-use nego_core::Scheme;
+use nego_core::{Malformed, Scheme};
 use std::alloc::{AllocError, Global};
 
-/// `pick [--scheme SCHEME] RANGES TAG..`
+/// `pick [--scheme SCHEME] [--lenient] [--default LANG] RANGES TAG..`
 pub fn command<'a>(alloc: Global, schemes: &'a [&'a str]) -> Result<Command<'a>, AllocError>
     ensures app { IfOk result (λ c. app_of c ≡ pick_app schemes.entry) }
     ensures local { IfOk result (λ c. (out-Command c).has_globals ≡ false) }
 {
     Command::new(alloc, "pick")
-        .about("Prints the first language that fits the ranges, or nothing")
+        .about("Prints the first language that fits the ranges, or the default, or nothing")
         .after_help("Example: lexicat pick \"da, en-GB;q=0.8, en;q=0.7\" en fr")
         .arg(arguments::scheme(alloc, schemes))?
+        .arg(arguments::lenient(alloc))?
+        .arg(arguments::default(alloc))?
         .arg(arguments::ranges(alloc))?
         .arg(arguments::tags(alloc))
 }
@@ -35,6 +37,8 @@ pub fn command<'a>(alloc: Global, schemes: &'a [&'a str]) -> Result<Command<'a>,
 #[derive(Clone, Copy)]
 struct Asked<'m, 'a> {
     scheme: Scheme,
+    malformed: Malformed,
+    default: Option<&'a str>,
     ranges: &'a str,
     tags: &'m [&'a str],
 }
@@ -46,8 +50,12 @@ fn asked_of<'m, 'a>(given: &'m ArgMatches<'a>) -> Option<Asked<'m, 'a>>
     let ranges = text_of(given, "ranges")?;
     let tags = texts_of(given, "tags")?;
     let scheme = scheme_of(text_of(given, "scheme"));
+    let malformed = malformed_of(text_of(given, "lenient"));
+    let default = text_of(given, "default");
     Some(Asked {
         scheme,
+        malformed,
+        default,
         ranges,
         tags,
     })
@@ -83,11 +91,18 @@ struct Answer {
 fn answer_of(alloc: Global, asked: Asked<'_, '_>) -> Result<Answer, PickFault>
     ensures { MatchResult result (IsAnswer (asked_words asked.entry)) (RefusesWords (asked_words asked.entry)) }
 {
-    let found = picked(alloc, asked.scheme, asked.ranges, asked.tags)?;
+    let found = picked(
+        alloc,
+        asked.scheme,
+        asked.malformed,
+        asked.default,
+        asked.ranges,
+        asked.tags,
+    )?;
     let line = line_of(alloc, &found)?;
     let status = match &found {
-        Some(_) => status::ANSWERED,
-        None => status::NOTHING,
+        Finding::Matched(_) | Finding::Default(_) => status::ANSWERED,
+        Finding::Nothing => status::NOTHING,
     };
     Ok(Answer { line, status })
 }

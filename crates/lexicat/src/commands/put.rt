@@ -26,7 +26,7 @@ pub fn command<'a>(alloc: Global) -> Result<Command<'a>, AllocError>
     Command::new(alloc, "put")
         .about("Puts a label into a site, with a new stamp")
         .after_help(
-            "Reads a site document and prints the new one. A TEXT that begins with \"-\" stands behind --.\nExample: lexicat put --now 5 --id greeting --lang en Hello < paris.json > next.json",
+            "Reads a site document and prints the new one. A TEXT that begins with \"-\" stands behind --.\nExample: lexicat put --now 5 --id greeting --lang en Hello < paris.json > one.json",
         )
         .arg(arguments::now(alloc))?
         .arg(arguments::id(alloc))?

@@ -21,7 +21,9 @@ pub fn command<'a>(alloc: Global) -> Command<'a>
 {
     Command::new(alloc, "replay")
         .about("Runs a script of sites from their beginning, and prints the answers")
-        .after_help("Reads a script document.\nExample: lexicat replay < script.json")
+        .after_help(
+            "Reads a script document.\nExample: echo '{\"kind\":\"script\",\"sites\":1,\"steps\":[[\"cells\",0]],\"version\":2}' | lexicat replay",
+        )
 }
 
 /// Replays the script, or tells the refusal.

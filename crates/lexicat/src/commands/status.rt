@@ -21,7 +21,7 @@ pub fn command<'a>(alloc: Global) -> Command<'a>
 {
     Command::new(alloc, "status")
         .about("Prints how many cells and labels a site has, and its last stamp")
-        .after_help("Reads a site document.\nExample: lexicat status < paris.json")
+        .after_help("Reads a site document.\nExample: lexicat status < two.json")
 }
 
 /// Prints the status line of the site, or tells the refusal.

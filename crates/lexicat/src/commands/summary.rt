@@ -21,7 +21,9 @@ pub fn command<'a>(alloc: Global) -> Command<'a>
 {
     Command::new(alloc, "summary")
         .about("Prints what a site tells of its cells, to ask others for what it lacks")
-        .after_help("Reads a site document.\nExample: lexicat summary < tokyo.json > summary.json")
+        .after_help(
+            "Reads a site document.\nExample: lexicat new --site tokyo | lexicat summary > summary.json",
+        )
 }
 
 /// Prints the summary of the site, or tells the refusal.

@@ -23,7 +23,7 @@ pub fn command<'a>(alloc: Global) -> Command<'a>
     Command::new(alloc, "take")
         .about("Joins a delta into the site that it is for")
         .after_help(
-            "Reads a site document, then a delta.\nDocument 1 of the input ends at the first LF, and all behind it is document 2.\nExample: cat tokyo.json delta.json | lexicat take > next.json",
+            "Reads a site document, then a delta.\nDocument 1 of the input ends at the first LF, and all behind it is document 2.\nExample: (lexicat new --site tokyo; cat delta.json) | lexicat take > tokyo.json",
         )
 }
 

@@ -2,6 +2,8 @@
 use super::harness::Page;
 use crate::fault_line::{refuse_document, refuse_words};
 use crate::pick_fault::PickFault;
+use cata_core::PlayFault;
+use cell_core::{SiteName, Stamp};
 use docs_core::{DocCause, DocFault, Output};
 use lang_core::LangFault;
 use nego_core::NegoFault;
@@ -49,7 +51,40 @@ fn pick_faults(rt: HostRuntime) -> Result<(), Fail> {
         let status = refuse_words(&mut Output::new(&mut page), number, &fault);
         assert_eq!(rt; status, if number == 26 { 5 } else { 3 });
         assert!(rt; page.bytes.as_slice() == line.as_bytes(), "{line}");
+        assert_eq!(rt; page.writes, 1, "{line}");
     }
+    Ok(())
+}
+
+/// The longest line is one write, and a text that no line can hold is told all the same.
+#[test]
+fn long_lines(rt: HostRuntime) -> Result<(), Fail> {
+    let alloc = rt.alloc();
+    let mut page = Page::new(alloc);
+    let stamp = Stamp {
+        time: u64::MAX,
+        site: SiteName::new("0123456789abcdef")?,
+        count: u32::MAX,
+    };
+    let fault = PlayFault::StampReused {
+        step: usize::MAX,
+        place: u128::MAX,
+        stamp,
+    };
+    assert_eq!(rt;
+        refuse_document(&mut Output::new(&mut page), DocFault::from(fault)),
+        3
+    );
+    assert!(rt;
+        page.bytes.as_slice()
+            == b"refused 13: stamp 18446744073709551615 0123456789abcdef 4294967295 used twice, cell 340282366920938463463374607431768211455, step 18446744073709551615\n".as_slice()
+    );
+    assert_eq!(rt; page.writes, 1);
+    let mut page = Page::new(alloc);
+    let text = "a".repeat(alloc, 1000)?;
+    let line = format!(in alloc; "refused 9: {text}\n")?;
+    assert_eq!(rt; refuse_words(&mut Output::new(&mut page), 9, &text), 3);
+    assert!(rt; page.bytes.as_slice() == line.as_bytes());
     Ok(())
 }
 
@@ -87,6 +122,7 @@ fn document_faults(rt: HostRuntime) -> Result<(), Fail> {
         let fault = DocFault { document, cause };
         assert_eq!(rt; refuse_document(&mut Output::new(&mut page), fault), status);
         assert!(rt; page.bytes.as_slice() == line.as_bytes(), "{line}");
+        assert_eq!(rt; page.writes, 1, "{line}");
     }
     Ok(())
 }

@@ -1,8 +1,15 @@
 //! Memory that ends: the answer is that of ample memory, or status 5 with nothing written.
 use super::harness::run_on;
-use super::texts::{DELTA, EMPTY_ONE, EMPTY_TWO, MAPS, ONE, QUESTIONS, SCRIPT, SUMMARY_TWO, TWO};
+use super::texts::{
+    DELTA, EMPTY_ONE, EMPTY_TWO, MAPS, ONE, QUESTIONS, SCRIPT, SUMMARY_TWO, TWO, UPDATE,
+};
 use std::alloc::Global;
 use std::test::Fail;
+
+/// Whether the line of refusal 26 is told, unless its page found no memory for it.
+fn tells_of_memory(told: &[u8]) -> bool {
+    told.is_empty() || told == b"refused 26: out of memory\n".as_slice()
+}
 
 /// Whether the run ended as it may, over two documents or one.
 fn ends_well(alloc: Global, words: &[&str], first: &str, second: &str, status: u8) -> bool {
@@ -11,7 +18,7 @@ fn ends_well(alloc: Global, words: &[&str], first: &str, second: &str, status: u
     };
     match run_on(alloc, words, input.as_str()) {
         Err(_) => true,
-        Ok(ran) if ran.status == 5 => ran.output.is_empty(),
+        Ok(ran) if ran.status == 5 => ran.output.is_empty() && tells_of_memory(&ran.told),
         Ok(ran) => ran.status == status && !ran.output.is_empty() && ran.told.is_empty(),
     }
 }
@@ -34,6 +41,10 @@ fn of_labels(rt: HostRuntime) {
     assert!(rt; ends_well(alloc, &["export"], QUESTIONS, "", 0));
     let filter = ["filter", "--id", "m", "fr;q=0.5, en"];
     assert!(rt; ends_well(alloc, filter.as_slice(), QUESTIONS, "", 0));
+    assert!(rt; ends_well(alloc, &["missing", "--lang", "de"], QUESTIONS, "", 0));
+    let bundle = ["bundle", "--default", "fr", "de, en;q=0.5"];
+    assert!(rt; ends_well(alloc, bundle.as_slice(), QUESTIONS, "", 0));
+    assert!(rt; ends_well(alloc, &["update", "--now", "5"], EMPTY_ONE, UPDATE, 0));
     let lookup = ["lookup", "--id", "m", "--default", "fr", "de, *;q=0"];
     assert!(rt; ends_well(alloc, lookup.as_slice(), QUESTIONS, "", 1));
 }

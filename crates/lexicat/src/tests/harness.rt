@@ -5,10 +5,11 @@ use std::alloc::{AllocError, Global};
 use std::io;
 use std::io::{Read, Write};
 
-/// A writer that keeps what it took, and takes no more than it has room for.
+/// A writer that keeps what it took, takes no more than it has room for, and counts its writes.
 #[derive(Drop)]
 pub struct Page {
     pub bytes: Vec<u8>,
+    pub writes: usize,
     room: usize,
 }
 
@@ -25,6 +26,7 @@ impl Page {
     pub fn with_room(alloc: Global, room: usize) -> Page {
         Page {
             bytes: Vec::new(alloc),
+            writes: 0,
             room,
         }
     }
@@ -32,6 +34,7 @@ impl Page {
 
 impl Write for Page {
     fn write(&mut self, buf: &[u8]) -> io::Result<usize> {
+        self.writes = self.writes.saturating_add(1);
         let count = buf.len().min(self.room);
         if count == 0 && !buf.is_empty() {
             return Err(io::Error::from(io::ErrorKind::StorageFull));

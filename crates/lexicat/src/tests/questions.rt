@@ -60,3 +60,43 @@ fn filters(rt: HostRuntime) -> Result<(), Fail> {
     }
     Ok(())
 }
+
+/// The questions site with malformed fields, of which the good elements count.
+#[test]
+fn lenient(rt: HostRuntime) -> Result<(), Fail> {
+    let rows: [(&[&str], u8, &str); 4] = [
+        (
+            &["lookup", "--id", "m", "--lenient", "en_US, fr;q=0.5"],
+            0,
+            "matched fr [\"Bonjour\"]\n",
+        ),
+        (
+            &[
+                "lookup",
+                "--lenient",
+                "--id",
+                "m",
+                "--default",
+                "en",
+                "fr;q=.8",
+            ],
+            0,
+            "default en [\"Hello\"]\n",
+        ),
+        (
+            &["filter", "--id", "m", "--lenient", "fr;q=0.5, en;q=1.5"],
+            0,
+            "filter 1\nfr 500 [\"Bonjour\"]\n",
+        ),
+        (
+            &["filter", "--id", "m", "--lenient", "en_US"],
+            1,
+            "filter 0\n",
+        ),
+    ];
+    for (words, status, line) in rows {
+        let ran = run_on(rt.alloc(), words, QUESTIONS)?;
+        assert!(rt; is_answered(&ran, status, line), "{words:?}");
+    }
+    Ok(())
+}

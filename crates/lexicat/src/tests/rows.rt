@@ -1,5 +1,5 @@
 //! Picks that are answered or refused, row by row.
-use super::harness::run_words;
+use super::harness::{is_answered, is_refused, run_words};
 use std::test::Fail;
 
 #[test]
@@ -111,6 +111,153 @@ fn refused(rt: HostRuntime) -> Result<(), Fail> {
     Ok(())
 }
 
+/// The default, where lookup finds nothing.
+#[test]
+fn defaults(rt: HostRuntime) -> Result<(), Fail> {
+    let rows: [(&[&str], u8, &str); 10] = [
+        (
+            &["pick", "--default", "en", "ja", "en", "fr"],
+            0,
+            "default en\n",
+        ),
+        (
+            &["pick", "--default", "de", "ja", "en", "fr"],
+            1,
+            "nothing\n",
+        ),
+        (
+            &["pick", "--default", "en", "ja, *;q=0", "en", "fr"],
+            1,
+            "nothing\n",
+        ),
+        (
+            &["pick", "--default", "en", "ja, en;q=0", "en", "fr"],
+            1,
+            "nothing\n",
+        ),
+        (
+            &["pick", "--default", "en", "fr", "en", "fr"],
+            0,
+            "matched fr\n",
+        ),
+        (
+            &["pick", "--default", "EN-gb", "ja", "fr", "en-GB"],
+            0,
+            "default en-gb\n",
+        ),
+        (
+            &["pick", "--default=en", "ja", "en-GB", "fr"],
+            1,
+            "nothing\n",
+        ),
+        (
+            &["pick", "--default", "@none", "ja, *;q=0", "en", "@none"],
+            0,
+            "default @none\n",
+        ),
+        (&["pick", "--default", "@none", "ja", "en"], 1, "nothing\n"),
+        (
+            &[
+                "pick",
+                "--scheme",
+                "extended",
+                "--default",
+                "en",
+                "*-CH",
+                "en",
+            ],
+            0,
+            "default en\n",
+        ),
+    ];
+    for (words, status, line) in rows {
+        let ran = run_words(rt.alloc(), words)?;
+        assert!(rt; is_answered(&ran, status, line), "{words:?}");
+        assert!(rt; !ran.is_read, "{words:?}");
+    }
+    Ok(())
+}
+
+/// Malformed elements that are passed over.
+#[test]
+fn lenient(rt: HostRuntime) -> Result<(), Fail> {
+    let rows: [(&[&str], u8, &str); 6] = [
+        (
+            &["pick", "--lenient", "--default", "en", "en_US", "en", "fr"],
+            0,
+            "default en\n",
+        ),
+        (
+            &["pick", "--lenient", "en_US, fr;q=0.5", "en", "fr"],
+            0,
+            "matched fr\n",
+        ),
+        (
+            &["pick", "en-US,en;q=0.8333", "--lenient", "en", "fr"],
+            0,
+            "matched en\n",
+        ),
+        (&["pick", "--lenient", "en_US", "en", "fr"], 1, "nothing\n"),
+        (
+            &[
+                "pick",
+                "--lenient",
+                "--scheme",
+                "extended",
+                "de-*-DE, e_n, fr",
+                "fr",
+            ],
+            0,
+            "matched fr\n",
+        ),
+        // A refusal that is malformed refuses nothing.
+        (
+            &["pick", "--lenient", "--default", "de", "de;q=0.0000", "de"],
+            0,
+            "default de\n",
+        ),
+    ];
+    for (words, status, line) in rows {
+        let ran = run_words(rt.alloc(), words)?;
+        assert!(rt; is_answered(&ran, status, line), "{words:?}");
+        assert!(rt; !ran.is_read, "{words:?}");
+    }
+    Ok(())
+}
+
+/// The default is refused before RANGES, and a lenient reading concerns RANGES alone.
+#[test]
+fn refused_with_options(rt: HostRuntime) -> Result<(), Fail> {
+    let rows: [(&[&str], &str); 5] = [
+        (
+            &["pick", "--default", "e", "en;q=2", "e"],
+            "refused 4: tag is not well-formed\n",
+        ),
+        (
+            &["pick", "--default", "", "en", "en"],
+            "refused 1: tag is empty\n",
+        ),
+        (
+            &["pick", "--default", "en", "fr, en;q=2", "e"],
+            "refused 9: field element at 4\n",
+        ),
+        (
+            &["pick", "--lenient", "--default", "en_US", "en", "en"],
+            "refused 3: subtag at 0\n",
+        ),
+        (
+            &["pick", "--lenient", "en_US", "en_US"],
+            "refused 3: subtag at 0\n",
+        ),
+    ];
+    for (words, line) in rows {
+        let ran = run_words(rt.alloc(), words)?;
+        assert!(rt; is_refused(&ran, 3, line), "{words:?}");
+        assert!(rt; !ran.is_read, "{words:?}");
+    }
+    Ok(())
+}
+
 /// A range list of 65,536 bytes, and a tag of 256.
 #[test]
 fn too_long(rt: HostRuntime) -> Result<(), Fail> {
@@ -120,6 +267,8 @@ fn too_long(rt: HostRuntime) -> Result<(), Fail> {
     assert_eq!(rt; ran.status, 3);
     assert!(rt; ran.output.is_empty());
     assert!(rt; ran.told.as_slice() == b"refused 8: field is over 65535 bytes\n".as_slice());
+    let ran = run_words(alloc, &["pick", "--lenient", field.as_str(), "en"])?;
+    assert!(rt; is_refused(&ran, 3, "refused 8: field is over 65535 bytes\n"));
     let tag = "a".repeat(alloc, 256)?;
     let ran = run_words(alloc, &["pick", "en", tag.as_str()])?;
     assert_eq!(rt; ran.status, 3);

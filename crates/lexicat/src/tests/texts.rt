@@ -23,6 +23,9 @@ pub const DELTA: &str =
 
 pub const MAPS: &str = r#"{"@context":{},"m":{"EN":"a","de":null,"fr":["b",null],"@none":"c"}}"#;
 
+/// Language maps before and after an edit.
+pub const UPDATE: &str = "{\"m\":{\"en\":\"a\"}}\n{\"m\":{\"en\":\"b\",\"fr\":\"c\"}}";
+
 /// What the import of the language maps gives.
 pub const IMPORTED: &str =
     r#"{"cells":[["m","@none",10,"0000000001",0,["c"]],["m","en",10,"0000000001",1,["a"]],["m","fr",10,"0000000001",2,["b"]]],"kind":"site","site":"0000000001","version":2}"#;

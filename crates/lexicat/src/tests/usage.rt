@@ -4,12 +4,15 @@ use std::test::Fail;
 
 #[test]
 fn faults_in_the_words(rt: HostRuntime) -> Result<(), Fail> {
-    let rows: [&[&str]; 13] = [
+    let rows: [&[&str]; 20] = [
         &[],
         &["pick"],
         &["pick", "en"],
         &["choose", "en", "en"],
-        &["help"],
+        &["help", "choose"],
+        &["help", "pick", "en"],
+        &["help", "help"],
+        &["Help"],
         &["pick", "--scheme", "other", "en", "en"],
         &["pick", "--scheme"],
         &["pick", "--scheme", "basic", "--scheme", "basic", "en", "en"],
@@ -18,6 +21,10 @@ fn faults_in_the_words(rt: HostRuntime) -> Result<(), Fail> {
         &["pick", "en", "-x"],
         &["--scheme", "basic", "pick", "en", "en"],
         &["pick", "--scheme=", "en", "en"],
+        &["pick", "--lenient=x", "en", "en"],
+        &["pick", "--lenient", "--lenient", "en", "en"],
+        &["pick", "--default", "en", "--default", "en", "en", "en"],
+        &["pick", "--default", "en", "en"],
     ];
     for words in rows {
         let ran = run_words(rt.alloc(), words)?;
@@ -44,7 +51,7 @@ fn lone_dash(rt: HostRuntime) -> Result<(), Fail> {
 /// Words that the other commands do not take, or lack.
 #[test]
 fn faults_in_the_words_of_documents(rt: HostRuntime) -> Result<(), Fail> {
-    let rows: [&[&str]; 20] = [
+    let rows: [&[&str]; 31] = [
         &["new"],
         &["new", "--site"],
         &["new", "--site", "a", "--site", "b"],
@@ -72,7 +79,28 @@ fn faults_in_the_words_of_documents(rt: HostRuntime) -> Result<(), Fail> {
         &["filter", "--id", "m", "-x"],
         &["lookup", "--id", "m"],
         &["lookup", "--id", "m", "-x"],
+        &["lookup", "--id", "m", "--lenient=", "en"],
+        &["filter", "--id", "m", "--lenient", "--lenient", "en"],
+        &[
+            "put",
+            "--lenient",
+            "--now",
+            "5",
+            "--id",
+            "m",
+            "--lang",
+            "en",
+            "a",
+        ],
         &["status", "a"],
+        &["bundle"],
+        &["bundle", "--lenient=x", "en"],
+        &["bundle", "--id", "m", "en"],
+        &["bundle", "en", "fr"],
+        &["missing"],
+        &["missing", "en"],
+        &["update"],
+        &["update", "--now", "six"],
     ];
     for words in rows {
         let ran = run_words(rt.alloc(), words)?;

@@ -1,5 +1,5 @@
-//! What `choose` lends, and an empty set.
-use crate::tests::held::{Among, Empty};
+//! What `choose` lends, over a slice of languages and over an empty set.
+use crate::tests::held::Empty;
 use crate::tests::reading::{accept, lang, langs, ranges};
 use nego_core::{Choice, choose};
 use std::test::Fail;
@@ -8,8 +8,7 @@ use std::test::Fail;
 fn lends_a_lookup_text(rt: HostRuntime) -> Result<(), Fail> {
     let german = langs(&rt, "de de-de")?;
     let list = ranges(&rt, "de-*-DE")?;
-    let held = Among { langs: &german };
-    assert!(rt; choose(&list, &held, None) == Choice::Matched("de-de"));
+    assert!(rt; choose(&list, &german.as_slice(), None) == Choice::Matched("de-de"));
     Ok(())
 }
 

@@ -23,6 +23,17 @@ fn read(rt: HostRuntime) -> Result<(), Fail> {
     Ok(())
 }
 
+#[test]
+fn compared_and_shown(rt: HostRuntime) -> Result<(), Fail> {
+    let list = accept(&rt, "fr;q=0.5, EN")?;
+    assert!(rt; list == accept(&rt, "fr; q=0.500,,en;q=1")?);
+    assert!(rt; list != accept(&rt, "en, fr;q=0.5")? && list != accept(&rt, "fr;q=0.4, en")?);
+    let shown = format!(in rt.alloc(); "{list:?}")?;
+    let expected = "[Item { range: \"fr\", weight: 500 }, Item { range: \"en\", weight: 1000 }]";
+    assert!(rt; shown.as_str() == expected, "{shown}");
+    Ok(())
+}
+
 /// Rows of `OFFSET|FIELD`.
 const MALFORMED: &str =
     "0|en;q=1.001\n0|en;q=0.1234\n0|en;q=1.0000\n0|en;q=00.5\n0|en;q=1.5\n0|en;q=.5\n0|en;q=2

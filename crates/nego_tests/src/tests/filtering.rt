@@ -7,13 +7,13 @@ use std::test::Fail;
 /// Each pick's place with its weight.
 fn shown(rt: &(impl Abort + AllocGlobal), picks: &Picks) -> Result<String, Fail> {
     let mut text = String::new(rt.alloc());
-    for place in 0..picks.len() {
-        if let Some(pick) = picks.nth(place) {
-            let shown = format!(in rt.alloc(); " {};{}", pick.place, pick.weight)?;
-            text.push_str(shown.as_str())?;
-        }
+    for (place, pick) in picks.iter().enumerate() {
+        assert!(rt; picks.nth(place) == Some(*pick));
+        let shown = format!(in rt.alloc(); " {};{}", pick.place, pick.weight)?;
+        text.push_str(shown.as_str())?;
     }
     assert!(rt; picks.nth(picks.len()) == None);
+    assert!(rt; picks.is_empty() == text.is_empty());
     Ok(text)
 }
 
@@ -65,4 +65,29 @@ fn rows(rt: &(impl Abort + AllocGlobal), scheme: Scheme, rows: &str) -> Result<(
 fn filtered(rt: HostRuntime) -> Result<(), Fail> {
     rows(&rt, Scheme::Basic, BASIC)?;
     rows(&rt, Scheme::Extended, EXTENDED)
+}
+
+#[test]
+fn compared_and_shown(rt: HostRuntime) -> Result<(), Fail> {
+    let langs = langs(&rt, "en fr")?;
+    let found = filter(
+        rt.alloc(),
+        &list_of(&rt, "fr;q=0.5")?,
+        Scheme::Basic,
+        &langs,
+    )?;
+    let same = filter(
+        rt.alloc(),
+        &list_of(&rt, "de, fr;q=0.5")?,
+        Scheme::Basic,
+        &langs,
+    )?;
+    let other = filter(rt.alloc(), &list_of(&rt, "fr")?, Scheme::Basic, &langs)?;
+    assert!(rt; found == same && found != other);
+    let shown = format!(in rt.alloc(); "{found:?}")?;
+    assert!(rt;
+        shown.as_str() == "[Pick { place: 1, weight: 500 }]",
+        "{shown}"
+    );
+    Ok(())
 }

@@ -1,5 +1,4 @@
 //! Lookup (RFC 4647 section 3.4) over languages that are handed in, and by `choose` over a set.
-use crate::tests::held::Among;
 use crate::tests::reading::{columns, lang, langs, list_of};
 use lang_core::Lang;
 use nego_core::{Choice, Found, PriorityList, choose, lookup};
@@ -39,9 +38,12 @@ pub fn finds(
     let found = lookup(list, &langs, default.as_ref());
     let shown = format!(in rt.alloc(); "{found:?}")?;
     assert!(rt; shown.as_str() == expected, "{shown} in {texts}");
-    let held = Among { langs: &langs };
     assert!(rt;
-        agrees(choose(list, &held, default.as_ref()), found, &langs),
+        agrees(
+            choose(list, &langs.as_slice(), default.as_ref()),
+            found,
+            &langs
+        ),
         "{texts}"
     );
     Ok(())

@@ -2,9 +2,9 @@ use Rattle.std.proofs.Common.{◌∙◌, ◌+◌, ℕ, List, drop, ap, inl, subs
 use Rattle.cell_core.specs.Stamps.{IsNext, NoNext}
 use Rattle.cata_core.specs.Last.{last_of}
 use Rattle.cata_core.specs.Sites.{SiteState}
-use Rattle.docs_core.specs.Imported.{Imports, SpendsClock}
+use Rattle.docs_core.specs.Imported.{Imports, SpendsImport}
 use Rattle.docs_core.specs.LangMaps.{Labelled, labels_of}
-use Rattle.docs_core.proofs.ImportedLemmas.{Imports-next, SpendsClock-next, not_put}
+use Rattle.docs_core.proofs.ImportedLemmas.{Imports-next, SpendsImport-next, not_put}
 use Rattle.docs_core.proofs.LangMapLabelsLemmas.{else_by}
 use Rattle.docs_core.proofs.LangMapMembersLemmas.{first_left}
 use Rattle.docs_core.proofs.importing.put_labels.Goals as goal
@@ -17,8 +17,8 @@ returns-in-Err-clause-err c =
     else_by (not_put c.labels.site c.args.now c.in-Err.fault c.in-Err.ensures.err)
     (λ spent. (
       spent.0,
-      subst (λ (labels : List Labelled). SpendsClock c.args.now c.args.site.now.name labels c.args.site.now.cells) c.labels-found-items.ensures.labels
-          (inv.spent (subst (λ (labels : List Labelled). SpendsClock c.args.now c.args.site.now.name labels c.labels.site.cells) (sym left)
+      subst (λ (labels : List Labelled). SpendsImport c.args.now c.args.site.now.name labels c.args.site.now.cells) c.labels-found-items.ensures.labels
+          (inv.spent (subst (λ (labels : List Labelled). SpendsImport c.args.now c.args.site.now.name labels c.labels.site.cells) (sym left)
           (inl (subst (λ (name : List ℕ). NoNext (last_of c.labels.site.cells) c.args.now name) inv.name spent.1)))),
     ))
 
@@ -37,6 +37,6 @@ labels-preserved c =
       name = ap (λ (s : SiteState). s.name) put.1 ∙ inv.name;
       put = λ new imports. inv.put new (subst (λ (labels : List Labelled). Imports c.args.now name labels old new) (sym left)
           (Imports-next c.args.now name ((item.id, item.lang), item.label) rest old new_cells c.in-Ok.field-0 next cells new imports));
-      spent = λ spends. inv.spent (subst (λ (labels : List Labelled). SpendsClock c.args.now name labels old) (sym left)
-          (SpendsClock-next c.args.now name ((item.id, item.lang), item.label) rest old new_cells c.in-Ok.field-0 next cells spends));
+      spent = λ spends. inv.spent (subst (λ (labels : List Labelled). SpendsImport c.args.now name labels old) (sym left)
+          (SpendsImport-next c.args.now name ((item.id, item.lang), item.label) rest old new_cells c.in-Ok.field-0 next cells spends));
     }

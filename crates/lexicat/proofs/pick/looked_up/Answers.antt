@@ -1,5 +1,14 @@
-use Rattle.lexicat.proofs.PickLemmas.{found_lang}
+use Rattle.std.specs.Option.{option_copied}
+use Rattle.lexicat.proofs.PickLemmas.{found_default, found_lang, found_nothing}
 use Rattle.lexicat.proofs.pick.looked_up.Goals as goal
 
 pub returns-in-Matched : goal.returns-in-Matched
 returns-in-Matched c = found_lang c.args.list.now c.args.langs.items c.as_slice.result.now c.in-Matched.place c.swap_remove.result c.as_slice.ensures.value c.in-Matched.ensures c.swap_remove.ensures.value
+
+pub returns-in-Default : goal.returns-in-Default
+returns-in-Default c =
+    found_default c.args.list.now c.args.langs.items c.as_slice.result.now (option_copied c.as_ref.result) c.args.default.now c.in-Default.place c.swap_remove-in-Default.result c.as_slice.ensures.value c.as_ref.ensures.value
+    c.in-Default.ensures c.swap_remove-in-Default.ensures.value
+
+pub returns : goal.returns
+returns c = found_nothing c.args.list.now c.args.langs.items c.as_slice.result.now (option_copied c.as_ref.result) c.args.default.now c.as_slice.ensures.value c.as_ref.ensures.value c.in-Nothing.ensures

@@ -9,8 +9,8 @@ use Rattle.lang_core.proofs.RangeText.{basic_ascii, basic_extended}
 use Rattle.lang_core.proofs.LookupLaws.{lookup_text-basic}
 use Rattle.lang_core.proofs.range.Range.parse_basic.Goals as goal
 
-pub lower_text-requires : goal.lower_text-requires
-lower_text-requires c = basic_ascii _ c.in_default.ensures
+pub new-requires : goal.new-requires
+new-requires c = basic_ascii _ c.in_default.ensures
 
 pub invariant_of-result : goal.invariant_of-result
 invariant_of-result c =

@@ -1,5 +1,5 @@
 use Rattle.lang_core.proofs.TagText.{tag_ascii}
 use Rattle.lang_core.proofs.tag.Tag.parse.Goals as goal
 
-pub lower_text-requires : goal.lower_text-requires
-lower_text-requires c = tag_ascii _ c.in_default.ensures.1
+pub new-requires : goal.new-requires
+new-requires c = tag_ascii _ c.in_default.ensures.1

@@ -1,0 +1,5 @@
+use Rattle.cata_core.proofs.LiveMessages.{one_list_of_messages}
+use Rattle.cata_core.proofs.laws.one_list_of_messages.Goals as goal
+
+pub returns : goal.returns
+returns c = one_list_of_messages

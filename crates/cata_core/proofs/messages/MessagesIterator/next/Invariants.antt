@@ -1,0 +1,10 @@
+use Rattle.std.proofs.Common.{◌≡◌, length}
+use Rattle.cell_core.specs.EntriesLeft.{entries_left}
+use Rattle.cata_core.specs.MessagesLeft.{messages_left}
+use Rattle.cata_core.proofs.messages.MessagesIterator.next.Given as goal
+
+abbrev pub invariant-loop-id : goal.invariant-loop-id
+invariant-loop-id l = messages_left l.self ≡ messages_left l.initial.self
+
+abbrev pub decreases-loop-id : goal.decreases-loop-id
+decreases-loop-id l = length (entries_left l.self.messages)

@@ -1,0 +1,45 @@
+-- A key of language maps before and after an editor worked on them, and what is done there.
+use Rattle.std.specs.Prelude.{◌≡◌, ◌⊎◌, ℕ, List, None, Some, T, cond, option_map}
+use Rattle.std.specs.Ordering.{eq_by_cmp}
+use Rattle.std.specs.FinMap.Entries.{below_all, find}
+use Rattle.cell_core.specs.Maps.{IsMap}
+use Rattle.cell_core.specs.Stamps.{IsNext, NoNext}
+use Rattle.cell_core.specs.declared.stamp.Stamp.{Stamp}
+use Rattle.cata_core.specs.Entries.{Entries, EntryKey, key_cmp}
+use Rattle.cata_core.specs.Last.{last_of}
+use Rattle.docs_core.specs.Exported.{label_at}
+use Rattle.docs_core.specs.LangMaps.{Labelled}
+use Rattle.docs_core.specs.Made.{with_change}
+use Rattle.docs_core.specs.Updated.{IsChangeAt, Texts}
+use Rattle.docs_core.specs.declared.updating.Revised.{Revised}
+
+abbrev pub key_of : Revised → EntryKey
+key_of r = (r.key.now.id, r.key.now.lang)
+
+abbrev pub old_of : Revised → Texts
+old_of r = option_map (λ l. l.now) r.old
+
+abbrev pub new_of : Revised → Texts
+new_of r = option_map (λ l. l.now) r.new
+
+-- in front of the rest a list has this at the key, or nothing, and all keys of the rest are greater
+pub record IsHead (key : EntryKey) (texts : Texts) (list rest : List Labelled) : Type 0 where
+  pub rises : IsMap key_cmp rest
+  pub above : T (below_all key_cmp key rest)
+  pub at : (q : EntryKey) → find key_cmp q list ≡ cond (eq_by_cmp key_cmp q key) texts (find key_cmp q rest)
+
+-- the least key of both lists, and what is left of them
+pub record IsFirstRevised (r : Revised) (old new old_rest new_rest : List Labelled) : Type 0 where
+  pub old_head : IsHead (key_of r) (old_of r) old old_rest
+  pub new_head : IsHead (key_of r) (new_of r) new new_rest
+
+-- what is done at the key is done
+abbrev pub IsRevised : ℕ → List ℕ → Revised → Entries → Entries → Type 0
+IsRevised now name r old new =
+    (IsChangeAt (old_of r) (new_of r) (label_at (key_of r) old) None × (new ≡ old))
+    ⊎ (IsChangeAt (old_of r) (new_of r) (label_at (key_of r) old) (Some (new_of r))
+    × (stamp : Stamp) × IsNext (last_of old) now name stamp × (new ≡ with_change (key_of r, new_of r) stamp old))
+
+-- it would be done, and there is no next stamp
+abbrev pub NoStamp : ℕ → List ℕ → Revised → Entries → Type 0
+NoStamp now name r old = IsChangeAt (old_of r) (new_of r) (label_at (key_of r) old) (Some (new_of r)) × NoNext (last_of old) now name

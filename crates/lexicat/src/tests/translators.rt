@@ -1,0 +1,233 @@
+//! The labels of one reader, work for a translator, and what an editor changed.
+use super::harness::{is_answered, is_refused, run_on, run_words};
+use std::test::Fail;
+
+/// Labels of two messages, and a third message whose label is deleted.
+const SITE: &str =
+    r#"{"cells":[["m","@none",1,"paris",0,["x"]],["m","en",1,"paris",1,["Hello"]],["m","fr",1,"paris",2,["Bonjour"]],["n","de",1,"paris",3,["Hallo"]],["o","en",1,"paris",4,null]],"kind":"site","site":"paris","version":2}"#;
+
+const EMPTY: &str = r#"{"cells":[],"kind":"site","site":"paris","version":2}"#;
+
+/// Two labels of one message, and a deletion.
+const EDITED: &str =
+    r#"{"cells":[["m","en",5,"paris",0,["Hello"]],["m","fr",5,"paris",1,["Salut"]],["n","de",5,"paris",2,null]],"kind":"site","site":"paris","version":2}"#;
+
+#[test]
+fn bundles(rt: HostRuntime) -> Result<(), Fail> {
+    let rows: [(&[&str], u8, &str); 8] = [
+        (&["bundle", "fr, en;q=0.5"], 0, r#"{"m":{"fr":"Bonjour"}}"#),
+        (
+            &["bundle", "--default", "de", "fr"],
+            0,
+            r#"{"m":{"fr":"Bonjour"},"n":{"de":"Hallo"}}"#,
+        ),
+        (
+            &["bundle", "--default", "@none", "ja"],
+            0,
+            r#"{"m":{"@none":"x"}}"#,
+        ),
+        (&["bundle", "ja"], 1, "{}"),
+        (
+            &["bundle", "--lenient", "--default", "en", "ja;q=1.001"],
+            0,
+            r#"{"m":{"en":"Hello"}}"#,
+        ),
+        (
+            &["bundle", "--default", "EN", "*"],
+            0,
+            r#"{"m":{"en":"Hello"}}"#,
+        ),
+        (&["bundle", ""], 1, "{}"),
+        (
+            &["bundle", "--scheme", "extended", "de-*-CH"],
+            0,
+            r#"{"n":{"de":"Hallo"}}"#,
+        ),
+    ];
+    for (words, status, text) in rows {
+        let ran = run_on(rt.alloc(), words, SITE)?;
+        let line = format!(in rt.alloc(); "{text}\n")?;
+        assert!(rt; is_answered(&ran, status, line.as_str()), "{words:?}");
+    }
+    let ran = run_on(rt.alloc(), &["bundle", "--default", "en", "en"], EMPTY)?;
+    assert!(rt; is_answered(&ran, 1, "{}\n"));
+    Ok(())
+}
+
+#[test]
+fn missing(rt: HostRuntime) -> Result<(), Fail> {
+    let rows = [
+        (
+            "de",
+            SITE,
+            0,
+            r#"{"m":{"@none":"x","en":"Hello","fr":"Bonjour"}}"#,
+        ),
+        ("EN", SITE, 0, r#"{"n":{"de":"Hallo"}}"#),
+        ("@none", SITE, 0, r#"{"n":{"de":"Hallo"}}"#),
+        (
+            "fr-ca",
+            SITE,
+            0,
+            r#"{"m":{"@none":"x","en":"Hello","fr":"Bonjour"},"n":{"de":"Hallo"}}"#,
+        ),
+        ("de", EDITED, 0, r#"{"m":{"en":"Hello","fr":"Salut"}}"#),
+        ("fr", EDITED, 1, "{}"),
+        ("en", EMPTY, 1, "{}"),
+    ];
+    for (lang, input, status, text) in rows {
+        let ran = run_on(rt.alloc(), &["missing", "--lang", lang], input)?;
+        let line = format!(in rt.alloc(); "{text}\n")?;
+        assert!(rt; is_answered(&ran, status, line.as_str()), "{lang}");
+    }
+    Ok(())
+}
+
+/// The edits that are made to [`EDITED`], by its cells behind them.
+#[test]
+fn updates(rt: HostRuntime) -> Result<(), Fail> {
+    let alloc = rt.alloc();
+    let en = r#"["m","en",5,"paris",0,["Hello"]]"#;
+    let fr = r#"["m","fr",5,"paris",1,["Salut"]]"#;
+    let de = r#"["n","de",5,"paris",2,null]"#;
+    let rows = [
+        (
+            r#"{"m":{"en":"Hello","fr":"Salut"}}"#,
+            r#"{"m":{"en":"Hello","fr":"Bonjour"}}"#,
+            format!(in alloc; r#"{en},["m","fr",6,"paris",0,["Bonjour"]],{de}"#)?,
+        ),
+        (
+            r#"{"m":{"en":"Helo"}}"#,
+            r#"{"m":{"en":"Helo","ja":"x"}}"#,
+            format!(in alloc; r#"{en},{fr},["m","ja",6,"paris",0,["x"]],{de}"#)?,
+        ),
+        (
+            r#"{"m":{"en":"Hello","fr":"Salut"}}"#,
+            r#"{"m":{"en":"Hello"}}"#,
+            format!(in alloc; r#"{en},["m","fr",6,"paris",0,null],{de}"#)?,
+        ),
+        (
+            r#"{"n":{"de":"Hallo"}}"#,
+            "{}",
+            format!(in alloc; "{en},{fr},{de}")?,
+        ),
+        (
+            r#"{"m":{"en":"Helo"}}"#,
+            "{}",
+            format!(in alloc; r#"["m","en",6,"paris",0,null],{fr},{de}"#)?,
+        ),
+        (
+            "{}",
+            r#"{"m":{"EN":"Hello"},"n":{"de":["a","b"]}}"#,
+            format!(in alloc; r#"{en},{fr},["n","de",6,"paris",0,["a","b"]]"#)?,
+        ),
+        (
+            r#"{"m":{"en":"Helo"}}"#,
+            r#"{"m":{"en":"Hello"}}"#,
+            format!(in alloc; "{en},{fr},{de}")?,
+        ),
+        (
+            r#"{"m":{"fr":"Salut","en":"x"}}"#,
+            r#"{"m":{"fr":null,"en":"y"}}"#,
+            format!(in alloc; r#"["m","en",6,"paris",0,["y"]],["m","fr",6,"paris",1,null],{de}"#)?,
+        ),
+        // The new ones may stand on several lines.
+        (
+            "{}",
+            "{\n  \"m\": {\n    \"ja\": \"x\"\n  }\n}",
+            format!(in alloc; r#"{en},{fr},["m","ja",6,"paris",0,["x"]],{de}"#)?,
+        ),
+    ];
+    for (old, new, cells) in rows {
+        let input = format!(in alloc; "{EDITED}\n{old}\n{new}\n")?;
+        let ran = run_on(alloc, &["update", "--now", "6"], input.as_str())?;
+        let line = format!(in alloc;
+            r#"{{"cells":[{cells}],"kind":"site","site":"paris","version":2}}"#
+        )?;
+        let line = format!(in alloc; "{line}\n")?;
+        assert!(rt; is_answered(&ran, 0, line.as_str()), "{old} {new}");
+    }
+    Ok(())
+}
+
+#[test]
+fn refused(rt: HostRuntime) -> Result<(), Fail> {
+    let alloc = rt.alloc();
+    let rows = [
+        (
+            r#"{"m":{"e":"x"}}"#,
+            "{}",
+            "refused 4: tag is not well-formed in row 0 of document 2\n",
+        ),
+        (
+            r#"{"m":{"e":"x"}}"#,
+            "[]",
+            "refused 4: tag is not well-formed in row 0 of document 2\n",
+        ),
+        ("{}", "[]", "refused 20: shape of document 3\n"),
+        ("{}", "", "refused 19: not JSON of document 3\n"),
+    ];
+    for (old, new, line) in rows {
+        let input = format!(in alloc; "{EDITED}\n{old}\n{new}")?;
+        let ran = run_on(alloc, &["update", "--now", "6"], input.as_str())?;
+        assert!(rt; is_refused(&ran, 3, line), "{old} {new}");
+    }
+    let ran = run_on(alloc, &["update", "--now", "6"], EDITED)?;
+    assert!(rt; is_refused(&ran, 3, "refused 19: not JSON of document 2\n"));
+    let input = format!(in alloc; "{EDITED}\n{{}}")?;
+    let ran = run_on(alloc, &["update", "--now", "6"], input.as_str())?;
+    assert!(rt; is_refused(&ran, 3, "refused 19: not JSON of document 3\n"));
+    for words in [
+        ["bundle", "en", "--default=en"],
+        ["missing", "--lang", "en"],
+    ] {
+        let ran = run_on(alloc, words.as_slice(), "{}")?;
+        assert!(rt;
+            is_refused(&ran, 3, "refused 20: shape of document 1\n"),
+            "{words:?}"
+        );
+    }
+    Ok(())
+}
+
+/// Where an edit has no next stamp the whole is refused, and never where nothing is edited.
+#[test]
+fn spent_clocks(rt: HostRuntime) -> Result<(), Fail> {
+    let alloc = rt.alloc();
+    let site =
+        r#"{"cells":[["m","en",18446744073709551615,"tokyo",4294967295,["Hello"]]],"kind":"site","site":"paris","version":2}"#;
+    let input = format!(in alloc; "{site}\n{{}}\n{{\"m\":{{\"en\":\"Hello\"}}}}")?;
+    let ran = run_on(alloc, &["update", "--now", "6"], input.as_str())?;
+    let line = format!(in alloc; "{site}\n")?;
+    assert!(rt; is_answered(&ran, 0, line.as_str()));
+    let input = format!(in alloc; "{site}\n{{}}\n{{\"m\":{{\"fr\":\"Salut\"}}}}")?;
+    let ran = run_on(alloc, &["update", "--now", "6"], input.as_str())?;
+    assert!(rt; is_refused(&ran, 3, "refused 14: clock is spent\n"));
+    Ok(())
+}
+
+/// The words come before the input, whose every read fails here: the default, then the field.
+#[test]
+fn words_first(rt: HostRuntime) -> Result<(), Fail> {
+    let rows: [(&[&str], u8, &str); 6] = [
+        (
+            &["bundle", "--default", "e", "en;q=2"],
+            3,
+            "refused 4: tag is not well-formed\n",
+        ),
+        (
+            &["bundle", "--default", "en", "ja;q=1.001"],
+            3,
+            "refused 9: field element at 0\n",
+        ),
+        (&["bundle", "en"], 4, "refused 24: read fault\n"),
+        (&["missing", "--lang", "en-"], 3, "refused 3: subtag at 3\n"),
+        (&["missing", "--lang", "en"], 4, "refused 24: read fault\n"),
+        (&["update", "--now", "6"], 4, "refused 24: read fault\n"),
+    ];
+    for (words, status, line) in rows {
+        let ran = run_words(rt.alloc(), words)?;
+        assert!(rt; is_refused(&ran, status, line), "{words:?}");
+    }
+    Ok(())
+}

@@ -1,0 +1,5 @@
+use Rattle.nego_core.proofs.LenientLaws.{of_elements}
+use Rattle.nego_core.proofs.laws.items_are_of_elements.Goals as goal
+
+pub returns : goal.returns
+returns c = of_elements
