@@ -118,7 +118,7 @@ pub fn delta_suffices()
 {}
 
 /// A summary serves as long as its site's catalogue only rises: a site has all that it tells, and
-/// has it still after any edit or join, and after a join that ended for want of memory.
+/// has it still after any edit or join, and after a join that ran out of memory.
 pub fn a_told_summary_serves()
     ensures now { (cells : Entries) → HasAll cells (summary_of cells) }
     ensures above { (old new : Entries) (summary : Stamps) → HasAll old summary → IsBelowCells old new → HasAll new summary }
@@ -181,7 +181,7 @@ pub fn one_run()
     ensures expected { (steps : List Step) (a b : List Answer) → AreAnswers steps a → AreAnswers steps b → a ≡ b }
 {}
 
-/// After a sync that ended for want of memory, the sites agree, and their join is what it was, so
+/// After a sync that ran out of memory, the sites agree, and their join is what it was, so
 /// that a repeat gives it.
 pub fn a_sync_can_be_repeated()
     ensures { (first second mine theirs : Entries) → Agree first second → Between first mine second → Between second theirs first
