@@ -36,8 +36,7 @@ fn a_deleted_label_is_none(rt: HostRuntime) -> Result<(), Fail> {
 
 #[test]
 fn only_just_this_language_counts(rt: HostRuntime) -> Result<(), Fail> {
-    let site =
-        br#"{"cells":[["m","fr-ca",1,"a",0,["x"]]],"kind":"site","site":"a","version":2}"#;
+    let site = br#"{"cells":[["m","fr-ca",1,"a",0,["x"]]],"kind":"site","site":"a","version":2}"#;
     assert!(rt; is_missing(&rt, site.as_slice(), "fr", r#"{"m":{"fr-ca":"x"}}"#, true)?);
     assert!(rt; is_missing(&rt, site.as_slice(), "fr-CA", "{}", false)?);
     Ok(())

@@ -4,7 +4,9 @@ use lang_core::LangFault;
 use std::test::Fail;
 
 const HELLO: &str = r#"["m","en",5,"paris",0,["Hello"]]"#;
+
 const SALUT: &str = r#"["m","fr",5,"paris",1,["Salut"]]"#;
+
 const DELETED: &str = r#"["n","de",5,"paris",2,null]"#;
 
 // The document of paris with these cells.
@@ -62,14 +64,28 @@ fn a_label_left_out_is_deleted(rt: HostRuntime) -> Result<(), Fail> {
 
 #[test]
 fn what_is_deleted_is_not_deleted_again(rt: HostRuntime) -> Result<(), Fail> {
-    assert!(rt; has(&rt, r#"{"n":{"de":"Hallo"}}"#, "{}", &[HELLO, SALUT, DELETED])?);
+    assert!(rt;
+        has(
+            &rt,
+            r#"{"n":{"de":"Hallo"}}"#,
+            "{}",
+            &[HELLO, SALUT, DELETED]
+        )?
+    );
     Ok(())
 }
 
 #[test]
 fn what_the_site_has_otherwise_is_deleted_too(rt: HostRuntime) -> Result<(), Fail> {
     let deleted = r#"["m","en",6,"paris",0,null]"#;
-    assert!(rt; has(&rt, r#"{"m":{"en":"Helo"}}"#, "{}", &[deleted, SALUT, DELETED])?);
+    assert!(rt;
+        has(
+            &rt,
+            r#"{"m":{"en":"Helo"}}"#,
+            "{}",
+            &[deleted, SALUT, DELETED]
+        )?
+    );
     Ok(())
 }
 
@@ -117,8 +133,14 @@ fn documents_are_read_in_order(rt: HostRuntime) -> Result<(), Fail> {
     let cause = DocCause::NotJson;
     let nothing = update_document(rt.alloc(), b"", 6, b"", b"").err();
     assert_eq!(rt; nothing, Some(DocFault { document: 1, cause }));
-    assert_eq!(rt; refused(&rt, "", "")?, Some(DocFault { document: 2, cause }));
-    assert_eq!(rt; refused(&rt, "{}", "")?, Some(DocFault { document: 3, cause }));
+    assert_eq!(rt;
+        refused(&rt, "", "")?,
+        Some(DocFault { document: 2, cause })
+    );
+    assert_eq!(rt;
+        refused(&rt, "{}", "")?,
+        Some(DocFault { document: 3, cause })
+    );
     Ok(())
 }
 
@@ -126,7 +148,10 @@ fn documents_are_read_in_order(rt: HostRuntime) -> Result<(), Fail> {
 fn a_language_of_the_old_maps_is_of_document_2(rt: HostRuntime) -> Result<(), Fail> {
     let fault = FieldFault::Language(LangFault::TagNotWellFormed);
     let cause = DocCause::Field { row: 0, fault };
-    assert_eq!(rt; refused(&rt, r#"{"m":{"e":"x"}}"#, "{}")?, Some(DocFault { document: 2, cause }));
+    assert_eq!(rt;
+        refused(&rt, r#"{"m":{"e":"x"}}"#, "{}")?,
+        Some(DocFault { document: 2, cause })
+    );
     Ok(())
 }
 
@@ -134,9 +159,22 @@ fn a_language_of_the_old_maps_is_of_document_2(rt: HostRuntime) -> Result<(), Fa
 fn a_spent_clock_refuses_a_change_alone(rt: HostRuntime) -> Result<(), Fail> {
     let last = r#"["m","en",18446744073709551615,"paris",4294967295,["Hello"]]"#;
     let site = paris(&rt, &[last])?;
-    let quiet = update_document(rt.alloc(), site.as_bytes(), 6, b"{}", br#"{"m":{"en":"Hello"}}"#)?;
+    let quiet = update_document(
+        rt.alloc(),
+        site.as_bytes(),
+        6,
+        b"{}",
+        br#"{"m":{"en":"Hello"}}"#,
+    )?;
     assert!(rt; quiet.bytes() == site.as_bytes());
-    let spent = update_document(rt.alloc(), site.as_bytes(), 6, b"{}", br#"{"m":{"en":"x"}}"#).err();
+    let spent = update_document(
+        rt.alloc(),
+        site.as_bytes(),
+        6,
+        b"{}",
+        br#"{"m":{"en":"x"}}"#,
+    )
+    .err();
     let cause = DocCause::Site(CataFault::ClockSpent);
     assert_eq!(rt; spent, Some(DocFault { document: 0, cause }));
     Ok(())
