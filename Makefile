@@ -1,6 +1,7 @@
-# `make` builds the proved command, `make demo` shows it, `make test` is the whole gate.
-# Needed: make and the Rattle kit (`rt`, which brings python3); for `make bench` also cargo,
-# valgrind and GNU time; for `make dist` git, strip, objdump and dpkg-deb.
+# `make` builds the proved command, `make library` the library for C, `make demo` shows the command,
+# `make test` is the whole gate.
+# Needed: make and the Rattle kit (`rt`, which brings python3); for the library a C compiler and
+# binutils; for `make bench` also cargo, valgrind and GNU time; for `make dist` git and dpkg-deb too.
 SHELL := bash
 RT ?= rt
 PREFIX ?= /usr/local
@@ -9,13 +10,20 @@ SOURCES := crates.txt $(shell find crates \
 	\( -name out -o -name '*_tests' -o -name 'example_*' -o -name bench \) -prune \
 	-o -type f \( -name '*.rt' -o -name '*.antt' \) -print)
 
-.PHONY: all demo test test-alone check-docs bench bench-documents install uninstall dist clean
+.PHONY: all library demo test test-alone check-docs bench bench-documents bench-front \
+	install install-command install-library uninstall dist clean
 
 all: build/lexicat
 
 # Each crate is proved, and only then built. What was proved before is not proved again.
 build/lexicat: $(SOURCES)
 	RT='$(RT)' scripts/build
+
+# The library for C, static and shared, in build/lib (docs/LIBRARY.md).
+library: build/lib/libsilkwaram.a
+
+build/lib/libsilkwaram.a: $(SOURCES) include/silkwaram.h scripts/library
+	RT='$(RT)' scripts/library
 
 # Shows one query and an example session.
 demo: build/lexicat
@@ -46,9 +54,20 @@ bench-documents: build/lexicat
 	bench/documents/run
 	bench/documents/rounds
 
+# A pick and a lookup by the library, from C, Python and PHP, beside ICU, PHP's intl and WebOb.
+bench-front: build/lexicat library
+	bench/front/run
+
 BIN = $(DESTDIR)$(PREFIX)/bin
 SHARE = $(DESTDIR)$(PREFIX)/share
-install: build/lexicat
+LIBDIR ?= $(PREFIX)/lib
+LIB = $(DESTDIR)$(LIBDIR)
+INCLUDE = $(DESTDIR)$(PREFIX)/include
+
+# The command with its manual and completions, and the library; each of them alone too.
+install: install-command install-library
+
+install-command: build/lexicat
 	install -d "$(BIN)" "$(SHARE)/man/man1" "$(SHARE)/man/man5"
 	install -d "$(SHARE)/bash-completion/completions" "$(SHARE)/zsh/site-functions"
 	install -d "$(SHARE)/fish/vendor_completions.d"
@@ -59,14 +78,25 @@ install: build/lexicat
 	install -m 644 completions/_lexicat "$(SHARE)/zsh/site-functions/_lexicat"
 	install -m 644 completions/lexicat.fish "$(SHARE)/fish/vendor_completions.d/lexicat.fish"
 
-# Takes away the files that `make install` put in place, by the same PREFIX and DESTDIR.
+# (the links are made by `scripts/library`, and lead to each other by their names alone)
+install-library: library
+	install -d "$(LIB)/pkgconfig" "$(INCLUDE)"
+	install -m 644 include/silkwaram.h "$(INCLUDE)/silkwaram.h"
+	install -m 644 build/lib/libsilkwaram.a "$(LIB)/libsilkwaram.a"
+	cp -P build/lib/libsilkwaram.so* "$(LIB)"
+	scripts/pkg-config-file '$(PREFIX)' '$(LIBDIR)' > "$(LIB)/pkgconfig/silkwaram.pc"
+	chmod 644 "$(LIB)"/libsilkwaram.so.*.*.* "$(LIB)/pkgconfig/silkwaram.pc"
+
+# Takes away the files that `make install` put in place, by the same PREFIX, LIBDIR and DESTDIR.
 uninstall:
 	rm -f "$(BIN)/lexicat"
 	rm -f "$(SHARE)/man/man1/lexicat.1" "$(SHARE)/man/man5/lexicat-formats.5"
 	rm -f "$(SHARE)/bash-completion/completions/lexicat" "$(SHARE)/zsh/site-functions/_lexicat"
 	rm -f "$(SHARE)/fish/vendor_completions.d/lexicat.fish"
+	rm -f "$(INCLUDE)/silkwaram.h" "$(LIB)/pkgconfig/silkwaram.pc"
+	rm -f "$(LIB)/libsilkwaram.a" "$(LIB)"/libsilkwaram.so*
 
-# A tarball and a Debian package for those who have no Rattle kit, in build/dist.
+# A tarball and Debian packages for those who have no Rattle kit, in build/dist.
 dist:
 	RT='$(RT)' scripts/dist
 

@@ -80,7 +80,9 @@ class Source:
             ghost = re.match(r"\s+(?:pub )?ghost\*? (\w+)\s*[:=]", line)
             if ghost and owner:
                 self.impls[owner].add(ghost.group(1))
-            found = re.match(r"( *)(pub )?(?:pub\(crate\) )?(?:const )?fn (\w+)", line)
+            found = re.match(
+                r"( *)(pub )?(?:pub\(crate\) )?(?:const )?(?:extern \"C\" )?fn (\w+)", line
+            )
             if found and len(found.group(1)) in (0, 4):
                 function = Function(found.group(3), owner, bool(found.group(2)), number)
                 self.functions.append(function)
@@ -151,7 +153,8 @@ def exports(crate):
     if module_file(crate, "lib") is None:
         return []
     text = read(module_file(crate, "lib"))
-    exported = []
+    root = Source(module_file(crate, "lib"))
+    exported = [(f.name, root) for f in root.functions if f.is_public and f.owner is None]
     for module in re.findall(r"^pub mod (\w+);", text, re.M):
         exported += public_module(crate, module)
     for module, names in re.findall(r"^pub use ((?:\w+::)+)\{?([^;{}]*)\}?;", text, re.M):

@@ -20,7 +20,7 @@ use Rattle.cata_core.proofs.Filtered.{filter-IsMap}
 use Rattle.cata_core.proofs.NestedCatalogues.{text_exact}
 
 -- what the part has at a key: what the whole has, where the message is of the part
-find-part : {J : Type 0} (messages : List ℕ → Bool) (q : EntryKey) (es : List (EntryKey × J)) → find key_cmp q (part_of messages es) ≡ cond (messages q.0) (find key_cmp q es) None
+pub find-part : {J : Type 0} (messages : List ℕ → Bool) (q : EntryKey) (es : List (EntryKey × J)) → find key_cmp q (part_of messages es) ≡ cond (messages q.0) (find key_cmp q es) None
 find-part {J} messages q [] = elim (messages q.0) as (λ b. ◌≡◌ {A = Option J} None (cond b None None)) [ true ↦ refl | false ↦ refl ]
 find-part messages q (e ∷ es) =
     let part = part_of messages es in

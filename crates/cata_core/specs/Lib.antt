@@ -8,6 +8,7 @@ pub mod Counts
 pub mod Deltas
 pub mod Edits
 pub mod Entries
+pub mod Equality
 pub mod Faulty
 pub mod Flat
 pub mod Held

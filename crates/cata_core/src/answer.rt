@@ -69,6 +69,25 @@ impl Edits {
     }
 }
 
+impl PartialEq for Edits {
+    ghost use Rattle.std.specs.Cmp as laws_of;
+    ghost use Rattle.cata_core.specs.Equality.{entries_eq, entries_equiv};
+
+    ghost eq = { entries_eq };
+
+    ghost laws = { laws_of.partial_equiv_from_equiv entries_equiv };
+
+    fn eq(&self, other: &Edits) -> bool {
+        self.edits == other.edits
+    }
+}
+
+impl Eq for Edits {
+    ghost use Rattle.cata_core.specs.Equality.{entries_equiv};
+
+    ghost laws = { entries_equiv };
+}
+
 /// The answer to a question.
 #[derive(Debug, Drop)]
 pub enum Answer {

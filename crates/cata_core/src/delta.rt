@@ -16,7 +16,7 @@ use std::alloc::{AllocError, Global};
 use std::cmp::Ordering;
 
 /// The cells that one site sends another, its addressee.
-#[derive(Debug, Drop)]
+#[derive(Debug, PartialEq, Eq, Drop)]
 pub struct Delta {
     addressee: SiteName,
     cells: Catalogue,

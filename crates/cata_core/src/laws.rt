@@ -1,6 +1,6 @@
 //! Laws over the definitions alone: each function's contract is one, for all values that it names.
 
-ghost use Rattle.std.specs.Prelude.{◌≡◌, ◌≢◌, ◌↔◌, ◌⊎◌, ◌<◌, [], ◌∷◌, ◌++◌, ℕ, List, Bool, IsTrue, Contains, Option, Some, None, IsSome, length};
+ghost use Rattle.std.specs.Prelude.{◌≡◌, ◌≢◌, ◌↔◌, ◌⊎◌, ◌<◌, [], ◌∷◌, ◌++◌, ℕ, List, Bool, IsTrue, Contains, Option, Some, None, IsSome, if◌then◌else◌, length};
 ghost use Rattle.std.specs.FinMap.Entries.{find, put};
 ghost use Rattle.cell_core.specs.declared.cell.Cell.{Cell};
 ghost use Rattle.cell_core.specs.Joins.{JoinLaws};
@@ -260,6 +260,12 @@ pub fn migration_keeps_joins()
 {}
 
 // ---- catalogues in parts, each with the cells of some of the messages
+
+/// A part has at the keys of its messages what the whole has, and at no other key anything.
+pub fn a_part_has_its_keys()
+    ensures { (messages : List ℕ → Bool) (key : EntryKey) (cells : Entries)
+        → find key_cmp key (part_of messages cells) ≡ (if messages key.0 then find key_cmp key cells else None) }
+{}
 
 /// The part of a join is the join of the parts, and parts of catalogues that agree do so.
 pub fn a_part_of_a_join_is_the_join_of_parts()

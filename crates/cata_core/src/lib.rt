@@ -30,6 +30,7 @@ mod clash;
 mod delta;
 mod edit;
 mod entries;
+mod equality;
 mod labels;
 mod last;
 pub mod laws;

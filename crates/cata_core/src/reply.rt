@@ -19,7 +19,7 @@ pub enum LentReply<'a> {
 }
 
 /// The answer of a lookup.
-#[derive(Debug, Drop)]
+#[derive(Debug, PartialEq, Eq, Drop)]
 pub enum Reply {
     /// The language found, with its label.
     Matched(Lang, Label),

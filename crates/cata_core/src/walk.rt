@@ -82,7 +82,7 @@ pub fn last(map: &Keyed<MessageId, Keyed<Lang, Cell>>) -> Option<(&MessageId, &L
     requires { IsCatalogue map.now }
     ensures { option_map (λ e. ((e.0.now, e.1.now), e.2.now)) result ≡ slice_get (flat map.now) (length (flat map.now) - 1) }
 {
-    let (id, cells) = map.nth(map.len().saturating_sub(1))?;
-    let (lang, cell) = cells.nth(cells.len().saturating_sub(1))?;
+    let (id, cells) = map.last()?;
+    let (lang, cell) = cells.last()?;
     Some((id, lang, cell))
 }

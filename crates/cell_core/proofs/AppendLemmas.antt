@@ -1,11 +1,11 @@
 -- What stands behind all entries of the chunks, and what is put there.
-use Rattle.std.proofs.Common.{◌≡◌, ℕ, suc, zero, ◌+◌, ◌-◌, ◌<◌, ◌≤◌, List, [], ◌∷◌, ◌++◌, length, get_or, set, take, drop, slice_get, Some, sym, ap, ◌∙◌, subst, refl, arith, append_assoc, append-nil, length-append}
+use Rattle.std.proofs.Common.{◌≡◌, ℕ, suc, zero, ◌+◌, ◌-◌, ◌<◌, ◌≤◌, List, [], ◌∷◌, ◌++◌, length, get_or, set, take, drop, slice_get, Some, None, sym, ap, ◌∙◌, subst, refl, arith, append_assoc, append-nil, length-append}
 use Rattle.std.specs.declared.cmp.Ordering.{Ordering}
 use Rattle.std.specs.declared.cmp.Ordering.TheVariants.{Greater}
 use Rattle.std.specs.Cmp.{IsTotalOrder}
 use Rattle.std.specs.declared.vec.Vec.{Vec}
 use Rattle.std.proofs.lemmas.List.{drop_all, get_or-append-add, get_or_append_left}
-use Rattle.std.proofs.lemmas.Option.{get_or_from_slice_get, slice_get_read}
+use Rattle.std.proofs.lemmas.Option.{get_or_from_slice_get, slice_get-get_or, slice_get_read}
 use Rattle.cell_core.specs.Maps.{IsMap}
 use Rattle.cell_core.specs.Places.{IsGap}
 use Rattle.cell_core.specs.Chunks.{all_of, AllFilled, IsChunked}
@@ -61,6 +61,21 @@ pub some_of_last : {X Z : Type 0} (cs : List (Vec X Z)) (c : Vec X Z) → AllFil
 some_of_last {X} {Z} cs c filled e =
     let last = at_last cs c e in
     subst (λ (y : Vec X Z). 0 < length y.items) (sym last.1) (filled_at cs (length cs - 1) c filled (omega (arith, last.0)))
+
+-- the last entry of all is that of the last chunk
+pub last_of_chunks : {X Z : Type 0} (cs : List (Vec X Z)) (c : Vec X Z) → AllFilled cs → Some c ≡ slice_get cs (length cs - 1) → slice_get (all_of cs) (length (all_of cs) - 1) ≡ slice_get c.items (length c.items - 1)
+last_of_chunks {X} {Z} cs c filled e =
+    let last = at_last cs c e in
+    let some = some_of_last cs c filled e in
+    let f = all_of (take (length cs - 1) cs) in
+    let at : length (f ++ c.items) - 1 - length f ≡ length c.items - 1 = omega (arith, length-append f c.items) in
+    ap (λ (xs : List X). slice_get xs (length xs - 1)) (all_of_last cs (length cs - 1) c last.0 last.1)
+    ∙ nth_behind f c.items (length (f ++ c.items) - 1) (omega (arith, some, length-append f c.items)) ∙ ap (slice_get c.items) at
+
+-- where there is no last chunk there is no entry
+pub none_of_chunks : {X Z : Type 0} (cs : List (Vec X Z)) → None ≡ slice_get cs (length cs - 1) → None ≡ slice_get (all_of cs) (length (all_of cs) - 1)
+none_of_chunks [] e = refl
+none_of_chunks (c ∷ cs) e = absurd (some_not_none (get_or (c ∷ cs) (length (c ∷ cs) - 1) c) (sym (slice_get-get_or (c ∷ cs) (length (c ∷ cs) - 1) c (omega arith)) ∙ sym e))
 
 -- a key above the last of all has its gap behind all
 pub gap_behind : {K J Z : Type 0} (cmp : K → K → Ordering) → IsTotalOrder cmp → (key : K) (cs : List (Vec (K × J) Z)) (i : ℕ) (c : Vec (K × J) Z) (e : K × J) → IsChunked cmp cs → i + 1 ≡ length cs → c ≡ get_or cs i c → e ≡ get_or c.items (length c.items - 1) e → cmp key e.0 ≡ Greater

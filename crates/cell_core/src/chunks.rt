@@ -1,10 +1,10 @@
 //! Entries in rising order of their keys, in chunks: a new key moves the entries of one chunk
 //! alone.
 
-ghost use Rattle.std.specs.Prelude.{◌≡◌, ◌+◌, ◌<◌, ◌∷◌, ◌++◌, [], IfOk, IfErr, OnOk, IsOk, IsSome, IsTrue, false, length, slice_get};
+ghost use Rattle.std.specs.Prelude.{◌≡◌, ◌+◌, ◌-◌, ◌<◌, ◌≤◌, ◌∷◌, ◌++◌, [], IfOk, IfErr, OnOk, IsOk, IsSome, IsTrue, false, length, slice_get};
 ghost use Rattle.std.specs.Option.{option_copied};
 ghost use Rattle.std.specs.FinMap.Entries.{find, put};
-ghost use Rattle.std.specs.Vec.{vec_len};
+ghost use Rattle.std.specs.Vec.{vec_len, vec_capacity};
 ghost use Rattle.cell_core.specs.Maps.{IsMap};
 ghost use Rattle.cell_core.specs.Places.{IsGap};
 ghost use Rattle.cell_core.specs.Chunks.{all_of, AllFilled, IsChunked, IsChunkFor};
@@ -34,6 +34,30 @@ pub(crate) fn chunk_for<K: Key, J>(chunks: &[Vec<(K, J)>], key: &K) -> usize
         }
     }
     low
+}
+
+/// The same, with a look at the last chunk first.
+pub(crate) fn chunk_from_last<K: Key, J>(chunks: &[Vec<(K, J)>], key: &K) -> usize
+    requires chunked { IsChunked K.cmp chunks.now }
+    requires some { 0 < length chunks.now }
+    ensures { IsChunkFor K.cmp key.now chunks.now result }
+{
+    let last = chunks.len() - 1;
+    if key.cmp(&chunks[last][0].0).is_lt() {
+        return chunk_for(chunks, key);
+    }
+    last
+}
+
+/// The last entry of all chunks.
+pub(crate) fn last_pair<K, J>(chunks: &[Vec<(K, J)>]) -> Option<&(K, J)>
+    requires { AllFilled chunks.now }
+    ensures { option_copied result ≡ slice_get (all_of chunks.now) (length (all_of chunks.now) - 1) }
+{
+    match chunks.last() {
+        Some(chunk) => chunk.last(),
+        None => None,
+    }
 }
 
 /// The entry at a place, counted over all chunks.
@@ -157,10 +181,35 @@ fn push_last<T: Drop>(chunks: &mut Vec<Vec<T>>, item: T) -> Result<(), T>
     if len == 0 || chunks[len - 1].len() + 1 >= FULL {
         return push_chunk(chunks, item);
     }
-    match chunks[len - 1].push(item) {
-        Ok(()) => Ok(()),
-        Err(failed) => Err(failed.value),
+    push_in(&mut chunks[len - 1], item)
+}
+
+/// Puts an item behind the others of a chunk.
+fn push_in<T: Drop>(chunk: &mut Vec<T>, item: T) -> Result<(), T>
+    ensures grows { vec_len chunk.old ≤ vec_len chunk.new }
+    ensures ok { OnOk result (chunk.new.items ≡ chunk.old.items ++ item ∷ []) }
+    ensures err { IfErr result (λ back. (back ≡ item) × (chunk.new.items ≡ chunk.old.items)) }
+{
+    match make_room(chunk) {
+        Ok(()) => {
+            chunk.push_reserved(item);
+            Ok(())
+        }
+        Err(_) => Err(item),
     }
+}
+
+/// Makes room for one more item. A full vector grows by a quarter, and not to twice its room: a
+/// catalogue has as many maps as messages, and most of them have few languages.
+fn make_room<T: Drop>(items: &mut Vec<T>) -> Result<(), AllocError>
+    ensures items { items.new.items ≡ items.old.items }
+    ensures len { vec_len items.new ≡ vec_len items.old }
+    ensures room { OnOk result (vec_len items.new < vec_capacity items.new) }
+{
+    if items.len() < items.capacity() {
+        return Ok(());
+    }
+    items.reserve_exact(items.len() / 4 + 1)
 }
 
 /// Puts an item behind all others, in a chunk of its own.
@@ -171,7 +220,7 @@ fn push_chunk<T: Drop>(chunks: &mut Vec<Vec<T>>, item: T) -> Result<(), T>
     ensures err { IfErr result (λ back. (back ≡ item) × (all_of chunks.new.items ≡ all_of chunks.old.items)) }
 {
     let room = if chunks.is_empty() { 1 } else { FULL };
-    match chunks.reserve(1) {
+    match make_room(chunks) {
         Ok(()) => {}
         Err(_) => return Err(item),
     }
@@ -207,6 +256,10 @@ fn put_in<K: Key, J: Drop>(
             let Some(total) = count.checked_add(1) else {
                 return Err((key, value));
             };
+            match make_room(pairs) {
+                Ok(()) => {}
+                Err(_) => return Err((key, value)),
+            }
             match pairs.insert(at, (key, value)) {
                 Ok(()) => {
                     *count = total;

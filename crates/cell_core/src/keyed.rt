@@ -1,6 +1,6 @@
 //! Maps from keys to values that join, in rising order of the keys.
 
-ghost use Rattle.std.specs.Prelude.{◌≡◌, ◌↔◌, [], IsTrue, IfErr, OnOk, IsOk, IsSome, length, slice_get};
+ghost use Rattle.std.specs.Prelude.{◌≡◌, ◌-◌, ◌↔◌, [], IsTrue, IfErr, OnOk, IsOk, IsSome, length, slice_get};
 ghost use Rattle.std.specs.Option.{option_copied, option_copied_mut, option_map};
 ghost use Rattle.std.specs.Borrow.{LendsIf, sem};
 ghost use Rattle.std.specs.FinMap.Entries.{find, put};
@@ -8,12 +8,13 @@ ghost use Rattle.cell_core.specs.contracts.keyed.Keyed.{the_row};
 ghost use Rattle.cell_core.specs.Maps.{IsMap, AgreeMaps, joined_maps, BetweenMaps, map_laws};
 
 use crate::chunk_joins::{agree_chunks, join_chunks};
-use crate::chunks::{chunk_for, copy_chunks, nth_pair, put_pair};
+use crate::chunks::{chunk_for, chunk_from_last, copy_chunks, last_pair, nth_pair, put_pair};
 use crate::join::Join;
 use crate::key::Key;
-use crate::keyed_iter::Entries;
-use crate::pairs::bisect;
+use crate::keyed_iter::{Entries, are_equal};
+use crate::pairs::{bisect, bisect_from_last};
 use std::alloc::{AllocError, Global};
+use std::fmt;
 use std::marker::Model;
 
 /// A finite map from keys to values, whose entries stand in strictly rising order of the keys.
@@ -90,6 +91,17 @@ impl<K: Key, J> Keyed<K, J> {
         }
     }
 
+    /// The entry with the greatest key; none where no key is held.
+    pub fn last(&self) -> Option<(&K, &J)>
+        ensures entry { option_map (λ e. (e.0.now, e.1.now)) result ≡ slice_get self.now (length self.now - 1) }
+        ensures map { IsMap K.cmp self.now }
+    {
+        match last_pair(&self.chunks) {
+            Some(pair) => Some((&pair.0, &pair.1)),
+            None => None,
+        }
+    }
+
     /// The value of the key, if it is held.
     pub fn get(&self, key: &K) -> Option<&J>
         ensures value { option_copied result ≡ find K.cmp key.now self.now }
@@ -108,6 +120,8 @@ impl<K: Key, J> Keyed<K, J> {
 
     /// The value of the key, if it is held, to be changed: whatever is written through it, the map
     /// is then the old one with that value at that key.
+    ///
+    /// The greatest key, and one above it, are looked for first.
     pub fn get_mut(&mut self, key: &K) -> Option<&mut J>
         ensures* lends { sem 𝓛 (LendsIf (the_row K.row J.row (record { cmp = K.cmp }) (record { eq = K.eq }) (record { partial_cmp = K.partial_cmp })) J.row self.entry result (λ w. put K.cmp key.now w self.old) self.old) }
         ensures value { option_copied_mut result ≡ find K.cmp key.now self.old }
@@ -116,8 +130,8 @@ impl<K: Key, J> Keyed<K, J> {
         if self.chunks.is_empty() {
             return None;
         }
-        let at = chunk_for(&self.chunks, key);
-        match bisect(&self.chunks[at], key) {
+        let at = chunk_from_last(&self.chunks, key);
+        match bisect_from_last(&self.chunks[at], key) {
             Ok(place) => Some(&mut self.chunks[at][place].1),
             Err(_) => None,
         }
@@ -146,6 +160,34 @@ impl<K: Key, J> Keyed<K, J> {
             rest: &[],
             chunks: self.chunks.as_slice(),
         }
+    }
+}
+
+impl<K: Key, J: PartialEq> PartialEq for Keyed<K, J> {
+    ghost use Rattle.std.specs.Prelude.{◌&&◌};
+    ghost use Rattle.std.specs.Cmp.{and_per, on_per};
+    ghost use Rattle.std.specs.Cmp.Lexicographic.{pointwise, lists_per};
+
+    ghost eq = { pointwise (λ p q. K.eq p.0 q.0 && J.eq p.1 q.1) };
+
+    ghost laws = { lists_per (and_per (on_per (λ p. p.0) K.PartialEq.laws) (on_per (λ p. p.1) J.laws)) };
+
+    fn eq(&self, other: &Self) -> bool {
+        other.count == self.count && are_equal(self.iter(), other.iter())
+    }
+}
+
+impl<K: Key, J: Eq> Eq for Keyed<K, J> {
+    ghost use Rattle.std.specs.Cmp.{and_equiv, on_equiv};
+    ghost use Rattle.std.specs.Cmp.Lexicographic.{lists_equiv};
+
+    ghost laws = { lists_equiv (and_equiv (on_equiv (λ p. p.0) K.Eq.laws) (on_equiv (λ p. p.1) J.Eq.laws)) };
+}
+
+/// Lists the entries, in rising order of the keys.
+impl<K: Key + fmt::Debug, J: fmt::Debug> fmt::Debug for Keyed<K, J> {
+    fn fmt<W: fmt::Write>(&self, f: &mut fmt::Formatter<W>) -> fmt::Result {
+        f.debug_map().entries(self.iter()).finish()
     }
 }
 

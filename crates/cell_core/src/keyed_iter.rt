@@ -1,7 +1,9 @@
 //! The walk over the entries of a map.
 
-ghost use Rattle.std.specs.Prelude.{length};
+ghost use Rattle.std.specs.Prelude.{◌≡◌, ◌&&◌, length};
+ghost use Rattle.std.specs.Cmp.Lexicographic.{pointwise};
 ghost use Rattle.std.specs.Iterator.{YieldsFirstBy, at_most};
+ghost use Rattle.cell_core.specs.EntriesLeft.{entries_left};
 
 /// The entries of a map that are left, in rising order of the keys.
 #[derive(Clone, Copy)]
@@ -29,4 +31,31 @@ impl<'a, K, J> Iterator for Entries<'a, K, J> {
         self.rest = rest;
         Some((&first.0, &first.1))
     }
+}
+
+/// Whether the same entries are left, in the same order.
+pub(crate) fn are_equal<K: PartialEq, J: PartialEq>(
+    mine: Entries<'_, K, J>,
+    others: Entries<'_, K, J>,
+) -> bool
+    ensures { result ≡ pointwise (λ p q. K.eq p.0 q.0 && J.eq p.1 q.1) (entries_left mine.entry) (entries_left others.entry) }
+{
+    let mut mine = mine;
+    let mut others = others;
+    while let Some(entry) = mine.next() {
+        let Some(other) = others.next() else {
+            return false;
+        };
+        if !is_equal(entry, other) {
+            return false;
+        }
+    }
+    others.next().is_none()
+}
+
+/// Whether the keys are equal, and the values.
+fn is_equal<K: PartialEq, J: PartialEq>(entry: (&K, &J), other: (&K, &J)) -> bool
+    ensures { result ≡ (K.eq entry.entry.0.now other.entry.0.now && J.eq entry.entry.1.now other.entry.1.now) }
+{
+    entry.0 == other.0 && entry.1 == other.1
 }

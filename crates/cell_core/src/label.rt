@@ -9,8 +9,10 @@ ghost use Rattle.cell_core.specs.Refusals.{RefusesLabel, RefusesTexts};
 ghost use Rattle.cell_core.specs.Labels.{texts_of, is_too_long, IsLabel, IsLabelCount};
 
 use crate::fault::CellFault;
+use smallvec::SmallVec;
 use std::alloc::{AllocError, Global};
 use std::marker::Model;
+use std::sync::Arc;
 
 /// The most texts of a label.
 const MOST_TEXTS: usize = 64;
@@ -20,21 +22,22 @@ const MOST_BYTES: usize = 65_535;
 
 /// The label of a message in one language: 1 to 64 texts, in order, of at most 65,535 bytes each.
 ///
-/// A text may be empty, and may hold any character.
+/// A text may be empty, and may hold any character. A label never changes, so a copy shares the
+/// texts and takes no memory.
 #[derive(Debug, Drop)]
 pub struct Label {
-    texts: Vec<String>,
+    texts: Arc<SmallVec<String, 1>>,
 }
 
 impl Model for Label {
     ghost use Rattle.std.specs.Prelude.{List, ℕ};
-    ghost use Rattle.cell_core.specs.Labels.{texts_of, IsLabel};
+    ghost use Rattle.cell_core.specs.Labels.{shared_texts, IsLabel};
 
     ghost Value = { List (List ℕ) };
 
-    ghost view = { λ l. texts_of l.texts.items };
+    ghost view = { λ l. shared_texts l.texts };
 
-    ghost invariant = { λ l. IsLabel (texts_of l.texts.items) };
+    ghost invariant = { λ l. IsLabel (shared_texts l.texts) };
 }
 
 impl Label {
@@ -47,18 +50,20 @@ impl Label {
             MatchResult result (λ label. IsLabel bytes × (label ≡ bytes)) (RefusesLabel bytes) }
     {
         check_texts(texts)?;
-        let texts = copied(alloc, texts)?;
+        let texts = Arc::new(alloc, copied(alloc, texts)?)?;
         Ok(Label { texts })
     }
 
-    /// The label with these texts, which are not copied; it takes no memory.
+    /// The label with these texts, which are not copied.
     ///
     /// Refused as [`Label::new`] is.
     pub fn from_texts(texts: Vec<String>) -> Result<Label, CellFault>
         ensures { let bytes = texts_of texts.items in
-            MatchResult result (λ label. IsLabel bytes × (label ≡ bytes)) (RefusesTexts bytes) }
+            MatchResult result (λ label. IsLabel bytes × (label ≡ bytes)) (RefusesLabel bytes) }
     {
         check_texts(&texts)?;
+        let alloc = *texts.allocator();
+        let texts = Arc::new(alloc, SmallVec::from_vec(texts))?;
         Ok(Label { texts })
     }
 
@@ -67,14 +72,16 @@ impl Label {
         ensures texts { texts_of result.now ≡ self.now }
         ensures label { IsLabel self.now }
     {
-        &self.texts
+        self.texts.as_slice()
     }
 
-    /// An equal label.
-    pub fn copy(&self, alloc: Global) -> Result<Label, AllocError>
+    /// An equal label, which shares the texts. It takes no memory.
+    ///
+    /// Refused (26) where there are as many copies as can be counted, 2^63 - 1.
+    pub fn copy(&self, _alloc: Global) -> Result<Label, AllocError>
         ensures { IfOk result (λ copy. copy ≡ self.now) }
     {
-        let texts = copied(alloc, &self.texts)?;
+        let texts = Arc::try_clone(&self.texts)?;
         Ok(Label { texts })
     }
 }
@@ -85,7 +92,7 @@ impl PartialEq for Label {
     ghost laws = { laws_of.partial_equiv_from_equiv (lists_equiv nat_list_eq_equiv) };
 
     fn eq(&self, other: &Label) -> bool {
-        self.texts == other.texts
+        self.texts() == other.texts()
     }
 }
 
@@ -123,10 +130,10 @@ fn is_too_long(text: &String) -> bool
 }
 
 /// Copies of the texts, in order.
-fn copied(alloc: Global, texts: &[String]) -> Result<Vec<String>, AllocError>
+fn copied(alloc: Global, texts: &[String]) -> Result<SmallVec<String, 1>, AllocError>
     ensures { IfOk result (λ copies. texts_of copies.items ≡ texts_of texts.now) }
 {
-    let mut copies = Vec::with_capacity(alloc, texts.len())?;
+    let mut copies = SmallVec::with_capacity(alloc, texts.len())?;
     for text in texts {
         copies.push(String::from_str(alloc, text.as_str())?)?;
     }

@@ -31,6 +31,23 @@ pub(crate) fn bisect<K: Key, J>(pairs: &[(K, J)], key: &K) -> Result<usize, usiz
     Err(low)
 }
 
+/// The same, with a look at the last entry first.
+pub(crate) fn bisect_from_last<K: Key, J>(pairs: &[(K, J)], key: &K) -> Result<usize, usize>
+    requires { IsMap K.cmp pairs.now }
+    ensures found { IfOk result (IsPlace K.cmp key.now pairs.now) }
+    ensures absent { IfErr result (IsGap K.cmp key.now pairs.now) }
+{
+    let len = pairs.len();
+    if len == 0 {
+        return Err(0);
+    }
+    match key.cmp(&pairs[len - 1].0) {
+        Ordering::Less => bisect(pairs, key),
+        Ordering::Equal => Ok(len - 1),
+        Ordering::Greater => Err(len),
+    }
+}
+
 /// Galloping search from a place; all keys before it are smaller.
 fn seek<K: Key, J>(pairs: &[(K, J)], key: &K, from: usize) -> Result<usize, usize>
     requires map { IsMap K.cmp pairs.now }

@@ -161,7 +161,7 @@ module _ (cells : Entries) (items : List Item) (default : Option (List ℕ)) whe
         | false ↦ λ t more. member_later m.0 id (ids_of ms) (id_there id ms more)
       ] refl found
 
-  label_of : (e : Labelled) → IsAnswer cells items default e → find text_cmp e.0.1 (live cells e.0.0) ≡ Some e.1
+  pub label_of : (e : Labelled) → IsAnswer cells items default e → find text_cmp e.0.1 (live cells e.0.0) ≡ Some e.1
   label_of e answer = elim answer [ inl matched ↦ matched.1 | inr chosen ↦ chosen.3 ]
 
   answered_id : (messages : List LiveMessage) → AreMessages cells messages → (e : Labelled) → IsAnswer cells items default e → Contains (ids_of messages) e.0.0
@@ -257,5 +257,8 @@ live_member (e ∷ es) id lang label found =
       ]
     ] refl found
 
+pub answer_live : (cells : Entries) (items : List Item) (default : Option (List ℕ)) (e : Labelled) → IsAnswer cells items default e → Contains (live_labels cells) e
+answer_live cells items default e answer = live_member cells e.0.0 e.0.1 e.1 (label_of cells items default e answer)
+
 pub bundle_live : (cells : Entries) (items : List Item) (default : Option (List ℕ)) (labels : List Labelled) (e : Labelled) → IsBundle cells items default labels → Contains labels e → Contains (live_labels cells) e
-bundle_live cells items default labels e bundle at = live_member cells e.0.0 e.0.1 e.1 (label_of cells items default e ((bundle.answered e).0 at))
+bundle_live cells items default labels e bundle at = answer_live cells items default e ((bundle.answered e).0 at)

@@ -1,10 +1,10 @@
 -- Why labels are not put into a site.
-use Rattle.std.proofs.Common.{◌≡◌, ◌∙◌, ℕ, List, ap, inl, inr, subst}
+use Rattle.std.proofs.Common.{◌≡◌, ◌∙◌, ℕ, List, ap, inl, inr}
 use Rattle.std.specs.Prelude.{◌⊎◌}
 use Rattle.cata_core.specs.Sites.{SiteState}
 use Rattle.cata_core.specs.declared.cata_fault.CataFault.{CataFault}
 use Rattle.cata_core.specs.declared.cata_fault.CataFault.TheVariants.{ClockSpent, NoMemory}
-use Rattle.docs_core.proofs.CallsLemmas.{no_memory}
+use Rattle.docs_core.proofs.CallsLemmas.{no_memory, site_written}
 use Rattle.docs_core.specs.Documents.{site_text}
 use Rattle.docs_core.specs.Exchange.{RefusesImport}
 use Rattle.docs_core.specs.Faults.{of_no_document, of_site}
@@ -30,7 +30,7 @@ pub updated : (bytes : List ℕ) (now : ℕ) (old new : List ℕ) (site : SiteSt
     → left.name ≡ site.name → Updates now site.name before after site.cells left.cells → doc ≡ site_text left → ReadsAsSite doc left → IsUpdated bytes now old new doc
 updated bytes now old new site before after left doc reads olds news name updates text again =
     let same : left ≡ record { name = site.name; cells = left.cells } = λ i. record { name = name i; cells = left.cells } in
-    (site, before, after, left.cells, reads, olds, news, updates, text ∙ ap site_text same, subst (ReadsAsSite doc) same again)
+    (site, before, after, left.cells, reads, olds, news, updates, site_written doc left _ same text again)
 
 pub not_updated : (bytes : List ℕ) (now : ℕ) (old new : List ℕ) (site : SiteState) (before after : List Labelled) (cause : CataFault) (fault : DocFault)
     → ReadsAsSite bytes site → AreLangMaps old before → AreLangMaps new after → (cause ≡ NoMemory) ⊎ ((cause ≡ ClockSpent) × SpendsUpdate now site.name before after site.cells)

@@ -1,21 +1,24 @@
 -- The texts of a label, and refusals of fields.
-use Rattle.std.proofs.Common.{◌≡◌, ◌∙◌, ◌+◌, ◌<◌, ◌++◌, ℕ, List, [], ◌∷◌, true, Global, String, string_bytes, map, take, length, get_or, refl, ap, sym, add-one, inl, inr}
+use Rattle.std.proofs.Common.{◌≡◌, ◌∙◌, ◌+◌, ◌<◌, ◌++◌, ℕ, List, [], ◌∷◌, true, Global, String, string_bytes, map, take, length, get_or, arith, refl, ap, sym, add-one, inl, inr}
 use Rattle.std.proofs.Math.Seq.{take-suc}
+use Rattle.std.proofs.lemmas.Bool.Decides.{nat_tests}
 use Rattle.std.proofs.lemmas.List.{map-append}
 use Rattle.std.specs.List.{cons_option, filter_map}
-use Rattle.std.specs.Prelude.{Option, None, Some, is_some, option_and_then, option_map, unwrap_or}
+use Rattle.std.specs.Prelude.{◌⊎◌, ◌==◌, false, Option, None, Some, is_some, option_and_then, option_map, unwrap_or}
 use Rattle.std.specs.Str.{str_to_ascii_lowercase}
 use Rattle.json.specs.declared.value.Value.{Value}
 use Rattle.serde_json.specs.Data.{Data}
 use Rattle.serde_json.specs.Find.{as_str}
-use Rattle.cell_core.specs.Refusals.{RefusesTexts}
+use Rattle.cell_core.specs.Refusals.{RefusesLabel, RefusesTexts}
 use Rattle.cell_core.specs.declared.fault.CellFault.{CellFault}
 use Rattle.cell_core.specs.declared.fault.CellFault.TheVariants.{IdRefused, TextTooLong, LabelCount, ClockSpent, NoMemory, SiteName}
 use Rattle.lang_core.specs.Lang.{SpellsLang}
-use Rattle.docs_core.specs.Fields.{cell_cause}
+use Rattle.docs_core.specs.Fields.{IsLabelRefusal, cell_cause}
+use Rattle.docs_core.specs.LangMapChecks.{IsStringsRefusal}
 use Rattle.docs_core.specs.Reads.{seen}
 use Rattle.docs_core.specs.Rows.{texts_in}
-use Rattle.docs_core.specs.declared.fault.DocCause.TheVariants.{Field}
+use Rattle.docs_core.specs.declared.fault.DocCause.{DocCause}
+use Rattle.docs_core.specs.declared.fault.DocCause.TheVariants.{Field, NoMemory as no_memory}
 use Rattle.docs_core.specs.declared.fault.FieldFault.TheVariants.{Cell}
 
 append_one : (xs : List (List ℕ)) (o : Option (List ℕ)) (ys : List (List ℕ)) → cons_option o (xs ++ ys) ≡ cons_option o xs ++ ys
@@ -44,14 +47,22 @@ pub among-texts_in : (ds : List Data) → is_some (texts_in ds) ≡ true → fil
 among-texts_in [] h = refl
 among-texts_in (d ∷ ds) h = all_texts (as_str d) (texts_in ds) (filter_map as_str ds) (among-texts_in ds) h
 
--- texts that are refused for a rule are so in this row
-pub texts_cause : (k : ℕ) (texts : List (List ℕ)) (fault : CellFault) → RefusesTexts texts fault → cell_cause k fault ≡ Field k (Cell fault)
-texts_cause k texts IdRefused why = refl
-texts_cause k texts (TextTooLong index) why = refl
-texts_cause k texts (LabelCount count) why = refl
-texts_cause k texts ClockSpent why = refl
-texts_cause k texts NoMemory why = absurd why
-texts_cause k texts SiteName why = refl
+-- texts that are no label are refused in this row, or memory has run out
+pub label_cause : (k : ℕ) (texts : List (List ℕ)) (fault : CellFault) → RefusesLabel texts fault → (cell_cause k fault ≡ no_memory) ⊎ IsLabelRefusal k (Some texts) (cell_cause k fault)
+label_cause k texts IdRefused why = absurd why
+label_cause k texts (TextTooLong index) why = inr (TextTooLong index, why, refl)
+label_cause k texts (LabelCount count) why = inr (LabelCount count, why, refl)
+label_cause k texts ClockSpent why = absurd why
+label_cause k texts NoMemory why = inl refl
+label_cause k texts SiteName why = absurd why
+
+pub some_strings : (n : ℕ) → (n == 0) ≡ false → 0 < n
+some_strings n h = grind (arith, nat_tests)
+
+-- the same of strings, of which there are some
+pub strings_cause : (k : ℕ) (texts : List (List ℕ)) (fault : CellFault) → 0 < length texts → RefusesLabel texts fault → (cell_cause k fault ≡ no_memory) ⊎ IsStringsRefusal k texts (cell_cause k fault)
+strings_cause k [] fault some why = absurd (omega (arith, some))
+strings_cause k (t ∷ ts) fault some why = label_cause k (t ∷ ts) fault why
 
 -- a language stands in lower case
 pub spelled-lower : (text lang : List ℕ) → SpellsLang text lang → lang ≡ str_to_ascii_lowercase text

@@ -338,9 +338,11 @@ module _ (found : Found) (k : ℕ) (text key lang : List ℕ) (same : text ≡ k
     shape_fails strings none =
         inr (λ before holds. inr (spelled text key lang same spells, inr (tested false absent before holds, inl (λ some. true≢false (sym some ∙ ap is_some none), refl))))
 
-    pub label_fails : (texts : List (List ℕ)) (strings : Strings) (e : DocCause) → strings ≡ Some texts → IsStringsRefusal k texts e → IsKeyRefusal found k key strings e
-    label_fails texts strings e is why =
-        inr (λ before holds. inr (spelled text key lang same spells, inr (tested false absent before holds, inr (ap is_some is, inl (subst (λ t. IsStringsRefusal k t e) (sym (ap (λ o. unwrap_or o []) is)) why)))))
+    pub label_fails : (texts : List (List ℕ)) (strings : Strings) (e : DocCause) → strings ≡ Some texts → (e ≡ NoMemory) ⊎ IsStringsRefusal k texts e → IsKeyRefusal found k key strings e
+    label_fails texts strings e is why = elim why [
+      | inl none ↦ inl none
+      | inr refused ↦ inr (λ before holds. inr (spelled text key lang same spells, inr (tested false absent before holds, inr (ap is_some is, inl (subst (λ t. IsStringsRefusal k t e) (sym (ap (λ o. unwrap_or o []) is)) refused)))))
+    ]
 
     pub key_passes : (texts : List (List ℕ)) (strings : Strings) → strings ≡ Some texts → IsLabelOrNone texts → (before : Keys) → HoldsKeys before found → AllPass (key_checks k (names before) key strings)
     key_passes texts strings is labelled before holds =

@@ -1,15 +1,29 @@
 -- A text reads as one value at most.
 use Rattle.std.proofs.Common.{◌≡◌, ◌∙◌, ℕ, List, [], ◌∷◌, map, refl, ap, ap₂, sym, subst}
-use Rattle.std.specs.Prelude.{Option, Some, unwrap_or}
+use Rattle.std.specs.Prelude.{Bool, Option, Some, option_map, unwrap_or}
+use Rattle.std.specs.Str.{str_to_ascii_lowercase}
 use Rattle.serde_json.specs.Data.{Data}
 use Rattle.cata_core.specs.Entries.{Entries, EntryKey}
 use Rattle.cata_core.specs.Sites.{SiteState}
 use Rattle.cata_core.specs.Told.{SummaryState}
 use Rattle.cata_core.specs.declared.delta.Delta.{Delta}
+use Rattle.cata_core.specs.Held.{held}
+use Rattle.cata_core.specs.declared.step.Step.{Step}
+use Rattle.cata_core.specs.declared.step.Step.TheVariants.{AskFilter, AskLookup}
+use Rattle.cata_core.proofs.UniqueAnswers.{one_by}
+use Rattle.nego_core.specs.declared.malformed.Malformed.TheVariants.{Refused}
+use Rattle.nego_core.specs.declared.scheme.Scheme.TheVariants.{Basic}
+use Rattle.nego_core.proofs.FieldUnique.{one_items}
 use Rattle.docs_core.specs.Checks.{Check}
+use Rattle.docs_core.specs.Lines.{lines}
 use Rattle.docs_core.specs.Named.{IsDeltaDocument, IsSiteDocument, IsSummaryDocument, delta_checks, site_checks, summary_checks}
 use Rattle.docs_core.specs.ReadsAs.{Reads, ReadsAsDelta, ReadsAsSite, ReadsAsSummary}
+use Rattle.docs_core.specs.Replays.{IsPlayed, Replays}
 use Rattle.docs_core.specs.Rising.{AreEntries}
+use Rattle.docs_core.specs.ScriptReads.{IsScriptDocument, ReadsAsScript, script_checks}
+use Rattle.docs_core.specs.Scripts.{ScriptState}
+use Rattle.docs_core.specs.StepFields.{AreSteps, IsStep, Makes}
+use Rattle.docs_core.specs.Steps.{StepText, edit_step, merge_step, filter_step, lookup_step, cells_step, tell_step, post_step, deliver_step}
 
 inside : {A : Type 0} (x y : A) → Some x ≡ Some y → x ≡ y
 inside {A} x y is = ap (λ (o : Option A). unwrap_or o x) is
@@ -47,6 +61,54 @@ summary_is : (d : Data) (s t : SummaryState) → IsSummaryDocument d s → IsSum
 summary_is d s t p q =
     ap₂ (λ (n : List ℕ) ts. let r : SummaryState = record { owner = n; stamps = ts } in r)
     (inside s.owner t.owner (sym p.owner ∙ q.owner)) (same_entries _ _ s.stamps t.stamps p.stamps q.stamps)
+
+-- ---- scripts
+
+one_made : (text : StepText) (s t : Step) → Makes text s → Makes text t → s ≡ t
+one_made (edit_step site row) s t p q = p ∙ sym q
+one_made (merge_step into source) s t p q = p ∙ sym q
+one_made (filter_step site id scheme field) s t p q =
+    let same : p.0 ≡ q.0 = one_items scheme Refused field p.0 q.0 p.1.1 q.1.1 in
+    p.2 ∙ ap (λ items. AskFilter site id scheme items) same ∙ sym q.2
+one_made (lookup_step site id field default) s t p q =
+    let same : p.0 ≡ q.0 = one_items Basic Refused field p.0 q.0 p.1.1 q.1.1 in
+    p.2 ∙ ap (λ items. AskLookup site id items (option_map str_to_ascii_lowercase default)) same ∙ sym q.2
+one_made (cells_step site) s t p q = p ∙ sym q
+one_made (tell_step site) s t p q = p ∙ sym q
+one_made (post_step site told) s t p q = p ∙ sym q
+one_made (deliver_step post) s t p q = p ∙ sym q
+
+one_step : (numbered : Bool) (d : Data) (s t : Step) → IsStep numbered d s → IsStep numbered d t → s ≡ t
+one_step numbered d s t p q =
+    let same : q.0 ≡ p.0 = inside q.0 p.0 (sym q.1 ∙ p.1) in
+    one_made p.0 s t p.2 (subst (λ text. Makes text t) same q.2)
+
+one_list_of_steps : (numbered : Bool) (rows : List Data) (ss ts : List Step) → AreSteps numbered rows ss → AreSteps numbered rows ts → ss ≡ ts
+one_list_of_steps numbered [] [] [] p q = refl
+one_list_of_steps numbered [] [] (t ∷ ts) p q = absurd q
+one_list_of_steps numbered [] (s ∷ ss) ts p q = absurd p
+one_list_of_steps numbered (d ∷ ds) [] ts p q = absurd p
+one_list_of_steps numbered (d ∷ ds) (s ∷ ss) [] p q = absurd q
+one_list_of_steps numbered (d ∷ ds) (s ∷ ss) (t ∷ ts) p q =
+    ap₂ (λ z zs. z ∷ zs) (one_step numbered d s t p.0 q.0) (one_list_of_steps numbered ds ss ts p.1 q.1)
+
+script_is : (d : Data) (s t : ScriptState) → IsScriptDocument d s → IsScriptDocument d t → s ≡ t
+script_is d s t p q =
+    ap₂ (λ (n : ℕ) (steps : List Step). let r : ScriptState = record { sites = n; steps = steps } in r)
+    (inside s.sites t.sites (sym p.sites ∙ q.sites)) (one_list_of_steps _ _ s.steps t.steps p.steps q.steps)
+
+pub one_script : (bytes : List ℕ) (s t : ScriptState) → ReadsAsScript bytes s → ReadsAsScript bytes t → s ≡ t
+one_script = one_read script_checks IsScriptDocument script_is
+
+-- one script, one list of answers, one text
+pub one_replay : (bytes x y : List ℕ) → Replays bytes x → Replays bytes y → x ≡ y
+one_replay bytes x y p q =
+    let script : q.0 ≡ p.0 = one_script bytes q.0 p.0 q.1 p.1 in
+    let played : IsPlayed p.0 q.2.0 = subst (λ s. IsPlayed s q.2.0) script q.2.1 in
+    let answers : p.2.0 ≡ q.2.0 = one_by held [] p.0.steps p.2.0 q.2.0 p.2.1.held played.held in
+    p.2.2 ∙ ap lines answers ∙ sym q.2.2
+
+-- ---- sites, deltas and summaries
 
 pub one_site : (bytes : List ℕ) (s t : SiteState) → ReadsAsSite bytes s → ReadsAsSite bytes t → s ≡ t
 one_site = one_read site_checks IsSiteDocument site_is

@@ -117,19 +117,19 @@ with_cells site cells = record { name = site.name; cells = cells }
 
 pub equal_document : (bytes old new doc : List ℕ) (now : ℕ) (site : SiteState) (labels : List Labelled) → ReadsAsSite bytes site → AreLangMaps old labels → AreLangMaps new labels
     → IsUpdated bytes now old new doc → doc ≡ site_text site
-equal_document bytes old new doc now site labels reads olds news (own, before, after, cells, own_reads, befores, afters, updates, is, again) =
+equal_document bytes old new doc now site labels reads olds news (own, before, after, cells, own_reads, befores, afters, updates, written) =
     let was = same_labels old before labels befores olds in
     let is_now = same_labels new after labels afters news in
     let updated = subst (λ (ls : List Labelled). Updates now own.name ls labels own.cells cells) was (subst (λ (ls : List Labelled). Updates now own.name before ls own.cells cells) is_now updates) in
-    is ∙ ap (λ (es : Entries). site_text (with_cells own es)) (equal_nothing now own.name labels own.cells cells updated) ∙ ap site_text (one_site bytes own site own_reads reads)
+    written.0 ∙ ap (λ (es : Entries). site_text (with_cells own es)) (equal_nothing now own.name labels own.cells cells updated) ∙ ap site_text (one_site bytes own site own_reads reads)
 
 pub twice_document : (bytes old new once twice : List ℕ) (now later : ℕ) → IsUpdated bytes now old new once → IsUpdated once later old new twice → twice ≡ once
-twice_document bytes old new once twice now later (site, before, after, cells, reads, befores, afters, updates, is, again) (own, olds, news, last, own_reads, are_olds, are_news, more, also, back) =
-    let same : own ≡ with_cells site cells = one_site once own (with_cells site cells) own_reads again in
+twice_document bytes old new once twice now later (site, before, after, cells, reads, befores, afters, updates, written) (own, olds, news, last, own_reads, are_olds, are_news, more, again) =
+    let same : own ≡ with_cells site cells = one_site once own (with_cells site cells) own_reads written.1 in
     let was = same_labels old olds before are_olds befores in
     let is_now = same_labels new news after are_news afters in
     let on : Updates later site.name before after cells last =
     subst (λ (s : SiteState). Updates later s.name before after s.cells last) same
     (subst (λ (ls : List Labelled). Updates later own.name ls after own.cells last) was (subst (λ (ls : List Labelled). Updates later own.name olds ls own.cells last) is_now more)) in
-    also ∙ ap (λ (s : SiteState). site_text (with_cells s last)) same
-    ∙ ap (λ (es : Entries). site_text (with_cells site es)) (twice_once now later site.name before after site.cells cells last updates on) ∙ sym is
+    again.0 ∙ ap (λ (s : SiteState). site_text (with_cells s last)) same
+    ∙ ap (λ (es : Entries). site_text (with_cells site es)) (twice_once now later site.name before after site.cells cells last updates on) ∙ sym written.0

@@ -11,9 +11,8 @@ use Rattle.cata_core.specs.Sites.{RefusesDelta as NotTaken, RefusesEdit, SiteSta
 use Rattle.cata_core.specs.Told.{SummaryState}
 use Rattle.cata_core.specs.declared.cata_fault.CataFault.{CataFault}
 use Rattle.cata_core.specs.declared.delta.Delta.{Delta}
-use Rattle.docs_core.specs.Documents.{delta_text, site_text, summary_text}
 use Rattle.docs_core.specs.Faults.{of_no_document, of_site}
-use Rattle.docs_core.specs.ReadsAs.{IsOfDocument, ReadsAsDelta, ReadsAsSite, ReadsAsSummary, RefusesDelta, RefusesSite, RefusesSummary}
+use Rattle.docs_core.specs.ReadsAs.{IsDeltaText, IsOfDocument, IsSiteText, IsSummaryText, ReadsAsDelta, ReadsAsSite, ReadsAsSummary, RefusesDelta, RefusesSite, RefusesSummary}
 use Rattle.docs_core.specs.Status.{status_line}
 use Rattle.docs_core.specs.declared.fault.DocFault.{DocFault}
 
@@ -27,7 +26,7 @@ IsOfSite Refuses fault = (cause : CataFault) × Refuses cause × (fault ≡ of_n
 abbrev pub IsEdited : List ℕ → ℕ → EntryKey → Option (List (List ℕ)) → List ℕ → Type 0
 IsEdited bytes now key label text =
     (site : SiteState) × (stamp : Stamp) × ReadsAsSite bytes site × IsNext (last_of site.cells) now site.name stamp
-    × (text ≡ site_text (record { name = site.name; cells = put key_cmp key (record { stamp = stamp; label = label }) site.cells }))
+    × IsSiteText (record { name = site.name; cells = put key_cmp key (record { stamp = stamp; label = label }) site.cells }) text
 
 abbrev pub RefusesEditing : List ℕ → ℕ → DocFault → Type 0
 RefusesEditing bytes now fault =
@@ -40,8 +39,8 @@ RefusesEditing bytes now fault =
 abbrev pub AreSynced : List ℕ → List ℕ → List ℕ → List ℕ → Type 0
 AreSynced a b x y =
     (first second : SiteState) × ReadsAsSite a first × ReadsAsSite b second × Agree first.cells second.cells
-    × (x ≡ site_text (record { name = first.name; cells = joined first.cells second.cells }))
-    × (y ≡ site_text (record { name = second.name; cells = joined first.cells second.cells }))
+    × IsSiteText (record { name = first.name; cells = joined first.cells second.cells }) x
+    × IsSiteText (record { name = second.name; cells = joined first.cells second.cells }) y
 
 abbrev pub RefusesSync : List ℕ → List ℕ → DocFault → Type 0
 RefusesSync a b fault =
@@ -52,13 +51,13 @@ RefusesSync a b fault =
 -- ---- summaries and deltas
 
 abbrev pub IsSummarised : List ℕ → List ℕ → Type 0
-IsSummarised bytes text = (site : SiteState) × ReadsAsSite bytes site × (text ≡ summary_text (record { owner = site.name; stamps = summary_of site.cells }))
+IsSummarised bytes text = (site : SiteState) × ReadsAsSite bytes site × IsSummaryText (record { owner = site.name; stamps = summary_of site.cells }) text
 
 -- what the summary lacks, for its owner
 abbrev pub IsNewsFor : List ℕ → List ℕ → List ℕ → Type 0
 IsNewsFor a b text =
     (site : SiteState) × (summary : SummaryState) × ReadsAsSite a site × ReadsAsSummary b summary
-    × (text ≡ delta_text (record { addressee = summary.owner; cells = delta_of site.cells summary.stamps }))
+    × IsDeltaText (record { addressee = summary.owner; cells = delta_of site.cells summary.stamps }) text
 
 abbrev pub RefusesNews : List ℕ → List ℕ → DocFault → Type 0
 RefusesNews a b fault =
@@ -69,7 +68,7 @@ RefusesNews a b fault =
 abbrev pub IsTaken : List ℕ → List ℕ → List ℕ → Type 0
 IsTaken a b text =
     (site : SiteState) × (delta : Delta) × ReadsAsSite a site × ReadsAsDelta b delta × (site.name ≡ delta.addressee) × Agree site.cells delta.cells
-    × (text ≡ site_text (record { name = site.name; cells = joined site.cells delta.cells }))
+    × IsSiteText (record { name = site.name; cells = joined site.cells delta.cells }) text
 
 abbrev pub RefusesTaking : List ℕ → List ℕ → DocFault → Type 0
 RefusesTaking a b fault =

@@ -3,21 +3,20 @@ use Rattle.std.specs.Prelude.{◌≡◌, ◌⊎◌, ℕ, List}
 use Rattle.cata_core.specs.Entries.{Entries}
 use Rattle.cata_core.specs.Sites.{SiteState}
 use Rattle.cata_core.specs.declared.cata_fault.CataFault.TheVariants.{ClockSpent}
-use Rattle.docs_core.specs.Documents.{site_text}
 use Rattle.docs_core.specs.Exported.{live_labels}
 use Rattle.docs_core.specs.Faults.{of_no_document, of_site}
 use Rattle.docs_core.specs.Imported.{Imports, SpendsImport}
 use Rattle.docs_core.specs.LangMapLabels.{AreLangMaps, RefusesLangMaps}
 use Rattle.docs_core.specs.LangMapTexts.{IsTextOf}
 use Rattle.docs_core.specs.LangMaps.{Labelled}
-use Rattle.docs_core.specs.ReadsAs.{IsOfDocument, ReadsAsSite, RefusesSite}
+use Rattle.docs_core.specs.ReadsAs.{IsOfDocument, IsSiteText, ReadsAsSite, RefusesSite}
 use Rattle.docs_core.specs.declared.fault.DocFault.{DocFault}
 
 -- the site with each label of the language maps put at this time, in rising order of key
 abbrev pub IsImported : List ℕ → ℕ → List ℕ → List ℕ → Type 0
 IsImported bytes now maps doc =
     (site : SiteState) × (labels : List Labelled) × (cells : Entries) × ReadsAsSite bytes site × AreLangMaps maps labels
-    × Imports now site.name labels site.cells cells × (doc ≡ site_text (record { name = site.name; cells = cells }))
+    × Imports now site.name labels site.cells cells × IsSiteText (record { name = site.name; cells = cells }) doc
 
 -- the site is refused, then the language maps, then a label for which there is no next stamp
 abbrev pub RefusesImport : List ℕ → ℕ → List ℕ → DocFault → Type 0

@@ -5,6 +5,7 @@ use Rattle.cata_core.specs.declared.delta.Delta.{Delta}
 use Rattle.cata_core.specs.Sites.{SiteState}
 use Rattle.cata_core.specs.Told.{SummaryState}
 use Rattle.docs_core.specs.Checks.{AllPass, AreJson, Check, IsRefusal}
+use Rattle.docs_core.specs.Documents.{delta_text, site_text, summary_text}
 use Rattle.docs_core.specs.Faults.{of_document}
 use Rattle.docs_core.specs.Named.{IsDeltaDocument, IsSiteDocument, IsSummaryDocument, delta_checks, site_checks, summary_checks}
 use Rattle.docs_core.specs.declared.fault.DocCause.{DocCause}
@@ -35,3 +36,15 @@ RefusesSummary = IsRefusal summary_checks
 -- it is the refusal of this input document by its reader
 abbrev pub IsOfDocument : ℕ → (DocCause → Type 0) → DocFault → Type 0
 IsOfDocument document Refuses fault = (cause : DocCause) × Refuses cause × (fault ≡ of_document document cause)
+
+-- ---- what is written
+
+-- the text is that of the document of this site, and reads as it
+abbrev pub IsSiteText : SiteState → List ℕ → Type 0
+IsSiteText site doc = (doc ≡ site_text site) × ReadsAsSite doc site
+
+abbrev pub IsDeltaText : Delta → List ℕ → Type 0
+IsDeltaText delta doc = (doc ≡ delta_text delta) × ReadsAsDelta doc delta
+
+abbrev pub IsSummaryText : SummaryState → List ℕ → Type 0
+IsSummaryText summary doc = (doc ≡ summary_text summary) × ReadsAsSummary doc summary

@@ -1,5 +1,5 @@
 -- A script from bytes to bytes. Own rule.
-use Rattle.std.specs.Prelude.{◌≡◌, ◌⊎◌, List, ℕ, Bool, Option}
+use Rattle.std.specs.Prelude.{◌≡◌, ◌⊎◌, List, ℕ}
 use Rattle.cata_core.specs.Answers.{AreAnswers, AreHeldAnswers}
 use Rattle.cata_core.specs.Edits.{IsConsistent}
 use Rattle.cata_core.specs.Faulty.{IsFirstFault, IsNoClash, NoDelivers, NoneFaulty}
@@ -12,8 +12,7 @@ use Rattle.docs_core.specs.Lines.{lines}
 use Rattle.docs_core.specs.ReadsAs.{IsOfDocument}
 use Rattle.docs_core.specs.ScriptReads.{ReadsAsScript, RefusesScript}
 use Rattle.docs_core.specs.Scripts.{ScriptState}
-use Rattle.docs_core.specs.Sources.{GivesCount, IsReadRefusal, is_read_cause}
-use Rattle.docs_core.specs.declared.fault.DocCause.TheVariants.{NoMemory, TooLarge}
+use Rattle.docs_core.specs.declared.fault.DocCause.TheVariants.{NoMemory}
 use Rattle.docs_core.specs.declared.fault.DocFault.{DocFault}
 
 -- no step is faulty, and these are the answers: by what the sites hold, and where no two edits clash, or nothing is delivered, the expected ones
@@ -45,11 +44,3 @@ RefusesLines bytes fault = (text : List ℕ) × Replays bytes text × (fault ≡
 -- why bytes are not replayed, by the first stage that refuses: the script, its steps, or the lines
 abbrev pub RefusesReplay : List ℕ → DocFault → Type 0
 RefusesReplay bytes fault = IsOfDocument 1 (RefusesScript bytes) fault ⊎ RefusesSteps bytes fault ⊎ RefusesLines bytes fault
-
--- ---- over streams
-
--- the source was not read to its end: the fault says why, and with 24 alone the source has failed
-pub record IsReadFault {S : Type 0} (failed : S → Bool) (remaining : S → Option (List ℕ)) (old new : S) (fault : DocFault) : Type 0 where
-  pub refused : IsReadRefusal fault
-  pub failing : failed new ≡ is_read_cause fault.cause
-  pub too_large : fault ≡ of_no_document TooLarge → GivesCount (remaining old) (remaining new) 67108865

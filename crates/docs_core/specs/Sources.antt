@@ -1,10 +1,11 @@
 -- What a read of a whole document does to the bytes that a source has left. Own rule.
-use Rattle.std.specs.Prelude.{◌≡◌, ◌≤◌, ℕ, Bool, true, false, List, length, Option, Result, Ok, Err}
+use Rattle.std.specs.Prelude.{◌≡◌, ◌≤◌, ℕ, Bool, true, false, List, length, Option}
 use Rattle.std.specs.Io.KnownBytes.{Consumes, IsAtEnd}
 use Rattle.docs_core.specs.declared.fault.DocCause.{DocCause}
 use Rattle.docs_core.specs.declared.fault.DocCause.TheVariants.{TooLarge, ReadFault, NoMemory}
 use Rattle.docs_core.specs.declared.fault.DocFault.{DocFault}
 use Rattle.docs_core.specs.declared.sources.Input.{Input}
+use Rattle.docs_core.specs.Faults.{of_no_document}
 
 -- the reader that a source is over
 abbrev pub reader_of : {R : Type 0} → Input R → R
@@ -26,14 +27,10 @@ GivesCount old new count = (bytes : List ℕ) × (length bytes ≡ count) × Con
 abbrev pub GivesAtMost : Option (List ℕ) → Option (List ℕ) → ℕ → Type 0
 GivesAtMost old new limit = (bytes : List ℕ) × (length bytes ≤ limit) × Consumes old new bytes
 
+-- whether this is refusal 24
 abbrev pub is_read_cause : DocCause → Bool
 is_read_cause ReadFault = true
 is_read_cause _ = false
-
--- whether this is refusal 24
-abbrev pub is_read_fault : {T : Type 0} → Result T DocFault → Bool
-is_read_fault (Ok value) = false
-is_read_fault (Err fault) = is_read_cause fault.cause
 
 abbrev pub IsCauseOfRead : DocCause → Type 0
 IsCauseOfRead TooLarge = Unit {0}
@@ -44,3 +41,18 @@ IsCauseOfRead _ = ⊥
 -- a refusal that a read of a whole document gives: 23, 24 or 26, of no document
 abbrev pub IsReadRefusal : DocFault → Type 0
 IsReadRefusal fault = (fault.document ≡ 0) × IsCauseOfRead fault.cause
+
+-- ---- a whole document
+
+-- these bytes are all that the source had left, they fit the limit, and no read of them failed
+pub record ReadsWhole {S : Type 0} (failed : S → Bool) (remaining : S → Option (List ℕ)) (old new : S) (bytes : List ℕ) : Type 0 where
+  pub all : GivesAll (remaining old) (remaining new) bytes
+  pub fits : length bytes ≤ 67108864
+  pub unfailed : failed new ≡ false
+
+-- the source was not read to its end: the fault says why, with 24 alone the source has failed, and it gave at most one byte past the limit, with 23 just that byte
+pub record IsReadFault {S : Type 0} (failed : S → Bool) (remaining : S → Option (List ℕ)) (old new : S) (fault : DocFault) : Type 0 where
+  pub refused : IsReadRefusal fault
+  pub failing : failed new ≡ is_read_cause fault.cause
+  pub most : GivesAtMost (remaining old) (remaining new) 67108865
+  pub too_large : fault ≡ of_no_document TooLarge → GivesCount (remaining old) (remaining new) 67108865

@@ -5,13 +5,12 @@ use Rattle.cell_core.specs.Maps.{IsMap}
 use Rattle.cata_core.specs.Entries.{Entries, EntryKey, key_cmp}
 use Rattle.cata_core.specs.Sites.{SiteState}
 use Rattle.cata_core.specs.declared.cata_fault.CataFault.TheVariants.{ClockSpent}
-use Rattle.docs_core.specs.Documents.{site_text}
 use Rattle.docs_core.specs.Exported.{label_at}
 use Rattle.docs_core.specs.Faults.{of_no_document, of_site}
 use Rattle.docs_core.specs.LangMapLabels.{AreLangMaps, RefusesLangMaps}
 use Rattle.docs_core.specs.LangMaps.{Labelled}
 use Rattle.docs_core.specs.Made.{Change, Makes, SpendsClock}
-use Rattle.docs_core.specs.ReadsAs.{IsOfDocument, ReadsAsSite, RefusesSite}
+use Rattle.docs_core.specs.ReadsAs.{IsOfDocument, IsSiteText, ReadsAsSite, RefusesSite}
 use Rattle.docs_core.specs.declared.fault.DocFault.{DocFault}
 
 -- the texts of a label, or none where there is no label
@@ -40,7 +39,7 @@ abbrev pub IsUpdated : List ℕ → ℕ → List ℕ → List ℕ → List ℕ �
 IsUpdated bytes now old new doc =
     (site : SiteState) × (before after : List Labelled) × (cells : Entries) × ReadsAsSite bytes site × AreLangMaps old before × AreLangMaps new after
     × Updates now site.name before after site.cells cells
-    × (doc ≡ site_text (record { name = site.name; cells = cells })) × ReadsAsSite doc (record { name = site.name; cells = cells })
+    × IsSiteText (record { name = site.name; cells = cells }) doc
 
 -- the site is refused, then the old language maps, then the new ones, then a change for which there is no next stamp
 abbrev pub RefusesUpdate : List ℕ → ℕ → List ℕ → List ℕ → DocFault → Type 0

@@ -36,8 +36,10 @@ pub fn bundle_document(
     Ok(answer)
 }
 
-// The language maps of what is answered, lent from the catalogue.
-fn write_bundle(
+/// The same of a catalogue that is held in memory: what [`bundle_document`] gives for its document.
+///
+/// Refused when memory runs out alone (26).
+pub fn write_bundle(
     alloc: Global,
     catalogue: &Catalogue,
     list: &PriorityList,

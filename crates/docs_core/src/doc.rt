@@ -1,5 +1,8 @@
 //! The bytes of a document.
 ghost use Rattle.std.specs.Prelude.{◌≡◌, ◌==◌, ℕ, List, length, slice_get, string_bytes};
+ghost use Rattle.std.specs.Cmp.Rules.{comparing};
+ghost use Rattle.std.specs.Str.{bytes_eq};
+ghost use borrow.Author.Rules.{rules};
 
 use std::marker::Model;
 
@@ -46,6 +49,29 @@ impl Doc {
     {
         self.bytes.as_slice()
     }
+
+    /// All bytes, as a list of their own.
+    pub fn into_bytes(self) -> Vec<u8>
+        ensures { result.items ≡ self }
+    {
+        let Doc { bytes } = self;
+        bytes
+    }
+}
+
+/// Documents are equal where their bytes are.
+impl PartialEq for Doc {
+    ghost eq = { bytes_eq };
+
+    ghost laws = { Prim.search (comparing, rules) };
+
+    fn eq(&self, other: &Doc) -> bool {
+        self.bytes() == other.bytes()
+    }
+}
+
+impl Eq for Doc {
+    ghost laws = { Prim.search (comparing, rules) };
 }
 
 impl From<Vec<u8>> for Doc {

@@ -152,7 +152,7 @@ pub fn cell_entry(alloc: Global, place: usize, cell: CellRow<'_, '_>) -> Result<
 }
 
 // A refusal of a field; out of memory has no row.
-fn of_cell(place: usize, fault: CellFault) -> DocCause
+pub(crate) fn of_cell(place: usize, fault: CellFault) -> DocCause
     ensures { result ≡ cell_cause place fault }
 {
     match fault {

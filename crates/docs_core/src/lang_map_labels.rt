@@ -16,7 +16,7 @@ ghost use Rattle.cell_core.specs.MessageIds.{IsMessageId};
 ghost use Rattle.cell_core.specs.declared.fault.CellFault.TheVariants.{IdRefused};
 
 use crate::fault::{DocCause, FieldFault, Spot};
-use crate::fields::language_of;
+use crate::fields::{language_of, of_cell};
 use crate::lang_map_rows::{Keys, Rows, Strings};
 use crate::lang_maps::LangMaps;
 use cell_core::{Key, Label, MessageId};
@@ -155,17 +155,14 @@ fn add_key(
 fn label_of(row: usize, strings: Vec<String>) -> Result<Option<Label>, DocCause>
     ensures { let texts = map string_bytes strings.items in MatchResult result
         (λ label. IsLabelOrNone texts × IsOneLabel texts label)
-        (λ e. IsStringsRefusal row texts e) }
+        (λ e. (e ≡ NoMemory) ⊎ IsStringsRefusal row texts e) }
 {
     if strings.is_empty() {
         return Ok(None);
     }
     match Label::from_texts(strings) {
         Ok(label) => Ok(Some(label)),
-        Err(fault) => Err(DocCause::Field {
-            row,
-            fault: FieldFault::Cell(fault),
-        }),
+        Err(fault) => Err(of_cell(row, fault)),
     }
 }
 

@@ -1,26 +1,33 @@
 //! Laws over the definitions alone, each the contract of a function that does nothing.
-ghost use Rattle.std.specs.Prelude.{◌≡◌, ℕ, Contains, List, IsUtf8, Option};
+ghost use Rattle.std.specs.Prelude.{◌≡◌, ◌≢◌, ◌↔◌, ℕ, Bool, Contains, List, [], IsTrue, IsUtf8, Option};
 ghost use Rattle.std.specs.FinMap.Entries.{find};
 ghost use Rattle.cell_core.specs.Maps.{IsMap};
 ghost use Rattle.cell_core.specs.SiteNames.{IsSiteName};
 ghost use Rattle.nego_core.specs.Item.{Item};
 ghost use Rattle.cata_core.specs.Deltas.{HasAll, Stamps, delta_of};
 ghost use Rattle.cata_core.specs.Entries.{Agree, Entries, EntryKey, joined, key_cmp};
+ghost use Rattle.cata_core.specs.Parts.{part_of};
 ghost use Rattle.cata_core.specs.Sites.{SiteState};
 ghost use Rattle.cata_core.specs.Told.{SummaryState};
 ghost use Rattle.cata_core.specs.declared.delta.Delta.{Delta};
 ghost use Rattle.docs_core.specs.Bundled.{IsBundle};
-ghost use Rattle.docs_core.specs.Calls.{AreSynced, IsTaken};
+ghost use Rattle.docs_core.specs.Calls.{AreSynced, IsNewsFor, IsSummarised, IsTaken};
 ghost use Rattle.docs_core.specs.Documents.{cells_values, delta_text, site_text, summary_text};
 ghost use Rattle.docs_core.specs.Exported.{live_labels};
-ghost use Rattle.docs_core.specs.LangMapLabels.{AreLangMaps};
+ghost use Rattle.docs_core.specs.LangMapLabels.{AreLangMaps, RefusesLangMaps};
 ghost use Rattle.docs_core.specs.LangMaps.{Labelled};
 ghost use Rattle.docs_core.specs.Made.{Change};
-ghost use Rattle.docs_core.specs.ReadsAs.{ReadsAsDelta, ReadsAsSite, ReadsAsSummary};
+ghost use Rattle.docs_core.specs.ReadsAs.{IsSiteText, ReadsAsDelta, ReadsAsSite, ReadsAsSummary, RefusesDelta, RefusesSite, RefusesSummary};
+ghost use Rattle.docs_core.specs.Missing.{missing_labels};
+ghost use Rattle.docs_core.specs.Replays.{Replays};
+ghost use Rattle.docs_core.specs.ScriptReads.{ReadsAsScript, RefusesScript};
+ghost use Rattle.docs_core.specs.Scripts.{ScriptState};
 ghost use Rattle.docs_core.specs.Texts.{text};
 ghost use Rattle.docs_core.specs.Updated.{AreChanges, IsUpdated, Updates};
 ghost use Rattle.docs_core.specs.Valid.{AreKeptCells, AreKeptStamps};
 ghost use Rattle.docs_core.specs.Values.{site_value};
+ghost use Rattle.docs_core.specs.declared.fault.DocCause.{DocCause};
+ghost use Rattle.docs_core.specs.declared.fault.DocCause.TheVariants.{NoMemory};
 
 /// The text that is written for a site reads as that site.
 pub fn written_site_reads()
@@ -52,13 +59,49 @@ pub fn one_summary()
     ensures { (bytes : List ℕ) (s t : SummaryState) → ReadsAsSummary bytes s → ReadsAsSummary bytes t → s ≡ t }
 {}
 
+/// A text reads as one script at most.
+pub fn one_script()
+    ensures { (bytes : List ℕ) (s t : ScriptState) → ReadsAsScript bytes s → ReadsAsScript bytes t → s ≡ t }
+{}
+
+/// A text is replayed as one text at most.
+pub fn one_replay()
+    ensures { (bytes x y : List ℕ) → Replays bytes x → Replays bytes y → x ≡ y }
+{}
+
+/// No text is both read and refused, want of memory apart.
+pub fn a_read_text_is_not_refused()
+    ensures site { (bytes : List ℕ) (site : SiteState) (cause : DocCause) → cause ≢ NoMemory → ReadsAsSite bytes site → ¬ RefusesSite bytes cause }
+    ensures delta { (bytes : List ℕ) (delta : Delta) (cause : DocCause) → cause ≢ NoMemory → ReadsAsDelta bytes delta → ¬ RefusesDelta bytes cause }
+    ensures summary { (bytes : List ℕ) (summary : SummaryState) (cause : DocCause) → cause ≢ NoMemory → ReadsAsSummary bytes summary → ¬ RefusesSummary bytes cause }
+    ensures script { (bytes : List ℕ) (script : ScriptState) (cause : DocCause) → cause ≢ NoMemory → ReadsAsScript bytes script → ¬ RefusesScript bytes cause }
+    ensures labels { (bytes : List ℕ) (labels : List Labelled) (cause : DocCause) → cause ≢ NoMemory → AreLangMaps bytes labels → ¬ RefusesLangMaps bytes cause }
+{}
+
+/// A text that is refused is refused for one cause, want of memory apart.
+pub fn one_refusal()
+    ensures site { (bytes : List ℕ) (a b : DocCause) → a ≢ NoMemory → b ≢ NoMemory → RefusesSite bytes a → RefusesSite bytes b → a ≡ b }
+    ensures delta { (bytes : List ℕ) (a b : DocCause) → a ≢ NoMemory → b ≢ NoMemory → RefusesDelta bytes a → RefusesDelta bytes b → a ≡ b }
+    ensures summary { (bytes : List ℕ) (a b : DocCause) → a ≢ NoMemory → b ≢ NoMemory → RefusesSummary bytes a → RefusesSummary bytes b → a ≡ b }
+    ensures script { (bytes : List ℕ) (a b : DocCause) → a ≢ NoMemory → b ≢ NoMemory → RefusesScript bytes a → RefusesScript bytes b → a ≡ b }
+    ensures labels { (bytes : List ℕ) (a b : DocCause) → a ≢ NoMemory → b ≢ NoMemory → RefusesLangMaps bytes a → RefusesLangMaps bytes b → a ≡ b }
+{}
+
 /// A delta suffices: made against a summary that the site has in full, by a sender that agrees with
 /// it, it leaves the document of the site with all cells of the sender.
 pub fn a_delta_document_suffices()
     ensures { (a b text : List ℕ) (site : SiteState) (sender : Entries) (told : Stamps)
         → ReadsAsSite a site → ReadsAsDelta b (record { addressee = site.name; cells = delta_of sender told })
         → Agree site.cells sender → HasAll site.cells told → IsTaken a b text
-        → text ≡ site_text (record { name = site.name; cells = joined site.cells sender }) }
+        → IsSiteText (record { name = site.name; cells = joined site.cells sender }) text }
+{}
+
+/// An exchange by documents is a join: a site that takes the delta which another made for its
+/// summary has the document of the cells of both.
+pub fn an_exchange_is_a_join()
+    ensures { (a b told delta taken : List ℕ) (site other : SiteState) → ReadsAsSite a site → ReadsAsSite b other → Agree site.cells other.cells
+        → IsSummarised a told → IsNewsFor b told delta → IsTaken a delta taken
+        → IsSiteText (record { name = site.name; cells = joined site.cells other.cells }) taken }
 {}
 
 /// Synced documents have equal `cells`: those of both sites.
@@ -108,4 +151,23 @@ pub fn an_update_twice_is_one()
 pub fn a_bundle_is_of_the_live_labels()
     ensures { (cells : Entries) (items : List Item) (default : Option (List ℕ)) (labels : List Labelled) (e : Labelled)
         → IsBundle cells items default labels → Contains labels e → Contains (live_labels cells) e }
+{}
+
+/// A site has one bundle for a list and a default.
+pub fn one_bundle()
+    ensures { (cells : Entries) (items : List Item) (default : Option (List ℕ)) (a b : List Labelled)
+        → IsBundle cells items default a → IsBundle cells items default b → a ≡ b }
+{}
+
+// ---- sites in parts, each with the cells of some of the messages
+
+/// What is exported of a part, what it misses and its bundle are the part of what the whole gives.
+/// Where each message is in some part, the whole gives nothing just where no part gives anything.
+pub fn a_part_gives_its_part()
+    ensures export { (messages : List ℕ → Bool) (cells : Entries) → live_labels (part_of messages cells) ≡ part_of messages (live_labels cells) }
+    ensures missing { (messages : List ℕ → Bool) (lang : List ℕ) (cells : Entries) → missing_labels lang (part_of messages cells) ≡ part_of messages (missing_labels lang cells) }
+    ensures bundle { (messages : List ℕ → Bool) (cells : Entries) (items : List Item) (default : Option (List ℕ)) (labels : List Labelled)
+        → IsBundle cells items default labels → IsBundle (part_of messages cells) items default (part_of messages labels) }
+    ensures nothing { (parts : ℕ → List ℕ → Bool) → ((id : List ℕ) → (k : ℕ) × IsTrue (parts k id)) → (labels : List Labelled)
+        → (labels ≡ []) ↔ ((k : ℕ) → part_of (parts k) labels ≡ []) }
 {}

@@ -6,6 +6,8 @@
 //!   [`bundle_document`], [`missing_document`], [`sync_documents`], [`summary_document`],
 //!   [`delta_document`], [`take_document`], [`ask_document`] and [`status_document`] treat whole
 //!   documents, from bytes to bytes.
+//! - [`filter_lines`], [`reply_line`], [`status_line`] and [`write_bundle`] write what a site that is
+//!   held in memory answers, without its document.
 //! - [`replay`] runs the script of a [`Source`] and writes the lines of its answers to a [`Sink`];
 //!   [`read_all`] and [`write_out`] are its two ends. [`Input`] and [`Output`] make a source and a
 //!   sink of `std`'s `Read` and `Write`.
@@ -63,7 +65,7 @@ mod updating;
 mod writing;
 
 pub use asking::{Ask, ask_document};
-pub use bundling::bundle_document;
+pub use bundling::{bundle_document, write_bundle};
 pub use calls::{
     delta_document, edit_document, status_document, summary_document, sync_documents, take_document,
 };
@@ -74,11 +76,12 @@ pub use fault::{DocCause, DocFault, FieldFault, Spot};
 pub use lang_maps::LangMaps;
 pub use lang_maps_reading::read_langmaps;
 pub use lang_maps_writing::write_langmaps;
-pub use lines::answer_lines;
+pub use lines::{answer_lines, filter_lines, reply_line};
 pub use reading::{read_delta, read_site, read_summary};
 pub use replaying::replay;
 pub use script::Script;
 pub use script_document::read_script;
 pub use sinks::{Output, Sink, write_out};
 pub use sources::{Input, MOST_BYTES, Source, read_all};
+pub use status::status_line;
 pub use updating::update_document;

@@ -34,7 +34,8 @@ pub fn answer_lines(alloc: Global, answers: &Answers) -> Result<Doc, AllocError>
     Ok(written.into_doc())
 }
 
-/// The lines of a filter's answer, lent by the catalogue.
+/// The lines of a filter's answer, lent by the catalogue: `filter N`, then its entries in their
+/// order, as [`answer_lines`] writes them.
 pub fn filter_lines(alloc: Global, entries: &LentEntries<'_>) -> Result<Doc, AllocError>
     ensures { IfOk result (λ doc. doc ≡ filter_lines entries.now) }
 {
@@ -42,7 +43,7 @@ pub fn filter_lines(alloc: Global, entries: &LentEntries<'_>) -> Result<Doc, All
     Ok(written.into_doc())
 }
 
-/// The line of a lookup's answer, lent by the catalogue.
+/// The line of a lookup's answer, lent by the catalogue, as [`answer_lines`] writes it.
 pub fn reply_line(alloc: Global, reply: &LentReply<'_>) -> Result<Doc, AllocError>
     ensures { IfOk result (λ doc. doc ≡ reply_line (reply_of reply.now)) }
 {

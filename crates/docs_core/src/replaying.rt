@@ -1,13 +1,13 @@
 //! Scripts from a reader to a writer.
-ghost use Rattle.std.specs.Prelude.{◌≡◌, ◌≤◌, ◌+◌, ◌⊎◌, ℕ, List, true, false, length, IfErr, IfOk, MatchResult, OnOk};
+ghost use Rattle.std.specs.Prelude.{◌≡◌, ◌⊎◌, ℕ, List, true, false, IfErr, MatchResult, OnOk};
 ghost use Rattle.std.specs.Io.KnownBytes.{Appends};
 ghost use Rattle.docs_core.specs.Faults.{of_no_document};
 ghost use Rattle.docs_core.specs.Lines.{lines};
-ghost use Rattle.docs_core.specs.Replays.{IsPlayed, IsReadFault, RefusesReplay, RefusesRun, Replays};
+ghost use Rattle.docs_core.specs.Replays.{IsPlayed, RefusesReplay, RefusesRun, Replays};
 ghost use Rattle.docs_core.specs.ReadsAs.{IsOfDocument};
 ghost use Rattle.docs_core.specs.ScriptReads.{ReadsAsScript, RefusesScript};
 ghost use Rattle.docs_core.specs.Sinks.{AppendsFront};
-ghost use Rattle.docs_core.specs.Sources.{GivesAll, GivesAtMost};
+ghost use Rattle.docs_core.specs.Sources.{IsReadFault, ReadsWhole};
 ghost use Rattle.docs_core.specs.declared.fault.DocCause.TheVariants.{WriteFault};
 
 use crate::doc::Doc;
@@ -16,7 +16,7 @@ use crate::lines::answer_lines;
 use crate::script::Script;
 use crate::script_document::read_script;
 use crate::sinks::{Sink, write_out};
-use crate::sources::{MOST_BYTES, Source, read_all};
+use crate::sources::{Source, read_all};
 use cata_core::{Answers, PlayFault, play};
 use std::alloc::Global;
 
@@ -33,24 +33,14 @@ pub fn replay<R: Source, W: Sink>(
 ) -> Result<(), DocFault>
     requires reads { R.failed reader.old ≡ false }
     requires writes { W.failed writer.old ≡ false }
-    ensures ok { OnOk result ((bytes text : List ℕ) × GivesAll (R.remaining reader.old) (R.remaining reader.new) bytes × Replays bytes text
-        × Appends (W.contents writer.old) (W.contents writer.new) text × (W.failed writer.new ≡ false) × (R.failed reader.new ≡ false)) }
+    ensures ok { OnOk result ((bytes text : List ℕ) × ReadsWhole R.failed R.remaining reader.old reader.new bytes × Replays bytes text
+        × Appends (W.contents writer.old) (W.contents writer.new) text × (W.failed writer.new ≡ false)) }
     // Of the first stage that refuses: reading, the script with its run and its lines, or writing.
     ensures err { IfErr result (λ fault.
         (IsReadFault R.failed R.remaining reader.old reader.new fault × (writer.new ≡ writer.old))
-        ⊎ ((bytes : List ℕ) × GivesAll (R.remaining reader.old) (R.remaining reader.new) bytes × (R.failed reader.new ≡ false) × RefusesReplay bytes fault × (writer.new ≡ writer.old))
-        ⊎ ((bytes text : List ℕ) × GivesAll (R.remaining reader.old) (R.remaining reader.new) bytes × (R.failed reader.new ≡ false) × Replays bytes text
+        ⊎ ((bytes : List ℕ) × ReadsWhole R.failed R.remaining reader.old reader.new bytes × RefusesReplay bytes fault × (writer.new ≡ writer.old))
+        ⊎ ((bytes text : List ℕ) × ReadsWhole R.failed R.remaining reader.old reader.new bytes × Replays bytes text
         × (fault ≡ of_no_document WriteFault) × (W.failed writer.new ≡ true) × AppendsFront (W.contents writer.old) (W.contents writer.new) text)) }
-
-    // What is replayed fits the limit, and so does what is refused once it is read.
-    ensures fits { OnOk result ((bytes text : List ℕ) × (length bytes ≤ MOST_BYTES) × GivesAll (R.remaining reader.old) (R.remaining reader.new) bytes × Replays bytes text
-        × Appends (W.contents writer.old) (W.contents writer.new) text) }
-    ensures refused_fits { IfErr result (λ fault.
-        IsReadFault R.failed R.remaining reader.old reader.new fault
-        ⊎ GivesAtMost (R.remaining reader.old) (R.remaining reader.new) MOST_BYTES) }
-
-    // At any end the source gave at most one byte past the limit.
-    ensures most { GivesAtMost (R.remaining reader.old) (R.remaining reader.new) (MOST_BYTES + 1) }
 {
     let lines = read_and_play(alloc, reader)?;
     write_out(writer, lines.bytes())
@@ -59,15 +49,10 @@ pub fn replay<R: Source, W: Sink>(
 // The lines of the script that the source gives.
 fn read_and_play<R: Source>(alloc: Global, reader: &mut R) -> Result<Doc, DocFault>
     requires { R.failed reader.old ≡ false }
-    ensures played { MatchResult result
-        (λ text. (bytes : List ℕ) × GivesAll (R.remaining reader.old) (R.remaining reader.new) bytes × (R.failed reader.new ≡ false) × Replays bytes text)
+    ensures { MatchResult result
+        (λ text. (bytes : List ℕ) × ReadsWhole R.failed R.remaining reader.old reader.new bytes × Replays bytes text)
         (λ fault. IsReadFault R.failed R.remaining reader.old reader.new fault
-        ⊎ ((bytes : List ℕ) × GivesAll (R.remaining reader.old) (R.remaining reader.new) bytes × (R.failed reader.new ≡ false) × RefusesReplay bytes fault)) }
-    ensures fits { IfOk result (λ text. (bytes : List ℕ) × (length bytes ≤ MOST_BYTES) × GivesAll (R.remaining reader.old) (R.remaining reader.new) bytes × Replays bytes text) }
-    ensures refused_fits { IfErr result (λ fault.
-        IsReadFault R.failed R.remaining reader.old reader.new fault
-        ⊎ GivesAtMost (R.remaining reader.old) (R.remaining reader.new) MOST_BYTES) }
-    ensures most { GivesAtMost (R.remaining reader.old) (R.remaining reader.new) (MOST_BYTES + 1) }
+        ⊎ ((bytes : List ℕ) × ReadsWhole R.failed R.remaining reader.old reader.new bytes × RefusesReplay bytes fault)) }
 {
     let bytes = read_all(alloc, reader)?;
     played(alloc, bytes)

@@ -47,6 +47,13 @@ impl<W: Write> Output<W> {
             failed: false,
         }
     }
+
+    /// The writer, with what was written to it.
+    pub fn into_inner(self) -> W
+        ensures { result ≡ writer_of self }
+    {
+        self.writer
+    }
 }
 
 impl<W: Write> Sink for Output<W> {

@@ -1,10 +1,8 @@
 //! Sources of bytes, and a whole document from one.
-ghost use Rattle.std.specs.Prelude.{◌≡◌, ◌||◌, ◌<◌, ◌≤◌, ◌+◌, ℕ, List, Bool, Option, false, length, take, drop, vec_len, is_err, Err, IfOk, IfErr, OnOk};
+ghost use Rattle.std.specs.Prelude.{◌≡◌, ◌||◌, ◌<◌, ◌≤◌, ◌+◌, ℕ, List, Bool, Option, false, take, drop, vec_len, is_err, IfOk, MatchResult, OnOk};
 ghost use Rattle.std.specs.Io.{ReadsAtMost};
 ghost use Rattle.std.specs.Io.KnownBytes.{ReadConsumes};
-ghost use Rattle.docs_core.specs.Faults.{of_no_document};
-ghost use Rattle.docs_core.specs.Sources.{GivesAll, GivesAtMost, GivesCount, IsReadRefusal, has_failed, is_read_fault, reader_of};
-ghost use Rattle.docs_core.specs.declared.fault.DocCause.TheVariants.{TooLarge};
+ghost use Rattle.docs_core.specs.Sources.{IsReadFault, ReadsWhole, has_failed, reader_of};
 
 use crate::doc::Doc;
 use crate::fault::{DocCause, DocFault};
@@ -55,6 +53,13 @@ impl<R: Read> Input<R> {
             failed: false,
         }
     }
+
+    /// The reader, from where it was read to.
+    pub fn into_inner(self) -> R
+        ensures { result ≡ reader_of self }
+    {
+        self.reader
+    }
 }
 
 impl<R: Read> Source for Input<R> {
@@ -78,22 +83,11 @@ impl<R: Read> Source for Input<R> {
 /// All bytes of a source that did not fail yet, up to its end.
 ///
 /// Refusals, as they come: 23 where the source gave more than [`MOST_BYTES`] bytes, 24 where a read
-/// gave an error, 26 where memory is refused. The source is never asked for more than what is left
-/// of `MOST_BYTES + 1`.
+/// gave an error, 26 where memory is refused. The source has failed with 24 and with no other
+/// answer, and it is never asked for more than what is left of `MOST_BYTES + 1`.
 pub fn read_all<S: Source>(alloc: Global, reader: &mut S) -> Result<Doc, DocFault>
     requires { S.failed reader.old ≡ false }
-    ensures ok { IfOk result (λ doc. GivesAll (S.remaining reader.old) (S.remaining reader.new) doc) }
-    ensures fits { IfOk result (λ doc. length doc ≤ MOST_BYTES) }
-
-    // At any end the source gave at most one byte past the limit, and with 23 just that byte past
-    // it.
-    ensures most { GivesAtMost (S.remaining reader.old) (S.remaining reader.new) (MOST_BYTES + 1) }
-    ensures too_large { result ≡ Err (of_no_document TooLarge)
-        → GivesCount (S.remaining reader.old) (S.remaining reader.new) (MOST_BYTES + 1) }
-
-    // With 24 the source has failed, and with no other answer.
-    ensures failed { S.failed reader.new ≡ is_read_fault result }
-    ensures refused { IfErr result IsReadRefusal }
+    ensures { MatchResult result (ReadsWhole S.failed S.remaining reader.old reader.new) (IsReadFault S.failed S.remaining reader.old reader.new) }
 {
     let mut buffer = Vec::new(alloc);
     let mut filled = 0;

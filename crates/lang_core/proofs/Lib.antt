@@ -2,6 +2,7 @@ pub mod Basics
 pub mod Classes
 pub mod Stars
 pub mod CaseLaws
+pub mod ClassSums
 pub mod SubtagLaws
 pub mod PiecesLaws
 pub mod StageSound

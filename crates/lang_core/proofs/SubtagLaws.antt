@@ -2,12 +2,12 @@
 use Rattle.std.proofs.Common.{ℕ, ◌≡◌, ◌≤◌, ◌<◌, List, [], ◌∷◌, Bool, true, false, length, refl, sym, ◌∙◌, ap, arith}
 use Rattle.std.specs.Prelude.{nat_le, ◌&&◌, zero, suc}
 use Rattle.std.specs.List.{list_all}
-use Rattle.std.specs.Char.{to_ascii_lowercase, is_ascii_alphabetic, is_ascii_alphanumeric}
+use Rattle.std.specs.Char.{to_ascii_lowercase, is_ascii_alphanumeric}
 use Rattle.std.specs.Str.{str_to_ascii_lowercase}
 use Rattle.std.proofs.lemmas.List.{length-map}
 use Rattle.lang_core.specs.Grammar.{is_run, is_letter, is_digit, is_alphanum, is_private_piece, basic_piece}
 use Rattle.lang_core.proofs.Basics.{both, each_true, is_false, is_le, or_left}
-use Rattle.lang_core.proofs.CaseLaws.{letters-lower, alphanums-lower}
+use Rattle.lang_core.proofs.CaseLaws.{alphanums-lower}
 use Rattle.lang_core.proofs.Classes.{run_of}
 
 -- ---- a kept test answers for the whole subtag
@@ -54,12 +54,6 @@ no_alphanum s n = is_false _ (λ h. let all = (run_of is_alphanum 1 8 (str_to_as
 all_of : (kind : ℕ → Bool) (s : List ℕ) → ((b : ℕ) → kind b ≡ true → is_alphanum b ≡ true) → list_all kind s ≡ true → list_all is_alphanum s ≡ true
 all_of kind [] some h = refl
 all_of kind (b ∷ s) some h = let parts = each_true (kind b) (list_all kind s) h in both _ _ (some b parts.0) (all_of kind s some parts.1)
-
-pub letters_read : (s : List ℕ) → 0 < length s → length s ≤ 8 → list_all is_ascii_alphabetic s ≡ true → is_private_piece (str_to_ascii_lowercase s) ≡ true
-unfolding is_private_piece
-letters_read s some few h =
-    let size : length (str_to_ascii_lowercase s) ≡ length s = length-map s to_ascii_lowercase in
-    sized is_alphanum (str_to_ascii_lowercase s) (omega arith) (omega arith) (all_of is_letter (str_to_ascii_lowercase s) (λ b x. or_left (is_letter b) (is_digit b) x) (sym (letters-lower s) ∙ h))
 
 pub alphanums_read : (s : List ℕ) → 0 < length s → length s ≤ 8 → list_all is_ascii_alphanumeric s ≡ true → is_private_piece (str_to_ascii_lowercase s) ≡ true
 unfolding is_private_piece

@@ -1,5 +1,6 @@
 pub mod Text
 pub mod Grammar
+pub mod Subtag
 pub mod Pieces
 pub mod Stage
 pub mod Fault

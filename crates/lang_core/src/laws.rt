@@ -15,7 +15,7 @@ pub fn greedy_pairs_all()
 {}
 
 /// The test for basic matching is the relation (RFC 4647 section 3.3.1).
-pub fn basic_is_front()
+pub fn basic_test_is_basic()
     ensures { (range tag : List (List ℕ)) → IsTrue (is_basic_match range tag) ↔ Basic range tag }
 {}
 

@@ -39,7 +39,6 @@ mod truncations;
 
 pub use fault::LangFault;
 pub use lang::Lang;
-pub use pieces::Pieces;
 pub use range::Range;
 pub use subtags::Subtags;
 pub use tag::Tag;

@@ -9,7 +9,7 @@ pub(crate) const HYPHEN: u8 = b'-';
 /// The pieces of a text between its separators, in order. A text with n separators has n + 1
 /// pieces, and some of them may be empty.
 #[derive(Clone, Debug, Drop)]
-pub struct Pieces<'a> {
+pub(crate) struct Pieces<'a> {
     separator: u8,
     rest: Option<&'a [u8]>,
 }
@@ -18,7 +18,7 @@ impl<'a> Pieces<'a> {
     ghost use Rattle.lang_core.specs.Pieces.{pieces_left};
 
     /// The pieces of any bytes between the bytes that are the separator.
-    pub fn new(text: &'a [u8], separator: u8) -> Pieces<'a>
+    pub(crate) fn new(text: &'a [u8], separator: u8) -> Pieces<'a>
         ensures { pieces_left result ≡ pieces_by separator text.now }
     {
         Pieces {

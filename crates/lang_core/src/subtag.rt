@@ -1,11 +1,35 @@
 //! Subtags, and which kinds of the grammar each of them is (RFC 5646 section 2.1).
-ghost use Rattle.std.specs.Prelude.{◌≡◌, IsTrue, MatchOption, take, ◌&&◌, nat_le, length, false};
-ghost use Rattle.std.specs.List.{list_all, list_any};
-ghost use Rattle.std.specs.Char.{is_ascii_alphabetic, is_ascii_digit, is_ascii_alphanumeric};
+ghost use Rattle.std.specs.Prelude.{◌≡◌, ◌≤◌, IsTrue, MatchOption, take, ◌&&◌, nat_le, length, sum_by, false};
+ghost use Rattle.std.specs.List.{list_any};
 ghost use Rattle.std.specs.Str.{str_to_ascii_lowercase};
 ghost use Rattle.lang_core.specs.Grammar.{is_letter, is_digit, is_alphanum, is_run, is_short_language, is_long_language, is_extlang, is_script, is_region, is_variant, is_x, is_singleton, is_extension_piece, is_private_piece};
+ghost use Rattle.lang_core.specs.Subtag.{class_of};
 
 use std::marker::Model;
+
+/// What each byte adds to the sum of a text: a letter 0, a digit 1, any other byte 16.
+#[rattlefmt::skip]
+static CLASSES: [u8; 256] = [
+    16, 16, 16, 16, 16, 16, 16, 16, 16, 16, 16, 16, 16, 16, 16, 16,
+    16, 16, 16, 16, 16, 16, 16, 16, 16, 16, 16, 16, 16, 16, 16, 16,
+    16, 16, 16, 16, 16, 16, 16, 16, 16, 16, 16, 16, 16, 16, 16, 16,
+    1, 1, 1, 1, 1, 1, 1, 1, 1, 1, 16, 16, 16, 16, 16, 16,
+    16, 0, 0, 0, 0, 0, 0, 0, 0, 0, 0, 0, 0, 0, 0, 0,
+    0, 0, 0, 0, 0, 0, 0, 0, 0, 0, 0, 16, 16, 16, 16, 16,
+    16, 0, 0, 0, 0, 0, 0, 0, 0, 0, 0, 0, 0, 0, 0, 0,
+    0, 0, 0, 0, 0, 0, 0, 0, 0, 0, 0, 16, 16, 16, 16, 16,
+    16, 16, 16, 16, 16, 16, 16, 16, 16, 16, 16, 16, 16, 16, 16, 16,
+    16, 16, 16, 16, 16, 16, 16, 16, 16, 16, 16, 16, 16, 16, 16, 16,
+    16, 16, 16, 16, 16, 16, 16, 16, 16, 16, 16, 16, 16, 16, 16, 16,
+    16, 16, 16, 16, 16, 16, 16, 16, 16, 16, 16, 16, 16, 16, 16, 16,
+    16, 16, 16, 16, 16, 16, 16, 16, 16, 16, 16, 16, 16, 16, 16, 16,
+    16, 16, 16, 16, 16, 16, 16, 16, 16, 16, 16, 16, 16, 16, 16, 16,
+    16, 16, 16, 16, 16, 16, 16, 16, 16, 16, 16, 16, 16, 16, 16, 16,
+    16, 16, 16, 16, 16, 16, 16, 16, 16, 16, 16, 16, 16, 16, 16, 16,
+];
+
+/// The least sum of a text that has another byte than letters and digits.
+const OTHER: u8 = 16;
 
 /// A subtag of 1 to 8 letters or digits in any case. Contracts see it in lower case.
 #[derive(Drop)]
@@ -40,14 +64,14 @@ impl<'a> Subtag<'a> {
         if text.is_empty() || text.len() > 8 {
             return None;
         }
-        let has_letters_only = all_letters(text);
-        if !has_letters_only && !all_alphanums(text) {
+        let sum = class_sum(text);
+        if sum >= OTHER {
             return None;
         }
         Some(Subtag {
             text,
-            has_letters_only,
-            has_digits_only: all_digits(text),
+            has_letters_only: sum == 0,
+            has_digits_only: usize::from(sum) == text.len(),
         })
     }
 
@@ -167,20 +191,21 @@ impl<'a> Subtag<'a> {
     }
 }
 
-fn all_letters(text: &[u8]) -> bool
-    ensures { result ≡ list_all is_ascii_alphabetic text.now }
+fn class_of(byte: u8) -> u8
+    ensures class { result ≡ class_of byte }
+    ensures small { result ≤ 16 }
 {
-    text.iter().all(|b| b.is_ascii_alphabetic())
+    CLASSES[usize::from(byte)]
 }
 
-fn all_digits(text: &[u8]) -> bool
-    ensures { result ≡ list_all is_ascii_digit text.now }
+/// The sum of what the bytes add: of letters and digits alone it is the number of digits.
+fn class_sum(text: &[u8]) -> u8
+    requires { length text.now ≤ 8 }
+    ensures { result ≡ sum_by class_of text.now }
 {
-    text.iter().all(|b| b.is_ascii_digit())
-}
-
-fn all_alphanums(text: &[u8]) -> bool
-    ensures { result ≡ list_all is_ascii_alphanumeric text.now }
-{
-    text.iter().all(|b| b.is_ascii_alphanumeric())
+    let mut sum = 0;
+    for byte in text {
+        sum += class_of(*byte);
+    }
+    sum
 }

@@ -76,11 +76,11 @@ fn lower_short(bytes: &[u8]) -> ArrayString<MAX_SHORT_LEN>
     ensures { result.bytes ≡ str_to_ascii_lowercase bytes.now }
 {
     let mut buffer = [0; MAX_SHORT_LEN];
-    let lower = &mut buffer[..bytes.len()];
-    lower.copy_from_slice(bytes);
-    lower.make_ascii_lowercase();
+    buffer[..bytes.len()].copy_from_slice(bytes);
+    // All of it at once, as its length is known.
+    buffer.make_ascii_lowercase();
     let mut short = ArrayString::new();
-    match str::from_utf8(lower) {
+    match str::from_utf8(&buffer[..bytes.len()]) {
         Ok(text) => short.push_str(text),
         Err(_) => unreachable!(),
     }

@@ -3,9 +3,9 @@ use Rattle.std.proofs.Common.{◌≡◌, ◌∙◌, ℕ, List, Bool, true, false
 use Rattle.std.specs.Prelude.{◌⊎◌, MatchOption, MatchResult}
 use Rattle.std.specs.Io.KnownBytes.{Appends}
 use Rattle.docs_core.specs.Faults as doc
-use Rattle.docs_core.specs.Replays.{IsReadFault, RefusesReplay, Replays}
+use Rattle.docs_core.specs.Replays.{RefusesReplay, Replays}
 use Rattle.docs_core.specs.Sinks.{AppendsFront}
-use Rattle.docs_core.specs.Sources.{GivesAll}
+use Rattle.docs_core.specs.Sources.{IsReadFault, ReadsWhole}
 use Rattle.docs_core.specs.declared.fault.DocCause.TheVariants.{WriteFault}
 use Rattle.docs_core.specs.declared.fault.DocFault.{DocFault}
 use Rattle.lexicat.specs.Acts.{IsReplay}
@@ -22,29 +22,29 @@ module _ {R W : Type 0} (remaining : R → Option (List ℕ)) (broken : R → Bo
   -- the answer is written, or nothing
   pub treated : (fits : Type 0) (bars : Refusal → Type 0) (answers : List ℕ → List ℕ → ℕ → Type 0) (refuses : List ℕ → DocFault → Type 0) (r r' : R) (w w' : W) (status : ℕ)
       (answered : Result Answer Refusal)
-      → MatchResult answered (λ a. AnswersInput remaining answers r r' a.text a.status) (RefusesInput remaining broken fits bars refuses r r')
+      → MatchResult answered (λ a. AnswersInput remaining broken answers r r' a.text a.status) (RefusesInput remaining broken fits bars refuses r r')
       → MatchResult answered (λ a. Writes contents failed a.text a.status w w' status) (λ e. Ends contents failed (status_of (number_of e)) w w' status)
       → Treats remaining broken contents failed fits bars answers refuses r r' w w' status
   treated fits bars answers refuses r r' w w' status (Ok a) h e = inl (a.text, a.status, h, e)
   treated fits bars answers refuses r r' w w' status (Err f) h e = inr (f, h, e)
 
   -- `replay` wrote its lines
-  pub replayed : (bytes text : List ℕ) (r r' : R) (w w' : W) → GivesAll (remaining r) (remaining r') bytes → Replays bytes text → Appends (contents w) (contents w') text → failed w' ≡ false
+  pub replayed : (bytes text : List ℕ) (r r' : R) (w w' : W) → ReadsWhole broken remaining r r' bytes → Replays bytes text → Appends (contents w) (contents w') text → failed w' ≡ false
       → Treats remaining broken contents failed NoWords BarsNone IsReplay RefusesReplay r r' w w' 0
-  replayed bytes text r r' w w' gives replays appends fine = inl (text, 0, (bytes, gives, (replays, refl)), inl (refl, appends, fine))
+  replayed bytes text r r' w w' whole replays appends fine = inl (text, 0, (bytes, whole, (replays, refl)), inl (refl, appends, fine))
 
   -- or it was refused: in reading, by the script, or in writing
   pub not_replayed : (fault : DocFault) (r r' : R) (w w' : W) (status : ℕ) → status ≡ status_of (doc.number_of fault.cause)
       → ((IsReadFault broken remaining r r' fault × (w' ≡ w))
-      ⊎ ((bytes : List ℕ) × GivesAll (remaining r) (remaining r') bytes × (broken r' ≡ false) × RefusesReplay bytes fault × (w' ≡ w))
-      ⊎ ((bytes text : List ℕ) × GivesAll (remaining r) (remaining r') bytes × (broken r' ≡ false) × Replays bytes text
+      ⊎ ((bytes : List ℕ) × ReadsWhole broken remaining r r' bytes × RefusesReplay bytes fault × (w' ≡ w))
+      ⊎ ((bytes text : List ℕ) × ReadsWhole broken remaining r r' bytes × Replays bytes text
       × (fault ≡ doc.of_no_document WriteFault) × (failed w' ≡ true) × AppendsFront (contents w) (contents w') text))
       → Treats remaining broken contents failed NoWords BarsNone IsReplay RefusesReplay r r' w w' status
   not_replayed fault r r' w w' status is (inl h) = inr (Document fault, (tt, inl h.0), (is, h.1))
-  not_replayed fault r r' w w' status is (inr (inl h)) = inr (Document fault, (tt, inr (h.0, h.1, h.3)), (is, h.4))
+  not_replayed fault r r' w w' status is (inr (inl h)) = inr (Document fault, (tt, inr (h.0, h.1, h.2)), (is, h.3))
   not_replayed fault r r' w w' status is (inr (inr h)) =
-      let four : status ≡ 4 = is ∙ ap (λ (f : DocFault). status_of (doc.number_of f.cause)) h.5 in
-      inl (h.1, 0, (h.0, h.2, (h.4, refl)), inr (four, h.7, h.6))
+      let four : status ≡ 4 = is ∙ ap (λ (f : DocFault). status_of (doc.number_of f.cause)) h.4 in
+      inl (h.1, 0, (h.0, h.2, (h.3, refl)), inr (four, h.6, h.5))
 
 -- what is done with the words that the rows give
 pub with_words : {T X : Type 0} (gives : X → Type 0) (words_of : X → Option T) (none : Type 0) (some : T → Type 0) (words : T)

@@ -1,6 +1,8 @@
 -- What each command does (own rules). The answers and refusals of documents are those of the document calls.
 use Rattle.std.specs.Prelude.{◌≡◌, ◌⊎◌, ◌++◌, ℕ, Bool, List, [], Option, None, Some, codes, if◌then◌else◌, MatchOption}
 use Rattle.clap.specs.Words.{Row, Text, first_of}
+use Rattle.cata_core.specs.Entries.{Entries}
+use Rattle.cata_core.specs.Sites.{SiteState}
 use Rattle.cell_core.specs.Labels.{IsLabel}
 use Rattle.cell_core.specs.MessageIds.{IsMessageId}
 use Rattle.cell_core.specs.Refusals.{RefusesId, RefusesName}
@@ -8,9 +10,7 @@ use Rattle.cell_core.specs.SiteNames.{IsSiteName}
 use Rattle.docs_core.specs.Faults as doc
 use Rattle.docs_core.specs.Calls as call
 use Rattle.docs_core.specs.Documents.{site_text}
-use Rattle.docs_core.specs.ReadsAs.{IsOfDocument, RefusesSite}
-use Rattle.docs_core.specs.Asks.{IsAsked}
-use Rattle.docs_core.specs.Bundled.{IsBundled}
+use Rattle.docs_core.specs.ReadsAs.{IsOfDocument, ReadsAsSite, RefusesSite}
 use Rattle.docs_core.specs.Exchange as exchange
 use Rattle.docs_core.specs.Fields.{IsSpelled}
 use Rattle.docs_core.specs.Missing as missing
@@ -18,20 +18,20 @@ use Rattle.docs_core.specs.Replays.{RefusesReplay, Replays}
 use Rattle.docs_core.specs.Updated as updated
 use Rattle.docs_core.specs.declared.fault.DocCause.TheVariants.{NoMemory}
 use Rattle.docs_core.specs.declared.fault.DocFault.{DocFault}
-use Rattle.docs_core.specs.declared.asking.Ask.TheVariants as ask
 use Rattle.lang_core.specs.Lang.{RefusesLang, SpellsLang}
-use Rattle.nego_core.specs.Item.{Item}
+use Rattle.front_core.specs.Asks.{AreBundleMaps, HasFilter, HasLookup, IsFilterLines, IsLookupLine, RefusesFilter, RefusesLookup, is_found}
+use Rattle.front_core.specs.Preferring.{HasPreferences, RefusesPreferences}
+use Rattle.front_core.specs.declared.answer.Answer.{Answer}
 use Rattle.lexicat.specs.AskWords.{BundleWords, FilterWords, LookupWords, bundle_words, filter_words, lookup_words}
 use Rattle.lexicat.specs.EditWords.{DeleteWords, PutWords, delete_words, put_words}
 use Rattle.lexicat.specs.Endings.{Ends, Writes}
 use Rattle.lexicat.specs.Given.{GivesNow, verb_met}
 use Rattle.lexicat.specs.Input.{AreDocuments, AreThreeDocuments}
-use Rattle.lexicat.specs.Pick.{HasList, ReadsAs, RefusesRanges}
 use Rattle.lexicat.specs.Picks.{Picks}
 use Rattle.lexicat.specs.Reading.{Treats}
 use Rattle.lexicat.specs.Refusals.{number_of}
 use Rattle.lexicat.specs.Status.{status_of}
-use Rattle.lexicat.specs.Wording.{BarsNone, HasDefault, IsDefault, NoWords, RefusesDefault, RefusesKey, RefusesLabelWords}
+use Rattle.lexicat.specs.Wording.{BarsNone, NoWords, RefusesKey, RefusesLabelWords}
 use Rattle.lexicat.specs.declared.refusal.Refusal.{Refusal}
 use Rattle.lexicat.specs.declared.refusal.Refusal.TheVariants as refusal
 use Rattle.lexicat.specs.declared.verb.Verb.{Verb}
@@ -120,46 +120,41 @@ RefusesSync input fault = (first second : List ℕ) × AreDocuments input first 
 
 -- ---- `filter` and `lookup`
 
+-- what answers a question to the site of the input
+abbrev pub AnswersSite : (Entries → Answer → Type 0) → List ℕ → List ℕ → ℕ → Type 0
+AnswersSite Is input text answered = (site : SiteState) × (answer : Answer) × ReadsAsSite input site × Is site.cells answer × (text ≡ answer.text) × (answered ≡ (if is_found answer.outcome then 0 else 1))
+
 abbrev pub FitsFilter : FilterWords → Type 0
-FitsFilter words = IsMessageId words.id × HasList words.scheme words.malformed words.field
+FitsFilter words = HasFilter words.id words.field
 
 abbrev pub BarsFilter : FilterWords → Refusal → Type 0
-BarsFilter words (refusal.Cell fault) = RefusesId words.id fault
-BarsFilter words (refusal.Field fault) = IsMessageId words.id × RefusesRanges words.scheme words.malformed words.field fault
+BarsFilter words (refusal.Question fault) = RefusesFilter words.id words.field fault
 BarsFilter words _ = ⊥
 
 abbrev pub IsFilter : FilterWords → List ℕ → List ℕ → ℕ → Type 0
-IsFilter words input text answered = (list : List Item) × (found : Bool) × IsMessageId words.id × ReadsAs words.scheme words.malformed words.field list
-    × IsAsked input words.id (ask.Filter words.scheme list) text found × (answered ≡ (if found then 0 else 1))
+IsFilter words = AnswersSite (λ cells. IsFilterLines cells words.id words.field)
 
 abbrev pub FitsLookup : LookupWords → Type 0
-FitsLookup words = IsMessageId words.id × HasDefault words.default × HasList words.scheme words.malformed words.field
+FitsLookup words = HasLookup words.id words.field words.default
 
--- the id, the default and then the field
 abbrev pub BarsLookup : LookupWords → Refusal → Type 0
-BarsLookup words (refusal.Cell fault) = RefusesId words.id fault
-BarsLookup words (refusal.Lang fault) = IsMessageId words.id × RefusesDefault words.default fault
-BarsLookup words (refusal.Field fault) = IsMessageId words.id × HasDefault words.default × RefusesRanges words.scheme words.malformed words.field fault
+BarsLookup words (refusal.Question fault) = RefusesLookup words.id words.field words.default fault
 BarsLookup words _ = ⊥
 
 abbrev pub IsLookup : LookupWords → List ℕ → List ℕ → ℕ → Type 0
-IsLookup words input text answered = (list : List Item) × (default : Option (List ℕ)) × (found : Bool) × IsMessageId words.id × IsDefault words.default default × ReadsAs words.scheme words.malformed words.field list
-    × IsAsked input words.id (ask.Lookup list default) text found × (answered ≡ (if found then 0 else 1))
+IsLookup words = AnswersSite (λ cells. IsLookupLine cells words.id words.field words.default)
 
 -- ---- `bundle` and `missing`
 
 abbrev pub FitsBundle : BundleWords → Type 0
-FitsBundle words = HasDefault words.default × HasList words.scheme words.malformed words.field
+FitsBundle words = HasPreferences words.field words.default
 
--- the default and then the field
 abbrev pub BarsBundle : BundleWords → Refusal → Type 0
-BarsBundle words (refusal.Lang fault) = RefusesDefault words.default fault
-BarsBundle words (refusal.Field fault) = HasDefault words.default × RefusesRanges words.scheme words.malformed words.field fault
+BarsBundle words (refusal.Question fault) = RefusesPreferences words.field words.default fault
 BarsBundle words _ = ⊥
 
 abbrev pub IsBundle : BundleWords → List ℕ → List ℕ → ℕ → Type 0
-IsBundle words input text answered = (list : List Item) × (default : Option (List ℕ)) × (found : Bool) × IsDefault words.default default × ReadsAs words.scheme words.malformed words.field list
-    × IsBundled input list default text found × (answered ≡ (if found then 0 else 1))
+IsBundle words = AnswersSite (λ cells. AreBundleMaps cells words.field words.default)
 
 abbrev pub FitsMissing : Text → Type 0
 FitsMissing word = IsSpelled word

@@ -3,11 +3,10 @@ pub mod AskWords
 pub mod Asked
 pub mod EditWords
 pub mod Endings
+pub mod FieldWords
 pub mod Given
 pub mod Help
 pub mod Input
-pub mod Pick
-pub mod PickFault
 pub mod PickWords
 pub mod Picks
 pub mod Program

@@ -1,7 +1,6 @@
 -- What a command does with its input: its words are read first, then the whole input, and what that holds is answered or refused (own rules).
 use Rattle.std.specs.Prelude.{◌≡◌, ◌⊎◌, ℕ, Bool, List, Option}
-use Rattle.docs_core.specs.Replays.{IsReadFault}
-use Rattle.docs_core.specs.Sources.{GivesAll}
+use Rattle.docs_core.specs.Sources.{IsReadFault, ReadsWhole}
 use Rattle.docs_core.specs.declared.fault.DocFault.{DocFault}
 use Rattle.lexicat.specs.Endings.{Ends, Writes}
 use Rattle.lexicat.specs.Refusals.{number_of}
@@ -9,20 +8,19 @@ use Rattle.lexicat.specs.Status.{status_of}
 use Rattle.lexicat.specs.declared.refusal.Refusal.{Refusal}
 use Rattle.lexicat.specs.declared.refusal.Refusal.TheVariants.{Document}
 
-module _ {R : Type 0} (remaining : R → Option (List ℕ)) where
+module _ {R : Type 0} (remaining : R → Option (List ℕ)) (broken : R → Bool) where
   -- the whole input was read, and this text with this status answers it
   abbrev pub AnswersInput : (List ℕ → List ℕ → ℕ → Type 0) → R → R → List ℕ → ℕ → Type 0
-  AnswersInput answers old new text answered = (input : List ℕ) × GivesAll (remaining old) (remaining new) input × answers input text answered
+  AnswersInput answers old new text answered = (input : List ℕ) × ReadsWhole broken remaining old new input × answers input text answered
 
-module _ {R : Type 0} (remaining : R → Option (List ℕ)) (broken : R → Bool) where
   -- why a command is refused: by its words, and then nothing was read; or else for the reading, or for what was read
   abbrev pub RefusesInput : Type 0 → (Refusal → Type 0) → (List ℕ → DocFault → Type 0) → R → R → Refusal → Type 0
-  RefusesInput fits bars refuses old new (Document fault) = fits × (IsReadFault broken remaining old new fault ⊎ ((input : List ℕ) × GivesAll (remaining old) (remaining new) input × refuses input fault))
+  RefusesInput fits bars refuses old new (Document fault) = fits × (IsReadFault broken remaining old new fault ⊎ ((input : List ℕ) × ReadsWhole broken remaining old new input × refuses input fault))
   RefusesInput fits bars refuses old new refusal = bars refusal × (new ≡ old)
 
 module _ {R W : Type 0} (remaining : R → Option (List ℕ)) (broken : R → Bool) (contents : W → Option (List ℕ)) (failed : W → Bool) where
   -- the input is answered and the answer written, or the command is refused and nothing is written
   abbrev pub Treats : Type 0 → (Refusal → Type 0) → (List ℕ → List ℕ → ℕ → Type 0) → (List ℕ → DocFault → Type 0) → R → R → W → W → ℕ → Type 0
   Treats fits bars answers refuses r r' w w' status =
-      ((text : List ℕ) × (answered : ℕ) × AnswersInput remaining answers r r' text answered × Writes contents failed text answered w w' status)
+      ((text : List ℕ) × (answered : ℕ) × AnswersInput remaining broken answers r r' text answered × Writes contents failed text answered w w' status)
       ⊎ ((refusal : Refusal) × RefusesInput remaining broken fits bars refuses r r' refusal × Ends contents failed (status_of (number_of refusal)) w w' status)

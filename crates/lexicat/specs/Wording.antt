@@ -1,5 +1,5 @@
 -- The product's reading of a command's words (own rules).
-use Rattle.std.specs.Prelude.{◌≡◌, ℕ, List, Option, None, Some}
+use Rattle.std.specs.Prelude.{◌≡◌, List}
 use Rattle.clap.specs.Words.{Text}
 use Rattle.cell_core.specs.Labels.{IsLabel}
 use Rattle.cell_core.specs.MessageIds.{IsMessageId}
@@ -37,17 +37,3 @@ IsLabelOf texts label = IsLabel texts × (label ≡ texts)
 abbrev pub RefusesLabelWords : List Text → CellFault → Type 0
 RefusesLabelWords texts cell.NoMemory = Unit {0}
 RefusesLabelWords texts fault = RefusesTexts texts fault
-
--- the language of `--default`, or none where it is not given
-abbrev pub IsDefault : Option Text → Option (List ℕ) → Type 0
-IsDefault None default = default ≡ None
-IsDefault (Some word) None = ⊥
-IsDefault (Some word) (Some lang) = SpellsLang word lang
-
-abbrev pub HasDefault : Option Text → Type 0
-HasDefault word = (default : Option (List ℕ)) × IsDefault word default
-
--- why its word is no language
-abbrev pub RefusesDefault : Option Text → LangFault → Type 0
-RefusesDefault None fault = ⊥
-RefusesDefault (Some word) fault = RefusesLang word fault

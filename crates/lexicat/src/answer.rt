@@ -1,5 +1,6 @@
 //! What a command answers, and how it ends.
 ghost use Rattle.std.specs.Prelude.{◌≡◌, ◌≤◌, false, if◌then◌else◌, MatchResult};
+ghost use Rattle.front_core.specs.Asks.{is_found};
 ghost use Rattle.lexicat.specs.Endings.{Ends, Writes};
 ghost use Rattle.lexicat.specs.Refusals.{number_of};
 ghost use Rattle.lexicat.specs.Status.{status_of};
@@ -9,6 +10,7 @@ use crate::printing::print;
 use crate::refusal::Refusal;
 use crate::status;
 use docs_core::{Doc, Sink};
+use front_core::Outcome;
 
 /// The text for the output, and the status that goes with it.
 #[derive(Drop)]
@@ -38,6 +40,14 @@ impl Answer {
             status::NOTHING
         };
         Answer { text, status }
+    }
+
+    /// What answers a question.
+    pub fn of(answer: front_core::Answer) -> Answer
+        ensures { result ≡ record { text = answer.text; status = if is_found answer.outcome then 0 else 1 } }
+    {
+        let is_found = matches!(answer.outcome, Outcome::Found);
+        Answer::question(answer.text, is_found)
     }
 }
 

@@ -121,7 +121,7 @@ pub fn refuse<S: Sink>(faults: &mut S, refusal: Refusal) -> u8
 {
     match refusal {
         Refusal::Lang(fault) => refuse_words(faults, fault.number(), &fault),
-        Refusal::Field(fault) => refuse_words(faults, fault.number(), &fault),
+        Refusal::Question(fault) => refuse_words(faults, fault.number(), &fault),
         Refusal::Cell(fault) => refuse_words(faults, fault.number(), &fault),
         Refusal::Document(fault) => refuse_document(faults, fault),
     }

@@ -2,11 +2,14 @@
 ghost use Rattle.std.specs.Prelude.{◌≡◌, map, option_map};
 ghost use Rattle.std.specs.Option.{option_copied};
 ghost use Rattle.clap.specs.Words.{all_of, first_of, found_of, rows_of, subcommand_rows_of};
+ghost use Rattle.front_core.specs.Fields.{field_text};
+ghost use Rattle.lexicat.specs.FieldWords as spec;
 ghost use Rattle.lexicat.specs.Given.{verb_met, GivesNow};
-ghost use Rattle.lexicat.specs.PickWords as spec;
 
 use crate::verb::{Verb, verb_of};
 use clap::ArgMatches;
+use front_core::Field;
+use front_core::words::bytes_of;
 use nego_core::{Malformed, Scheme};
 
 /// The command that was met, with its matches.
@@ -41,8 +44,29 @@ pub fn now_of(given: &ArgMatches<'_>) -> Option<u64>
     given.get_one::<u64>("now")
 }
 
+/// The field of an argument, read as `--scheme` and `--lenient` say.
+pub fn field_of<'a>(given: &ArgMatches<'a>, id: &str) -> Option<Field<'a>>
+    ensures { option_map field_text result ≡ spec.field_of id.now (rows_of (found_of given.now)) }
+{
+    let text = text_of(given, id)?;
+    let scheme = scheme_of(text_of(given, "scheme"));
+    let malformed = malformed_of(text_of(given, "lenient"));
+    Some(Field {
+        scheme,
+        malformed,
+        text: text.as_bytes(),
+    })
+}
+
+/// The bytes of an argument's first text.
+pub fn bytes_given<'a>(given: &ArgMatches<'a>, id: &str) -> Option<&'a [u8]>
+    ensures { option_map (λ s. s.now) result ≡ first_of id.now (rows_of (found_of given.now)) }
+{
+    bytes_of(text_of(given, id))
+}
+
 /// The scheme of a word; where there is none, the basic one.
-pub fn scheme_of(word: Option<&str>) -> Scheme
+fn scheme_of(word: Option<&str>) -> Scheme
     ensures { result ≡ spec.scheme_of (option_copied word.entry) }
 {
     match word {
@@ -53,7 +77,7 @@ pub fn scheme_of(word: Option<&str>) -> Scheme
 
 /// What becomes of malformed elements: clap gives the flag `--lenient` the text "true" where it
 /// stands, and else "false".
-pub fn malformed_of(word: Option<&str>) -> Malformed
+fn malformed_of(word: Option<&str>) -> Malformed
     ensures { result ≡ spec.malformed_of (option_copied word.entry) }
 {
     match word {

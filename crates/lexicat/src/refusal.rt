@@ -3,8 +3,8 @@ ghost use Rattle.std.specs.Prelude.{◌≡◌};
 
 use cell_core::CellFault;
 use docs_core::DocFault;
+use front_core::FrontFault;
 use lang_core::LangFault;
-use nego_core::NegoFault;
 use std::alloc::AllocError;
 
 /// Why a command is refused: for one of its words, or for a document or a stream.
@@ -12,8 +12,8 @@ use std::alloc::AllocError;
 pub enum Refusal {
     /// A word is no language.
     Lang(LangFault),
-    /// A word is no priority list.
-    Field(NegoFault),
+    /// The words ask no question: the id, the default or the field is refused.
+    Question(FrontFault),
     /// A word is no message id or no site name, or the words are no label.
     Cell(CellFault),
     /// What was read is refused, or a stream failed.
@@ -30,16 +30,6 @@ impl From<LangFault> for Refusal {
     }
 }
 
-impl From<NegoFault> for Refusal {
-    ghost use Rattle.lexicat.specs.declared.refusal.Refusal.TheVariants.{Field};
-
-    ghost from_gives = { λ fault refusal. refusal ≡ Field fault };
-
-    fn from(fault: NegoFault) -> Refusal {
-        Refusal::Field(fault)
-    }
-}
-
 impl From<CellFault> for Refusal {
     ghost use Rattle.lexicat.specs.declared.refusal.Refusal.TheVariants.{Cell};
 
@@ -47,6 +37,16 @@ impl From<CellFault> for Refusal {
 
     fn from(fault: CellFault) -> Refusal {
         Refusal::Cell(fault)
+    }
+}
+
+impl From<FrontFault> for Refusal {
+    ghost use Rattle.lexicat.specs.declared.refusal.Refusal.TheVariants.{Question};
+
+    ghost from_gives = { λ fault refusal. refusal ≡ Question fault };
+
+    fn from(fault: FrontFault) -> Refusal {
+        Refusal::Question(fault)
     }
 }
 

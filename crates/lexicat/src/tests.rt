@@ -14,4 +14,3 @@ mod texts;
 mod translators;
 mod usage;
 mod wording;
-mod words;

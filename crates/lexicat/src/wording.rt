@@ -1,8 +1,8 @@
 //! The product's reading of words.
-ghost use Rattle.std.specs.Prelude.{◌≡◌, map, option_map, IfOk, MatchResult};
+ghost use Rattle.std.specs.Prelude.{◌≡◌, map, IfOk, MatchResult};
 ghost use Rattle.cell_core.specs.Labels.{texts_of};
 ghost use Rattle.lang_core.specs.Lang.{SpellsLang, RefusesLang};
-ghost use Rattle.lexicat.specs.Wording.{IsKey, RefusesKey, IsLabelOf, RefusesLabelWords, IsDefault, RefusesDefault};
+ghost use Rattle.lexicat.specs.Wording.{IsKey, RefusesKey, IsLabelOf, RefusesLabelWords};
 
 use crate::refusal::Refusal;
 use cell_core::{CellFault, Label, MessageId};
@@ -48,14 +48,4 @@ fn owned(alloc: Global, texts: &[&str]) -> Result<Vec<String>, AllocError>
         copies.push(String::from_str(alloc, text)?)?;
     }
     Ok(copies)
-}
-
-/// The language of `--default`, where it is given.
-pub fn read_default(alloc: Global, word: Option<&str>) -> Result<Option<Lang>, LangFault>
-    ensures { MatchResult result (IsDefault (option_map (λ s. s.now) word.entry)) (RefusesDefault (option_map (λ s. s.now) word.entry)) }
-{
-    match word {
-        None => Ok(None),
-        Some(text) => Ok(Some(read_lang(alloc, text)?)),
-    }
 }

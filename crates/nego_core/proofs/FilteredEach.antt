@@ -69,8 +69,8 @@ picked : (scheme : Scheme) (items : List Item) (langs : List (List ℕ)) → All
 picked scheme items langs small key k =
     let o = k.key_ok in
     let low : o.weight ≤ 1000 = small_on scheme items (tag_of k.lang) key.item o.weight small o.decided in
-    let lack = o.lack_is in
-    let weight : o.weight ≡ 1000 - key.lack = omega arith in
+    let missing_weight = o.missing_is in
+    let weight : o.weight ≡ 1000 - key.missing_weight = omega arith in
     let place : k.n ≡ key.place = (let p = o.place_is in omega arith) in
     record {
       lang = k.lang;
@@ -90,8 +90,8 @@ has_each scheme items langs picks small f pick = (
       (All-permutation (IsKeyFrom scheme items 0 langs) f.all f.keys f.each_once (keys_right scheme items 0 langs f.all f.all_ok))))) c),
   (λ p.
       let low : pick.weight ≤ 1000 = small_on scheme items (tag_of p.lang) p.item pick.weight small p.decided in
-      let key : Key = record { lack = 1000 - pick.weight; item = p.item; lang = p.lang; place = pick.place } in
-      let is_key : IsKey scheme items p.lang pick.place key = record { weight = pick.weight; decided = p.decided; positive = p.positive; lack_is = refl; lang_is = refl; place_is = refl } in
+      let key : Key = record { missing_weight = 1000 - pick.weight; item = p.item; lang = p.lang; place = pick.place } in
+      let is_key : IsKey scheme items p.lang pick.place key = record { weight = pick.weight; decided = p.decided; positive = p.positive; missing_is = refl; lang_is = refl; place_is = refl } in
       let in_all : Contains f.all key = keys_all scheme items 0 pick.place langs f.all p.lang key f.all_ok p.stands (subst (λ (n : ℕ). IsKey scheme items p.lang n key) (omega arith) is_key) in
       let in_keys : Contains f.keys key = Contains-permutation f.all f.keys key f.each_once in_all in
       let same : pick_of key ≡ pick = pick_is pick (1000 - (1000 - pick.weight)) (omega arith) in

@@ -69,8 +69,8 @@ keys_done scheme items tags k keys h a = subst (λ (x : List (List ℕ)). AreKey
 
 -- ---- the key of one language
 
-pub has_key : (scheme : Scheme) (items : List Item) (lang : List ℕ) (place item weight : ℕ) (key : Key) → DecidesLang scheme items lang item weight → 0 < weight → key ≡ record { lack = 1000 - weight; item = item; lang = lang; place = place } → IsKey scheme items lang place key
-has_key scheme items lang place item weight key d p e = subst (IsKey scheme items lang place) (sym e) (record { weight = weight; decided = d; positive = p; lack_is = refl; lang_is = refl; place_is = refl })
+pub has_key : (scheme : Scheme) (items : List Item) (lang : List ℕ) (place item weight : ℕ) (key : Key) → DecidesLang scheme items lang item weight → 0 < weight → key ≡ record { missing_weight = 1000 - weight; item = item; lang = lang; place = place } → IsKey scheme items lang place key
+has_key scheme items lang place item weight key d p e = subst (IsKey scheme items lang place) (sym e) (record { weight = weight; decided = d; positive = p; missing_is = refl; lang_is = refl; place_is = refl })
 
 pub no_decision : (scheme : Scheme) (items : List Item) (lang : List ℕ) (place : ℕ) → ((p weight : ℕ) → ¬ DecidesLang scheme items lang p weight) → HasNoKey scheme items lang place
 no_decision scheme items lang place h = λ key k. h key.item k.weight k.decided

@@ -12,26 +12,26 @@ use Rattle.nego_core.proofs.DecidingLaws.{one_decision}
 use Rattle.nego_core.specs.declared.pick.Pick.{Pick}
 
 key_total : IsTotalOrder key_cmp
-key_total = then_total (on_total (λ k. k.lack) nat_cmp_total) (then_total (on_total (λ k. k.item) nat_cmp_total) (then_total (on_total (λ k. k.lang) nat_list_cmp_total) (on_total (λ k. k.place) nat_cmp_total)))
+key_total = then_total (on_total (λ k. k.missing_weight) nat_cmp_total) (then_total (on_total (λ k. k.item) nat_cmp_total) (then_total (on_total (λ k. k.lang) nat_list_cmp_total) (on_total (λ k. k.place) nat_cmp_total)))
 
-key_is : (x y : Key) → x.lack ≡ y.lack → x.item ≡ y.item → x.lang ≡ y.lang → x.place ≡ y.place → x ≡ y
-key_is x y lack item tag place =
-    ap (λ (n : ℕ). record { lack = n; item = x.item; lang = x.lang; place = x.place }) lack
-    ∙ (ap (λ (n : ℕ). record { lack = y.lack; item = n; lang = x.lang; place = x.place }) item
-    ∙ (ap (λ (t : List ℕ). record { lack = y.lack; item = y.item; lang = t; place = x.place }) tag
-    ∙ ap (λ (n : ℕ). record { lack = y.lack; item = y.item; lang = y.lang; place = n }) place))
+key_is : (x y : Key) → x.missing_weight ≡ y.missing_weight → x.item ≡ y.item → x.lang ≡ y.lang → x.place ≡ y.place → x ≡ y
+key_is x y missing_weight item tag place =
+    ap (λ (n : ℕ). record { missing_weight = n; item = x.item; lang = x.lang; place = x.place }) missing_weight
+    ∙ (ap (λ (n : ℕ). record { missing_weight = y.missing_weight; item = n; lang = x.lang; place = x.place }) item
+    ∙ (ap (λ (t : List ℕ). record { missing_weight = y.missing_weight; item = y.item; lang = t; place = x.place }) tag
+    ∙ ap (λ (n : ℕ). record { missing_weight = y.missing_weight; item = y.item; lang = y.lang; place = n }) place))
 
 key_tied : (x y : Key) → key_cmp x y ≡ Equal → x ≡ y
 key_tied x y e =
-    let lack = then_tied _ _ e in
-    let item = then_tied _ _ lack.1 in
+    let missing_weight = then_tied _ _ e in
+    let item = then_tied _ _ missing_weight.1 in
     let lang = then_tied _ _ item.1 in
-    key_is x y (nat_tied x.lack y.lack lack.0) (nat_tied x.item y.item item.0) (text_tied x.lang y.lang lang.0) (nat_tied x.place y.place lang.1)
+    key_is x y (nat_tied x.missing_weight y.missing_weight missing_weight.0) (nat_tied x.item y.item item.0) (text_tied x.lang y.lang lang.0) (nat_tied x.place y.place lang.1)
 
 pub one_key : (scheme : Scheme) (items : List Item) (lang : List ℕ) (place : ℕ) (x y : Key) → IsKey scheme items lang place x → IsKey scheme items lang place y → x ≡ y
 one_key scheme items lang place x y a b =
     let same = one_decision scheme items lang y.item x.item b.weight a.weight b.decided a.decided in
-    key_is x y (a.lack_is ∙ (ap (λ (n : ℕ). 1000 - n) same.1 ∙ sym b.lack_is)) same.0 (a.lang_is ∙ sym b.lang_is) (a.place_is ∙ sym b.place_is)
+    key_is x y (a.missing_is ∙ (ap (λ (n : ℕ). 1000 - n) same.1 ∙ sym b.missing_is)) same.0 (a.lang_is ∙ sym b.lang_is) (a.place_is ∙ sym b.place_is)
 
 one_keys : (scheme : Scheme) (items : List Item) (place : ℕ) (tags : List (List ℕ)) (xs ys : List Key) → AreKeys scheme items place tags xs → AreKeys scheme items place tags ys → xs ≡ ys
 one_keys scheme items place [] [] [] a b = refl

@@ -11,14 +11,17 @@ pub mod FieldUnique
 pub mod LenientLaws
 pub mod WeightBounds
 pub mod BestLaws
+pub mod OrderedTextLaws
 pub mod RangeIndexLaws
-pub mod MarksLaws
+pub mod TableLaws
+pub mod FingerprintLaws
+pub mod FirstByteLaws
 pub mod DecidingLaws
 pub mod MatchedLaws
 pub mod NamedLaws
 pub mod NothingRefused
 pub mod Unique
-pub mod OrderTurns
+pub mod OrderKeyLaws
 pub mod OrderLaws
 pub mod FilteredKeys
 pub mod FilteredLaws
@@ -32,3 +35,4 @@ pub mod FoundLaws
 pub mod UnweightedLookup
 pub mod ChosenLaws
 pub mod HandedLaws
+pub mod LangSetLaws

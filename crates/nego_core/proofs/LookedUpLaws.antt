@@ -15,9 +15,9 @@ use Rattle.nego_core.specs.Item.{Item}
 use Rattle.nego_core.specs.Best.{IsBest}
 use Rattle.nego_core.specs.Deciding.{MatchesNamed, NamedRefuse}
 use Rattle.nego_core.specs.LookedUp.{candidates_of, candidates_at, all_candidates, IsOpen, IsFirst, MatchFirstOf, IsLookedUp}
-use Rattle.nego_core.specs.Order.{AreTurns}
+use Rattle.nego_core.specs.Order.{AreOrderKeys}
 use Rattle.nego_core.specs.declared.best.Best.{Best}
-use Rattle.nego_core.specs.declared.turn.Turn.{Turn}
+use Rattle.nego_core.specs.declared.order_key.OrderKey.{OrderKey}
 
 -- ---- what the items other than "*" refuse
 
@@ -60,10 +60,10 @@ first_front {X = X} P xs ys x h = record {
   passes = h.passes;
 }
 
--- ---- the walk over the turns
+-- ---- the walk over the keys
 
-abbrev pub turned : List Item → List Turn → List Item
-turned items turns = filter_map (λ t. slice_get items t.place) turns
+abbrev pub ordered_items : List Item → List OrderKey → List Item
+ordered_items items keys = filter_map (λ t. slice_get items t.place) keys
 
 of_option : (o : Option Item) (rest : List Item) → all_candidates (cons_option o rest) ≡ all_candidates (cons_option o []) ++ all_candidates rest
 of_option None rest = refl
@@ -73,31 +73,31 @@ at_is : (items : List Item) (place : ℕ) (o : Option Item) → slice_get items 
 at_is items place None e = rw e refl
 at_is items place (Some i) e = rw e (append-nil (candidates_of i))
 
--- the candidates of a turn and those of the later turns
-first_turn : (items : List Item) (turns : List Turn) (k : ℕ) (d : Turn) → k < length turns → all_candidates (turned items (drop k turns)) ≡ candidates_at items (get_or turns k d).place ++ all_candidates (turned items (drop (k + 1) turns))
-first_turn items turns k d low =
-    let place : ℕ = (get_or turns k d).place in
-    ap (λ (x : List Turn). all_candidates (turned items x)) (element_at turns k (get_or turns k d) low (same_default turns k d (get_or turns k d) low))
-    ∙ (of_option (slice_get items place) (turned items (drop (k + 1) turns))
-    ∙ ap (λ (x : List (List (List ℕ))). x ++ all_candidates (turned items (drop (k + 1) turns))) (at_is items place (slice_get items place) refl))
+-- the candidates of a key and those of the later keys
+first_key : (items : List Item) (keys : List OrderKey) (k : ℕ) (d : OrderKey) → k < length keys → all_candidates (ordered_items items (drop k keys)) ≡ candidates_at items (get_or keys k d).place ++ all_candidates (ordered_items items (drop (k + 1) keys))
+first_key items keys k d low =
+    let place : ℕ = (get_or keys k d).place in
+    ap (λ (x : List OrderKey). all_candidates (ordered_items items x)) (element_at keys k (get_or keys k d) low (same_default keys k d (get_or keys k d) low))
+    ∙ (of_option (slice_get items place) (ordered_items items (drop (k + 1) keys))
+    ∙ ap (λ (x : List (List (List ℕ))). x ++ all_candidates (ordered_items items (drop (k + 1) keys))) (at_is items place (slice_get items place) refl))
 
--- the candidates of the turns from a place on, and the first of them that passes
-abbrev pub FirstFrom : (List (List ℕ) → Type 0) → List Item → List Turn → ℕ → Option (List (List ℕ)) → Type 0
-FirstFrom P items turns k found = MatchFirstOf P (all_candidates (turned items (drop k turns))) found
+-- the candidates of the keys from a place on, and the first of them that passes
+abbrev pub FirstFrom : (List (List ℕ) → Type 0) → List Item → List OrderKey → ℕ → Option (List (List ℕ)) → Type 0
+FirstFrom P items keys k found = MatchFirstOf P (all_candidates (ordered_items items (drop k keys))) found
 
-pub turn_found : (P : List (List ℕ) → Type 0) (items : List Item) (turns : List Turn) (k : ℕ) (d : Turn) (text : List (List ℕ)) → k < length turns → MatchFirstOf P (candidates_at items (get_or turns k d).place) (Some text) → FirstFrom P items turns k (Some text)
-turn_found P items turns k d text low f =
-    subst (λ (x : List (List (List ℕ))). MatchFirstOf P x (Some text)) (sym (first_turn items turns k d low)) (first_front P (candidates_at items (get_or turns k d).place) (all_candidates (turned items (drop (k + 1) turns))) text f)
+pub key_found : (P : List (List ℕ) → Type 0) (items : List Item) (keys : List OrderKey) (k : ℕ) (d : OrderKey) (text : List (List ℕ)) → k < length keys → MatchFirstOf P (candidates_at items (get_or keys k d).place) (Some text) → FirstFrom P items keys k (Some text)
+key_found P items keys k d text low f =
+    subst (λ (x : List (List (List ℕ))). MatchFirstOf P x (Some text)) (sym (first_key items keys k d low)) (first_front P (candidates_at items (get_or keys k d).place) (all_candidates (ordered_items items (drop (k + 1) keys))) text f)
 
-pub turn_passed : (P : List (List ℕ) → Type 0) (items : List Item) (turns : List Turn) (k : ℕ) (d : Turn) (found : Option (List (List ℕ))) → k < length turns → MatchFirstOf P (candidates_at items (get_or turns k d).place) None → FirstFrom P items turns (k + 1) found → FirstFrom P items turns k found
-turn_passed P items turns k d found low n f =
-    subst (λ (x : List (List (List ℕ))). MatchFirstOf P x found) (sym (first_turn items turns k d low)) (first_append P (candidates_at items (get_or turns k d).place) (all_candidates (turned items (drop (k + 1) turns))) found n f)
+pub key_passed : (P : List (List ℕ) → Type 0) (items : List Item) (keys : List OrderKey) (k : ℕ) (d : OrderKey) (found : Option (List (List ℕ))) → k < length keys → MatchFirstOf P (candidates_at items (get_or keys k d).place) None → FirstFrom P items keys (k + 1) found → FirstFrom P items keys k found
+key_passed P items keys k d found low n f =
+    subst (λ (x : List (List (List ℕ))). MatchFirstOf P x found) (sym (first_key items keys k d low)) (first_append P (candidates_at items (get_or keys k d).place) (all_candidates (ordered_items items (drop (k + 1) keys))) found n f)
 
-pub turns_over : (P : List (List ℕ) → Type 0) (items : List Item) (turns : List Turn) (k : ℕ) → length turns ≤ k → FirstFrom P items turns k None
-turns_over P items turns k h = subst (λ (x : List Turn). MatchFirstOf P (all_candidates (turned items x)) None) (sym (drop_all k turns h)) (All-nil (λ y. ¬ P y))
+pub keys_over : (P : List (List ℕ) → Type 0) (items : List Item) (keys : List OrderKey) (k : ℕ) → length keys ≤ k → FirstFrom P items keys k None
+keys_over P items keys k h = subst (λ (x : List OrderKey). MatchFirstOf P (all_candidates (ordered_items items x)) None) (sym (drop_all k keys h)) (All-nil (λ y. ¬ P y))
 
-pub looked_up : (items : List Item) (held : List ℕ → Bool) (turns : List Turn) (found : Option (List (List ℕ))) → AreTurns items turns → FirstFrom (IsOpen items held) items turns 0 found → IsLookedUp items held found
-looked_up items held turns found t f = record { ordered = turned items turns; order_ok = record { turns = turns; turns_ok = t; items_are = refl }; found_is = f }
+pub looked_up : (items : List Item) (held : List ℕ → Bool) (keys : List OrderKey) (found : Option (List (List ℕ))) → AreOrderKeys items keys → FirstFrom (IsOpen items held) items keys 0 found → IsLookedUp items held found
+looked_up items held keys found t f = record { ordered = ordered_items items keys; order_ok = record { keys = keys; keys_ok = t; items_are = refl }; found_is = f }
 
 -- a text is held where its pieces, joined, are
 pub held_text : (items : List Item) (held : List ℕ → Bool) (text : List ℕ) (r : Bool) → IsTrue r ↔ (IsTrue (held text) × ¬ NamedRefuse items (pieces text)) → IsTrue r ↔ IsOpen items held (pieces text)

@@ -140,7 +140,7 @@ one_found items places text seat i index at low s same =
 pub no_entries : (items : List Item) → AreEntries items 0 []
 no_entries items = record { as_many = refl; place_is = λ k d low. absurd (omega arith); text_is = λ k d low. absurd (omega arith) }
 
-pub push_entry : (items : List Item) (n : ℕ) (entries : List Entry) (e : Entry) → AreEntries items n entries → e.place ≡ n → e.text.now ≡ text_at items n → AreEntries items (n + 1) (entries ++ e ∷ [])
+pub push_entry : (items : List Item) (n : ℕ) (entries : List Entry) (e : Entry) → AreEntries items n entries → e.place ≡ n → e.text ≡ text_at items n → AreEntries items (n + 1) (entries ++ e ∷ [])
 push_entry items n entries e a p t =
     let size = length_push entries e in
     let m = a.as_many in
@@ -151,8 +151,8 @@ push_entry items n entries e a p t =
         | inr above ↦ ap (λ (x : Entry). x.place) (last_is entries e k d (omega arith)) ∙ (p ∙ omega arith)
       ];
       text_is = λ k d low. elim (cases_lt k n) [
-        | inl below ↦ ap (λ (x : Entry). x.text.now) (get_or_append_left entries (e ∷ []) d k (omega arith)) ∙ a.text_is k d below
-        | inr above ↦ ap (λ (x : Entry). x.text.now) (last_is entries e k d (omega arith)) ∙ (t ∙ ap (text_at items) (omega arith))
+        | inl below ↦ ap (λ (x : Entry). x.text) (get_or_append_left entries (e ∷ []) d k (omega arith)) ∙ a.text_is k d below
+        | inr above ↦ ap (λ (x : Entry). x.text) (last_is entries e k d (omega arith)) ∙ (t ∙ ap (text_at items) (omega arith))
       ];
     } where
       last_is : (entries : List Entry) (e : Entry) (k : ℕ) (d : Entry) → k ≡ length entries → get_or (entries ++ e ∷ []) k d ≡ e

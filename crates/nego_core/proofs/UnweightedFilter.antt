@@ -48,8 +48,8 @@ matched_key : (scheme : Scheme) (items : List Item) (langs : List (List ℕ)) (k
 matched_key scheme items langs keys place None positive a stands m = absurd m
 matched_key scheme items langs keys place (Some lang) positive a stands m =
     let w = matched_wanted scheme items (tag_of lang) positive m in
-    let key : Key = record { lack = 1000 - w.weight; item = w.item; lang = lang; place = place } in
-    let is_key : IsKey scheme items lang (0 + place) key = record { weight = w.weight; decided = w.decided; positive = w.positive; lack_is = refl; lang_is = refl; place_is = omega arith } in
+    let key : Key = record { missing_weight = 1000 - w.weight; item = w.item; lang = lang; place = place } in
+    let is_key : IsKey scheme items lang (0 + place) key = record { weight = w.weight; decided = w.decided; positive = w.positive; missing_is = refl; lang_is = refl; place_is = omega arith } in
     (key, keys_all scheme items 0 place langs keys lang key a stands is_key, refl)
 
 place_kept : (keys : List Key) → map (λ p. p.place) (map pick_of keys) ≡ map (λ k. k.place) keys

@@ -7,9 +7,9 @@ use Rattle.std.proofs.lemmas.List.Sorted.{IsPermutation-refl}
 use Rattle.lang_core.specs.Text.{joined}
 use Rattle.nego_core.proofs.NothingRefused.{no_tag_refused}
 use Rattle.nego_core.proofs.OrderLaws.{one_order_of}
-use Rattle.nego_core.proofs.OrderEach.{one_lack_sorted, turns_lack, turns_rise, tried_are}
+use Rattle.nego_core.proofs.OrderEach.{one_weight_sorted, turns_lack, turns_rise, tried_are}
 use Rattle.nego_core.specs.Item.{Item}
-use Rattle.nego_core.specs.Order.{is_tried, turns_from, IsOrder}
+use Rattle.nego_core.specs.Order.{is_tried, order_keys_from, IsOrder}
 use Rattle.nego_core.specs.LookedUp.{IsOpen, IsLookedUp, MatchFirstOf, all_candidates}
 use Rattle.nego_core.specs.Unweighted.{AllUnweighted, AllPositive, is_other, IsFirstHeld}
 
@@ -33,8 +33,8 @@ same_passed (i ∷ items) h =
 
 written_order : (items : List Item) → AllUnweighted items → IsOrder items (filter is_other items)
 written_order items h = record {
-  turns = turns_from items 0;
-  turns_ok = record { each_once = IsPermutation-refl (turns_from items 0); rising = one_lack_sorted 0 (turns_from items 0) (turns_lack 1000 items h) (turns_rise 0 items) };
+  keys = order_keys_from items 0;
+  keys_ok = record { each_once = IsPermutation-refl (order_keys_from items 0); rising = one_weight_sorted 0 (order_keys_from items 0) (turns_lack 1000 items h) (turns_rise 0 items) };
   items_are = sym (same_passed items h) ∙ sym (tried_are items);
 }
 

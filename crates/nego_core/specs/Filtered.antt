@@ -12,31 +12,31 @@ use Rattle.nego_core.specs.declared.pick.Pick.{Pick}
 
 -- what decides where a language stands in the answer
 pub record Key : Type 0 where
-  pub lack : ℕ
+  pub missing_weight : ℕ
   pub item : ℕ
   pub lang : List ℕ
   pub place : ℕ
 
--- by lack of weight, then the item's place, then the language's bytes, then place (own rule)
+-- by missing weight, then the item's place, then the language's bytes, then place (own rule)
 abbrev pub key_cmp : Key → Key → Ordering
-key_cmp = then_cmp (on (λ k. k.lack) nat_cmp) (then_cmp (on (λ k. k.item) nat_cmp) (then_cmp (on (λ k. k.lang) (slice_cmp nat_cmp)) (on (λ k. k.place) nat_cmp)))
+key_cmp = then_cmp (on (λ k. k.missing_weight) nat_cmp) (then_cmp (on (λ k. k.item) nat_cmp) (then_cmp (on (λ k. k.lang) (slice_cmp nat_cmp)) (on (λ k. k.place) nat_cmp)))
 
 -- the same of ranks
 abbrev pub rank_cmp : Rank → Rank → Ordering
-rank_cmp = then_cmp (on (λ r. r.lack) nat_cmp) (then_cmp (on (λ r. r.item) nat_cmp) (then_cmp (on (λ r. r.lang.now) (slice_cmp nat_cmp)) (on (λ r. r.place) nat_cmp)))
+rank_cmp = then_cmp (on (λ r. r.missing_weight) nat_cmp) (then_cmp (on (λ r. r.item) nat_cmp) (then_cmp (on (λ r. r.lang) (slice_cmp nat_cmp)) (on (λ r. r.place) nat_cmp)))
 
 abbrev pub key_of : Rank → Key
-key_of r = record { lack = r.lack; item = r.item; lang = r.lang.now; place = r.place }
+key_of r = record { missing_weight = r.missing_weight; item = r.item; lang = r.lang; place = r.place }
 
 abbrev pub pick_of : Key → Pick
-pick_of k = record { place = k.place; weight = 1000 - k.lack }
+pick_of k = record { place = k.place; weight = 1000 - k.missing_weight }
 
 -- the key of a language at a place: an item of positive weight decides it
 pub record IsKey (scheme : Scheme) (items : List Item) (lang : List ℕ) (place : ℕ) (key : Key) : Type 0 where
   pub weight : ℕ
   pub decided : DecidesLang scheme items lang key.item weight
   pub positive : 0 < weight
-  pub lack_is : key.lack ≡ 1000 - weight
+  pub missing_is : key.missing_weight ≡ 1000 - weight
   pub lang_is : key.lang ≡ lang
   pub place_is : key.place ≡ place
 

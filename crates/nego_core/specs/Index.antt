@@ -1,10 +1,11 @@
 use Rattle.std.specs.Prelude.{◌≡◌, List, map}
 use Rattle.nego_core.specs.Item.{Item}
 use Rattle.nego_core.specs.RangeIndex.{IsRangeIndex}
-use Rattle.nego_core.specs.Marks.{item_mark}
+use Rattle.nego_core.specs.Fingerprint.{item_fingerprint}
 use Rattle.nego_core.specs.declared.index.Index.{Index}
+use Rattle.nego_core.specs.declared.index.Index.TheVariants.{Ranges, Fingerprints}
 
 -- what the index of a long list holds of its items
-pub record IsIndex (items : List Item) (index : Index) : Type 0 where
-  pub places_ok : IsRangeIndex items index.places.items
-  pub marks_ok : index.marks.items ≡ map item_mark items
+abbrev pub IsIndex : List Item → Index → Type 0
+IsIndex items (Ranges places) = IsRangeIndex items places.items
+IsIndex items (Fingerprints prints) = prints.items ≡ map item_fingerprint items

@@ -23,16 +23,16 @@ pub record IsRangeIndex (items : List Item) (places : List ℕ) : Type 0 where
 -- the entry of the item at a place
 pub record IsEntryOf (items : List Item) (e : Entry) : Type 0 where
   pub within : e.place < length items
-  pub text_is : e.text.now ≡ text_at items e.place
+  pub text_is : e.text ≡ text_at items e.place
 
 -- one entry for each of the first n items, in written order
 pub record AreEntries (items : List Item) (n : ℕ) (entries : List Entry) : Type 0 where
   pub as_many : length entries ≡ n
   pub place_is : (k : ℕ) (d : Entry) → k < n → (slice_index_or entries k d).place ≡ k
-  pub text_is : (k : ℕ) (d : Entry) → k < n → (slice_index_or entries k d).text.now ≡ text_at items k
+  pub text_is : (k : ℕ) (d : Entry) → k < n → (slice_index_or entries k d).text ≡ text_at items k
 
 abbrev pub entry_cmp : Entry → Entry → Ordering
-entry_cmp = then_cmp (on (λ e. e.text.now) (slice_cmp nat_cmp)) (on (λ e. e.place) nat_cmp)
+entry_cmp = then_cmp (on (λ e. e.text) (slice_cmp nat_cmp)) (on (λ e. e.place) nat_cmp)
 
 -- the places before this one are those of the ranges below the text
 pub record IsSeat (items : List Item) (places : List ℕ) (text : List ℕ) (seat : ℕ) : Type 0 where

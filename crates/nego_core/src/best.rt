@@ -3,10 +3,10 @@ ghost use Rattle.nego_core.specs.Best.{better, is_above, is_worse};
 
 /// The best of some items: the most specific, and the first written among equals.
 #[derive(Clone, Copy)]
-pub struct Best {
-    pub place: usize,
+pub(crate) struct Best {
+    pub(crate) place: usize,
     /// The number of the range's subtags other than "*".
-    pub named: usize,
+    pub(crate) named: usize,
 }
 
 fn is_worse(best: Best, other: Best) -> bool
@@ -15,7 +15,7 @@ fn is_worse(best: Best, other: Best) -> bool
     best.named < other.named || (best.named == other.named && other.place < best.place)
 }
 
-pub fn better(best: Option<Best>, other: Option<Best>) -> Option<Best>
+pub(crate) fn better(best: Option<Best>, other: Option<Best>) -> Option<Best>
     ensures { result ≡ better best other }
 {
     match (best, other) {
@@ -32,7 +32,7 @@ pub fn better(best: Option<Best>, other: Option<Best>) -> Option<Best>
 }
 
 /// Whether `named` exceeds the best specificity so far.
-pub fn is_above(best: Option<Best>, named: usize) -> bool
+pub(crate) fn is_above(best: Option<Best>, named: usize) -> bool
     ensures { result ≡ is_above best named }
 {
     match best {

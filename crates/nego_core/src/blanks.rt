@@ -3,20 +3,20 @@ ghost use Rattle.std.specs.List.{list_all};
 ghost use Rattle.nego_core.specs.Blanks.{is_blank, skip_blanks, is_stop, IsCut};
 
 /// A space or a tab (RFC 9110 section 5.6.3).
-pub fn is_blank(byte: u8) -> bool
+pub(crate) fn is_blank(byte: u8) -> bool
     ensures { result ≡ is_blank byte }
 {
     byte == b' ' || byte == b'\t'
 }
 
-pub fn all_blanks(text: &[u8]) -> bool
+pub(crate) fn all_blanks(text: &[u8]) -> bool
     ensures { result ≡ list_all is_blank text.now }
 {
     text.iter().all(|b| is_blank(*b))
 }
 
 /// The text without the blanks at its front.
-pub fn trim_start(text: &[u8]) -> &[u8]
+pub(crate) fn trim_start(text: &[u8]) -> &[u8]
     ensures { result.now ≡ skip_blanks text.now }
 {
     let mut rest = text;
@@ -30,7 +30,7 @@ pub fn trim_start(text: &[u8]) -> &[u8]
 }
 
 /// A blank or a semicolon.
-pub fn is_stop(byte: u8) -> bool
+pub(crate) fn is_stop(byte: u8) -> bool
     ensures { result ≡ is_stop byte }
 {
     is_blank(byte) || byte == b';'
@@ -43,7 +43,7 @@ fn stop_at(text: &[u8]) -> Option<usize>
 }
 
 /// The text up to the first blank or semicolon, and the rest.
-pub fn cut_token(text: &[u8]) -> (&[u8], &[u8])
+pub(crate) fn cut_token(text: &[u8]) -> (&[u8], &[u8])
     ensures { IsCut text.now result.0.now result.1.now }
 {
     match stop_at(text) {

@@ -3,12 +3,12 @@ ghost use Rattle.lang_core.specs.Text.{pieces};
 ghost use Rattle.lang_core.specs.Matching.{Basic, Extended};
 ghost use Rattle.nego_core.specs.Best.{IsBest};
 ghost use Rattle.nego_core.specs.Deciding.{IsAny, Matches, MatchesNamed};
-ghost use Rattle.nego_core.specs.Marks.{item_mark};
+ghost use Rattle.nego_core.specs.Fingerprint.{item_fingerprint};
 ghost use Rattle.nego_core.specs.RangeIndex.{IsRangeIndex};
 
 use crate::best::{Best, better, is_above};
-use crate::item::Item;
-use crate::marks::{is_marked, marked_by};
+use crate::fingerprint::{fingerprints_in, may_have};
+use crate::item::{Item, first_byte};
 use crate::range_index::place_of;
 use crate::scheme::Scheme;
 use lang_core::Tag;
@@ -46,7 +46,7 @@ fn best_named_with(items: &[Item], places: Option<&[usize]>, text: &[u8]) -> Opt
 
 /// Of the items other than "*" that match under the basic match, the best: their ranges are the
 /// text and its fronts before hyphens (RFC 4647 section 3.3.1).
-pub fn best_named(items: &[Item], places: Option<&[usize]>, text: &[u8]) -> Option<Best>
+pub(crate) fn best_named(items: &[Item], places: Option<&[usize]>, text: &[u8]) -> Option<Best>
     requires { IfSome places (λ places. IsRangeIndex items.now places.now) }
     ensures { IsBest (λ _ i. MatchesNamed (pieces text.now) i) items.now result }
 {
@@ -60,7 +60,7 @@ pub fn best_named(items: &[Item], places: Option<&[usize]>, text: &[u8]) -> Opti
 }
 
 /// The best of the items that match under the basic match.
-pub fn best_basic(items: &[Item], places: Option<&[usize]>, text: &[u8]) -> Option<Best>
+pub(crate) fn best_basic(items: &[Item], places: Option<&[usize]>, text: &[u8]) -> Option<Best>
     requires { IfSome places (λ places. IsRangeIndex items.now places.now) }
     ensures { IsBest (λ _ i. Basic (pieces i.range) (pieces text.now)) items.now result }
 {
@@ -71,29 +71,30 @@ pub fn best_basic(items: &[Item], places: Option<&[usize]>, text: &[u8]) -> Opti
 }
 
 /// The best of the items that match.
-pub fn best_of(items: &[Item], scheme: Scheme, tag: &Tag) -> Option<Best>
+pub(crate) fn best_of(items: &[Item], scheme: Scheme, tag: &Tag) -> Option<Best>
     ensures { IsBest (λ _ i. Matches scheme (pieces i.range) (pieces tag.now)) items.now result }
 {
+    let first = first_byte(tag.as_str());
     let mut best = None;
     for (place, item) in items.iter().enumerate() {
         let named = item.specificity();
-        if is_above(best, named) && item.matches(scheme, tag) {
+        if is_above(best, named) && item.matches(scheme, tag, first) {
             best = Some(Best { place, named });
         }
     }
     best
 }
 
-/// The best of the items that match under the extended match. Those whose marks the tag has not
+/// The best of the items that match under the extended match. Those whose fingerprints the tag has not
 /// are passed over.
-pub fn best_extended(items: &[Item], marks: &[Option<u8>], tag: &Tag) -> Option<Best>
-    requires { marks.now ≡ map item_mark items.now }
+pub(crate) fn best_extended(items: &[Item], fingerprints: &[Option<u8>], tag: &Tag) -> Option<Best>
+    requires { fingerprints.now ≡ map item_fingerprint items.now }
     ensures { IsBest (λ _ i. Extended (pieces i.range) (pieces tag.now)) items.now result }
 {
-    let marked = marked_by(tag);
+    let table = fingerprints_in(tag);
     let mut best = None;
     for place in 0..items.len() {
-        if is_marked(&marked, marks[place]) {
+        if may_have(&table, fingerprints[place]) {
             best = better(best, best_at(items, place, tag));
         }
     }

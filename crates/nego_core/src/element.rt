@@ -34,7 +34,7 @@ fn all_inner(text: &[u8]) -> bool
 
 /// Whether no element begins the text, since more bytes than a range has stand there before one
 /// could end.
-pub fn begins_overlong(text: &[u8]) -> bool
+pub(crate) fn begins_overlong(text: &[u8]) -> bool
     ensures { IsTrue result ↔ BeginsOverlong text.now }
 {
     text.len() > MAX_RANGE_LEN && all_inner(&text[..MAX_RANGE_LEN + 1])
@@ -73,7 +73,11 @@ fn read_weight_of(scheme: Scheme, text: &[u8]) -> Option<u16>
 }
 
 /// The item of an element that begins the text and that blanks alone follow.
-pub fn read_item(alloc: Global, scheme: Scheme, text: &[u8]) -> Result<Option<Item>, NegoFault>
+pub(crate) fn read_item(
+    alloc: Global,
+    scheme: Scheme,
+    text: &[u8],
+) -> Result<Option<Item>, NegoFault>
     ensures { MatchResult result
         (λ found. MatchOption found ((item : Item) → ¬ IsStart scheme text.now item) (IsStart scheme text.now))
         (λ fault. (fault ≡ NoMemory) × HasStart scheme text.now) }

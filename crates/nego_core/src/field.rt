@@ -12,7 +12,7 @@ use crate::separators::{cut_piece, skip_separators};
 use std::alloc::Global;
 
 /// The longest field that is read.
-pub const MAX_FIELD_LEN: usize = 65535;
+pub(crate) const MAX_FIELD_LEN: usize = 65535;
 
 /// Goes on behind a malformed element, which begins at the offset, or refuses it.
 fn pass_over(malformed: Malformed, offset: usize) -> Result<(), NegoFault>
@@ -25,7 +25,7 @@ fn pass_over(malformed: Malformed, offset: usize) -> Result<(), NegoFault>
 }
 
 /// The items of a field, in one pass.
-pub fn read_items(
+pub(crate) fn read_items(
     alloc: Global,
     scheme: Scheme,
     malformed: Malformed,

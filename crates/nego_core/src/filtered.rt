@@ -3,6 +3,7 @@ ghost use Rattle.nego_core.specs.Filtered.{IsFiltered, IsKey, HasNoKey, HasPick,
 ghost use Rattle.nego_core.specs.declared.fault.NegoFault.TheVariants.{NoMemory};
 
 use crate::fault::NegoFault;
+use crate::ordered_text::OrderedText;
 use crate::pick::Pick;
 use crate::picks::Picks;
 use crate::priority_list::PriorityList;
@@ -21,9 +22,9 @@ fn rank_of<'a>(
 {
     match list.decision_on(scheme, lang) {
         Some(found) if found.weight > 0 => Some(Rank {
-            lack: 1000 - found.weight,
+            missing_weight: 1000 - found.weight,
             item: found.place,
-            lang: lang.as_str(),
+            lang: OrderedText::new(lang.as_str()),
             place,
         }),
         _ => None,
@@ -89,7 +90,7 @@ fn picks_of(alloc: Global, ranks: &[Rank]) -> Result<Vec<Pick>, AllocError>
         .iter()
         .map(|rank| Pick {
             place: rank.place,
-            weight: 1000 - rank.lack,
+            weight: 1000 - rank.missing_weight,
         })
         .collect(alloc)
 }
@@ -126,7 +127,7 @@ pub fn filter_lent(
     ensures { MatchResult result (IsFiltered scheme list.now (lent langs.now))
         (λ fault. (fault ≡ NoMemory) × HasPick scheme list.now (lent langs.now)) }
 {
-    filter_by(alloc, list, scheme, langs)
+    filter_by::<&Lang>(alloc, list, scheme, langs)
 }
 
 /// Filtering (RFC 4647 section 3.3) as `filter_lent` does it, over a slice of languages.
@@ -139,5 +140,5 @@ pub fn filter(
     ensures { MatchResult result (IsFiltered scheme list.now langs.now)
         (λ fault. (fault ≡ NoMemory) × HasPick scheme list.now langs.now) }
 {
-    filter_by(alloc, list, scheme, langs)
+    filter_by::<Lang>(alloc, list, scheme, langs)
 }

@@ -4,6 +4,7 @@ ghost use Rattle.nego_core.specs.Handed.{IsFound, is_among, least_place};
 use crate::choice::Choice;
 use crate::chosen::choose;
 use crate::found::Found;
+use crate::lang_set::LangSet;
 use crate::priority_list::PriorityList;
 use lang_core::Lang;
 
@@ -29,7 +30,7 @@ fn held_place(langs: &[Lang], text: &str) -> usize
 pub fn lookup(list: &PriorityList, langs: &[Lang], default: Option<&Lang>) -> Found
     ensures { IsFound list.now langs.now (option_map (λ l. l.now) default.entry) result }
 {
-    match choose(list, &langs, default) {
+    match choose(list, &LangSet::new(langs), default) {
         Choice::Matched(text) => Found::Matched(held_place(langs, text)),
         Choice::Default => match default {
             Some(lang) => Found::Default(held_place(langs, lang.as_str())),

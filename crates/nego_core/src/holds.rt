@@ -21,6 +21,13 @@ impl Holds for &[Lang] {
     ghost held = { λ langs text. is_among langs.now text };
 
     fn holds(&self, lang: &str) -> bool {
-        self.iter().any(|other| other.as_str() == lang)
+        is_among(self, lang)
     }
+}
+
+/// Whether the language of this text is among the languages, which are compared one by one.
+pub(crate) fn is_among(langs: &[Lang], lang: &str) -> bool
+    ensures { result ≡ is_among langs.now lang.now }
+{
+    langs.iter().any(|other| other.as_str() == lang)
 }

@@ -3,8 +3,10 @@ ghost use Rattle.nego_core.specs.Deciding.{Matches};
 ghost use Rattle.lang_core.specs.Text.{pieces};
 ghost use Rattle.lang_core.specs.Matching.{specificity};
 ghost use Rattle.std.specs.Cmp as laws_of;
+ghost use Rattle.nego_core.specs.FirstByte.{first_byte};
 ghost use Rattle.nego_core.specs.Equal.{item_eq, item_equiv};
 
+use crate::bytes::byte_at;
 use crate::scheme::Scheme;
 use lang_core::{Range, Tag};
 use std::fmt;
@@ -17,19 +19,23 @@ pub struct Item {
     weight: u16,
     /// The number of the range's subtags other than "*".
     named: usize,
+    /// The first byte of the range.
+    first: u8,
 }
 
 impl Model for Item {
     ghost use Rattle.std.specs.Prelude.{◌≡◌, ◌≤◌};
     ghost use Rattle.lang_core.specs.Text.{pieces};
     ghost use Rattle.lang_core.specs.Matching.{specificity};
+    ghost use Rattle.nego_core.specs.FirstByte.{first_byte};
     ghost use Rattle.nego_core.specs.Item.{Item};
 
     ghost Value = { Item };
 
     ghost view = { λ i. record { range = i.range; weight = i.weight } };
 
-    ghost invariant = { λ i. (i.weight ≤ 1000) × (i.named ≡ specificity (pieces i.range)) };
+    ghost invariant = { λ i. (i.weight ≤ 1000) × (i.named ≡ specificity (pieces i.range))
+        × (i.first ≡ first_byte (pieces i.range)) };
 }
 
 impl Item {
@@ -39,10 +45,12 @@ impl Item {
         ensures weight { result.weight ≡ weight }
     {
         let named = range.specificity();
+        let first = first_byte(range.as_str());
         Item {
             range,
             weight,
             named,
+            first,
         }
     }
 
@@ -61,9 +69,14 @@ impl Item {
         self.weight
     }
 
-    pub(crate) fn matches(&self, scheme: Scheme, tag: &Tag) -> bool
+    /// Whether the range matches the tag, whose first byte is known.
+    pub(crate) fn matches(&self, scheme: Scheme, tag: &Tag, first: u8) -> bool
+        requires { first ≡ first_byte (pieces tag.now) }
         ensures { IsTrue result ↔ Matches scheme (pieces self.now.range) (pieces tag.now) }
     {
+        if self.first != first && self.first != b'*' {
+            return false;
+        }
         match scheme {
             Scheme::Basic => self.range.matches_basic(tag),
             Scheme::Extended => self.range.matches_extended(tag),
@@ -76,6 +89,14 @@ impl Item {
     {
         self.named
     }
+}
+
+/// The first byte of a text's first subtag, or 0 where that is empty.
+pub(crate) fn first_byte(text: &str) -> u8
+    ensures { result ≡ first_byte (pieces text.now) }
+{
+    let first = byte_at(text.as_bytes(), 0);
+    if first == b'-' { 0 } else { first }
 }
 
 impl PartialEq for Item {

@@ -25,6 +25,7 @@
 
 mod best;
 mod blanks;
+mod bytes;
 mod choice;
 mod chosen;
 mod deciding;
@@ -33,16 +34,19 @@ mod entry;
 mod fault;
 mod field;
 mod filtered;
+mod fingerprint;
 mod found;
 mod handed;
 mod holds;
 mod index;
 mod item;
+mod lang_set;
 pub mod laws;
 mod looked_up;
 mod malformed;
-mod marks;
 mod order;
+mod order_key;
+mod ordered_text;
 mod pick;
 mod picks;
 mod priority_list;
@@ -51,7 +55,6 @@ mod range_index;
 mod rank;
 mod scheme;
 mod separators;
-mod turn;
 mod weight;
 
 pub use choice::Choice;

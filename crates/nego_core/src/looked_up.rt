@@ -14,6 +14,9 @@ use lang_core::Range;
 fn named_refuse(list: &PriorityList, text: &str) -> bool
     ensures { IsTrue result ↔ NamedRefuse list.now (pieces text.now) }
 {
+    if !list.may_refuse() {
+        return false;
+    }
     let items = list.items();
     match best_named(items, list.places(), text.as_bytes()) {
         Some(best) => items[best.place].weight() == 0,
@@ -52,12 +55,12 @@ fn first_at<'a, H: Holds>(list: &'a PriorityList, place: usize, held: &H) -> Opt
 }
 
 /// The first candidate of the items, in their order by weight, that is open (RFC 4647 section 3.4).
-pub fn look_up<'a, H: Holds>(list: &'a PriorityList, held: &H) -> Option<&'a str>
+pub(crate) fn look_up<'a, H: Holds>(list: &'a PriorityList, held: &H) -> Option<&'a str>
     ensures { IsLookedUp list.now (H.held held.now) (option_map (λ text. pieces text.now) result) }
 {
-    let turns = list.turns();
-    for turn in turns {
-        match first_at(list, turn.place, held) {
+    let keys = list.order();
+    for key in keys {
+        match first_at(list, key.place, held) {
             Some(text) => return Some(text),
             None => {}
         }

@@ -1,8 +1,8 @@
 ghost use Rattle.std.specs.Prelude.{◌≡◌, IfOk, IsPermutation, IsSorted};
-ghost use Rattle.nego_core.specs.Order.{is_tried, turns_from, turn_cmp, AreTurns};
+ghost use Rattle.nego_core.specs.Order.{is_tried, order_keys_from, order_key_cmp, AreOrderKeys};
 
 use crate::item::Item;
-use crate::turn::Turn;
+use crate::order_key::OrderKey;
 use std::alloc::{AllocError, Global};
 
 /// Whether lookup tries the item.
@@ -12,33 +12,33 @@ fn is_tried(item: &Item) -> bool
     item.weight() != 0 && item.range().lookup_text() != "*"
 }
 
-fn turns_of(alloc: Global, items: &[Item]) -> Result<Vec<Turn>, AllocError>
-    ensures { IfOk result (λ turns. turns.items ≡ turns_from items.now 0) }
+fn order_keys_of(alloc: Global, items: &[Item]) -> Result<Vec<OrderKey>, AllocError>
+    ensures { IfOk result (λ keys. keys.items ≡ order_keys_from items.now 0) }
 {
-    let mut turns = Vec::with_capacity(alloc, items.len())?;
+    let mut keys = Vec::with_capacity(alloc, items.len())?;
     for (place, item) in items.iter().enumerate() {
         if is_tried(item) {
-            turns.push(Turn {
-                lack: 1000 - item.weight(),
+            keys.push(OrderKey {
+                missing_weight: 1000 - item.weight(),
                 place,
             })?;
         }
     }
-    Ok(turns)
+    Ok(keys)
 }
 
-fn sort_turns(turns: &mut Vec<Turn>)
-    ensures same { IsPermutation turns.old.items turns.new.items }
-    ensures rising { IsSorted turn_cmp turns.new.items }
+fn sort_order_keys(keys: &mut Vec<OrderKey>)
+    ensures same { IsPermutation keys.old.items keys.new.items }
+    ensures rising { IsSorted order_key_cmp keys.new.items }
 {
-    turns.sort_unstable()
+    keys.sort_unstable()
 }
 
-/// The turns of the items, by weight downwards, then by place.
-pub fn order_of(alloc: Global, items: &[Item]) -> Result<Vec<Turn>, AllocError>
-    ensures { IfOk result (λ turns. AreTurns items.now turns.items) }
+/// The keys of the items, by weight downwards, then by place.
+pub(crate) fn order_of(alloc: Global, items: &[Item]) -> Result<Vec<OrderKey>, AllocError>
+    ensures { IfOk result (λ keys. AreOrderKeys items.now keys.items) }
 {
-    let mut turns = turns_of(alloc, items)?;
-    sort_turns(&mut turns);
-    Ok(turns)
+    let mut keys = order_keys_of(alloc, items)?;
+    sort_order_keys(&mut keys);
+    Ok(keys)
 }

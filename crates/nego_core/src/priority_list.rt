@@ -1,4 +1,5 @@
-ghost use Rattle.std.specs.Prelude.{◌≡◌, ◌≤◌, ◌<◌, ℕ, length, All, MatchResult, MatchOption, IfSome};
+ghost use Rattle.std.specs.Prelude.{◌≡◌, ◌≤◌, ◌<◌, ◌==◌, ℕ, false, length, All, MatchResult, MatchOption, IfSome};
+ghost use Rattle.std.specs.List.{list_any};
 ghost use Rattle.std.specs.Cmp as laws_of;
 ghost use Rattle.std.specs.Cmp.Lexicographic.{pointwise, lists_equiv};
 ghost use Rattle.lang_core.specs.Text.{pieces};
@@ -6,7 +7,8 @@ ghost use Rattle.nego_core.specs.Equal.{item_eq, item_equiv};
 ghost use Rattle.nego_core.specs.Basics.{IsTheOne};
 ghost use Rattle.nego_core.specs.Best.{IsBest};
 ghost use Rattle.nego_core.specs.Deciding.{Matches, IsDeciding, IsDecidedBy, IsDecidingWeight, DecidesLang};
-ghost use Rattle.nego_core.specs.Order.{AreTurns};
+ghost use Rattle.nego_core.specs.Order.{AreOrderKeys};
+ghost use Rattle.nego_core.specs.Unweighted.{AllPositive};
 ghost use Rattle.nego_core.specs.RangeIndex.{IsRangeIndex};
 ghost use Rattle.nego_core.specs.Field.{IsField, IsAccept, IsAcceptRanges, IsOfOneKind, RefusesField};
 ghost use Rattle.nego_core.specs.declared.scheme.Scheme.TheVariants.{Basic, Extended};
@@ -21,8 +23,8 @@ use crate::index::{Index, index_of};
 use crate::item::Item;
 use crate::malformed::Malformed;
 use crate::order::order_of;
+use crate::order_key::OrderKey;
 use crate::scheme::Scheme;
-use crate::turn::Turn;
 use lang_core::{Lang, Tag};
 use std::alloc::Global;
 use std::fmt;
@@ -33,27 +35,41 @@ use std::marker::Model;
 pub struct PriorityList {
     items: Vec<Item>,
     /// When lookup tries each item.
-    turns: Vec<Turn>,
+    order: Vec<OrderKey>,
     /// What makes it cheap to ask, where the items are many.
     index: Option<Index>,
+    /// Whether an item may have weight 0, and so refuse what it decides.
+    may_refuse: bool,
 }
 
 impl Model for PriorityList {
-    ghost use Rattle.std.specs.Prelude.{◌≤◌, List, All, IfSome};
+    ghost use Rattle.std.specs.Prelude.{◌≡◌, ◌≤◌, false, List, All, IfSome};
     ghost use Rattle.nego_core.specs.Item.{Item};
+    ghost use Rattle.nego_core.specs.Unweighted.{AllPositive};
 
     ghost Value = { List Item };
 
     ghost use Rattle.nego_core.specs.Field.{IsOfOneKind};
-    ghost use Rattle.nego_core.specs.Order.{AreTurns};
+    ghost use Rattle.nego_core.specs.Order.{AreOrderKeys};
     ghost use Rattle.nego_core.specs.Index.{IsIndex};
 
     ghost view = { λ l. l.items.items };
 
-    ghost invariant = { λ l. AreTurns l.items.items l.turns.items × IfSome l.index (IsIndex l.items.items) × IsOfOneKind l.items.items × All (λ i. i.weight ≤ 1000) l.items.items };
+    ghost invariant = { λ l. AreOrderKeys l.items.items l.order.items
+        × IfSome l.index (IsIndex l.items.items)
+        × (l.may_refuse ≡ false → AllPositive l.items.items)
+        × IsOfOneKind l.items.items
+        × All (λ i. i.weight ≤ 1000) l.items.items };
 }
 
-fn list_of(alloc: Global, items: Vec<Item>) -> Result<PriorityList, NegoFault>
+/// Whether an item has weight 0.
+fn may_refuse(items: &[Item]) -> bool
+    ensures { result ≡ list_any (λ i. i.weight == 0) items.now }
+{
+    items.iter().any(|item| item.weight() == 0)
+}
+
+fn list_of(alloc: Global, scheme: Scheme, items: Vec<Item>) -> Result<PriorityList, NegoFault>
     requires one_kind { IsOfOneKind items.items }
     requires small { All (λ i. i.weight ≤ 1000) items.items }
     ensures { MatchResult result (λ list. list ≡ items.items) (λ fault. (fault ≡ NoMemory) × (0 < length items.items)) }
@@ -61,24 +77,27 @@ fn list_of(alloc: Global, items: Vec<Item>) -> Result<PriorityList, NegoFault>
     if items.is_empty() {
         return Ok(PriorityList {
             items,
-            turns: Vec::new(alloc),
+            order: Vec::new(alloc),
             index: None,
+            may_refuse: false,
         });
     }
-    let turns = order_of(alloc, &items)?;
-    let index = index_of(alloc, &items)?;
+    let order = order_of(alloc, &items)?;
+    let index = index_of(alloc, scheme, &items)?;
+    let may_refuse = may_refuse(&items);
     Ok(PriorityList {
         items,
-        turns,
+        order,
         index,
+        may_refuse,
     })
 }
 
 /// The item that decides a tag or a language.
 #[derive(Clone, Copy)]
-pub struct Decision {
-    pub place: usize,
-    pub weight: u16,
+pub(crate) struct Decision {
+    pub(crate) place: usize,
+    pub(crate) weight: u16,
 }
 
 impl PriorityList {
@@ -105,7 +124,7 @@ impl PriorityList {
         ensures { MatchResult result (λ list. (length field.now ≤ 65535) × IsField scheme malformed field.now list) (RefusesField scheme malformed field.now) }
     {
         let items = read_items(alloc, scheme, malformed, field)?;
-        list_of(alloc, items)
+        list_of(alloc, scheme, items)
     }
 
     /// The list of an Accept-Language field (RFC 9110 section 12.5.4): `parse` under
@@ -134,31 +153,41 @@ impl PriorityList {
     }
 
     /// When lookup tries each item, in order.
-    pub(crate) fn turns(&self) -> &[Turn]
-        ensures { AreTurns self.now result.now }
+    pub(crate) fn order(&self) -> &[OrderKey]
+        ensures { AreOrderKeys self.now result.now }
     {
-        &self.turns
+        &self.order
     }
 
-    /// The places of the items in the order of their ranges' bytes, where the items are many.
+    /// The places of the items in the order of their ranges' bytes, where the items are many and
+    /// were read as basic ranges.
     pub(crate) fn places(&self) -> Option<&[usize]>
         ensures { IfSome result (λ places. IsRangeIndex self.now places.now) }
     {
         match &self.index {
-            Some(index) => Some(&index.places),
-            None => None,
+            Some(Index::Ranges(places)) => Some(places),
+            _ => None,
         }
+    }
+
+    /// Whether an item may have weight 0, and so refuse what it decides.
+    pub(crate) fn may_refuse(&self) -> bool
+        ensures { result ≡ false → AllPositive self.now }
+    {
+        self.may_refuse
     }
 
     fn best(&self, scheme: Scheme, tag: &Tag) -> Option<Best>
         ensures { IsBest (λ _ i. Matches scheme (pieces i.range) (pieces tag.now)) self.now result }
     {
-        let Some(index) = &self.index else {
-            return best_of(&self.items, scheme, tag);
-        };
-        match scheme {
-            Scheme::Basic => best_basic(&self.items, self.places(), tag.as_str().as_bytes()),
-            Scheme::Extended => best_extended(&self.items, &index.marks, tag),
+        match (scheme, &self.index) {
+            (Scheme::Basic, Some(Index::Ranges(places))) => {
+                best_basic(&self.items, Some(places), tag.as_str().as_bytes())
+            }
+            (Scheme::Extended, Some(Index::Fingerprints(fingerprints))) => {
+                best_extended(&self.items, fingerprints, tag)
+            }
+            _ => best_of(&self.items, scheme, tag),
         }
     }
 

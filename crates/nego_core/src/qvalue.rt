@@ -36,7 +36,7 @@ fn value_of(digits: &[u8]) -> u16
 }
 
 /// The weight in thousandths that a qvalue says.
-pub fn read_qvalue(text: &[u8]) -> Option<u16>
+pub(crate) fn read_qvalue(text: &[u8]) -> Option<u16>
     ensures only { IsTheOne result (IsQvalue text.now) }
     ensures small { IfSome result (λ n. n ≤ 1000) }
 {

@@ -6,6 +6,7 @@ ghost use Rattle.nego_core.specs.RangeIndex.{IsRangeIndex, MatchFirst, AreEntrie
 
 use crate::entry::Entry;
 use crate::item::Item;
+use crate::ordered_text::OrderedText;
 use std::alloc::{AllocError, Global};
 
 fn entries_of(alloc: Global, items: &[Item]) -> Result<Vec<Entry<'_>>, AllocError>
@@ -14,7 +15,7 @@ fn entries_of(alloc: Global, items: &[Item]) -> Result<Vec<Entry<'_>>, AllocErro
     let mut entries = Vec::with_capacity(alloc, items.len())?;
     for (place, item) in items.iter().enumerate() {
         entries.push(Entry {
-            text: item.range().as_str(),
+            text: OrderedText::new(item.range().as_str()),
             place,
         })?;
     }
@@ -35,7 +36,7 @@ fn entry_places(alloc: Global, entries: &[Entry]) -> Result<Vec<usize>, AllocErr
 }
 
 /// The places of the items in the order of their ranges' bytes.
-pub fn places_of(alloc: Global, items: &[Item]) -> Result<Vec<usize>, AllocError>
+pub(crate) fn places_of(alloc: Global, items: &[Item]) -> Result<Vec<usize>, AllocError>
     ensures { IfOk result (λ places. IsRangeIndex items.now places.items) }
 {
     let mut entries = entries_of(alloc, items)?;
@@ -105,7 +106,7 @@ fn first_place(items: &[Item], text: &[u8]) -> Option<usize>
 }
 
 /// The place of the first item whose range is the text.
-pub fn place_of(items: &[Item], places: Option<&[usize]>, text: &[u8]) -> Option<usize>
+pub(crate) fn place_of(items: &[Item], places: Option<&[usize]>, text: &[u8]) -> Option<usize>
     requires { IfSome places (λ places. IsRangeIndex items.now places.now) }
     ensures { MatchFirst items.now text.now result }
 {

@@ -28,7 +28,7 @@ fn skip_commas(text: &[u8]) -> &[u8]
 }
 
 /// The text without the separators at its front.
-pub fn skip_separators(text: &[u8]) -> &[u8]
+pub(crate) fn skip_separators(text: &[u8]) -> &[u8]
     ensures { result.now ≡ skip_separators text.now }
 {
     let mut rest = text;
@@ -48,7 +48,7 @@ fn comma_at(text: &[u8]) -> Option<usize>
 }
 
 /// The text up to its first comma, and what follows that comma.
-pub fn cut_piece(text: &[u8]) -> (&[u8], &[u8])
+pub(crate) fn cut_piece(text: &[u8]) -> (&[u8], &[u8])
     ensures { IsFirstPiece text.now result.0.now result.1.now }
 {
     match comma_at(text) {

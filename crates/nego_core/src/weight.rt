@@ -6,7 +6,7 @@ use crate::blanks::{all_blanks, cut_token, trim_start};
 use crate::qvalue::read_qvalue;
 
 /// The weight of an element that has none.
-pub const FULL_WEIGHT: u16 = 1000;
+pub(crate) const FULL_WEIGHT: u16 = 1000;
 
 /// The value of a qvalue that blanks follow.
 fn read_last_qvalue(text: &[u8]) -> Option<u16>
@@ -39,7 +39,7 @@ fn read_after_semicolon(text: &[u8]) -> Option<u16>
 }
 
 /// The weight that stands after a range, or that of none.
-pub fn read_weight(text: &[u8]) -> Option<u16>
+pub(crate) fn read_weight(text: &[u8]) -> Option<u16>
     ensures only { IsTheOne result (IsTail IsWeight text.now) }
     ensures small { IfSome result (λ n. n ≤ 1000) }
 {
@@ -51,7 +51,7 @@ pub fn read_weight(text: &[u8]) -> Option<u16>
 }
 
 /// Reads the end of an element that may have no weight.
-pub fn read_no_weight(text: &[u8]) -> Option<u16>
+pub(crate) fn read_no_weight(text: &[u8]) -> Option<u16>
     ensures only { IsTheOne result (IsTail IsNoWeight text.now) }
     ensures small { IfSome result (λ n. n ≤ 1000) }
 {

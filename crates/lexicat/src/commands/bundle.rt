@@ -10,14 +10,12 @@ ghost use Rattle.lexicat.specs.Reading.{AnswersInput, RefusesInput};
 ghost use Rattle.lexicat.specs.Words.{bundle_app};
 
 use crate::answer::{Answer, finish};
-use crate::given::{malformed_of, scheme_of, text_of};
-use crate::pick::read_ranges;
+use crate::given::{bytes_given, field_of};
 use crate::refusal::Refusal;
-use crate::wording::read_default;
 use crate::{arguments, status};
 use clap::{ArgMatches, Command};
-use docs_core::{Sink, Source, bundle_document, read_all};
-use nego_core::{Malformed, Scheme};
+use docs_core::{Sink, Source, read_all, read_site};
+use front_core::{Field, Preferences};
 use std::alloc::{AllocError, Global};
 
 /// `bundle [--scheme SCHEME] [--lenient] [--default LANG] FIELD`
@@ -39,26 +37,17 @@ pub fn command<'a>(alloc: Global, schemes: &'a [&'a str]) -> Result<Command<'a>,
 /// What the words of `bundle` ask.
 #[derive(Clone, Copy)]
 struct Asked<'a> {
-    scheme: Scheme,
-    malformed: Malformed,
-    default: Option<&'a str>,
-    field: &'a str,
+    field: Field<'a>,
+    default: Option<&'a [u8]>,
 }
 
 /// What is asked, where no word is missing.
 fn asked_of<'a>(given: &ArgMatches<'a>) -> Option<Asked<'a>>
     ensures { option_map bundle_asked result ≡ bundle_words (rows_of (found_of given.now)) }
 {
-    let field = text_of(given, "field")?;
-    let scheme = scheme_of(text_of(given, "scheme"));
-    let malformed = malformed_of(text_of(given, "lenient"));
-    let default = text_of(given, "default");
-    Some(Asked {
-        scheme,
-        malformed,
-        default,
-        field,
-    })
+    let field = field_of(given, "field")?;
+    let default = bytes_given(given, "default");
+    Some(Asked { field, default })
 }
 
 /// Prints the labels of one reader, or tells the refusal.
@@ -83,12 +72,12 @@ pub fn act<R: Source, W: Sink, F: Sink>(
 fn answer_of<R: Source>(alloc: Global, asked: Asked<'_>, reader: &mut R) -> Result<Answer, Refusal>
     requires { R.failed reader.old ≡ false }
     ensures { let words = bundle_asked asked.entry in MatchResult result
-        (λ answer. AnswersInput R.remaining (IsBundle words) reader.old reader.new answer.text answer.status)
+        (λ answer. AnswersInput R.remaining R.failed (IsBundle words) reader.old reader.new answer.text answer.status)
         (RefusesInput R.remaining R.failed (FitsBundle words) (BarsBundle words) RefusesOnly reader.old reader.new) }
 {
-    let default = read_default(alloc, asked.default)?;
-    let list = read_ranges(alloc, asked.scheme, asked.malformed, asked.field)?;
-    let site = read_all(alloc, reader)?;
-    let (text, is_found) = bundle_document(alloc, site.bytes(), &list, default.as_ref())?;
-    Ok(Answer::question(text, is_found))
+    let question = Preferences::read(alloc, asked.field, asked.default)?;
+    let input = read_all(alloc, reader)?;
+    let site = read_site(alloc, input.bytes())?;
+    let answer = question.bundle(alloc, &site)?;
+    Ok(Answer::of(answer))
 }

@@ -73,7 +73,7 @@ pub fn act<R: Source, W: Sink, F: Sink>(
 fn answer_of<R: Source>(alloc: Global, asked: Asked<'_>, reader: &mut R) -> Result<Answer, Refusal>
     requires { R.failed reader.old ≡ false }
     ensures { let words = delete_asked asked.entry in MatchResult result
-        (λ answer. AnswersInput R.remaining (IsDeletion words) reader.old reader.new answer.text answer.status)
+        (λ answer. AnswersInput R.remaining R.failed (IsDeletion words) reader.old reader.new answer.text answer.status)
         (RefusesInput R.remaining R.failed (FitsDelete words) (BarsDelete words) (RefusesDeletion words) reader.old reader.new) }
 {
     let key = read_key(alloc, asked.id, asked.lang)?;

@@ -45,7 +45,7 @@ pub fn act<R: Source, W: Sink, F: Sink>(
 fn answer_of<R: Source>(alloc: Global, reader: &mut R) -> Result<Answer, Refusal>
     requires { R.failed reader.old ≡ false }
     ensures { MatchResult result
-        (λ answer. AnswersInput R.remaining IsDelta reader.old reader.new answer.text answer.status)
+        (λ answer. AnswersInput R.remaining R.failed IsDelta reader.old reader.new answer.text answer.status)
         (RefusesInput R.remaining R.failed NoWords BarsNone RefusesDelta reader.old reader.new) }
 {
     let input = read_all(alloc, reader)?;

@@ -10,14 +10,12 @@ ghost use Rattle.lexicat.specs.Reading.{AnswersInput, RefusesInput};
 ghost use Rattle.lexicat.specs.Words.{filter_app};
 
 use crate::answer::{Answer, finish};
-use crate::given::{malformed_of, scheme_of, text_of};
-use crate::pick::read_ranges;
+use crate::given::{bytes_given, field_of};
 use crate::refusal::Refusal;
 use crate::{arguments, status};
-use cell_core::MessageId;
 use clap::{ArgMatches, Command};
-use docs_core::{Ask, Sink, Source, ask_document, read_all};
-use nego_core::{Malformed, Scheme};
+use docs_core::{Sink, Source, read_all, read_site};
+use front_core::{Field, Filter};
 use std::alloc::{AllocError, Global};
 
 /// `filter --id ID [--scheme SCHEME] [--lenient] FIELD`
@@ -39,26 +37,17 @@ pub fn command<'a>(alloc: Global, schemes: &'a [&'a str]) -> Result<Command<'a>,
 /// What the words of `filter` ask.
 #[derive(Clone, Copy)]
 struct Asked<'a> {
-    id: &'a str,
-    scheme: Scheme,
-    malformed: Malformed,
-    field: &'a str,
+    id: &'a [u8],
+    field: Field<'a>,
 }
 
 /// What is asked, where no word is missing.
 fn asked_of<'a>(given: &ArgMatches<'a>) -> Option<Asked<'a>>
     ensures { option_map filter_asked result ≡ filter_words (rows_of (found_of given.now)) }
 {
-    let id = text_of(given, "id")?;
-    let field = text_of(given, "field")?;
-    let scheme = scheme_of(text_of(given, "scheme"));
-    let malformed = malformed_of(text_of(given, "lenient"));
-    Some(Asked {
-        id,
-        scheme,
-        malformed,
-        field,
-    })
+    let id = bytes_given(given, "id")?;
+    let field = field_of(given, "field")?;
+    Some(Asked { id, field })
 }
 
 /// Prints the lines of the filter, or tells the refusal.
@@ -83,13 +72,12 @@ pub fn act<R: Source, W: Sink, F: Sink>(
 fn answer_of<R: Source>(alloc: Global, asked: Asked<'_>, reader: &mut R) -> Result<Answer, Refusal>
     requires { R.failed reader.old ≡ false }
     ensures { let words = filter_asked asked.entry in MatchResult result
-        (λ answer. AnswersInput R.remaining (IsFilter words) reader.old reader.new answer.text answer.status)
+        (λ answer. AnswersInput R.remaining R.failed (IsFilter words) reader.old reader.new answer.text answer.status)
         (RefusesInput R.remaining R.failed (FitsFilter words) (BarsFilter words) RefusesOnly reader.old reader.new) }
 {
-    let id = MessageId::new(alloc, asked.id)?;
-    let list = read_ranges(alloc, asked.scheme, asked.malformed, asked.field)?;
-    let site = read_all(alloc, reader)?;
-    let ask = Ask::Filter(asked.scheme, list);
-    let (text, is_found) = ask_document(alloc, site.bytes(), &id, &ask)?;
-    Ok(Answer::question(text, is_found))
+    let question = Filter::read(alloc, asked.id, asked.field)?;
+    let input = read_all(alloc, reader)?;
+    let site = read_site(alloc, input.bytes())?;
+    let answer = question.lines(alloc, &site)?;
+    Ok(Answer::of(answer))
 }

@@ -10,15 +10,12 @@ ghost use Rattle.lexicat.specs.Reading.{AnswersInput, RefusesInput};
 ghost use Rattle.lexicat.specs.Words.{lookup_app};
 
 use crate::answer::{Answer, finish};
-use crate::given::{malformed_of, scheme_of, text_of};
-use crate::pick::read_ranges;
+use crate::given::{bytes_given, field_of};
 use crate::refusal::Refusal;
-use crate::wording::read_default;
 use crate::{arguments, status};
-use cell_core::MessageId;
 use clap::{ArgMatches, Command};
-use docs_core::{Ask, Sink, Source, ask_document, read_all};
-use nego_core::{Malformed, Scheme};
+use docs_core::{Sink, Source, read_all, read_site};
+use front_core::{Field, Lookup};
 use std::alloc::{AllocError, Global};
 
 /// `lookup --id ID [--scheme SCHEME] [--lenient] [--default LANG] FIELD`
@@ -41,29 +38,19 @@ pub fn command<'a>(alloc: Global, schemes: &'a [&'a str]) -> Result<Command<'a>,
 /// What the words of `lookup` ask.
 #[derive(Clone, Copy)]
 struct Asked<'a> {
-    id: &'a str,
-    scheme: Scheme,
-    malformed: Malformed,
-    default: Option<&'a str>,
-    field: &'a str,
+    id: &'a [u8],
+    field: Field<'a>,
+    default: Option<&'a [u8]>,
 }
 
 /// What is asked, where no word is missing.
 fn asked_of<'a>(given: &ArgMatches<'a>) -> Option<Asked<'a>>
     ensures { option_map lookup_asked result ≡ lookup_words (rows_of (found_of given.now)) }
 {
-    let id = text_of(given, "id")?;
-    let field = text_of(given, "field")?;
-    let scheme = scheme_of(text_of(given, "scheme"));
-    let malformed = malformed_of(text_of(given, "lenient"));
-    let default = text_of(given, "default");
-    Some(Asked {
-        id,
-        scheme,
-        malformed,
-        default,
-        field,
-    })
+    let id = bytes_given(given, "id")?;
+    let field = field_of(given, "field")?;
+    let default = bytes_given(given, "default");
+    Some(Asked { id, field, default })
 }
 
 /// Prints the line of the lookup, or tells the refusal.
@@ -88,14 +75,12 @@ pub fn act<R: Source, W: Sink, F: Sink>(
 fn answer_of<R: Source>(alloc: Global, asked: Asked<'_>, reader: &mut R) -> Result<Answer, Refusal>
     requires { R.failed reader.old ≡ false }
     ensures { let words = lookup_asked asked.entry in MatchResult result
-        (λ answer. AnswersInput R.remaining (IsLookup words) reader.old reader.new answer.text answer.status)
+        (λ answer. AnswersInput R.remaining R.failed (IsLookup words) reader.old reader.new answer.text answer.status)
         (RefusesInput R.remaining R.failed (FitsLookup words) (BarsLookup words) RefusesOnly reader.old reader.new) }
 {
-    let id = MessageId::new(alloc, asked.id)?;
-    let default = read_default(alloc, asked.default)?;
-    let list = read_ranges(alloc, asked.scheme, asked.malformed, asked.field)?;
-    let site = read_all(alloc, reader)?;
-    let ask = Ask::Lookup(list, default);
-    let (text, is_found) = ask_document(alloc, site.bytes(), &id, &ask)?;
-    Ok(Answer::question(text, is_found))
+    let question = Lookup::read(alloc, asked.id, asked.field, asked.default)?;
+    let input = read_all(alloc, reader)?;
+    let site = read_site(alloc, input.bytes())?;
+    let answer = question.line(alloc, &site)?;
+    Ok(Answer::of(answer))
 }

@@ -53,7 +53,7 @@ pub fn act<R: Source, W: Sink, F: Sink>(
 fn answer_of<R: Source>(alloc: Global, word: &str, reader: &mut R) -> Result<Answer, Refusal>
     requires { R.failed reader.old ≡ false }
     ensures { MatchResult result
-        (λ answer. AnswersInput R.remaining (IsMissing word.now) reader.old reader.new answer.text answer.status)
+        (λ answer. AnswersInput R.remaining R.failed (IsMissing word.now) reader.old reader.new answer.text answer.status)
         (RefusesInput R.remaining R.failed (FitsMissing word.now) (BarsMissing word.now) RefusesOnly reader.old reader.new) }
 {
     let lang = read_lang(alloc, word)?;

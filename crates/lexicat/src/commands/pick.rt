@@ -8,14 +8,13 @@ ghost use Rattle.lexicat.specs.Asked.{asked_words, IsAnswer, RefusesWords};
 ghost use Rattle.lexicat.specs.Picks.{Picks};
 
 use crate::fault_line::refuse_words;
-use crate::given::{malformed_of, scheme_of, text_of, texts_of};
-use crate::pick::{Finding, line_of, picked};
-use crate::pick_fault::PickFault;
+use crate::given::{bytes_given, field_of, texts_of};
 use crate::printing::print;
 use crate::{arguments, status};
 use clap::{ArgMatches, Command};
 use docs_core::{Doc, Sink};
-use nego_core::{Malformed, Scheme};
+use front_core::words::{Finding, find, line_of};
+use front_core::{Field, FrontFault};
 use std::alloc::{AllocError, Global};
 
 /// `pick [--scheme SCHEME] [--lenient] [--default LANG] RANGES TAG..`
@@ -36,10 +35,8 @@ pub fn command<'a>(alloc: Global, schemes: &'a [&'a str]) -> Result<Command<'a>,
 /// What the words of a `pick` ask.
 #[derive(Clone, Copy)]
 struct Asked<'m, 'a> {
-    scheme: Scheme,
-    malformed: Malformed,
-    default: Option<&'a str>,
-    ranges: &'a str,
+    field: Field<'a>,
+    default: Option<&'a [u8]>,
     tags: &'m [&'a str],
 }
 
@@ -47,16 +44,12 @@ struct Asked<'m, 'a> {
 fn asked_of<'m, 'a>(given: &'m ArgMatches<'a>) -> Option<Asked<'m, 'a>>
     ensures { option_map asked_words result ≡ pick_words (rows_of (found_of given.now)) }
 {
-    let ranges = text_of(given, "ranges")?;
+    let field = field_of(given, "ranges")?;
     let tags = texts_of(given, "tags")?;
-    let scheme = scheme_of(text_of(given, "scheme"));
-    let malformed = malformed_of(text_of(given, "lenient"));
-    let default = text_of(given, "default");
+    let default = bytes_given(given, "default");
     Some(Asked {
-        scheme,
-        malformed,
+        field,
         default,
-        ranges,
         tags,
     })
 }
@@ -88,17 +81,10 @@ struct Answer {
     status: u8,
 }
 
-fn answer_of(alloc: Global, asked: Asked<'_, '_>) -> Result<Answer, PickFault>
+fn answer_of(alloc: Global, asked: Asked<'_, '_>) -> Result<Answer, FrontFault>
     ensures { MatchResult result (IsAnswer (asked_words asked.entry)) (RefusesWords (asked_words asked.entry)) }
 {
-    let found = picked(
-        alloc,
-        asked.scheme,
-        asked.malformed,
-        asked.default,
-        asked.ranges,
-        asked.tags,
-    )?;
+    let found = find(alloc, asked.field, asked.default, asked.tags)?;
     let line = line_of(alloc, &found)?;
     let status = match &found {
         Finding::Matched(_) | Finding::Default(_) => status::ANSWERED,

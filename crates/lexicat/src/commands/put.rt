@@ -85,7 +85,7 @@ fn answer_of<R: Source>(
 ) -> Result<Answer, Refusal>
     requires { R.failed reader.old ≡ false }
     ensures { let words = put_asked asked.entry in MatchResult result
-        (λ answer. AnswersInput R.remaining (IsPut words) reader.old reader.new answer.text answer.status)
+        (λ answer. AnswersInput R.remaining R.failed (IsPut words) reader.old reader.new answer.text answer.status)
         (RefusesInput R.remaining R.failed (FitsPut words) (BarsPut words) (RefusesPut words) reader.old reader.new) }
 {
     let key = read_key(alloc, asked.id, asked.lang)?;

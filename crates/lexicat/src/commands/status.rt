@@ -42,7 +42,7 @@ pub fn act<R: Source, W: Sink, F: Sink>(
 fn answer_of<R: Source>(alloc: Global, reader: &mut R) -> Result<Answer, Refusal>
     requires { R.failed reader.old ≡ false }
     ensures { MatchResult result
-        (λ answer. AnswersInput R.remaining IsStatus reader.old reader.new answer.text answer.status)
+        (λ answer. AnswersInput R.remaining R.failed IsStatus reader.old reader.new answer.text answer.status)
         (RefusesInput R.remaining R.failed NoWords BarsNone RefusesOnly reader.old reader.new) }
 {
     let site = read_all(alloc, reader)?;

@@ -49,7 +49,7 @@ pub fn act<R: Source, W: Sink, F: Sink>(
 fn answer_of<R: Source>(alloc: Global, reader: &mut R) -> Result<(Doc, Doc), Refusal>
     requires { R.failed reader.old ≡ false }
     ensures { MatchResult result
-        (λ texts. AnswersInput R.remaining IsSync reader.old reader.new (texts.0 ++ texts.1) 0)
+        (λ texts. AnswersInput R.remaining R.failed IsSync reader.old reader.new (texts.0 ++ texts.1) 0)
         (RefusesInput R.remaining R.failed NoWords BarsNone RefusesSync reader.old reader.new) }
 {
     let input = read_all(alloc, reader)?;

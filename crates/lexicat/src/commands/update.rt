@@ -51,7 +51,7 @@ pub fn act<R: Source, W: Sink, F: Sink>(
 fn answer_of<R: Source>(alloc: Global, now: u64, reader: &mut R) -> Result<Answer, Refusal>
     requires { R.failed reader.old ≡ false }
     ensures { MatchResult result
-        (λ answer. AnswersInput R.remaining (IsUpdate now) reader.old reader.new answer.text answer.status)
+        (λ answer. AnswersInput R.remaining R.failed (IsUpdate now) reader.old reader.new answer.text answer.status)
         (RefusesInput R.remaining R.failed NoWords BarsNone (RefusesUpdate now) reader.old reader.new) }
 {
     let input = read_all(alloc, reader)?;

@@ -1,49 +1,48 @@
 //! The numbers, the texts and the lines of refusals.
 use super::harness::Page;
 use crate::fault_line::{refuse_document, refuse_words};
-use crate::pick_fault::PickFault;
 use cata_core::PlayFault;
 use cell_core::{SiteName, Stamp};
 use docs_core::{DocCause, DocFault, Output};
+use front_core::FrontFault;
 use lang_core::LangFault;
 use nego_core::NegoFault;
-use std::alloc::AllocError;
 use std::test::Fail;
 
 #[test]
-fn pick_faults(rt: HostRuntime) -> Result<(), Fail> {
+fn question_faults(rt: HostRuntime) -> Result<(), Fail> {
     let rows = [
         (
-            PickFault::Tag(LangFault::TagEmpty),
+            FrontFault::Language(LangFault::TagEmpty),
             1,
             "refused 1: tag is empty\n",
         ),
         (
-            PickFault::Tag(LangFault::TagTooLong),
+            FrontFault::Language(LangFault::TagTooLong),
             2,
             "refused 2: tag is over 255 bytes\n",
         ),
         (
-            PickFault::Tag(LangFault::TagSubtag { offset: 254 }),
+            FrontFault::Language(LangFault::TagSubtag { offset: 254 }),
             3,
             "refused 3: subtag at 254\n",
         ),
         (
-            PickFault::Tag(LangFault::TagNotWellFormed),
+            FrontFault::Language(LangFault::TagNotWellFormed),
             4,
             "refused 4: tag is not well-formed\n",
         ),
         (
-            PickFault::Ranges(NegoFault::FieldTooLong),
+            FrontFault::Field(NegoFault::FieldTooLong),
             8,
             "refused 8: field is over 65535 bytes\n",
         ),
         (
-            PickFault::Ranges(NegoFault::FieldMalformed { offset: 65_534 }),
+            FrontFault::Field(NegoFault::FieldMalformed { offset: 65_534 }),
             9,
             "refused 9: field element at 65534\n",
         ),
-        (PickFault::NoMemory, 26, "refused 26: out of memory\n"),
+        (FrontFault::NoMemory, 26, "refused 26: out of memory\n"),
     ];
     for (fault, number, line) in rows {
         let mut page = Page::new(rt.alloc());
@@ -86,14 +85,6 @@ fn long_lines(rt: HostRuntime) -> Result<(), Fail> {
     assert_eq!(rt; refuse_words(&mut Output::new(&mut page), 9, &text), 3);
     assert!(rt; page.bytes.as_slice() == line.as_bytes());
     Ok(())
-}
-
-/// Want of memory has one form, from wherever it comes.
-#[test]
-fn one_form(rt: HostRuntime) {
-    assert_eq!(rt; PickFault::from(NegoFault::NoMemory), PickFault::NoMemory);
-    assert_eq!(rt; PickFault::from(LangFault::NoMemory), PickFault::NoMemory);
-    assert_eq!(rt; PickFault::from(AllocError), PickFault::NoMemory);
 }
 
 /// A refusal of a document is told as the fault itself says it, with LF.

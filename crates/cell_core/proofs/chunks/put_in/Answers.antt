@@ -1,4 +1,5 @@
 use Rattle.std.proofs.Common.{sym, ap, ◌∙◌}
+use Rattle.std.specs.List.{insert}
 use Rattle.std.specs.FinMap.Entries.{put}
 use Rattle.cell_core.proofs.PlaceLemmas.{set_as_put, insert_as_put}
 use Rattle.cell_core.proofs.chunks.put_in.Goals as goal
@@ -10,5 +11,6 @@ returns-in-Ok-clause-ok g c =
 
 pub returns-in-Ok-insert-clause-ok : goal.returns-in-Ok-insert-clause-ok
 returns-in-Ok-insert-clause-ok g c =
-    c.in-Ok-insert.ensures.items ∙ insert_as_put c.args.key c.args.value c.deref.result.now c.args.pairs.now.items c.in-Err.at c.in-Err.ensures.absent (sym c.deref.ensures.value)
+    c.in-Ok-insert.ensures.items ∙ ap (λ xs. insert xs c.in-Err.at (c.args.key, c.args.value)) c.make_room.ensures.items
+    ∙ insert_as_put c.args.key c.args.value c.deref.result.now c.args.pairs.now.items c.in-Err.at c.in-Err.ensures.absent (sym c.deref.ensures.value)
     ∙ ap (put g.K.Ord.cmp c.args.key c.args.value) c.deref.ensures.value

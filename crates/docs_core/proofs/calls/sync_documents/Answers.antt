@@ -1,15 +1,14 @@
-use Rattle.std.proofs.Common.{◌∙◌, ap, inl, inr}
+use Rattle.std.proofs.Common.{inl, inr}
 use Rattle.std.proofs.lemmas.Result.{err_from_is_err_and}
-use Rattle.docs_core.specs.Documents.{site_text}
 use Rattle.docs_core.specs.Named.{site_checks}
-use Rattle.docs_core.proofs.CallsLemmas.{no_memory}
+use Rattle.docs_core.proofs.CallsLemmas.{no_memory, site_written}
 use Rattle.docs_core.proofs.calls.sync_documents.Goals as goal
 
 pub returns : goal.returns
 returns c =
     let synced = c.in_ok-sync.ensures in
-    let first = c.in_ok-first-2.ensures.text ∙ ap site_text synced.first in
-    let second = c.in_ok-second-2.ensures.text ∙ ap site_text synced.second in
+    let first = site_written c.in_ok-first-2.first _ _ synced.first c.in_ok-first-2.ensures.text c.in_ok-first-2.ensures.reads in
+    let second = site_written c.in_ok-second-2.second _ _ synced.second c.in_ok-second-2.ensures.text c.in_ok-second-2.ensures.reads in
     (c.in_ok-first.first, c.in_ok-second.second, c.in_ok-first.ensures, c.in_ok-second.ensures, synced.agree, first, second)
 
 pub returns-in_err-first-2 : goal.returns-in_err-first-2

@@ -1,8 +1,7 @@
-use Rattle.std.proofs.Common.{◌∙◌, ap, inl}
+use Rattle.std.proofs.Common.{◌≡◌, inl}
 use Rattle.std.proofs.lemmas.Result.{err_from_is_err_and}
-use Rattle.docs_core.specs.Documents.{site_text}
 use Rattle.docs_core.specs.Named.{site_checks}
-use Rattle.docs_core.proofs.CallsLemmas.{no_memory}
+use Rattle.docs_core.proofs.CallsLemmas.{no_memory, site_written}
 use Rattle.docs_core.proofs.ExchangeLemmas.{not_imported}
 use Rattle.docs_core.proofs.exchange.import_document.Goals as goal
 
@@ -11,8 +10,8 @@ returns c =
     let site = c.in_ok-site.site in
     let left = c.put_labels.new.site in
     let put = c.in_ok-put_labels.ensures in
-    let same = ap (λ n. site_text (record { name = n; cells = left.cells })) put.name in
-    (site, c.in_ok-maps.maps, left.cells, c.in_ok-site.ensures, c.in_ok-maps.ensures, put.ok, c.in_ok-doc.ensures.text ∙ same)
+    let same : left ≡ record { name = site.name; cells = left.cells } = λ i. record { name = put.name i; cells = left.cells } in
+    (site, c.in_ok-maps.maps, left.cells, c.in_ok-site.ensures, c.in_ok-maps.ensures, put.ok, site_written c.in_ok-doc.doc left _ same c.in_ok-doc.ensures.text c.in_ok-doc.ensures.reads)
 
 pub returns-in_err-doc : goal.returns-in_err-doc
 returns-in_err-doc c =

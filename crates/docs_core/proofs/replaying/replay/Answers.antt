@@ -7,29 +7,16 @@ use Rattle.docs_core.proofs.replaying.replay.Goals as goal
 pub returns-in_err-lines-clause-err : goal.returns-in_err-lines-clause-err
 returns-in_err-lines-clause-err g c =
     let p = err_from_is_err_and c.from_residual.result c.from_residual.ensures.1 in
-    rw (p.1, p.2) (elim c.in_err-lines.ensures.played [ inl h ↦ inl (h, refl) | inr h ↦ inr (inl (h.0, h.1, h.2, h.3, refl)) ])
+    rw (p.1, p.2) (elim c.in_err-lines.ensures [ inl h ↦ inl (h, refl) | inr h ↦ inr (inl (h.0, h.1, h.2, refl)) ])
 
 pub returns-clause-ok : goal.returns-clause-ok
 returns-clause-ok g c =
-    let e = c.in_ok-lines.ensures.played in
+    let e = c.in_ok-lines.ensures in
     written c.write_out.result _ _ _ c.write_out.ensures.ok c.write_out.ensures.failed
-    (λ appended unfailed. (e.0, c.in_ok-lines.lines, e.1, e.3, rw c.bytes.ensures at appended, unfailed, e.2))
+    (λ appended unfailed. (e.0, c.in_ok-lines.lines, e.1, e.2, rw c.bytes.ensures at appended, unfailed))
 
 pub returns-clause-err : goal.returns-clause-err
 returns-clause-err g c =
-    let e = c.in_ok-lines.ensures.played in
+    let e = c.in_ok-lines.ensures in
     not_written c.write_out.result _ _ _ c.write_out.ensures.refused c.write_out.ensures.failed
-    (λ fault is failing. inr (inr (e.0, c.in_ok-lines.lines, e.1, e.2, e.3, is, failing, rw c.bytes.ensures at c.write_out.ensures.err)))
-
-pub returns-clause-fits : goal.returns-clause-fits
-returns-clause-fits g c =
-    let e = c.in_ok-lines.ensures.fits in
-    written c.write_out.result _ _ _ c.write_out.ensures.ok c.write_out.ensures.failed
-    (λ appended unfailed. (e.0, c.in_ok-lines.lines, e.1, e.2, e.3, rw c.bytes.ensures at appended))
-
--- a refusal to write comes once all is read
-pub returns-clause-refused_fits : goal.returns-clause-refused_fits
-returns-clause-refused_fits g c =
-    let e = c.in_ok-lines.ensures.fits in
-    not_written c.write_out.result _ _ _ c.write_out.ensures.refused c.write_out.ensures.failed
-    (λ fault is failing. inr (e.0, e.1, e.2.0))
+    (λ fault is failing. inr (inr (e.0, c.in_ok-lines.lines, e.1, e.2, is, failing, rw c.bytes.ensures at c.write_out.ensures.err)))

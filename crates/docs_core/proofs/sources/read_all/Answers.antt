@@ -1,12 +1,6 @@
-use Rattle.std.proofs.Common.{◌∙◌, arith, take, length-take}
+use Rattle.std.proofs.Common.{◌∙◌, arith, refl, take, length-take}
 use Rattle.docs_core.proofs.Streams.{Consumes-behind, Consumes-keeps}
 use Rattle.docs_core.proofs.sources.read_all.Goals as goal
-
--- what was read before, and nothing more
-pub returns-in_default-clause-most : goal.returns-in_default-clause-most
-returns-in_default-clause-most g c =
-    let inv = c.reads.invariant in
-    (take c.reads.filled c.reads.buffer.items, simp length-take (omega arith), Consumes-keeps _ _ _ _ inv.given c.in_default.ensures.bytes)
 
 -- what was read before, and what this read gave behind it
 pub reads-preserved : goal.reads-preserved

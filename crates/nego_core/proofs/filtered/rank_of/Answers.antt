@@ -4,7 +4,7 @@ use Rattle.nego_core.proofs.filtered.rank_of.Goals as goal
 use Rattle.nego_core.proofs.filtered.rank_of.Goals.{in_default-via-in-Some+else-found-gt0, in_default-via-in_default}
 
 pub returns-in-Some : goal.returns-in-Some
-returns-in-Some c = rw c.as_str.ensures.text (has_key _ _ _ _ _ _ _ c.in-Some.ensures.decides c.if-found-gt0.true refl)
+returns-in-Some c = rw (c.new.ensures, c.as_str.ensures.text) (has_key _ _ _ _ _ _ _ c.in-Some.ensures.decides c.if-found-gt0.true refl)
 
 pub returns-in_default : goal.returns-in_default
 returns-in_default c = (elim c.in_default.branch [

@@ -1,20 +1,20 @@
 use Rattle.std.proofs.Common.{Some, None}
 use Rattle.lang_core.specs.Text.{pieces}
 use Rattle.nego_core.specs.LookedUp.{IsOpen}
-use Rattle.nego_core.specs.declared.turn.Turn.{Turn}
-use Rattle.nego_core.proofs.LookedUpLaws.{turn_found, turn_passed, turns_over, looked_up}
+use Rattle.nego_core.specs.declared.order_key.OrderKey.{OrderKey}
+use Rattle.nego_core.proofs.LookedUpLaws.{key_found, key_passed, keys_over, looked_up}
 use Rattle.nego_core.proofs.looked_up.look_up.Goals as goal
 
-abbrev zero : Turn
-zero = record { lack = 0; place = 0 }
+abbrev zero : OrderKey
+zero = record { missing_weight = 0; place = 0 }
 
 pub returns-in-Some : goal.returns-in-Some
 returns-in-Some g c =
     let passes = IsOpen c.args.list.now (g.H.Holds.held c.args.held.now) in
-    looked_up c.args.list.now (g.H.Holds.held c.args.held.now) c.turns-turns.result.now _ c.turns-turns.ensures (c.loop-turn.invariant (Some (pieces c.in-Some.text.now)) (turn_found passes c.args.list.now c.turns-turns.result.now c.loop-turn.turn-index zero (pieces c.in-Some.text.now) c.loop-turn-test.true c.in-Some.ensures))
+    looked_up c.args.list.now (g.H.Holds.held c.args.held.now) c.order-keys.result.now _ c.order-keys.ensures (c.loop-key.invariant (Some (pieces c.in-Some.text.now)) (key_found passes c.args.list.now c.order-keys.result.now c.loop-key.key-index zero (pieces c.in-Some.text.now) c.loop-key-test.true c.in-Some.ensures))
 
-pub loop-turn-preserved : goal.loop-turn-preserved
-loop-turn-preserved g c = λ found f. c.loop-turn.invariant found (turn_passed (IsOpen c.args.list.now (g.H.Holds.held c.args.held.now)) c.args.list.now c.turns-turns.result.now c.loop-turn.turn-index zero found c.loop-turn-test.true c.in-None.ensures f)
+pub loop-key-preserved : goal.loop-key-preserved
+loop-key-preserved g c = λ found f. c.loop-key.invariant found (key_passed (IsOpen c.args.list.now (g.H.Holds.held c.args.held.now)) c.args.list.now c.order-keys.result.now c.loop-key.key-index zero found c.loop-key-test.true c.in-None.ensures f)
 
 pub returns : goal.returns
-returns g c = looked_up c.args.list.now (g.H.Holds.held c.args.held.now) c.turns-turns.result.now _ c.turns-turns.ensures (c.loop-turn.invariant None (turns_over (IsOpen c.args.list.now (g.H.Holds.held c.args.held.now)) c.args.list.now c.turns-turns.result.now c.loop-turn.turn-index c.loop-turn-test.false))
+returns g c = looked_up c.args.list.now (g.H.Holds.held c.args.held.now) c.order-keys.result.now _ c.order-keys.ensures (c.loop-key.invariant None (keys_over (IsOpen c.args.list.now (g.H.Holds.held c.args.held.now)) c.args.list.now c.order-keys.result.now c.loop-key.key-index c.loop-key-test.false))

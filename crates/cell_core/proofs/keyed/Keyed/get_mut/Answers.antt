@@ -10,13 +10,13 @@ use Rattle.cell_core.proofs.ChunkLemmas.{chunk_map, chunked_put, find-chunk}
 use Rattle.cell_core.proofs.RunLemmas.{length_with}
 use Rattle.cell_core.proofs.keyed.Keyed.get_mut.Goals as goal
 
-pub bisect-requires : goal.bisect-requires
-bisect-requires g c =
+pub bisect_from_last-requires : goal.bisect_from_last-requires
+bisect_from_last-requires g c =
     let cmp = g.K.Ord.cmp in
     let cs = c.self.inside.chunks.items in
-    let at = c.chunk_for-at.result in
+    let at = c.chunk_from_last-at.result in
     let chunk = c.index.result.now in
-    let fits = subst (λ xs. IsChunkFor cmp c.args.key.now xs at) c.deref.ensures.value c.chunk_for-at.ensures in
+    let fits = subst (λ xs. IsChunkFor cmp c.args.key.now xs at) c.deref.ensures.value c.chunk_from_last-at.ensures in
     subst (IsMap cmp) (ap (λ (x : Vec (g.row.K.Denot × g.row.J.Denot) Global). x.items) (sym c.index.ensures) ∙ sym c.deref-2.ensures.value)
     (chunk_map cmp g.met.K.Ord.total cs c.self.invariant.chunked at chunk fits.in_range)
 
@@ -25,10 +25,10 @@ invariant_of-self-lent g c = λ w.
     let cmp = g.K.Ord.cmp in
     let key = c.args.key.now in
     let cs = c.self.inside.chunks.items in
-    let at = c.chunk_for-at.result in
+    let at = c.chunk_from_last-at.result in
     let chunk = c.index_mut.result.now in
     let e = c.index_mut-in-Ok.result.now in
-    let fits = subst (λ xs. IsChunkFor cmp key xs at) c.deref.ensures.value c.chunk_for-at.ensures in
+    let fits = subst (λ xs. IsChunkFor cmp key xs at) c.deref.ensures.value c.chunk_from_last-at.ensures in
     let same = c.deref-2.ensures.value ∙ ap (λ (x : Vec (g.row.K.Denot × g.row.J.Denot) Global). x.items) (c.index.ensures ∙ get_or_default cs at c.index.result.now chunk fits.in_range ∙ sym c.index_mut.ensures.value) in
     let place = subst (λ xs. IsPlace cmp key xs c.in-Ok.place) same c.in-Ok.ensures.found in
     let x = with_item chunk c.in-Ok.place (e.0, w) in
@@ -46,10 +46,10 @@ returns-in-Ok g c =
     let cmp = g.K.Ord.cmp in
     let key = c.args.key.now in
     let cs = c.self.inside.chunks.items in
-    let at = c.chunk_for-at.result in
+    let at = c.chunk_from_last-at.result in
     let chunk = c.index_mut.result.now in
     let e = c.index_mut-in-Ok.result.now in
-    let fits = subst (λ xs. IsChunkFor cmp key xs at) c.deref.ensures.value c.chunk_for-at.ensures in
+    let fits = subst (λ xs. IsChunkFor cmp key xs at) c.deref.ensures.value c.chunk_from_last-at.ensures in
     let same = c.deref-2.ensures.value ∙ ap (λ (x : Vec (g.row.K.Denot × g.row.J.Denot) Global). x.items) (c.index.ensures ∙ get_or_default cs at c.index.result.now chunk fits.in_range ∙ sym c.index_mut.ensures.value) in
     let place = subst (λ xs. IsPlace cmp key xs c.in-Ok.place) same c.in-Ok.ensures.found in
     let written = λ (w : g.row.J.Denot).
@@ -67,8 +67,8 @@ returns-in-Err g c =
     let cmp = g.K.Ord.cmp in
     let key = c.args.key.now in
     let cs = c.self.inside.chunks.items in
-    let at = c.chunk_for-at.result in
-    let fits = subst (λ xs. IsChunkFor cmp key xs at) c.deref.ensures.value c.chunk_for-at.ensures in
+    let at = c.chunk_from_last-at.result in
+    let fits = subst (λ xs. IsChunkFor cmp key xs at) c.deref.ensures.value c.chunk_from_last-at.ensures in
     let absent = ap (find cmp key) (sym c.self.view_is) ∙ find-chunk cmp g.met.K.Ord.total cs c.self.invariant.chunked key at c.index.result.now fits
     ∙ ap (λ (x : Vec (g.row.K.Denot × g.row.J.Denot) Global). find cmp key x.items) (sym c.index.ensures) ∙ ap (find cmp key) (sym c.deref-2.ensures.value) ∙ c.in-Err.ensures.absent.absent in
     (λ i. inr (c.self.view_is i), record { lends = tt; value = sym absent; map = subst (IsMap cmp) c.self.view_is c.self.invariant.chunked.map })

@@ -8,6 +8,6 @@ returns g c =
     let edited = subst (λ (i : List ℕ). IsEdited c.bytes.result.now c.args.asked.now (i, c.in_ok-key.key.lang) None c.in_ok-text.text) key.1 c.in_ok-text.ensures in
     rw c.document.ensures (
       c.in_ok-site.site,
-      c.in_ok-site.ensures.ok,
+      c.in_ok-site.ensures,
       (c.in_ok-key.key.lang, (key.0, (c.in_ok-key.key.lang, key.2)), key.2, rw (← c.bytes.ensures) edited, refl),
     )

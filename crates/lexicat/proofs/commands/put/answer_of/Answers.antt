@@ -10,6 +10,6 @@ returns g c =
     let edited = subst (λ (texts : List (List ℕ)). IsEdited c.bytes.result.now c.args.asked.now (c.args.asked.id.now, c.in_ok-key.key.lang) (Some texts) c.in_ok-text.text) label.1 named in
     rw c.document.ensures (
       c.in_ok-site.site,
-      c.in_ok-site.ensures.ok,
+      c.in_ok-site.ensures,
       (c.in_ok-key.key.lang, (key.0, (c.in_ok-key.key.lang, key.2), label.0), key.2, rw (← c.bytes.ensures) edited, refl),
     )

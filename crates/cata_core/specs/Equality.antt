@@ -1,0 +1,40 @@
+-- When edits, catalogues and sites are equal.
+use Rattle.std.specs.Prelude.{ℕ, Bool, List, nat_eq}
+use Rattle.std.specs.Borrow.{Bor}
+use Rattle.std.specs.Ordering.{eq_by_cmp, on, eq_of_both}
+use Rattle.std.specs.Cmp.{IsEquivalence, eq_by_cmp_equiv, and_equiv, on_equiv}
+use Rattle.std.specs.Cmp.Lexicographic.{pointwise, on_texts_equal, lists_equiv}
+use Rattle.cell_core.specs.declared.cell.Cell.{Cell}
+use Rattle.cell_core.specs.contracts.cell.CellPartialEq.TheImpl as cell_impl
+use Rattle.cell_core.specs.contracts.cell.CellEq.TheImpl.Laws as cell_laws
+use Rattle.cata_core.specs.Entries.{Entry, Entries, key_cmp, key_cmp_total}
+use Rattle.cata_core.specs.Sites.{SiteState}
+
+-- what `==` says of two cells
+abbrev pub cell_eq : Cell → Cell → Bool
+cell_eq = (cell_impl.ghosts).eq
+
+-- the same key with the same cell
+abbrev pub entry_eq : Entry → Entry → Bool
+entry_eq = eq_of_both (on (λ e. e.0) (eq_by_cmp key_cmp)) (on (λ e. e.1) cell_eq)
+
+pub entry_equiv : IsEquivalence entry_eq
+entry_equiv = and_equiv (on_equiv (λ (e : Entry). e.0) (eq_by_cmp_equiv key_cmp_total)) (on_equiv (λ (e : Entry). e.1) cell_laws.laws-law)
+
+-- an entry behind references
+abbrev pub seen : Bor (List ℕ) × Bor (List ℕ) × Bor Cell → Entry
+seen e = ((e.0.now, e.1.now), e.2.now)
+
+-- the same entries in the same order
+abbrev pub entries_eq : Entries → Entries → Bool
+entries_eq = pointwise entry_eq
+
+pub entries_equiv : IsEquivalence entries_eq
+entries_equiv = lists_equiv entry_equiv
+
+-- the same name and the same catalogue
+abbrev pub site_eq : SiteState → SiteState → Bool
+site_eq = eq_of_both (on (λ s. s.name) (pointwise nat_eq)) (on (λ s. s.cells) entries_eq)
+
+pub site_equiv : IsEquivalence site_eq
+site_equiv = and_equiv (on_texts_equal (λ (s : SiteState). s.name)) (on_equiv (λ (s : SiteState). s.cells) entries_equiv)

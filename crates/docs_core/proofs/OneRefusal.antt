@@ -1,0 +1,208 @@
+-- No text is both read and refused, and it is refused for one cause, want of memory apart.
+use Rattle.std.proofs.Common.{◌≡◌, ◌≢◌, ◌∙◌, ◌++◌, ◌+◌, ℕ, List, [], ◌∷◌, Bool, true, false, length, sym, ap, subst, refl, inl, inr}
+use Rattle.std.specs.Prelude.{◌⊎◌, Option, None, Some, unwrap_or}
+use Rattle.serde_json.specs.Data.{Data}
+use Rattle.cell_core.specs.Labels.{IsLabel}
+use Rattle.cell_core.specs.declared.fault.CellFault.{CellFault}
+use Rattle.lang_core.specs.declared.fault.LangFault.{LangFault}
+use Rattle.nego_core.specs.declared.fault.NegoFault.{NegoFault}
+use Rattle.nego_core.specs.declared.scheme.Scheme.{Scheme}
+use Rattle.docs_core.specs.Checks.{AllPass, AreJson, Check, FirstFails, IsRefusal, IsTextRefusal, check, rows_checks}
+use Rattle.docs_core.specs.Fields.{IsLabelRefusal, IsLabelText, cell_fields, key_of, label_check, language_check, order_check, stamp_fields}
+use Rattle.docs_core.specs.Heads.{head_checks, is_first, own_data, rows_in}
+use Rattle.docs_core.specs.LangMapChecks as maps
+use Rattle.docs_core.specs.LangMapRows as map_rows
+use Rattle.docs_core.specs.Named.{document_checks, own_checks}
+use Rattle.docs_core.specs.ReadsAs.{Reads}
+use Rattle.docs_core.specs.Rising.{cell_checks, cell_row, entry_in, last_key, own_cell_checks, own_stamp_checks, stamp_checks, stamp_row, told_in}
+use Rattle.docs_core.specs.ScriptReads.{script_checks, sites_check}
+use Rattle.docs_core.specs.StepFields.{default_checks, list_check, shaped_fields, step_checks, step_fields}
+use Rattle.docs_core.specs.Steps.{StepText, edit_step, merge_step, filter_step, lookup_step, cells_step, tell_step, post_step, deliver_step, step_in}
+use Rattle.docs_core.specs.Values.{Row}
+use Rattle.docs_core.specs.declared.fault.DocCause.{DocCause}
+use Rattle.docs_core.specs.declared.fault.DocCause.TheVariants.{Field, NoMemory}
+use Rattle.docs_core.specs.declared.fault.FieldFault.TheVariants.{Cell, Language, Priorities}
+use Rattle.docs_core.specs.declared.form.Form.{Form}
+use Rattle.docs_core.specs.declared.form.Form.TheVariants.{Script}
+use Rattle.docs_core.proofs.FieldRefusals.{no_label, no_language, no_list, one_label_fault, one_language_fault, one_list_fault}
+
+-- nothing both passes and fails it, and it refuses for one cause
+pub record IsTest (c : Check) : Type 0 where
+  pub apart : (e : DocCause) → c.passes → c.refuses e → ⊥
+  pub one : (e f : DocCause) → c.refuses e → c.refuses f → e ≡ f
+
+abbrev pub AreTests : List Check → Type 0
+AreTests [] = Unit {0}
+AreTests (c ∷ cs) = IsTest c × AreTests cs
+
+both : (xs ys : List Check) → AreTests xs → AreTests ys → AreTests (xs ++ ys)
+both [] ys p q = q
+both (x ∷ xs) ys p q = (p.0, both xs ys p.1 q)
+
+apart_all : (cs : List Check) (e : DocCause) → AreTests cs → AllPass cs → FirstFails cs e → ⊥
+apart_all [] e t p q = q
+apart_all (c ∷ cs) e t p q = elim q [ inl h ↦ t.0.apart e p.0 h | inr h ↦ apart_all cs e t.1 p.1 h.1 ]
+
+one_all : (cs : List Check) (e f : DocCause) → AreTests cs → FirstFails cs e → FirstFails cs f → e ≡ f
+one_all [] e f t p q = absurd p
+one_all (c ∷ cs) e f t p q = elim p [
+  | inl h ↦ elim q [ inl k ↦ t.0.one e f h k | inr k ↦ absurd (t.0.apart e k.0 h) ]
+  | inr h ↦ elim q [ inl k ↦ absurd (t.0.apart f h.0 k) | inr k ↦ one_all cs e f t.1 h.1 k.1 ]
+]
+
+-- ---- the tests
+
+plain : (p : Type 0) (cause : DocCause) → IsTest (check p cause)
+plain p cause = record { apart = λ e h r. r.0 h; one = λ e f r s. r.1 ∙ sym s.1 }
+
+language : (k : ℕ) (text : List ℕ) → IsTest (language_check k text)
+language k text = record {
+  apart = λ e h r. no_language text h.0 r.0 r.1 h.1 r.2;
+  one = λ e f r s. r.3 ∙ ap (λ (x : LangFault). Field k (Language x)) (one_language_fault text r.0 s.0 r.1 s.1 r.2 s.2) ∙ sym s.3;
+}
+
+label_apart : (k : ℕ) (texts : Option (List (List ℕ))) (e : DocCause) → IsLabelText texts → IsLabelRefusal k texts e → ⊥
+label_apart k None e h r = r
+label_apart k (Some texts) e h r = no_label texts r.0 h r.1
+
+label_one : (k : ℕ) (texts : Option (List (List ℕ))) (e f : DocCause) → IsLabelRefusal k texts e → IsLabelRefusal k texts f → e ≡ f
+label_one k None e f r s = absurd r
+label_one k (Some texts) e f r s = r.2 ∙ ap (λ (x : CellFault). Field k (Cell x)) (one_label_fault texts r.0 s.0 r.1 s.1) ∙ sym s.2
+
+label : (k : ℕ) (texts : Option (List (List ℕ))) → IsTest (label_check k texts)
+label k texts = record { apart = label_apart k texts; one = label_one k texts }
+
+strings_apart : (k : ℕ) (texts : List (List ℕ)) (e : DocCause) → maps.IsLabelOrNone texts → maps.IsStringsRefusal k texts e → ⊥
+strings_apart k [] e h r = r
+strings_apart k (t ∷ ts) e h r = label_apart k (Some (t ∷ ts)) e h r
+
+strings_one : (k : ℕ) (texts : List (List ℕ)) (e f : DocCause) → maps.IsStringsRefusal k texts e → maps.IsStringsRefusal k texts f → e ≡ f
+strings_one k [] e f r s = absurd r
+strings_one k (t ∷ ts) e f r s = label_one k (Some (t ∷ ts)) e f r s
+
+strings : (k : ℕ) (texts : List (List ℕ)) → IsTest (maps.label_check k texts)
+strings k texts = record { apart = strings_apart k texts; one = strings_one k texts }
+
+list : (k : ℕ) (scheme : Scheme) (text : List ℕ) → IsTest (list_check k scheme text)
+list k scheme text = record {
+  apart = λ e h r. no_list scheme text r.0 r.1 h.0 h.1.0 h.1.1 r.2;
+  one = λ e f r s. r.3 ∙ ap (λ (x : NegoFault). Field k (Priorities x)) (one_list_fault scheme text r.0 s.0 r.1 s.1 r.2 s.2) ∙ sym s.3;
+}
+
+-- ---- rows
+
+rows : (checks : List Data → Data → List Check) → ((before : List Data) (d : Data) → AreTests (checks before d)) → (before ds : List Data) → AreTests (rows_checks checks before ds)
+rows checks each before [] = tt
+rows checks each before (d ∷ ds) = both (checks before d) (rows_checks checks (before ++ d ∷ []) ds) (each before d) (rows checks each (before ++ d ∷ []) ds)
+
+stamps : (k : ℕ) (row : Row) → AreTests (stamp_fields k row)
+stamps k row = (plain _ _, (language _ _, (plain _ _, tt)))
+
+cells : (k : ℕ) (row : Row) (texts : Option (List (List ℕ))) → AreTests (cell_fields k row texts)
+cells k row texts = both (stamp_fields k row) (label_check k texts ∷ []) (stamps k row) (label k texts, tt)
+
+cell_rows : (numbered : Bool) (before : List Data) (d : Data) → AreTests (cell_checks numbered before d)
+cell_rows numbered before d = both (own_cell_checks numbered (length before) d) (order_check (length before) (last_key (entry_in numbered) before) (key_of (cell_row numbered d).0) ∷ []) (plain _ _, cells (length before) (cell_row numbered d).0 (cell_row numbered d).1) (plain _ _, tt)
+
+stamp_rows : (numbered : Bool) (before : List Data) (d : Data) → AreTests (stamp_checks numbered before d)
+stamp_rows numbered before d = both (own_stamp_checks numbered (length before) d) (order_check (length before) (last_key (told_in numbered) before) (key_of (stamp_row numbered d)) ∷ []) (plain _ _, stamps (length before) (stamp_row numbered d)) (plain _ _, tt)
+
+defaults : (k : ℕ) (text : Option (List ℕ)) → AreTests (default_checks k text)
+defaults k None = tt
+defaults k (Some text) = (language k text, tt)
+
+steps : (k : ℕ) (text : StepText) → AreTests (step_fields k text)
+steps k (edit_step site row) = cells k row.0 row.1
+steps k (merge_step into source) = tt
+steps k (filter_step site id scheme field) = (plain _ _, (list _ _ _, tt))
+steps k (lookup_step site id field default) = (plain _ _, (list _ _ _, defaults k default))
+steps k (cells_step site) = tt
+steps k (tell_step site) = tt
+steps k (post_step site told) = tt
+steps k (deliver_step post) = tt
+
+shaped : (k : ℕ) (text : Option StepText) → AreTests (shaped_fields k text)
+shaped k None = tt
+shaped k (Some text) = steps k text
+
+step_rows : (numbered : Bool) (before : List Data) (d : Data) → AreTests (step_checks numbered before d)
+step_rows numbered before d = (plain _ _, shaped (length before) (step_in numbered d))
+
+-- ---- documents
+
+heads : (form : Form) (d : Data) → AreTests (head_checks form d)
+heads form d = (plain _ _, (plain _ _, (plain _ _, tt)))
+
+named : (form : Form) (checks : Bool → List Data → Data → List Check) → ((numbered : Bool) (before : List Data) (d : Data) → AreTests (checks numbered before d)) → (d : Data) → AreTests (document_checks form checks d)
+named form checks each d =
+    both (head_checks form d) (own_checks (is_first d) (own_data form d) ++ rows_checks (checks (is_first d)) [] (rows_in form d)) (heads form d)
+    (both (own_checks (is_first d) (own_data form d)) (rows_checks (checks (is_first d)) [] (rows_in form d)) (plain _ _, (plain _ _, tt)) (rows (checks (is_first d)) (each (is_first d)) [] (rows_in form d)))
+
+pub cells_named : (form : Form) (d : Data) → AreTests (document_checks form cell_checks d)
+cells_named form d = named form cell_checks cell_rows d
+
+pub stamps_named : (form : Form) (d : Data) → AreTests (document_checks form stamp_checks d)
+stamps_named form d = named form stamp_checks stamp_rows d
+
+pub scripts : (d : Data) → AreTests (script_checks d)
+scripts d = both (head_checks Script d) (sites_check (own_data Script d) ∷ rows_checks (step_checks (is_first d)) [] (rows_in Script d)) (heads Script d) (plain _ _, rows (step_checks (is_first d)) (step_rows (is_first d)) [] (rows_in Script d))
+
+-- ---- language maps
+
+map_keys : (k : ℕ) (before : List (List ℕ)) (keys : map_rows.Keys) → AreTests (maps.keys_checks k before keys)
+map_keys k before [] = tt
+map_keys k before (m ∷ ms) = both (maps.key_checks k before m.0 m.1) (maps.keys_checks k (before ++ m.0 ∷ []) ms) (language _ _, (plain _ _, (plain _ _, (strings _ _, tt)))) (map_keys k (before ++ m.0 ∷ []) ms)
+
+unless : (marked : Bool) (cs : List Check) → AreTests cs → AreTests (maps.unless_marked marked cs)
+unless true cs t = tt
+unless false cs t = t
+
+map_rows_tests : (k : ℕ) (rs : map_rows.Rows) → AreTests (maps.rows_checks k rs)
+map_rows_tests k [] = tt
+map_rows_tests k (r ∷ rs) =
+    both (maps.row_checks k r) (maps.rows_checks (k + 1) rs) (unless (maps.is_marked r.0) (maps.message_checks k r.0 r.1) (plain _ _, (plain _ _, map_keys k [] (unwrap_or r.1 [])))) (map_rows_tests (k + 1) rs)
+
+pub langmaps : (d : Data) → AreTests (maps.langmaps_checks d)
+langmaps d = (plain _ _, map_rows_tests 0 (unwrap_or (map_rows.rows_in d) []))
+
+-- ---- texts
+
+module _ (checks : Data → List Check) (tests : (d : Data) → AreTests (checks d)) where
+  same_data : (bytes : List ℕ) (d f : Data) → AreJson bytes d → AreJson bytes f → f ≡ d
+  same_data bytes d f p q = ap (λ (o : Option Data). unwrap_or o f) (sym q.1 ∙ p.1)
+
+  no_json : (bytes : List ℕ) (d : Data) (e : DocCause) → e ≢ NoMemory → AreJson bytes d → IsTextRefusal bytes e → ⊥
+  no_json bytes d e n json why = elim why [
+    | inl memory ↦ n memory
+    | inr why ↦ elim why [
+      | inl text ↦ text.0 json.0
+      | inr none ↦ let found = json.1 in let lost = none.1 in cc
+    ]
+  ]
+
+  pub read_not_refused : {X : Type 0} (Is : Data → X → Type 0) (bytes : List ℕ) (x : X) (e : DocCause) → e ≢ NoMemory → Reads checks Is bytes x → IsRefusal checks bytes e → ⊥
+  read_not_refused Is bytes x e n reads why = elim why [
+    | inl text ↦ no_json bytes reads.0 e n reads.1 text
+    | inr row ↦ apart_all (checks reads.0) e (tests reads.0) reads.2 (subst (λ d. FirstFails (checks d) e) (same_data bytes reads.0 row.0 reads.1 row.1) row.2)
+  ]
+
+  one_text_refusal : (bytes : List ℕ) (e f : DocCause) → e ≢ NoMemory → f ≢ NoMemory → IsTextRefusal bytes e → IsTextRefusal bytes f → e ≡ f
+  one_text_refusal bytes e f m n p q = elim p [
+    | inl memory ↦ absurd (m memory)
+    | inr p ↦ elim q [
+      | inl memory ↦ absurd (n memory)
+      | inr q ↦ elim p [
+        | inl h ↦ elim q [ inl k ↦ h.1 ∙ sym k.1 | inr k ↦ absurd (h.0 k.0) ]
+        | inr h ↦ elim q [ inl k ↦ absurd (k.0 h.0) | inr k ↦ h.2 ∙ sym k.2 ]
+      ]
+    ]
+  ]
+
+  pub one_cause : (bytes : List ℕ) (e f : DocCause) → e ≢ NoMemory → f ≢ NoMemory → IsRefusal checks bytes e → IsRefusal checks bytes f → e ≡ f
+  one_cause bytes e f m n p q = elim p [
+    | inl h ↦ elim q [ inl k ↦ one_text_refusal bytes e f m n h k | inr k ↦ absurd (no_json bytes k.0 e m k.1 h) ]
+    | inr h ↦ elim q [
+      | inl k ↦ absurd (no_json bytes h.0 f n h.1 k)
+      | inr k ↦ one_all (checks h.0) e f (tests h.0) h.2 (subst (λ d. FirstFails (checks d) f) (same_data bytes h.0 k.0 h.1 k.1) k.2)
+    ]
+  ]

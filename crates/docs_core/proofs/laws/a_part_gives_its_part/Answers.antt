@@ -1,0 +1,14 @@
+use Rattle.docs_core.proofs.PartLaws.{bundle_of_part, live_of_part, missing_of_part, nothing_in_parts}
+use Rattle.docs_core.proofs.laws.a_part_gives_its_part.Goals as goal
+
+pub returns-clause-export : goal.returns-clause-export
+returns-clause-export c = live_of_part
+
+pub returns-clause-missing : goal.returns-clause-missing
+returns-clause-missing c = missing_of_part
+
+pub returns-clause-bundle : goal.returns-clause-bundle
+returns-clause-bundle c = λ messages cells items default labels bundle. bundle_of_part cells items default messages labels bundle
+
+pub returns-clause-nothing : goal.returns-clause-nothing
+returns-clause-nothing c = nothing_in_parts

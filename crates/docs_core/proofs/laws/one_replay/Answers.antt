@@ -1,0 +1,5 @@
+use Rattle.docs_core.proofs.OneDocument.{one_replay}
+use Rattle.docs_core.proofs.laws.one_replay.Goals as goal
+
+pub returns : goal.returns
+returns c = one_replay

@@ -1,0 +1,4 @@
+pub mod Askings
+pub mod HandleSteps
+pub mod Options
+pub mod Values

@@ -1,0 +1,88 @@
+//! Answers and refusals, told to C.
+ghost use Rattle.std.specs.Prelude.{◌≡◌, ◌≤◌, ◌++◌, length, drop};
+ghost use Rattle.front_c.specs.Answers.{TellsAnswer, TellsLabelText, TellsPicked};
+ghost use Rattle.front_c.specs.Statuses.{nothing, status_of_refusal, usage};
+ghost use Rattle.front_c.specs.Telling.{IsPutInto, TellsText, answered, refused};
+
+use crate::status;
+use crate::told::Told;
+use front_core::{Answer, FrontFault, LabelText, Picked};
+
+/// Tells the tag that a pick finds; 1 is counted where it is the default.
+pub(crate) fn tell_picked(picked: Picked<'_>, out: &mut [u8], told: &mut Told) -> i32
+    ensures { TellsPicked picked.entry out.old out.new told.new result }
+{
+    match picked {
+        Picked::Matched(tag) => tell_text(tag, 0, status::FOUND, out, told),
+        Picked::Default(tag) => tell_text(tag, 1, status::FOUND, out, told),
+        Picked::Nothing => tell_nothing(0, told),
+    }
+}
+
+/// Tells the text that answers a question.
+pub(crate) fn tell_answer(answer: &Answer, out: &mut [u8], told: &mut Told) -> i32
+    ensures { TellsAnswer answer.now out.old out.new told.new result }
+{
+    let status = status::of_outcome(answer.outcome);
+    tell_text(answer.text.bytes(), 0, status, out, told)
+}
+
+/// Tells a text of a label; the label's texts are counted.
+pub(crate) fn tell_label_text(text: LabelText<'_>, out: &mut [u8], told: &mut Told) -> i32
+    ensures { TellsLabelText text.entry out.old out.new told.new result }
+{
+    match text {
+        LabelText::Found { text, count } => {
+            tell_text(text.as_bytes(), count, status::FOUND, out, told)
+        }
+        LabelText::PastEnd { count } => tell_nothing(count, told),
+        LabelText::Nothing => tell_nothing(0, told),
+    }
+}
+
+/// Tells that a question cannot be asked: a flag is unknown, or the handle is not open.
+pub(crate) fn tell_usage(told: &mut Told) -> i32
+    ensures { (result ≡ usage) × (told.new ≡ answered 0 0) }
+{
+    *told = Told::answered(0, 0);
+    status::USAGE
+}
+
+/// Tells a refusal.
+pub(crate) fn tell_refusal(fault: &FrontFault, told: &mut Told) -> i32
+    ensures { (result ≡ status_of_refusal fault.now) × (told.new ≡ refused fault.now) }
+{
+    *told = Told::refused(fault);
+    status::of_refusal(fault)
+}
+
+fn tell_nothing(count: usize, told: &mut Told) -> i32
+    ensures { (result ≡ nothing) × (told.new ≡ answered 0 count) }
+{
+    *told = Told::answered(0, count);
+    status::NOTHING
+}
+
+fn tell_text(text: &[u8], count: usize, status: i32, out: &mut [u8], told: &mut Told) -> i32
+    ensures { TellsText text.now count status out.old out.new told.new result }
+{
+    put_into(text, out);
+    *told = Told::answered(text.len(), count);
+    status
+}
+
+/// Puts a text to the front of the buffer, where there is room for all of it.
+fn put_into(text: &[u8], out: &mut [u8])
+    ensures { IsPutInto text.now out.old out.new }
+{
+    if text.len() <= out.len() {
+        copy_to_front(text, out);
+    }
+}
+
+fn copy_to_front(text: &[u8], out: &mut [u8])
+    requires { length text.now ≤ length out.old }
+    ensures { out.new ≡ text.now ++ drop (length text.now) out.old }
+{
+    out[..text.len()].copy_from_slice(text);
+}

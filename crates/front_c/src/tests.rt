@@ -1,0 +1,6 @@
+//! What no contract says: that each call answers, with each status, and the numbers of refusals.
+
+mod calls;
+mod handles;
+mod picks;
+mod questions;

@@ -1,0 +1,4 @@
+pub mod LinesLemmas
+pub mod PickLaws
+pub mod PickLemmas
+pub mod TagsLemmas

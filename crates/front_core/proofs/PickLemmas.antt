@@ -1,0 +1,137 @@
+-- What lookup finds, by its text and by the tags that spell it.
+use Rattle.std.proofs.Common.{◌≡◌, ◌∙◌, ◌<◌, ℕ, List, [], ◌∷◌, ap, arith, false, get_or, inl, inr, length, refl, subst, suc, sym, true, zero, Option, None, Some}
+use Rattle.std.proofs.lemmas.List.Elements.{All-cons, All-nil}
+use Rattle.std.proofs.lemmas.List.Quantifiers.{position-Some}
+use Rattle.std.proofs.lemmas.Slice.Eq.{bytes_eq-Decides}
+use Rattle.std.specs.Prelude.{slice_get}
+use Rattle.std.specs.Str.{bytes_eq, str_to_ascii_lowercase}
+use Rattle.lang_core.specs.Lang.{SpellsLang}
+use Rattle.lang_core.specs.Text.{pieces}
+use Rattle.nego_core.specs.Chosen.{HasOpenDefault, IsOpenDefault}
+use Rattle.nego_core.specs.Handed.{IsFound, is_among, least_place}
+use Rattle.nego_core.specs.Item.{Item}
+use Rattle.nego_core.specs.LookedUp.{IsFirst, IsLookedUp}
+use Rattle.nego_core.specs.declared.found.Found.{Found}
+use Rattle.nego_core.specs.declared.found.Found.TheVariants as found
+use Rattle.front_core.specs.Fields.{FieldText, ReadsAs, Text}
+use Rattle.front_core.specs.Picks.{HasPlace, IsPickedTag, IsTagAt}
+use Rattle.front_core.specs.Preferring.{IsDefault}
+use Rattle.front_core.specs.Tags.{SpellLangs}
+use Rattle.front_core.specs.declared.picking.Picked.{Picked}
+use Rattle.front_core.specs.declared.picking.Picked.TheVariants as picked
+
+-- the language at the place that lookup tells is the one that is told of
+lang_at : (langs given : List (List ℕ)) (text : List ℕ) (place : ℕ) (lang : List ℕ) → given ≡ langs → least_place given text ≡ Some place → lang ≡ get_or langs place lang → lang ≡ text
+lang_at langs given text place lang same there at =
+    let place_is : least_place langs text ≡ Some place = subst (λ ls. least_place ls text ≡ Some place) same there in
+    let is : get_or langs place lang ≡ text = (bytes_eq-Decides _ _).0 (position-Some (λ t. bytes_eq t text) langs place lang place_is).1 in
+    at ∙ is
+
+-- lookup found it
+pub found_lang : (list : List Item) (langs given : List (List ℕ)) (place : ℕ) (lang : List ℕ) → given ≡ langs
+    → (text : List ℕ) × IsLookedUp list (is_among given) (Some (pieces text)) × (least_place given text ≡ Some place)
+    → lang ≡ get_or langs place lang → IsLookedUp list (is_among langs) (Some (pieces lang))
+found_lang list langs given place lang same found at =
+    let is = lang_at langs given found.0 place lang same found.2 at in
+    subst (λ t. IsLookedUp list (is_among langs) (Some (pieces t))) (sym is) (subst (λ ls. IsLookedUp list (is_among ls) (Some (pieces found.0))) same found.1)
+
+-- or it is the default
+pub found_default : (list : List Item) (langs given : List (List ℕ)) (handed default : Option (List ℕ)) (place : ℕ) (lang : List ℕ) → given ≡ langs → handed ≡ default
+    → IsLookedUp list (is_among given) None × ((text : List ℕ) × (handed ≡ Some text) × IsOpenDefault list (is_among given) text × (least_place given text ≡ Some place))
+    → lang ≡ get_or langs place lang → IsLookedUp list (is_among langs) None × (default ≡ Some lang) × IsOpenDefault list (is_among langs) lang
+found_default list langs given handed default place lang same is found at =
+    let text = found.1.0 in
+    let lang_is = lang_at langs given text place lang same found.1.3 at in (
+      subst (λ ls. IsLookedUp list (is_among ls) None) same found.0,
+      sym is ∙ found.1.1 ∙ ap Some (sym lang_is),
+      subst (λ t. IsOpenDefault list (is_among langs) t) (sym lang_is) (subst (λ ls. IsOpenDefault list (is_among ls) text) same found.1.2),
+    )
+
+-- or nothing was found
+pub found_nothing : (list : List Item) (langs given : List (List ℕ)) (handed default : Option (List ℕ)) → given ≡ langs → handed ≡ default
+    → IsLookedUp list (is_among given) None × ¬ HasOpenDefault list (is_among given) handed → IsLookedUp list (is_among langs) None × ¬ HasOpenDefault list (is_among langs) default
+found_nothing list langs given handed default same is found =
+    subst (λ d. IsLookedUp list (is_among langs) None × ¬ HasOpenDefault list (is_among langs) d) is
+    (subst (λ ls. IsLookedUp list (is_among ls) None × ¬ HasOpenDefault list (is_among ls) handed) same found)
+
+-- ---- which tag it was
+
+-- a word spells one language
+pub one_lang : (word a b : List ℕ) → SpellsLang word a → SpellsLang word b → a ≡ b
+one_lang word a b (inl f) (inl g) = f.1 ∙ sym g.1
+one_lang word a b (inl f) (inr g) = f.1 ∙ sym (g.1 ∙ ap str_to_ascii_lowercase f.0)
+one_lang word a b (inr f) (inl g) = f.1 ∙ ap str_to_ascii_lowercase g.0 ∙ sym g.1
+one_lang word a b (inr f) (inr g) = f.1 ∙ sym g.1
+
+-- there are as many languages as tags
+pub as_many : (tags : List Text) (langs : List (List ℕ)) → SpellLangs tags langs → length tags ≡ length langs
+as_many [] [] h = refl
+as_many [] (l ∷ langs) h = absurd h
+as_many (w ∷ tags) [] h = absurd h
+as_many (w ∷ tags) (l ∷ langs) h = ap suc (as_many tags langs h.1)
+
+-- the place that lookup tells is one of a tag
+pub place_within : (tags : List Text) (langs : List (List ℕ)) (text : List ℕ) (place : ℕ) → SpellLangs tags langs → least_place langs text ≡ Some place → place < length tags
+place_within tags langs text place h there =
+    let many = as_many tags langs h in
+    let within = (position-Some (λ t. bytes_eq t text) langs place [] there).0 in
+    omega arith
+
+same_head : (x y : Text) → Some x ≡ Some y → x ≡ y
+same_head x y e = cc
+
+not_spelled : (word lang text : List ℕ) → SpellsLang word lang → bytes_eq lang text ≡ false → ¬ SpellsLang word text
+not_spelled word lang text h differs spelled =
+    let same : bytes_eq lang text ≡ true = (bytes_eq-Decides lang text).1 (one_lang word lang text h spelled) in
+    let bad : true ≡ false = sym same ∙ differs in
+    cc
+
+first_at : (tags : List Text) (langs : List (List ℕ)) (text : List ℕ) (place : ℕ) (tag : Text) → SpellLangs tags langs → get_or langs place [] ≡ text
+    → ((k : ℕ) → k < place → bytes_eq (get_or langs k []) text ≡ false) → slice_get tags place ≡ Some tag → IsFirst (λ t. SpellsLang t text) tags tag
+first_at [] langs text place tag h there before at = cc
+first_at (w ∷ tags) [] text place tag h there before at = absurd h
+first_at (w ∷ tags) (l ∷ langs) text zero tag h there before at =
+    let is : w ≡ tag = same_head w tag at in
+    record { before = []; after = tags; whole = ap (λ t. t ∷ tags) is; none_before = All-nil (λ t. ¬ SpellsLang t text); passes = subst (λ t. SpellsLang t text) is (subst (λ x. SpellsLang w x) there h.0) }
+first_at (w ∷ tags) (l ∷ langs) text (suc k) tag h there before at =
+    let rest = first_at tags langs text k tag h.1 there (λ j lt. before (suc j) (omega arith)) at in
+    record {
+      before = w ∷ rest.before;
+      after = rest.after;
+      whole = ap (λ ts. w ∷ ts) rest.whole;
+      none_before = All-cons (λ t. ¬ SpellsLang t text) w rest.before (not_spelled w l text h.0 (before 0 (omega arith))) rest.none_before;
+      passes = rest.passes;
+    }
+
+-- the tag at that place is the first that spells what is found
+pub first_spelling : (tags : List Text) (langs : List (List ℕ)) (text : List ℕ) (place : ℕ) (tag : Text) → SpellLangs tags langs → least_place langs text ≡ Some place → slice_get tags place ≡ Some tag
+    → IsFirst (λ t. SpellsLang t text) tags tag
+first_spelling tags langs text place tag h there at =
+    let found = position-Some (λ t. bytes_eq t text) langs place [] there in
+    first_at tags langs text place tag h ((bytes_eq-Decides _ _).0 found.1) found.2 at
+
+-- lookup tells of a place where there is a tag
+pub found_within : (list : List Item) (tags : List Text) (langs given : List (List ℕ)) (handed : Option (List ℕ)) (found : Found) → given ≡ langs → SpellLangs tags langs → IsFound list given handed found → HasPlace tags found
+found_within list tags langs given handed (found.Matched place) same h is = place_within tags given is.0 place (subst (λ ls. SpellLangs tags ls) (sym same) h) is.2
+found_within list tags langs given handed (found.Default place) same h is = place_within tags given is.1.0 place (subst (λ ls. SpellLangs tags ls) (sym same) h) is.1.3
+found_within list tags langs given handed found.Nothing same h is = tt
+
+picked_at : (field : FieldText) (word : Option Text) (list : List Item) (tags : List Text) (langs : List (List ℕ)) (default : Option (List ℕ)) (found : Found) (tag : Picked) → IsDefault word default → ReadsAs field list
+    → SpellLangs tags langs → IsFound list langs default found → IsTagAt tags found tag → IsPickedTag field word tags tag
+picked_at field word list tags langs default (found.Matched place) (picked.Matched tag) default_ok list_ok h is at =
+    (is.0, record { default = default; list = list; langs = langs; default_ok = default_ok; list_ok = list_ok; langs_ok = h; found_ok = is.1 }, first_spelling tags langs is.0 place tag.now h is.2 at)
+picked_at field word list tags langs default (found.Matched place) (picked.Default tag) default_ok list_ok h is at = absurd at
+picked_at field word list tags langs default (found.Matched place) picked.Nothing default_ok list_ok h is at = absurd at
+picked_at field word list tags langs default (found.Default place) (picked.Matched tag) default_ok list_ok h is at = absurd at
+picked_at field word list tags langs default (found.Default place) (picked.Default tag) default_ok list_ok h is at =
+    (is.1.0, record { default = default; list = list; langs = langs; default_ok = default_ok; list_ok = list_ok; langs_ok = h; found_ok = (is.0, is.1.1, is.1.2) }, first_spelling tags langs is.1.0 place tag.now h is.1.3 at)
+picked_at field word list tags langs default (found.Default place) picked.Nothing default_ok list_ok h is at = absurd at
+picked_at field word list tags langs default found.Nothing (picked.Matched tag) default_ok list_ok h is at = absurd at
+picked_at field word list tags langs default found.Nothing (picked.Default tag) default_ok list_ok h is at = absurd at
+picked_at field word list tags langs default found.Nothing picked.Nothing default_ok list_ok h is at = record { default = default; list = list; langs = langs; default_ok = default_ok; list_ok = list_ok; langs_ok = h; found_ok = is }
+
+-- that tag is the one that is picked
+pub picked_tag : (field : FieldText) (word : Option Text) (list : List Item) (tags : List Text) (langs given : List (List ℕ)) (default handed : Option (List ℕ)) (found : Found) (tag : Picked) → given ≡ langs → handed ≡ default
+    → IsDefault word default → ReadsAs field list → SpellLangs tags langs → IsFound list given handed found → IsTagAt tags found tag → IsPickedTag field word tags tag
+picked_tag field word list tags langs given default handed found tag same is default_ok list_ok h there at =
+    picked_at field word list tags langs default found tag default_ok list_ok h (subst (λ d. IsFound list langs d found) is (subst (λ ls. IsFound list ls handed found) same there)) at

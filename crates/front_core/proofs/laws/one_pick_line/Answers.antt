@@ -1,0 +1,5 @@
+use Rattle.front_core.proofs.PickLaws.{one_pick_line}
+use Rattle.front_core.proofs.laws.one_pick_line.Goals as goal
+
+pub returns : goal.returns
+returns c = one_pick_line

@@ -1,0 +1,7 @@
+use Rattle.front_core.specs.Lines.{lines_left, lines_of}
+use Rattle.front_core.proofs.TagsLemmas.{IsReadTo}
+use Rattle.front_core.proofs.tags.read_lines.Given as goal
+
+-- the languages so far are those of the lines before
+abbrev pub invariant-loop-line : goal.invariant-loop-line
+invariant-loop-line l = IsReadTo (lines_of l.tags) (lines_left l.line-iterator) l.langs.items

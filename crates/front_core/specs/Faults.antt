@@ -1,0 +1,86 @@
+-- The refusals of this crate: each is one of the crates below, and want of memory has one form (own rule).
+use Rattle.std.specs.Prelude.{◌≡◌, ℕ, Option, None, Some}
+use Rattle.lang_core.specs.Fault.{number_of as lang_number}
+use Rattle.lang_core.specs.declared.fault.LangFault.{LangFault}
+use Rattle.lang_core.specs.declared.fault.LangFault.TheVariants as lang
+use Rattle.nego_core.specs.Fault.{number_of as nego_number}
+use Rattle.nego_core.specs.declared.fault.NegoFault.{NegoFault}
+use Rattle.nego_core.specs.declared.fault.NegoFault.TheVariants as nego
+use Rattle.cell_core.specs.Numbers.{number_of as cell_number}
+use Rattle.cell_core.specs.declared.fault.CellFault.{CellFault}
+use Rattle.cell_core.specs.declared.fault.CellFault.TheVariants as cell
+use Rattle.docs_core.specs.Faults as doc
+use Rattle.docs_core.specs.declared.fault.DocCause.{DocCause}
+use Rattle.docs_core.specs.declared.fault.DocCause.TheVariants as cause
+use Rattle.docs_core.specs.declared.fault.DocFault.{DocFault}
+use Rattle.docs_core.specs.declared.fault.FieldFault.{FieldFault}
+use Rattle.docs_core.specs.declared.fault.FieldFault.TheVariants as row
+use Rattle.front_core.specs.declared.fault.FrontFault.{FrontFault}
+use Rattle.front_core.specs.declared.fault.FrontFault.TheVariants.{Id, Language, Field, Document, NoMemory}
+
+abbrev pub number_of : FrontFault → ℕ
+number_of (Id fault) = cell_number fault
+number_of (Language fault) = lang_number fault
+number_of (Field fault) = nego_number fault
+number_of (Document fault) = doc.number_of fault.cause
+number_of NoMemory = 26
+
+-- where in a tag or a range the subtag begins that is refused
+abbrev pub lang_offset : LangFault → Option ℕ
+lang_offset (lang.TagSubtag offset) = Some offset
+lang_offset (lang.RangeSubtag offset) = Some offset
+lang_offset _ = None
+
+-- where in a field the element begins that is refused
+abbrev pub nego_offset : NegoFault → Option ℕ
+nego_offset (nego.FieldMalformed offset) = Some offset
+nego_offset _ = None
+
+-- the place in the text of a row's field
+abbrev pub row_offset : FieldFault → Option ℕ
+row_offset (row.Language fault) = lang_offset fault
+row_offset (row.Cell fault) = None
+row_offset (row.Priorities fault) = nego_offset fault
+
+-- the place in a document, or in the text of a row's field
+abbrev pub cause_offset : DocCause → Option ℕ
+cause_offset (cause.NotUtf8 offset) = Some offset
+cause_offset (cause.Field row fault) = row_offset fault
+cause_offset _ = None
+
+-- the place in the text that is refused, from 0: of refusals 3, 7, 9 and 18 alone
+abbrev pub offset_of : FrontFault → Option ℕ
+offset_of (Id fault) = None
+offset_of (Language fault) = lang_offset fault
+offset_of (Field fault) = nego_offset fault
+offset_of (Document fault) = cause_offset fault.cause
+offset_of NoMemory = None
+
+-- the row of the document that is refused, from 0
+abbrev pub row_of : FrontFault → Option ℕ
+row_of (Document fault) = doc.row_of fault.cause
+row_of _ = None
+
+abbrev pub language_fault : LangFault → FrontFault
+language_fault lang.NoMemory = NoMemory
+language_fault fault = Language fault
+
+abbrev pub field_fault : NegoFault → FrontFault
+field_fault nego.NoMemory = NoMemory
+field_fault fault = Field fault
+
+abbrev pub id_fault : CellFault → FrontFault
+id_fault cell.NoMemory = NoMemory
+id_fault fault = Id fault
+
+-- the refusal of a document for a cause
+abbrev pub cause_fault : DocFault → DocCause → FrontFault
+cause_fault fault cause.NoMemory = NoMemory
+cause_fault fault _ = Document fault
+
+abbrev pub document_fault : DocFault → FrontFault
+document_fault fault = cause_fault fault fault.cause
+
+-- it is a refusal of the crate below, in the form that it has here
+abbrev pub IsOf : {F : Type 0} → (F → FrontFault) → (F → Type 0) → FrontFault → Type 0
+IsOf {F} form Refuses fault = (refused : F) × Refuses refused × (fault ≡ form refused)

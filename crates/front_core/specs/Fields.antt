@@ -1,0 +1,31 @@
+-- A field that is handed in, with how it is read.
+use Rattle.std.specs.Prelude.{◌≤◌, ℕ, List, length}
+use Rattle.nego_core.specs.Field.{IsField, RefusesField}
+use Rattle.nego_core.specs.Item.{Item}
+use Rattle.nego_core.specs.declared.fault.NegoFault.{NegoFault}
+use Rattle.nego_core.specs.declared.malformed.Malformed.{Malformed}
+use Rattle.nego_core.specs.declared.scheme.Scheme.{Scheme}
+use Rattle.front_core.specs.declared.field.Field.{Field}
+
+abbrev pub Text : Type 0
+Text = List ℕ
+
+pub record FieldText : Type 0 where
+  pub scheme : Scheme
+  pub malformed : Malformed
+  pub text : Text
+
+-- what is handed in, as values
+abbrev pub field_text : Field → FieldText
+field_text field = record { scheme = field.scheme; malformed = field.malformed; text = field.text.now }
+
+-- the list that it is read as: an Accept-Language field (RFC 9110 section 12.5.4), or extended ranges without weights (RFC 4647 section 2.2), whose malformed elements refuse it or are passed over
+abbrev pub ReadsAs : FieldText → List Item → Type 0
+ReadsAs field list = (length field.text ≤ 65535) × IsField field.scheme field.malformed field.text list
+
+abbrev pub HasList : FieldText → Type 0
+HasList field = (list : List Item) × ReadsAs field list
+
+-- why it is no list
+abbrev pub RefusesRanges : FieldText → NegoFault → Type 0
+RefusesRanges field = RefusesField field.scheme field.malformed field.text

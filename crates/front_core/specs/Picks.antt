@@ -1,0 +1,68 @@
+-- A pick: lookup (RFC 4647 section 3.4) of a priority list over the languages that tags spell.
+use Rattle.std.specs.Prelude.{◌≡◌, ◌<◌, ◌⊎◌, ℕ, List, ◌++◌, Option, None, Some, codes, length, slice_get}
+use Rattle.lang_core.specs.Lang.{SpellsLang}
+use Rattle.lang_core.specs.Text.{pieces}
+use Rattle.nego_core.specs.Chosen.{HasOpenDefault, IsOpenDefault}
+use Rattle.nego_core.specs.Handed.{is_among}
+use Rattle.nego_core.specs.Item.{Item}
+use Rattle.nego_core.specs.LookedUp.{IsFirst, IsLookedUp}
+use Rattle.nego_core.specs.declared.found.Found.{Found}
+use Rattle.nego_core.specs.declared.found.Found.TheVariants as found
+use Rattle.front_core.specs.Faults.{IsOf, language_fault}
+use Rattle.front_core.specs.Fields.{FieldText, ReadsAs, Text}
+use Rattle.front_core.specs.Preferring.{HasPreferences, IsDefault, RefusesPreferences}
+use Rattle.front_core.specs.Tags.{RefusesTags, SpellLangs}
+use Rattle.front_core.specs.declared.fault.FrontFault.{FrontFault}
+use Rattle.front_core.specs.declared.picking.Picked.{Picked}
+use Rattle.front_core.specs.declared.picking.Picked.TheVariants as picked
+use Rattle.front_core.specs.declared.words.Finding.{Finding}
+use Rattle.front_core.specs.declared.words.Finding.TheVariants.{Matched, Default, Nothing}
+
+-- RFC 4647 section 3.4: what lookup finds over languages, by its text, or the default where it finds none
+abbrev pub Finds : List Item → List (List ℕ) → Option (List ℕ) → Finding → Type 0
+Finds list langs default (Matched lang) = IsLookedUp list (is_among langs) (Some (pieces lang))
+Finds list langs default (Default lang) = IsLookedUp list (is_among langs) None × (default ≡ Some lang) × IsOpenDefault list (is_among langs) lang
+Finds list langs default Nothing = IsLookedUp list (is_among langs) None × ¬ HasOpenDefault list (is_among langs) default
+
+-- what a field finds among the tags
+pub record IsPicked (field : FieldText) (word : Option Text) (tags : List Text) (found : Finding) : Type 0 where
+  pub default : Option (List ℕ)
+  pub list : List Item
+  pub langs : List (List ℕ)
+  pub default_ok : IsDefault word default
+  pub list_ok : ReadsAs field list
+  pub langs_ok : SpellLangs tags langs
+  pub found_ok : Finds list langs default found
+
+-- the first of the tags that spell the language that is found
+abbrev pub IsPickedTag : FieldText → Option Text → List Text → Picked → Type 0
+IsPickedTag field word tags (picked.Matched tag) = (lang : List ℕ) × IsPicked field word tags (Matched lang) × IsFirst (λ t. SpellsLang t lang) tags tag.now
+IsPickedTag field word tags (picked.Default tag) = (lang : List ℕ) × IsPicked field word tags (Default lang) × IsFirst (λ t. SpellsLang t lang) tags tag.now
+IsPickedTag field word tags picked.Nothing = IsPicked field word tags Nothing
+
+-- there is a tag at the place that is found
+abbrev pub HasPlace : List Text → Found → Type 0
+HasPlace tags (found.Matched place) = place < length tags
+HasPlace tags (found.Default place) = place < length tags
+HasPlace tags found.Nothing = Unit {0}
+
+-- it is this one
+abbrev pub IsTagAt : List Text → Found → Picked → Type 0
+IsTagAt tags (found.Matched place) (picked.Matched tag) = slice_get tags place ≡ Some tag.now
+IsTagAt tags (found.Default place) (picked.Default tag) = slice_get tags place ≡ Some tag.now
+IsTagAt tags found.Nothing picked.Nothing = Unit {0}
+IsTagAt _ _ _ = ⊥
+
+-- the default is refused first, then the field, and then the tags
+abbrev pub RefusesPick : FieldText → Option Text → List Text → FrontFault → Type 0
+RefusesPick field word tags fault = RefusesPreferences field word fault ⊎ (HasPreferences field word × IsOf language_fault (RefusesTags tags) fault)
+
+-- the pick line (own rule)
+abbrev pub pick_line : Finding → List ℕ
+pick_line (Matched lang) = codes "matched " ++ lang ++ codes "\n"
+pick_line (Default lang) = codes "default " ++ lang ++ codes "\n"
+pick_line Nothing = codes "nothing\n"
+
+-- the line that tells what is picked
+abbrev pub IsPickLine : FieldText → Option Text → List Text → List ℕ → Type 0
+IsPickLine field word tags line = (found : Finding) × IsPicked field word tags found × (line ≡ pick_line found)

@@ -1,0 +1,44 @@
+//! Answers.
+ghost use Rattle.std.specs.Prelude.{◌≡◌};
+
+use docs_core::Doc;
+
+/// Whether an answer tells of anything.
+#[derive(Clone, Copy, Debug, PartialEq, Eq)]
+pub enum Outcome {
+    Found,
+    /// The answer is `nothing`, `filter 0` or `{}`.
+    Nothing,
+}
+
+impl Outcome {
+    ghost use Rattle.front_core.specs.Asks.{is_found};
+
+    pub(crate) fn of(found: bool) -> Outcome
+        ensures { is_found result ≡ found }
+    {
+        if found {
+            Outcome::Found
+        } else {
+            Outcome::Nothing
+        }
+    }
+}
+
+/// What answers a question: lines or language maps, as the command prints them.
+#[derive(Drop)]
+pub struct Answer {
+    pub text: Doc,
+    pub outcome: Outcome,
+}
+
+/// What stands at a place of the label that a lookup finds.
+#[derive(Clone, Copy, Debug, PartialEq, Eq)]
+pub enum LabelText<'a> {
+    /// The text at the place, and how many texts the label has.
+    Found { text: &'a str, count: usize },
+    /// The label has `count` texts, so that none stands at the place.
+    PastEnd { count: usize },
+    /// Lookup finds no label.
+    Nothing,
+}

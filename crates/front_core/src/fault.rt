@@ -1,0 +1,180 @@
+//! Why a question is refused.
+ghost use Rattle.std.specs.Prelude.{◌≡◌};
+ghost use Rattle.front_core.specs.Faults.{cause_offset, lang_offset, nego_offset, row_offset};
+
+use cell_core::CellFault;
+use docs_core::{DocCause, DocFault, FieldFault};
+use lang_core::LangFault;
+use nego_core::NegoFault;
+use std::alloc::{AllocError, AllocFailed};
+use thiserror::Error;
+
+/// Why a question is refused. Out of memory is always `NoMemory`, never a cause of another kind.
+#[derive(Clone, Copy, Debug, PartialEq, Eq, Error)]
+pub enum FrontFault {
+    /// The bytes are no message id, or not UTF-8: 10.
+    #[error("{0}")]
+    Id(CellFault),
+    /// The default or a tag is no language: 1 to 4.
+    #[error("{0}")]
+    Language(LangFault),
+    /// The field is no priority list: 8, 9.
+    #[error("{0}")]
+    Field(NegoFault),
+    /// The document is no site: 1 to 4, 10 to 12, 18 to 21, 27, 28.
+    #[error("{cause}", cause = .0.cause)]
+    Document(DocFault),
+    /// 26.
+    #[error("out of memory")]
+    NoMemory,
+}
+
+impl FrontFault {
+    ghost use Rattle.front_core.specs.Faults.{number_of, offset_of, row_of};
+
+    /// The number of the refusal.
+    pub fn number(&self) -> u8
+        ensures { result ≡ number_of self.now }
+    {
+        match self {
+            FrontFault::Id(fault) => fault.number(),
+            FrontFault::Language(fault) => fault.number(),
+            FrontFault::Field(fault) => fault.number(),
+            FrontFault::Document(fault) => fault.number(),
+            FrontFault::NoMemory => 26,
+        }
+    }
+
+    /// Where in the text that is refused the fault lies, in bytes from 0: of refusals 3, 7, 9 and
+    /// 18 alone. In a document 3 and 9 count in the text of the row's field.
+    pub fn offset(&self) -> Option<usize>
+        ensures { result ≡ offset_of self.now }
+    {
+        match self {
+            FrontFault::Language(fault) => lang_offset(*fault),
+            FrontFault::Field(fault) => nego_offset(*fault),
+            FrontFault::Document(fault) => cause_offset(fault.cause),
+            FrontFault::Id(_) | FrontFault::NoMemory => None,
+        }
+    }
+
+    /// The row of the document that is refused, counted from 0, where one is meant.
+    pub fn row(&self) -> Option<usize>
+        ensures { result ≡ row_of self.now }
+    {
+        match self {
+            FrontFault::Document(fault) => fault.cause.row(),
+            _ => None,
+        }
+    }
+}
+
+fn lang_offset(fault: LangFault) -> Option<usize>
+    ensures { result ≡ lang_offset fault }
+{
+    match fault {
+        LangFault::TagSubtag { offset } | LangFault::RangeSubtag { offset } => Some(offset),
+        _ => None,
+    }
+}
+
+fn nego_offset(fault: NegoFault) -> Option<usize>
+    ensures { result ≡ nego_offset fault }
+{
+    match fault {
+        NegoFault::FieldMalformed { offset } => Some(offset),
+        _ => None,
+    }
+}
+
+fn row_offset(fault: FieldFault) -> Option<usize>
+    ensures { result ≡ row_offset fault }
+{
+    match fault {
+        FieldFault::Language(fault) => lang_offset(fault),
+        FieldFault::Cell(_) => None,
+        FieldFault::Priorities(fault) => nego_offset(fault),
+    }
+}
+
+fn cause_offset(cause: DocCause) -> Option<usize>
+    ensures { result ≡ cause_offset cause }
+{
+    match cause {
+        DocCause::NotUtf8 { offset } => Some(offset),
+        DocCause::Field { fault, .. } => row_offset(fault),
+        _ => None,
+    }
+}
+
+impl From<CellFault> for FrontFault {
+    ghost use Rattle.front_core.specs.Faults.{id_fault};
+
+    ghost from_gives = { λ refused fault. fault ≡ id_fault refused };
+
+    fn from(refused: CellFault) -> FrontFault {
+        match refused {
+            CellFault::NoMemory => FrontFault::NoMemory,
+            refused => FrontFault::Id(refused),
+        }
+    }
+}
+
+impl From<LangFault> for FrontFault {
+    ghost use Rattle.front_core.specs.Faults.{language_fault};
+
+    ghost from_gives = { λ refused fault. fault ≡ language_fault refused };
+
+    fn from(refused: LangFault) -> FrontFault {
+        match refused {
+            LangFault::NoMemory => FrontFault::NoMemory,
+            refused => FrontFault::Language(refused),
+        }
+    }
+}
+
+impl From<NegoFault> for FrontFault {
+    ghost use Rattle.front_core.specs.Faults.{field_fault};
+
+    ghost from_gives = { λ refused fault. fault ≡ field_fault refused };
+
+    fn from(refused: NegoFault) -> FrontFault {
+        match refused {
+            NegoFault::NoMemory => FrontFault::NoMemory,
+            refused => FrontFault::Field(refused),
+        }
+    }
+}
+
+impl From<DocFault> for FrontFault {
+    ghost use Rattle.front_core.specs.Faults.{document_fault};
+
+    ghost from_gives = { λ refused fault. fault ≡ document_fault refused };
+
+    fn from(refused: DocFault) -> FrontFault {
+        match refused.cause {
+            DocCause::NoMemory => FrontFault::NoMemory,
+            _ => FrontFault::Document(refused),
+        }
+    }
+}
+
+impl From<AllocError> for FrontFault {
+    ghost use Rattle.front_core.specs.declared.fault.FrontFault.TheVariants.{NoMemory};
+
+    ghost from_gives = { λ _ fault. fault ≡ NoMemory };
+
+    fn from(_refused: AllocError) -> FrontFault {
+        FrontFault::NoMemory
+    }
+}
+
+impl<T: Drop> From<AllocFailed<T>> for FrontFault {
+    ghost use Rattle.front_core.specs.declared.fault.FrontFault.TheVariants.{NoMemory};
+
+    ghost from_gives = { λ _ fault. fault ≡ NoMemory };
+
+    fn from(_refused: AllocFailed<T>) -> FrontFault {
+        FrontFault::NoMemory
+    }
+}

@@ -1,0 +1,18 @@
+//! Laws about the definitions alone: each function's contract is the law.
+ghost use Rattle.std.specs.Prelude.{◌≡◌, ◌≢◌, ℕ, List, Option};
+ghost use Rattle.front_core.specs.Fields.{FieldText, Text};
+ghost use Rattle.front_core.specs.Picks.{IsPickLine, RefusesPick};
+ghost use Rattle.front_core.specs.declared.fault.FrontFault.{FrontFault};
+ghost use Rattle.front_core.specs.declared.fault.FrontFault.TheVariants.{NoMemory};
+
+/// A pick has one line.
+pub fn one_pick_line()
+    ensures { (field : FieldText) (default : Option Text) (tags : List Text) (a b : List ℕ)
+        → IsPickLine field default tags a → IsPickLine field default tags b → a ≡ b }
+{}
+
+/// A pick that is refused for another cause than memory has no line.
+pub fn refused_pick_has_no_line()
+    ensures { (field : FieldText) (default : Option Text) (tags : List Text) (line : List ℕ) (fault : FrontFault)
+        → RefusesPick field default tags fault → fault ≢ NoMemory → ¬ IsPickLine field default tags line }
+{}

@@ -1,0 +1,47 @@
+//! What a front end asks: which language, or which label of a site, a reader gets.
+//!
+//! - [`pick`] finds a tag for a [`Field`] among tags that stand one on a line (RFC 4647, section
+//!   3.4).
+//! - [`open_site`] reads a site once; [`lookup_line`], [`lookup_text`], [`filter_lines`] and
+//!   [`bundle`] ask it again and again.
+//! - [`Preferences`], [`Lookup`] and [`Filter`] are such questions read before there is a site.
+//! - [`words`] picks from the words of a command.
+//!
+//! All that is asked comes in as bytes. A refusal is a [`FrontFault`], with its number, and its
+//! place where it has one.
+//!
+//! ```text
+//! let field = Field { scheme: Scheme::Basic, malformed: Malformed::PassedOver, text: b"da, en;q=0.8" };
+//! pick(alloc, field, None, b"en\nfr\n")?               Picked::Matched(b"en")
+//! let site = open_site(alloc, document)?;
+//! lookup_text(alloc, &site, b"greeting", field, Some(b"fr"), 0)?
+//!                                                     LabelText::Found { text: "Hello", count: 1 }
+//! ```
+//!
+//! The laws of a pick stand in [`laws`].
+#![tactic(auto)]
+
+mod answer;
+mod asking;
+mod fault;
+mod field;
+mod filter;
+mod id;
+pub mod laws;
+mod lines;
+mod lookup;
+mod opening;
+mod picking;
+mod preferences;
+mod tags;
+pub mod words;
+
+pub use answer::{Answer, LabelText, Outcome};
+pub use asking::{bundle, filter_lines, lookup_line, lookup_text};
+pub use fault::FrontFault;
+pub use field::Field;
+pub use filter::Filter;
+pub use lookup::Lookup;
+pub use opening::open_site;
+pub use picking::{Picked, pick};
+pub use preferences::Preferences;

@@ -1,0 +1,71 @@
+//! What a reader prefers.
+ghost use Rattle.std.specs.Prelude.{MatchResult, option_map};
+ghost use Rattle.front_core.specs.Preferring.{IsDefault, RefusesDefault};
+
+use crate::answer::{Answer, Outcome};
+use crate::fault::FrontFault;
+use crate::field::Field;
+use cata_core::Site;
+use docs_core::write_bundle;
+use lang_core::{Lang, LangFault};
+use nego_core::PriorityList;
+use std::alloc::{AllocError, Global};
+
+/// What a reader prefers: ranges, and a default for where none of them fits.
+#[derive(Drop)]
+pub struct Preferences {
+    pub list: PriorityList,
+    pub default: Option<Lang>,
+}
+
+impl Preferences {
+    ghost use Rattle.std.specs.Prelude.{IfOk};
+    ghost use Rattle.front_core.specs.Asks.{AnswersBundle};
+    ghost use Rattle.front_core.specs.Fields.{field_text};
+    ghost use Rattle.front_core.specs.Preferring.{ArePreferences, RefusesPreferences};
+
+    /// What a field and a default say.
+    ///
+    /// Refused are the default first (1 to 4), then the field (8, and 9 where a malformed element
+    /// refuses it). Out of memory (26) may come before a refusal that stands later.
+    pub fn read(
+        alloc: Global,
+        field: Field<'_>,
+        default: Option<&[u8]>,
+    ) -> Result<Preferences, FrontFault>
+        ensures { MatchResult result (ArePreferences (field_text field.entry) (option_map (λ s. s.now) default.entry))
+            (RefusesPreferences (field_text field.entry) (option_map (λ s. s.now) default.entry)) }
+    {
+        let default = read_default(alloc, default)?;
+        let list = field.read(alloc)?;
+        Ok(Preferences { list, default })
+    }
+
+    /// The language maps of the labels that the reader gets: of each message of the site the one
+    /// that its lookup finds (RFC 4647, section 3.4), matched or as the default. A message for
+    /// which nothing is found is left out; `{}` where none is left.
+    pub fn bundle(&self, alloc: Global, site: &Site) -> Result<Answer, AllocError>
+        ensures { IfOk result (AnswersBundle site.now.cells self.now) }
+    {
+        let (text, is_found) = write_bundle(
+            alloc,
+            site.catalogue(),
+            &self.list,
+            self.default.as_ref(),
+        )?;
+        Ok(Answer {
+            text,
+            outcome: Outcome::of(is_found),
+        })
+    }
+}
+
+/// The language of the default, where there is one.
+fn read_default(alloc: Global, default: Option<&[u8]>) -> Result<Option<Lang>, LangFault>
+    ensures { MatchResult result (IsDefault (option_map (λ s. s.now) default.entry)) (RefusesDefault (option_map (λ s. s.now) default.entry)) }
+{
+    match default {
+        None => Ok(None),
+        Some(text) => Ok(Some(Lang::parse(alloc, text)?)),
+    }
+}

@@ -1,0 +1,126 @@
+//! Picking a language from the words of a command (RFC 4647 section 3.4).
+ghost use Rattle.std.specs.Prelude.{◌≡◌, map, option_map, string_bytes, IfOk, MatchResult, None};
+ghost use Rattle.front_core.specs.Fields.{FieldText, field_text};
+ghost use Rattle.front_core.specs.Picks.{Finds, IsPicked, IsPickLine, RefusesPick, pick_line};
+
+use crate::fault::FrontFault;
+use crate::field::Field;
+use crate::preferences::Preferences;
+use crate::tags::read_words;
+use docs_core::Doc;
+use lang_core::Lang;
+use nego_core::{Found, Malformed, Scheme, lookup};
+use std::alloc::{AllocError, Global};
+use std::convert::AsStr;
+
+/// What a pick finds.
+#[derive(Drop)]
+pub enum Finding {
+    /// The tag that lookup finds.
+    Matched(Lang),
+    /// The default, where lookup finds none of the tags.
+    Default(Lang),
+    /// No tag, and no default that may be answered.
+    Nothing,
+}
+
+/// The pick line of RANGES, read as an Accept-Language field (RFC 9110 section 12.5.4), over the
+/// tags: `pick_scheme` at the basic scheme.
+pub fn pick(alloc: Global, ranges: &str, tags: &[String]) -> Result<Doc, FrontFault>
+    ensures { let field : FieldText = record { scheme = Scheme.Basic; malformed = Malformed.Refused; text = ranges.now } in
+        MatchResult result (IsPickLine field None (map string_bytes tags.now)) (RefusesPick field None (map string_bytes tags.now)) }
+{
+    pick_scheme(alloc, Scheme::Basic, ranges, tags)
+}
+
+/// The pick line of RANGES, read under a scheme: `pick_with` where a malformed element refuses
+/// them, and without a default.
+pub fn pick_scheme(
+    alloc: Global,
+    scheme: Scheme,
+    ranges: &str,
+    tags: &[String],
+) -> Result<Doc, FrontFault>
+    ensures { let field : FieldText = record { scheme = scheme; malformed = Malformed.Refused; text = ranges.now } in
+        MatchResult result (IsPickLine field None (map string_bytes tags.now)) (RefusesPick field None (map string_bytes tags.now)) }
+{
+    pick_with(alloc, scheme, Malformed::Refused, None, ranges, tags)
+}
+
+/// The pick line of RANGES over the tags, and LF: `matched TAG`, where TAG is what lookup finds
+/// among the tags; else `default LANG`, where the default is among the tags and RANGES do not
+/// refuse it; else `nothing`. TAG and LANG are in lower case. `@none` is a tag that is never found,
+/// but it may be the default.
+///
+/// Refused are the default first (1 to 4), then RANGES (8, and 9 where a malformed element refuses
+/// them), then each tag in order (1 to 4). Out of memory (26) may come before a refusal that stands
+/// later.
+pub fn pick_with(
+    alloc: Global,
+    scheme: Scheme,
+    malformed: Malformed,
+    default: Option<&str>,
+    ranges: &str,
+    tags: &[String],
+) -> Result<Doc, FrontFault>
+    ensures { let field : FieldText = record { scheme = scheme; malformed = malformed; text = ranges.now } in
+        MatchResult result (IsPickLine field (option_map (λ s. s.now) default.entry) (map string_bytes tags.now))
+        (RefusesPick field (option_map (λ s. s.now) default.entry) (map string_bytes tags.now)) }
+{
+    let field = Field {
+        scheme,
+        malformed,
+        text: ranges.as_bytes(),
+    };
+    let found = find(alloc, field, bytes_of(default), tags)?;
+    let line = line_of(alloc, &found)?;
+    Ok(line)
+}
+
+/// What a field finds among the tags. Refused as [`pick_with`] is.
+pub fn find<S: AsStr>(
+    alloc: Global,
+    field: Field<'_>,
+    default: Option<&[u8]>,
+    tags: &[S],
+) -> Result<Finding, FrontFault>
+    ensures { MatchResult result (IsPicked (field_text field.entry) (option_map (λ s. s.now) default.entry) (map S.text tags.now))
+        (RefusesPick (field_text field.entry) (option_map (λ s. s.now) default.entry) (map S.text tags.now)) }
+{
+    let asked = Preferences::read(alloc, field, default)?;
+    let langs = read_words(alloc, tags)?;
+    Ok(looked_up(&asked, langs))
+}
+
+/// The bytes of a word, where there is one.
+pub fn bytes_of(word: Option<&str>) -> Option<&[u8]>
+    ensures { option_map (λ s. s.now) result ≡ option_map (λ s. s.now) word.entry }
+{
+    match word {
+        None => None,
+        Some(word) => Some(word.as_bytes()),
+    }
+}
+
+/// What lookup finds among the languages.
+fn looked_up(asked: &Preferences, mut langs: Vec<Lang>) -> Finding
+    ensures { Finds asked.now.list langs.items asked.now.default result }
+{
+    match lookup(&asked.list, langs.as_slice(), asked.default.as_ref()) {
+        Found::Matched(place) => Finding::Matched(langs.swap_remove(place)),
+        Found::Default(place) => Finding::Default(langs.swap_remove(place)),
+        Found::Nothing => Finding::Nothing,
+    }
+}
+
+/// The pick line.
+pub fn line_of(alloc: Global, found: &Finding) -> Result<Doc, AllocError>
+    ensures { IfOk result (λ line. line ≡ pick_line found.now) }
+{
+    let line = match found {
+        Finding::Matched(lang) => format!(in alloc; "matched {}\n", lang.as_str())?,
+        Finding::Default(lang) => format!(in alloc; "default {}\n", lang.as_str())?,
+        Finding::Nothing => String::from_str(alloc, "nothing\n")?,
+    };
+    Ok(Doc::from(line))
+}

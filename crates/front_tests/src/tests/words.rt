@@ -1,0 +1,79 @@
+//! Picks from the words of a command.
+use front_core::words::{Finding, find, pick, pick_scheme, pick_with};
+use front_core::{Field, FrontFault};
+use lang_core::LangFault;
+use nego_core::{Malformed, NegoFault, Scheme};
+use std::alloc::{AllocError, Global};
+use std::test::Fail;
+
+fn words_of(alloc: Global, words: &[&str]) -> Result<Vec<String>, AllocError> {
+    let mut copies = Vec::new(alloc);
+    for word in words {
+        copies.push(String::from_str(alloc, word)?)?;
+    }
+    Ok(copies)
+}
+
+#[test]
+fn strictly(rt: HostRuntime) -> Result<(), Fail> {
+    let alloc = rt.alloc();
+    let tags = words_of(alloc, &["de", "de-DE", "@none"])?;
+    let line = pick(alloc, "de-CH;q=0.3", &tags)?;
+    assert!(rt; line.bytes() == b"matched de\n".as_slice());
+    let line = pick_scheme(alloc, Scheme::Extended, "de-*-DE", &tags)?;
+    assert!(rt; line.bytes() == b"matched de-de\n".as_slice());
+    let line = pick_scheme(alloc, Scheme::Basic, "fr", &tags)?;
+    assert!(rt; line.bytes() == b"nothing\n".as_slice());
+    let fault = FrontFault::Field(NegoFault::FieldMalformed { offset: 0 });
+    assert_eq!(rt; pick(alloc, "de-*-DE", &tags).err(), Some(fault));
+    Ok(())
+}
+
+#[test]
+fn with_a_default(rt: HostRuntime) -> Result<(), Fail> {
+    let alloc = rt.alloc();
+    let tags = words_of(alloc, &["en", "fr"])?;
+    let rows = [
+        (Malformed::Refused, Some("en"), "ja", "default en\n"),
+        (Malformed::Refused, Some("de"), "ja", "nothing\n"),
+        (Malformed::Refused, Some("en"), "ja, *;q=0", "nothing\n"),
+        (Malformed::Refused, None, "fr", "matched fr\n"),
+        (Malformed::PassedOver, Some("en"), "en_US", "default en\n"),
+        (Malformed::PassedOver, None, "en_US, fr", "matched fr\n"),
+    ];
+    for (malformed, default, ranges, wanted) in rows {
+        let line = pick_with(alloc, Scheme::Basic, malformed, default, ranges, &tags)?;
+        assert!(rt; line.bytes() == wanted.as_bytes(), "{ranges}");
+    }
+    let basic = Scheme::Basic;
+    let strict = Malformed::Refused;
+    let fault = pick_with(alloc, basic, strict, Some("e"), ";", &tags).err();
+    assert_eq!(rt;
+        fault,
+        Some(FrontFault::Language(LangFault::TagNotWellFormed))
+    );
+    Ok(())
+}
+
+#[test]
+fn a_word_with_a_line_feed_is_no_tag(rt: HostRuntime) -> Result<(), Fail> {
+    let alloc = rt.alloc();
+    let tags = words_of(alloc, &["en\nfr"])?;
+    let fault = FrontFault::Language(LangFault::TagSubtag { offset: 0 });
+    assert_eq!(rt; pick(alloc, "fr", &tags).err(), Some(fault));
+    Ok(())
+}
+
+#[test]
+fn lent_words(rt: HostRuntime) -> Result<(), Fail> {
+    let field = Field {
+        scheme: Scheme::Basic,
+        malformed: Malformed::Refused,
+        text: b"fr-CA".as_slice(),
+    };
+    let tags = ["en", "FR"];
+    let found = find(rt.alloc(), field, None, tags.as_slice())?;
+    let is_french = matches!(&found, Finding::Matched(lang) if lang.as_str() == "fr");
+    assert!(rt; is_french);
+    Ok(())
+}

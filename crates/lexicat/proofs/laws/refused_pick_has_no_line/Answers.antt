@@ -1,5 +1,0 @@
-use Rattle.lexicat.proofs.PickLaws.{no_line}
-use Rattle.lexicat.proofs.laws.refused_pick_has_no_line.Goals as goal
-
-pub returns : goal.returns
-returns c = no_line

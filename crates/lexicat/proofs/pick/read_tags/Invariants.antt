@@ -1,7 +1,0 @@
-use Rattle.std.proofs.Common.{map, take}
-use Rattle.lexicat.specs.Pick.{SpellLangs}
-use Rattle.lexicat.proofs.pick.read_tags.Given as goal
-
--- each language so far is that of its word
-abbrev pub invariant-loop-tag : goal.invariant-loop-tag
-invariant-loop-tag g l = SpellLangs (map g.S.AsStr.text (take l.tag-index l.tags)) l.langs.items

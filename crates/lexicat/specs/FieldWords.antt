@@ -1,0 +1,27 @@
+-- How the words of a command say that a field is read (own rule).
+use Rattle.std.specs.Prelude.{List, Option, None, Some, codes, option_map, if◌then◌else◌}
+use Rattle.std.specs.Str.{bytes_eq}
+use Rattle.clap.specs.Words.{Row, Text, first_of}
+use Rattle.front_core.specs.Fields.{FieldText}
+use Rattle.nego_core.specs.declared.malformed.Malformed.{Malformed}
+use Rattle.nego_core.specs.declared.malformed.Malformed.TheVariants.{Refused, PassedOver}
+use Rattle.nego_core.specs.declared.scheme.Scheme.{Scheme}
+use Rattle.nego_core.specs.declared.scheme.Scheme.TheVariants.{Basic, Extended}
+
+-- the scheme of a word; where there is none, the basic one
+abbrev pub scheme_of : Option Text → Scheme
+scheme_of None = Basic
+scheme_of (Some word) = if bytes_eq word (codes "extended") then Extended else Basic
+
+-- what becomes of malformed elements: `--lenient` has the text "true" where it is given, and else "false"
+abbrev pub malformed_of : Option Text → Malformed
+malformed_of None = Refused
+malformed_of (Some word) = if bytes_eq word (codes "true") then PassedOver else Refused
+
+-- the field of this argument, or none where it is missing
+abbrev pub field_of : Text → List Row → Option FieldText
+field_of id rows = option_map (λ text. record {
+  scheme = scheme_of (first_of (codes "scheme") rows);
+  malformed = malformed_of (first_of (codes "lenient") rows);
+  text = text;
+}) (first_of id rows)

@@ -1,0 +1,30 @@
+-- A set of languages and its table.
+use Rattle.std.proofs.Common.{ℕ, ◌≡◌, ◌+◌, ◌<◌, List, [], ◌∷◌, Bool, true, false, inl, inr, length, get_or, drop, sym, ◌∙◌, ap, subst}
+use Rattle.std.specs.Prelude.{Contains, slice_index_or, slice_set}
+use Rattle.std.specs.Str.{bytes_eq}
+use Rattle.std.proofs.lemmas.Bool.{cases_Bool}
+use Rattle.std.proofs.lemmas.Slice.Eq.{bytes_eq-Decides}
+use Rattle.nego_core.proofs.Basics.{false_true, contains_first, contains_later, element_at}
+use Rattle.nego_core.proofs.TableLaws.{IsTableSoFar, one_more}
+use Rattle.nego_core.specs.Handed.{is_among}
+use Rattle.nego_core.specs.LangSet.{slot_of}
+use Rattle.nego_core.specs.Table.{IsTableOf}
+
+among_contains : (langs : List (List ℕ)) (text : List ℕ) → is_among langs text ≡ true → Contains langs text
+among_contains [] text h = cc
+among_contains (l ∷ langs) text h = elim (cases_Bool (bytes_eq l text)) [
+  | inl e ↦ subst (Contains (l ∷ langs)) ((bytes_eq-Decides l text).0 e) (contains_first l langs)
+  | inr e ↦ contains_later l text langs (among_contains langs text (rw e at h))
+]
+
+-- a text whose slot is not set is not among the languages
+pub absent : (langs : List (List ℕ)) (slots : List Bool) (text : List ℕ) (n : ℕ) → IsTableOf slot_of 1024 langs slots → n ≡ slot_of text → slice_index_or slots n false ≡ false → false ≡ is_among langs text
+absent langs slots text n t e f = elim (cases_Bool (is_among langs text)) [
+  | inl h ↦ absurd (false_true (sym f ∙ (ap (λ (k : ℕ). slice_index_or slots k false) e ∙ t.set text (among_contains langs text h))))
+  | inr h ↦ sym h
+]
+
+-- the slot of one more language
+pub next_slot : (langs : List (List ℕ)) (k n : ℕ) (lang : List ℕ) (slots : List Bool) → k < length langs → lang ≡ get_or langs k lang → n ≡ slot_of lang → n < 1024 → IsTableSoFar slot_of 1024 langs (drop k langs) slots → IsTableSoFar slot_of 1024 langs (drop (k + 1) langs) (slice_set slots n true)
+next_slot langs k n lang slots low here e within t =
+    one_more slot_of 1024 langs (drop (k + 1) langs) lang n slots (subst (λ (x : List (List ℕ)). IsTableSoFar slot_of 1024 langs x slots) (element_at langs k lang low here) t) e within

@@ -1,0 +1,7 @@
+use Rattle.std.proofs.Common.{drop}
+use Rattle.nego_core.specs.LangSet.{slot_of}
+use Rattle.nego_core.proofs.TableLaws.{IsTableSoFar}
+use Rattle.nego_core.proofs.lang_set.LangSet.new.Given as goal
+
+abbrev pub invariant-loop-lang : goal.invariant-loop-lang
+invariant-loop-lang l = IsTableSoFar slot_of 1024 l.langs (drop l.lang-index l.langs) l.slots

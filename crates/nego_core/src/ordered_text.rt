@@ -1,0 +1,102 @@
+//! Texts that are compared quickly.
+ghost use Rattle.std.specs.Prelude.{◌≡◌, Some};
+ghost use Rattle.std.specs.Str.{bytes_eq};
+ghost use Rattle.std.specs.Ordering.{nat_cmp};
+ghost use Rattle.std.specs.Cmp.Lexicographic.{slice_cmp};
+ghost use Rattle.std.specs.Cmp.Rules.{comparing};
+ghost use Rattle.nego_core.specs.OrderedText.{head_of};
+ghost use borrow.Author.Rules.{rules};
+
+use crate::bytes::byte_at;
+use std::cmp::Ordering;
+use std::marker::Model;
+
+/// A text with its first eight bytes as a number, which tells the order of most texts.
+#[derive(Drop)]
+pub(crate) struct OrderedText<'a> {
+    head: u64,
+    text: &'a str,
+}
+
+impl<'a> Model for OrderedText<'a> {
+    ghost use Rattle.std.specs.Prelude.{List, ℕ, ◌≡◌};
+    ghost use Rattle.nego_core.specs.OrderedText.{head_of};
+
+    ghost Value = { List ℕ };
+
+    ghost view = { λ t. t.text.now };
+
+    ghost invariant = { λ t. t.head ≡ head_of t.text.now };
+}
+
+impl<'a> OrderedText<'a> {
+    pub(crate) fn new(text: &'a str) -> OrderedText<'a>
+        ensures { result ≡ text.now }
+    {
+        OrderedText {
+            head: head_of(text),
+            text,
+        }
+    }
+}
+
+impl<'a> PartialEq for OrderedText<'a> {
+    ghost eq = { bytes_eq };
+
+    ghost laws = { Prim.search (comparing, rules) };
+
+    fn eq(&self, other: &OrderedText<'a>) -> bool {
+        self.text == other.text
+    }
+}
+
+impl<'a> Eq for OrderedText<'a> {
+    ghost laws = { Prim.search (comparing, rules) };
+}
+
+impl<'a> PartialOrd for OrderedText<'a> {
+    ghost partial_cmp = { λ a b. Some (slice_cmp nat_cmp a b) };
+
+    ghost laws = { Prim.search (comparing, rules) };
+
+    fn partial_cmp(&self, other: &OrderedText<'a>) -> Option<Ordering> {
+        Some(self.cmp(other))
+    }
+}
+
+impl<'a> Ord for OrderedText<'a> {
+    ghost cmp = { slice_cmp nat_cmp };
+
+    ghost total = { Prim.search (comparing, rules) };
+
+    ghost matches_partial_cmp = { Prim.search (comparing, rules) };
+
+    ghost matches_eq = { Prim.search (comparing, rules) };
+
+    fn cmp(&self, other: &OrderedText<'a>) -> Ordering {
+        if self.head < other.head {
+            Ordering::Less
+        } else if other.head < self.head {
+            Ordering::Greater
+        } else {
+            self.text.cmp(other.text)
+        }
+    }
+}
+
+/// The first eight bytes as a number, with zeros past the end.
+fn head_of(text: &str) -> u64
+    ensures { result ≡ head_of text.now }
+{
+    let bytes = text.as_bytes();
+    u64::from_be_bytes([
+        byte_at(bytes, 0),
+        byte_at(bytes, 1),
+        byte_at(bytes, 2),
+        byte_at(bytes, 3),
+        byte_at(bytes, 4),
+        byte_at(bytes, 5),
+        byte_at(bytes, 6),
+        byte_at(bytes, 7),
+    ])
+}

@@ -1,0 +1,65 @@
+/* Prints the text of a message for a reader.
+ *
+ * usage: label SITE.json ID FIELD [DEFAULT]
+ *
+ *     cc label.c -o label $(pkg-config --cflags --libs silkwaram)
+ *     ./label site.json greeting 'fr-CA, en;q=0.5' en */
+#include <silkwaram.h>
+#include <stdio.h>
+#include <stdlib.h>
+#include <string.h>
+
+static uint8_t *read_file(const char *name, size_t *len) {
+  FILE *from = fopen(name, "rb");
+  if (!from) return NULL;
+  fseek(from, 0, SEEK_END);
+  *len = (size_t)ftell(from);
+  rewind(from);
+  uint8_t *bytes = malloc(*len ? *len : 1);
+  if (bytes && fread(bytes, 1, *len, from) != *len) {
+    free(bytes);
+    bytes = NULL;
+  }
+  fclose(from);
+  return bytes;
+}
+
+static const uint8_t *bytes(const char *text) { return (const uint8_t *)text; }
+
+/* Prints the first text of the label, in a block of memory of just its size where the buffer has no room. */
+static int32_t print_text(sw_site *site, const char *id, const char *field, const char *dflt, sw_told *told) {
+  uint8_t buffer[80], *out = buffer;
+  int32_t status = sw_site_text(site, 0, bytes(id), strlen(id), bytes(field), strlen(field), bytes(dflt), strlen(dflt),
+                                0, buffer, sizeof buffer, told);
+  if (status == SW_FOUND && told->len > sizeof buffer) {
+    size_t room = told->len;
+    out = malloc(room);
+    if (!out) return SW_NO_MEMORY;
+    status = sw_site_text(site, 0, bytes(id), strlen(id), bytes(field), strlen(field), bytes(dflt), strlen(dflt), 0,
+                          out, room, told);
+  }
+  if (status == SW_FOUND) printf("%.*s\n", (int)told->len, (const char *)out);
+  if (out != buffer) free(out);
+  return status;
+}
+
+int main(int count, char **words) {
+  if (count < 4 || count > 5) {
+    fprintf(stderr, "usage: label SITE.json ID FIELD [DEFAULT]\n");
+    return SW_USAGE;
+  }
+  size_t len;
+  uint8_t *document = read_file(words[1], &len);
+  if (!document) {
+    perror(words[1]);
+    return 4;
+  }
+  sw_site site = {0};
+  sw_told told = {0};
+  int32_t status = sw_site_open(document, len, &site, &told);
+  free(document);
+  if (status == SW_FOUND) status = print_text(&site, words[2], words[3], count == 5 ? words[4] : "", &told);
+  if (told.number) fprintf(stderr, "refused %u: docs/REFUSALS.md\n", told.number);
+  sw_site_free(&site);
+  return status;
+}

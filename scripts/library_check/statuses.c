@@ -1,0 +1,246 @@
+/* What each call answers to questions that the command cannot be asked, and what it leaves: unknown flags, handles that
+ * are not open, bytes that are no text, room that is too small, a site that is shared or read anew. */
+#include "questions.h"
+
+#define PARIS                                                                                               \
+  "{\"cells\":[[\"m\",\"en\",5,\"paris\",0,[\"Hello\",\"Hi\"]],[\"m\",\"fr\",5,\"paris\",1,[\"Bonjour\"]]," \
+  "[\"n\",\"de\",5,\"paris\",2,[\"\"]]],\"kind\":\"site\",\"site\":\"paris\",\"version\":2}\n"
+#define OSLO \
+  "{\"cells\":[[\"m\",\"en\",6,\"oslo\",0,[\"Good day\"]]],\"kind\":\"site\",\"site\":\"oslo\",\"version\":2}\n"
+#define UNSORTED                                                                                              \
+  "{\"cells\":[[\"n\",\"en\",5,\"paris\",0,[\"a\"]],[\"m\",\"en\",5,\"paris\",1,[\"b\"]]],\"kind\":\"site\"," \
+  "\"site\":\"paris\",\"version\":2}\n"
+
+enum { ROOM = 256 };
+
+/* What a call has to answer. */
+typedef struct {
+  int32_t status;
+  sw_told told;
+  const char *answer;
+} wanted;
+
+static unsigned rows, faults;
+static uint8_t out[ROOM];
+static sw_told told;
+
+static wanted answers(int32_t status, size_t count, const char *answer) {
+  return (wanted){status, {.len = strlen(answer), .count = count}, answer};
+}
+
+static wanted refused(uint32_t number, size_t offset, size_t row) {
+  return (wanted){SW_REFUSED, {.number = number, .offset = offset, .row = row}, ""};
+}
+
+static wanted nothing_told(int32_t status) { return (wanted){status, {0}, ""}; }
+
+static void holds_at(int line, int is_well) {
+  rows++;
+  if (is_well) return;
+  faults++;
+  fprintf(stderr, "statuses.c:%d: status or answer; len %zu offset %zu row %zu count %zu number %u\n", line, told.len,
+          told.offset, told.row, told.count, told.number);
+}
+
+/* Makes a buffer and a `told` that no call has written to. */
+static void begin(void) {
+  memset(out, UNTOUCHED, sizeof out);
+  memset(&told, UNTOUCHED, sizeof told);
+}
+
+/* An answer with more bytes than there was room for is not in the buffer. */
+static void compare(int line, int32_t status, size_t room, wanted it) {
+  size_t written = it.told.len <= room ? it.told.len : 0;
+  holds_at(line, status == it.status && same_told(&told, &it.told) && !memcmp(out, it.answer, written) &&
+                     is_untouched(out + written, sizeof out - written));
+}
+
+static void pick_at(int line, uint32_t flags, text field, text tags, text dflt, wanted it) {
+  begin();
+  compare(line, sw_pick(flags, BYTES(field), BYTES(tags), BYTES(dflt), out, ROOM, &told), ROOM, it);
+}
+
+static void open_at(int line, sw_site *site, text document, wanted it) {
+  begin();
+  compare(line, sw_site_open(BYTES(document), site, &told), 0, it);
+}
+
+static void lookup_at(int line, sw_site *site, uint32_t flags, text id, text field, text dflt, wanted it) {
+  begin();
+  compare(line, sw_site_lookup(site, flags, BYTES(id), BYTES(field), BYTES(dflt), out, ROOM, &told), ROOM, it);
+}
+
+static void text_at(int line, sw_site *site, uint32_t flags, text id, text field, text dflt, size_t place, wanted it) {
+  begin();
+  compare(line, sw_site_text(site, flags, BYTES(id), BYTES(field), BYTES(dflt), place, out, ROOM, &told), ROOM, it);
+}
+
+static void filter_at(int line, sw_site *site, uint32_t flags, text id, text field, wanted it) {
+  begin();
+  compare(line, sw_site_filter(site, flags, BYTES(id), BYTES(field), out, ROOM, &told), ROOM, it);
+}
+
+static void bundle_at(int line, sw_site *site, uint32_t flags, text field, text dflt, wanted it) {
+  begin();
+  compare(line, sw_site_bundle(site, flags, BYTES(field), BYTES(dflt), out, ROOM, &told), ROOM, it);
+}
+
+/* (a row that is wrong is told by its line) */
+#define HOLDS(condition) holds_at(__LINE__, condition)
+#define PICK(...) pick_at(__LINE__, __VA_ARGS__)
+#define OPEN(...) open_at(__LINE__, __VA_ARGS__)
+#define LOOKUP(...) lookup_at(__LINE__, __VA_ARGS__)
+#define LABEL_TEXT(...) text_at(__LINE__, __VA_ARGS__)
+#define FILTER(...) filter_at(__LINE__, __VA_ARGS__)
+#define BUNDLE(...) bundle_at(__LINE__, __VA_ARGS__)
+
+static void picks(void) {
+  PICK(0, T("da, en-GB;q=0.8, en;q=0.7"), T("en\nfr"), NO_TEXT, answers(SW_FOUND, 0, "en"));
+  PICK(0, T("fr-ca"), T("en\nFR\nfr\n"), NO_TEXT, answers(SW_FOUND, 0, "FR"));
+  PICK(0, T("ja"), T("en\nEN-gb\n"), T("En-GB"), answers(SW_FOUND, 1, "EN-gb"));
+  PICK(0, T("ja, *;q=0"), T("en"), T("en"), nothing_told(SW_NOTHING));
+  PICK(0, T("ja, *;q=0"), T("en\n@none"), T("@none"), answers(SW_FOUND, 1, "@none"));
+  PICK(0, T("ja"), T("en"), T("de"), nothing_told(SW_NOTHING));
+  PICK(0, NO_TEXT, T("en"), NO_TEXT, nothing_told(SW_NOTHING));
+  PICK(0, T("en"), NO_TEXT, NO_TEXT, nothing_told(SW_NOTHING));
+  PICK(0, T("en"), NO_TEXT, T("en"), nothing_told(SW_NOTHING));
+  PICK(SW_EXTENDED, T("de-*-DE"), T("de\nde-DE"), NO_TEXT, answers(SW_FOUND, 0, "de-DE"));
+  PICK(SW_LENIENT, T("en_US, fr;q=0.5"), T("en\nfr"), NO_TEXT, answers(SW_FOUND, 0, "fr"));
+  PICK(SW_EXTENDED | SW_LENIENT, T("de;q=0.5, fr"), T("de\nfr"), NO_TEXT, answers(SW_FOUND, 0, "fr"));
+
+  PICK(0, T("en"), T("\n"), NO_TEXT, refused(1, 0, 0));
+  PICK(0, T("en"), T("en\n\nfr"), NO_TEXT, refused(1, 0, 0));
+  PICK(0, T("en"), T("en\n\n"), NO_TEXT, refused(1, 0, 0));
+  PICK(0, T("en"), T("en\nfr-é\n"), NO_TEXT, refused(3, 3, 0));
+  PICK(0, T("en"), T("en\0"), NO_TEXT, refused(3, 0, 0));
+  PICK(0, T("en"), T("en\n\xff"), NO_TEXT, refused(3, 0, 0));
+  PICK(0, T("en"), T("en\r\nfr\r\n"), NO_TEXT, refused(3, 0, 0));
+  PICK(0, T("fr, e n"), T("e n"), NO_TEXT, refused(9, 4, 0));
+  PICK(0, T("en\0"), T("en"), NO_TEXT, refused(9, 0, 0));
+  PICK(0, T("fr,\xff"), T("en"), NO_TEXT, refused(9, 3, 0));
+  PICK(0, T("e n"), T("e n"), T("de-\xff"), refused(3, 3, 0));
+  PICK(0, T("e n"), T("e n"), T("a"), refused(4, 0, 0));
+  PICK(SW_LENIENT, T("\xff, en"), T("en"), NO_TEXT, answers(SW_FOUND, 0, "en"));
+}
+
+static void long_fields(void) {
+  size_t most = 65535;
+  uint8_t *field = block(most + 1);
+  memset(field, ',', most + 1);
+  for (uint32_t flags = 0; flags < 4; flags++) {
+    PICK(flags, (text){field, most}, T("en"), T("en"), answers(SW_FOUND, 1, "en"));
+    PICK(flags, (text){field, most + 1}, T("en"), T("en"), refused(8, 0, 0));
+  }
+  free(field);
+}
+
+static void unknown_flags(sw_site *site) {
+  for (int bit = 2; bit < 32; bit++) {
+    uint32_t flags = (uint32_t)1 << bit | (bit % 2 ? SW_LENIENT : 0u);
+    PICK(flags, T("e n"), T("e n"), NO_TEXT, nothing_told(SW_USAGE));
+    LOOKUP(site, flags, T("@"), T("en"), NO_TEXT, nothing_told(SW_USAGE));
+    LABEL_TEXT(site, flags, T("m"), T("en"), NO_TEXT, 0, nothing_told(SW_USAGE));
+    FILTER(site, flags, T("m"), T("en"), nothing_told(SW_USAGE));
+    BUNDLE(site, flags, T("en"), NO_TEXT, nothing_told(SW_USAGE));
+  }
+}
+
+static void closed_handles(void) {
+  sw_site site = {0}, other = {0};
+  LOOKUP(&site, 0, T("m"), T("en"), NO_TEXT, nothing_told(SW_USAGE));
+  LABEL_TEXT(&site, 0, T("m"), T("en"), NO_TEXT, 0, nothing_told(SW_USAGE));
+  FILTER(&site, 0, T("m"), T("en"), nothing_told(SW_USAGE));
+  BUNDLE(&site, 0, T("en"), NO_TEXT, nothing_told(SW_USAGE));
+  HOLDS(sw_site_share(&site, &other) == SW_USAGE && !other.held && !site.held);
+  OPEN(&site, T("{"), refused(19, 0, 0));
+  HOLDS(!site.held);
+  sw_site_free(&site);
+  sw_site_free(&site);
+  HOLDS(!site.held);
+}
+
+static void questions(sw_site *site) {
+  LOOKUP(site, 0, T("m"), T("fr-CA, en;q=0.5"), NO_TEXT, answers(SW_FOUND, 0, "matched fr [\"Bonjour\"]\n"));
+  LOOKUP(site, 0, T("m"), T("ja"), T("EN"), answers(SW_FOUND, 0, "default en [\"Hello\",\"Hi\"]\n"));
+  LOOKUP(site, 0, T("m"), T("ja"), NO_TEXT, answers(SW_NOTHING, 0, "nothing\n"));
+  LOOKUP(site, 0, T("none"), T("en"), T("en"), answers(SW_NOTHING, 0, "nothing\n"));
+  LOOKUP(site, 0, T("\xff"), T("e n"), T("e n"), refused(10, 0, 0));
+  LOOKUP(site, 0, T("m\0"), T("en"), NO_TEXT, refused(10, 0, 0));
+  LOOKUP(site, 0, NO_TEXT, T("en"), NO_TEXT, refused(10, 0, 0));
+  LOOKUP(site, 0, T("m"), T("e n"), T("en-"), refused(3, 3, 0));
+  LOOKUP(site, 0, T("m"), T("fr, en;q=2"), T("en"), refused(9, 4, 0));
+
+  LABEL_TEXT(site, 0, T("m"), T("en"), NO_TEXT, 0, answers(SW_FOUND, 2, "Hello"));
+  LABEL_TEXT(site, 0, T("m"), T("en"), NO_TEXT, 1, answers(SW_FOUND, 2, "Hi"));
+  LABEL_TEXT(site, 0, T("m"), T("en"), NO_TEXT, 2, ((wanted){SW_NOTHING, {.count = 2}, ""}));
+  LABEL_TEXT(site, 0, T("m"), T("en"), NO_TEXT, SIZE_MAX, ((wanted){SW_NOTHING, {.count = 2}, ""}));
+  LABEL_TEXT(site, 0, T("n"), T("de"), NO_TEXT, 0, answers(SW_FOUND, 1, ""));
+  LABEL_TEXT(site, 0, T("m"), T("ja"), T("fr"), 0, answers(SW_FOUND, 1, "Bonjour"));
+  LABEL_TEXT(site, 0, T("m"), T("ja"), NO_TEXT, 0, nothing_told(SW_NOTHING));
+  LABEL_TEXT(site, 0, T("m"), T("e n"), NO_TEXT, 0, refused(9, 0, 0));
+
+  FILTER(site, 0, T("m"), T("fr;q=0.5, en"),
+         answers(SW_FOUND, 0, "filter 2\nen 1000 [\"Hello\",\"Hi\"]\nfr 500 [\"Bonjour\"]\n"));
+  FILTER(site, 0, T("m"), T("ja"), answers(SW_NOTHING, 0, "filter 0\n"));
+  FILTER(site, 0, T("@"), T("e n"), refused(10, 0, 0));
+
+  BUNDLE(site, 0, T("fr, de;q=0.5"), NO_TEXT,
+         answers(SW_FOUND, 0, "{\"m\":{\"fr\":\"Bonjour\"},\"n\":{\"de\":\"\"}}\n"));
+  BUNDLE(site, 0, T("ja"), NO_TEXT, answers(SW_NOTHING, 0, "{}\n"));
+  BUNDLE(site, 0, T("e n"), T("a"), refused(4, 0, 0));
+}
+
+static void rooms(sw_site *site) {
+  const char *line = "matched fr [\"Bonjour\"]\n";
+  for (size_t room = 0; room <= strlen(line) + 1; room++) {
+    begin();
+    int32_t status = sw_site_lookup(site, 0, BYTES(T("m")), BYTES(T("fr")), NULL, 0, room ? out : NULL, room, &told);
+    compare(__LINE__, status, room, answers(SW_FOUND, 0, line));
+  }
+}
+
+static void reads_anew(sw_site *site) {
+  OPEN(site, T("not JSON"), refused(19, 0, 0));
+  OPEN(site, T("{\"a\xff"), refused(18, 3, 0));
+  OPEN(site, NO_TEXT, refused(19, 0, 0));
+  OPEN(site, T(UNSORTED), refused(21, 0, 1));
+  LABEL_TEXT(site, 0, T("m"), T("en"), NO_TEXT, 0, answers(SW_FOUND, 2, "Hello"));
+  OPEN(site, T(OSLO), nothing_told(SW_FOUND));
+  LABEL_TEXT(site, 0, T("m"), T("en"), NO_TEXT, 0, answers(SW_FOUND, 1, "Good day"));
+}
+
+/* A handle that is shared outlives the first, and keeps what it held. */
+static void shares(void) {
+  sw_site first = {0}, second = {0}, third = {0};
+  OPEN(&first, T(PARIS), nothing_told(SW_FOUND));
+  OPEN(&third, T(OSLO), nothing_told(SW_FOUND));
+  HOLDS(sw_site_share(&first, &second) == SW_FOUND && second.held && first.held);
+  HOLDS(sw_site_share(&second, &third) == SW_FOUND && third.held);
+  reads_anew(&first);
+  LABEL_TEXT(&second, 0, T("m"), T("en"), NO_TEXT, 0, answers(SW_FOUND, 2, "Hello"));
+  sw_site_free(&first);
+  sw_site_free(&second);
+  HOLDS(!first.held && !second.held);
+  LABEL_TEXT(&third, 0, T("m"), T("en"), NO_TEXT, 0, answers(SW_FOUND, 2, "Hello"));
+  sw_site closed = {0};
+  HOLDS(sw_site_share(&closed, &third) == SW_USAGE);
+  LABEL_TEXT(&third, 0, T("m"), T("en"), NO_TEXT, 0, answers(SW_FOUND, 2, "Hello"));
+  sw_site_free(&third);
+}
+
+int main(void) {
+  sw_site site = {0};
+  HOLDS(sw_version() == SW_VERSION);
+  picks();
+  long_fields();
+  closed_handles();
+  OPEN(&site, T(PARIS), nothing_told(SW_FOUND));
+  unknown_flags(&site);
+  questions(&site);
+  rooms(&site);
+  sw_site_free(&site);
+  HOLDS(!site.held);
+  shares();
+  printf("statuses: %u rows, %u wrong\n", rows, faults);
+  return faults != 0;
+}
