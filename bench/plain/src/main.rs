@@ -10,6 +10,7 @@ mod cata_core;
 mod catalogues;
 mod cell_core;
 mod checksum;
+mod held;
 mod keyed;
 mod lang_core;
 mod load;
@@ -17,7 +18,6 @@ mod makers;
 mod nego_core;
 mod parsing;
 mod playing;
-mod sorted;
 mod words;
 mod works;
 

@@ -1,10 +1,10 @@
 //! The works by name. Each turn does one thing to the load.
 
 use crate::asking::{sum_of_choice, sum_of_filter, sum_of_lookup};
+use crate::held::Held;
 use crate::lang_core::Lang;
 use crate::nego_core::{NegoFault, PriorityList, Scheme};
 use crate::parsing::{langs_of, list_of, parse_lines, sum_of_list};
-use crate::sorted::Sorted;
 use crate::{catalogues, keyed, playing};
 
 /// A list that was read from a field, with what it is asked over.
@@ -13,7 +13,7 @@ struct Asked<'a> {
     field: &'a str,
     list: Result<PriorityList, NegoFault>,
     langs: &'a [Lang],
-    sorted: &'a Sorted,
+    held: &'a Held,
 }
 
 /// Reads the field and asks the list for all that it is asked for.
@@ -38,7 +38,7 @@ fn turn(work: &str, asked: &Asked, sum: u64) -> u64 {
             sum_of_filter(sum, list, asked.scheme, asked.langs)
         }
         ("lookup", Ok(list)) => sum_of_lookup(sum, list, asked.langs),
-        ("choose", Ok(list)) => sum_of_choice(sum, list, asked.sorted),
+        ("choose", Ok(list)) => sum_of_choice(sum, list, asked.held),
         _ => read_and_ask(asked, sum),
     }
 }
@@ -56,13 +56,13 @@ fn ask(work: &str, load: &str, turns: u64) -> u64 {
     let (field, rest) = load.split_once('\n').unwrap_or((load, ""));
     let scheme = scheme_of(work);
     let langs = langs_of(rest);
-    let sorted = Sorted::of_langs(&langs);
+    let held = Held::of_langs(&langs);
     let asked = Asked {
         scheme,
         field,
         list: list_of(scheme, field),
         langs: &langs,
-        sorted: &sorted,
+        held: &held,
     };
     (0..turns).fold(0, |sum, _| turn(work, &asked, sum))
 }

@@ -8,12 +8,12 @@
 mod asking;
 mod catalogues;
 mod checksum;
+mod held;
 mod keyed;
 mod makers;
 mod parsing;
 mod playing;
 mod rounds;
-mod sorted;
 mod works;
 
 use std::{env, io};

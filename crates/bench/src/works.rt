@@ -1,8 +1,8 @@
 //! The works by name. Each turn does one thing to the load.
 
 use crate::asking::{sum_of_choice, sum_of_filter, sum_of_lookup};
+use crate::held::Held;
 use crate::parsing::{langs_of, list_of, parse_lines, sum_of_list};
-use crate::sorted::Sorted;
 use crate::{catalogues, keyed, playing};
 use lang_core::Lang;
 use nego_core::{NegoFault, PriorityList, Scheme};
@@ -15,7 +15,7 @@ struct Asked<'a> {
     field: &'a str,
     list: Result<PriorityList, NegoFault>,
     langs: &'a [Lang],
-    sorted: &'a Sorted,
+    held: &'a Held,
 }
 
 fn no_memory(_fault: NegoFault) -> AllocError {
@@ -48,7 +48,7 @@ fn turn(alloc: Global, work: &str, asked: &Asked, sum: u64) -> Result<u64, Alloc
             sum_of_filter(alloc, sum, list, asked.scheme, asked.langs).map_err(no_memory)
         }
         ("lookup", Ok(list)) => Ok(sum_of_lookup(sum, list, asked.langs)),
-        ("choose", Ok(list)) => Ok(sum_of_choice(sum, list, asked.sorted)),
+        ("choose", Ok(list)) => Ok(sum_of_choice(sum, list, asked.held)),
         _ => read_and_ask(alloc, asked, sum),
     }
 }
@@ -66,13 +66,13 @@ fn ask(alloc: Global, work: &str, load: &str, turns: u64) -> Result<u64, AllocEr
     let (field, rest) = load.split_once("\n").unwrap_or((load, ""));
     let scheme = scheme_of(work);
     let langs = langs_of(alloc, rest)?;
-    let sorted = Sorted::of_langs(alloc, &langs)?;
+    let held = Held::of_langs(alloc, &langs)?;
     let asked = Asked {
         scheme,
         field,
         list: list_of(alloc, scheme, field),
         langs: &langs,
-        sorted: &sorted,
+        held: &held,
     };
     let mut sum = 0;
     for _ in 0..turns {

@@ -7,10 +7,11 @@ use Rattle.cell_core.specs.declared.cell.Cell.{Cell}
 use Rattle.cell_core.specs.Maps.{IsMap}
 use Rattle.cata_core.specs.Entries.{EntryKey, key_cmp, key_cmp_total, Entries, IsAboveAll}
 use Rattle.cata_core.specs.Deltas.{Stamps, is_news, delta_of}
-use Rattle.cata_core.specs.Seeking.{IsSeeking}
+use Rattle.cata_core.specs.Seeking.{IsBehind}
 use Rattle.cata_core.proofs.Basics.{first_part, second_part, less_than, append_nil}
 use Rattle.cata_core.proofs.Filtered.{filter-IsMap}
 use Rattle.cata_core.proofs.Behind.{front_below}
+use Rattle.cata_core.proofs.ToldLists.{less_from, not_greater}
 
 -- the key is not lesser than the first
 abbrev IsFromFirst : EntryKey → Entries → Type 0
@@ -28,18 +29,17 @@ pub record IsNewsTo (all left news : Entries) (told rest : Stamps) : Type 0 wher
 pub news_first : (all : Entries) (told : Stamps) → IsMap key_cmp all → IsMap key_cmp told → IsNewsTo all all [] told told
 news_first all told m n = record { cells = refl; map = m; sorted = m; rest_sorted = n; same = λ q h. refl }
 
-module _ (all left news : Entries) (told rest more : Stamps) (k : EntryKey) (c : Cell) (h : IsNewsTo all ((k, c) ∷ left) news told rest) (s : IsSeeking k rest more) where
-  later : (q : EntryKey) → IsFromFirst q left → key_cmp k q ≢ Greater
-  later q = elim left as (λ l. IsMap key_cmp ((k, c) ∷ l) → IsFromFirst q l → key_cmp k q ≢ Greater) [
+module _ (all left news : Entries) (told rest more : Stamps) (k : EntryKey) (c : Cell) (h : IsNewsTo all ((k, c) ∷ left) news told rest) (s : IsBehind k rest more) where
+  later : (q : EntryKey) → IsFromFirst q left → key_cmp k q ≡ Less
+  later q = elim left as (λ l. IsMap key_cmp ((k, c) ∷ l) → IsFromFirst q l → key_cmp k q ≡ Less) [
     | [] ↦ λ m f. absurd f
-    | e ∷ es ↦ λ m f greater.
+    | e ∷ es ↦ λ m f.
         let less : key_cmp k e.0 ≡ Less = less_than (key_cmp k e.0) (first_part (is_lt (key_cmp k e.0)) (below_all key_cmp k es) (first_part (below_all key_cmp k (e ∷ es)) (is_sorted key_cmp (e ∷ es)) m)) in
-        let back : key_cmp q k ≡ Less = key_cmp_total.antisymm q k ∙ ap ordering_reverse greater in
-        f (key_cmp_total.antisymm e.0 q ∙ ap ordering_reverse (key_cmp_total.trans q k e.0 back less))
+        less_from k e.0 q less f
   ] h.sorted
 
   rest_same : (q : EntryKey) → IsFromFirst q left → find key_cmp q more ≡ find key_cmp q told
-  rest_same q f = s.same q (later q f) ∙ h.same q (later q f)
+  rest_same q f = s.same q (later q f) ∙ h.same q (not_greater (later q f))
 
   left_sorted : IsMap key_cmp left
   left_sorted = second_part (below_all key_cmp k left) (is_sorted key_cmp left) h.sorted

@@ -10,7 +10,7 @@ use Rattle.std.specs.FinMap.Entries.{find, is_sorted, below_all}
 use Rattle.cell_core.specs.declared.stamp.Stamp.{Stamp}
 use Rattle.cell_core.specs.Maps.{IsMap}
 use Rattle.cata_core.specs.declared.summary.Told.{Told}
-use Rattle.cata_core.specs.Entries.{EntryKey, key_cmp, key_cmp_total}
+use Rattle.cata_core.specs.Entries.{EntryKey, key_cmp, key_cmp_total, key_cmp_exact}
 use Rattle.cata_core.specs.Deltas.{Stamps}
 use Rattle.cata_core.specs.Told.{told_of}
 use Rattle.cata_core.proofs.Basics.{first_part, both_parts}
@@ -66,3 +66,22 @@ passed key k s es lt q from = ap (λ b. cond b (Some s) (find key_cmp q es)) (sy
 
 pub not_greater_self : (k : EntryKey) → key_cmp k k ≢ Greater
 not_greater_self k e = let no : Equal ≡ Greater = sym (tied_itself key_cmp_total k) ∙ e in absurd (cc)
+
+pub not_greater : {r : Ordering} → r ≡ Less → r ≢ Greater
+not_greater less greater = let no : Less ≡ Greater = sym less ∙ greater in absurd (cc)
+
+-- a key that is not lesser than a greater one is greater
+pub less_from : (k e q : EntryKey) → key_cmp k e ≡ Less → key_cmp e q ≢ Greater → key_cmp k q ≡ Less
+less_from k e q less from = by_case (key_cmp e q) refl
+  where
+    by_case : (r : Ordering) → key_cmp e q ≡ r → key_cmp k q ≡ Less
+    by_case Less lt = key_cmp_total.trans k e q less lt
+    by_case Equal tied = subst (λ x. key_cmp k x ≡ Less) (key_cmp_exact e q tied) less
+    by_case Greater gt = absurd (from gt)
+
+-- behind the key itself, its entry is passed over
+pub passed_found : (key k : EntryKey) (s : Stamp) (es : Stamps) → key_cmp k key ≡ Equal → (q : EntryKey) → key_cmp key q ≡ Less → find key_cmp q es ≡ find key_cmp q ((k, s) ∷ es)
+passed_found key k s es tied q less =
+    let from : key_cmp k q ≡ Less = subst (λ x. key_cmp x q ≡ Less) (sym (key_cmp_exact k key tied)) less in
+    let apart : is_eq (key_cmp q k) ≡ false = ap is_eq (key_cmp_total.antisymm q k ∙ ap ordering_reverse from) in
+    ap (λ b. cond b (Some s) (find key_cmp q es)) (sym apart)

@@ -1,5 +1,6 @@
 pub mod Alike
 pub mod Answers
+pub mod AnswersEq
 pub mod Asking
 pub mod CataFaults
 pub mod CellsLeft
@@ -8,6 +9,7 @@ pub mod Counts
 pub mod Deltas
 pub mod Edits
 pub mod Entries
+pub mod EntriesEq
 pub mod Equality
 pub mod Faulty
 pub mod Flat
@@ -29,6 +31,7 @@ pub mod Seeking
 pub mod Settled
 pub mod Sites
 pub mod Spreads
+pub mod StampsLeft
 pub mod SummaryEq
 pub mod Taken
 pub mod Told

@@ -40,6 +40,17 @@ impl Edits {
         Ok(Edits { edits })
     }
 
+    /// An equal list.
+    pub fn copy(&self, alloc: Global) -> Result<Edits, AllocError>
+        ensures { IfOk result (λ copied. copied ≡ self.now) }
+    {
+        let mut edits = Vec::with_capacity(alloc, self.edits.len())?;
+        for edit in &self.edits {
+            edits.push(edit.copy(alloc)?)?;
+        }
+        Ok(Edits { edits })
+    }
+
     /// How many there are.
     pub fn len(&self) -> usize
         ensures { result ≡ length self.now }
@@ -89,7 +100,7 @@ impl Eq for Edits {
 }
 
 /// The answer to a question.
-#[derive(Debug, Drop)]
+#[derive(Debug, PartialEq, Eq, Drop)]
 pub enum Answer {
     /// Languages with their labels and weights.
     Filter(Entries),
@@ -97,6 +108,19 @@ pub enum Answer {
     Lookup(Reply),
     /// All cells of a site, in strictly rising order of key.
     Cells(Edits),
+}
+
+impl Answer {
+    /// An equal answer.
+    pub fn copy(&self, alloc: Global) -> Result<Answer, AllocError>
+        ensures { IfOk result (λ copied. copied ≡ self.now) }
+    {
+        match self {
+            Answer::Filter(entries) => Ok(Answer::Filter(entries.copy(alloc)?)),
+            Answer::Lookup(reply) => Ok(Answer::Lookup(reply.copy(alloc)?)),
+            Answer::Cells(edits) => Ok(Answer::Cells(edits.copy(alloc)?)),
+        }
+    }
 }
 
 /// The answers of a run, one for each question, in order.
@@ -149,4 +173,34 @@ impl Answers {
     {
         self.answers.iter()
     }
+
+    /// Equal answers.
+    pub fn copy(&self, alloc: Global) -> Result<Answers, AllocError>
+        ensures { IfOk result (λ copied. copied ≡ self.now) }
+    {
+        let mut answers = Vec::with_capacity(alloc, self.answers.len())?;
+        for answer in &self.answers {
+            answers.push(answer.copy(alloc)?)?;
+        }
+        Ok(Answers { answers })
+    }
+}
+
+impl PartialEq for Answers {
+    ghost use Rattle.std.specs.Cmp as laws_of;
+    ghost use Rattle.cata_core.specs.AnswersEq.{answers_eq, answers_equiv};
+
+    ghost eq = { answers_eq };
+
+    ghost laws = { laws_of.partial_equiv_from_equiv answers_equiv };
+
+    fn eq(&self, other: &Answers) -> bool {
+        self.answers == other.answers
+    }
+}
+
+impl Eq for Answers {
+    ghost use Rattle.cata_core.specs.AnswersEq.{answers_equiv};
+
+    ghost laws = { answers_equiv };
 }

@@ -85,7 +85,8 @@ impl Catalogue {
         ensures len { result ≡ length self.now }
         ensures sorted { IsMap key_cmp self.now }
     {
-        self.len
+        let Catalogue { len, .. } = self;
+        *len
     }
 
     /// Whether there is no cell.
@@ -111,6 +112,16 @@ impl Catalogue {
         ensures sorted { IsMap key_cmp self.now }
     {
         Cells::new(&self.map)
+    }
+
+    /// An equal catalogue.
+    pub fn copy(&self, alloc: Global) -> Result<Catalogue, AllocError>
+        ensures { IfOk result (λ copied. copied ≡ self.now) }
+    {
+        Ok(Catalogue {
+            map: self.map.copy(alloc)?,
+            len: self.len,
+        })
     }
 
     /// Joins the one cell of an edit. An edit that is not newer than the held cell takes no memory.

@@ -7,7 +7,7 @@ use lang_core::Lang;
 
 /// Lends the cells of a message, each with the message and its language, in rising order of
 /// language.
-#[derive(Drop)]
+#[derive(Debug, Drop)]
 struct MessageCells<'a> {
     id: &'a MessageId,
     cells: Entries<'a, Lang, Cell>,
@@ -29,7 +29,7 @@ impl<'a> Iterator for MessageCells<'a> {
 }
 
 /// Lends the cells of a catalogue, each with its message and language, in rising order of key.
-#[derive(Drop)]
+#[derive(Debug, Drop)]
 pub struct Cells<'a> {
     current: Option<MessageCells<'a>>,
     messages: Entries<'a, MessageId, Keyed<Lang, Cell>>,

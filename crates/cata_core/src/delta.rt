@@ -5,7 +5,7 @@ ghost use Rattle.std.specs.FinMap.Entries.{find};
 ghost use Rattle.cell_core.specs.Maps.{IsMap};
 ghost use Rattle.cata_core.specs.Deltas.{delta_of, is_news};
 ghost use Rattle.cata_core.specs.Entries.{key_cmp};
-ghost use Rattle.cata_core.specs.Seeking.{IsSeeking};
+ghost use Rattle.cata_core.specs.Seeking.{IsBehind};
 ghost use Rattle.cata_core.specs.Told.{told_of};
 
 use crate::catalogue::Catalogue;
@@ -44,6 +44,16 @@ impl Delta {
         &self.cells
     }
 
+    /// An equal delta.
+    pub fn copy(&self, alloc: Global) -> Result<Delta, AllocError>
+        ensures { IfOk result (λ copied. copied ≡ self.now) }
+    {
+        Ok(Delta {
+            addressee: self.addressee,
+            cells: self.cells.copy(alloc)?,
+        })
+    }
+
     /// The cells, for which the delta is given up.
     pub fn into_cells(self) -> Catalogue
         ensures { result ≡ self.cells }
@@ -73,17 +83,17 @@ pub(crate) fn news(
     Ok(news)
 }
 
-/// What was told of the key, and what is left without the smaller keys in front.
+/// What was told of the key, and what is left behind it: the keys up to it are passed over.
 fn stamp_at<'a>(told: &'a [Told], id: &MessageId, lang: &Lang) -> (Option<Stamp>, &'a [Told])
     requires { IsMap key_cmp (told_of told.now) }
     ensures stamp { result.0 ≡ find key_cmp (id.now, lang.now) (told_of told.now) }
-    ensures rest { IsSeeking (id.now, lang.now) (told_of told.now) (told_of result.1.now) }
+    ensures rest { IsBehind (id.now, lang.now) (told_of told.now) (told_of result.1.now) }
 {
     let mut rest = told;
     while let Some((first, more)) = rest.split_first() {
         match first.compare(id, lang) {
             Ordering::Less => rest = more,
-            Ordering::Equal => return (Some(first.stamp), rest),
+            Ordering::Equal => return (Some(first.stamp), more),
             Ordering::Greater => return (None, rest),
         }
     }

@@ -1,9 +1,10 @@
 //! Edits: what a message has in a language from a moment on.
 
-ghost use Rattle.std.specs.Prelude.{◌≡◌};
+ghost use Rattle.std.specs.Prelude.{◌≡◌, IfOk};
 
-use cell_core::{Cell, MessageId};
+use cell_core::{Cell, Join, Key, MessageId};
 use lang_core::Lang;
+use std::alloc::{AllocError, Global};
 use std::marker::Model;
 
 /// A cell for a key, a message and a language. An edit whose cell has no label is a deletion.
@@ -49,5 +50,16 @@ impl Edit {
         ensures { result.now ≡ self.now.1 }
     {
         &self.cell
+    }
+
+    /// An equal edit.
+    pub fn copy(&self, alloc: Global) -> Result<Edit, AllocError>
+        ensures { IfOk result (λ copied. copied ≡ self.now) }
+    {
+        Ok(Edit {
+            id: self.id.copy(alloc)?,
+            lang: self.lang.copy(alloc)?,
+            cell: self.cell.copy(alloc)?,
+        })
     }
 }

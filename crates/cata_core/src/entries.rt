@@ -119,6 +119,37 @@ impl Entries {
     {
         self.items.iter()
     }
+
+    /// An equal list.
+    pub fn copy(&self, alloc: Global) -> Result<Entries, AllocError>
+        ensures { IfOk result (λ copied. copied ≡ self.now) }
+    {
+        let mut items = Vec::with_capacity(alloc, self.items.len())?;
+        for (lang, label, weight) in &self.items {
+            let item = (lang.copy(alloc)?, label.copy(alloc)?, *weight);
+            items.push(item)?;
+        }
+        Ok(Entries { items })
+    }
+}
+
+impl PartialEq for Entries {
+    ghost use Rattle.std.specs.Cmp as laws_of;
+    ghost use Rattle.cata_core.specs.EntriesEq.{weighed_eq, weighed_equiv};
+
+    ghost eq = { weighed_eq };
+
+    ghost laws = { laws_of.partial_equiv_from_equiv weighed_equiv };
+
+    fn eq(&self, other: &Entries) -> bool {
+        self.items == other.items
+    }
+}
+
+impl Eq for Entries {
+    ghost use Rattle.cata_core.specs.EntriesEq.{weighed_equiv};
+
+    ghost laws = { weighed_equiv };
 }
 
 /// The languages and labels at the places that a filter picked.

@@ -9,7 +9,7 @@ use lang_core::Lang;
 
 /// Lends the languages of a message whose cell has a label, each with its label, in rising order of
 /// their bytes.
-#[derive(Drop)]
+#[derive(Debug, Drop)]
 pub struct Labels<'a> {
     cells: Option<Entries<'a, Lang, Cell>>,
 }

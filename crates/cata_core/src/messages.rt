@@ -14,7 +14,7 @@ use nego_core::PriorityList;
 use std::marker::Model;
 
 /// A message with its live labels, lent from the catalogue.
-#[derive(Drop)]
+#[derive(Debug, Drop)]
 pub struct Message<'a> {
     id: &'a MessageId,
     cells: &'a Keyed<Lang, Cell>,
@@ -74,7 +74,7 @@ impl<'a> Message<'a> {
 }
 
 /// Lends the messages of a catalogue that have a live label, in rising order of the ids' bytes.
-#[derive(Drop)]
+#[derive(Debug, Drop)]
 pub struct Messages<'a> {
     messages: Entries<'a, MessageId, Keyed<Lang, Cell>>,
 }

@@ -29,6 +29,26 @@ pub enum Reply {
     Nothing,
 }
 
+impl Reply {
+    /// An equal answer.
+    pub fn copy(&self, alloc: Global) -> Result<Reply, AllocError>
+        ensures { IfOk result (λ copied. copied ≡ self.now) }
+    {
+        self.lent().copy(alloc)
+    }
+
+    /// The answer, lent.
+    fn lent(&self) -> LentReply<'_>
+        ensures { reply_of result ≡ self.now }
+    {
+        match self {
+            Reply::Matched(lang, label) => LentReply::Matched(lang, label),
+            Reply::Default(lang, label) => LentReply::Default(lang, label),
+            Reply::Nothing => LentReply::Nothing,
+        }
+    }
+}
+
 impl LentReply<'_> {
     /// The answer, copied.
     pub fn copy(&self, alloc: Global) -> Result<Reply, AllocError>

@@ -88,6 +88,17 @@ impl Site {
         self.catalogue
     }
 
+    /// An equal site, of the same name: both must not go on editing.
+    pub fn copy(&self, alloc: Global) -> Result<Site, AllocError>
+        ensures { IfOk result (λ copied. copied ≡ self.now) }
+    {
+        Ok(Site {
+            own_name: self.own_name,
+            catalogue: self.catalogue.copy(alloc)?,
+            greatest: self.greatest,
+        })
+    }
+
     /// The greatest stamp of its cells, deletions among them; none where it has no cell.
     ///
     /// A key keeps its greatest stamp, so this is the greatest stamp that the site ever took in.
@@ -95,7 +106,8 @@ impl Site {
         ensures value { result ≡ last_of self.now.cells }
         ensures greatest { IsLast self.now.cells result }
     {
-        self.greatest
+        let Site { greatest, .. } = self;
+        *greatest
     }
 
     /// Gives the key this label, and answers the stamp of the edit, which is above all that the

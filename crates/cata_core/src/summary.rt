@@ -7,6 +7,7 @@ ghost use Rattle.cata_core.specs.Deltas.{summary_of};
 ghost use Rattle.cata_core.specs.Entries.{key_cmp};
 
 use crate::catalogue::Catalogue;
+use crate::summary_entries::SummaryEntries;
 use cell_core::{Key, MessageId, SiteName, Stamp};
 use lang_core::Lang;
 use std::alloc::{AllocError, Global};
@@ -29,6 +30,17 @@ impl Told {
         ensures { result ≡ key_cmp (self.now.id, self.now.lang) (id.now, lang.now) }
     {
         self.id.cmp(id).then(self.lang.cmp(lang))
+    }
+
+    /// An equal key with an equal stamp.
+    fn copy(&self, alloc: Global) -> Result<Told, AllocError>
+        ensures { IfOk result (λ copied. copied ≡ self.now) }
+    {
+        Ok(Told {
+            id: self.id.copy(alloc)?,
+            lang: self.lang.copy(alloc)?,
+            stamp: self.stamp,
+        })
     }
 }
 
@@ -54,6 +66,7 @@ impl Model for Summary {
 
 impl Summary {
     ghost use Rattle.cata_core.specs.Entries.{IsAboveAll};
+    ghost use Rattle.cata_core.specs.StampsLeft.{stamps_left};
     ghost use Rattle.cata_core.specs.Told.{SummaryState, told_of};
 
     /// The summary of this owner without a key, which grows by this allocator.
@@ -108,6 +121,14 @@ impl Summary {
         }
     }
 
+    /// All keys, each with its stamp, in rising order of key.
+    pub fn iter(&self) -> SummaryEntries<'_>
+        ensures stamps { stamps_left result ≡ self.now.stamps }
+        ensures sorted { IsMap key_cmp self.now.stamps }
+    {
+        SummaryEntries::new(&self.told)
+    }
+
     /// Whether the key is greater than all that are there, as [`Summary::push`] asks.
     pub fn is_above_all(&self, id: &MessageId, lang: &Lang) -> bool
         ensures { IsTrue result ↔ IsAboveAll (id.now, lang.now) self.now.stamps }
@@ -129,6 +150,20 @@ impl Summary {
     {
         self.told.push(Told { id, lang, stamp })?;
         Ok(())
+    }
+
+    /// An equal summary.
+    pub fn copy(&self, alloc: Global) -> Result<Summary, AllocError>
+        ensures { IfOk result (λ copied. copied ≡ self.now) }
+    {
+        let mut told = Vec::with_capacity(alloc, self.told.len())?;
+        for entry in &self.told {
+            told.push(entry.copy(alloc)?)?;
+        }
+        Ok(Summary {
+            owner: self.owner,
+            told,
+        })
     }
 
     /// What was told, in rising order of key.
@@ -184,6 +219,12 @@ impl PartialEq for Summary {
     ghost laws = { laws_of.partial_equiv_from_equiv summary_equiv };
 
     fn eq(&self, other: &Summary) -> bool {
-        self.owner == other.owner && self.told == other.told
+        other.owner == self.owner && self.told == other.told
     }
+}
+
+impl Eq for Summary {
+    ghost use Rattle.cata_core.specs.SummaryEq.{summary_equiv};
+
+    ghost laws = { summary_equiv };
 }

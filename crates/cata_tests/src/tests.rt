@@ -2,6 +2,7 @@
 
 mod asking;
 mod catalogues;
+mod equalities;
 mod makers;
 mod refusals;
 mod run_faults;

@@ -5,6 +5,8 @@ ghost use Rattle.std.specs.Cmp.Lexicographic.{pointwise};
 ghost use Rattle.std.specs.Iterator.{YieldsFirstBy, at_most};
 ghost use Rattle.cell_core.specs.EntriesLeft.{entries_left};
 
+use std::fmt;
+
 /// The entries of a map that are left, in rising order of the keys.
 #[derive(Clone, Copy)]
 pub struct Entries<'a, K, J> {
@@ -30,6 +32,17 @@ impl<'a, K, J> Iterator for Entries<'a, K, J> {
         let (first, rest) = self.rest.split_first()?;
         self.rest = rest;
         Some((&first.0, &first.1))
+    }
+}
+
+/// Lists the entries that are left.
+impl<K: fmt::Debug, J: fmt::Debug> fmt::Debug for Entries<'_, K, J> {
+    fn fmt<W: fmt::Write>(&self, f: &mut fmt::Formatter<W>) -> fmt::Result {
+        let left = Entries {
+            rest: self.rest,
+            chunks: self.chunks,
+        };
+        f.debug_map().entries(left).finish()
     }
 }
 

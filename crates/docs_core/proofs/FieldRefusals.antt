@@ -1,8 +1,8 @@
 -- No field is both taken and refused, and it is refused for one cause, want of memory apart.
-use Rattle.std.proofs.Common.{◌≡◌, ◌≢◌, ◌∙◌, ◌+◌, ◌≤◌, ◌<◌, ℕ, List, [], ◌∷◌, ◌++◌, Bool, true, false, length, sym, ap, subst, refl, inl, inr, arith, get_or, nat_eq}
+use Rattle.std.proofs.Common.{◌≡◌, ◌≢◌, ◌∙◌, ◌+◌, ◌≤◌, ◌<◌, ℕ, List, [], ◌∷◌, ◌++◌, Bool, true, false, length, sym, ap, subst, refl, inl, inr, arith, get_or}
 use Rattle.std.proofs.lemmas.Bool.Decides.{nat_tests}
 use Rattle.std.proofs.lemmas.List.Quantifiers.{position-Some}
-use Rattle.std.specs.Prelude.{◌⊎◌, All, Option, Some, unwrap_or}
+use Rattle.std.specs.Prelude.{◌⊎◌, Option, Some, unwrap_or}
 use Rattle.std.specs.List.{position}
 use Rattle.std.specs.Str.{str_to_ascii_lowercase}
 use Rattle.lang_core.specs.Fault.{HasSubtags, IsSized, IsTag, RefusesTag}

@@ -9,7 +9,7 @@ use Rattle.std.specs.Str.{str_to_ascii_lowercase}
 use Rattle.json.specs.declared.value.Value.{Value}
 use Rattle.serde_json.specs.Data.{Data}
 use Rattle.serde_json.specs.Find.{as_str}
-use Rattle.cell_core.specs.Refusals.{RefusesLabel, RefusesTexts}
+use Rattle.cell_core.specs.Refusals.{RefusesLabel}
 use Rattle.cell_core.specs.declared.fault.CellFault.{CellFault}
 use Rattle.cell_core.specs.declared.fault.CellFault.TheVariants.{IdRefused, TextTooLong, LabelCount, ClockSpent, NoMemory, SiteName}
 use Rattle.lang_core.specs.Lang.{SpellsLang}
@@ -17,9 +17,7 @@ use Rattle.docs_core.specs.Fields.{IsLabelRefusal, cell_cause}
 use Rattle.docs_core.specs.LangMapChecks.{IsStringsRefusal}
 use Rattle.docs_core.specs.Reads.{seen}
 use Rattle.docs_core.specs.Rows.{texts_in}
-use Rattle.docs_core.specs.declared.fault.DocCause.{DocCause}
-use Rattle.docs_core.specs.declared.fault.DocCause.TheVariants.{Field, NoMemory as no_memory}
-use Rattle.docs_core.specs.declared.fault.FieldFault.TheVariants.{Cell}
+use Rattle.docs_core.specs.declared.fault.DocCause.TheVariants.{NoMemory as no_memory}
 
 append_one : (xs : List (List ℕ)) (o : Option (List ℕ)) (ys : List (List ℕ)) → cons_option o (xs ++ ys) ≡ cons_option o xs ++ ys
 append_one xs None ys = refl

@@ -33,8 +33,9 @@ use Rattle.docs_core.specs.Rows.{items_in, list_of}
 use Rattle.docs_core.specs.LangMapRows.{is_string_or_null, keys_in, keys_of, rows_in, rows_of, strings_in, strings_of}
 use Rattle.docs_core.specs.LangMapRowsSeen.{HeldKeys, HeldStrings, keys_in_seen, keys_seen, rows_seen, strings_seen}
 use Rattle.docs_core.specs.Numbers.{are_in_range}
-use Rattle.docs_core.specs.Reads.{IsRead, data_of, seen}
-use Rattle.docs_core.proofs.ReadableLemmas.{is_some-of_json, there}
+use Rattle.docs_core.specs.MembersRead.{is_scalar}
+use Rattle.docs_core.specs.Reads.{IsRead, Reads, data_of, seen}
+use Rattle.docs_core.proofs.ReadableLemmas.{Reads-in_range, is_some-of_json, there}
 use Rattle.docs_core.proofs.ReadingLemmas.{converted-array, converted-object, whole, whole_and_more, whole_read, whole_refused}
 
 -- ---- a member more, as it is read and as it is held
@@ -174,6 +175,24 @@ no_object_with a o (token.bad ∷ ts) d r h e = cc
 
 pub no_object : (depth : ℕ) (ts : List Token) (d : Data) (r : List Token) → OpensNoObject ts → converted of_json (value depth ts) ≡ Some (d, r) → None ≡ rows_in d
 no_object depth ts d r h e = no_object_with _ _ ts d r h (ap (converted of_json) (sym (value_is depth ts)) ∙ e)
+
+-- ---- the value of a row that is no object
+
+number_keys : (o : Option plain.Num) → None ≡ keys_in (unwrap_or (option_map plain.number o) plain.null)
+number_keys None = refl
+number_keys (Some n) = refl
+
+pub scalar_row : (t : Token) (ts : List Token) → is_scalar t ≡ true → are_in_range (t ∷ ts) ≡ true → (d : Data) × Reads 126 (t ∷ ts) d ts × (None ≡ keys_in d)
+scalar_row token.begin_object ts is range = absurd (cc)
+scalar_row token.end_object ts is range = absurd (cc)
+scalar_row token.begin_array ts is range = absurd (cc)
+scalar_row token.end_array ts is range = absurd (cc)
+scalar_row (token.key s) ts is range = absurd (cc)
+scalar_row (token.string s) ts is range = (data_of (json.string s), Reads-in_range 126 (token.string s ∷ ts) ts (json.string s) range (value_is 126 (token.string s ∷ ts)), refl)
+scalar_row (token.number s) ts is range = (data_of (json.number s), Reads-in_range 126 (token.number s ∷ ts) ts (json.number s) range (value_is 126 (token.number s ∷ ts)), number_keys (number_of s))
+scalar_row (token.boolean b) ts is range = (data_of (json.boolean b), Reads-in_range 126 (token.boolean b ∷ ts) ts (json.boolean b) range (value_is 126 (token.boolean b ∷ ts)), refl)
+scalar_row token.null ts is range = (data_of json.null, Reads-in_range 126 (token.null ∷ ts) ts json.null range (value_is 126 (token.null ∷ ts)), refl)
+scalar_row token.bad ts is range = absurd (cc)
 
 -- ---- the document's object
 

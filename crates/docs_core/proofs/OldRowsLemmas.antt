@@ -185,14 +185,14 @@ step_migrated d taken (edit_step site row, is, made) =
     let parts = listed.2 in
     let old = cell_migrated parts.2 row parts.6 in
     (OldEdit site old.0, (parts.0, parts.1, parts.2, listed.1 ∙ ap Some parts.3, parts.4, parts.5, old.1), made ∙ ap (λ e. step.Edit site e) (sym old.2))
-step_migrated d taken (merge_step into source, is, made) = (OldMerge into source, (merge_step into source, is, refl), made)
-step_migrated d taken (filter_step site id scheme field, is, made) = (OldAskFilter site id scheme made.0, (filter_step site id scheme field, is, (made.0, made.1, refl)), made.2)
+step_migrated d taken (merge_step into source, is, made) = (OldMerge into source, is, made)
+step_migrated d taken (filter_step site id scheme field, is, made) = (OldAskFilter site id scheme made.0, (field, is, made.1), made.2)
 step_migrated d taken (lookup_step site id field default, is, made) =
-    (OldAskLookup site id made.0 (option_map str_to_ascii_lowercase default), (lookup_step site id field default, is, (made.0, made.1, refl)), made.2)
-step_migrated d taken (cells_step site, is, made) = (OldAskCells site, (cells_step site, is, refl), made)
-step_migrated d taken (tell_step site, is, made) = (OldTell site, (tell_step site, is, refl), made)
-step_migrated d taken (post_step site told, is, made) = (OldPost site told, (post_step site told, is, refl), made)
-step_migrated d taken (deliver_step post, is, made) = (OldDeliver post, (deliver_step post, is, refl), made)
+    (OldAskLookup site id made.0 (option_map str_to_ascii_lowercase default), (field, default, is, made.1, refl), made.2)
+step_migrated d taken (cells_step site, is, made) = (OldAskCells site, is, made)
+step_migrated d taken (tell_step site, is, made) = (OldTell site, is, made)
+step_migrated d taken (post_step site told, is, made) = (OldPost site told, is, made)
+step_migrated d taken (deliver_step post, is, made) = (OldDeliver post, is, made)
 
 steps_migrated : (ds : List Data) (steps : List StepType) → AreSteps true ds steps → (olds : List OldStep) × AreOldStepsOf ds olds × (steps ≡ migrated_steps olds)
 steps_migrated [] [] are = ([], tt, refl)

@@ -14,7 +14,7 @@ use Rattle.cata_core.proofs.UniqueAnswers.{one_by}
 use Rattle.nego_core.specs.declared.malformed.Malformed.TheVariants.{Refused}
 use Rattle.nego_core.specs.declared.scheme.Scheme.TheVariants.{Basic}
 use Rattle.nego_core.proofs.FieldUnique.{one_items}
-use Rattle.docs_core.specs.Checks.{Check}
+use Rattle.docs_core.specs.Checks.{AreJson, Check}
 use Rattle.docs_core.specs.Lines.{lines}
 use Rattle.docs_core.specs.Named.{IsDeltaDocument, IsSiteDocument, IsSummaryDocument, delta_checks, site_checks, summary_checks}
 use Rattle.docs_core.specs.ReadsAs.{Reads, ReadsAsDelta, ReadsAsSite, ReadsAsSummary}
@@ -46,6 +46,12 @@ one_read : {X : Type 0} (checks : Data → List Check) (Is : Data → X → Type
 one_read checks Is one bytes x y p q =
     let same : q.0 ≡ p.0 = inside q.0 p.0 (sym q.1.1 ∙ p.1.1) in
     one p.0 x y p.3 (subst (λ d. Is d y) same q.3)
+
+-- the data of a text are those that its value is read from
+pub read_is : {X : Type 0} (checks : Data → List Check) (Is : Data → X → Type 0) (bytes : List ℕ) (d : Data) (x : X) → AreJson bytes d → Reads checks Is bytes x → Is d x
+read_is checks Is bytes d x json reads =
+    let same : reads.0 ≡ d = inside reads.0 d (sym reads.1.1 ∙ json.1) in
+    subst (λ e. Is e x) same reads.3
 
 site_is : (d : Data) (s t : SiteState) → IsSiteDocument d s → IsSiteDocument d t → s ≡ t
 site_is d s t p q =

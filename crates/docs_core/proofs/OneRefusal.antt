@@ -1,8 +1,7 @@
 -- No text is both read and refused, and it is refused for one cause, want of memory apart.
-use Rattle.std.proofs.Common.{◌≡◌, ◌≢◌, ◌∙◌, ◌++◌, ◌+◌, ℕ, List, [], ◌∷◌, Bool, true, false, length, sym, ap, subst, refl, inl, inr}
-use Rattle.std.specs.Prelude.{◌⊎◌, Option, None, Some, unwrap_or}
+use Rattle.std.proofs.Common.{◌≡◌, ◌≢◌, ◌∙◌, ◌++◌, ◌+◌, ℕ, List, [], ◌∷◌, Bool, true, false, length, sym, ap, subst, inl, inr}
+use Rattle.std.specs.Prelude.{Option, None, Some, unwrap_or}
 use Rattle.serde_json.specs.Data.{Data}
-use Rattle.cell_core.specs.Labels.{IsLabel}
 use Rattle.cell_core.specs.declared.fault.CellFault.{CellFault}
 use Rattle.lang_core.specs.declared.fault.LangFault.{LangFault}
 use Rattle.nego_core.specs.declared.fault.NegoFault.{NegoFault}

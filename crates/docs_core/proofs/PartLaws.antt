@@ -1,13 +1,12 @@
 -- Exports, missing labels and bundles: in parts, and one of each.
 use Rattle.std.proofs.Common.{◌≡◌, ◌∙◌, ℕ, Bool, true, false, cond, List, [], ◌∷◌, Option, Some, None, ap, sym, subst, refl, inl, inr, true≢false}
-use Rattle.std.specs.Prelude.{◌⊎◌, ◌↔◌, Contains, IsTrue, filter, option_map}
+use Rattle.std.specs.Prelude.{◌↔◌, Contains, IsTrue, filter, option_map}
 use Rattle.std.specs.FinMap.Entries.{find}
 use Rattle.std.specs.List.{cons_option}
 use Rattle.std.specs.Option.{is_none, option_and_then}
 use Rattle.std.specs.Ordering.{eq_by_cmp}
-use Rattle.cell_core.specs.Maps.{IsMap, same_maps}
-use Rattle.cata_core.specs.Entries.{Entries, EntryKey, key_cmp, key_cmp_exact, key_cmp_total, text_cmp}
-use Rattle.cata_core.specs.Live.{live}
+use Rattle.cell_core.specs.Maps.{same_maps}
+use Rattle.cata_core.specs.Entries.{Entries, EntryKey, key_cmp, key_cmp_exact, key_cmp_total}
 use Rattle.cata_core.specs.Parts.{part_of}
 use Rattle.cata_core.proofs.Basics.{some_same}
 use Rattle.cata_core.proofs.Best.{own_key, same_key}

@@ -59,12 +59,12 @@ rows_third false false true false = refl
 rows_third false false false true = refl
 rows_third false false false false = refl
 
-site_names : (name : List ℕ) (rows : List Data) → HasJust (names_of Site) (site_value name rows)
+pub site_names : (name : List ℕ) (rows : List Data) → HasJust (names_of Site) (site_value name rows)
 site_names name rows q =
     rw (some_member q (codes "cells"), some_member q (codes "kind"), some_member q (codes "site"), some_member q (codes "version"))
     (rows_first (bytes_eq q (codes "cells")) (bytes_eq q (codes "kind")) (bytes_eq q (codes "site")) (bytes_eq q (codes "version")))
 
-delta_names : (name : List ℕ) (rows : List Data) → HasJust (names_of Delta) (delta_value name rows)
+pub delta_names : (name : List ℕ) (rows : List Data) → HasJust (names_of Delta) (delta_value name rows)
 delta_names name rows q =
     rw (some_member q (codes "cells"), some_member q (codes "kind"), some_member q (codes "to"), some_member q (codes "version"))
     (rows_first (bytes_eq q (codes "cells")) (bytes_eq q (codes "kind")) (bytes_eq q (codes "to")) (bytes_eq q (codes "version")))
@@ -77,7 +77,7 @@ summary_names name rows q =
 -- ---- documents
 
 -- the tests behind those of the head
-abbrev rest_checks : Form → (Bool → List Data → Data → List Check) → Data → List Check
+abbrev pub rest_checks : Form → (Bool → List Data → Data → List Check) → Data → List Check
 rest_checks form checks d = own_checks (is_first d) (own_data form d) ++ rows_checks (checks (is_first d)) [] (rows_in form d)
 
 pub site_again : (site : SiteState) → IsSiteName site.name → AreKeptCells site.cells → IsUtf8 (site_text site) → ReadsAsSite (site_text site) site

@@ -1,11 +1,10 @@
 -- What an update leaves.
-use Rattle.std.proofs.Common.{◌≡◌, ◌≢◌, ◌∙◌, ℕ, Bool, true, false, cond, List, [], ◌∷◌, refl, sym, ap, subst, inl, inr}
-use Rattle.std.specs.Prelude.{◌⊎◌, None, Option, Some, T}
+use Rattle.std.proofs.Common.{◌≡◌, ◌∙◌, ℕ, true, false, cond, List, [], ◌∷◌, refl, sym, ap, subst, inl, inr}
+use Rattle.std.specs.Prelude.{◌⊎◌, None, Option, Some}
 use Rattle.std.specs.Ordering.{eq_by_cmp}
 use Rattle.std.specs.FinMap.Entries.{below_all, find, find-put, is_sorted, is_sorted-put}
 use Rattle.cell_core.specs.Maps.{IsMap, same_maps}
 use Rattle.cell_core.specs.declared.cell.Cell.{Cell}
-use Rattle.cell_core.specs.declared.stamp.Stamp.{Stamp}
 use Rattle.cata_core.specs.Entries.{Entries, EntryKey, key_cmp, key_cmp_exact, key_cmp_total}
 use Rattle.cata_core.specs.Sites.{SiteState}
 use Rattle.cata_core.proofs.Basics.{first_part, second_part}

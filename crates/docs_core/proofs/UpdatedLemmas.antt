@@ -1,7 +1,7 @@
 -- Changes from old labels to new ones, key by key.
 use Rattle.std.proofs.Common.{◌≡◌, ◌≢◌, ◌∙◌, ℕ, Bool, true, false, cond, List, [], ◌∷◌, ◌++◌, refl, sym, ap, subst, inl, inr}
 use Rattle.std.specs.Borrow.{Bor}
-use Rattle.std.specs.Prelude.{◌⊎◌, ◌&&◌, None, Option, Some, T, is_some, option_map}
+use Rattle.std.specs.Prelude.{◌&&◌, None, Option, Some, T, is_some, option_map}
 use Rattle.std.specs.Bool.{Decides}
 use Rattle.std.specs.Option.{option_eq}
 use Rattle.std.specs.Ordering.{eq_by_cmp, is_eq, is_lt, ordering_reverse}
@@ -10,8 +10,8 @@ use Rattle.std.specs.Cmp.{tied_itself}
 use Rattle.std.specs.Cmp.Lexicographic.{pointwise}
 use Rattle.std.specs.FinMap.Entries.{below_all, find, find-put, is_sorted, is_sorted-put, put}
 use Rattle.std.proofs.Common.{nat_eq}
-use Rattle.cell_core.specs.Maps.{IsMap, same_maps}
-use Rattle.cell_core.specs.Stamps.{IsNext, NoNext}
+use Rattle.cell_core.specs.Maps.{IsMap}
+use Rattle.cell_core.specs.Stamps.{NoNext}
 use Rattle.cell_core.specs.declared.cell.Cell.{Cell}
 use Rattle.cell_core.specs.declared.stamp.Stamp.{Stamp}
 use Rattle.cell_core.proofs.CellLemmas.{label_decides}
@@ -20,13 +20,13 @@ use Rattle.cata_core.specs.Last.{last_of}
 use Rattle.cata_core.proofs.Basics.{both_parts, first_part, less_than, second_part, tied}
 use Rattle.cata_core.proofs.Filtered.{find-below}
 use Rattle.cata_core.proofs.Places.{below_lesser}
-use Rattle.docs_core.specs.Exported.{label_at, live_labels}
+use Rattle.docs_core.specs.Exported.{label_at}
 use Rattle.docs_core.specs.LangMaps.{Labelled}
 use Rattle.docs_core.specs.Made.{Change, Makes, SpendsClock, with_change}
 use Rattle.docs_core.specs.Revised.{IsFirstRevised, IsHead, IsRevised, NoStamp, key_of, new_of, old_of}
 use Rattle.docs_core.specs.Updated.{AreChanges, IsChangeAt, SpendsUpdate, Texts, Updates}
 use Rattle.docs_core.specs.declared.updating.Revised.{Revised}
-use Rattle.docs_core.proofs.LiveLemmas.{find-live, label_in, live-IsMap}
+use Rattle.docs_core.proofs.LiveLemmas.{label_in}
 
 -- keys that tie are one
 pub one_key : (q k : EntryKey) → eq_by_cmp key_cmp q k ≡ true → q ≡ k

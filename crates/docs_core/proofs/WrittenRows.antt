@@ -30,11 +30,11 @@ texts_again : (texts : List (List ℕ)) → texts_in (map string texts) ≡ Some
 texts_again [] = refl
 texts_again (t ∷ ts) = rw (texts_again ts) refl
 
-label_again : (label : Option (List (List ℕ))) → label_in (label_value label) ≡ Some label
+pub label_again : (label : Option (List (List ℕ))) → label_in (label_value label) ≡ Some label
 label_again None = refl
 label_again (Some texts) = rw (list_of-items_of (map string texts), texts_again texts) refl
 
-narrow : (n : ℕ) → n < 2 ^ 32 → narrowed n ≡ Some n
+pub narrow : (n : ℕ) → n < 2 ^ 32 → narrowed n ≡ Some n
 narrow n h = rw (lt-ltb n (2 ^ 32) h) refl
 
 cell_again : (e : Entry) → e.1.stamp.count < 2 ^ 32 → cell_in false (entry_value e) ≡ Some (row_of e, e.1.label)

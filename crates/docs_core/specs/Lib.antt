@@ -1,4 +1,5 @@
 pub mod Arrays
+pub mod AsWritten
 pub mod Asks
 pub mod Bundled
 pub mod Calls

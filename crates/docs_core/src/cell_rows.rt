@@ -1,5 +1,5 @@
 //! The rows of a site or a delta, taken as they are read.
-ghost use Rattle.std.specs.Prelude.{◌≡◌, ◌⊎◌, [], None, Some, MatchResult, OnOk};
+ghost use Rattle.std.specs.Prelude.{◌≡◌, ◌⊎◌, [], None, Some, IsTrue, MatchResult, OnOk};
 ghost use Rattle.std.specs.Bool.{MatchBool};
 ghost use Rattle.json.specs.Value.{value_view};
 ghost use Rattle.cata_core.specs.Entries.{IsAboveAll};
@@ -63,6 +63,19 @@ impl CellRows {
             cells.push(alloc, id, lang, cell)?;
         }
         Ok(cells)
+    }
+
+    /// Takes the entry, where its key is above that of the last one.
+    pub fn take_above(&mut self, alloc: Global, entry: CellEntry) -> bool
+        ensures { IsTrue result → IsBehind (key_of_last self.old.last) (entry_by entry).0 × (self.new ≡ record { others = all_of self.old; last = Some (entry_by entry) }) }
+    {
+        if !self.rises_to(&entry) {
+            return false;
+        }
+        match self.put(alloc, entry) {
+            Ok(()) => true,
+            Err(_) => false,
+        }
     }
 
     // Takes the entry, which becomes the last one.

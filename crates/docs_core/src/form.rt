@@ -53,7 +53,8 @@ impl Form {
         }
     }
 
-    fn own(self) -> &'static str
+    /// The name of the member that names a site, or says how many there are.
+    pub fn own(self) -> &'static str
         ensures { result.now ≡ own_of self }
     {
         match self {

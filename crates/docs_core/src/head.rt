@@ -199,8 +199,8 @@ fn read_array<R: Rows>(
     }
 }
 
-// Whether the token is a value of its own.
-fn is_scalar(token: Token<'_>) -> bool
+/// Whether the token is a value of its own.
+pub(crate) fn is_scalar(token: Token<'_>) -> bool
     ensures { result ≡ is_scalar (token_of token.entry) }
 {
     matches!(

@@ -1,14 +1,15 @@
 //! The rows of a language-map document, read off its text.
-ghost use Rattle.std.specs.Prelude.{◌≡◌, ◌⊎◌, ◌<◌, ◌∷◌, ◌++◌, [], MatchBool, None, Some, true, length, is_some, map, option_map, unwrap_or, MatchResult, IfOk, OnOk, string_bytes};
+ghost use Rattle.std.specs.Prelude.{◌≡◌, ◌⊎◌, ◌<◌, ◌∷◌, ◌++◌, [], MatchBool, None, Some, true, length, map, option_map, MatchResult, IfOk, OnOk, string_bytes};
 ghost use Rattle.std.specs.List.{filter_map};
 ghost use Rattle.json.specs.Json.{read_key, value};
 ghost use Rattle.json.specs.Lex.{tokens};
 ghost use Rattle.json.specs.Token.{begin_object};
-ghost use Rattle.json.specs.Value.{members_view, value_view};
-ghost use Rattle.serde_json.specs.Data.{Data, Members, no_members};
+ghost use Rattle.json.specs.Value.{value_view};
+ghost use Rattle.serde_json.specs.Data.{Data, Items, Members};
 ghost use Rattle.serde_json.specs.Find.{as_str};
-ghost use Rattle.serde_json.specs.Read.{of_members, read};
-ghost use Rattle.docs_core.specs.LangMapMembers.{HasMore, OpensNoObject, ReadsMembers, all_members, members_in};
+ghost use Rattle.serde_json.specs.Read.{read};
+ghost use Rattle.docs_core.specs.Arrays.{ReadsItems, ReadsNoItems};
+ghost use Rattle.docs_core.specs.LangMapMembers.{HasMore, OpensNoObject, ReadsMembers, ReadsNoValue, all_members, members_in};
 ghost use Rattle.docs_core.specs.LangMapRows.{is_string_or_null, keys_in, keys_of, rows_in, rows_of, strings_in, strings_of};
 ghost use Rattle.docs_core.specs.LangMapRowsSeen.{keys_in_seen, keys_seen, rows_in_seen, rows_seen, strings_seen};
 ghost use Rattle.docs_core.specs.Numbers.{are_in_range};
@@ -16,6 +17,7 @@ ghost use Rattle.docs_core.specs.Reads.{AreRead, IsRead, Reads, seen};
 ghost use Rattle.docs_core.specs.declared.fault.DocCause.TheVariants.{NoMemory, NotJson};
 
 use crate::fault::DocCause;
+use crate::head::is_scalar;
 use crate::lang_map_rows::{Keys, Rows, Strings};
 use crate::rows::{items_of, text_of};
 use crate::scanning::{has_numbers_in_range, next_value};
@@ -60,7 +62,7 @@ fn read_object(alloc: Global, reader: &mut Reader<'_>) -> Result<Option<Rows>, D
         (λ rows. (ms : Members) × (all_members (members_in MOST_DEPTH reader.old) ≡ Some ms) × (rows_in_seen rows ≡ Some (rows_of ms)))
         (λ e. (e ≡ NoMemory) ⊎ ((e ≡ NotJson) × (all_members (members_in MOST_DEPTH reader.old) ≡ None))) }
 {
-    let rows = read_members(alloc, reader, MOST_DEPTH)?;
+    let rows = read_members(alloc, reader)?;
     if is_at_end(reader) {
         Ok(Some(rows))
     } else {
@@ -107,15 +109,15 @@ fn read_no_rows(alloc: Global, text: &str, scratch: &mut Scratch) -> Result<Opti
 }
 
 // Reads the members of an object whose opening brace was read.
-fn read_members(alloc: Global, reader: &mut Reader<'_>, depth: usize) -> Result<Rows, DocCause>
+fn read_members(alloc: Global, reader: &mut Reader<'_>) -> Result<Rows, DocCause>
     requires { are_in_range reader.old ≡ true }
     ensures { MatchResult result
-        (λ rows. (ms : Members) × ReadsMembers depth reader.old ms reader.new × (rows_seen rows.entries ≡ rows_of ms))
-        (λ e. (e ≡ NoMemory) ⊎ ((e ≡ NotJson) × (members_in depth reader.old ≡ None))) }
+        (λ rows. (ms : Members) × ReadsMembers 126 reader.old ms reader.new × (rows_seen rows.entries ≡ rows_of ms))
+        (λ e. (e ≡ NoMemory) ⊎ ((e ≡ NotJson) × (members_in 126 reader.old ≡ None))) }
 {
     let mut rows = BTreeMap::new(alloc);
     'members: while let Some(name) = next_name(reader)? {
-        let keys = read_keys(alloc, reader, depth)?;
+        let keys = read_keys(alloc, reader)?;
         let name = String::from_str(alloc, name)?;
         drop(rows.insert(name, keys)?);
     }
@@ -136,42 +138,83 @@ fn next_name<'t>(reader: &mut Reader<'t>) -> Result<Option<&'t str>, DocCause>
     }
 }
 
-// Reads the value of a row.
-fn read_keys(alloc: Global, reader: &mut Reader<'_>, depth: usize) -> Result<Option<Keys>, DocCause>
+// Reads the value of a row: the keys of an object. What is no object is passed over.
+fn read_keys(alloc: Global, reader: &mut Reader<'_>) -> Result<Option<Keys>, DocCause>
     requires { are_in_range reader.old ≡ true }
     ensures read { MatchResult result
-        (λ keys. (d : Data) × Reads depth reader.old d reader.new × (keys_in_seen keys ≡ keys_in d))
-        (λ e. (e ≡ NoMemory) ⊎ ((e ≡ NotJson) × (value depth reader.old ≡ None))) }
+        (λ keys. (d : Data) × Reads 126 reader.old d reader.new × (keys_in_seen keys ≡ keys_in d))
+        (λ e. (e ≡ NoMemory) ⊎ ((e ≡ NotJson) × ReadsNoValue 126 reader.old)) }
     ensures left { OnOk result (are_in_range reader.new ≡ true) }
     ensures shorter { OnOk result (length reader.new < length reader.old) }
 {
-    let value = next_value(alloc, reader, depth)?;
-    Ok(keys_of(alloc, &value)?)
-}
-
-// The keys with their values, where the value is an object.
-fn keys_of(alloc: Global, value: &Value<'_>) -> Result<Option<Keys>, AllocError>
-    requires { IsRead (value_view value.now) }
-    ensures { IfOk result (λ keys. keys_in_seen keys ≡ keys_in (seen value.now)) }
-{
-    match value {
-        Value::Object(members) => Ok(Some(keys_of_members(alloc, members)?)),
-        _ => Ok(None),
+    let Some(token) = reader.next() else {
+        return Err(DocCause::NotJson);
+    };
+    match token {
+        Token::BeginObject => {
+            let keys = read_languages(alloc, reader)?;
+            Ok(Some(keys))
+        }
+        Token::BeginArray => {
+            pass_items(reader)?;
+            Ok(None)
+        }
+        _ => {
+            if !is_scalar(token) {
+                return Err(DocCause::NotJson);
+            }
+            Ok(None)
+        }
     }
 }
 
-// The keys in byte order, each with its last value.
-fn keys_of_members(alloc: Global, members: &[(&str, Value<'_>)]) -> Result<Keys, AllocError>
-    requires { is_some (of_members (members_view members.now) no_members) ≡ true }
-    ensures { IfOk result (λ keys. keys_seen keys.entries ≡ keys_of (unwrap_or (of_members (members_view members.now) no_members) no_members)) }
+// Reads the keys of an object whose opening brace was read, in byte order, each with its last value.
+fn read_languages(alloc: Global, reader: &mut Reader<'_>) -> Result<Keys, DocCause>
+    requires { are_in_range reader.old ≡ true }
+    ensures read { MatchResult result
+        (λ keys. (ms : Members) × ReadsMembers 125 reader.old ms reader.new × (keys_seen keys.entries ≡ keys_of ms))
+        (λ e. (e ≡ NoMemory) ⊎ ((e ≡ NotJson) × (members_in 125 reader.old ≡ None))) }
+    ensures left { OnOk result (are_in_range reader.new ≡ true) }
+    ensures shorter { OnOk result (length reader.new < length reader.old) }
 {
     let mut keys = BTreeMap::new(alloc);
-    'members: for (name, value) in members {
-        let strings = strings_of(alloc, value)?;
+    'members: while let Some(name) = next_name(reader)? {
+        let strings = read_strings(alloc, reader)?;
         let name = String::from_str(alloc, name)?;
         drop(keys.insert(name, strings)?);
     }
     Ok(keys)
+}
+
+// Reads the value of a key.
+fn read_strings(alloc: Global, reader: &mut Reader<'_>) -> Result<Strings, DocCause>
+    requires { are_in_range reader.old ≡ true }
+    ensures read { MatchResult result
+        (λ strings. (d : Data) × Reads 125 reader.old d reader.new × (strings_seen strings ≡ strings_in d))
+        (λ e. (e ≡ NoMemory) ⊎ ((e ≡ NotJson) × (value 125 reader.old ≡ None))) }
+    ensures left { OnOk result (are_in_range reader.new ≡ true) }
+    ensures shorter { OnOk result (length reader.new < length reader.old) }
+{
+    let value = next_value(alloc, reader, MOST_DEPTH - 1)?;
+    Ok(strings_of(alloc, &value)?)
+}
+
+// Passes over the items of an array whose opening bracket was read.
+fn pass_items(reader: &mut Reader<'_>) -> Result<(), DocCause>
+    requires { are_in_range reader.old ≡ true }
+    ensures read { MatchResult result
+        (λ _. (ds : Items) × ReadsItems 125 reader.old ds reader.new)
+        (λ e. (e ≡ NotJson) × ReadsNoItems 125 reader.old) }
+    ensures left { OnOk result (are_in_range reader.new ≡ true) }
+    ensures shorter { OnOk result (length reader.new < length reader.old) }
+{
+    'items: while !reader.take_end_array() {
+        match reader.skip_value(MOST_DEPTH - 1) {
+            Ok(()) => {}
+            Err(_) => return Err(DocCause::NotJson),
+        }
+    }
+    Ok(())
 }
 
 // The strings of a value: a string, null, or an array of strings and nulls.

@@ -1,5 +1,6 @@
 //! Language maps of messages (JSON-LD 1.1, section 9.8) as a list of labels.
 ghost use Rattle.std.specs.Prelude.{◌≡◌, ◌==◌, ◌++◌, ◌∷◌, [], OnOk, OnErr, length, slice_get, option_map};
+ghost use Rattle.std.specs.Slice.Iter.{iter_rest};
 ghost use Rattle.cell_core.specs.Maps.{IsMap};
 ghost use Rattle.cata_core.specs.Entries.{key_cmp};
 
@@ -7,13 +8,17 @@ use cell_core::{Label, MessageId};
 use lang_core::Lang;
 use std::alloc::{AllocError, Global};
 use std::marker::Model;
+use std::slice;
 
 /// A label with its message and language.
 #[derive(Drop)]
-pub(crate) struct KeyedLabel {
-    pub(crate) id: MessageId,
-    pub(crate) lang: Lang,
-    pub(crate) label: Label,
+pub struct KeyedLabel {
+    /// The message that it is of.
+    pub id: MessageId,
+    /// The language that it is in.
+    pub lang: Lang,
+    /// Its texts.
+    pub label: Label,
 }
 
 /// The labels of messages by language, in strictly rising order of key: by the bytes of the id,
@@ -73,6 +78,14 @@ impl LangMaps {
             Some(found) => Some((&found.id, &found.lang, &found.label)),
             None => None,
         }
+    }
+
+    /// All labels with their messages and languages, in rising order of key.
+    pub fn iter(&self) -> slice::Iter<'_, KeyedLabel>
+        ensures labels { labels_of (iter_rest result) ≡ self.now }
+        ensures sorted { IsMap key_cmp self.now }
+    {
+        self.labels.iter()
     }
 
     /// Puts a label behind all that are there; its key has to be greater than theirs.

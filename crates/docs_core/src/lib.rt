@@ -14,12 +14,13 @@
 //!
 //! A refusal is a [`DocFault`], whose number and text are the product's.
 //!
-//! A document is read from its text a value at a time, so that beside the text and what is made of
-//! it only one row is held, and it is written a token at a time into one buffer. The public modules
+//! A document is read from its text a row at a time, so that beside the text and what is made of it
+//! only one row is held, and it is written a token at a time into one buffer. The public modules
 //! are laws: [`laws`], [`lang_map_laws`] and [`migration`].
 #![tactic(auto)]
 
 mod arrays;
+mod as_written;
 mod asking;
 mod bundling;
 mod calls;
@@ -73,7 +74,7 @@ pub use doc::Doc;
 pub use documents::{write_delta, write_site, write_summary};
 pub use exchange::{export_document, import_document, missing_document};
 pub use fault::{DocCause, DocFault, FieldFault, Spot};
-pub use lang_maps::LangMaps;
+pub use lang_maps::{KeyedLabel, LangMaps};
 pub use lang_maps_reading::read_langmaps;
 pub use lang_maps_writing::write_langmaps;
 pub use lines::{answer_lines, filter_lines, reply_line};

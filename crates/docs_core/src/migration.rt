@@ -5,12 +5,14 @@ ghost use Rattle.cata_core.specs.Migration.{OldDelta, OldEntry, OldSite, OldSumm
 ghost use Rattle.cata_core.specs.Sites.{SiteState};
 ghost use Rattle.cata_core.specs.Told.{SummaryState};
 ghost use Rattle.cata_core.specs.declared.delta.Delta.{Delta};
+ghost use Rattle.docs_core.specs.Checks.{AreJson};
 ghost use Rattle.docs_core.specs.Fields.{entry_of};
 ghost use Rattle.docs_core.specs.Heads.{is_first};
 ghost use Rattle.docs_core.specs.OldRows.{IsOldDeltaDocument, IsOldScriptDocument, IsOldSiteDocument, IsOldSummaryDocument, OldScript, migrated_script, old_entry_in};
 ghost use Rattle.docs_core.specs.Named.{IsDeltaDocument, IsSiteDocument, IsSummaryDocument};
+ghost use Rattle.docs_core.specs.ReadsAs.{ReadsAsDelta, ReadsAsSite, ReadsAsSummary};
 ghost use Rattle.docs_core.specs.Rows.{cell_in};
-ghost use Rattle.docs_core.specs.ScriptReads.{IsScriptDocument};
+ghost use Rattle.docs_core.specs.ScriptReads.{IsScriptDocument, ReadsAsScript};
 ghost use Rattle.docs_core.specs.Scripts.{ScriptState};
 ghost use Rattle.docs_core.specs.Values.{Row};
 
@@ -41,5 +43,17 @@ pub fn a_summary_reads_as_migrated()
 /// A script is read as the migrated script that its document has.
 pub fn a_script_reads_as_migrated()
     ensures { (d : Data) (script : ScriptState) → is_first d ≡ true → IsScriptDocument d script
+        → (old : OldScript) × IsOldScriptDocument d old × (script ≡ migrated_script old) }
+{}
+
+/// What a reader answers on a text of version 1 is the migrated value of what the text holds.
+pub fn a_text_reads_as_migrated()
+    ensures site { (bytes : List ℕ) (d : Data) (site : SiteState) → AreJson bytes d → is_first d ≡ true → ReadsAsSite bytes site
+        → (old : OldSite) × IsOldSiteDocument d old × (site ≡ migrated_site old) }
+    ensures delta { (bytes : List ℕ) (d : Data) (delta : Delta) → AreJson bytes d → is_first d ≡ true → ReadsAsDelta bytes delta
+        → (old : OldDelta) × IsOldDeltaDocument d old × (delta ≡ migrated_delta old) }
+    ensures summary { (bytes : List ℕ) (d : Data) (summary : SummaryState) → AreJson bytes d → is_first d ≡ true → ReadsAsSummary bytes summary
+        → (old : OldSummary) × IsOldSummaryDocument d old × (summary ≡ migrated_summary old) }
+    ensures script { (bytes : List ℕ) (d : Data) (script : ScriptState) → AreJson bytes d → is_first d ≡ true → ReadsAsScript bytes script
         → (old : OldScript) × IsOldScriptDocument d old × (script ≡ migrated_script old) }
 {}

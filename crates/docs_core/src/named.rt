@@ -8,6 +8,7 @@ ghost use Rattle.docs_core.specs.ReadsAs.{ReadsAsDelta, ReadsAsSite, ReadsAsSumm
 ghost use Rattle.docs_core.specs.Rows.{site_in};
 
 use crate::arrays::Rows;
+use crate::as_written::cells_as_written;
 use crate::cell_rows::CellRows;
 use crate::fault::{DocCause, Spot};
 use crate::form::Form;
@@ -22,6 +23,16 @@ use std::alloc::Global;
 pub fn site_from(alloc: Global, bytes: &[u8]) -> Result<Site, DocCause>
     ensures { MatchResult result (ReadsAsSite bytes.now) (RefusesSite bytes.now) }
 {
+    match cells_as_written(alloc, bytes, Form::Site) {
+        Some((name, cells)) => Ok(Site::from_catalogue(name, cells)),
+        None => site_of_members(alloc, bytes),
+    }
+}
+
+// The site of a document whose members may stand in any order.
+fn site_of_members(alloc: Global, bytes: &[u8]) -> Result<Site, DocCause>
+    ensures { MatchResult result (ReadsAsSite bytes.now) (RefusesSite bytes.now) }
+{
     let mut rows = CellRows::new(alloc);
     let name = read_named(alloc, bytes, Form::Site, &mut rows)?;
     let cells = rows.into_catalogue(alloc)?;
@@ -30,6 +41,16 @@ pub fn site_from(alloc: Global, bytes: &[u8]) -> Result<Site, DocCause>
 
 /// The delta of a document, or why it is refused.
 pub fn delta_from(alloc: Global, bytes: &[u8]) -> Result<Delta, DocCause>
+    ensures { MatchResult result (ReadsAsDelta bytes.now) (RefusesDelta bytes.now) }
+{
+    match cells_as_written(alloc, bytes, Form::Delta) {
+        Some((to, cells)) => Ok(Delta::from_catalogue(to, cells)),
+        None => delta_of_members(alloc, bytes),
+    }
+}
+
+// The delta of a document whose members may stand in any order.
+fn delta_of_members(alloc: Global, bytes: &[u8]) -> Result<Delta, DocCause>
     ensures { MatchResult result (ReadsAsDelta bytes.now) (RefusesDelta bytes.now) }
 {
     let mut rows = CellRows::new(alloc);

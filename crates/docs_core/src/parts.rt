@@ -63,7 +63,8 @@ pub fn read_parts<R: Rows>(
     }
 }
 
-fn text_in(bytes: &[u8]) -> Result<&str, DocCause>
+/// The text, where the bytes are UTF-8.
+pub fn text_in(bytes: &[u8]) -> Result<&str, DocCause>
     ensures { MatchResult result (λ text. (text.now ≡ bytes.now) × IsUtf8 bytes.now)
         (λ e. (¬ (IsUtf8 bytes.now)) × (e ≡ NotUtf8 (utf8_valid_len bytes.now))) }
 {

@@ -32,6 +32,14 @@ impl Model for Script {
 impl Script {
     ghost use Rattle.docs_core.specs.Scripts.{IsSiteCount};
 
+    /// The script of so many sites, from 1 to 1,024, with these steps.
+    pub fn new(sites: usize, steps: Vec<Step>) -> Script
+        requires { IsSiteCount sites }
+        ensures { result ≡ record { sites = sites; steps = steps.items } }
+    {
+        Script { sites, steps }
+    }
+
     /// How many sites there are.
     pub fn sites(&self) -> usize
         ensures value { result ≡ self.now.sites }
@@ -72,10 +80,7 @@ impl Steps {
         requires { IsSiteCount sites }
         ensures { result ≡ record { sites = sites; steps = self.steps.items } }
     {
-        Script {
-            sites,
-            steps: self.steps,
-        }
+        Script::new(sites, self.steps)
     }
 }
 

@@ -1,5 +1,6 @@
 //! What no contract says: texts, and streams of every kind in action.
 
+mod as_written;
 mod bundle;
 mod doc;
 mod documents;
@@ -10,5 +11,6 @@ mod missing;
 mod readers;
 mod reading;
 mod refusals;
+mod scripts;
 mod update;
 mod writing;

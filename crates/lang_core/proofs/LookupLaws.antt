@@ -21,9 +21,6 @@ joined-hyphened : (s : List ℕ) (list : List (List ℕ)) → joined (s ∷ list
 joined-hyphened s [] = sym (append-nil s)
 joined-hyphened s (t ∷ list) = ap (λ (x : List ℕ). s ++ 45 ∷ x) (joined-hyphened t list)
 
-pub lookup_none : (range : List ℕ) → pieces range ≡ [] → [] ≡ lookup_text range
-lookup_none range e = sym (ap (λ (x : List (List ℕ)). joined (as_basic x)) e)
-
 pub lookup_star : (range : List ℕ) (s : List ℕ) (list : List (List ℕ)) → pieces range ≡ s ∷ list → is_star s ≡ true → s ≡ lookup_text range
 lookup_star range s list e h = sym (ap (λ (x : List (List ℕ)). joined (as_basic x)) e ∙ rw h refl)
 

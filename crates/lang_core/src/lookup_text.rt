@@ -1,7 +1,7 @@
 //! An extended range as a basic one (RFC 4647 section 3.2).
-ghost use Rattle.std.specs.Prelude.{◌≡◌, ◌++◌, IfOk, OnOk};
+ghost use Rattle.std.specs.Prelude.{◌≡◌, ◌++◌, List, ℕ, IfOk, OnOk};
 ghost use Rattle.std.specs.String.{string_bytes};
-ghost use Rattle.lang_core.specs.LookupText.{lookup_text, hyphened};
+ghost use Rattle.lang_core.specs.LookupText.{lookup_text, kept_text, hyphened};
 ghost use Rattle.lang_core.specs.Matching.{without_stars};
 ghost use Rattle.lang_core.specs.Subtags.{subtags_left};
 
@@ -9,19 +9,76 @@ use crate::range_syntax::is_star;
 use crate::subtags::Subtags;
 use std::alloc::{AllocError, Global};
 
-/// The text of the range as a basic one: "*" where it begins with "*", else its subtags
-/// without each "*" (RFC 4647 section 3.2).
-pub(crate) fn make_lookup_text(alloc: Global, range: &str) -> Result<String, AllocError>
-    ensures { IfOk result (λ text. string_bytes text ≡ lookup_text range.now) }
-{
-    let mut text = String::with_capacity(alloc, range.len())?;
-    let mut subtags = Subtags::new(range);
-    if let Some(first) = subtags.next() {
-        text.push_str(first)?;
-        if !is_star(first.as_bytes()) {
-            push_subtags(&mut text, subtags)?;
+/// The text of a range as a basic one.
+#[derive(Debug, Drop)]
+pub(crate) enum LookupText {
+    /// The range's own text, as that of each basic range.
+    Own,
+    /// "*", where the range begins with it.
+    Every,
+    /// Another text.
+    Other(String),
+}
+
+impl LookupText {
+    /// "*" where the range begins with "*", else its subtags without each "*" (RFC 4647 section
+    /// 3.2). Only the latter takes memory.
+    pub(crate) fn new(alloc: Global, range: &str) -> Result<LookupText, AllocError>
+        ensures { IfOk result (λ kept. kept_text range.now kept ≡ lookup_text range.now) }
+    {
+        let mut subtags = Subtags::new(range);
+        match subtags.next() {
+            Some(first) => {
+                if is_star(first.as_bytes()) {
+                    Ok(LookupText::Every)
+                } else {
+                    let text = without_stars(alloc, range.len(), first, subtags)?;
+                    Ok(LookupText::Other(text))
+                }
+            }
+            None => unreachable!(),
         }
     }
+
+    /// The text, where that of the range is `own`.
+    pub(crate) fn as_str<'a>(&'a self, own: &'a str) -> &'a str
+        ensures { result.now ≡ kept_text own.now self.now }
+    {
+        match self {
+            LookupText::Own => own,
+            LookupText::Every => "*",
+            LookupText::Other(text) => text.as_str(),
+        }
+    }
+
+    /// The same for an equal range, by as many allocations as it was made with.
+    pub(crate) fn copy(&self, alloc: Global) -> Result<LookupText, AllocError>
+        ensures { IfOk result (λ copy. (own : List ℕ) → kept_text own copy ≡ kept_text own self.now) }
+    {
+        match self {
+            LookupText::Own => Ok(LookupText::Own),
+            LookupText::Every => Ok(LookupText::Every),
+            LookupText::Other(text) => {
+                let text = String::from_str(alloc, text.as_str())?;
+                Ok(LookupText::Other(text))
+            }
+        }
+    }
+}
+
+/// The first subtag, and after it the others but each "*".
+fn without_stars(
+    alloc: Global,
+    len: usize,
+    first: &str,
+    others: Subtags,
+) -> Result<String, AllocError>
+    ensures { IfOk result (λ text. string_bytes text
+        ≡ first.now ++ hyphened (without_stars (subtags_left others.entry))) }
+{
+    let mut text = String::with_capacity(alloc, len)?;
+    text.push_str(first)?;
+    push_subtags(&mut text, others)?;
     Ok(text)
 }
 

@@ -1,7 +1,5 @@
 //! Language ranges (RFC 4647 section 2).
 ghost use Rattle.std.specs.Prelude.{◌≡◌, List, ℕ, IsTrue, MatchResult, IfOk, ◌↔◌, Some};
-ghost use Rattle.std.specs.Option.{option_map_or};
-ghost use Rattle.std.specs.String.{string_bytes};
 ghost use Rattle.std.specs.Str.{bytes_eq, str_to_ascii_lowercase};
 ghost use Rattle.std.specs.Cmp.Rules.{comparing};
 ghost use Rattle.std.specs.Fmt.{padded};
@@ -16,7 +14,7 @@ ghost use Rattle.lang_core.specs.Truncations.{truncations_left};
 ghost use borrow.Author.Rules.{rules};
 
 use crate::fault::LangFault;
-use crate::lookup_text::make_lookup_text;
+use crate::lookup_text::LookupText;
 use crate::matching::{matches_basic, matches_basic_text, matches_extended, specificity};
 use crate::range_syntax::{basic_fault, extended_fault};
 use crate::subtags::Subtags;
@@ -33,17 +31,15 @@ use std::marker::Model;
 #[derive(Debug, Drop)]
 pub struct Range {
     text: LowerText,
-    /// The text as a basic range, where it is kept apart.
-    lookup: Option<String>,
+    /// The text as a basic range.
+    lookup: LookupText,
 }
 
 impl Model for Range {
     ghost use Rattle.std.specs.Prelude.{List, ℕ, ◌≡◌};
-    ghost use Rattle.std.specs.Option.{option_map_or};
-    ghost use Rattle.std.specs.String.{string_bytes};
     ghost use Rattle.lang_core.specs.Fault.{IsRange};
     ghost use Rattle.lang_core.specs.Grammar.{ExtendedRange};
-    ghost use Rattle.lang_core.specs.LookupText.{lookup_text};
+    ghost use Rattle.lang_core.specs.LookupText.{lookup_text, kept_text};
     ghost use Rattle.lang_core.specs.LowerText.{lower_bytes};
 
     ghost Value = { List ℕ };
@@ -51,8 +47,7 @@ impl Model for Range {
     ghost view = { λ r. lower_bytes r.text };
 
     ghost invariant = { λ r. IsRange ExtendedRange (lower_bytes r.text)
-        × (option_map_or string_bytes r.lookup (lower_bytes r.text)
-        ≡ lookup_text (lower_bytes r.text)) };
+        × (kept_text (lower_bytes r.text) r.lookup ≡ lookup_text (lower_bytes r.text)) };
 }
 
 impl Range {
@@ -82,14 +77,18 @@ impl Range {
             return Err(LangFault::RangeSubtag { offset });
         }
         let text = LowerText::new(alloc, text)?;
-        Ok(Range { text, lookup: None })
+        Ok(Range {
+            text,
+            lookup: LookupText::Own,
+        })
     }
 
     /// The extended range that the bytes spell in any case (RFC 4647 section 2.2), as `de-*-ch`.
     ///
     /// Refused are, in this order, an empty text, one over 255 bytes, and the first subtag that an
     /// extended range may not have at its place. Only then one allocation is made for the lookup
-    /// text, and one for a text of more than 16 bytes; out of memory is the last refusal.
+    /// text, where the range does not begin with "*", and one for a text of more than 16 bytes;
+    /// out of memory is the last refusal.
     ///
     /// ```text
     /// Range::parse_extended(alloc, b"de-*-CH")?.lookup_text()  "de-ch"
@@ -111,11 +110,8 @@ impl Range {
             return Err(LangFault::RangeSubtag { offset });
         }
         let text = LowerText::new(alloc, text)?;
-        let lookup = make_lookup_text(alloc, text.as_str())?;
-        Ok(Range {
-            text,
-            lookup: Some(lookup),
-        })
+        let lookup = LookupText::new(alloc, text.as_str())?;
+        Ok(Range { text, lookup })
     }
 
     /// The range's text in lower case, each "*" included.
@@ -131,10 +127,7 @@ impl Range {
     pub fn lookup_text(&self) -> &str
         ensures { result.now ≡ lookup_text self.now }
     {
-        match &self.lookup {
-            Some(text) => text.as_str(),
-            None => self.text.as_str(),
-        }
+        self.lookup.as_str(self.text.as_str())
     }
 
     /// The subtags, each "*" included, in order.
@@ -198,13 +191,8 @@ impl Range {
         ensures { IfOk result (λ range. range ≡ self.now) }
     {
         let text = self.text.copy(alloc)?;
-        match &self.lookup {
-            Some(kept) => {
-                let lookup = Some(String::from_str(alloc, kept.as_str())?);
-                Ok(Range { text, lookup })
-            }
-            None => Ok(Range { text, lookup: None }),
-        }
+        let lookup = self.lookup.copy(alloc)?;
+        Ok(Range { text, lookup })
     }
 }
 

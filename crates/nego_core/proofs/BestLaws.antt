@@ -92,17 +92,20 @@ better_joins P Q R items (Some a) (Some b) joins p q = decided P Q R items a b (
 
 -- ---- the items before a place
 
-abbrev pub Before : (Item → Type 0) → ℕ → ℕ → Item → Type 0
-Before Fits n k i = (k < n) × Fits i
+abbrev pub Before : (ℕ → Item → Type 0) → ℕ → ℕ → Item → Type 0
+Before Fits n k i = (k < n) × Fits k i
 
-pub none_before : (Fits : Item → Type 0) (items : List Item) → IsBest (Before Fits 0) items None
+moved : (Fits : ℕ → Item → Type 0) (k n : ℕ) (i j : Item) → k ≡ n → j ≡ i → Fits k j → Fits n i
+moved Fits k n i j e f h = subst (λ (m : ℕ). Fits m i) e (subst (Fits k) f h)
+
+pub none_before : (Fits : ℕ → Item → Type 0) (items : List Item) → IsBest (Before Fits 0) items None
 none_before Fits items = λ k other s f. let low = f.0 in absurd (omega arith)
 
 -- an item that does not fit, or has no more subtags than the best, changes nothing
-pub passed : (Fits : Item → Type 0) (items : List Item) (n : ℕ) (i : Item) (best : Option Best) → slice_get items n ≡ Some i → (Fits i → is_above best (specificity (pieces i.range)) ≡ false) → IsBest (Before Fits n) items best → IsBest (Before Fits (n + 1)) items best
+pub passed : (Fits : ℕ → Item → Type 0) (items : List Item) (n : ℕ) (i : Item) (best : Option Best) → slice_get items n ≡ Some i → (Fits n i → is_above best (specificity (pieces i.range)) ≡ false) → IsBest (Before Fits n) items best → IsBest (Before Fits (n + 1)) items best
 passed Fits items n i None s not h = λ k other t f. elim (cases_lt k n) [
   | inl low ↦ h k other t (low, f.1)
-  | inr high ↦ (let l = f.0 in let e = not (subst Fits (same_at items k n i other (omega arith) s t) f.1) in cc)
+  | inr high ↦ (let l = f.0 in let e = not (moved Fits k n i other (omega arith) (same_at items k n i other (omega arith) s t) f.1) in cc)
 ]
 passed Fits items n i (Some best) s not h = record {
   item = h.item;
@@ -113,14 +116,14 @@ passed Fits items n i (Some best) s not h = record {
     | inl low ↦ h.most k other t (low, f.1)
     | inr high ↦ (let l = f.0 in let same = same_at items k n i other (omega arith) s t in
         let size : specificity (pieces other.range) ≡ specificity (pieces i.range) = ap (λ (x : Item). specificity (pieces x.range)) same in
-        let le : specificity (pieces i.range) ≤ best.named = ltb-false _ _ (not (subst Fits same f.1)) in
+        let le : specificity (pieces i.range) ≤ best.named = ltb-false _ _ (not (moved Fits k n i other (omega arith) same f.1)) in
         omega arith)
   ];
   first = λ k other low t f. let l = h.fits.0 in h.first k other low t (omega arith, f.1);
 }
 
 -- one that fits and has more subtags is the best
-pub newest : (Fits : Item → Type 0) (items : List Item) (n named : ℕ) (i : Item) (best : Option Best) → slice_get items n ≡ Some i → named ≡ specificity (pieces i.range) → Fits i → is_above best named ≡ true → IsBest (Before Fits n) items best → IsBest (Before Fits (n + 1)) items (Some (record { place = n; named = named }))
+pub newest : (Fits : ℕ → Item → Type 0) (items : List Item) (n named : ℕ) (i : Item) (best : Option Best) → slice_get items n ≡ Some i → named ≡ specificity (pieces i.range) → Fits n i → is_above best named ≡ true → IsBest (Before Fits n) items best → IsBest (Before Fits (n + 1)) items (Some (record { place = n; named = named }))
 newest Fits items n named i best s e fits above h = record {
   item = i;
   stands = s;
@@ -134,11 +137,23 @@ newest Fits items n named i best s e fits above h = record {
   ];
   first = λ k other low t f. below_best Fits items n named best h above k other t (low, f.1);
 } where
-  below_best : (Fits : Item → Type 0) (items : List Item) (n named : ℕ) (best : Option Best) → IsBest (Before Fits n) items best → is_above best named ≡ true → (k : ℕ) (other : Item) → slice_get items k ≡ Some other → Before Fits n k other → specificity (pieces other.range) < named
+  below_best : (Fits : ℕ → Item → Type 0) (items : List Item) (n named : ℕ) (best : Option Best) → IsBest (Before Fits n) items best → is_above best named ≡ true → (k : ℕ) (other : Item) → slice_get items k ≡ Some other → Before Fits n k other → specificity (pieces other.range) < named
   below_best Fits items n named None h above k other t f = absurd (h k other t f)
   below_best Fits items n named (Some best) h above k other t f = let le = h.most k other t f in let lt = ltb-true _ _ above in omega arith
 
-pub all_before : (Fits : Item → Type 0) (items : List Item) (n : ℕ) (best : Option Best) → length items ≤ n → IsBest (Before Fits n) items best → IsBest (λ _ i. Fits i) items best
+-- places at which nothing fits change nothing
+pub passed_to : (Fits : ℕ → Item → Type 0) (items : List Item) (m n : ℕ) (best : Option Best) → m ≤ n → ((k : ℕ) (i : Item) → m ≤ k → k < n → ¬ Fits k i) → IsBest (Before Fits m) items best → IsBest (Before Fits n) items best
+passed_to Fits items m n best le none h = best_same (Before Fits m) (Before Fits n) items best
+    (λ k i. (
+      (λ f. (let l = f.0 in omega arith, f.1)),
+      (λ f. elim (cases_lt k m) [
+        | inl low ↦ (low, f.1)
+        | inr high ↦ absurd (none k i (omega arith) f.0 f.1)
+      ]),
+    ))
+    h
+
+pub all_before : (Fits : ℕ → Item → Type 0) (items : List Item) (n : ℕ) (best : Option Best) → length items ≤ n → IsBest (Before Fits n) items best → IsBest Fits items best
 all_before Fits items n None low h = λ k other t f. h k other t (let l = slice_get_within items k other t in omega arith, f)
 all_before Fits items n (Some best) low h = record {
   item = h.item;
@@ -168,8 +183,8 @@ pub none_here : (Fits : Item → Type 0) (items : List Item) (n : ℕ) (i : Item
 none_here Fits items n i s not = λ k other t f. not (subst Fits (same_at items k n i other f.0 s t) f.1)
 
 -- the best of the items before a place, and the item at it
-pub joined_at : (Fits : Item → Type 0) (items : List Item) (n : ℕ) (best found : Option Best) → IsBest (Before Fits n) items best → IsBest (At Fits n) items found → IsBest (Before Fits (n + 1)) items (better best found)
-joined_at Fits items n best found h f = better_joins (Before Fits n) (At Fits n) (Before Fits (n + 1)) items best found
+pub joined_at : (Fits : Item → Type 0) (items : List Item) (n : ℕ) (best found : Option Best) → IsBest (Before (λ _ i. Fits i) n) items best → IsBest (At Fits n) items found → IsBest (Before (λ _ i. Fits i) (n + 1)) items (better best found)
+joined_at Fits items n best found h f = better_joins (Before (λ _ i. Fits i) n) (At Fits n) (Before (λ _ i. Fits i) (n + 1)) items best found
     (λ k i. (
       (λ p. (let l = p.0 in omega arith, p.1)),
       (λ p. (let e = p.0 in omega arith, p.1)),

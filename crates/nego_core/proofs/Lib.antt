@@ -14,9 +14,9 @@ pub mod BestLaws
 pub mod OrderedTextLaws
 pub mod RangeIndexLaws
 pub mod TableLaws
-pub mod FingerprintLaws
 pub mod FirstByteLaws
 pub mod DecidingLaws
+pub mod ChainsLaws
 pub mod MatchedLaws
 pub mod NamedLaws
 pub mod NothingRefused

@@ -58,12 +58,12 @@ best_at Fits items n (Some i) either e = elim (either i) [
   | inr not ↦ (None, none_here Fits items n i e not)
 ]
 
-best_before : (Fits : Item → Type 0) (items : List Item) (n : ℕ) → ((i : Item) → Fits i ⊎ (¬ Fits i)) → (best : Option Best) × IsBest (Before Fits n) items best
-best_before Fits items zero either = (None, none_before Fits items)
+best_before : (Fits : Item → Type 0) (items : List Item) (n : ℕ) → ((i : Item) → Fits i ⊎ (¬ Fits i)) → (best : Option Best) × IsBest (Before (λ _ i. Fits i) n) items best
+best_before Fits items zero either = (None, none_before (λ _ i. Fits i) items)
 best_before Fits items (suc n) either =
     let before = best_before Fits items n either in
     let here = best_at Fits items n (slice_get items n) either refl in
-    (better before.0 here.0, subst (λ (m : ℕ). IsBest (Before Fits m) items (better before.0 here.0)) (omega arith) (joined_at Fits items n before.0 here.0 before.1 here.1))
+    (better before.0 here.0, subst (λ (m : ℕ). IsBest (Before (λ _ i. Fits i) m) items (better before.0 here.0)) (omega arith) (joined_at Fits items n before.0 here.0 before.1 here.1))
 
 decided : (Fits : Item → Type 0) (items : List Item) (best : Option Best) (k : ℕ) (i : Item) → IsBest (λ _ i. Fits i) items best → slice_get items k ≡ Some i → Fits i → (place : ℕ) × IsMostSpecific Fits items place
 decided Fits items None k i h s f = absurd (h k i s f)
@@ -74,4 +74,4 @@ pub a_match_decides : (scheme : Scheme) (items : List Item) (tag : List (List �
 a_match_decides scheme items tag item c m =
     let Fits : Item → Type 0 = λ i. Matches scheme (pieces i.range) tag in
     let best = best_before Fits items (length items) (λ i. matches_or_not scheme (pieces i.range) tag) in
-    decided Fits items best.0 c.0 item (all_before Fits items (length items) best.0 (omega arith) best.1) (stands_at items c.0 item c.1 (sym c.2)) m
+    decided Fits items best.0 c.0 item (all_before (λ _ i. Fits i) items (length items) best.0 (omega arith) best.1) (stands_at items c.0 item c.1 (sym c.2)) m

@@ -14,7 +14,7 @@ pub mod Best
 pub mod OrderedText
 pub mod RangeIndex
 pub mod Table
-pub mod Fingerprint
+pub mod Chains
 pub mod Index
 pub mod Order
 pub mod Filtered

@@ -1,13 +1,13 @@
-ghost use Rattle.std.specs.Prelude.{◌≡◌, ◌<◌, length, map, IfSome};
+ghost use Rattle.std.specs.Prelude.{ℕ, ◌≡◌, ◌<◌, List, IfSome};
 ghost use Rattle.lang_core.specs.Text.{pieces};
 ghost use Rattle.lang_core.specs.Matching.{Basic, Extended};
 ghost use Rattle.nego_core.specs.Best.{IsBest};
 ghost use Rattle.nego_core.specs.Deciding.{IsAny, Matches, MatchesNamed};
-ghost use Rattle.nego_core.specs.Fingerprint.{item_fingerprint};
 ghost use Rattle.nego_core.specs.RangeIndex.{IsRangeIndex};
+ghost use Rattle.nego_core.specs.Chains.{AreChains, AreLinked, StandsIn};
 
 use crate::best::{Best, better, is_above};
-use crate::fingerprint::{fingerprints_in, may_have};
+use crate::chains::{Chains, LAST, chain_of};
 use crate::item::{Item, first_byte};
 use crate::range_index::place_of;
 use crate::scheme::Scheme;
@@ -85,33 +85,40 @@ pub(crate) fn best_of(items: &[Item], scheme: Scheme, tag: &Tag) -> Option<Best>
     best
 }
 
-/// The best of the items that match under the extended match. Those whose fingerprints the tag has not
-/// are passed over.
-pub(crate) fn best_extended(items: &[Item], fingerprints: &[Option<u8>], tag: &Tag) -> Option<Best>
-    requires { fingerprints.now ≡ map item_fingerprint items.now }
+/// The best of the items that match under the extended match. The last chain is asked, and once
+/// each chain of the tag's subtags.
+pub(crate) fn best_extended(items: &[Item], chains: &Chains, tag: &Tag) -> Option<Best>
+    requires { AreChains items.now chains.now }
     ensures { IsBest (λ _ i. Extended (pieces i.range) (pieces tag.now)) items.now result }
 {
-    let table = fingerprints_in(tag);
-    let mut best = None;
-    for place in 0..items.len() {
-        if may_have(&table, fingerprints[place]) {
-            best = better(best, best_at(items, place, tag));
+    let mut asked = [false; LAST];
+    let mut best = best_in(items, chains, LAST, tag);
+    for subtag in tag.subtags() {
+        let chain = chain_of(subtag);
+        if !asked[chain] {
+            asked[chain] = true;
+            best = better(best, best_in(items, chains, chain, tag));
         }
     }
     best
 }
 
-/// The item at the place, where it matches under the extended match.
-fn best_at(items: &[Item], place: usize, tag: &Tag) -> Option<Best>
-    requires { place < length items.now }
-    ensures { IsBest (λ k i. (k ≡ place) × Extended (pieces i.range) (pieces tag.now)) items.now result }
+/// The same of the items of one chain.
+fn best_in(items: &[Item], chains: &Chains, chain: usize, tag: &Tag) -> Option<Best>
+    requires linked { AreChains items.now chains.now }
+    requires within { chain < 1025 }
+    ensures { (numbers : List ℕ) → AreLinked items.now numbers chains.now
+        → IsBest (λ k i. StandsIn numbers chain k × Extended (pieces i.range) (pieces tag.now)) items.now result }
 {
-    if items[place].range().matches_extended(tag) {
-        Some(Best {
-            place,
-            named: items[place].specificity(),
-        })
-    } else {
-        None
+    let mut best = None;
+    let mut place = chains.first[chain];
+    while place < items.len() {
+        let item = &items[place];
+        let named = item.specificity();
+        if is_above(best, named) && item.range().matches_extended(tag) {
+            best = Some(Best { place, named });
+        }
+        place = chains.next[place];
     }
+    best
 }

@@ -2,7 +2,7 @@
 ghost use Rattle.std.specs.Prelude.{IfOk, IfSome};
 ghost use Rattle.nego_core.specs.Index.{IsIndex};
 
-use crate::fingerprint::fingerprints_of;
+use crate::chains::{Chains, chains_of};
 use crate::item::Item;
 use crate::range_index::places_of;
 use crate::scheme::Scheme;
@@ -16,8 +16,8 @@ const FEW: usize = 16;
 pub(crate) enum Index {
     /// For basic ranges: the places of the items in the order of their ranges' bytes.
     Ranges(Vec<usize>),
-    /// For extended ranges: the fingerprint of each item's range.
-    Fingerprints(Vec<Option<u8>>),
+    /// For extended ranges: the places of the items in chains.
+    Chains(Chains),
 }
 
 /// The index of the items, where they are many.
@@ -33,6 +33,6 @@ pub(crate) fn index_of(
     }
     match scheme {
         Scheme::Basic => Ok(Some(Index::Ranges(places_of(alloc, items)?))),
-        Scheme::Extended => Ok(Some(Index::Fingerprints(fingerprints_of(alloc, items)?))),
+        Scheme::Extended => Ok(Some(Index::Chains(chains_of(alloc, items)?))),
     }
 }

@@ -26,6 +26,7 @@
 mod best;
 mod blanks;
 mod bytes;
+mod chains;
 mod choice;
 mod chosen;
 mod deciding;
@@ -34,7 +35,6 @@ mod entry;
 mod fault;
 mod field;
 mod filtered;
-mod fingerprint;
 mod found;
 mod handed;
 mod holds;

@@ -184,8 +184,8 @@ impl PriorityList {
             (Scheme::Basic, Some(Index::Ranges(places))) => {
                 best_basic(&self.items, Some(places), tag.as_str().as_bytes())
             }
-            (Scheme::Extended, Some(Index::Fingerprints(fingerprints))) => {
-                best_extended(&self.items, fingerprints, tag)
+            (Scheme::Extended, Some(Index::Chains(chains))) => {
+                best_extended(&self.items, chains, tag)
             }
             _ => best_of(&self.items, scheme, tag),
         }

@@ -3,7 +3,7 @@
 use super::makers::{default, edit_of, id, list, scheme};
 use super::shown;
 use super::words::Words;
-use cata_core::{PlayFault, Step, play};
+use cata_core::{Answers, PlayFault, Step, play};
 use nego_core::Scheme;
 use std::alloc::Global;
 use std::test::Fail;
@@ -79,6 +79,12 @@ fn steps(alloc: Global, text: &str) -> Result<Vec<Step>, Fail> {
         steps.push(step(alloc, &mut Words::new(step_text))?)?;
     }
     Ok(steps)
+}
+
+/// The answers of a run over so many sites.
+pub fn answered(alloc: Global, sites: u8, text: &str) -> Result<Answers, Fail> {
+    let steps = steps(alloc, text)?;
+    Ok(play(alloc, usize::from(sites), &steps)?)
 }
 
 /// What a run over so many sites answers, or its refusal.

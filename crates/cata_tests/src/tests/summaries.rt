@@ -55,6 +55,40 @@ fn a_summary_is_for_another_owner(rt: HostRuntime) -> Result<(), Fail> {
     gives(compared(alloc, &site, "2"), "equal")
 }
 
+/// All keys with their stamps.
+fn listed(alloc: Global, summary: &Summary) -> Result<String, Fail> {
+    let mut list = String::new(alloc);
+    for (id, lang, stamp) in summary.iter() {
+        let stamp = shown::stamp(alloc, stamp)?;
+        let item = format!(in alloc; "{} {} {stamp};", id.as_str(), lang.as_str())?;
+        list.push_str(&item)?;
+    }
+    Ok(list)
+}
+
+#[test]
+fn keys_are_told_in_rising_order(rt: HostRuntime) -> Result<(), Fail> {
+    let alloc = rt.alloc();
+    let site = site(
+        alloc,
+        "1",
+        "n en 7 2 0 a; m fr 4 1 0 -; m en 5 1 3 a; m @none 6 1 0 b",
+    )?;
+    gives(
+        listed(alloc, &site.summary(alloc)?),
+        "m @none 6 0000000001 0;m en 5 0000000001 3;m fr 4 0000000001 0;n en 7 0000000002 0;",
+    )
+}
+
+#[test]
+fn an_empty_summary_lists_nothing(rt: HostRuntime) -> Result<(), Fail> {
+    let alloc = rt.alloc();
+    gives(
+        listed(alloc, &Summary::new(alloc, makers::name("1")?)),
+        "",
+    )
+}
+
 #[test]
 fn a_deletion_is_told(rt: HostRuntime) -> Result<(), Fail> {
     let alloc = rt.alloc();

@@ -120,3 +120,32 @@ fn stands_in_order_of_keys(rt: HostRuntime) {
     assert_eq!(rt; tag_at(&map, 2), Some("fr"));
     assert_eq!(rt; tag_at(&map, 3), None);
 }
+
+fn last_tag(map: &Keyed<Lang, Cell>) -> Option<&str> {
+    map.last().map(|entry| entry.0.as_str())
+}
+
+#[test]
+fn the_last_has_the_greatest_key(rt: HostRuntime) {
+    let mut map = two(&rt, rt.alloc());
+    assert_eq!(rt; last_tag(&map), Some("fr"));
+    let cell = deleted(stamp(&rt, 1, "a", 0));
+    put(&rt, &mut map, lang(&rt, rt.alloc(), "sr-Latn"), cell);
+    assert_eq!(rt; last_tag(&map), Some("sr-latn"));
+}
+
+#[test]
+fn an_empty_map_has_no_last(rt: HostRuntime) {
+    let map: Keyed<Lang, Cell> = Keyed::new(rt.alloc());
+    assert_eq!(rt; last_tag(&map), None);
+}
+
+#[test]
+fn maps_are_equal_as_their_entries_are(rt: HostRuntime) {
+    let map = two(&rt, rt.alloc());
+    let join = joined(&rt, rt.alloc(), one(&rt, rt.alloc(), "en", "a"), &map);
+    assert!(rt; join == map);
+    assert!(rt; map != one(&rt, rt.alloc(), "en", "a"));
+    assert!(rt; one(&rt, rt.alloc(), "en", "b") != one(&rt, rt.alloc(), "en", "a"));
+    assert!(rt; one(&rt, rt.alloc(), "fr", "a") != one(&rt, rt.alloc(), "en", "a"));
+}

@@ -264,3 +264,16 @@ fn a_label_has_at_most_64_texts(rt: HostRuntime) -> Result<(), Fail> {
     );
     Ok(())
 }
+
+#[test]
+fn labels_are_gone_over(rt: HostRuntime) -> Result<(), Fail> {
+    let maps = read_langmaps(rt.alloc(), IMPORT.as_bytes())?;
+    let mut languages = Vec::new(rt.alloc());
+    for found in maps.iter() {
+        assert_eq!(rt; found.id.as_str(), "m");
+        assert_eq!(rt; found.label.texts().len(), 1);
+        languages.push(found.lang.as_str())?;
+    }
+    assert!(rt; languages.as_slice() == ["@none", "en", "fr"].as_slice());
+    Ok(())
+}

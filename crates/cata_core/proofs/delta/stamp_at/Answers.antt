@@ -8,7 +8,7 @@ use Rattle.cata_core.specs.declared.summary.Told.{Told}
 use Rattle.cata_core.specs.Entries.{EntryKey, key_cmp}
 use Rattle.cata_core.specs.Told.{told_of}
 use Rattle.cata_core.proofs.Basics.{second_part}
-use Rattle.cata_core.proofs.ToldLists.{passed, first_found, first_absent, not_greater_self}
+use Rattle.cata_core.proofs.ToldLists.{passed, passed_found, first_found, first_absent, not_greater, not_greater_self}
 use Rattle.cata_core.proofs.delta.stamp_at.Goals as goal
 
 pub loop-first-preserved : goal.loop-first-preserved
@@ -39,3 +39,27 @@ pub returns-clause-stamp : goal.returns-clause-stamp
 returns-clause-stamp c =
     let key : EntryKey = (c.args.id.now, c.args.lang.now) in
     ap (λ (rest : List Told). find key_cmp key (told_of rest)) (sym (nil_from_length c.loop-first.rest.now c.in_default.ensures.cases)) ∙ c.loop-first.invariant.1 key (not_greater_self key)
+
+pub returns-in-Equal-clause-rest : goal.returns-in-Equal-clause-rest
+returns-in-Equal-clause-rest c =
+    let key : EntryKey = (c.args.id.now, c.args.lang.now) in
+    let k : EntryKey = (c.in-Some.first.now.id, c.in-Some.first.now.lang) in
+    let more = told_of c.in-Some.more.now in
+    let sorted = subst (λ (rest : List Told). IsMap key_cmp (told_of rest)) c.in-Some.ensures.cases.0 c.loop-first.invariant.0 in
+    record {
+      sorted = second_part (below_all key_cmp k more) (is_sorted key_cmp more) sorted;
+      same = λ q less. passed_found key k c.in-Some.first.now.stamp more (sym c.in-Equal.ensures) q less
+          ∙ ap (λ (rest : List Told). find key_cmp q (told_of rest)) (sym c.in-Some.ensures.cases.0) ∙ c.loop-first.invariant.1 q (not_greater less);
+    }
+
+pub returns-in-Greater-clause-rest : goal.returns-in-Greater-clause-rest
+returns-in-Greater-clause-rest c = record {
+  sorted = c.loop-first.invariant.0;
+  same = λ q less. c.loop-first.invariant.1 q (not_greater less);
+}
+
+pub returns-clause-rest : goal.returns-clause-rest
+returns-clause-rest c = record {
+  sorted = c.loop-first.invariant.0;
+  same = λ q less. c.loop-first.invariant.1 q (not_greater less);
+}

@@ -1,4 +1,4 @@
-use Rattle.std.proofs.Common.{◌≡◌, ◌∙◌, ap, subst, sym}
+use Rattle.std.proofs.Common.{◌∙◌, ap, subst, sym}
 use Rattle.std.specs.Prelude.{None, option_map}
 use Rattle.cata_core.specs.CellsLeft.{cells_left}
 use Rattle.cata_core.specs.Entries.{Entries}

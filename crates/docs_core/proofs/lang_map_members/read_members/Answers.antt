@@ -4,7 +4,6 @@ use Rattle.std.specs.Prelude.{option_map}
 use Rattle.json.specs.Json.{read_key, value}
 use Rattle.json.proofs.Grammar.{read_key-shorter}
 use Rattle.serde_json.specs.Data.{no_members, put}
-use Rattle.serde_json.specs.Read.{converted, of_json}
 use Rattle.docs_core.specs.LangMapRowsSeen.{rows_seen}
 use Rattle.docs_core.proofs.LangMapLabelsLemmas.{else_by}
 use Rattle.docs_core.proofs.LangMapMembersLemmas.{rows_inserted}
@@ -19,7 +18,7 @@ returns-in_err-name c =
     let inv = c.members.invariant in
     let why = c.in_err-name.ensures.read in
     let p = err_from_is_err_and c.from_residual.result c.from_residual.ensures.1 in
-    rw (p.1, p.2) (inr (why.0, inv.3 ∙ key_refused (value c.args.depth) inv.1 inv.0 c.members.reader why.1))
+    rw (p.1, p.2) (inr (why.0, inv.3 ∙ key_refused (value 126) inv.1 inv.0 c.members.reader why.1))
 
 pub returns-in_err-keys : goal.returns-in_err-keys
 returns-in_err-keys c =
@@ -28,7 +27,7 @@ returns-in_err-keys c =
     let named : read_key c.members.reader ≡ Some (Some c.in-Some.name.now, s) = c.in_ok-name.ensures.read ∙ ap (λ o. Some (option_map (λ t. t.now) o, s)) c.in-Some.is in
     let p = err_from_is_err_and c.from_residual-in_err-keys.result c.from_residual-in_err-keys.ensures.1 in
     rw (p.1, p.2)
-    (else_by c.in_err-keys.ensures.read (λ h. (h.0, inv.3 ∙ member_refused (value c.args.depth) inv.1 inv.0 c.in-Some.name.now c.members.reader s named (ap (converted of_json) h.1))))
+    (else_by c.in_err-keys.ensures.read (λ h. (h.0, inv.3 ∙ member_refused (value 126) inv.1 inv.0 c.in-Some.name.now c.members.reader s named h.1)))
 
 pub members-preserved : goal.members-preserved
 members-preserved c =
@@ -47,7 +46,7 @@ members-preserved c =
       n - 1,
       put k d old,
       omega (arith, inv.2, less, lesser),
-      inv.3 ∙ member_read (value c.args.depth) old n k c.members.reader s r d (omega (arith, inv.2, less)) named read.1,
+      inv.3 ∙ member_read (value 126) old n k c.members.reader s r d (omega (arith, inv.2, less)) named read.1,
       ap rows_seen c.in_ok-insert.ensures.entries ∙ rows_inserted c.members.rows.entries c.in_ok-name-2.name c.in_ok-keys.keys k d old inv.4 copied read.2,
       c.in_ok-keys.ensures.left,
     )
@@ -57,4 +56,4 @@ returns c =
     let inv = c.members.invariant in
     let s = c.next_name.new.reader in
     let over : read_key c.members.reader ≡ Some (None, s) = c.in_ok-name.ensures.read ∙ ap (λ o. Some (option_map (λ t. t.now) o, s)) c.in_default.is in
-    (inv.1, inv.3 ∙ members_over (value c.args.depth) inv.1 inv.0 c.members.reader s inv.2 over, inv.4)
+    (inv.1, inv.3 ∙ members_over (value 126) inv.1 inv.0 c.members.reader s inv.2 over, inv.4)

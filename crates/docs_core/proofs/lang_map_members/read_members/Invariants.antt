@@ -12,7 +12,7 @@ use Rattle.docs_core.proofs.lang_map_members.read_members.Given as goal
 abbrev pub invariant-members : goal.invariant-members
 invariant-members l =
     (n : ℕ) × (old : Members) × (length l.reader ≤ n)
-    × (members_in l.depth l.fn.reader ≡ converted (λ ms. of_members ms old) (members (value l.depth) n l.reader))
+    × (members_in 126 l.fn.reader ≡ converted (λ ms. of_members ms old) (members (value 126) n l.reader))
     × (rows_seen l.rows.entries ≡ rows_of old)
     × (are_in_range l.reader ≡ true)
 

@@ -1,7 +1,5 @@
-use Rattle.std.proofs.lemmas.Result.{err_from_is_err_and}
+use Rattle.docs_core.proofs.AsWrittenLemmas.{delta_read}
 use Rattle.docs_core.proofs.named.delta_from.Goals as goal
 
-pub returns-in_err-addressee : goal.returns-in_err-addressee
-returns-in_err-addressee c =
-    let p = err_from_is_err_and c.from_residual.result c.from_residual.ensures.1 in
-    rw (p.1, p.2) c.in_err-addressee.ensures.err
+pub returns-in-Some : goal.returns-in-Some
+returns-in-Some c = rw c.from_catalogue.ensures (delta_read c.args.bytes.now _ _ c.in-Some.ensures)

@@ -1,5 +1,5 @@
-use Rattle.std.proofs.Common.{◌∙◌, arith, refl, take, length-take}
-use Rattle.docs_core.proofs.Streams.{Consumes-behind, Consumes-keeps}
+use Rattle.std.proofs.Common.{◌∙◌, arith}
+use Rattle.docs_core.proofs.Streams.{Consumes-behind}
 use Rattle.docs_core.proofs.sources.read_all.Goals as goal
 
 -- what was read before, and what this read gave behind it

@@ -1,4 +1,4 @@
-use Rattle.std.proofs.Common.{◌≡◌, ◌∙◌, ℕ, List, subst}
+use Rattle.std.proofs.Common.{◌∙◌, ℕ, List, subst}
 use Rattle.cell_core.specs.Stamps.{NoNext}
 use Rattle.cata_core.specs.Last.{last_of}
 use Rattle.docs_core.specs.LangMaps.{labels_of}

@@ -1,0 +1,41 @@
+//! The entries of a summary, one by one.
+
+ghost use Rattle.std.specs.Iterator.{YieldsFirstBy, item_count};
+
+use crate::summary::Told;
+use cell_core::{MessageId, Stamp};
+use lang_core::Lang;
+
+/// Lends the keys of a summary, each with its stamp, in rising order of key.
+#[derive(Debug, Drop)]
+pub struct SummaryEntries<'a> {
+    told: &'a [Told],
+}
+
+impl<'a> SummaryEntries<'a> {
+    ghost use Rattle.std.specs.Prelude.{◌≡◌};
+    ghost use Rattle.cata_core.specs.Told.{told_of};
+    ghost use Rattle.cata_core.specs.StampsLeft.{stamps_left};
+
+    pub(crate) fn new(told: &'a [Told]) -> SummaryEntries<'a>
+        ensures { stamps_left result ≡ told_of told.now }
+    {
+        SummaryEntries { told }
+    }
+}
+
+impl<'a> Iterator for SummaryEntries<'a> {
+    type Item = (&'a MessageId, &'a Lang, Stamp);
+
+    ghost use Rattle.cata_core.specs.StampsLeft.{stamps_left};
+
+    ghost next_gives = { YieldsFirstBy (λ x. ((x.0.now, x.1.now), x.2)) stamps_left };
+
+    ghost remaining = { item_count stamps_left };
+
+    fn next(&mut self) -> Option<(&'a MessageId, &'a Lang, Stamp)> {
+        let (first, rest) = self.told.split_first()?;
+        self.told = rest;
+        Some((&first.id, &first.lang, first.stamp))
+    }
+}

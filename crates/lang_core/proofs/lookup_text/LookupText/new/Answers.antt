@@ -1,0 +1,27 @@
+use Rattle.std.proofs.Common.{◌≡◌, ◌∷◌, [], true, false, length, sym, ◌∙◌, ap, arith}
+use Rattle.lang_core.specs.Text.{pieces}
+use Rattle.lang_core.specs.Grammar.{is_star}
+use Rattle.lang_core.specs.Subtags.{subtags_left}
+use Rattle.lang_core.proofs.LookupLaws.{lookup_star, lookup_kept}
+use Rattle.lang_core.proofs.PiecesLaws.{some_pieces}
+use Rattle.lang_core.proofs.Stars.{star_only}
+use Rattle.lang_core.proofs.lookup_text.LookupText.new.Goals as goal
+
+pub unreachable-requires : goal.unreachable-requires
+unreachable-requires c =
+    let list : pieces c.args.range.now ≡ [] = sym c.new-subtags.ensures ∙ c.in-None.ensures.steps.0 in
+    let size : length (pieces c.args.range.now) ≡ 0 = ap length list in
+    let some = some_pieces c.args.range.now in
+    omega arith
+
+pub returns-then-is_star : goal.returns-then-is_star
+returns-then-is_star c =
+    let list : pieces c.args.range.now ≡ c.in-Some.first.now ∷ subtags_left c.next.new.self = sym c.new-subtags.ensures ∙ c.in-Some.ensures.steps in
+    let star : is_star c.in-Some.first.now ≡ true = ap is_star (sym c.as_bytes.ensures.value) ∙ (sym c.is_star.ensures ∙ c.if-is_star.true) in
+    sym (star_only c.in-Some.first.now star) ∙ lookup_star c.args.range.now c.in-Some.first.now (subtags_left c.next.new.self) list star
+
+pub returns-in_ok-text-in-Some : goal.returns-in_ok-text-in-Some
+returns-in_ok-text-in-Some c =
+    let list : pieces c.args.range.now ≡ c.in-Some.first.now ∷ subtags_left c.next.new.self = sym c.new-subtags.ensures ∙ c.in-Some.ensures.steps in
+    let kept : is_star c.in-Some.first.now ≡ false = ap is_star (sym c.as_bytes.ensures.value) ∙ (sym c.is_star.ensures ∙ c.if-is_star.false) in
+    c.in_ok-text-in-Some.ensures ∙ lookup_kept c.args.range.now c.in-Some.first.now (subtags_left c.next.new.self) list kept

@@ -1,0 +1,100 @@
+//! The items of a long list in chains, of which a tag has to ask a few: each subtag of a range but
+//! "*" has to stand in the tag (RFC 4647 section 3.3.2), so a range in the chain of one of its
+//! subtags does not match where no subtag of the tag has this chain.
+ghost use Rattle.std.specs.Prelude.{ℕ, ◌≡◌, ◌<◌, length, slice_index, IfOk};
+ghost use Rattle.lang_core.specs.Text.{pieces};
+ghost use Rattle.nego_core.specs.Chains.{fingerprint_of, chain_of, MayStandIn, AreNumbers, AreLinks, AreChains};
+
+use crate::item::Item;
+use lang_core::Range;
+use std::alloc::{AllocError, Global};
+
+/// How many chains there are for subtags. The last chain, after them, is of the ranges that have
+/// no subtag other than "*".
+pub(crate) const LAST: usize = 1024;
+
+const CHAINS: usize = LAST + 1;
+
+/// Places in chains, each in rising order. What follows the last of a chain is the number of
+/// places.
+#[derive(Drop)]
+pub(crate) struct Chains {
+    /// The first place of each chain.
+    pub(crate) first: Vec<usize>,
+    /// What follows each place in its chain.
+    pub(crate) next: Vec<usize>,
+}
+
+/// The items in chains. Of those in which a range may stand it is put into the shortest, so that
+/// a list whose ranges share a subtag stands in as many chains as their other subtags give.
+pub(crate) fn chains_of(alloc: Global, items: &[Item]) -> Result<Chains, AllocError>
+    ensures { IfOk result (AreChains items.now) }
+{
+    let numbers = numbers_of(alloc, items)?;
+    linked(alloc, &numbers)
+}
+
+/// For each item the number of its chain.
+fn numbers_of(alloc: Global, items: &[Item]) -> Result<Vec<usize>, AllocError>
+    ensures { IfOk result (λ numbers. AreNumbers items.now (length items.now) numbers.items) }
+{
+    let mut lengths = [0usize; CHAINS];
+    let mut numbers = Vec::with_capacity(alloc, items.len())?;
+    for item in items {
+        let number = shortest_for(&lengths, item.range());
+        lengths[number] = lengths[number].wrapping_add(1);
+        numbers.push(number)?;
+    }
+    Ok(numbers)
+}
+
+/// The shortest chain in which the range may stand.
+fn shortest_for(lengths: &[usize; CHAINS], range: &Range) -> usize
+    ensures may { MayStandIn (pieces range.now) result }
+    ensures within { result < 1025 }
+{
+    let mut shortest = LAST;
+    for subtag in range.subtags() {
+        if subtag != "*" {
+            let chain = chain_of(subtag);
+            if shortest == LAST || lengths[chain] < lengths[shortest] {
+                shortest = chain;
+            }
+        }
+    }
+    shortest
+}
+
+/// The chains of places that have these numbers.
+fn linked(alloc: Global, numbers: &[usize]) -> Result<Chains, AllocError>
+    requires { (k : ℕ) → k < length numbers.now → slice_index numbers.now k < 1025 }
+    ensures { IfOk result (AreLinks numbers.now) }
+{
+    let end = numbers.len();
+    let mut first = Vec::from_elem(alloc, end, CHAINS)?;
+    let mut next = Vec::from_elem(alloc, end, end)?;
+    for place in (0..end).rev() {
+        let chain = numbers[place];
+        next[place] = first[chain];
+        first[chain] = place;
+    }
+    Ok(Chains { first, next })
+}
+
+/// The chain of a subtag.
+pub(crate) fn chain_of(subtag: &str) -> usize
+    ensures chain { result ≡ chain_of subtag.now }
+    ensures within { result < 1024 }
+{
+    usize::from(fingerprint_of(subtag.as_bytes()) % 1024)
+}
+
+#[tactic(auto, unfolding(crate::specs::Chains::fingerprint_of))]
+fn fingerprint_of(subtag: &[u8]) -> u16
+    ensures { result ≡ fingerprint_of subtag.now }
+{
+    subtag.iter().fold(
+        0u16,
+        |fingerprint, byte| fingerprint.wrapping_mul(31).wrapping_add(u16::from(*byte)),
+    )
+}
