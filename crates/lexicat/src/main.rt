@@ -1,25 +1,10 @@
-//! `lexicat`: language negotiation on the command line.
+//! `lexicat`: labels in many languages on the command line.
 #![tactic(auto)]
 
 ghost use Rattle.std.specs.Prelude.{◌≡◌, false};
 
-mod act;
-mod answer;
-mod arguments;
-mod commands;
-mod fault_line;
-mod given;
-mod input;
-mod printing;
-mod refusal;
-mod run;
-mod status;
-mod verb;
-mod wording;
-
+use command_core::{refuse_for_memory, run, status};
 use docs_core::{Input, Output, Sink, write_out};
-use fault_line::refuse_for_memory;
-use run::run;
 use std::env::Env;
 use std::process::ExitCode;
 use std::{env, io};
@@ -58,6 +43,3 @@ fn words_of(rt: &(impl Env + AllocGlobal)) -> io::Result<Vec<String>> {
     let words = env::args(rt)?.skip(1).collect(rt.alloc())?;
     Ok(words)
 }
-
-#[cfg(test)]
-mod tests;

@@ -64,6 +64,23 @@ fr-Latn-FR-1990|5 1000",
     )
 }
 
+/// 20 items, most of which end alike: doubles at 0 and 17; "*" at 18.
+const ALIKE: &str =
+    "aa-*-zz, bb-*-zz, cc-*-zz, dd-*-zz, ee-*-zz, ff-*-zz, gg-*-zz, hh-*-zz, ii-*-zz, jj-*-zz, kk-*-zz, ll-*-zz, mm-*-zz, nn-*-zz, oo-*-zz, pp-*-zz, *-Latn-zz, aa-*-zz, *, *-*";
+
+#[test]
+fn decided_among_ranges_that_end_alike(rt: HostRuntime) -> Result<(), Fail> {
+    let list = ranges(&rt, ALIKE)?;
+    decides(
+        &rt,
+        &list,
+        Scheme::Extended,
+        "cc-ZZ|2 1000\ncc-Latn-ZZ|2 1000\nqq-Latn-ZZ|16 1000\nqq-ZZ|18 1000\naa-Cyrl-ZZ|0 1000
+aa-x-zz|18 1000\ncc-Latn-AQ|18 1000",
+    )?;
+    decides(&rt, &list, Scheme::Basic, "cc-ZZ|18 1000")
+}
+
 #[test]
 fn filtered(rt: HostRuntime) -> Result<(), Fail> {
     picks(

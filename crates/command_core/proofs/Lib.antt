@@ -1,0 +1,5 @@
+pub mod ActsLemmas
+pub mod AppLemmas
+pub mod GivenLemmas
+pub mod ProgramLemmas
+pub mod TaskLemmas

@@ -1,0 +1,31 @@
+-- From what clap says of the words to what the program does.
+use Rattle.std.proofs.Common.{◌≡◌, ℕ, List, Bool, Option, [], ◌∷◌, inl, inr, codes, map, refl, Result, Ok, Err}
+use Rattle.std.specs.Prelude.{◌⊎◌, IsErrAnd}
+use Rattle.clap.specs.Words.{Row, Text, kind_of}
+use Rattle.clap.specs.Kinds.{Kinds, HasKind}
+use Rattle.clap.specs.declared.error.Error.{Error}
+use Rattle.clap.specs.declared.error.kind.ErrorKind.TheVariants.{OutOfMemory}
+use Rattle.clap.specs.declared.parser.matches.ArgMatches.{ArgMatches}
+use Rattle.command_core.specs.Endings.{Ends}
+use Rattle.command_core.specs.Program.{Does, MatchesBy, TellsBy}
+use Rattle.command_core.specs.Words.{Schemes, lexicat_app}
+
+-- where memory ends before clap is asked
+pub no_memory : (schemes : Schemes) → map (λ s. s.now) schemes.now ≡ codes "basic" ∷ codes "extended" ∷ [] → (words : List Text) (r : Result ArgMatches Error)
+    → IsErrAnd r (λ e. kind_of e ≡ OutOfMemory) → MatchesBy words r
+no_memory schemes are words (Ok matches) h = absurd h
+no_memory schemes are words (Err error) h = record {
+  app = lexicat_app schemes;
+  app_ok = record { schemes = schemes; scheme_words = are; app_is = refl };
+  matches = tt;
+  fails = inl h;
+}
+
+-- where clap finds a fault, it is told, or memory ran out
+pub told : {R W : Type 0} (remaining : R → Option (List ℕ)) (broken : R → Bool) (contents : W → Option (List ℕ)) (failed : W → Bool) (kinds : Kinds) (met : Option (Text × List Row)) (error : Error)
+    (r : R) (old new : W) (status : ℕ) → HasKind kinds error → TellsBy contents failed (kind_of error) old new status
+    → Does remaining broken contents failed kinds met r r old new status ⊎ ((r ≡ r) × Ends contents failed 5 old new status)
+told remaining broken contents failed kinds met error r old new status has (inl memory) = inr (refl, memory)
+told remaining broken contents failed kinds met error r old new status (inl memory) (inr tells) = absurd (tells.0 memory)
+told remaining broken contents failed [] met error r old new status (inr among) (inr tells) = absurd among
+told remaining broken contents failed (k ∷ ks) met error r old new status (inr among) (inr tells) = inl (refl, (kind_of error, among, tells.1))

@@ -1,0 +1,52 @@
+-- What the program does with its words (own rules).
+use Rattle.std.specs.Prelude.{◌≡◌, ◌≢◌, ◌⊎◌, ℕ, Bool, true, false, List, [], ◌∷◌, Option, codes, map, IfOk, MatchBool, Result}
+use Rattle.clap.specs.Words.{App, Row, Text, fault_of, subcommand_of, subcommand_rows_of, FailsBy}
+use Rattle.clap.specs.Kinds.{Kinds, IsAmong}
+use Rattle.clap.specs.declared.error.Error.{Error}
+use Rattle.clap.specs.declared.error.kind.ErrorKind.{ErrorKind}
+use Rattle.clap.specs.declared.error.kind.ErrorKind.TheVariants.{DisplayHelp, DisplayVersion, OutOfMemory}
+use Rattle.clap.specs.declared.parser.matches.ArgMatches.{ArgMatches}
+use Rattle.docs_core.specs.Sinks.{AppendsFront}
+use Rattle.command_core.specs.Acts.{ActsBy}
+use Rattle.command_core.specs.Endings.{Ends}
+use Rattle.command_core.specs.Words.{Schemes, lexicat_app}
+
+-- help and the version are answers, and no faults
+abbrev pub is_shown : ErrorKind → Bool
+is_shown DisplayHelp = true
+is_shown DisplayVersion = true
+is_shown _ = false
+
+-- the command line of the program
+pub record IsProgram (app : App) : Type 0 where
+  pub schemes : Schemes
+  pub scheme_words : map (λ s. s.now) schemes.now ≡ codes "basic" ∷ codes "extended" ∷ []
+  pub app_is : app ≡ lexicat_app schemes
+
+-- what clap makes of the words: at a command of the program, the matches that it has on them, or a fault of the kinds that it finds in them
+pub record MatchesBy (words : List Text) (result : Result ArgMatches Error) : Type 0 where
+  pub app : App
+  pub app_ok : IsProgram app
+  pub matches : IfOk result (λ m. subcommand_rows_of m ≡ subcommand_of app words)
+  pub fails : FailsBy (fault_of app words) result
+
+module _ {W : Type 0} (contents : W → Option (List ℕ)) (failed : W → Bool) where
+  -- help and the version are written out; of any other fault in the words the output has nothing
+  abbrev pub Tells : ErrorKind → W → W → ℕ → Type 0
+  Tells kind old new status = MatchBool (is_shown kind) ((status ≡ 0) × ((text : List ℕ) × AppendsFront (contents old) (contents new) text)) (Ends contents failed 2 old new status)
+
+  -- the same, unless memory runs out
+  abbrev pub TellsBy : ErrorKind → W → W → ℕ → Type 0
+  TellsBy kind old new status = Ends contents failed 5 old new status ⊎ ((kind ≢ OutOfMemory) × Tells kind old new status)
+
+module _ {R W : Type 0} (remaining : R → Option (List ℕ)) (broken : R → Bool) (contents : W → Option (List ℕ)) (failed : W → Bool) where
+  -- what is done at these words, by the kinds of fault that clap finds in them and the command that it meets
+  abbrev pub Does : Kinds → Option (Text × List Row) → R → R → W → W → ℕ → Type 0
+  Does [] met r r' w w' status = ActsBy remaining broken contents failed met r r' w w' status
+  Does (k ∷ ks) met r r' w w' status = (r' ≡ r) × ((kind : ErrorKind) × IsAmong kind (k ∷ ks) × Tells contents failed kind w w' status)
+
+  -- what is asked is done, unless memory runs out
+  pub record RunsBy (words : List Text) (r r' : R) (w w' : W) (status : ℕ) : Type 0 where
+    pub app : App
+    pub app_ok : IsProgram app
+    pub done : Does (fault_of app words) (subcommand_of app words) r r' w w' status ⊎ ((r' ≡ r) × Ends contents failed 5 w w' status)

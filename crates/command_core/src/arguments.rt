@@ -1,0 +1,142 @@
+//! The arguments of the commands, each with its rule.
+ghost use Rattle.std.specs.Prelude.{◌≡◌, false};
+ghost use Rattle.clap.specs.Words.{rule_of};
+ghost use Rattle.command_core.specs.Words.{default_rule, field_rule, id_rule, lang_rule, lenient_rule, now_rule, ranges_rule, scheme_rule, site_rule, tags_rule, texts_rule};
+
+use clap::{Arg, ArgAction, value_parser};
+use std::alloc::Global;
+
+/// `--scheme`, one of the words of the schemes.
+pub(crate) fn scheme<'a>(alloc: Global, schemes: &'a [&'a str]) -> Arg<'a>
+    ensures rule { rule_of result ≡ scheme_rule schemes.entry }
+    ensures local { result.global ≡ false }
+{
+    Arg::new(alloc, "scheme")
+        .long("scheme")
+        .value_name("SCHEME")
+        .help("How the ranges are read: with weights (basic), or with * anywhere (extended)")
+        .value_parser(schemes)
+}
+
+/// `--lenient`, which takes no value.
+pub(crate) fn lenient<'a>(alloc: Global) -> Arg<'a>
+    ensures rule { rule_of result ≡ lenient_rule }
+    ensures local { result.global ≡ false }
+{
+    Arg::new(alloc, "lenient")
+        .long("lenient")
+        .help(
+            "Pass over malformed elements of the ranges, also one that would refuse a language, as de;q=0.0000",
+        )
+        .action(ArgAction::SetTrue)
+}
+
+/// RANGES, a priority list of language ranges.
+pub(crate) fn ranges<'a>(alloc: Global) -> Arg<'a>
+    ensures rule { rule_of result ≡ ranges_rule }
+    ensures local { result.global ≡ false }
+{
+    Arg::new(alloc, "ranges")
+        .value_name("RANGES")
+        .help("Language ranges with commas between them, as in Accept-Language")
+        .required(true)
+}
+
+/// TAG.., the languages that there are.
+pub(crate) fn tags<'a>(alloc: Global) -> Arg<'a>
+    ensures rule { rule_of result ≡ tags_rule }
+    ensures local { result.global ≡ false }
+{
+    Arg::new(alloc, "tags")
+        .value_name("TAG")
+        .help("The languages to pick from")
+        .required(true)
+        .num_args(1..)
+        .action(ArgAction::Append)
+}
+
+/// `--now`, the moment of an edit.
+pub(crate) fn now<'a>(alloc: Global) -> Arg<'a>
+    ensures rule { rule_of result ≡ now_rule }
+    ensures local { result.global ≡ false }
+{
+    Arg::new(alloc, "now")
+        .long("now")
+        .value_name("N")
+        .help("The moment of the edit, a whole number; by custom milliseconds since 1970")
+        .required(true)
+        .value_parser(value_parser!(u64))
+}
+
+/// `--site`, the name of a site.
+pub(crate) fn site<'a>(alloc: Global) -> Arg<'a>
+    ensures rule { rule_of result ≡ site_rule }
+    ensures local { result.global ≡ false }
+{
+    Arg::new(alloc, "site")
+        .long("site")
+        .value_name("NAME")
+        .help("The site's name: 1 to 16 of a to z, 0 to 9 and \"-\"")
+        .required(true)
+}
+
+/// `--id`, the id of a message.
+pub(crate) fn id<'a>(alloc: Global) -> Arg<'a>
+    ensures rule { rule_of result ≡ id_rule }
+    ensures local { result.global ≡ false }
+{
+    Arg::new(alloc, "id")
+        .long("id")
+        .value_name("ID")
+        .help("The message: 1 to 128 bytes, with no control character and no \"@\" first")
+        .required(true)
+}
+
+/// `--lang`, the language of a label.
+pub(crate) fn lang<'a>(alloc: Global) -> Arg<'a>
+    ensures rule { rule_of result ≡ lang_rule }
+    ensures local { result.global ≡ false }
+{
+    Arg::new(alloc, "lang")
+        .long("lang")
+        .value_name("LANG")
+        .help("A language tag, or @none")
+        .required(true)
+}
+
+/// `--default`, the language that a lookup or a pick falls back to.
+pub(crate) fn default<'a>(alloc: Global) -> Arg<'a>
+    ensures rule { rule_of result ≡ default_rule }
+    ensures local { result.global ≡ false }
+{
+    Arg::new(alloc, "default")
+        .long("default")
+        .value_name("LANG")
+        .help(
+            "The language to answer where nothing fits, if it is there and the ranges do not refuse it",
+        )
+}
+
+/// FIELD, a priority list of language ranges.
+pub(crate) fn field<'a>(alloc: Global) -> Arg<'a>
+    ensures rule { rule_of result ≡ field_rule }
+    ensures local { result.global ≡ false }
+{
+    Arg::new(alloc, "field")
+        .value_name("FIELD")
+        .help("Language ranges with commas between them, as in Accept-Language")
+        .required(true)
+}
+
+/// TEXT.., the texts of a label.
+pub(crate) fn texts<'a>(alloc: Global) -> Arg<'a>
+    ensures rule { rule_of result ≡ texts_rule }
+    ensures local { result.global ≡ false }
+{
+    Arg::new(alloc, "texts")
+        .value_name("TEXT")
+        .help("The texts of the label, 1 to 64")
+        .required(true)
+        .num_args(1..)
+        .action(ArgAction::Append)
+}

@@ -1,0 +1,110 @@
+//! The command line: the program with its subcommands, each of which stands in a file of its own.
+ghost use Rattle.std.specs.Prelude.{◌≡◌, IfOk};
+ghost use Rattle.clap.specs.Words.{app_of};
+ghost use Rattle.command_core.specs.Words.{bare_app, lexicat_app, with_site_commands, with_label_commands, with_questions, with_exchange_commands};
+
+pub(crate) mod bundle;
+pub(crate) mod delete;
+pub(crate) mod delta;
+pub(crate) mod export;
+pub(crate) mod filter;
+pub(crate) mod import;
+pub(crate) mod lookup;
+pub(crate) mod missing;
+pub(crate) mod new;
+pub(crate) mod pick;
+pub(crate) mod put;
+pub(crate) mod replay;
+pub(crate) mod status;
+pub(crate) mod summary;
+pub(crate) mod sync;
+pub(crate) mod take;
+pub(crate) mod update;
+
+use clap::Command;
+use std::alloc::{AllocError, Global};
+
+/// The version that `--version` tells.
+const VERSION: &str = "0.2.0";
+
+/// The program and all its commands.
+pub(crate) fn lexicat<'a>(alloc: Global, schemes: &'a [&'a str]) -> Result<Command<'a>, AllocError>
+    ensures { IfOk result (λ c. app_of c ≡ lexicat_app schemes.entry) }
+{
+    let bare = bare(alloc)?;
+    let sites = site_commands(alloc, schemes, bare)?;
+    let labels = label_commands(alloc, sites)?;
+    let questions = questions(alloc, schemes, labels)?;
+    exchange_commands(alloc, questions)
+}
+
+/// The program without its commands.
+fn bare<'a>(alloc: Global) -> Result<Command<'a>, AllocError>
+    ensures { IfOk result (λ c. app_of c ≡ bare_app) }
+{
+    Command::new(alloc, "lexicat")
+        .about(
+            "Keeps labels in many languages at several sites, and picks the one that a reader wants",
+        )
+        .after_help(
+            "It reads standard input and writes standard output. 'lexicat help COMMAND' has an example of each command; they run one after another, in the order above.\nA line 'refused N: TEXT' is refusal N of the table in 'man lexicat', under DIAGNOSTICS.",
+        )
+        .version(VERSION)
+        .no_binary_name(true)
+        .subcommand_required(true)
+        .disable_help_subcommand(true)
+        .bin_name("lexicat")
+}
+
+/// Adds the commands that pick, and that begin and edit a site.
+fn site_commands<'a>(
+    alloc: Global,
+    schemes: &'a [&'a str],
+    command: Command<'a>,
+) -> Result<Command<'a>, AllocError>
+    ensures { IfOk result (λ c. app_of c ≡ with_site_commands schemes.entry (app_of command.entry)) }
+{
+    command
+        .subcommand(pick::command(alloc, schemes)?)?
+        .subcommand(new::command(alloc)?)?
+        .subcommand(put::command(alloc)?)?
+        .subcommand(delete::command(alloc)?)?
+        .subcommand(status::command(alloc))
+}
+
+/// Adds the commands that bring labels in and out.
+fn label_commands<'a>(alloc: Global, command: Command<'a>) -> Result<Command<'a>, AllocError>
+    ensures { IfOk result (λ c. app_of c ≡ with_label_commands (app_of command.entry)) }
+{
+    command
+        .subcommand(import::command(alloc)?)?
+        .subcommand(update::command(alloc)?)?
+        .subcommand(export::command(alloc))?
+        .subcommand(missing::command(alloc)?)
+}
+
+/// Adds the commands that ask for labels.
+fn questions<'a>(
+    alloc: Global,
+    schemes: &'a [&'a str],
+    command: Command<'a>,
+) -> Result<Command<'a>, AllocError>
+    ensures { IfOk result (λ c. app_of c ≡ with_questions schemes.entry (app_of command.entry)) }
+{
+    command
+        .subcommand(filter::command(alloc, schemes)?)?
+        .subcommand(lookup::command(alloc, schemes)?)?
+        .subcommand(bundle::command(alloc, schemes)?)
+}
+
+/// Adds the commands by which sites exchange what they hold, and the one that replays a script.
+fn exchange_commands<'a>(alloc: Global, command: Command<'a>) -> Result<Command<'a>, AllocError>
+    ensures { IfOk result (λ c. app_of c ≡ with_exchange_commands (app_of command.entry)) }
+{
+    command
+        .subcommand(summary::command(alloc))?
+        .subcommand(delta::command(alloc))?
+        .subcommand(take::command(alloc))?
+        .subcommand(sync::command(alloc))?
+        .subcommand(replay::command(alloc))
+}

@@ -1,0 +1,68 @@
+//! The command `bundle`.
+ghost use Rattle.std.specs.Prelude.{◌≡◌, false, option_map, IfOk, MatchResult};
+ghost use Rattle.clap.specs.Words.{app_of, found_of, rows_of};
+ghost use Rattle.clap.specs.declared.builder.command.Command.TheViews.{out-Command};
+ghost use Rattle.command_core.specs.Asked.{bundle_asked};
+ghost use Rattle.command_core.specs.Acts.{FitsBundle, BarsBundle, IsBundle, RefusesOnly};
+ghost use Rattle.command_core.specs.AskWords.{bundle_words};
+ghost use Rattle.command_core.specs.Reading.{AnswersInput, RefusesInput};
+ghost use Rattle.command_core.specs.Words.{bundle_app};
+
+use crate::answer::Answer;
+use crate::arguments;
+use crate::given::{bytes_given, field_of};
+use crate::refusal::Refusal;
+use clap::{ArgMatches, Command};
+use docs_core::{Source, read_all, read_site};
+use front_core::{Field, Preferences};
+use std::alloc::{AllocError, Global};
+
+/// `bundle [--scheme SCHEME] [--lenient] [--default LANG] FIELD`
+pub(crate) fn command<'a>(alloc: Global, schemes: &'a [&'a str]) -> Result<Command<'a>, AllocError>
+    ensures app { IfOk result (λ c. app_of c ≡ bundle_app schemes.entry) }
+    ensures local { IfOk result (λ c. (out-Command c).has_globals ≡ false) }
+{
+    Command::new(alloc, "bundle")
+        .about("Prints for each message the one label that a reader gets, as language maps")
+        .after_help(
+            "Reads a site document. Of each message it is the label that lookup answers; a message for which lookup answers nothing is left out.\nExample: lexicat bundle --default en \"fr-CA, de;q=0.5\" < three.json",
+        )
+        .arg(arguments::scheme(alloc, schemes))?
+        .arg(arguments::lenient(alloc))?
+        .arg(arguments::default(alloc))?
+        .arg(arguments::field(alloc))
+}
+
+/// What the words of `bundle` ask.
+#[derive(Clone, Copy)]
+pub(crate) struct Asked<'a> {
+    field: Field<'a>,
+    default: Option<&'a [u8]>,
+}
+
+/// What is asked, where no word is missing.
+pub(crate) fn asked_of<'a>(given: &ArgMatches<'a>) -> Option<Asked<'a>>
+    ensures { option_map bundle_asked result ≡ bundle_words (rows_of (found_of given.now)) }
+{
+    let field = field_of(given, "field")?;
+    let default = bytes_given(given, "default");
+    Some(Asked { field, default })
+}
+
+/// The labels that one reader gets of the site of the input, as language maps.
+pub(crate) fn answer_of<R: Source>(
+    alloc: Global,
+    asked: Asked<'_>,
+    reader: &mut R,
+) -> Result<Answer, Refusal>
+    requires { R.failed reader.old ≡ false }
+    ensures { let words = bundle_asked asked.entry in MatchResult result
+        (λ answer. AnswersInput R.remaining R.failed (IsBundle words) reader.old reader.new answer.text answer.status)
+        (RefusesInput R.remaining R.failed (FitsBundle words) (BarsBundle words) RefusesOnly reader.old reader.new) }
+{
+    let question = Preferences::read(alloc, asked.field, asked.default)?;
+    let input = read_all(alloc, reader)?;
+    let site = read_site(alloc, input.bytes())?;
+    let answer = question.bundle(alloc, &site)?;
+    Ok(Answer::of(answer))
+}

@@ -1,0 +1,69 @@
+//! The command `delete`.
+ghost use Rattle.std.specs.Prelude.{◌≡◌, false, option_map, IfOk, MatchResult};
+ghost use Rattle.clap.specs.Words.{app_of, found_of, rows_of};
+ghost use Rattle.clap.specs.declared.builder.command.Command.TheViews.{out-Command};
+ghost use Rattle.command_core.specs.Asked.{delete_asked};
+ghost use Rattle.command_core.specs.Acts.{FitsDelete, BarsDelete, IsDeletion, RefusesDeletion};
+ghost use Rattle.command_core.specs.EditWords.{delete_words};
+ghost use Rattle.command_core.specs.Reading.{AnswersInput, RefusesInput};
+ghost use Rattle.command_core.specs.Words.{delete_app};
+
+use crate::answer::Answer;
+use crate::arguments;
+use crate::given::text_of;
+use crate::refusal::Refusal;
+use crate::wording::read_key;
+use clap::{ArgMatches, Command};
+use docs_core::{Source, edit_document, read_all};
+use std::alloc::{AllocError, Global};
+
+/// `delete --now N --id ID --lang LANG`
+pub(crate) fn command<'a>(alloc: Global) -> Result<Command<'a>, AllocError>
+    ensures app { IfOk result (λ c. app_of c ≡ delete_app) }
+    ensures local { IfOk result (λ c. (out-Command c).has_globals ≡ false) }
+{
+    Command::new(alloc, "delete")
+        .about("Deletes a label of a site, with a new stamp")
+        .after_help(
+            "Reads a site document and prints the new one. The deletion is kept, so that no older label comes back.\nExample: lexicat delete --now 6 --id greeting --lang en < one.json > two.json",
+        )
+        .arg(arguments::now(alloc))?
+        .arg(arguments::id(alloc))?
+        .arg(arguments::lang(alloc))
+}
+
+/// What the words of `delete` ask.
+#[derive(Clone, Copy)]
+pub(crate) struct Asked<'a> {
+    now: u64,
+    id: &'a str,
+    lang: &'a str,
+}
+
+/// What is asked, where no word is missing.
+pub(crate) fn asked_of<'a>(now: Option<u64>, given: &ArgMatches<'a>) -> Option<Asked<'a>>
+    ensures { option_map delete_asked result
+        ≡ delete_words now (rows_of (found_of given.now)) }
+{
+    let now = now?;
+    let id = text_of(given, "id")?;
+    let lang = text_of(given, "lang")?;
+    Some(Asked { now, id, lang })
+}
+
+/// The site of the input with the label deleted.
+pub(crate) fn answer_of<R: Source>(
+    alloc: Global,
+    asked: Asked<'_>,
+    reader: &mut R,
+) -> Result<Answer, Refusal>
+    requires { R.failed reader.old ≡ false }
+    ensures { let words = delete_asked asked.entry in MatchResult result
+        (λ answer. AnswersInput R.remaining R.failed (IsDeletion words) reader.old reader.new answer.text answer.status)
+        (RefusesInput R.remaining R.failed (FitsDelete words) (BarsDelete words) (RefusesDeletion words) reader.old reader.new) }
+{
+    let key = read_key(alloc, asked.id, asked.lang)?;
+    let site = read_all(alloc, reader)?;
+    let text = edit_document(alloc, site.bytes(), asked.now, &key.id, &key.lang, None)?;
+    Ok(Answer::document(text))
+}

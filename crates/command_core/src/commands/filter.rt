@@ -1,0 +1,68 @@
+//! The command `filter`.
+ghost use Rattle.std.specs.Prelude.{◌≡◌, false, option_map, IfOk, MatchResult};
+ghost use Rattle.clap.specs.Words.{app_of, found_of, rows_of};
+ghost use Rattle.clap.specs.declared.builder.command.Command.TheViews.{out-Command};
+ghost use Rattle.command_core.specs.Asked.{filter_asked};
+ghost use Rattle.command_core.specs.Acts.{FitsFilter, BarsFilter, IsFilter, RefusesOnly};
+ghost use Rattle.command_core.specs.AskWords.{filter_words};
+ghost use Rattle.command_core.specs.Reading.{AnswersInput, RefusesInput};
+ghost use Rattle.command_core.specs.Words.{filter_app};
+
+use crate::answer::Answer;
+use crate::arguments;
+use crate::given::{bytes_given, field_of};
+use crate::refusal::Refusal;
+use clap::{ArgMatches, Command};
+use docs_core::{Source, read_all, read_site};
+use front_core::{Field, Filter};
+use std::alloc::{AllocError, Global};
+
+/// `filter --id ID [--scheme SCHEME] [--lenient] FIELD`
+pub(crate) fn command<'a>(alloc: Global, schemes: &'a [&'a str]) -> Result<Command<'a>, AllocError>
+    ensures app { IfOk result (λ c. app_of c ≡ filter_app schemes.entry) }
+    ensures local { IfOk result (λ c. (out-Command c).has_globals ≡ false) }
+{
+    Command::new(alloc, "filter")
+        .about("Prints the labels of a message whose languages fit, best first")
+        .after_help(
+            "Reads a site document.\nExample: lexicat filter --id greeting \"fr;q=0.5, en\" < three.json",
+        )
+        .arg(arguments::id(alloc))?
+        .arg(arguments::scheme(alloc, schemes))?
+        .arg(arguments::lenient(alloc))?
+        .arg(arguments::field(alloc))
+}
+
+/// What the words of `filter` ask.
+#[derive(Clone, Copy)]
+pub(crate) struct Asked<'a> {
+    id: &'a [u8],
+    field: Field<'a>,
+}
+
+/// What is asked, where no word is missing.
+pub(crate) fn asked_of<'a>(given: &ArgMatches<'a>) -> Option<Asked<'a>>
+    ensures { option_map filter_asked result ≡ filter_words (rows_of (found_of given.now)) }
+{
+    let id = bytes_given(given, "id")?;
+    let field = field_of(given, "field")?;
+    Some(Asked { id, field })
+}
+
+/// The lines of the filter over the site of the input.
+pub(crate) fn answer_of<R: Source>(
+    alloc: Global,
+    asked: Asked<'_>,
+    reader: &mut R,
+) -> Result<Answer, Refusal>
+    requires { R.failed reader.old ≡ false }
+    ensures { let words = filter_asked asked.entry in MatchResult result
+        (λ answer. AnswersInput R.remaining R.failed (IsFilter words) reader.old reader.new answer.text answer.status)
+        (RefusesInput R.remaining R.failed (FitsFilter words) (BarsFilter words) RefusesOnly reader.old reader.new) }
+{
+    let question = Filter::read(alloc, asked.id, asked.field)?;
+    let input = read_all(alloc, reader)?;
+    let site = read_site(alloc, input.bytes())?;
+    let answer = question.lines(alloc, &site)?;
+    Ok(Answer::of(answer))
+}

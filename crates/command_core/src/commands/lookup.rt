@@ -1,0 +1,71 @@
+//! The command `lookup`.
+ghost use Rattle.std.specs.Prelude.{◌≡◌, false, option_map, IfOk, MatchResult};
+ghost use Rattle.clap.specs.Words.{app_of, found_of, rows_of};
+ghost use Rattle.clap.specs.declared.builder.command.Command.TheViews.{out-Command};
+ghost use Rattle.command_core.specs.Asked.{lookup_asked};
+ghost use Rattle.command_core.specs.Acts.{FitsLookup, BarsLookup, IsLookup, RefusesOnly};
+ghost use Rattle.command_core.specs.AskWords.{lookup_words};
+ghost use Rattle.command_core.specs.Reading.{AnswersInput, RefusesInput};
+ghost use Rattle.command_core.specs.Words.{lookup_app};
+
+use crate::answer::Answer;
+use crate::arguments;
+use crate::given::{bytes_given, field_of};
+use crate::refusal::Refusal;
+use clap::{ArgMatches, Command};
+use docs_core::{Source, read_all, read_site};
+use front_core::{Field, Lookup};
+use std::alloc::{AllocError, Global};
+
+/// `lookup --id ID [--scheme SCHEME] [--lenient] [--default LANG] FIELD`
+pub(crate) fn command<'a>(alloc: Global, schemes: &'a [&'a str]) -> Result<Command<'a>, AllocError>
+    ensures app { IfOk result (λ c. app_of c ≡ lookup_app schemes.entry) }
+    ensures local { IfOk result (λ c. (out-Command c).has_globals ≡ false) }
+{
+    Command::new(alloc, "lookup")
+        .about("Prints the one label of a message that fits best, or the default's, or nothing")
+        .after_help(
+            "Reads a site document.\nExample: lexicat lookup --id greeting --default en \"da, fr;q=0.5\" < three.json",
+        )
+        .arg(arguments::id(alloc))?
+        .arg(arguments::scheme(alloc, schemes))?
+        .arg(arguments::lenient(alloc))?
+        .arg(arguments::default(alloc))?
+        .arg(arguments::field(alloc))
+}
+
+/// What the words of `lookup` ask.
+#[derive(Clone, Copy)]
+pub(crate) struct Asked<'a> {
+    id: &'a [u8],
+    field: Field<'a>,
+    default: Option<&'a [u8]>,
+}
+
+/// What is asked, where no word is missing.
+pub(crate) fn asked_of<'a>(given: &ArgMatches<'a>) -> Option<Asked<'a>>
+    ensures { option_map lookup_asked result ≡ lookup_words (rows_of (found_of given.now)) }
+{
+    let id = bytes_given(given, "id")?;
+    let field = field_of(given, "field")?;
+    let default = bytes_given(given, "default");
+    Some(Asked { id, field, default })
+}
+
+/// The line of the lookup over the site of the input.
+pub(crate) fn answer_of<R: Source>(
+    alloc: Global,
+    asked: Asked<'_>,
+    reader: &mut R,
+) -> Result<Answer, Refusal>
+    requires { R.failed reader.old ≡ false }
+    ensures { let words = lookup_asked asked.entry in MatchResult result
+        (λ answer. AnswersInput R.remaining R.failed (IsLookup words) reader.old reader.new answer.text answer.status)
+        (RefusesInput R.remaining R.failed (FitsLookup words) (BarsLookup words) RefusesOnly reader.old reader.new) }
+{
+    let question = Lookup::read(alloc, asked.id, asked.field, asked.default)?;
+    let input = read_all(alloc, reader)?;
+    let site = read_site(alloc, input.bytes())?;
+    let answer = question.line(alloc, &site)?;
+    Ok(Answer::of(answer))
+}

@@ -1,0 +1,40 @@
+//! The command `take`.
+ghost use Rattle.std.specs.Prelude.{◌≡◌, false, IfOk, MatchResult};
+ghost use Rattle.clap.specs.Words.{app_of};
+ghost use Rattle.clap.specs.declared.builder.command.Command.TheViews.{out-Command};
+ghost use Rattle.command_core.specs.Acts.{IsTake, RefusesTake};
+ghost use Rattle.command_core.specs.Reading.{AnswersInput, RefusesInput};
+ghost use Rattle.command_core.specs.Words.{take_app};
+ghost use Rattle.command_core.specs.Wording.{NoWords, BarsNone};
+
+use crate::answer::Answer;
+use crate::input::two_documents;
+use crate::refusal::Refusal;
+use clap::Command;
+use docs_core::{Source, read_all, take_document};
+use std::alloc::Global;
+
+/// `take`
+pub(crate) fn command<'a>(alloc: Global) -> Command<'a>
+    ensures app { app_of result ≡ take_app }
+    ensures local { (out-Command result).has_globals ≡ false }
+{
+    Command::new(alloc, "take")
+        .about("Joins a delta into the site that it is for")
+        .after_help(
+            "Reads a site document, then a delta.\nDocument 1 of the input ends at the first LF, and all behind it is document 2.\nExample: (lexicat new --site tokyo; cat delta.json) | lexicat take > tokyo.json",
+        )
+}
+
+/// The site of the first document with the delta of the second taken in.
+pub(crate) fn answer_of<R: Source>(alloc: Global, reader: &mut R) -> Result<Answer, Refusal>
+    requires { R.failed reader.old ≡ false }
+    ensures { MatchResult result
+        (λ answer. AnswersInput R.remaining R.failed IsTake reader.old reader.new answer.text answer.status)
+        (RefusesInput R.remaining R.failed NoWords BarsNone RefusesTake reader.old reader.new) }
+{
+    let input = read_all(alloc, reader)?;
+    let (site, delta) = two_documents(input.bytes());
+    let text = take_document(alloc, site, delta)?;
+    Ok(Answer::document(text))
+}

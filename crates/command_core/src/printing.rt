@@ -1,0 +1,51 @@
+//! What a command answers, on its way to the output.
+ghost use Rattle.std.specs.Prelude.{◌≡◌, ◌++◌, false, is_err, IfErr, OnOk};
+ghost use Rattle.std.specs.Io.KnownBytes.{Appends};
+ghost use Rattle.docs_core.specs.Faults.{of_no_document};
+ghost use Rattle.docs_core.specs.declared.fault.DocCause.TheVariants.{WriteFault};
+ghost use Rattle.docs_core.specs.Sinks.{AppendsFront};
+ghost use Rattle.command_core.specs.Endings.{Writes};
+
+use crate::fault_line::refuse_document;
+use crate::status;
+use docs_core::{Doc, DocFault, Sink, write_out};
+
+/// Writes the whole text and gives the status, or that of the fault of the output.
+pub(crate) fn print<W: Sink, F: Sink>(text: &Doc, status: u8, writer: &mut W, faults: &mut F) -> u8
+    requires { W.failed writer.old ≡ false }
+    ensures written { Writes W.contents W.failed text.now status writer.old writer.new result }
+    ensures quiet { W.failed writer.new ≡ false → faults.new ≡ faults.old }
+{
+    match write_out(writer, text.bytes()) {
+        Ok(()) => status,
+        Err(fault) => refuse_document(faults, fault),
+    }
+}
+
+/// The same of two texts, the one behind the other, with status 0.
+pub(crate) fn print_both<W: Sink, F: Sink>(
+    first: &Doc,
+    second: &Doc,
+    writer: &mut W,
+    faults: &mut F,
+) -> u8
+    requires { W.failed writer.old ≡ false }
+    ensures written { Writes W.contents W.failed (first.now ++ second.now) 0 writer.old writer.new result }
+    ensures quiet { W.failed writer.new ≡ false → faults.new ≡ faults.old }
+{
+    match write_both(first, second, writer) {
+        Ok(()) => status::ANSWERED,
+        Err(fault) => refuse_document(faults, fault),
+    }
+}
+
+fn write_both<W: Sink>(first: &Doc, second: &Doc, writer: &mut W) -> Result<(), DocFault>
+    requires { W.failed writer.old ≡ false }
+    ensures ok { OnOk result (Appends (W.contents writer.old) (W.contents writer.new) (first.now ++ second.now)) }
+    ensures front { AppendsFront (W.contents writer.old) (W.contents writer.new) (first.now ++ second.now) }
+    ensures refused { IfErr result (λ fault. fault ≡ of_no_document WriteFault) }
+    ensures failed { W.failed writer.new ≡ is_err result }
+{
+    write_out(writer, first.bytes())?;
+    write_out(writer, second.bytes())
+}

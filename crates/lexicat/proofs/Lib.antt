@@ -1,4 +1,0 @@
-pub mod ActsLemmas
-pub mod AppLemmas
-pub mod GivenLemmas
-pub mod ProgramLemmas

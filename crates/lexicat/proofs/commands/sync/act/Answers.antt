@@ -1,6 +1,0 @@
-use Rattle.std.proofs.Common.{◌++◌, inl}
-use Rattle.lexicat.proofs.commands.sync.act.Goals as goal
-
-pub returns-in-Ok-clause-acts : goal.returns-in-Ok-clause-acts
-returns-in-Ok-clause-acts g c =
-    inl (c.in-Ok.first ++ c.in-Ok.second, 0, c.in-Ok.ensures, c.print_both.ensures.written)
