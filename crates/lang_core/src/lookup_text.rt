@@ -53,7 +53,8 @@ impl LookupText {
 
     /// The same for an equal range, by as many allocations as it was made with.
     pub(crate) fn copy(&self, alloc: Global) -> Result<LookupText, AllocError>
-        ensures { IfOk result (λ copy. (own : List ℕ) → kept_text own copy ≡ kept_text own self.now) }
+        ensures { IfOk result (λ copy. (own : List ℕ)
+            → kept_text own copy ≡ kept_text own self.now) }
     {
         match self {
             LookupText::Own => Ok(LookupText::Own),
