@@ -208,10 +208,13 @@ pub one_asked : (Fits : Item → Type 0) (items : List Item) (numbers : List ℕ
 one_asked Fits items numbers table chain best found low h f =
     better_joins (FitsAmong Fits numbers table) (FitsIn Fits numbers chain) (FitsAmong Fits numbers (slice_set table chain true)) items best found
     (λ k i. (
-      (λ a. (elim a.0 [
-        | inl last ↦ inl last
-        | inr set ↦ inr (still table chain (get_or numbers k 0) low set)
-      ], a.1)),
+      (λ a. (
+        elim a.0 [
+          | inl last ↦ inl last
+          | inr set ↦ inr (still table chain (get_or numbers k 0) low set)
+        ],
+        a.1,
+      )),
       (λ s. (inr (ap (λ (n : ℕ). get_or (slice_set table chain true) n false) s.0 ∙ get_or-set_same table chain true false low), s.1)),
       (λ a. elim a.0 [
         | inl last ↦ inl (inl last, a.1)
@@ -223,11 +226,11 @@ one_asked Fits items numbers table chain best found low h f =
     ))
     h f
   where
-  still : (table : List Bool) (chain n : ℕ) → chain < length table → get_or table n false ≡ true → get_or (slice_set table chain true) n false ≡ true
-  still table chain n low h = elim (cases_eq n chain) [
-    | inl same ↦ ap (λ (m : ℕ). get_or (slice_set table chain true) m false) same ∙ get_or-set_same table chain true false low
-    | inr other ↦ get_or-set_other table chain n true false other ∙ h
-  ]
+    still : (table : List Bool) (chain n : ℕ) → chain < length table → get_or table n false ≡ true → get_or (slice_set table chain true) n false ≡ true
+    still table chain n low h = elim (cases_eq n chain) [
+      | inl same ↦ ap (λ (m : ℕ). get_or (slice_set table chain true) m false) same ∙ get_or-set_same table chain true false low
+      | inr other ↦ get_or-set_other table chain n true false other ∙ h
+    ]
 
 stands_among : (items : List Item) (numbers : List ℕ) (tag : List (List ℕ)) (table : List Bool) (k : ℕ) (i : Item) → AreNumbers items (length items) numbers → IsTableOf chain_of 1024 tag table → slice_get items k ≡ Some i → Extended (pieces i.range) tag → StandsAmong numbers table k
 stands_among items numbers tag table k i n t s h = elim (n.may k i (slice_get_within items k i s) s) [

@@ -109,7 +109,7 @@ fn best_in(items: &[Item], chains: &Chains, chain: usize, tag: &Tag) -> Option<B
     requires within { chain < 1025 }
     ensures { (numbers : List ℕ) → AreLinked items.now numbers chains.now
         → IsBest (λ k i. StandsIn numbers chain k × Extended (pieces i.range) (pieces tag.now))
-            items.now result }
+        items.now result }
 {
     let mut best = None;
     let mut place = chains.first[chain];

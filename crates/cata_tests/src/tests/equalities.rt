@@ -99,7 +99,10 @@ fn sites_of_two_names_differ(rt: HostRuntime) -> Result<(), Fail> {
 
 /// A message in three languages.
 fn greetings(alloc: Global) -> Result<Catalogue, Fail> {
-    catalogue(alloc, "m en 1 1 1 Hello; m fr 1 1 2 Bonjour; m de 1 1 3 Hallo")
+    catalogue(
+        alloc,
+        "m en 1 1 1 Hello; m fr 1 1 2 Bonjour; m de 1 1 3 Hallo",
+    )
 }
 
 /// What a list takes of it.
@@ -201,7 +204,8 @@ fn fewer_answers_differ(rt: HostRuntime) -> Result<(), Fail> {
 #[test]
 fn copies_of_answers_are_equal(rt: HostRuntime) -> Result<(), Fail> {
     let alloc = rt.alloc();
-    let text = "edit 0 m en 5 1 0 a; lookup 0 m - en; lookup 0 m en fr; lookup 0 m - fr; filter 0 m basic *; cells 0; cells 1";
+    let text =
+        "edit 0 m en 5 1 0 a; lookup 0 m - en; lookup 0 m en fr; lookup 0 m - fr; filter 0 m basic *; cells 0; cells 1";
     let answers = steps::answered(alloc, 2, text)?;
     gives(compared(alloc, answers.copy(alloc)? == answers), "equal")
 }

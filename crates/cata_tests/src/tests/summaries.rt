@@ -83,10 +83,7 @@ fn keys_are_told_in_rising_order(rt: HostRuntime) -> Result<(), Fail> {
 #[test]
 fn an_empty_summary_lists_nothing(rt: HostRuntime) -> Result<(), Fail> {
     let alloc = rt.alloc();
-    gives(
-        listed(alloc, &Summary::new(alloc, makers::name("1")?)),
-        "",
-    )
+    gives(listed(alloc, &Summary::new(alloc, makers::name("1")?)), "")
 }
 
 #[test]
