@@ -4,7 +4,7 @@ use Rattle.json.specs.Json.{members, value}
 use Rattle.json.specs.Token.{Token}
 use Rattle.json.specs.Token as token
 use Rattle.serde_json.specs.Data.{Members, no_members}
-use Rattle.serde_json.specs.Read.{converted, of_json, of_members}
+use Rattle.serde_json.specs.Read.{converted, of_members}
 
 -- behind its opening brace `old` is the rest of an object, whose values nest at most this deep, and then what is left
 abbrev pub members_in : ℕ → List Token → Option (Members × List Token)
@@ -13,10 +13,6 @@ members_in depth old = converted (λ ms. of_members ms no_members) (members (val
 -- behind its opening brace `old` is an object of these members, whose values nest at most this deep, and then `new`
 abbrev pub ReadsMembers : ℕ → List Token → Members → List Token → Type 0
 ReadsMembers depth old ms new = members_in depth old ≡ Some (ms, new)
-
--- the tokens begin with no value that nests at most this deep
-abbrev pub ReadsNoValue : ℕ → List Token → Type 0
-ReadsNoValue depth old = converted of_json (value depth old) ≡ None
 
 -- the first token opens no object
 abbrev pub OpensNoObject : List Token → Type 0

@@ -9,9 +9,10 @@ ghost use Rattle.serde_json.specs.Data.{Data, Items, Members};
 ghost use Rattle.serde_json.specs.Find.{as_str};
 ghost use Rattle.serde_json.specs.Read.{read};
 ghost use Rattle.docs_core.specs.Arrays.{ReadsItems, ReadsNoItems};
-ghost use Rattle.docs_core.specs.LangMapMembers.{HasMore, OpensNoObject, ReadsMembers, ReadsNoValue, all_members, members_in};
+ghost use Rattle.docs_core.specs.LangMapMembers.{HasMore, OpensNoObject, ReadsMembers, all_members, members_in};
 ghost use Rattle.docs_core.specs.LangMapRows.{is_string_or_null, keys_in, keys_of, rows_in, rows_of, strings_in, strings_of};
 ghost use Rattle.docs_core.specs.LangMapRowsSeen.{keys_in_seen, keys_seen, rows_in_seen, rows_seen, strings_seen};
+ghost use Rattle.docs_core.specs.MembersRead.{ReadsNone};
 ghost use Rattle.docs_core.specs.Numbers.{are_in_range};
 ghost use Rattle.docs_core.specs.Reads.{AreRead, IsRead, Reads, seen};
 ghost use Rattle.docs_core.specs.declared.fault.DocCause.TheVariants.{NoMemory, NotJson};
@@ -143,7 +144,7 @@ fn read_keys(alloc: Global, reader: &mut Reader<'_>) -> Result<Option<Keys>, Doc
     requires { are_in_range reader.old ≡ true }
     ensures read { MatchResult result
         (λ keys. (d : Data) × Reads 126 reader.old d reader.new × (keys_in_seen keys ≡ keys_in d))
-        (λ e. (e ≡ NoMemory) ⊎ ((e ≡ NotJson) × ReadsNoValue 126 reader.old)) }
+        (ReadsNone reader.old) }
     ensures left { OnOk result (are_in_range reader.new ≡ true) }
     ensures shorter { OnOk result (length reader.new < length reader.old) }
 {
