@@ -1,5 +1,5 @@
 -- A document that stands as it is written is read as its value.
-use Rattle.std.proofs.Common.{◌≡◌, ◌∙◌, ◌<◌, ◌≤◌, ◌-◌, ◌^◌, ◌++◌, ℕ, List, [], ◌∷◌, false, map, length, length-append, refl, ap, sym, append_assoc, arith, codes, inr}
+use Rattle.std.proofs.Common.{◌≡◌, ◌∙◌, ◌<◌, ◌≤◌, ◌-◌, ◌^◌, ◌++◌, ℕ, List, [], ◌∷◌, map, length, length-append, refl, ap, sym, append_assoc, arith, codes, inr}
 use Rattle.std.specs.Prelude.{Option, None, Some, option_map}
 use Rattle.json.specs.Json as json
 use Rattle.json.specs.Json.{Json, value}
@@ -28,6 +28,7 @@ use Rattle.docs_core.specs.Rows.{cell_in, list_of}
 use Rattle.docs_core.specs.Values.{Row, cell_value, delta_value, label_value, site_value}
 use Rattle.docs_core.specs.declared.form.Form.{Form}
 use Rattle.docs_core.specs.declared.form.Form.TheVariants.{Delta, Script, Site, Summary}
+use Rattle.docs_core.specs.declared.version.Version.TheVariants.{Two}
 use Rattle.docs_core.proofs.ChecksLemmas.{AllPass-both, rows-pass}
 use Rattle.docs_core.proofs.MembersLemmas.{array_read}
 use Rattle.docs_core.proofs.PartsLemmas.{object_whole}
@@ -107,16 +108,16 @@ entry_shorter old rest new row label first last =
 
 -- one row more
 pub entry_taken : (front : List Data) (old new : Taken Cell) (row : Row) (label : Option (List (List ℕ))) (e : Entry) → row.count < 2 ^ 32 → AllPass (cell_fields 0 row label) → e ≡ entry_of row label
-    → AllPass (rows_checks (cell_checks false) [] front) → MakesEntries (entry_in false) front old → IsBehind (key_of_last old.last) e.0 → new ≡ record { others = all_of old; last = Some e }
-    → AllPass (rows_checks (cell_checks false) [] (front ++ cell_value row label ∷ [])) × MakesEntries (entry_in false) (front ++ cell_value row label ∷ []) new
+    → AllPass (rows_checks (cell_checks Two) [] front) → MakesEntries (entry_in Two) front old → IsBehind (key_of_last old.last) e.0 → new ≡ record { others = all_of old; last = Some e }
+    → AllPass (rows_checks (cell_checks Two) [] (front ++ cell_value row label ∷ [])) × MakesEntries (entry_in Two) (front ++ cell_value row label ∷ []) new
 entry_taken front old new row label e fits fields is passed makes behind pushed =
     let d = cell_value row label in
-    let there : cell_in false d ≡ Some (row, label) = rw (narrow row.count fits, label_again label) refl in
-    let made : entry_in false d ≡ Some e = ap (option_map (λ (p : Row × Option (List (List ℕ))). entry_of p.0 p.1)) there ∙ ap Some (sym is) in
-    let own : AllPass (own_cell_checks false (length front) d) = rw there (refl, fields) in
-    let here = passes_row (entry_in false) (own_cell_checks false) front (length front) d old (key_of (cell_row false d).0) e refl makes (key_of_cell (cell_in false d) e made) own behind in (
-      rows-pass (cell_checks false) [] front (d ∷ []) passed (AllPass-both (cell_checks false front d) [] here tt),
-      MakesEntries-push (entry_in false) front old new d e makes made pushed,
+    let there : cell_in Two d ≡ Some (row, label) = rw (narrow row.count fits, label_again label) refl in
+    let made : entry_in Two d ≡ Some e = ap (option_map (λ (p : Row × Option (List (List ℕ))). entry_of p.0 p.1)) there ∙ ap Some (sym is) in
+    let own : AllPass (own_cell_checks Two (length front) d) = rw there (refl, fields) in
+    let here = passes_row (entry_in Two) (own_cell_checks Two) front (length front) d old (key_of (cell_row Two d).0) e refl makes (key_of_cell (cell_in Two d) e made) own behind in (
+      rows-pass (cell_checks Two) [] front (d ∷ []) passed (AllPass-both (cell_checks Two front d) [] here tt),
+      MakesEntries-push (entry_in Two) front old new d e makes made pushed,
     )
 
 -- ---- the members behind the rows

@@ -18,7 +18,7 @@ use Rattle.cata_core.specs.declared.step.Step.TheVariants as step
 use Rattle.serde_json.specs.Data.{Data}
 use Rattle.serde_json.specs.Find.{as_str}
 use Rattle.docs_core.specs.Fields.{entry_of, key_of, stamp_of, told_of}
-use Rattle.docs_core.specs.Heads.{is_first, own_data, rows_in}
+use Rattle.docs_core.specs.Heads.{own_data, rows_in, version_of}
 use Rattle.docs_core.specs.OldRows.{AreOldStepsOf, IsOldDeltaDocument, IsOldScriptDocument, IsOldSiteDocument, IsOldStepOf, IsOldSummaryDocument, OldScript, migrated_script, old_entry_in, old_entry_of, old_told_in, old_told_of}
 use Rattle.docs_core.specs.Named.{IsDeltaDocument, IsSiteDocument, IsSummaryDocument, named_in}
 use Rattle.docs_core.specs.Rising.{entry_in, told_in}
@@ -32,6 +32,7 @@ use Rattle.docs_core.specs.declared.form.Form.{Form}
 use Rattle.docs_core.specs.declared.form.Form.TheVariants as form
 use Rattle.docs_core.specs.declared.steps.Word.{Word}
 use Rattle.docs_core.specs.declared.steps.Word.TheVariants.{Edit, Merge, Filter, Lookup, Cells, Tell, Post, Deliver}
+use Rattle.docs_core.specs.declared.version.Version.TheVariants.{One}
 
 -- ---- rows
 
@@ -56,9 +57,9 @@ both_some None L p is = absurd (cc)
 both_some (Some row) None p is = absurd (cc)
 both_some (Some row) (Some label) p is = let same : (row, label) ≡ p = cc in (ap (λ q. Some q.0) same, ap (λ q. Some q.1) same)
 
-row_migrated : (ds : List Data) (p : Row × Option (List (List ℕ))) → cell_of true ds ≡ Some p → (old : OldEntry) × (old_entry_of ds ≡ Some old) × (migrated_entry old ≡ entry_of p.0 p.1)
+row_migrated : (ds : List Data) (p : Row × Option (List (List ℕ))) → cell_of One ds ≡ Some p → (old : OldEntry) × (old_entry_of ds ≡ Some old) × (migrated_entry old ≡ entry_of p.0 p.1)
 row_migrated (i ∷ l ∷ t ∷ s ∷ c ∷ b ∷ []) p is =
-    let both = both_some (parts_in true i l t s c) (label_in b) p is in
+    let both = both_some (parts_in One i l t s c) (label_in b) p is in
     let parts = parts_by (as_str i) (as_str l) (u64_in t) (u32_in s) (u32_in c) p.0 both.0 in
     let old : OldEntry = (key_of p.0, record { stamp = parts.0; label = p.1 }) in (
       old,
@@ -68,10 +69,10 @@ row_migrated (i ∷ l ∷ t ∷ s ∷ c ∷ b ∷ []) p is =
     )
 row_migrated ds p is = absurd (cc)
 
-pub cell_migrated : (d : Data) (p : Row × Option (List (List ℕ))) → cell_in true d ≡ Some p → (old : OldEntry) × (old_entry_in d ≡ Some old) × (migrated_entry old ≡ entry_of p.0 p.1)
+pub cell_migrated : (d : Data) (p : Row × Option (List (List ℕ))) → cell_in One d ≡ Some p → (old : OldEntry) × (old_entry_in d ≡ Some old) × (migrated_entry old ≡ entry_of p.0 p.1)
 cell_migrated d p is = go (items_in d) is
   where
-    go : (o : Option (List Data)) → option_and_then (cell_of true) o ≡ Some p → (old : OldEntry) × (option_and_then old_entry_of o ≡ Some old) × (migrated_entry old ≡ entry_of p.0 p.1)
+    go : (o : Option (List Data)) → option_and_then (cell_of One) o ≡ Some p → (old : OldEntry) × (option_and_then old_entry_of o ≡ Some old) × (migrated_entry old ≡ entry_of p.0 p.1)
     go None h = absurd (cc)
     go (Some ds) h = row_migrated ds p h
 
@@ -116,7 +117,7 @@ no_edit_lookup : (ds : List Data) → NoEdit (lookup_of ds)
 no_edit_lookup (s ∷ i ∷ f ∷ l ∷ []) site row is = four_by lookup_step (λ n a b c site row e. cc) (u32_in s) (as_str i) (as_str f) (default_in l) site row is
 no_edit_lookup ds site row is = cc
 
-edit_word : (word : Word) (ds : List Data) (site : ℕ) (row : Row × Option (List (List ℕ))) → behind true word ds ≡ Some (edit_step site row) → word ≡ Edit
+edit_word : (word : Word) (ds : List Data) (site : ℕ) (row : Row × Option (List (List ℕ))) → behind One word ds ≡ Some (edit_step site row) → word ≡ Edit
 edit_word Edit ds site row is = refl
 edit_word Merge ds site row is = absurd (no_edit_two merge_step (λ m n site row e. cc) ds site row is)
 edit_word Filter ds site row is = absurd (no_edit_filter ds site row is)
@@ -132,9 +133,9 @@ edit_by None p site row is = absurd (cc)
 edit_by (Some n) None site row is = absurd (cc)
 edit_by (Some n) (Some cell) site row is = let place : n ≡ site = cc in let same : cell ≡ row = cc in (ap Some place, ap Some same)
 
-edit_parts : (ds : List Data) (site : ℕ) (row : Row × Option (List (List ℕ))) → edit_of true ds ≡ Some (edit_step site row)
-    → (place cell : Data) × (ds ≡ place ∷ cell ∷ []) × (u32_in place ≡ Some site) × (cell_in true cell ≡ Some row)
-edit_parts (s ∷ c ∷ []) site row is = let both = edit_by (u32_in s) (cell_in true c) site row is in (s, c, refl, both.0, both.1)
+edit_parts : (ds : List Data) (site : ℕ) (row : Row × Option (List (List ℕ))) → edit_of One ds ≡ Some (edit_step site row)
+    → (place cell : Data) × (ds ≡ place ∷ cell ∷ []) × (u32_in place ≡ Some site) × (cell_in One cell ≡ Some row)
+edit_parts (s ∷ c ∷ []) site row is = let both = edit_by (u32_in s) (cell_in One c) site row is in (s, c, refl, both.0, both.1)
 edit_parts ds site row is = absurd (cc)
 
 word_by : (a b c d e f g h : Bool)
@@ -155,10 +156,10 @@ edit_text text is = (bytes_eq-Decides text (codes "edit")).0 (word_by _ _ _ _ _ 
 
 -- the parts of a step that is an edit
 abbrev EditParts : List Data → ℕ → Row × Option (List (List ℕ)) → Type 0
-EditParts ds site row = (word place cell : Data) × (ds ≡ word ∷ place ∷ cell ∷ []) × (as_str word ≡ Some (codes "edit")) × (u32_in place ≡ Some site) × (cell_in true cell ≡ Some row)
+EditParts ds site row = (word place cell : Data) × (ds ≡ word ∷ place ∷ cell ∷ []) × (as_str word ≡ Some (codes "edit")) × (u32_in place ≡ Some site) × (cell_in One cell ≡ Some row)
 
 edit_behind : (w : Data) (ds : List Data) (text : List ℕ) (o : Option Word) (site : ℕ) (row : Row × Option (List (List ℕ))) → as_str w ≡ Some text → word_of text ≡ o
-    → option_and_then (λ word. behind true word ds) o ≡ Some (edit_step site row) → EditParts (w ∷ ds) site row
+    → option_and_then (λ word. behind One word ds) o ≡ Some (edit_step site row) → EditParts (w ∷ ds) site row
 edit_behind w ds text None site row spelled known is = absurd (cc)
 edit_behind w ds text (Some word) site row spelled known is =
     let edit : word ≡ Edit = edit_word word ds site row is in
@@ -166,20 +167,20 @@ edit_behind w ds text (Some word) site row spelled known is =
     (w, parts.0, parts.1, ap (λ t. w ∷ t) parts.2, spelled ∙ ap Some (edit_text text (known ∙ ap Some edit)), parts.3, parts.4)
 
 edit_spelled : (w : Data) (ds : List Data) (o : Option (List ℕ)) (site : ℕ) (row : Row × Option (List (List ℕ))) → as_str w ≡ o
-    → option_and_then (λ text. option_and_then (λ word. behind true word ds) (word_of text)) o ≡ Some (edit_step site row) → EditParts (w ∷ ds) site row
+    → option_and_then (λ text. option_and_then (λ word. behind One word ds) (word_of text)) o ≡ Some (edit_step site row) → EditParts (w ∷ ds) site row
 edit_spelled w ds None site row spelled is = absurd (cc)
 edit_spelled w ds (Some text) site row spelled is = edit_behind w ds text (word_of text) site row spelled refl is
 
-edit_listed : (ds : List Data) (site : ℕ) (row : Row × Option (List (List ℕ))) → step_of true ds ≡ Some (edit_step site row) → EditParts ds site row
+edit_listed : (ds : List Data) (site : ℕ) (row : Row × Option (List (List ℕ))) → step_of One ds ≡ Some (edit_step site row) → EditParts ds site row
 edit_listed [] site row is = absurd (cc)
 edit_listed (w ∷ ds) site row is = edit_spelled w ds (as_str w) site row refl is
 
-edit_of_row : (d : Data) (o : Option (List Data)) (site : ℕ) (row : Row × Option (List (List ℕ))) → items_in d ≡ o → option_and_then (step_of true) o ≡ Some (edit_step site row)
+edit_of_row : (d : Data) (o : Option (List Data)) (site : ℕ) (row : Row × Option (List (List ℕ))) → items_in d ≡ o → option_and_then (step_of One) o ≡ Some (edit_step site row)
     → (ds : List Data) × (items_in d ≡ Some ds) × EditParts ds site row
 edit_of_row d None site row items is = absurd (cc)
 edit_of_row d (Some ds) site row items is = (ds, items, edit_listed ds site row is)
 
-step_migrated : (d : Data) (taken : StepType) → IsStep true d taken → (old : OldStep) × IsOldStepOf d old × (taken ≡ migrated_step old)
+step_migrated : (d : Data) (taken : StepType) → IsStep One d taken → (old : OldStep) × IsOldStepOf d old × (taken ≡ migrated_step old)
 step_migrated d taken (edit_step site row, is, made) =
     let listed = edit_of_row d (items_in d) site row refl is in
     let parts = listed.2 in
@@ -194,7 +195,7 @@ step_migrated d taken (tell_step site, is, made) = (OldTell site, is, made)
 step_migrated d taken (post_step site told, is, made) = (OldPost site told, is, made)
 step_migrated d taken (deliver_step post, is, made) = (OldDeliver post, is, made)
 
-steps_migrated : (ds : List Data) (steps : List StepType) → AreSteps true ds steps → (olds : List OldStep) × AreOldStepsOf ds olds × (steps ≡ migrated_steps olds)
+steps_migrated : (ds : List Data) (steps : List StepType) → AreSteps One ds steps → (olds : List OldStep) × AreOldStepsOf ds olds × (steps ≡ migrated_steps olds)
 steps_migrated [] [] are = ([], tt, refl)
 steps_migrated [] (s ∷ ss) are = absurd are
 steps_migrated (d ∷ ds) [] are = absurd are
@@ -203,7 +204,7 @@ steps_migrated (d ∷ ds) (s ∷ ss) are =
     let rest = steps_migrated ds ss are.1 in
     (first.0 ∷ rest.0, (first.1, rest.1), ap (λ t. t ∷ ss) first.2 ∙ ap (λ t. migrated_step first.0 ∷ t) rest.2)
 
-pub script_migrated : (d : Data) (script : ScriptState) → is_first d ≡ true → IsScriptDocument d script → (old : OldScript) × IsOldScriptDocument d old × (script ≡ migrated_script old)
+pub script_migrated : (d : Data) (script : ScriptState) → version_of d ≡ One → IsScriptDocument d script → (old : OldScript) × IsOldScriptDocument d old × (script ≡ migrated_script old)
 script_migrated d script first reads =
     let steps = steps_migrated (rows_in form.Script d) script.steps (rw first at reads.steps) in
     let old : OldScript = record { sites = script.sites; steps = steps.0 } in
@@ -215,23 +216,23 @@ entry_by : (o : Option (Row × Option (List (List ℕ)))) (e : Entry) → option
 entry_by None e is = absurd (cc)
 entry_by (Some p) e is = (p, refl, cc)
 
-entries_migrated : (ds : List Data) (es : Entries) → map (entry_in true) ds ≡ map Some es → (olds : OldEntries) × (map old_entry_in ds ≡ map Some olds) × (es ≡ migrated_entries olds)
+entries_migrated : (ds : List Data) (es : Entries) → map (entry_in One) ds ≡ map Some es → (olds : OldEntries) × (map old_entry_in ds ≡ map Some olds) × (es ≡ migrated_entries olds)
 entries_migrated [] [] are = ([], refl, refl)
 entries_migrated [] (e ∷ es) are = absurd (cc)
 entries_migrated (d ∷ ds) [] are = absurd (cc)
 entries_migrated (d ∷ ds) (e ∷ es) are =
-    let first : entry_in true d ≡ Some e = cc in
-    let later : map (entry_in true) ds ≡ map Some es = cc in
-    let row = entry_by (cell_in true d) e first in
+    let first : entry_in One d ≡ Some e = cc in
+    let later : map (entry_in One) ds ≡ map Some es = cc in
+    let row = entry_by (cell_in One d) e first in
     let old = cell_migrated d row.0 row.1 in
     let rest = entries_migrated ds es later in
     (old.0 ∷ rest.0, ap (λ o. o ∷ map old_entry_in ds) old.1 ∙ ap (λ t. Some old.0 ∷ t) rest.1, ap (λ x. x ∷ es) (sym row.2 ∙ sym old.2) ∙ ap (λ t. migrated_entry old.0 ∷ t) rest.2)
 
-told_row : (ds : List Data) (row : Row) → stamp_row_of true ds ≡ Some row → (old : OldStamp) × (old_told_of ds ≡ Some (key_of row, old)) × (migrated_stamp old ≡ stamp_of row)
+told_row : (ds : List Data) (row : Row) → stamp_row_of One ds ≡ Some row → (old : OldStamp) × (old_told_of ds ≡ Some (key_of row, old)) × (migrated_stamp old ≡ stamp_of row)
 told_row (i ∷ l ∷ t ∷ s ∷ c ∷ []) row is = parts_by (as_str i) (as_str l) (u64_in t) (u32_in s) (u32_in c) row is
 told_row ds row is = absurd (cc)
 
-told_listed : (o : Option (List Data)) (row : Row) → option_and_then (stamp_row_of true) o ≡ Some row → (old : OldStamp) × (option_and_then old_told_of o ≡ Some (key_of row, old)) × (migrated_stamp old ≡ stamp_of row)
+told_listed : (o : Option (List Data)) (row : Row) → option_and_then (stamp_row_of One) o ≡ Some row → (old : OldStamp) × (option_and_then old_told_of o ≡ Some (key_of row, old)) × (migrated_stamp old ≡ stamp_of row)
 told_listed None row is = absurd (cc)
 told_listed (Some ds) row is = told_row ds row is
 
@@ -239,14 +240,14 @@ told_by : (o : Option Row) (e : EntryKey × Stamp) → option_map told_of o ≡ 
 told_by None e is = absurd (cc)
 told_by (Some row) e is = (row, refl, cc)
 
-stamps_migrated : (ds : List Data) (es : Stamps) → map (told_in true) ds ≡ map Some es → (olds : OldStamps) × (map old_told_in ds ≡ map Some olds) × (es ≡ migrated_stamps olds)
+stamps_migrated : (ds : List Data) (es : Stamps) → map (told_in One) ds ≡ map Some es → (olds : OldStamps) × (map old_told_in ds ≡ map Some olds) × (es ≡ migrated_stamps olds)
 stamps_migrated [] [] are = ([], refl, refl)
 stamps_migrated [] (e ∷ es) are = absurd (cc)
 stamps_migrated (d ∷ ds) [] are = absurd (cc)
 stamps_migrated (d ∷ ds) (e ∷ es) are =
-    let first : told_in true d ≡ Some e = cc in
-    let later : map (told_in true) ds ≡ map Some es = cc in
-    let row = told_by (stamp_in true d) e first in
+    let first : told_in One d ≡ Some e = cc in
+    let later : map (told_in One) ds ≡ map Some es = cc in
+    let row = told_by (stamp_in One d) e first in
     let old = told_listed (items_in d) row.0 row.1 in
     let rest = stamps_migrated ds es later in
     let held : EntryKey × OldStamp = (key_of row.0, old.0) in (
@@ -259,10 +260,10 @@ number_by : (o : Option ℕ) (name : List ℕ) → option_map padded_name o ≡ 
 number_by None name is = absurd (cc)
 number_by (Some n) name is = (n, refl, cc)
 
-own_number : (form : Form) (d : Data) (name : List ℕ) → is_first d ≡ true → named_in form d ≡ Some name → (n : ℕ) × (u32_in (own_data form d) ≡ Some n) × (padded_name n ≡ name)
+own_number : (form : Form) (d : Data) (name : List ℕ) → version_of d ≡ One → named_in form d ≡ Some name → (n : ℕ) × (u32_in (own_data form d) ≡ Some n) × (padded_name n ≡ name)
 own_number form d name first named = number_by (u32_in (own_data form d)) name (rw first at named)
 
-pub site_migrated : (d : Data) (site : SiteState) → is_first d ≡ true → IsSiteDocument d site → (old : OldSite) × IsOldSiteDocument d old × (site ≡ migrated_site old)
+pub site_migrated : (d : Data) (site : SiteState) → version_of d ≡ One → IsSiteDocument d site → (old : OldSite) × IsOldSiteDocument d old × (site ≡ migrated_site old)
 site_migrated d site first reads =
     let own = own_number form.Site d site.name first reads.name in
     let cells = entries_migrated (rows_in form.Site d) site.cells (rw first at reads.cells) in
@@ -272,7 +273,7 @@ site_migrated d site first reads =
       ap (λ name. let r : SiteState = record { name = name; cells = site.cells } in r) (sym own.2) ∙ ap (λ es. let r : SiteState = record { name = padded_name own.0; cells = es } in r) cells.2,
     )
 
-pub delta_migrated : (d : Data) (delta : DeltaState) → is_first d ≡ true → IsDeltaDocument d delta → (old : OldDelta) × IsOldDeltaDocument d old × (delta ≡ migrated_delta old)
+pub delta_migrated : (d : Data) (delta : DeltaState) → version_of d ≡ One → IsDeltaDocument d delta → (old : OldDelta) × IsOldDeltaDocument d old × (delta ≡ migrated_delta old)
 delta_migrated d delta first reads =
     let own = own_number form.Delta d delta.addressee first reads.addressee in
     let cells = entries_migrated (rows_in form.Delta d) delta.cells (rw first at reads.cells) in
@@ -282,7 +283,7 @@ delta_migrated d delta first reads =
       ap (λ name. let r : DeltaState = record { addressee = name; cells = delta.cells } in r) (sym own.2) ∙ ap (λ es. let r : DeltaState = record { addressee = padded_name own.0; cells = es } in r) cells.2,
     )
 
-pub summary_migrated : (d : Data) (summary : SummaryState) → is_first d ≡ true → IsSummaryDocument d summary → (old : OldSummary) × IsOldSummaryDocument d old × (summary ≡ migrated_summary old)
+pub summary_migrated : (d : Data) (summary : SummaryState) → version_of d ≡ One → IsSummaryDocument d summary → (old : OldSummary) × IsOldSummaryDocument d old × (summary ≡ migrated_summary old)
 summary_migrated d summary first reads =
     let own = own_number form.Summary d summary.owner first reads.owner in
     let stamps = stamps_migrated (rows_in form.Summary d) summary.stamps (rw first at reads.stamps) in

@@ -1,6 +1,6 @@
 -- A text reads as one value at most.
 use Rattle.std.proofs.Common.{◌≡◌, ◌∙◌, ℕ, List, [], ◌∷◌, map, refl, ap, ap₂, sym, subst}
-use Rattle.std.specs.Prelude.{Bool, Option, Some, option_map, unwrap_or}
+use Rattle.std.specs.Prelude.{Option, Some, option_map, unwrap_or}
 use Rattle.std.specs.Str.{str_to_ascii_lowercase}
 use Rattle.serde_json.specs.Data.{Data}
 use Rattle.cata_core.specs.Entries.{Entries, EntryKey}
@@ -24,6 +24,7 @@ use Rattle.docs_core.specs.ScriptReads.{IsScriptDocument, ReadsAsScript, script_
 use Rattle.docs_core.specs.Scripts.{ScriptState}
 use Rattle.docs_core.specs.StepFields.{AreSteps, IsStep, Makes}
 use Rattle.docs_core.specs.Steps.{StepText, edit_step, merge_step, filter_step, lookup_step, cells_step, tell_step, post_step, deliver_step}
+use Rattle.docs_core.specs.declared.version.Version.{Version}
 
 inside : {A : Type 0} (x y : A) → Some x ≡ Some y → x ≡ y
 inside {A} x y is = ap (λ (o : Option A). unwrap_or o x) is
@@ -84,19 +85,19 @@ one_made (tell_step site) s t p q = p ∙ sym q
 one_made (post_step site told) s t p q = p ∙ sym q
 one_made (deliver_step post) s t p q = p ∙ sym q
 
-one_step : (numbered : Bool) (d : Data) (s t : Step) → IsStep numbered d s → IsStep numbered d t → s ≡ t
-one_step numbered d s t p q =
+one_step : (version : Version) (d : Data) (s t : Step) → IsStep version d s → IsStep version d t → s ≡ t
+one_step version d s t p q =
     let same : q.0 ≡ p.0 = inside q.0 p.0 (sym q.1 ∙ p.1) in
     one_made p.0 s t p.2 (subst (λ text. Makes text t) same q.2)
 
-one_list_of_steps : (numbered : Bool) (rows : List Data) (ss ts : List Step) → AreSteps numbered rows ss → AreSteps numbered rows ts → ss ≡ ts
-one_list_of_steps numbered [] [] [] p q = refl
-one_list_of_steps numbered [] [] (t ∷ ts) p q = absurd q
-one_list_of_steps numbered [] (s ∷ ss) ts p q = absurd p
-one_list_of_steps numbered (d ∷ ds) [] ts p q = absurd p
-one_list_of_steps numbered (d ∷ ds) (s ∷ ss) [] p q = absurd q
-one_list_of_steps numbered (d ∷ ds) (s ∷ ss) (t ∷ ts) p q =
-    ap₂ (λ z zs. z ∷ zs) (one_step numbered d s t p.0 q.0) (one_list_of_steps numbered ds ss ts p.1 q.1)
+one_list_of_steps : (version : Version) (rows : List Data) (ss ts : List Step) → AreSteps version rows ss → AreSteps version rows ts → ss ≡ ts
+one_list_of_steps version [] [] [] p q = refl
+one_list_of_steps version [] [] (t ∷ ts) p q = absurd q
+one_list_of_steps version [] (s ∷ ss) ts p q = absurd p
+one_list_of_steps version (d ∷ ds) [] ts p q = absurd p
+one_list_of_steps version (d ∷ ds) (s ∷ ss) [] p q = absurd q
+one_list_of_steps version (d ∷ ds) (s ∷ ss) (t ∷ ts) p q =
+    ap₂ (λ z zs. z ∷ zs) (one_step version d s t p.0 q.0) (one_list_of_steps version ds ss ts p.1 q.1)
 
 script_is : (d : Data) (s t : ScriptState) → IsScriptDocument d s → IsScriptDocument d t → s ≡ t
 script_is d s t p q =

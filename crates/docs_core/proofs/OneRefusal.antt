@@ -8,7 +8,7 @@ use Rattle.nego_core.specs.declared.fault.NegoFault.{NegoFault}
 use Rattle.nego_core.specs.declared.scheme.Scheme.{Scheme}
 use Rattle.docs_core.specs.Checks.{AllPass, AreJson, Check, FirstFails, IsRefusal, IsTextRefusal, check, rows_checks}
 use Rattle.docs_core.specs.Fields.{IsLabelRefusal, IsLabelText, cell_fields, key_of, label_check, language_check, order_check, stamp_fields}
-use Rattle.docs_core.specs.Heads.{head_checks, is_first, own_data, rows_in}
+use Rattle.docs_core.specs.Heads.{head_checks, own_data, rows_in, version_of}
 use Rattle.docs_core.specs.LangMapChecks as maps
 use Rattle.docs_core.specs.LangMapRows as map_rows
 use Rattle.docs_core.specs.Named.{document_checks, own_checks}
@@ -23,6 +23,7 @@ use Rattle.docs_core.specs.declared.fault.DocCause.TheVariants.{Field, NoMemory}
 use Rattle.docs_core.specs.declared.fault.FieldFault.TheVariants.{Cell, Language, Priorities}
 use Rattle.docs_core.specs.declared.form.Form.{Form}
 use Rattle.docs_core.specs.declared.form.Form.TheVariants.{Script}
+use Rattle.docs_core.specs.declared.version.Version.{Version}
 use Rattle.docs_core.proofs.FieldRefusals.{no_label, no_language, no_list, one_label_fault, one_language_fault, one_list_fault}
 
 -- nothing both passes and fails it, and it refuses for one cause
@@ -100,11 +101,11 @@ stamps k row = (plain _ _, (language _ _, (plain _ _, tt)))
 cells : (k : ℕ) (row : Row) (texts : Option (List (List ℕ))) → AreTests (cell_fields k row texts)
 cells k row texts = both (stamp_fields k row) (label_check k texts ∷ []) (stamps k row) (label k texts, tt)
 
-cell_rows : (numbered : Bool) (before : List Data) (d : Data) → AreTests (cell_checks numbered before d)
-cell_rows numbered before d = both (own_cell_checks numbered (length before) d) (order_check (length before) (last_key (entry_in numbered) before) (key_of (cell_row numbered d).0) ∷ []) (plain _ _, cells (length before) (cell_row numbered d).0 (cell_row numbered d).1) (plain _ _, tt)
+cell_rows : (version : Version) (before : List Data) (d : Data) → AreTests (cell_checks version before d)
+cell_rows version before d = both (own_cell_checks version (length before) d) (order_check (length before) (last_key (entry_in version) before) (key_of (cell_row version d).0) ∷ []) (plain _ _, cells (length before) (cell_row version d).0 (cell_row version d).1) (plain _ _, tt)
 
-stamp_rows : (numbered : Bool) (before : List Data) (d : Data) → AreTests (stamp_checks numbered before d)
-stamp_rows numbered before d = both (own_stamp_checks numbered (length before) d) (order_check (length before) (last_key (told_in numbered) before) (key_of (stamp_row numbered d)) ∷ []) (plain _ _, stamps (length before) (stamp_row numbered d)) (plain _ _, tt)
+stamp_rows : (version : Version) (before : List Data) (d : Data) → AreTests (stamp_checks version before d)
+stamp_rows version before d = both (own_stamp_checks version (length before) d) (order_check (length before) (last_key (told_in version) before) (key_of (stamp_row version d)) ∷ []) (plain _ _, stamps (length before) (stamp_row version d)) (plain _ _, tt)
 
 defaults : (k : ℕ) (text : Option (List ℕ)) → AreTests (default_checks k text)
 defaults k None = tt
@@ -124,18 +125,18 @@ shaped : (k : ℕ) (text : Option StepText) → AreTests (shaped_fields k text)
 shaped k None = tt
 shaped k (Some text) = steps k text
 
-step_rows : (numbered : Bool) (before : List Data) (d : Data) → AreTests (step_checks numbered before d)
-step_rows numbered before d = (plain _ _, shaped (length before) (step_in numbered d))
+step_rows : (version : Version) (before : List Data) (d : Data) → AreTests (step_checks version before d)
+step_rows version before d = (plain _ _, shaped (length before) (step_in version d))
 
 -- ---- documents
 
 heads : (form : Form) (d : Data) → AreTests (head_checks form d)
 heads form d = (plain _ _, (plain _ _, (plain _ _, tt)))
 
-named : (form : Form) (checks : Bool → List Data → Data → List Check) → ((numbered : Bool) (before : List Data) (d : Data) → AreTests (checks numbered before d)) → (d : Data) → AreTests (document_checks form checks d)
+named : (form : Form) (checks : Version → List Data → Data → List Check) → ((version : Version) (before : List Data) (d : Data) → AreTests (checks version before d)) → (d : Data) → AreTests (document_checks form checks d)
 named form checks each d =
-    both (head_checks form d) (own_checks (is_first d) (own_data form d) ++ rows_checks (checks (is_first d)) [] (rows_in form d)) (heads form d)
-    (both (own_checks (is_first d) (own_data form d)) (rows_checks (checks (is_first d)) [] (rows_in form d)) (plain _ _, (plain _ _, tt)) (rows (checks (is_first d)) (each (is_first d)) [] (rows_in form d)))
+    both (head_checks form d) (own_checks (version_of d) (own_data form d) ++ rows_checks (checks (version_of d)) [] (rows_in form d)) (heads form d)
+    (both (own_checks (version_of d) (own_data form d)) (rows_checks (checks (version_of d)) [] (rows_in form d)) (plain _ _, (plain _ _, tt)) (rows (checks (version_of d)) (each (version_of d)) [] (rows_in form d)))
 
 pub cells_named : (form : Form) (d : Data) → AreTests (document_checks form cell_checks d)
 cells_named form d = named form cell_checks cell_rows d
@@ -144,7 +145,7 @@ pub stamps_named : (form : Form) (d : Data) → AreTests (document_checks form s
 stamps_named form d = named form stamp_checks stamp_rows d
 
 pub scripts : (d : Data) → AreTests (script_checks d)
-scripts d = both (head_checks Script d) (sites_check (own_data Script d) ∷ rows_checks (step_checks (is_first d)) [] (rows_in Script d)) (heads Script d) (plain _ _, rows (step_checks (is_first d)) (step_rows (is_first d)) [] (rows_in Script d))
+scripts d = both (head_checks Script d) (sites_check (own_data Script d) ∷ rows_checks (step_checks (version_of d)) [] (rows_in Script d)) (heads Script d) (plain _ _, rows (step_checks (version_of d)) (step_rows (version_of d)) [] (rows_in Script d))
 
 -- ---- language maps
 

@@ -1,5 +1,5 @@
 -- One entry more.
-use Rattle.std.proofs.Common.{◌≡◌, ◌∙◌, ◌-◌, ◌++◌, ℕ, Bool, zero, suc, List, [], ◌∷◌, length, length-append, refl, ap, ap₂, sym, arith, inl, inr}
+use Rattle.std.proofs.Common.{◌≡◌, ◌∙◌, ◌-◌, ◌++◌, ℕ, zero, suc, List, [], ◌∷◌, length, length-append, refl, ap, ap₂, sym, arith, inl, inr}
 use Rattle.std.specs.declared.cmp.Ordering.TheVariants.{Less}
 use Rattle.std.specs.Option.{option_to_list}
 use Rattle.std.specs.Prelude.{◌⊎◌, MatchResult, OnErr, OnOk, Option, None, Some, Result, Ok, Err, option_map, slice_get, unwrap_or}
@@ -18,6 +18,7 @@ use Rattle.docs_core.specs.declared.fields.CellEntry.{CellEntry}
 use Rattle.docs_core.specs.declared.fields.StampEntry.{StampEntry}
 use Rattle.docs_core.specs.declared.fault.DocCause.{DocCause}
 use Rattle.docs_core.specs.declared.fault.DocCause.TheVariants.{CellOrder, NoMemory}
+use Rattle.docs_core.specs.declared.version.Version.{Version}
 use Rattle.docs_core.proofs.ChecksLemmas.{AllPass-both, FirstFails-behind, FirstFails-front}
 
 at_end : (xs : List Data) (x : Data) → slice_get (xs ++ x ∷ []) (length xs) ≡ Some x
@@ -86,18 +87,18 @@ module _ {J : Type 0} (entry : Data → Option (EntryKey × J)) where
       rw same (λ k d h. key_cmp_total.trans _ p.0 key (above k d h) less)
 
 -- the tests of a row of a site or a delta by itself, where its shape is found
-pub own_cell : (r : Result CellEntry DocCause) (numbered : Bool) (k : ℕ) (d : Data) (row : Row) (texts : Option (List (List ℕ))) → Some (row, texts) ≡ cell_in numbered d
+pub own_cell : (r : Result CellEntry DocCause) (version : Version) (k : ℕ) (d : Data) (row : Row) (texts : Option (List (List ℕ))) → Some (row, texts) ≡ cell_in version d
     → MatchResult r (λ x. AllPass (cell_fields k row texts) × (entry_by x ≡ entry_of row texts)) (λ e. (e ≡ NoMemory) ⊎ FirstFails (cell_fields k row texts) e)
-    → MatchResult r (λ x. AllPass (own_cell_checks numbered k d) × (entry_in numbered d ≡ Some (entry_by x))) (λ e. (e ≡ NoMemory) ⊎ FirstFails (own_cell_checks numbered k d) e)
-own_cell (Ok x) numbered k d row texts is h = rw (← is) ((refl, h.0), ap Some (sym h.1))
-own_cell (Err e) numbered k d row texts is h = rw (← is) (elim h [ inl m ↦ inl m | inr f ↦ inr (inr (refl, f)) ])
+    → MatchResult r (λ x. AllPass (own_cell_checks version k d) × (entry_in version d ≡ Some (entry_by x))) (λ e. (e ≡ NoMemory) ⊎ FirstFails (own_cell_checks version k d) e)
+own_cell (Ok x) version k d row texts is h = rw (← is) ((refl, h.0), ap Some (sym h.1))
+own_cell (Err e) version k d row texts is h = rw (← is) (elim h [ inl m ↦ inl m | inr f ↦ inr (inr (refl, f)) ])
 
 -- the same of a summary
-pub own_stamp : (r : Result StampEntry DocCause) (numbered : Bool) (k : ℕ) (d : Data) (row : Row) → Some row ≡ stamp_in numbered d
+pub own_stamp : (r : Result StampEntry DocCause) (version : Version) (k : ℕ) (d : Data) (row : Row) → Some row ≡ stamp_in version d
     → MatchResult r (λ x. AllPass (stamp_fields k row) × (told_by x ≡ told_of row)) (λ e. (e ≡ NoMemory) ⊎ FirstFails (stamp_fields k row) e)
-    → MatchResult r (λ x. AllPass (own_stamp_checks numbered k d) × (told_in numbered d ≡ Some (told_by x))) (λ e. (e ≡ NoMemory) ⊎ FirstFails (own_stamp_checks numbered k d) e)
-own_stamp (Ok x) numbered k d row is h = rw (← is) ((refl, h.0), ap Some (sym h.1))
-own_stamp (Err e) numbered k d row is h = rw (← is) (elim h [ inl m ↦ inl m | inr f ↦ inr (inr (refl, f)) ])
+    → MatchResult r (λ x. AllPass (own_stamp_checks version k d) × (told_in version d ≡ Some (told_by x))) (λ e. (e ≡ NoMemory) ⊎ FirstFails (own_stamp_checks version k d) e)
+own_stamp (Ok x) version k d row is h = rw (← is) ((refl, h.0), ap Some (sym h.1))
+own_stamp (Err e) version k d row is h = rw (← is) (elim h [ inl m ↦ inl m | inr f ↦ inr (inr (refl, f)) ])
 
 pub key_of_cell : (o : Option (Row × Option (List (List ℕ)))) (e : Entry) → option_map (λ p. entry_of p.0 p.1) o ≡ Some e → key_of (unwrap_or o (no_row, None)).0 ≡ e.0
 key_of_cell None e is = cc

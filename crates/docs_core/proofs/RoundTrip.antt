@@ -16,7 +16,7 @@ use Rattle.cata_core.specs.Told.{SummaryState}
 use Rattle.docs_core.specs.Checks.{AllPass, Check, rows_checks}
 use Rattle.docs_core.specs.Documents.{cells_values, delta_text, site_text, stamps_values, summary_text}
 use Rattle.docs_core.specs.Forms.{names_of}
-use Rattle.docs_core.specs.Heads.{HasJust, head_checks, is_first, own_data, rows_in}
+use Rattle.docs_core.specs.Heads.{HasJust, head_checks, own_data, rows_in, version_of}
 use Rattle.docs_core.specs.Named.{own_checks}
 use Rattle.docs_core.specs.ReadsAs.{ReadsAsDelta, ReadsAsSite, ReadsAsSummary}
 use Rattle.docs_core.specs.Rising.{cell_checks, stamp_checks}
@@ -24,6 +24,7 @@ use Rattle.docs_core.specs.Valid.{AreKeptCells, AreKeptStamps}
 use Rattle.docs_core.specs.Values.{delta_value, site_value, summary_value}
 use Rattle.docs_core.specs.declared.form.Form.{Form}
 use Rattle.docs_core.specs.declared.form.Form.TheVariants.{Delta, Site, Summary}
+use Rattle.docs_core.specs.declared.version.Version.{Version}
 use Rattle.docs_core.proofs.ChecksLemmas.{AllPass-both}
 use Rattle.docs_core.proofs.WrittenRows.{cells_pass, entries_again, list_of-items_of, stamps_again, stamps_pass}
 use Rattle.docs_core.proofs.WrittenTexts.{read-delta, read-site, read-summary}
@@ -77,8 +78,8 @@ summary_names name rows q =
 -- ---- documents
 
 -- the tests behind those of the head
-abbrev pub rest_checks : Form → (Bool → List Data → Data → List Check) → Data → List Check
-rest_checks form checks d = own_checks (is_first d) (own_data form d) ++ rows_checks (checks (is_first d)) [] (rows_in form d)
+abbrev pub rest_checks : Form → (Version → List Data → Data → List Check) → Data → List Check
+rest_checks form checks d = own_checks (version_of d) (own_data form d) ++ rows_checks (checks (version_of d)) [] (rows_in form d)
 
 pub site_again : (site : SiteState) → IsSiteName site.name → AreKeptCells site.cells → IsUtf8 (site_text site) → ReadsAsSite (site_text site) site
 site_again site name kept utf8 =

@@ -9,7 +9,7 @@ use Rattle.docs_core.specs.Arrays.{TakesRows}
 use Rattle.docs_core.specs.Checks.{Check, FirstFails}
 use Rattle.docs_core.specs.Forms.{is_among, kind_of, member_by, member_of, names_of, own_of, rows_of}
 use Rattle.docs_core.specs.HeadSeen.{Shows, ShowsOwn, ShowsRows, is_text}
-use Rattle.docs_core.specs.Heads.{Begins, HasMembers, IsKnownVersion, IsOwn, head_checks, is_one, kind_in}
+use Rattle.docs_core.specs.Heads.{Begins, HasMembers, IsKnownVersion, IsOwn, head_checks, kind_in, version_by}
 use Rattle.docs_core.specs.PartsRead.{HasParts, RefusesHead, RefusesText}
 use Rattle.docs_core.specs.PartsSeen.{FailsHead, HasKnownVersion, IsWhole, PassesHead, Starts}
 use Rattle.serde_json.specs.Read.{read}
@@ -129,7 +129,7 @@ module _ {S : Type 0} (form : Form) (checks : List Data → Data → List Check)
   pub has_parts : (parts : Parts) → PassesHead head parts → HasParts form checks Holds (object ms) parts rows
   has_parts parts passes = record {
     passes = (begins passes.starts, (known passes.known, (has_members passes.starts passes.whole, tt)));
-    numbered = passes.numbered ∙ ap is_one shown.version;
+    version = passes.version ∙ ap version_by shown.version;
     own = own_held parts.own head.own (get_member (own_of form) ms) passes.own shown.own;
     taken = rows_held checks Holds rows parts.refusal head.rows _ passes.rows shown.rows_part;
   }

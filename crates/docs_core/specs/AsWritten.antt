@@ -1,5 +1,5 @@
 -- Documents of cells that stand in the order in which they are written, seen by their tokens.
-use Rattle.std.specs.Prelude.{◌≡◌, false, ◌<◌, ◌^◌, ℕ, List, [], ◌∷◌, ◌++◌, map, codes, length, Option, None, Some}
+use Rattle.std.specs.Prelude.{◌≡◌, ◌<◌, ◌^◌, ℕ, List, [], ◌∷◌, ◌++◌, map, codes, length, Option, None, Some}
 use Rattle.json.specs.Token.{Token, begin_array, end_array, end_object, key, null, number, string}
 use Rattle.serde_json.specs.Data.{Data, Items, array, member, no_members, object, unsigned}
 use Rattle.serde_json.specs.Data as json_data
@@ -16,6 +16,7 @@ use Rattle.docs_core.specs.Rising.{AreEntries, MakesEntries, Taken, cell_checks,
 use Rattle.docs_core.specs.Rows.{list_of}
 use Rattle.docs_core.specs.Values.{Row}
 use Rattle.docs_core.specs.declared.form.Form.{Form}
+use Rattle.docs_core.specs.declared.version.Version.TheVariants.{Two}
 
 -- `{"cells":[..],"kind":KIND,OWN:NAME,"version":2}`
 abbrev pub cells_document : Form → List ℕ → List Data → Data
@@ -60,8 +61,8 @@ pub record BeginsRows (old : List Token) (taken : Taken Cell) (new : List Token)
   pub rows : Items
   pub reads : ReadsItems 125 old rows new
   pub shorter : length new < length old
-  pub passes : AllPass (rows_checks (cell_checks false) [] (list_of rows))
-  pub makes : MakesEntries (entry_in false) (list_of rows) taken
+  pub passes : AllPass (rows_checks (cell_checks Two) [] (list_of rows))
+  pub makes : MakesEntries (entry_in Two) (list_of rows) taken
 
 -- the members behind the rows come last
 pub record EndsNamed (form : Form) (old : List Token) (name : List ℕ) : Type 0 where
@@ -75,5 +76,5 @@ pub record ReadsCells (form : Form) (bytes name : List ℕ) (cells : Entries) : 
   pub rows : List Data
   pub json : AreJson bytes (cells_document form name rows)
   pub is_name : IsSiteName name
-  pub passes : AllPass (rows_checks (cell_checks false) [] rows)
-  pub makes : AreEntries (entry_in false) rows cells
+  pub passes : AllPass (rows_checks (cell_checks Two) [] rows)
+  pub makes : AreEntries (entry_in Two) rows cells

@@ -1,5 +1,5 @@
 -- The tests of a document before its rows, in their order. Own rule.
-use Rattle.std.specs.Prelude.{◌≡◌, ◌⊎◌, ◌==◌, ℕ, List, [], ◌∷◌, Bool, true, false, codes, Option, None, Some, is_some, unwrap_or, option_and_then}
+use Rattle.std.specs.Prelude.{◌≡◌, ◌⊎◌, ◌==◌, ℕ, List, [], ◌∷◌, true, codes, Option, None, Some, is_some, if◌then◌else◌, unwrap_or, option_and_then}
 use Rattle.cell_core.specs.SiteNames.{IsSiteName}
 use Rattle.serde_json.specs.Data.{Data, null}
 use Rattle.serde_json.specs.Find.{as_str, get}
@@ -11,6 +11,8 @@ use Rattle.docs_core.specs.declared.fault.Spot.TheVariants as spot
 use Rattle.docs_core.specs.declared.form.Form.{Form}
 use Rattle.docs_core.specs.declared.head.Own.{Own}
 use Rattle.docs_core.specs.declared.head.Own.TheVariants.{Name, NoName, Number, Other}
+use Rattle.docs_core.specs.declared.version.Version.{Version}
+use Rattle.docs_core.specs.declared.version.Version.TheVariants.{One, Two}
 
 -- ---- parts of a document
 
@@ -20,13 +22,13 @@ kind_in d = option_and_then as_str (get (codes "kind") d)
 abbrev pub version_in : Data → Option ℕ
 version_in d = option_and_then u64_in (get (codes "version") d)
 
-abbrev pub is_one : Option ℕ → Bool
-is_one None = false
-is_one (Some n) = n == 1
+-- what is not of version 1 is read as of version 2
+abbrev pub version_by : Option ℕ → Version
+version_by None = Two
+version_by (Some n) = if n == 1 then One else Two
 
--- it is of version 1
-abbrev pub is_first : Data → Bool
-is_first d = is_one (version_in d)
+abbrev pub version_of : Data → Version
+version_of d = version_by (version_in d)
 
 -- the member that names a site, or says how many there are
 abbrev pub own_data : Form → Data → Data

@@ -1,5 +1,5 @@
 -- Rows and scripts of version 1, with sites by their numbers. Own rule.
-use Rattle.std.specs.Prelude.{◌≡◌, ℕ, List, [], ◌∷◌, codes, true, Option, None, Some, map, option_map, option_and_then}
+use Rattle.std.specs.Prelude.{◌≡◌, ℕ, List, [], ◌∷◌, codes, Option, None, Some, map, option_map, option_and_then}
 use Rattle.std.specs.Str.{str_to_ascii_lowercase}
 use Rattle.nego_core.specs.declared.scheme.Scheme.TheVariants.{Basic}
 use Rattle.cell_core.specs.Migration.{OldStamp}
@@ -15,6 +15,7 @@ use Rattle.docs_core.specs.Scripts.{ScriptState}
 use Rattle.docs_core.specs.StepFields.{Lists}
 use Rattle.docs_core.specs.Steps.{merge_step, filter_step, lookup_step, cells_step, tell_step, post_step, deliver_step, step_in}
 use Rattle.docs_core.specs.declared.form.Form.TheVariants.{Delta, Script, Site, Summary}
+use Rattle.docs_core.specs.declared.version.Version.TheVariants.{One}
 
 -- the key and the stamp of a row; languages stand in lower case
 abbrev pub old_parts_in : Data → Data → Data → Data → Data → Option (EntryKey × OldStamp)
@@ -59,14 +60,14 @@ pub record IsOldSummaryDocument (d : Data) (summary : OldSummary) : Type 0 where
 abbrev pub IsOldStepOf : Data → OldStep → Type 0
 IsOldStepOf d (OldEdit site edit) =
     (word place row : Data) × (items_in d ≡ Some (word ∷ place ∷ row ∷ [])) × (as_str word ≡ Some (codes "edit")) × (u32_in place ≡ Some site) × (old_entry_in row ≡ Some edit)
-IsOldStepOf d (OldMerge into source) = step_in true d ≡ Some (merge_step into source)
-IsOldStepOf d (OldAskFilter site id scheme list) = (field : List ℕ) × (step_in true d ≡ Some (filter_step site id scheme field)) × Lists scheme field list
+IsOldStepOf d (OldMerge into source) = step_in One d ≡ Some (merge_step into source)
+IsOldStepOf d (OldAskFilter site id scheme list) = (field : List ℕ) × (step_in One d ≡ Some (filter_step site id scheme field)) × Lists scheme field list
 IsOldStepOf d (OldAskLookup site id list default) =
-    (field : List ℕ) × (written : Option (List ℕ)) × (step_in true d ≡ Some (lookup_step site id field written)) × Lists Basic field list × (default ≡ option_map str_to_ascii_lowercase written)
-IsOldStepOf d (OldAskCells site) = step_in true d ≡ Some (cells_step site)
-IsOldStepOf d (OldTell site) = step_in true d ≡ Some (tell_step site)
-IsOldStepOf d (OldPost site told) = step_in true d ≡ Some (post_step site told)
-IsOldStepOf d (OldDeliver post) = step_in true d ≡ Some (deliver_step post)
+    (field : List ℕ) × (written : Option (List ℕ)) × (step_in One d ≡ Some (lookup_step site id field written)) × Lists Basic field list × (default ≡ option_map str_to_ascii_lowercase written)
+IsOldStepOf d (OldAskCells site) = step_in One d ≡ Some (cells_step site)
+IsOldStepOf d (OldTell site) = step_in One d ≡ Some (tell_step site)
+IsOldStepOf d (OldPost site told) = step_in One d ≡ Some (post_step site told)
+IsOldStepOf d (OldDeliver post) = step_in One d ≡ Some (deliver_step post)
 
 -- each row is the step at its place
 abbrev pub AreOldStepsOf : List Data → List OldStep → Type 0

@@ -4,7 +4,7 @@ use Rattle.serde_json.specs.Data.{Data}
 use Rattle.serde_json.specs.Read.{read}
 use Rattle.docs_core.specs.Arrays.{TakesRows}
 use Rattle.docs_core.specs.Checks.{AllPass, AreJson, Check, FirstFails, IsTextRefusal}
-use Rattle.docs_core.specs.Heads.{IsOwn, head_checks, is_first, own_data, rows_in}
+use Rattle.docs_core.specs.Heads.{IsOwn, head_checks, own_data, rows_in, version_of}
 use Rattle.docs_core.specs.declared.fault.DocCause.{DocCause}
 use Rattle.docs_core.specs.declared.fault.DocCause.TheVariants.{NoMemory, NotJson}
 use Rattle.docs_core.specs.declared.form.Form.{Form}
@@ -13,7 +13,7 @@ use Rattle.docs_core.specs.declared.parts.Parts.{Parts}
 -- the parts of a document that passes the tests of its head, with its rows as far as they pass theirs
 pub record HasParts {S : Type 0} (form : Form) (checks : List Data → Data → List Check) (Holds : S → List Data → Type 0) (d : Data) (parts : Parts) (rows : S) : Type 0 where
   pub passes : AllPass (head_checks form d)
-  pub numbered : parts.numbered ≡ is_first d
+  pub version : parts.version ≡ version_of d
   pub own : IsOwn parts.own (own_data form d)
   pub taken : TakesRows checks Holds [] rows parts.refusal (rows_in form d)
 

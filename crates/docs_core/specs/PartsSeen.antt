@@ -1,6 +1,6 @@
 -- A head, as the tests of a document see it.
 use Rattle.std.specs.Prelude.{◌≡◌, ◌⊎◌, true, false, Some, is_some}
-use Rattle.docs_core.specs.Heads.{is_one}
+use Rattle.docs_core.specs.Heads.{version_by}
 use Rattle.docs_core.specs.declared.fault.DocCause.{DocCause}
 use Rattle.docs_core.specs.declared.fault.DocCause.TheVariants.{Shape, VersionUnknown}
 use Rattle.docs_core.specs.declared.fault.Spot.TheVariants as spot
@@ -21,7 +21,7 @@ pub record PassesHead (head : Head) (parts : Parts) : Type 0 where
   pub starts : Starts head
   pub known : HasKnownVersion head
   pub whole : IsWhole head
-  pub numbered : parts.numbered ≡ is_one head.version
+  pub version : parts.version ≡ version_by head.version
   pub own : head.own ≡ Some parts.own
   pub rows : head.rows ≡ Some parts.refusal
 

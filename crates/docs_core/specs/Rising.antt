@@ -1,5 +1,5 @@
 -- Rows that are entries in rising order of key: their tests, and what they make. Own rule.
-use Rattle.std.specs.Prelude.{◌≡◌, ℕ, Bool, true, List, [], ◌∷◌, ◌++◌, ◌-◌, length, map, slice_get, Option, None, Some, is_some, unwrap_or, option_map, option_and_then}
+use Rattle.std.specs.Prelude.{◌≡◌, ℕ, true, List, [], ◌∷◌, ◌++◌, ◌-◌, length, map, slice_get, Option, None, Some, is_some, unwrap_or, option_map, option_and_then}
 use Rattle.std.specs.Option.{option_to_list}
 use Rattle.serde_json.specs.Data.{Data}
 use Rattle.cell_core.specs.declared.stamp.Stamp.{Stamp}
@@ -10,14 +10,15 @@ use Rattle.docs_core.specs.Rows.{cell_in, stamp_in}
 use Rattle.docs_core.specs.Values.{Row}
 use Rattle.docs_core.specs.declared.fault.DocCause.TheVariants.{Shape}
 use Rattle.docs_core.specs.declared.fault.Spot.TheVariants as spot
+use Rattle.docs_core.specs.declared.version.Version.{Version}
 
 -- the entry of a row of a site or a delta
-abbrev pub entry_in : Bool → Data → Option Entry
-entry_in numbered d = option_map (λ p. entry_of p.0 p.1) (cell_in numbered d)
+abbrev pub entry_in : Version → Data → Option Entry
+entry_in version d = option_map (λ p. entry_of p.0 p.1) (cell_in version d)
 
 -- the key and the stamp of a row of a summary
-abbrev pub told_in : Bool → Data → Option (EntryKey × Stamp)
-told_in numbered d = option_map told_of (stamp_in numbered d)
+abbrev pub told_in : Version → Data → Option (EntryKey × Stamp)
+told_in version d = option_map told_of (stamp_in version d)
 
 -- the key of the last row
 abbrev pub last_key : {J : Type 0} → (Data → Option (EntryKey × J)) → List Data → Option EntryKey
@@ -31,35 +32,35 @@ AreEntries entry rows entries = map entry rows ≡ map Some entries
 abbrev pub no_row : Row
 no_row = record { id = []; language = []; time = 0; site = []; count = 0 }
 
-abbrev pub cell_row : Bool → Data → Row × Option (List (List ℕ))
-cell_row numbered d = unwrap_or (cell_in numbered d) (no_row, None)
+abbrev pub cell_row : Version → Data → Row × Option (List (List ℕ))
+cell_row version d = unwrap_or (cell_in version d) (no_row, None)
 
-abbrev pub stamp_row : Bool → Data → Row
-stamp_row numbered d = unwrap_or (stamp_in numbered d) no_row
+abbrev pub stamp_row : Version → Data → Row
+stamp_row version d = unwrap_or (stamp_in version d) no_row
 
 -- the tests of the k-th row of a site or a delta by itself
-abbrev pub own_cell_checks : Bool → ℕ → Data → List Check
-own_cell_checks numbered k d =
-    check (is_some (cell_in numbered d) ≡ true) (Shape (spot.Row k))
-    ∷ cell_fields k (cell_row numbered d).0 (cell_row numbered d).1
+abbrev pub own_cell_checks : Version → ℕ → Data → List Check
+own_cell_checks version k d =
+    check (is_some (cell_in version d) ≡ true) (Shape (spot.Row k))
+    ∷ cell_fields k (cell_row version d).0 (cell_row version d).1
 
 -- the tests of the k-th row of a summary by itself
-abbrev pub own_stamp_checks : Bool → ℕ → Data → List Check
-own_stamp_checks numbered k d =
-    check (is_some (stamp_in numbered d) ≡ true) (Shape (spot.Row k))
-    ∷ stamp_fields k (stamp_row numbered d)
+abbrev pub own_stamp_checks : Version → ℕ → Data → List Check
+own_stamp_checks version k d =
+    check (is_some (stamp_in version d) ≡ true) (Shape (spot.Row k))
+    ∷ stamp_fields k (stamp_row version d)
 
 -- the tests of a row of a site or a delta behind these rows, in their order
-abbrev pub cell_checks : Bool → List Data → Data → List Check
-cell_checks numbered before d =
-    own_cell_checks numbered (length before) d
-    ++ order_check (length before) (last_key (entry_in numbered) before) (key_of (cell_row numbered d).0) ∷ []
+abbrev pub cell_checks : Version → List Data → Data → List Check
+cell_checks version before d =
+    own_cell_checks version (length before) d
+    ++ order_check (length before) (last_key (entry_in version) before) (key_of (cell_row version d).0) ∷ []
 
 -- the tests of a row of a summary behind these rows, in their order
-abbrev pub stamp_checks : Bool → List Data → Data → List Check
-stamp_checks numbered before d =
-    own_stamp_checks numbered (length before) d
-    ++ order_check (length before) (last_key (told_in numbered) before) (key_of (stamp_row numbered d)) ∷ []
+abbrev pub stamp_checks : Version → List Data → Data → List Check
+stamp_checks version before d =
+    own_stamp_checks version (length before) d
+    ++ order_check (length before) (last_key (told_in version) before) (key_of (stamp_row version d)) ∷ []
 
 -- the last key is above all others
 abbrev pub IsAboveOthers : {J : Type 0} → Option EntryKey → List (EntryKey × J) → Type 0

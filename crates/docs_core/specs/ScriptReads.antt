@@ -2,7 +2,7 @@
 use Rattle.std.specs.Prelude.{◌≡◌, ℕ, List, [], ◌∷◌, ◌++◌, true, Option, None, Some, is_some, if◌then◌else◌, option_and_then}
 use Rattle.serde_json.specs.Data.{Data}
 use Rattle.docs_core.specs.Checks.{Check, IsRefusal, check, rows_checks}
-use Rattle.docs_core.specs.Heads.{head_checks, is_first, own_data, rows_in}
+use Rattle.docs_core.specs.Heads.{head_checks, own_data, rows_in, version_of}
 use Rattle.docs_core.specs.ReadsAs.{Reads}
 use Rattle.docs_core.specs.Rows.{u64_in}
 use Rattle.docs_core.specs.Scripts.{ScriptState, is_site_count}
@@ -24,12 +24,12 @@ abbrev pub sites_check : Data → Check
 sites_check own = check (is_some (sites_in own) ≡ true) (Shape spot.Document)
 
 abbrev pub script_checks : Data → List Check
-script_checks d = head_checks Script d ++ (sites_check (own_data Script d) ∷ rows_checks (step_checks (is_first d)) [] (rows_in Script d))
+script_checks d = head_checks Script d ++ (sites_check (own_data Script d) ∷ rows_checks (step_checks (version_of d)) [] (rows_in Script d))
 
 -- the document has these sites and steps
 pub record IsScriptDocument (d : Data) (script : ScriptState) : Type 0 where
   pub sites : sites_in (own_data Script d) ≡ Some script.sites
-  pub steps : AreSteps (is_first d) (rows_in Script d) script.steps
+  pub steps : AreSteps (version_of d) (rows_in Script d) script.steps
 
 -- the bytes are a document of this script
 abbrev pub ReadsAsScript : List ℕ → ScriptState → Type 0

@@ -1,5 +1,5 @@
 -- The tests of a step, in their order, and the step that its fields make. Own rule.
-use Rattle.std.specs.Prelude.{◌≡◌, ◌≢◌, ◌≤◌, ℕ, Bool, true, List, [], ◌∷◌, length, Option, None, Some, is_some, option_map}
+use Rattle.std.specs.Prelude.{◌≡◌, ◌≢◌, ◌≤◌, ℕ, true, List, [], ◌∷◌, length, Option, None, Some, is_some, option_map}
 use Rattle.std.specs.Str.{str_to_ascii_lowercase}
 use Rattle.nego_core.specs.Field.{IsField, RefusesField}
 use Rattle.nego_core.specs.Item.{Item}
@@ -18,6 +18,7 @@ use Rattle.docs_core.specs.declared.fault.DocCause.{DocCause}
 use Rattle.docs_core.specs.declared.fault.DocCause.TheVariants.{Field, Shape}
 use Rattle.docs_core.specs.declared.fault.FieldFault.TheVariants.{Priorities}
 use Rattle.docs_core.specs.declared.fault.Spot.TheVariants as spot
+use Rattle.docs_core.specs.declared.version.Version.{Version}
 
 -- ---- priority lists
 
@@ -55,8 +56,8 @@ shaped_fields k None = []
 shaped_fields k (Some text) = step_fields k text
 
 -- a row of a script behind these rows
-abbrev pub step_checks : Bool → List Data → Data → List Check
-step_checks numbered before d = check (is_some (step_in numbered d) ≡ true) (Shape (spot.Row (length before))) ∷ shaped_fields (length before) (step_in numbered d)
+abbrev pub step_checks : Version → List Data → Data → List Check
+step_checks version before d = check (is_some (step_in version d) ≡ true) (Shape (spot.Row (length before))) ∷ shaped_fields (length before) (step_in version d)
 
 -- ---- the step that is made
 
@@ -72,12 +73,12 @@ Makes (post_step site told) step = step ≡ Post site told
 Makes (deliver_step post) step = step ≡ Deliver post
 
 -- the row is this step
-abbrev pub IsStep : Bool → Data → Step → Type 0
-IsStep numbered d step = (text : StepText) × (step_in numbered d ≡ Some text) × Makes text step
+abbrev pub IsStep : Version → Data → Step → Type 0
+IsStep version d step = (text : StepText) × (step_in version d ≡ Some text) × Makes text step
 
 -- each row is the step at its place
-abbrev pub AreSteps : Bool → List Data → List Step → Type 0
-AreSteps numbered [] [] = Unit {0}
-AreSteps numbered [] (step ∷ steps) = ⊥
-AreSteps numbered (d ∷ ds) [] = ⊥
-AreSteps numbered (d ∷ ds) (step ∷ steps) = IsStep numbered d step × AreSteps numbered ds steps
+abbrev pub AreSteps : Version → List Data → List Step → Type 0
+AreSteps version [] [] = Unit {0}
+AreSteps version [] (step ∷ steps) = ⊥
+AreSteps version (d ∷ ds) [] = ⊥
+AreSteps version (d ∷ ds) (step ∷ steps) = IsStep version d step × AreSteps version ds steps

@@ -1,5 +1,5 @@
 -- The steps of a script as JSON data, in both versions. Own rule.
-use Rattle.std.specs.Prelude.{ℕ, Bool, List, [], ◌∷◌, codes, Option, None, Some, if◌then◌else◌, option_map, option_and_then}
+use Rattle.std.specs.Prelude.{ℕ, List, [], ◌∷◌, codes, Option, None, Some, if◌then◌else◌, option_map, option_and_then}
 use Rattle.std.specs.Str.{bytes_eq}
 use Rattle.nego_core.specs.declared.scheme.Scheme.{Scheme}
 use Rattle.nego_core.specs.declared.scheme.Scheme.TheVariants.{Basic, Extended}
@@ -9,6 +9,7 @@ use Rattle.docs_core.specs.Rows.{cell_in, items_in, u32_in}
 use Rattle.docs_core.specs.Values.{Row}
 use Rattle.docs_core.specs.declared.steps.Word.{Word}
 use Rattle.docs_core.specs.declared.steps.Word.TheVariants.{Edit, Merge, Filter, Lookup, Cells, Tell, Post, Deliver}
+use Rattle.docs_core.specs.declared.version.Version.{Version}
 
 -- a step, with its texts as they are written
 pub data StepText : Type 0 where
@@ -54,9 +55,9 @@ default_in (object ms) = None
 -- ---- what stands behind the word
 
 -- `site,CELL`
-abbrev pub edit_of : Bool → List Data → Option StepText
-edit_of numbered (s ∷ c ∷ []) = option_and_then (λ site. option_map (λ cell. edit_step site cell) (cell_in numbered c)) (u32_in s)
-edit_of numbered _ = None
+abbrev pub edit_of : Version → List Data → Option StepText
+edit_of version (s ∷ c ∷ []) = option_and_then (λ site. option_map (λ cell. edit_step site cell) (cell_in version c)) (u32_in s)
+edit_of version _ = None
 
 -- `site,id,scheme,field`
 abbrev pub filter_of : List Data → Option StepText
@@ -82,20 +83,20 @@ abbrev pub two_of : (ℕ → ℕ → StepText) → List Data → Option StepText
 two_of step (d ∷ e ∷ []) = option_and_then (λ m. option_map (λ n. step m n) (u32_in e)) (u32_in d)
 two_of step _ = None
 
-abbrev pub behind : Bool → Word → List Data → Option StepText
-behind numbered Edit ds = edit_of numbered ds
-behind numbered Merge ds = two_of merge_step ds
-behind numbered Filter ds = filter_of ds
-behind numbered Lookup ds = lookup_of ds
-behind numbered Cells ds = one_of cells_step ds
-behind numbered Tell ds = one_of tell_step ds
-behind numbered Post ds = two_of post_step ds
-behind numbered Deliver ds = one_of deliver_step ds
+abbrev pub behind : Version → Word → List Data → Option StepText
+behind version Edit ds = edit_of version ds
+behind version Merge ds = two_of merge_step ds
+behind version Filter ds = filter_of ds
+behind version Lookup ds = lookup_of ds
+behind version Cells ds = one_of cells_step ds
+behind version Tell ds = one_of tell_step ds
+behind version Post ds = two_of post_step ds
+behind version Deliver ds = one_of deliver_step ds
 
-abbrev pub step_of : Bool → List Data → Option StepText
-step_of numbered [] = None
-step_of numbered (d ∷ ds) = option_and_then (λ text. option_and_then (λ word. behind numbered word ds) (word_of text)) (as_str d)
+abbrev pub step_of : Version → List Data → Option StepText
+step_of version [] = None
+step_of version (d ∷ ds) = option_and_then (λ text. option_and_then (λ word. behind version word ds) (word_of text)) (as_str d)
 
 -- a row of a script
-abbrev pub step_in : Bool → Data → Option StepText
-step_in numbered d = option_and_then (step_of numbered) (items_in d)
+abbrev pub step_in : Version → Data → Option StepText
+step_in version d = option_and_then (step_of version) (items_in d)

@@ -1,5 +1,5 @@
 //! The rows of an array, taken one after another as they are read.
-ghost use Rattle.std.specs.Prelude.{◌≡◌, ◌≢◌, ◌⊎◌, ◌∷◌, [], ◌++◌, ◌<◌, ◌+◌, ◌≤◌, ◌^◌, ℕ, Bool, List, None, true, length, MatchResult, OnOk, IfErr};
+ghost use Rattle.std.specs.Prelude.{◌≡◌, ◌≢◌, ◌⊎◌, ◌∷◌, [], ◌++◌, ◌<◌, ◌+◌, ◌≤◌, ◌^◌, ℕ, List, None, true, length, MatchResult, OnOk, IfErr};
 ghost use Rattle.json.specs.Json.{value};
 ghost use Rattle.json.specs.Value.{value_view};
 ghost use Rattle.serde_json.specs.Data.{Data, Items};
@@ -9,37 +9,39 @@ ghost use Rattle.docs_core.specs.Numbers.{are_in_range};
 ghost use Rattle.docs_core.specs.Reads.{IsRead, Reads, seen};
 ghost use Rattle.docs_core.specs.Rows.{list_of};
 ghost use Rattle.docs_core.specs.declared.fault.DocCause.TheVariants.{NoMemory, NotJson};
+ghost use Rattle.docs_core.specs.declared.version.Version.{Version};
 
 use crate::fault::DocCause;
 use crate::scanning::next_value;
+use crate::version::Version;
 use json::{Reader, Value};
 use std::alloc::Global;
 
 /// Takes the rows of a document in their order, each only where it passes the tests of a row.
 pub trait Rows {
     // The tests of a row of this version behind those before it, in their order.
-    ghost Checks: { Bool → List Data → Data → List Check };
+    ghost Checks: { Version → List Data → Data → List Check };
 
     // What is held is what these rows of this version make.
-    ghost Holds: { Bool → Self → List Data → Type 0 };
+    ghost Holds: { Version → Self → List Data → Type 0 };
 
     /// Forgets all rows.
     fn clear(&mut self, alloc: Global)
-        ensures { (numbered : Bool) → Holds numbered self.new [] };
+        ensures { (version : Version) → Holds version self.new [] };
 
-    /// Takes the row at this place, where `numbered` says that it is of version 1.
+    /// Takes the row at this place, which is of this version.
     fn take(
         &mut self,
         alloc: Global,
-        numbered: bool,
+        version: Version,
         place: usize,
         row: &Value<'_>,
     ) -> Result<(), DocCause>
         requires { IsRead (value_view row.now) }
-        ensures ok { OnOk result ((before : List Data) → length before ≡ place → Holds numbered self.old before
-            → AllPass (Checks numbered before (seen row.now)) × Holds numbered self.new (before ++ seen row.now ∷ [])) }
-        ensures err { IfErr result (λ e. (e ≡ NoMemory) ⊎ ((before : List Data) → length before ≡ place → Holds numbered self.old before
-            → FirstFails (Checks numbered before (seen row.now)) e)) };
+        ensures ok { OnOk result ((before : List Data) → length before ≡ place → Holds version self.old before
+            → AllPass (Checks version before (seen row.now)) × Holds version self.new (before ++ seen row.now ∷ [])) }
+        ensures err { IfErr result (λ e. (e ≡ NoMemory) ⊎ ((before : List Data) → length before ≡ place → Holds version self.old before
+            → FirstFails (Checks version before (seen row.now)) e)) };
 }
 
 /// Reads an array after its `[`. Returns the first refused row, if any, but reads on: a syntax
@@ -48,13 +50,13 @@ pub fn read_rows<R: Rows>(
     alloc: Global,
     reader: &mut Reader<'_>,
     depth: usize,
-    numbered: bool,
+    version: Version,
     rows: &mut R,
 ) -> Result<Option<DocCause>, DocCause>
     requires numbers { are_in_range reader.old ≡ true }
     requires places { length reader.old < 2 ^ 64 }
     ensures read { MatchResult result
-        (λ refusal. (ds : Items) × ReadsItems depth reader.old ds reader.new × TakesRows (R.Checks numbered) (R.Holds numbered) [] rows.new refusal (list_of ds))
+        (λ refusal. (ds : Items) × ReadsItems depth reader.old ds reader.new × TakesRows (R.Checks version) (R.Holds version) [] rows.new refusal (list_of ds))
         (λ e. (e ≡ NoMemory) ⊎ ((e ≡ NotJson) × ReadsNoItems depth reader.old)) }
     ensures left { OnOk result (are_in_range reader.new ≡ true) }
     ensures shorter { OnOk result (length reader.new < length reader.old) }
@@ -63,7 +65,7 @@ pub fn read_rows<R: Rows>(
     let mut refusal = None;
     let mut place = 0;
     'rows: while !reader.take_end_array() {
-        match read_row(alloc, reader, depth, numbered, place, rows, refusal) {
+        match read_row(alloc, reader, depth, version, place, rows, refusal) {
             Ok(next) => refusal = next,
             Err(cause) => return Err(cause),
         }
@@ -77,26 +79,26 @@ fn read_row<R: Rows>(
     alloc: Global,
     reader: &mut Reader<'_>,
     depth: usize,
-    numbered: bool,
+    version: Version,
     place: usize,
     rows: &mut R,
     refusal: Option<DocCause>,
 ) -> Result<Option<DocCause>, DocCause>
     requires { are_in_range reader.old ≡ true }
     ensures read { MatchResult result
-        (λ next. (d : Data) × Reads depth reader.old d reader.new × ((before : List Data) → length before ≡ place → TakesNext (R.Checks numbered) (R.Holds numbered) before refusal rows.old rows.new next d))
+        (λ next. (d : Data) × Reads depth reader.old d reader.new × ((before : List Data) → length before ≡ place → TakesNext (R.Checks version) (R.Holds version) before refusal rows.old rows.new next d))
         (λ e. (e ≡ NoMemory) ⊎ ((e ≡ NotJson) × (value depth reader.old ≡ None))) }
     ensures left { OnOk result (are_in_range reader.new ≡ true) }
     ensures shorter { OnOk result (length reader.new < length reader.old) }
 {
     let row = next_value(alloc, reader, depth)?;
-    take_row(alloc, numbered, place, &row, rows, refusal)
+    take_row(alloc, version, place, &row, rows, refusal)
 }
 
 // Takes a row, unless one was refused before it.
 fn take_row<R: Rows>(
     alloc: Global,
-    numbered: bool,
+    version: Version,
     place: usize,
     row: &Value<'_>,
     rows: &mut R,
@@ -104,29 +106,29 @@ fn take_row<R: Rows>(
 ) -> Result<Option<DocCause>, DocCause>
     requires { IsRead (value_view row.now) }
     ensures { MatchResult result
-        (λ next. (before : List Data) → length before ≡ place → TakesNext (R.Checks numbered) (R.Holds numbered) before refusal rows.old rows.new next (seen row.now))
+        (λ next. (before : List Data) → length before ≡ place → TakesNext (R.Checks version) (R.Holds version) before refusal rows.old rows.new next (seen row.now))
         (λ e. e ≡ NoMemory) }
 {
     match refusal {
         Some(cause) => Ok(Some(cause)),
-        None => taken(alloc, numbered, place, row, rows),
+        None => taken(alloc, version, place, row, rows),
     }
 }
 
 // Takes a row, or says why it is refused; out of memory is no refusal.
 fn taken<R: Rows>(
     alloc: Global,
-    numbered: bool,
+    version: Version,
     place: usize,
     row: &Value<'_>,
     rows: &mut R,
 ) -> Result<Option<DocCause>, DocCause>
     requires { IsRead (value_view row.now) }
     ensures { MatchResult result
-        (λ refusal. (before : List Data) → length before ≡ place → R.Holds numbered rows.old before → TakesRows (R.Checks numbered) (R.Holds numbered) before rows.new refusal (seen row.now ∷ []))
+        (λ refusal. (before : List Data) → length before ≡ place → R.Holds version rows.old before → TakesRows (R.Checks version) (R.Holds version) before rows.new refusal (seen row.now ∷ []))
         (λ e. e ≡ NoMemory) }
 {
-    match rows.take(alloc, numbered, place, row) {
+    match rows.take(alloc, version, place, row) {
         Ok(()) => Ok(None),
         Err(cause) => {
             let refusal = unless_memory(cause)?;

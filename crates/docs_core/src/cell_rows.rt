@@ -15,6 +15,7 @@ use crate::fault::{DocCause, Spot};
 use crate::fields::{CellEntry, cell_entry};
 use crate::keys::is_above;
 use crate::rows::cell_of;
+use crate::version::Version;
 use cata_core::Catalogue;
 use json::Value;
 use std::alloc::{AllocError, Global};
@@ -103,7 +104,7 @@ impl CellRows {
 impl Rows for CellRows {
     ghost Checks = { cell_checks };
 
-    ghost Holds = { λ numbered held rows. MakesEntries (entry_in numbered) rows held };
+    ghost Holds = { λ version held rows. MakesEntries (entry_in version) rows held };
 
     fn clear(&mut self, alloc: Global) {
         *self = CellRows::new(alloc);
@@ -112,11 +113,11 @@ impl Rows for CellRows {
     fn take(
         &mut self,
         alloc: Global,
-        numbered: bool,
+        version: Version,
         place: usize,
         row: &Value<'_>,
     ) -> Result<(), DocCause> {
-        let entry = own_entry(alloc, numbered, place, row)?;
+        let entry = own_entry(alloc, version, place, row)?;
         if !self.rises_to(&entry) {
             return Err(DocCause::CellOrder { row: place });
         }
@@ -128,16 +129,16 @@ impl Rows for CellRows {
 // What the row is by itself.
 fn own_entry(
     alloc: Global,
-    numbered: bool,
+    version: Version,
     place: usize,
     row: &Value<'_>,
 ) -> Result<CellEntry, DocCause>
     requires { IsRead (value_view row.now) }
     ensures { MatchResult result
-        (λ x. AllPass (own_cell_checks numbered place (seen row.now)) × (entry_in numbered (seen row.now) ≡ Some (entry_by x)))
-        (λ e. (e ≡ NoMemory) ⊎ FirstFails (own_cell_checks numbered place (seen row.now)) e) }
+        (λ x. AllPass (own_cell_checks version place (seen row.now)) × (entry_in version (seen row.now) ≡ Some (entry_by x)))
+        (λ e. (e ≡ NoMemory) ⊎ FirstFails (own_cell_checks version place (seen row.now)) e) }
 {
-    let Some(cell) = cell_of(numbered, row) else {
+    let Some(cell) = cell_of(version, row) else {
         return Err(DocCause::Shape {
             spot: Spot::Row(place),
         });

@@ -18,6 +18,7 @@ use crate::fault::DocCause;
 use crate::form::{Form, Member};
 use crate::rows::{text_of, u64_of};
 use crate::scanning::next_value;
+use crate::version::Version;
 use cell_core::SiteName;
 use json::{Reader, Token, Value};
 use std::alloc::Global;
@@ -54,13 +55,13 @@ pub fn read_members<R: Rows>(
     alloc: Global,
     reader: &mut Reader<'_>,
     form: Form,
-    numbered: bool,
+    version: Version,
     rows: &mut R,
 ) -> Result<Head, DocCause>
     requires numbers { are_in_range reader.old ≡ true }
     requires places { length reader.old < 2 ^ 64 }
     ensures { MatchResult result
-        (λ head. (ms : Members) × ReadsMembers 126 reader.old ms reader.new × Shows form (R.Checks numbered) (R.Holds numbered) head rows.new ms)
+        (λ head. (ms : Members) × ReadsMembers 126 reader.old ms reader.new × Shows form (R.Checks version) (R.Holds version) head rows.new ms)
         (λ e. (e ≡ NoMemory) ⊎ ((e ≡ NotJson) × ReadsNoMembers 126 reader.old)) }
 {
     let mut head = Head {
@@ -72,7 +73,7 @@ pub fn read_members<R: Rows>(
     };
     'members: while let Some(name) = next_name(reader)? {
         let member = form.member(name);
-        head = read_member(alloc, reader, form, numbered, member, head, rows)?;
+        head = read_member(alloc, reader, form, version, member, head, rows)?;
     }
     Ok(head)
 }
@@ -94,7 +95,7 @@ fn read_member<R: Rows>(
     alloc: Global,
     reader: &mut Reader<'_>,
     form: Form,
-    numbered: bool,
+    version: Version,
     member: Member,
     head: Head,
     rows: &mut R,
@@ -103,15 +104,15 @@ fn read_member<R: Rows>(
     requires places { length reader.old < 2 ^ 64 }
     ensures { MatchResult result
         (λ next. (d : Data) × ReadsNext reader.old d reader.new
-        × ((name : List ℕ) (ms : Members) → member_of form name ≡ member → Shows form (R.Checks numbered) (R.Holds numbered) head rows.old ms
-        → Shows form (R.Checks numbered) (R.Holds numbered) next rows.new (put name d ms)))
+        × ((name : List ℕ) (ms : Members) → member_of form name ≡ member → Shows form (R.Checks version) (R.Holds version) head rows.old ms
+        → Shows form (R.Checks version) (R.Holds version) next rows.new (put name d ms)))
         (ReadsNone reader.old) }
 {
     match member {
         Member::Kind => read_kind(alloc, reader, form, head),
         Member::Version => read_version(alloc, reader, head),
         Member::Own => read_own(alloc, reader, head),
-        Member::Rows => read_array(alloc, reader, numbered, head, rows),
+        Member::Rows => read_array(alloc, reader, version, head, rows),
         Member::Other => pass_over(reader, head),
     }
 }
@@ -164,7 +165,7 @@ fn read_own(alloc: Global, reader: &mut Reader<'_>, head: Head) -> Result<Head, 
 fn read_array<R: Rows>(
     alloc: Global,
     reader: &mut Reader<'_>,
-    numbered: bool,
+    version: Version,
     head: Head,
     rows: &mut R,
 ) -> Result<Head, DocCause>
@@ -172,7 +173,7 @@ fn read_array<R: Rows>(
     requires places { length reader.old < 2 ^ 64 }
     ensures { MatchResult result
         (λ next. (d : Data) × ReadsNext reader.old d reader.new
-        × ((read : Option (Option DocCause)) × ShowsRows (R.Checks numbered) (R.Holds numbered) read rows.new (items_in d) × (next ≡ record head { rows = read })))
+        × ((read : Option (Option DocCause)) × ShowsRows (R.Checks version) (R.Holds version) read rows.new (items_in d) × (next ≡ record head { rows = read })))
         (ReadsNone reader.old) }
 {
     let Some(token) = reader.next() else {
@@ -180,7 +181,7 @@ fn read_array<R: Rows>(
     };
     match token {
         Token::BeginArray => {
-            let refusal = read_rows(alloc, reader, MEMBER_DEPTH - 1, numbered, rows)?;
+            let refusal = read_rows(alloc, reader, MEMBER_DEPTH - 1, version, rows)?;
             Ok(Head {
                 rows: Some(refusal),
                 ..head

@@ -63,6 +63,7 @@ mod status;
 mod step_fields;
 mod steps;
 mod updating;
+mod version;
 mod writing;
 
 pub use asking::{Ask, ask_document};

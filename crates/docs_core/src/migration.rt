@@ -1,5 +1,5 @@
 //! Laws: a document of version 1 is read as what its plain data become.
-ghost use Rattle.std.specs.Prelude.{◌≡◌, true, Some, List, Option, ℕ};
+ghost use Rattle.std.specs.Prelude.{◌≡◌, Some, List, Option, ℕ};
 ghost use Rattle.serde_json.specs.Data.{Data};
 ghost use Rattle.cata_core.specs.Migration.{OldDelta, OldEntry, OldSite, OldSummary, migrated_delta, migrated_entry, migrated_site, migrated_summary};
 ghost use Rattle.cata_core.specs.Sites.{SiteState};
@@ -7,7 +7,7 @@ ghost use Rattle.cata_core.specs.Told.{SummaryState};
 ghost use Rattle.cata_core.specs.declared.delta.Delta.{Delta};
 ghost use Rattle.docs_core.specs.Checks.{AreJson};
 ghost use Rattle.docs_core.specs.Fields.{entry_of};
-ghost use Rattle.docs_core.specs.Heads.{is_first};
+ghost use Rattle.docs_core.specs.Heads.{version_of};
 ghost use Rattle.docs_core.specs.OldRows.{IsOldDeltaDocument, IsOldScriptDocument, IsOldSiteDocument, IsOldSummaryDocument, OldScript, migrated_script, old_entry_in};
 ghost use Rattle.docs_core.specs.Named.{IsDeltaDocument, IsSiteDocument, IsSummaryDocument};
 ghost use Rattle.docs_core.specs.ReadsAs.{ReadsAsDelta, ReadsAsSite, ReadsAsSummary};
@@ -15,45 +15,46 @@ ghost use Rattle.docs_core.specs.Rows.{cell_in};
 ghost use Rattle.docs_core.specs.ScriptReads.{IsScriptDocument, ReadsAsScript};
 ghost use Rattle.docs_core.specs.Scripts.{ScriptState};
 ghost use Rattle.docs_core.specs.Values.{Row};
+ghost use Rattle.docs_core.specs.declared.version.Version.TheVariants.{One};
 
 /// A row with a cell is read as the migrated cell that it has.
 pub fn a_row_reads_as_migrated()
-    ensures { (d : Data) (p : Row × Option (List (List ℕ))) → cell_in true d ≡ Some p
+    ensures { (d : Data) (p : Row × Option (List (List ℕ))) → cell_in One d ≡ Some p
         → (old : OldEntry) × (old_entry_in d ≡ Some old) × (migrated_entry old ≡ entry_of p.0 p.1) }
 {}
 
 /// A site is read as the migrated site that its document has.
 pub fn a_site_reads_as_migrated()
-    ensures { (d : Data) (site : SiteState) → is_first d ≡ true → IsSiteDocument d site
+    ensures { (d : Data) (site : SiteState) → version_of d ≡ One → IsSiteDocument d site
         → (old : OldSite) × IsOldSiteDocument d old × (site ≡ migrated_site old) }
 {}
 
 /// A delta is read as the migrated delta that its document has.
 pub fn a_delta_reads_as_migrated()
-    ensures { (d : Data) (delta : Delta) → is_first d ≡ true → IsDeltaDocument d delta
+    ensures { (d : Data) (delta : Delta) → version_of d ≡ One → IsDeltaDocument d delta
         → (old : OldDelta) × IsOldDeltaDocument d old × (delta ≡ migrated_delta old) }
 {}
 
 /// A summary is read as the migrated summary that its document has.
 pub fn a_summary_reads_as_migrated()
-    ensures { (d : Data) (summary : SummaryState) → is_first d ≡ true → IsSummaryDocument d summary
+    ensures { (d : Data) (summary : SummaryState) → version_of d ≡ One → IsSummaryDocument d summary
         → (old : OldSummary) × IsOldSummaryDocument d old × (summary ≡ migrated_summary old) }
 {}
 
 /// A script is read as the migrated script that its document has.
 pub fn a_script_reads_as_migrated()
-    ensures { (d : Data) (script : ScriptState) → is_first d ≡ true → IsScriptDocument d script
+    ensures { (d : Data) (script : ScriptState) → version_of d ≡ One → IsScriptDocument d script
         → (old : OldScript) × IsOldScriptDocument d old × (script ≡ migrated_script old) }
 {}
 
 /// What a reader answers on a text of version 1 is the migrated value of what the text holds.
 pub fn a_text_reads_as_migrated()
-    ensures site { (bytes : List ℕ) (d : Data) (site : SiteState) → AreJson bytes d → is_first d ≡ true → ReadsAsSite bytes site
+    ensures site { (bytes : List ℕ) (d : Data) (site : SiteState) → AreJson bytes d → version_of d ≡ One → ReadsAsSite bytes site
         → (old : OldSite) × IsOldSiteDocument d old × (site ≡ migrated_site old) }
-    ensures delta { (bytes : List ℕ) (d : Data) (delta : Delta) → AreJson bytes d → is_first d ≡ true → ReadsAsDelta bytes delta
+    ensures delta { (bytes : List ℕ) (d : Data) (delta : Delta) → AreJson bytes d → version_of d ≡ One → ReadsAsDelta bytes delta
         → (old : OldDelta) × IsOldDeltaDocument d old × (delta ≡ migrated_delta old) }
-    ensures summary { (bytes : List ℕ) (d : Data) (summary : SummaryState) → AreJson bytes d → is_first d ≡ true → ReadsAsSummary bytes summary
+    ensures summary { (bytes : List ℕ) (d : Data) (summary : SummaryState) → AreJson bytes d → version_of d ≡ One → ReadsAsSummary bytes summary
         → (old : OldSummary) × IsOldSummaryDocument d old × (summary ≡ migrated_summary old) }
-    ensures script { (bytes : List ℕ) (d : Data) (script : ScriptState) → AreJson bytes d → is_first d ≡ true → ReadsAsScript bytes script
+    ensures script { (bytes : List ℕ) (d : Data) (script : ScriptState) → AreJson bytes d → version_of d ≡ One → ReadsAsScript bytes script
         → (old : OldScript) × IsOldScriptDocument d old × (script ≡ migrated_script old) }
 {}

@@ -1,11 +1,12 @@
 //! Documents that name a site, read.
-ghost use Rattle.std.specs.Prelude.{◌≡◌, Some, true, false, MatchResult, IfOk, IfErr};
+ghost use Rattle.std.specs.Prelude.{◌≡◌, Some, MatchResult, IfOk, IfErr};
 ghost use Rattle.serde_json.specs.Data.{Data};
 ghost use Rattle.docs_core.specs.Checks.{AllPass, AreJson, FirstFails, IsRefusal};
-ghost use Rattle.docs_core.specs.Heads.{IsOwn, is_first, rows_in};
+ghost use Rattle.docs_core.specs.Heads.{IsOwn, rows_in, version_of};
 ghost use Rattle.docs_core.specs.Named.{document_checks, named_in, own_checks};
 ghost use Rattle.docs_core.specs.ReadsAs.{ReadsAsDelta, ReadsAsSite, ReadsAsSummary, RefusesDelta, RefusesSite, RefusesSummary};
 ghost use Rattle.docs_core.specs.Rows.{site_in};
+ghost use Rattle.docs_core.specs.declared.version.Version.TheVariants.{One, Two};
 
 use crate::arrays::Rows;
 use crate::as_written::cells_as_written;
@@ -15,6 +16,7 @@ use crate::form::Form;
 use crate::head::Own;
 use crate::parts::read_parts;
 use crate::stamp_rows::StampRows;
+use crate::version::Version;
 use cata_core::{Delta, Site, Summary};
 use cell_core::SiteName;
 use std::alloc::Global;
@@ -76,11 +78,11 @@ fn read_named<R: Rows>(
     form: Form,
     rows: &mut R,
 ) -> Result<SiteName, DocCause>
-    ensures ok { IfOk result (λ name. (d : Data) × AreJson bytes.now d × AllPass (document_checks form R.Checks d) × (named_in form d ≡ Some name) × R.Holds (is_first d) rows.new (rows_in form d)) }
+    ensures ok { IfOk result (λ name. (d : Data) × AreJson bytes.now d × AllPass (document_checks form R.Checks d) × (named_in form d ≡ Some name) × R.Holds (version_of d) rows.new (rows_in form d)) }
     ensures err { IfErr result (IsRefusal (document_checks form R.Checks) bytes.now) }
 {
     let parts = read_parts(alloc, bytes, form, rows)?;
-    let name = own_name(parts.numbered, parts.own)?;
+    let name = own_name(parts.version, parts.own)?;
     match parts.refusal {
         Some(cause) => Err(cause),
         None => Ok(name),
@@ -88,22 +90,21 @@ fn read_named<R: Rows>(
 }
 
 // The name of the site, as this version writes it.
-fn own_name(numbered: bool, own: Own) -> Result<SiteName, DocCause>
+fn own_name(version: Version, own: Own) -> Result<SiteName, DocCause>
     ensures { (d : Data) → IsOwn own d → MatchResult result
-        (λ name. AllPass (own_checks numbered d) × (site_in numbered d ≡ Some name))
-        (FirstFails (own_checks numbered d)) }
+        (λ name. AllPass (own_checks version d) × (site_in version d ≡ Some name))
+        (FirstFails (own_checks version d)) }
 {
-    if numbered {
-        numbered_name(own)
-    } else {
-        written_name(own)
+    match version {
+        Version::One => numbered_name(own),
+        Version::Two => written_name(own),
     }
 }
 
 fn numbered_name(own: Own) -> Result<SiteName, DocCause>
     ensures { (d : Data) → IsOwn own d → MatchResult result
-        (λ name. AllPass (own_checks true d) × (site_in true d ≡ Some name))
-        (FirstFails (own_checks true d)) }
+        (λ name. AllPass (own_checks One d) × (site_in One d ≡ Some name))
+        (FirstFails (own_checks One d)) }
 {
     match own {
         Own::Number(number) => match u32::try_from(number) {
@@ -116,8 +117,8 @@ fn numbered_name(own: Own) -> Result<SiteName, DocCause>
 
 fn written_name(own: Own) -> Result<SiteName, DocCause>
     ensures { (d : Data) → IsOwn own d → MatchResult result
-        (λ name. AllPass (own_checks false d) × (site_in false d ≡ Some name))
-        (FirstFails (own_checks false d)) }
+        (λ name. AllPass (own_checks Two d) × (site_in Two d ≡ Some name))
+        (FirstFails (own_checks Two d)) }
 {
     match own {
         Own::Name(name) => Ok(name),

@@ -20,6 +20,7 @@ use crate::fault::{DocCause, Spot};
 use crate::form::Form;
 use crate::head::{Head, Own, read_members};
 use crate::scanning::has_numbers_in_range;
+use crate::version::Version;
 use json::{Reader, Scratch, Token};
 use std::alloc::Global;
 
@@ -29,8 +30,7 @@ const MOST_DEPTH: usize = 127;
 /// The header of a document, and the first refusal of a row.
 #[derive(Clone, Copy, Debug)]
 pub struct Parts {
-    /// The version is 1.
-    pub numbered: bool,
+    pub version: Version,
     /// What names a site, or says how many there are.
     pub own: Own,
     pub refusal: Option<DocCause>,
@@ -49,17 +49,16 @@ pub fn read_parts<R: Rows>(
     rows: &mut R,
 ) -> Result<Parts, DocCause>
     ensures { MatchResult result
-        (λ parts. (d : Data) × AreJson bytes.now d × HasParts form (R.Checks parts.numbered) (R.Holds parts.numbered) d parts rows.new)
+        (λ parts. (d : Data) × AreJson bytes.now d × HasParts form (R.Checks parts.version) (R.Holds parts.version) d parts rows.new)
         (RefusesHead form bytes.now) }
 {
     let text = text_in(bytes)?;
     let mut scratch = Scratch::new(alloc);
     check_numbers(text, &mut scratch)?;
-    let parts = read_as(alloc, text, &mut scratch, form, false, rows)?;
-    if parts.numbered {
-        read_as(alloc, text, &mut scratch, form, true, rows)
-    } else {
-        Ok(parts)
+    let parts = read_as(alloc, text, &mut scratch, form, Version::Two, rows)?;
+    match parts.version {
+        Version::One => read_as(alloc, text, &mut scratch, form, Version::One, rows),
+        Version::Two => Ok(parts),
     }
 }
 
@@ -97,15 +96,15 @@ fn read_as<R: Rows>(
     text: &str,
     scratch: &mut Scratch,
     form: Form,
-    numbered: bool,
+    version: Version,
     rows: &mut R,
 ) -> Result<Parts, DocCause>
     requires { are_in_range (tokens text.now) ≡ true }
     ensures { MatchResult result
-        (λ parts. (d : Data) × (read text.now ≡ Some d) × HasParts form (R.Checks numbered) (R.Holds numbered) d parts rows.new)
+        (λ parts. (d : Data) × (read text.now ≡ Some d) × HasParts form (R.Checks version) (R.Holds version) d parts rows.new)
         (RefusesText form text.now) }
 {
-    match read_object(alloc, text, scratch, form, numbered, rows)? {
+    match read_object(alloc, text, scratch, form, version, rows)? {
         Some(head) => head_parts(head),
         None => Err(DocCause::Shape {
             spot: Spot::Document,
@@ -119,20 +118,20 @@ fn read_object<R: Rows>(
     text: &str,
     scratch: &mut Scratch,
     form: Form,
-    numbered: bool,
+    version: Version,
     rows: &mut R,
 ) -> Result<Option<Head>, DocCause>
     requires { are_in_range (tokens text.now) ≡ true }
     ensures { MatchResult result
         (λ head. MatchOption head ((d : Data) × (read text.now ≡ Some d) × (as_object d ≡ None))
-        (λ h. (ms : Members) × (read text.now ≡ Some (object ms)) × Shows form (R.Checks numbered) (R.Holds numbered) h rows.new ms))
+        (λ h. (ms : Members) × (read text.now ≡ Some (object ms)) × Shows form (R.Checks version) (R.Holds version) h rows.new ms))
         (λ e. (e ≡ NoMemory) ⊎ ((e ≡ NotJson) × (read text.now ≡ None))) }
 {
     let Ok(mut reader) = Reader::new(text, scratch) else {
         return Err(DocCause::NoMemory);
     };
     if begins_object(&mut reader) {
-        let head = read_rest(alloc, &mut reader, form, numbered, rows)?;
+        let head = read_rest(alloc, &mut reader, form, version, rows)?;
         Ok(Some(head))
     } else {
         check_value(text, scratch)?;
@@ -152,16 +151,16 @@ fn read_rest<R: Rows>(
     alloc: Global,
     reader: &mut Reader<'_>,
     form: Form,
-    numbered: bool,
+    version: Version,
     rows: &mut R,
 ) -> Result<Head, DocCause>
     requires numbers { are_in_range reader.old ≡ true }
     requires places { length reader.old < 2 ^ 64 }
     ensures { MatchResult result
-        (λ head. (ms : Members) × ReadsMembers 126 reader.old ms [] × Shows form (R.Checks numbered) (R.Holds numbered) head rows.new ms)
+        (λ head. (ms : Members) × ReadsMembers 126 reader.old ms [] × Shows form (R.Checks version) (R.Holds version) head rows.new ms)
         (λ e. (e ≡ NoMemory) ⊎ ((e ≡ NotJson) × IsNotWhole reader.old)) }
 {
-    let head = read_members(alloc, reader, form, numbered, rows)?;
+    let head = read_members(alloc, reader, form, version, rows)?;
     match reader.next() {
         None => Ok(head),
         Some(_) => Err(DocCause::NotJson),
@@ -204,12 +203,12 @@ fn head_parts(head: Head) -> Result<Parts, DocCause>
     if !is_kind {
         return Err(shape);
     }
-    let Some(version) = version else {
+    let Some(number) = version else {
         return Err(shape);
     };
-    if version != 1 && version != 2 {
+    let Some(version) = Version::of_number(number) else {
         return Err(DocCause::VersionUnknown);
-    }
+    };
     if has_other {
         return Err(shape);
     }
@@ -220,7 +219,7 @@ fn head_parts(head: Head) -> Result<Parts, DocCause>
         return Err(shape);
     };
     Ok(Parts {
-        numbered: version == 1,
+        version,
         own,
         refusal,
     })

@@ -8,6 +8,7 @@ ghost use Rattle.docs_core.specs.Rows.{cell_in, items_in, label_in, parts_in, si
 ghost use Rattle.docs_core.specs.RowsSeen.{AreTextsOf, cell_of, row_of, site_of, texts_of};
 
 use crate::numbers::whole_number;
+use crate::version::Version;
 use json::Value;
 
 /// How a document names a site: by its number in version 1, by its name in version 2.
@@ -68,25 +69,24 @@ pub fn items_of<'v, 't>(value: &'v Value<'t>) -> Option<&'v [Value<'t>]>
 }
 
 /// The site, where the value names one as this version does.
-pub fn site_of<'t>(numbered: bool, value: &Value<'t>) -> Option<SiteText<'t>>
-    ensures { option_map site_of result ≡ site_in numbered (seen value.now) }
+pub fn site_of<'t>(version: Version, value: &Value<'t>) -> Option<SiteText<'t>>
+    ensures { option_map site_of result ≡ site_in version (seen value.now) }
 {
-    if numbered {
-        Some(SiteText::Number(u32_of(value)?))
-    } else {
-        Some(SiteText::Name(text_of(value)?))
+    match version {
+        Version::One => Some(SiteText::Number(u32_of(value)?)),
+        Version::Two => Some(SiteText::Name(text_of(value)?)),
     }
 }
 
 /// The row of a summary, where the value has its shape.
-pub fn stamp_of<'t>(numbered: bool, value: &Value<'t>) -> Option<Row<'t>>
+pub fn stamp_of<'t>(version: Version, value: &Value<'t>) -> Option<Row<'t>>
     requires { IsRead (value_view value.now) }
-    ensures { option_map row_of result ≡ stamp_in numbered (seen value.now) }
+    ensures { option_map row_of result ≡ stamp_in version (seen value.now) }
 {
     let [id, language, time, site, count] = items_of(value)? else {
         return None;
     };
-    parts_of(numbered, id, language, time, site, count)
+    parts_of(version, id, language, time, site, count)
 }
 
 /// The texts of a label, where the value is one; none for null.
@@ -119,35 +119,35 @@ fn each_is_text(items: &[Value<'_>]) -> bool
 }
 
 /// The row of a site or a delta, where the value has its shape.
-pub fn cell_of<'v, 't>(numbered: bool, value: &'v Value<'t>) -> Option<CellRow<'v, 't>>
+pub fn cell_of<'v, 't>(version: Version, value: &'v Value<'t>) -> Option<CellRow<'v, 't>>
     requires { IsRead (value_view value.now) }
-    ensures cell { option_map cell_of result ≡ cell_in numbered (seen value.now) }
+    ensures cell { option_map cell_of result ≡ cell_in version (seen value.now) }
     ensures texts { IfSome result (λ cell. AreTextsOf cell.texts) }
 {
     let [id, language, time, site, count, label] = items_of(value)? else {
         return None;
     };
-    let row = parts_of(numbered, id, language, time, site, count)?;
+    let row = parts_of(version, id, language, time, site, count)?;
     let texts = label_of(label)?;
     Some(CellRow { row, texts })
 }
 
 // What a row of either kind begins with.
 fn parts_of<'t>(
-    numbered: bool,
+    version: Version,
     id: &Value<'t>,
     language: &Value<'t>,
     time: &Value<'t>,
     site: &Value<'t>,
     count: &Value<'t>,
 ) -> Option<Row<'t>>
-    ensures { option_map row_of result ≡ parts_in numbered (seen id.now) (seen language.now) (seen time.now) (seen site.now) (seen count.now) }
+    ensures { option_map row_of result ≡ parts_in version (seen id.now) (seen language.now) (seen time.now) (seen site.now) (seen count.now) }
 {
     Some(Row {
         id: text_of(id)?,
         language: text_of(language)?,
         time: u64_of(time)?,
-        site: site_of(numbered, site)?,
+        site: site_of(version, site)?,
         count: u32_of(count)?,
     })
 }

@@ -7,6 +7,7 @@ use crate::arrays::Rows;
 use crate::fault::{DocCause, Spot};
 use crate::step_fields::read_step;
 use crate::steps::step_of;
+use crate::version::Version;
 use cata_core::Step;
 use json::Value;
 use std::alloc::Global;
@@ -89,7 +90,7 @@ impl Rows for Steps {
 
     ghost Checks = { step_checks };
 
-    ghost Holds = { λ numbered taken rows. AreSteps numbered rows taken.steps.items };
+    ghost Holds = { λ version taken rows. AreSteps version rows taken.steps.items };
 
     fn clear(&mut self, alloc: Global) {
         self.steps = Vec::new(alloc);
@@ -98,11 +99,11 @@ impl Rows for Steps {
     fn take(
         &mut self,
         alloc: Global,
-        numbered: bool,
+        version: Version,
         place: usize,
         row: &Value<'_>,
     ) -> Result<(), DocCause> {
-        let Some(step) = step_of(numbered, row) else {
+        let Some(step) = step_of(version, row) else {
             return Err(DocCause::Shape {
                 spot: Spot::Row(place),
             });

@@ -2,7 +2,7 @@
 ghost use Rattle.std.specs.Prelude.{◌≡◌, None, Some, is_some, true, MatchResult};
 ghost use Rattle.serde_json.specs.Data.{Data};
 ghost use Rattle.docs_core.specs.Checks.{AllPass, AreJson};
-ghost use Rattle.docs_core.specs.Heads.{IsOwn, is_first, own_data, rows_in};
+ghost use Rattle.docs_core.specs.Heads.{IsOwn, own_data, rows_in, version_of};
 ghost use Rattle.docs_core.specs.ReadsAs.{IsOfDocument};
 ghost use Rattle.docs_core.specs.ScriptReads.{ReadsAsScript, RefusesScript, count_of, script_checks, sites_in};
 ghost use Rattle.docs_core.specs.Scripts.{IsSiteCount};
@@ -52,7 +52,7 @@ fn script_from(alloc: Global, bytes: &[u8]) -> Result<Script, DocCause>
 fn read_steps(alloc: Global, bytes: &[u8], steps: &mut Steps) -> Result<usize, DocCause>
     ensures { MatchResult result
         (λ sites. (d : Data) × AreJson bytes.now d × AllPass (script_checks d) × IsSiteCount sites × (sites_in (own_data form.Script d) ≡ Some sites)
-        × AreSteps (is_first d) (rows_in form.Script d) steps.new.steps.items)
+        × AreSteps (version_of d) (rows_in form.Script d) steps.new.steps.items)
         (RefusesScript bytes.now) }
 {
     let parts = match read_parts(alloc, bytes, Form::Script, steps) {

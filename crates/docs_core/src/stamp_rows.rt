@@ -15,6 +15,7 @@ use crate::fault::{DocCause, Spot};
 use crate::fields::{StampEntry, stamp_entry};
 use crate::keys::is_above;
 use crate::rows::stamp_of;
+use crate::version::Version;
 use cata_core::Summary;
 use cell_core::SiteName;
 use json::Value;
@@ -91,7 +92,7 @@ impl StampRows {
 impl Rows for StampRows {
     ghost Checks = { stamp_checks };
 
-    ghost Holds = { λ numbered held rows. MakesEntries (told_in numbered) rows held };
+    ghost Holds = { λ version held rows. MakesEntries (told_in version) rows held };
 
     fn clear(&mut self, alloc: Global) {
         *self = StampRows::new(alloc);
@@ -100,11 +101,11 @@ impl Rows for StampRows {
     fn take(
         &mut self,
         alloc: Global,
-        numbered: bool,
+        version: Version,
         place: usize,
         row: &Value<'_>,
     ) -> Result<(), DocCause> {
-        let entry = own_entry(alloc, numbered, place, row)?;
+        let entry = own_entry(alloc, version, place, row)?;
         if !self.rises_to(&entry) {
             return Err(DocCause::CellOrder { row: place });
         }
@@ -116,16 +117,16 @@ impl Rows for StampRows {
 // What the row is by itself.
 fn own_entry(
     alloc: Global,
-    numbered: bool,
+    version: Version,
     place: usize,
     row: &Value<'_>,
 ) -> Result<StampEntry, DocCause>
     requires { IsRead (value_view row.now) }
     ensures { MatchResult result
-        (λ x. AllPass (own_stamp_checks numbered place (seen row.now)) × (told_in numbered (seen row.now) ≡ Some (told_by x)))
-        (λ e. (e ≡ NoMemory) ⊎ FirstFails (own_stamp_checks numbered place (seen row.now)) e) }
+        (λ x. AllPass (own_stamp_checks version place (seen row.now)) × (told_in version (seen row.now) ≡ Some (told_by x)))
+        (λ e. (e ≡ NoMemory) ⊎ FirstFails (own_stamp_checks version place (seen row.now)) e) }
 {
-    let Some(stamp) = stamp_of(numbered, row) else {
+    let Some(stamp) = stamp_of(version, row) else {
         return Err(DocCause::Shape {
             spot: Spot::Row(place),
         });

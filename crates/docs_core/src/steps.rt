@@ -6,6 +6,7 @@ ghost use Rattle.docs_core.specs.Steps.{StepText, behind, default_in, edit_of, f
 ghost use Rattle.docs_core.specs.StepsSeen.{HasTexts, text_of};
 
 use crate::rows::{CellRow, cell_of, items_of, text_of, u32_of};
+use crate::version::Version;
 use json::Value;
 use nego_core::Scheme;
 
@@ -61,26 +62,26 @@ pub enum StepRow<'v, 't> {
 }
 
 /// The step, where the value has its shape.
-pub fn step_of<'v, 't>(numbered: bool, value: &'v Value<'t>) -> Option<StepRow<'v, 't>>
+pub fn step_of<'v, 't>(version: Version, value: &'v Value<'t>) -> Option<StepRow<'v, 't>>
     requires { IsRead (value_view value.now) }
-    ensures step { option_map text_of result ≡ step_in numbered (seen value.now) }
+    ensures step { option_map text_of result ≡ step_in version (seen value.now) }
     ensures texts { IfSome result HasTexts }
 {
     let [word, parts @ ..] = items_of(value)? else {
         return None;
     };
     let word = word_of(text_of(word)?)?;
-    behind(numbered, word, parts)
+    behind(version, word, parts)
 }
 
 // What the word says of the parts behind it.
-fn behind<'v, 't>(numbered: bool, word: Word, parts: &'v [Value<'t>]) -> Option<StepRow<'v, 't>>
+fn behind<'v, 't>(version: Version, word: Word, parts: &'v [Value<'t>]) -> Option<StepRow<'v, 't>>
     requires { AreRead parts.now }
-    ensures step { option_map text_of result ≡ behind numbered word (map seen parts.now) }
+    ensures step { option_map text_of result ≡ behind version word (map seen parts.now) }
     ensures texts { IfSome result HasTexts }
 {
     match word {
-        Word::Edit => edit_of(numbered, parts),
+        Word::Edit => edit_of(version, parts),
         Word::Filter => filter_of(parts),
         Word::Lookup => lookup_of(parts),
         Word::Merge => {
@@ -106,16 +107,16 @@ fn behind<'v, 't>(numbered: bool, word: Word, parts: &'v [Value<'t>]) -> Option<
     }
 }
 
-fn edit_of<'v, 't>(numbered: bool, parts: &'v [Value<'t>]) -> Option<StepRow<'v, 't>>
+fn edit_of<'v, 't>(version: Version, parts: &'v [Value<'t>]) -> Option<StepRow<'v, 't>>
     requires { AreRead parts.now }
-    ensures step { option_map text_of result ≡ edit_of numbered (map seen parts.now) }
+    ensures step { option_map text_of result ≡ edit_of version (map seen parts.now) }
     ensures texts { IfSome result HasTexts }
 {
     let [site, cell] = parts else {
         return None;
     };
     let site = u32_of(site)?;
-    let cell = cell_of(numbered, cell)?;
+    let cell = cell_of(version, cell)?;
     Some(StepRow::Edit { site, cell })
 }
 

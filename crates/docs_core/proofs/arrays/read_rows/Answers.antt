@@ -7,7 +7,7 @@ use Rattle.docs_core.proofs.ArraysLemmas.{before, list_of-before, not_json, pars
 use Rattle.docs_core.proofs.arrays.read_rows.Goals as goal
 
 pub rows-init : goal.rows-init
-rows-init g c = (length c.args.reader.now, [], omega arith, parse_map-none _, (tt, c.clear.ensures c.args.numbered), c.requires.numbers, omega arith, refl)
+rows-init g c = (length c.args.reader.now, [], omega arith, parse_map-none _, (tt, c.clear.ensures c.args.version), c.requires.numbers, omega arith, refl)
 
 pub rows-preserved : goal.rows-preserved
 rows-preserved g c =
@@ -23,7 +23,7 @@ rows-preserved g c =
       inv.1 ++ d ∷ [],
       omega (arith, inv.2, less),
       inv.3 ∙ ap (parse_map (before inv.1)) turn ∙ parse_map-push inv.1 d _,
-      TakesRows-next (g.R.Rows.Checks c.args.numbered) (g.R.Rows.Holds c.args.numbered) c.rows.rows c.read_row.new.rows c.rows.refusal c.in-Ok.next inv.1 d inv.4 (row.read.2 inv.1 inv.7),
+      TakesRows-next (g.R.Rows.Checks c.args.version) (g.R.Rows.Holds c.args.version) c.rows.rows c.read_row.new.rows c.rows.refusal c.in-Ok.next inv.1 d inv.4 (row.read.2 inv.1 inv.7),
       row.left,
       omega (arith, inv.6, less),
       simp length-append (omega (arith, inv.7)),

@@ -3,4 +3,4 @@ use Rattle.docs_core.proofs.RisingLemmas.{own_cell}
 use Rattle.docs_core.proofs.cell_rows.own_entry.Goals as goal
 
 pub returns : goal.returns
-returns c = own_cell c.cell_entry.result c.args.numbered c.args.place (seen c.args.row.now) _ _ c.in-Some.ensures.cell c.cell_entry.ensures
+returns c = own_cell c.cell_entry.result c.args.version c.args.place (seen c.args.row.now) _ _ c.in-Some.ensures.cell c.cell_entry.ensures

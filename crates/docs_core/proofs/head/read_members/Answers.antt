@@ -10,7 +10,7 @@ use Rattle.docs_core.proofs.head.read_members.Goals as goal
 
 pub members-init : goal.members-init
 members-init g c =
-    (length c.args.reader.now, no_members, omega arith, refl, Shows-none c.args.form (g.R.Rows.Checks c.args.numbered) (g.R.Rows.Holds c.args.numbered) c.args.rows.now, c.requires.numbers, omega arith)
+    (length c.args.reader.now, no_members, omega arith, refl, Shows-none c.args.form (g.R.Rows.Checks c.args.version) (g.R.Rows.Holds c.args.version) c.args.rows.now, c.requires.numbers, omega arith)
 
 pub returns-in_err-name : goal.returns-in_err-name
 returns-in_err-name g c =

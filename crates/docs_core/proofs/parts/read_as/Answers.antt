@@ -9,5 +9,5 @@ returns-in-Some g c =
     let e = rw c.in-Some.is at c.in_ok-head.ensures in
     let ms = e.0 in
     both_weaker c.head_parts.result _ _ _ _ c.head_parts.ensures
-    (λ parts passes. (object ms, e.1, has_parts c.args.form (g.R.Rows.Checks c.args.numbered) (g.R.Rows.Holds c.args.numbered) c.in-Some.head c.read_object.new.rows ms e.2 parts passes))
-    (λ cause fails. inr (inr (object ms, e.1, head_fails c.args.form (g.R.Rows.Checks c.args.numbered) (g.R.Rows.Holds c.args.numbered) c.in-Some.head c.read_object.new.rows ms e.2 cause fails)))
+    (λ parts passes. (object ms, e.1, has_parts c.args.form (g.R.Rows.Checks c.args.version) (g.R.Rows.Holds c.args.version) c.in-Some.head c.read_object.new.rows ms e.2 parts passes))
+    (λ cause fails. inr (inr (object ms, e.1, head_fails c.args.form (g.R.Rows.Checks c.args.version) (g.R.Rows.Holds c.args.version) c.in-Some.head c.read_object.new.rows ms e.2 cause fails)))

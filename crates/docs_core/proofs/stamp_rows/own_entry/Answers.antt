@@ -3,4 +3,4 @@ use Rattle.docs_core.proofs.RisingLemmas.{own_stamp}
 use Rattle.docs_core.proofs.stamp_rows.own_entry.Goals as goal
 
 pub returns : goal.returns
-returns c = own_stamp c.stamp_entry.result c.args.numbered c.args.place (seen c.args.row.now) _ c.in-Some.ensures c.stamp_entry.ensures
+returns c = own_stamp c.stamp_entry.result c.args.version c.args.place (seen c.args.row.now) _ c.in-Some.ensures c.stamp_entry.ensures

@@ -11,8 +11,8 @@ pub returns-clause-ok : goal.returns-clause-ok
 returns-clause-ok c = λ before at held.
     let d = seen c.args.row.now in
     let text = text_of c.in-Some.step in
-    let is : Some text ≡ step_in c.args.numbered d = c.in-Some.ensures.step in
+    let is : Some text ≡ step_in c.args.version d = c.in-Some.ensures.step in
     let read = c.in_ok-step.ensures in (
-      step_passes c.args.numbered before d text is (rw at read.0),
-      rw c.in_ok-push.ensures.items (AreSteps-push c.args.numbered before d c.args.self.now.steps.items c.in_ok-step.step held (text, sym is, read.1)),
+      step_passes c.args.version before d text is (rw at read.0),
+      rw c.in_ok-push.ensures.items (AreSteps-push c.args.version before d c.args.self.now.steps.items c.in_ok-step.step held (text, sym is, read.1)),
     )
