@@ -38,17 +38,20 @@ strings_in (string s) = Some (s ∷ [])
 strings_in (array ds) = strings_of (list_of ds)
 strings_in (object ms) = None
 
+-- the names of members, each with what its value is
+abbrev pub members_by : {X : Type 0} → (Data → X) → Members → List (List ℕ × X)
+members_by of no_members = []
+members_by of (member k d ms) = (k, of d) ∷ members_by of ms
+
 abbrev pub keys_of : Members → Keys
-keys_of no_members = []
-keys_of (member k d ms) = (k, strings_in d) ∷ keys_of ms
+keys_of = members_by strings_in
 
 -- a language map is an object
 abbrev pub keys_in : Data → Option Keys
 keys_in d = option_map keys_of (as_object d)
 
 abbrev pub rows_of : Members → Rows
-rows_of no_members = []
-rows_of (member k d ms) = (k, keys_in d) ∷ rows_of ms
+rows_of = members_by keys_in
 
 -- the document is an object
 abbrev pub rows_in : Data → Option Rows

@@ -30,14 +30,18 @@ HeldRows = BTreeMap (String Global) (Option HeldKeys)
 abbrev pub strings_seen : HeldStrings → Strings
 strings_seen held = option_map (λ texts. texts_of texts.items) held
 
+-- the names of members, each with what is seen of its value
+abbrev pub members_seen : {X Y : Type 0} → (X → Y) → List (String Global × X) → List (List ℕ × Y)
+members_seen of es = map (λ e. (string_bytes e.0, of e.1)) es
+
 abbrev pub keys_seen : List (String Global × HeldStrings) → Keys
-keys_seen es = map (λ e. (string_bytes e.0, strings_seen e.1)) es
+keys_seen = members_seen strings_seen
 
 abbrev pub keys_in_seen : Option HeldKeys → Option Keys
 keys_in_seen held = option_map (λ keys. keys_seen keys.entries) held
 
 abbrev pub rows_seen : List (String Global × Option HeldKeys) → Rows
-rows_seen es = map (λ e. (string_bytes e.0, keys_in_seen e.1)) es
+rows_seen = members_seen keys_in_seen
 
 abbrev pub rows_in_seen : Option HeldRows → Option Rows
 rows_in_seen held = option_map (λ rows. rows_seen rows.entries) held

@@ -20,7 +20,6 @@ pub mod Imported
 pub mod LangMapChecks
 pub mod LangMapLabels
 pub mod LangMapLaws
-pub mod LangMapMembers
 pub mod LangMapRows
 pub mod LangMapRowsSeen
 pub mod LangMapTexts

@@ -1,4 +1,4 @@
--- The members of a document as they are read. Each nests at most 126 deep.
+-- The members of an object as they are read.
 use Rattle.std.specs.Prelude.{◌≡◌, ◌⊎◌, ◌<◌, ℕ, List, ◌∷◌, Bool, true, false, length, None, Some}
 use Rattle.json.specs.Json.{members, value}
 use Rattle.json.specs.Token.{Token, begin_object, end_object, begin_array, end_array, key, string, number, boolean, null, bad}
@@ -9,15 +9,15 @@ use Rattle.docs_core.specs.Reads.{Reads}
 use Rattle.docs_core.specs.declared.fault.DocCause.{DocCause}
 use Rattle.docs_core.specs.declared.fault.DocCause.TheVariants.{NoMemory, NotJson}
 
--- the next value was read
+-- the next member was read, which nests at most 126 deep
 pub record ReadsNext (old : List Token) (d : Data) (new : List Token) : Type 0 where
   pub read : Reads 126 old d new
   pub left : are_in_range new ≡ true
   pub shorter : length new < length old
 
--- there is no next value, or memory ran out
-abbrev pub ReadsNone : List Token → DocCause → Type 0
-ReadsNone old e = (e ≡ NoMemory) ⊎ ((e ≡ NotJson) × (converted of_json (value 126 old) ≡ None))
+-- there is no next value that nests at most this deep, or memory ran out
+abbrev pub ReadsNone : ℕ → List Token → DocCause → Type 0
+ReadsNone depth old e = (e ≡ NoMemory) ⊎ ((e ≡ NotJson) × (converted of_json (value depth old) ≡ None))
 
 -- behind its brace `old` is an object of these members, which nest at most this deep, and then `new`
 abbrev pub ReadsMembers : ℕ → List Token → Members → List Token → Type 0

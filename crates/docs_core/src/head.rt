@@ -78,8 +78,8 @@ pub fn read_members<R: Rows>(
     Ok(head)
 }
 
-// The name of the next member, or none at the brace that closes the object.
-fn next_name<'t>(reader: &mut Reader<'t>) -> Result<Option<&'t str>, DocCause>
+/// The name of the next member, or none at the brace that closes the object.
+pub(crate) fn next_name<'t>(reader: &mut Reader<'t>) -> Result<Option<&'t str>, DocCause>
     ensures { MatchResult result
         (λ name. read_key reader.old ≡ Some (option_map (λ s. s.now) name, reader.new))
         (λ e. (e ≡ NotJson) × (read_key reader.old ≡ None)) }
@@ -106,7 +106,7 @@ fn read_member<R: Rows>(
         (λ next. (d : Data) × ReadsNext reader.old d reader.new
         × ((name : List ℕ) (ms : Members) → member_of form name ≡ member → Shows form (R.Checks version) (R.Holds version) head rows.old ms
         → Shows form (R.Checks version) (R.Holds version) next rows.new (put name d ms)))
-        (ReadsNone reader.old) }
+        (ReadsNone 126 reader.old) }
 {
     match member {
         Member::Kind => read_kind(alloc, reader, form, head),
@@ -126,7 +126,7 @@ fn read_kind(
     requires { are_in_range reader.old ≡ true }
     ensures { MatchResult result
         (λ next. (d : Data) × ReadsNext reader.old d reader.new × (next ≡ record head { is_kind = is_text (kind_of form) (as_str d) }))
-        (ReadsNone reader.old) }
+        (ReadsNone 126 reader.old) }
 {
     let kind = next_value(alloc, reader, MEMBER_DEPTH)?;
     Ok(Head {
@@ -139,7 +139,7 @@ fn read_version(alloc: Global, reader: &mut Reader<'_>, head: Head) -> Result<He
     requires { are_in_range reader.old ≡ true }
     ensures { MatchResult result
         (λ next. (d : Data) × ReadsNext reader.old d reader.new × (next ≡ record head { version = u64_in d }))
-        (ReadsNone reader.old) }
+        (ReadsNone 126 reader.old) }
 {
     let version = next_value(alloc, reader, MEMBER_DEPTH)?;
     Ok(Head {
@@ -152,7 +152,7 @@ fn read_own(alloc: Global, reader: &mut Reader<'_>, head: Head) -> Result<Head, 
     requires { are_in_range reader.old ≡ true }
     ensures { MatchResult result
         (λ next. (d : Data) × ReadsNext reader.old d reader.new × ((own : Own) × IsOwn own d × (next ≡ record head { own = Some own })))
-        (ReadsNone reader.old) }
+        (ReadsNone 126 reader.old) }
 {
     let own = next_value(alloc, reader, MEMBER_DEPTH)?;
     Ok(Head {
@@ -174,7 +174,7 @@ fn read_array<R: Rows>(
     ensures { MatchResult result
         (λ next. (d : Data) × ReadsNext reader.old d reader.new
         × ((read : Option (Option DocCause)) × ShowsRows (R.Checks version) (R.Holds version) read rows.new (items_in d) × (next ≡ record head { rows = read })))
-        (ReadsNone reader.old) }
+        (ReadsNone 126 reader.old) }
 {
     let Some(token) = reader.next() else {
         return Err(DocCause::NotJson);
@@ -233,7 +233,7 @@ fn pass_over(reader: &mut Reader<'_>, head: Head) -> Result<Head, DocCause>
     requires { are_in_range reader.old ≡ true }
     ensures { MatchResult result
         (λ next. (d : Data) × ReadsNext reader.old d reader.new × (next ≡ record head { has_other = true }))
-        (ReadsNone reader.old) }
+        (ReadsNone 126 reader.old) }
 {
     match reader.skip_value(MEMBER_DEPTH) {
         Ok(()) => Ok(Head {

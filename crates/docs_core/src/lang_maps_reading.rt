@@ -1,14 +1,13 @@
 //! Language-map documents read.
-ghost use Rattle.std.specs.Prelude.{◌≡◌, MatchResult, IfErr, IfOk, IsUtf8};
-ghost use Rattle.std.specs.Str.Lossy.{utf8_valid_len};
+ghost use Rattle.std.specs.Prelude.{MatchResult};
 ghost use Rattle.docs_core.specs.LangMapLabels.{AreLangMaps, RefusesLangMaps};
 ghost use Rattle.docs_core.specs.ReadsAs.{IsOfDocument};
-ghost use Rattle.docs_core.specs.declared.fault.DocCause.TheVariants.{NotUtf8};
 
 use crate::fault::{DocCause, DocFault, Spot};
 use crate::lang_map_labels::labels_of;
 use crate::lang_map_members::read_rows;
 use crate::lang_maps::LangMaps;
+use crate::parts::text_in;
 use std::alloc::Global;
 
 /// The labels of a language-map document, in rising order of key: an object from message id to
@@ -51,20 +50,6 @@ fn langmaps_in(alloc: Global, bytes: &[u8]) -> Result<LangMaps, DocCause>
         Some(rows) => labels_of(alloc, rows),
         None => Err(DocCause::Shape {
             spot: Spot::Document,
-        }),
-    }
-}
-
-// The bytes as text (RFC 3629).
-fn text_in(bytes: &[u8]) -> Result<&str, DocCause>
-    ensures { MatchResult result
-        (λ text. IsUtf8 bytes.now × (text.now ≡ bytes.now))
-        (λ e. (¬ (IsUtf8 bytes.now)) × (e ≡ NotUtf8 (utf8_valid_len bytes.now))) }
-{
-    match simdutf8::compat::from_utf8(bytes) {
-        Ok(text) => Ok(text),
-        Err(fault) => Err(DocCause::NotUtf8 {
-            offset: fault.valid_up_to(),
         }),
     }
 }

@@ -62,7 +62,7 @@ pub fn read_parts<R: Rows>(
     }
 }
 
-/// The text, where the bytes are UTF-8.
+/// The text, where the bytes are UTF-8 (RFC 3629).
 pub fn text_in(bytes: &[u8]) -> Result<&str, DocCause>
     ensures { MatchResult result (λ text. (text.now ≡ bytes.now) × IsUtf8 bytes.now)
         (λ e. (¬ (IsUtf8 bytes.now)) × (e ≡ NotUtf8 (utf8_valid_len bytes.now))) }
@@ -75,8 +75,8 @@ pub fn text_in(bytes: &[u8]) -> Result<&str, DocCause>
     }
 }
 
-// Refuses a text with a number out of range.
-fn check_numbers(text: &str, scratch: &mut Scratch) -> Result<(), DocCause>
+/// Refuses a text with a number out of range.
+pub(crate) fn check_numbers(text: &str, scratch: &mut Scratch) -> Result<(), DocCause>
     ensures { MatchResult result (λ _. are_in_range (tokens text.now) ≡ true)
         (λ e. (e ≡ NoMemory) ⊎ ((e ≡ NotJson) × (read text.now ≡ None))) }
 {
@@ -139,8 +139,8 @@ fn read_object<R: Rows>(
     }
 }
 
-// Whether an object comes first, whose brace is then read.
-fn begins_object(reader: &mut Reader<'_>) -> bool
+/// Whether an object comes first, whose brace is then read.
+pub(crate) fn begins_object(reader: &mut Reader<'_>) -> bool
     ensures { MatchBool result (reader.old ≡ begin_object ∷ reader.new) (NoObject reader.old) }
 {
     matches!(reader.next(), Some(Token::BeginObject))
@@ -167,8 +167,8 @@ fn read_rest<R: Rows>(
     }
 }
 
-// Refuses a text that is not one value.
-fn check_value(text: &str, scratch: &mut Scratch) -> Result<(), DocCause>
+/// Refuses a text that is not one value.
+pub(crate) fn check_value(text: &str, scratch: &mut Scratch) -> Result<(), DocCause>
     requires { are_in_range (tokens text.now) ≡ true }
     ensures { MatchResult result (λ _. (d : Data) × (read text.now ≡ Some d))
         (λ e. (e ≡ NoMemory) ⊎ ((e ≡ NotJson) × (read text.now ≡ None))) }

@@ -37,7 +37,7 @@ returns-in_ok-keys-in-BeginObject-clause-read c =
     let ts = c.next.new.self in
     let is : c.args.reader.now ≡ begin_object ∷ ts = c.in-Some.ensures.value ∙ ap (λ t. token_of t ∷ ts) c.in-BeginObject.is in
     let read = c.in_ok-keys-in-BeginObject.ensures.read in
-    (object read.0, object_read c.args.reader.now ts c.read_languages.new.reader read.0 is read.1, ap Some read.2)
+    (object read.0, object_read c.args.reader.now ts c.read_members.new.reader read.0 is read.1, ap Some read.2)
 
 pub returns-in_ok-pass_items-in-BeginArray-clause-read : goal.returns-in_ok-pass_items-in-BeginArray-clause-read
 returns-in_ok-pass_items-in-BeginArray-clause-read c =
