@@ -13,17 +13,16 @@ use Rattle.serde_json.specs.Data.{Data, Items, Members, array, item, no_items, n
 use Rattle.serde_json.specs.Data as json_data
 use Rattle.serde_json.specs.Read.{converted, number_of, of_items, of_json, of_members, read}
 use Rattle.serde_json.specs.View.{items_of}
-use Rattle.cell_core.specs.declared.cell.Cell.{Cell}
-use Rattle.cata_core.specs.Entries.{Entries, Entry}
+use Rattle.cata_core.specs.Entries.{Entries, Entry, IsAboveAll}
 use Rattle.docs_core.specs.Arrays.{ReadsItems}
 use Rattle.docs_core.specs.AsWritten.{BeginsLabel, BeginsRow, EndsNamed, ReadsCells, cells_document}
 use Rattle.docs_core.specs.Checks.{AllPass, rows_checks}
-use Rattle.docs_core.specs.Fields.{IsBehind, cell_fields, entry_of, key_of}
+use Rattle.docs_core.specs.Fields.{cell_fields, entry_of, key_of}
 use Rattle.docs_core.specs.Forms.{kind_of, own_of}
 use Rattle.docs_core.specs.Heads.{head_checks}
 use Rattle.docs_core.specs.Reads.{Reads}
 use Rattle.docs_core.specs.ReadsAs.{ReadsAsDelta, ReadsAsSite}
-use Rattle.docs_core.specs.Rising.{MakesEntries, Taken, all_of, cell_checks, cell_row, entry_in, key_of_last, own_cell_checks}
+use Rattle.docs_core.specs.Rising.{MakesEntries, cell_checks, cell_row, entry_in, own_cell_checks}
 use Rattle.docs_core.specs.Rows.{cell_in, list_of}
 use Rattle.docs_core.specs.Values.{Row, cell_value, delta_value, label_value, site_value}
 use Rattle.docs_core.specs.declared.form.Form.{Form}
@@ -107,17 +106,17 @@ entry_shorter old rest new row label first last =
     omega (arith, l, label_shorter label rest (end_array ∷ new) last)
 
 -- one row more
-pub entry_taken : (front : List Data) (old new : Taken Cell) (row : Row) (label : Option (List (List ℕ))) (e : Entry) → row.count < 2 ^ 32 → AllPass (cell_fields 0 row label) → e ≡ entry_of row label
-    → AllPass (rows_checks (cell_checks Two) [] front) → MakesEntries (entry_in Two) front old → IsBehind (key_of_last old.last) e.0 → new ≡ record { others = all_of old; last = Some e }
+pub entry_taken : (front : List Data) (old new : Entries) (row : Row) (label : Option (List (List ℕ))) (e : Entry) → row.count < 2 ^ 32 → AllPass (cell_fields 0 row label) → e ≡ entry_of row label
+    → AllPass (rows_checks (cell_checks Two) [] front) → MakesEntries (entry_in Two) front old → IsAboveAll e.0 old → new ≡ old ++ e ∷ []
     → AllPass (rows_checks (cell_checks Two) [] (front ++ cell_value row label ∷ [])) × MakesEntries (entry_in Two) (front ++ cell_value row label ∷ []) new
-entry_taken front old new row label e fits fields is passed makes behind pushed =
+entry_taken front old new row label e fits fields is passed makes above pushed =
     let d = cell_value row label in
     let there : cell_in Two d ≡ Some (row, label) = rw (narrow row.count fits, label_again label) refl in
     let made : entry_in Two d ≡ Some e = ap (option_map (λ (p : Row × Option (List (List ℕ))). entry_of p.0 p.1)) there ∙ ap Some (sym is) in
     let own : AllPass (own_cell_checks Two (length front) d) = rw there (refl, fields) in
-    let here = passes_row (entry_in Two) (own_cell_checks Two) front (length front) d old (key_of (cell_row Two d).0) e refl makes (key_of_cell (cell_in Two d) e made) own behind in (
+    let here = passes_row (entry_in Two) (own_cell_checks Two) front (length front) d old (key_of (cell_row Two d).0) e refl makes made (key_of_cell (cell_in Two d) e) own above in (
       rows-pass (cell_checks Two) [] front (d ∷ []) passed (AllPass-both (cell_checks Two front d) [] here tt),
-      MakesEntries-push (entry_in Two) front old new d e makes made pushed,
+      MakesEntries-push (entry_in Two) front old new d e makes made above pushed,
     )
 
 -- ---- the members behind the rows

@@ -1,17 +1,17 @@
 -- One entry more.
-use Rattle.std.proofs.Common.{◌≡◌, ◌∙◌, ◌-◌, ◌++◌, ℕ, zero, suc, List, [], ◌∷◌, length, length-append, refl, ap, ap₂, sym, arith, inl, inr}
-use Rattle.std.specs.declared.cmp.Ordering.TheVariants.{Less}
-use Rattle.std.specs.Option.{option_to_list}
-use Rattle.std.specs.Prelude.{◌⊎◌, MatchResult, OnErr, OnOk, Option, None, Some, Result, Ok, Err, option_map, slice_get, unwrap_or}
-use Rattle.std.proofs.lemmas.List.{map-append}
-use Rattle.std.proofs.lemmas.List.Elements.{All-append}
+use Rattle.std.proofs.Common.{◌≡◌, ◌∙◌, ◌-◌, ◌++◌, ℕ, List, [], ◌∷◌, length, length-append, refl, ap, ap₂, subst, sym, arith, inl, inr}
+use Rattle.std.specs.Ordering.{is_lt}
+use Rattle.std.specs.Prelude.{◌⊎◌, ◌↔◌, MatchResult, Option, None, Some, Result, Ok, Err, map, option_and_then, option_map, slice_get, unwrap_or}
+use Rattle.std.proofs.lemmas.List.{length-map, map-append}
+use Rattle.std.proofs.lemmas.Option.{slice_get-map}
 use Rattle.serde_json.specs.Data.{Data}
-use Rattle.cata_core.specs.Entries.{Entry, EntryKey, key_cmp, key_cmp_total, IsAboveAll}
+use Rattle.cell_core.specs.Maps.{IsMap}
+use Rattle.cata_core.specs.Entries.{Entry, EntryKey, key_cmp, IsAboveAll}
 use Rattle.cell_core.specs.declared.stamp.Stamp.{Stamp}
 use Rattle.docs_core.specs.Checks.{AllPass, Check, FirstFails}
 use Rattle.docs_core.specs.EntriesSeen.{entry_by, told_by}
 use Rattle.docs_core.specs.Fields.{cell_fields, IsBehind, entry_of, key_of, order_check, stamp_fields, told_of}
-use Rattle.docs_core.specs.Rising.{all_of, AreEntries, entry_in, IsAboveOthers, key_of_last, MakesEntries, last_key, no_row, own_cell_checks, own_stamp_checks, Taken, told_in}
+use Rattle.docs_core.specs.Rising.{AreEntries, entry_in, MakesEntries, last_key, no_row, own_cell_checks, own_stamp_checks, told_in}
 use Rattle.docs_core.specs.Rows.{cell_in, stamp_in}
 use Rattle.docs_core.specs.Values.{Row}
 use Rattle.docs_core.specs.declared.fields.CellEntry.{CellEntry}
@@ -19,7 +19,10 @@ use Rattle.docs_core.specs.declared.fields.StampEntry.{StampEntry}
 use Rattle.docs_core.specs.declared.fault.DocCause.{DocCause}
 use Rattle.docs_core.specs.declared.fault.DocCause.TheVariants.{CellOrder, NoMemory}
 use Rattle.docs_core.specs.declared.version.Version.{Version}
-use Rattle.docs_core.proofs.ChecksLemmas.{AllPass-both, FirstFails-behind, FirstFails-front}
+use Rattle.cata_core.proofs.Basics.{less_of}
+use Rattle.cata_core.proofs.Behind.{IsMap-behind}
+use Rattle.cata_core.proofs.LastKeys.{above_last, above_none}
+use Rattle.docs_core.proofs.ChecksLemmas.{AllPass-both, FirstFails-behind}
 
 at_end : (xs : List Data) (x : Data) → slice_get (xs ++ x ∷ []) (length xs) ≡ Some x
 at_end [] x = refl
@@ -35,56 +38,60 @@ module _ {J : Type 0} (entry : Data → Option (EntryKey × J)) where
       let k : length (rows ++ d ∷ []) - 1 ≡ length rows = simp length-append (omega arith) in
       rw (k, at_end rows d, is) refl
 
-  single : (p : EntryKey × J) (key : EntryKey) → key_cmp p.0 key ≡ Less → IsAboveAll key (p ∷ [])
-  single p key less zero d h = less
-  single p key less (suc n) d h = absurd (omega (arith, h))
+  found_as : (o : Option Data) (p : Option (EntryKey × J)) → option_map entry o ≡ option_map Some p → option_and_then entry o ≡ p
+  found_as None None is = refl
+  found_as None (Some p) is = cc
+  found_as (Some d) None is = cc
+  found_as (Some d) (Some p) is = cc
 
-  above_next : (es : List (EntryKey × J)) (p : EntryKey × J) (key : EntryKey) → IsAboveAll p.0 es → key_cmp p.0 key ≡ Less → IsAboveAll key (es ++ p ∷ [])
-  above_next es p key above less =
-      All-append (λ (e : EntryKey × J). key_cmp e.0 key ≡ Less) es (p ∷ [])
-      (λ k d h. key_cmp_total.trans _ p.0 key (above k d h) less) (single p key less)
+  -- the key of the last row is that of the last entry
+  last_is : (rows : List Data) (es : List (EntryKey × J)) → AreEntries entry rows es → last_key entry rows ≡ option_map (λ e. e.0) (slice_get es (length es - 1))
+  last_is rows es are =
+      let as_many : length rows ≡ length es = sym (length-map rows entry) ∙ ap length are ∙ length-map es Some in
+      let at = length rows - 1 in
+      let same : option_map entry (slice_get rows at) ≡ option_map Some (slice_get es (length es - 1)) =
+      sym (slice_get-map entry rows at) ∙ ap (λ xs. slice_get xs at) are ∙ slice_get-map Some es at ∙ ap (λ n. option_map Some (slice_get es (n - 1))) as_many in
+      ap (option_map (λ (e : EntryKey × J). e.0)) (found_as (slice_get rows at) (slice_get es (length es - 1)) same)
 
-  -- a key above the last is above all
-  pub rises : (es : List (EntryKey × J)) (last : Option (EntryKey × J)) (key : EntryKey) → IsAboveOthers (key_of_last last) es → IsBehind (key_of_last last) key
-      → IsAboveAll key (es ++ option_to_list last)
-  rises [] None key none behind = λ k d h. absurd (omega (arith, h))
-  rises (e ∷ es) None key none behind = cc
-  rises es (Some p) key above behind = above_next es p key above behind
+  -- a key is behind the last one where it is above all
+  behind_last : (es : List (EntryKey × J)) (key : EntryKey) (last : Option (EntryKey × J)) → IsMap key_cmp es → slice_get es (length es - 1) ≡ last
+      → IsBehind (option_map (λ e. e.0) last) key ↔ IsAboveAll key es
+  behind_last es key None rising is = (λ behind. (above_none es key is).0 refl, λ above. tt)
+  behind_last es key (Some (k, v)) rising is =
+      let tells = above_last es key k v rising is in (
+        λ behind. tells.0 (ap is_lt behind),
+        λ above. less_of (key_cmp k key) (tells.1 above),
+      )
+
+  behind_all : (rows : List Data) (es : List (EntryKey × J)) (key : EntryKey) → MakesEntries entry rows es → IsBehind (last_key entry rows) key ↔ IsAboveAll key es
+  behind_all rows es key makes =
+      subst (λ (o : Option EntryKey). IsBehind o key ↔ IsAboveAll key es) (sym (last_is rows es makes.are)) (behind_last es key (slice_get es (length es - 1)) makes.rising refl)
 
   -- the row goes behind all others
-  pub MakesEntries-push : (rows : List Data) (old new : Taken J) (d : Data) (e : EntryKey × J)
-      → MakesEntries entry rows old → entry d ≡ Some e → new ≡ record { others = all_of old; last = Some e }
-      → MakesEntries entry (rows ++ d ∷ []) new
-  MakesEntries-push rows old new d e makes is pushed = rw pushed (record {
-    entries = AreEntries-push rows (all_of old) d e makes.entries is;
-    last_is = last_key-push rows d e is;
+  pub MakesEntries-push : (rows : List Data) (old new : List (EntryKey × J)) (d : Data) (e : EntryKey × J)
+      → MakesEntries entry rows old → entry d ≡ Some e → IsAboveAll e.0 old → new ≡ old ++ e ∷ [] → MakesEntries entry (rows ++ d ∷ []) new
+  MakesEntries-push rows old new d (k, v) makes is above pushed = subst (MakesEntries entry (rows ++ d ∷ [])) (sym pushed) (record {
+    are = AreEntries-push rows old d (k, v) makes.are is;
+    rising = IsMap-behind old k v makes.rising above;
   })
 
   module _ (own : ℕ → Data → List Check) where
-    -- a row that passes its own tests, and stands behind the last
-    pub passes_row : (before : List Data) (k : ℕ) (d : Data) (old : Taken J) (key : EntryKey) (e : EntryKey × J)
-        → length before ≡ k → MakesEntries entry before old → key ≡ e.0 → AllPass (own k d) → IsBehind (key_of_last old.last) e.0
+    -- a row that passes its own tests, and whose key is above all
+    pub passes_row : (before : List Data) (k : ℕ) (d : Data) (old : List (EntryKey × J)) (key : EntryKey) (e : EntryKey × J)
+        → length before ≡ k → MakesEntries entry before old → entry d ≡ Some e → (entry d ≡ Some e → key ≡ e.0) → AllPass (own k d) → IsAboveAll e.0 old
         → AllPass (own (length before) d ++ order_check (length before) (last_key entry before) key ∷ [])
-    passes_row before k d old key e is makes same pass behind = rw (makes.last_is, is, same) (AllPass-both (own k d) _ pass (behind, tt))
+    passes_row before k d old key e is makes made same pass above =
+        subst (λ (n : ℕ). AllPass (own n d ++ order_check n (last_key entry before) key ∷ [])) (sym is)
+        (subst (λ (q : EntryKey). AllPass (own k d ++ order_check k (last_key entry before) q ∷ [])) (sym (same made)) (AllPass-both (own k d) _ pass ((behind_all before old e.0 makes).1 above, tt)))
 
     -- a row that passes its own tests alone
-    pub fails_row : (before : List Data) (k : ℕ) (d : Data) (old : Taken J) (key : EntryKey) (e : EntryKey × J)
-        → length before ≡ k → MakesEntries entry before old → key ≡ e.0 → AllPass (own k d) → ¬ (IsBehind (key_of_last old.last) e.0)
+    pub fails_row : (before : List Data) (k : ℕ) (d : Data) (old : List (EntryKey × J)) (key : EntryKey) (e : EntryKey × J)
+        → length before ≡ k → MakesEntries entry before old → entry d ≡ Some e → (entry d ≡ Some e → key ≡ e.0) → AllPass (own k d) → ¬ (IsAboveAll e.0 old)
         → FirstFails (own (length before) d ++ order_check (length before) (last_key entry before) key ∷ []) (CellOrder k)
-    fails_row before k d old key e is makes same pass never = rw (makes.last_is, is, same) (FirstFails-behind (own k d) _ (CellOrder k) pass (inl (never, refl)))
-
-    -- a row that fails its own tests
-    pub fails_alone : (before : List Data) (k : ℕ) (d : Data) (rest : List Check) (e : DocCause) → length before ≡ k → FirstFails (own k d) e
-        → FirstFails (own (length before) d ++ rest) e
-    fails_alone before k d rest e is fails = rw is (FirstFails-front (own k d) rest e fails)
-
-  -- the entries behind which a new last one goes
-  pub rising_after : {E : Type 0} (r : Result (Unit {0}) E) (old new : List (EntryKey × J)) (p : EntryKey × J) (key : EntryKey)
-      → OnOk r (new ≡ old ++ p ∷ []) → OnErr r (new ≡ old) → IsAboveAll p.0 old → key_cmp p.0 key ≡ Less → IsAboveAll key new
-  rising_after (Ok u) old new p key ok err above less = let same : new ≡ old ++ p ∷ [] = ok in rw same (above_next old p key above less)
-  rising_after (Err e) old new p key ok err above less =
-      let same : new ≡ old = err in
-      rw same (λ k d h. key_cmp_total.trans _ p.0 key (above k d h) less)
+    fails_row before k d old key e is makes made same pass never =
+        subst (λ (n : ℕ). FirstFails (own n d ++ order_check n (last_key entry before) key ∷ []) (CellOrder k)) (sym is)
+        (subst (λ (q : EntryKey). FirstFails (own k d ++ order_check k (last_key entry before) q ∷ []) (CellOrder k)) (sym (same made))
+        (FirstFails-behind (own k d) _ (CellOrder k) pass (inl ((λ behind. never ((behind_all before old e.0 makes).0 behind)), refl))))
 
 -- the tests of a row of a site or a delta by itself, where its shape is found
 pub own_cell : (r : Result CellEntry DocCause) (version : Version) (k : ℕ) (d : Data) (row : Row) (texts : Option (List (List ℕ))) → Some (row, texts) ≡ cell_in version d

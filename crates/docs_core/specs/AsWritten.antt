@@ -6,13 +6,12 @@ use Rattle.serde_json.specs.Data as json_data
 use Rattle.serde_json.specs.Read.{number_of}
 use Rattle.serde_json.specs.View.{items_of}
 use Rattle.cell_core.specs.SiteNames.{IsSiteName}
-use Rattle.cell_core.specs.declared.cell.Cell.{Cell}
 use Rattle.cata_core.specs.Entries.{Entries, Entry}
 use Rattle.docs_core.specs.Arrays.{ReadsItems}
 use Rattle.docs_core.specs.Checks.{AllPass, AreJson, rows_checks}
 use Rattle.docs_core.specs.Fields.{cell_fields, entry_of}
 use Rattle.docs_core.specs.Forms.{kind_of, own_of}
-use Rattle.docs_core.specs.Rising.{AreEntries, MakesEntries, Taken, cell_checks, entry_in}
+use Rattle.docs_core.specs.Rising.{AreEntries, MakesEntries, cell_checks, entry_in}
 use Rattle.docs_core.specs.Rows.{list_of}
 use Rattle.docs_core.specs.Values.{Row}
 use Rattle.docs_core.specs.declared.form.Form.{Form}
@@ -57,12 +56,12 @@ pub record BeginsEntry (old : List Token) (entry : Entry) (new : List Token) : T
   pub is : entry ≡ entry_of row label
 
 -- the rows and the bracket behind them come first; all rows pass, and make these entries
-pub record BeginsRows (old : List Token) (taken : Taken Cell) (new : List Token) : Type 0 where
+pub record BeginsRows (old : List Token) (cells : Entries) (new : List Token) : Type 0 where
   pub rows : Items
   pub reads : ReadsItems 125 old rows new
   pub shorter : length new < length old
   pub passes : AllPass (rows_checks (cell_checks Two) [] (list_of rows))
-  pub makes : MakesEntries (entry_in Two) (list_of rows) taken
+  pub makes : MakesEntries (entry_in Two) (list_of rows) cells
 
 -- the members behind the rows come last
 pub record EndsNamed (form : Form) (old : List Token) (name : List ℕ) : Type 0 where

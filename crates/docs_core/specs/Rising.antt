@@ -1,9 +1,9 @@
 -- Rows that are entries in rising order of key: their tests, and what they make. Own rule.
 use Rattle.std.specs.Prelude.{◌≡◌, ℕ, true, List, [], ◌∷◌, ◌++◌, ◌-◌, length, map, slice_get, Option, None, Some, is_some, unwrap_or, option_map, option_and_then}
-use Rattle.std.specs.Option.{option_to_list}
 use Rattle.serde_json.specs.Data.{Data}
 use Rattle.cell_core.specs.declared.stamp.Stamp.{Stamp}
-use Rattle.cata_core.specs.Entries.{Entry, EntryKey, IsAboveAll}
+use Rattle.cell_core.specs.Maps.{IsMap}
+use Rattle.cata_core.specs.Entries.{Entry, EntryKey, key_cmp}
 use Rattle.docs_core.specs.Checks.{Check, check}
 use Rattle.docs_core.specs.Fields.{cell_fields, entry_of, key_of, order_check, stamp_fields, told_of}
 use Rattle.docs_core.specs.Rows.{cell_in, stamp_in}
@@ -62,23 +62,7 @@ stamp_checks version before d =
     own_stamp_checks version (length before) d
     ++ order_check (length before) (last_key (told_in version) before) (key_of (stamp_row version d)) ∷ []
 
--- the last key is above all others
-abbrev pub IsAboveOthers : {J : Type 0} → Option EntryKey → List (EntryKey × J) → Type 0
-IsAboveOthers None others = others ≡ []
-IsAboveOthers (Some last) others = IsAboveAll last others
-
--- entries that were taken: the last one apart
-pub record Taken (J : Type 0) : Type 0 where
-  pub others : List (EntryKey × J)
-  pub last : Option (EntryKey × J)
-
-abbrev pub key_of_last : {J : Type 0} → Option (EntryKey × J) → Option EntryKey
-key_of_last last = option_map (λ e. e.0) last
-
-abbrev pub all_of : {J : Type 0} → Taken J → List (EntryKey × J)
-all_of taken = taken.others ++ option_to_list taken.last
-
--- these rows make these entries
-pub record MakesEntries {J : Type 0} (entry : Data → Option (EntryKey × J)) (rows : List Data) (taken : Taken J) : Type 0 where
-  pub entries : AreEntries entry rows (all_of taken)
-  pub last_is : last_key entry rows ≡ key_of_last taken.last
+-- these rows make these entries, whose keys rise
+pub record MakesEntries {J : Type 0} (entry : Data → Option (EntryKey × J)) (rows : List Data) (entries : List (EntryKey × J)) : Type 0 where
+  pub are : AreEntries entry rows entries
+  pub rising : IsMap key_cmp entries

@@ -4,13 +4,13 @@ ghost use Rattle.json.specs.Lex.{tokens};
 ghost use Rattle.json.specs.Token.{Token as Read, begin_array, begin_object, end_object, key, number, string};
 ghost use Rattle.serde_json.specs.Data.{unsigned};
 ghost use Rattle.serde_json.specs.Read.{number_of};
+ghost use Rattle.cata_core.specs.Entries.{IsAboveAll};
 ghost use Rattle.docs_core.specs.AsWritten.{BeginsEntry, BeginsLabel, BeginsNumber, BeginsRow, BeginsRows, BeginsTexts, EndsNamed, ReadsCells};
 ghost use Rattle.docs_core.specs.EntriesSeen.{entry_by};
 ghost use Rattle.docs_core.specs.Fields.{IsLabelText};
 ghost use Rattle.docs_core.specs.Forms.{kind_of};
 ghost use Rattle.docs_core.specs.RowsSeen.{row_of};
 
-use crate::cell_rows::CellRows;
 use crate::fields::{CellEntry, StampEntry, stamp_entry};
 use crate::form::Form;
 use crate::numbers::whole_number;
@@ -32,15 +32,11 @@ pub fn cells_as_written(alloc: Global, bytes: &[u8], form: Form) -> Option<(Site
     let Ok(text) = text_in(bytes) else {
         return None;
     };
-    let (name, rows) = rows_of_text(alloc, text, form)?;
-    match rows.into_catalogue(alloc) {
-        Ok(cells) => Some((name, cells)),
-        Err(_) => None,
-    }
+    cells_of_text(alloc, text, form)
 }
 
-// The name and the rows of a text.
-fn rows_of_text(alloc: Global, text: &str, form: Form) -> Option<(SiteName, CellRows)>
+// The name and the cells of a text.
+fn cells_of_text(alloc: Global, text: &str, form: Form) -> Option<(SiteName, Catalogue)>
     ensures { IfSome result (λ r. (rest : List Read) × (rows : List Read) × (tokens text.now ≡ begin_object ∷ key (codes "cells") ∷ begin_array ∷ rows) × BeginsRows rows r.1 rest × EndsNamed form rest r.0) }
 {
     let mut scratch = Scratch::new(alloc);
@@ -50,9 +46,9 @@ fn rows_of_text(alloc: Global, text: &str, form: Form) -> Option<(SiteName, Cell
     if !begins_rows(&mut reader) {
         return None;
     }
-    let rows = next_rows(alloc, &mut reader)?;
+    let cells = next_rows(alloc, &mut reader)?;
     let name = last_members(&mut reader, form)?;
-    Some((name, rows))
+    Some((name, cells))
 }
 
 // Takes what stands before the rows.
@@ -64,20 +60,34 @@ fn begins_rows(reader: &mut Reader<'_>) -> bool
         && matches!(reader.next(), Some(Token::BeginArray))
 }
 
-// The rows, with the bracket behind them.
-fn next_rows(alloc: Global, reader: &mut Reader<'_>) -> Option<CellRows>
-    ensures { IfSome result (λ rows. BeginsRows reader.old rows reader.new) }
+// The cells of the rows, with the bracket behind them.
+fn next_rows(alloc: Global, reader: &mut Reader<'_>) -> Option<Catalogue>
+    ensures { IfSome result (λ cells. BeginsRows reader.old cells reader.new) }
 {
-    let mut rows = CellRows::new(alloc);
+    let mut cells = Catalogue::new(alloc);
     'rows: while !reader.take_end_array() {
         let Some(entry) = next_entry(alloc, reader) else {
             return None;
         };
-        if !rows.take_above(alloc, entry) {
+        if !put_above(alloc, &mut cells, entry) {
             return None;
         }
     }
-    Some(rows)
+    Some(cells)
+}
+
+// Puts the entry behind the others, where its key is above theirs.
+fn put_above(alloc: Global, cells: &mut Catalogue, entry: CellEntry) -> bool
+    ensures { IsTrue result → IsAboveAll (entry_by entry).0 cells.old × (cells.new ≡ cells.old ++ entry_by entry ∷ []) }
+{
+    let CellEntry { id, lang, cell } = entry;
+    if !cells.is_above_all(&id, &lang) {
+        return false;
+    }
+    match cells.push(alloc, id, lang, cell) {
+        Ok(()) => true,
+        Err(_) => false,
+    }
 }
 
 // The next row.

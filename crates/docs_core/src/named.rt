@@ -10,14 +10,12 @@ ghost use Rattle.docs_core.specs.declared.version.Version.TheVariants.{One, Two}
 
 use crate::arrays::Rows;
 use crate::as_written::cells_as_written;
-use crate::cell_rows::CellRows;
 use crate::fault::{DocCause, Spot};
 use crate::form::Form;
 use crate::head::Own;
 use crate::parts::read_parts;
-use crate::stamp_rows::StampRows;
 use crate::version::Version;
-use cata_core::{Delta, Site, Summary};
+use cata_core::{Catalogue, Delta, Site, Summary};
 use cell_core::SiteName;
 use std::alloc::Global;
 
@@ -35,9 +33,8 @@ pub fn site_from(alloc: Global, bytes: &[u8]) -> Result<Site, DocCause>
 fn site_of_members(alloc: Global, bytes: &[u8]) -> Result<Site, DocCause>
     ensures { MatchResult result (ReadsAsSite bytes.now) (RefusesSite bytes.now) }
 {
-    let mut rows = CellRows::new(alloc);
-    let name = read_named(alloc, bytes, Form::Site, &mut rows)?;
-    let cells = rows.into_catalogue(alloc)?;
+    let mut cells = Catalogue::new(alloc);
+    let name = read_named(alloc, bytes, Form::Site, &mut cells)?;
     Ok(Site::from_catalogue(name, cells))
 }
 
@@ -55,9 +52,8 @@ pub fn delta_from(alloc: Global, bytes: &[u8]) -> Result<Delta, DocCause>
 fn delta_of_members(alloc: Global, bytes: &[u8]) -> Result<Delta, DocCause>
     ensures { MatchResult result (ReadsAsDelta bytes.now) (RefusesDelta bytes.now) }
 {
-    let mut rows = CellRows::new(alloc);
-    let addressee = read_named(alloc, bytes, Form::Delta, &mut rows)?;
-    let cells = rows.into_catalogue(alloc)?;
+    let mut cells = Catalogue::new(alloc);
+    let addressee = read_named(alloc, bytes, Form::Delta, &mut cells)?;
     Ok(Delta::from_catalogue(addressee, cells))
 }
 
@@ -65,10 +61,9 @@ fn delta_of_members(alloc: Global, bytes: &[u8]) -> Result<Delta, DocCause>
 pub fn summary_from(alloc: Global, bytes: &[u8]) -> Result<Summary, DocCause>
     ensures { MatchResult result (ReadsAsSummary bytes.now) (RefusesSummary bytes.now) }
 {
-    let mut rows = StampRows::new(alloc);
-    let owner = read_named(alloc, bytes, Form::Summary, &mut rows)?;
-    let summary = rows.into_summary(owner)?;
-    Ok(summary)
+    let mut summary = Summary::new(alloc, SiteName::of_number(0));
+    let owner = read_named(alloc, bytes, Form::Summary, &mut summary)?;
+    Ok(summary.with_owner(owner))
 }
 
 // Reads the rows, and answers the name.

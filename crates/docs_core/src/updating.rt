@@ -13,7 +13,6 @@ use crate::doc::Doc;
 use crate::documents::write_site;
 use crate::exporting::label_at;
 use crate::fault::DocFault;
-use crate::keys::compare_keys;
 use crate::lang_maps::{KeyedLabel, LangMaps};
 use crate::lang_maps_reading::langmaps_of_document;
 use crate::reading::site_at;
@@ -110,7 +109,7 @@ fn first_revised<'a>(
 fn compare(key: &KeyedLabel, other: &KeyedLabel) -> Ordering
     ensures { result ≡ key_cmp (key.now.id, key.now.lang) (other.now.id, other.now.lang) }
 {
-    compare_keys(&key.id, &key.lang, &other.id, &other.lang)
+    key.id.cmp(&other.id).then(key.lang.cmp(&other.lang))
 }
 
 // A label that was there alone.
