@@ -1,41 +1,32 @@
 -- Rows that are read off tokens, or off a value.
-use Rattle.std.proofs.Common.{◌≡◌, ◌∙◌, ◌++◌, ◌&&◌, ◌<◌, ◌+◌, ℕ, zero, suc, lit<, Result, Ok, Err, Bool, true, false, List, [], ◌∷◌, map, drop, take, length, get_or, Option, None, Some, Bor, String, Global, Vec, string_bytes, string_cmp, refl, sym, ap, append-nil, add-one, arith}
-use Rattle.std.specs.Prelude.{MatchResult, if◌then◌else◌, is_some, option_map, option_and_then, unwrap_or}
+use Rattle.std.proofs.Common.{◌≡◌, ◌∙◌, ◌++◌, ◌&&◌, ◌<◌, ◌+◌, ℕ, zero, suc, Bool, true, false, List, [], ◌∷◌, map, drop, take, length, get_or, Option, None, Some, String, Global, string_bytes, string_cmp, refl, sym, ap, add-one, arith}
+use Rattle.std.specs.Prelude.{if◌then◌else◌, option_map, unwrap_or}
 use Rattle.std.proofs.lemmas.List.{map-append}
 use Rattle.std.proofs.lemmas.List.Elements.{filter_map-append}
 use Rattle.std.proofs.lemmas.List.Folds.{list_all-append}
-use Rattle.std.proofs.lemmas.Option.{same_Some}
 use Rattle.std.proofs.Math.Seq.{drop-cons, take-suc}
 use Rattle.std.specs.BTreeMap.{insert_entry}
 use Rattle.std.specs.FinMap.Entries.{by_order, put}
-use Rattle.std.specs.List.{cons_option, filter_map, list_all}
+use Rattle.std.specs.List.{filter_map, list_all}
 use Rattle.std.specs.Ordering.{match_ordering}
 use Rattle.std.specs.declared.cmp.Ordering.TheVariants.{Less, Equal, Greater}
 use Rattle.cata_core.specs.Entries.{text_cmp}
 use Rattle.json.specs.Json as json
 use Rattle.json.specs.Json.{if_last, value, value_with, parse_map}
-use Rattle.json.specs.Find.{is_null}
-use Rattle.json.specs.Lex.{tokens}
 use Rattle.json.specs.Token as token
 use Rattle.json.specs.Token.{Token}
-use Rattle.json.specs.Tree.{json_tokens}
-use Rattle.json.specs.Value.{members_view, value_view}
-use Rattle.json.specs.declared.value.Value.{Value, Object}
-use Rattle.json.proofs.Grammar.{value_is, value-begin_object}
-use Rattle.json.proofs.Trees.{view-Object}
-use Rattle.json.proofs.Unique.Spelling.{value-json_tokens_back}
+use Rattle.json.specs.declared.value.Value.{Value}
+use Rattle.json.proofs.Grammar.{value_is}
 use Rattle.serde_json.specs.Data as plain
 use Rattle.serde_json.specs.Data.{Data, Members, no_members, member}
 use Rattle.serde_json.specs.Find.{as_str}
-use Rattle.serde_json.specs.Read.{converted, number_of, of_items, of_json, of_members, read}
-use Rattle.docs_core.specs.Rows.{items_in, list_of}
+use Rattle.serde_json.specs.Read.{number_of}
 use Rattle.docs_core.specs.LangMapRows.{is_string_or_null, keys_in, members_by, strings_of}
 use Rattle.docs_core.specs.LangMapRowsSeen.{members_seen}
 use Rattle.docs_core.specs.Numbers.{are_in_range}
 use Rattle.docs_core.specs.MembersRead.{is_scalar}
-use Rattle.docs_core.specs.Reads.{IsRead, Reads, data_of, seen}
-use Rattle.docs_core.proofs.ReadableLemmas.{Reads-in_range, is_some-of_json, there}
-use Rattle.docs_core.proofs.ReadingLemmas.{converted-array, converted-object, whole, whole_and_more, whole_read, whole_refused}
+use Rattle.docs_core.specs.Reads.{Reads, data_of, seen}
+use Rattle.docs_core.proofs.ReadableLemmas.{Reads-in_range}
 
 -- ---- a member more, as it is read and as it is held
 

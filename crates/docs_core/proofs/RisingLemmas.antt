@@ -1,7 +1,7 @@
 -- One entry more.
 use Rattle.std.proofs.Common.{◌≡◌, ◌∙◌, ◌-◌, ◌++◌, ℕ, List, [], ◌∷◌, length, length-append, refl, ap, ap₂, subst, sym, arith, inl, inr}
 use Rattle.std.specs.Ordering.{is_lt}
-use Rattle.std.specs.Prelude.{◌⊎◌, ◌↔◌, MatchResult, Option, None, Some, Result, Ok, Err, map, option_and_then, option_map, slice_get, unwrap_or}
+use Rattle.std.specs.Prelude.{◌⊎◌, ◌↔◌, MatchResult, Option, None, Some, Result, Ok, Err, option_and_then, option_map, slice_get, unwrap_or}
 use Rattle.std.proofs.lemmas.List.{length-map, map-append}
 use Rattle.std.proofs.lemmas.Option.{slice_get-map}
 use Rattle.serde_json.specs.Data.{Data}
