@@ -11,7 +11,7 @@ use Rattle.cell_core.specs.Maps.{IsMap}
 use Rattle.cata_core.specs.Flat.{under, flat, inner_of}
 use Rattle.cata_core.specs.Entries.{text_cmp, Entry, Entries}
 use Rattle.cata_core.specs.Nested.{Nested}
-use Rattle.cata_core.specs.Lent.{with_key}
+use Rattle.cell_core.specs.Found.{with_key}
 use Rattle.cata_core.specs.Live.{of_message, labelled, live_of, live}
 use Rattle.cata_core.proofs.Basics.{first_part, second_part, tied, append_nil, some_same}
 use Rattle.cata_core.proofs.Filtered.{find-below, below_tied_all}

@@ -8,7 +8,7 @@ use Rattle.lang_core.specs.Text.{pieces_by, pieces, joined}
 use Rattle.nego_core.specs.Item.{Item}
 use Rattle.nego_core.specs.LookedUp.{IsLookedUp}
 use Rattle.cata_core.specs.Entries.{text_cmp}
-use Rattle.cata_core.specs.Lent.{with_key}
+use Rattle.cell_core.specs.Found.{with_key}
 use Rattle.cata_core.specs.Live.{Labelled, is_live}
 
 pub joined-pieces : (text : List ℕ) → joined (pieces text) ≡ text

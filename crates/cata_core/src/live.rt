@@ -2,16 +2,15 @@
 
 ghost use Rattle.std.specs.Prelude.{◌≡◌};
 ghost use Rattle.std.specs.FinMap.Entries.{find};
-ghost use Rattle.cell_core.specs.Maps.{IsMap};
 ghost use Rattle.cata_core.specs.Entries.{text_cmp};
 ghost use Rattle.cata_core.specs.Live.{live_of};
-ghost use Rattle.cata_core.specs.Lent.{lent_pair, with_key};
+ghost use Rattle.cell_core.specs.Found.{with_key};
+ghost use Rattle.cata_core.specs.Lent.{lent_pair};
 
 use crate::reply::LentReply;
 use cell_core::{Cell, Keyed, Label};
 use lang_core::Lang;
 use nego_core::{Choice, Holds, PriorityList, choose};
-use std::cmp::Ordering;
 
 /// The live labels of a message, which a lookup searches by their languages' texts.
 #[derive(Drop)]
@@ -79,31 +78,11 @@ impl Holds for Live<'_> {
 fn label_in<'a>(cells: &'a Keyed<Lang, Cell>, text: &str) -> Option<(&'a Lang, &'a Label)>
     ensures { lent_pair result ≡ with_key text.now (find text_cmp text.now (live_of cells.now)) }
 {
-    match search(cells, text) {
+    match cells.get_by(text) {
         Some((lang, cell)) => match cell.label() {
             Some(label) => Some((lang, label)),
             None => None,
         },
         None => None,
     }
-}
-
-/// The language of this text with its cell, by halves: the map asks for a language where there is a
-/// text alone.
-fn search<'a>(cells: &'a Keyed<Lang, Cell>, text: &str) -> Option<(&'a Lang, &'a Cell)>
-    ensures found { lent_pair result ≡ with_key text.now (find text_cmp text.now cells.now) }
-    ensures map { IsMap text_cmp cells.now }
-{
-    let mut low = 0;
-    let mut high = cells.len();
-    while low < high {
-        let middle = low + (high - low) / 2;
-        let (lang, cell) = cells.nth(middle)?;
-        match lang.as_str().cmp(text) {
-            Ordering::Less => low = middle + 1,
-            Ordering::Equal => return Some((lang, cell)),
-            Ordering::Greater => high = middle,
-        }
-    }
-    None
 }

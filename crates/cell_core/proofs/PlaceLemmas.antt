@@ -9,6 +9,7 @@ use Rattle.std.specs.List.{insert}
 use Rattle.std.specs.FinMap.Entries.{find, put, is_sorted, below_all, by_order, find_tied, find-append}
 use Rattle.std.proofs.lemmas.List.{take_more}
 use Rattle.std.proofs.lemmas.List.Edits.{insert_end}
+use Rattle.cell_core.specs.Found.{with_key}
 use Rattle.cell_core.specs.Maps.{IsMap, AgreeIfBoth}
 use Rattle.cell_core.specs.Places.{place_of, IsPlace, IsGap}
 use Rattle.cell_core.proofs.Basics.{first_part, second_part, both_parts, less_than, some_not_none, tied_order}
@@ -124,6 +125,11 @@ module _ {K J : Type 0} {cmp : K → K → Ordering} where
   find_at_place key es at d p =
       subst (λ n. let e = get_or es n d in find cmp key es ≡ Some e.1) (sym p.is)
       (find-place cmp key es d (subst (λ n. n < length es) p.is p.in_range) (subst (λ n. let e = get_or es n d in cmp key e.0 ≡ Equal) p.is (p.tied d)))
+
+  pub entry_at_place : ((x y : K) → cmp x y ≡ Equal → x ≡ y) → (key : K) (es : List (K × J)) (at : ℕ) (d : K × J) → IsPlace cmp key es at → (let e = get_or es at d in with_key e.0 (Some e.1) ≡ with_key key (find cmp key es))
+  entry_at_place exact key es at d p =
+      let e = get_or es at d in
+      ap (λ k. with_key k (Some e.1)) (sym (exact key e.0 (p.tied d))) ∙ ap (with_key key) (sym (find_at_place key es at d p))
 
   pub put_at_place : (key : K) (v : J) (es : List (K × J)) (at : ℕ) (d : K × J) → IsPlace cmp key es at → (let e = get_or es at d in put cmp key v es ≡ set es at (e.0, v))
   put_at_place key v es at d p =

@@ -1,6 +1,7 @@
 pub mod Cells
 pub mod Chunks
 pub mod EntriesLeft
+pub mod Found
 pub mod JoinBasis
 pub mod Joins
 pub mod Labels

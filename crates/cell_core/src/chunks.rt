@@ -10,24 +10,24 @@ ghost use Rattle.cell_core.specs.Places.{IsGap};
 ghost use Rattle.cell_core.specs.Chunks.{all_of, AllFilled, IsChunked, IsChunkFor};
 
 use crate::join::Join;
-use crate::key::Key;
+use crate::key::{Key, Query};
 use crate::pairs::bisect;
 use std::alloc::{AllocError, Global};
 
 /// A chunk that reaches this length is split in two.
 pub(crate) const FULL: usize = 64;
 
-/// The chunk where the key stands, or would go.
-pub(crate) fn chunk_for<K: Key, J>(chunks: &[Vec<(K, J)>], key: &K) -> usize
+/// The chunk where the key that is sought stands, or would go.
+pub(crate) fn chunk_for<K: Key, J, Q: Query<K>>(chunks: &[Vec<(K, J)>], query: Q) -> usize
     requires chunked { IsChunked K.cmp chunks.now }
     requires some { 0 < length chunks.now }
-    ensures { IsChunkFor K.cmp key.now chunks.now result }
+    ensures { IsChunkFor K.cmp (Q.sought query) chunks.now result }
 {
     let mut low = 0;
     let mut high = chunks.len();
     while low + 1 < high {
         let middle = low + (high - low) / 2;
-        if key.cmp(&chunks[middle][0].0).is_lt() {
+        if query.compare(&chunks[middle][0].0).is_lt() {
             high = middle;
         } else {
             low = middle;

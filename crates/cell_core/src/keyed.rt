@@ -5,12 +5,13 @@ ghost use Rattle.std.specs.Option.{option_copied, option_copied_mut, option_map}
 ghost use Rattle.std.specs.Borrow.{LendsIf, sem};
 ghost use Rattle.std.specs.FinMap.Entries.{find, put};
 ghost use Rattle.cell_core.specs.contracts.keyed.Keyed.{the_row};
+ghost use Rattle.cell_core.specs.Found.{with_key};
 ghost use Rattle.cell_core.specs.Maps.{IsMap, AgreeMaps, joined_maps, BetweenMaps, map_laws};
 
 use crate::chunk_joins::{agree_chunks, join_chunks};
 use crate::chunks::{chunk_for, chunk_from_last, copy_chunks, last_pair, nth_pair, put_pair};
 use crate::join::Join;
-use crate::key::Key;
+use crate::key::{Key, Query};
 use crate::keyed_iter::{Entries, are_equal};
 use crate::pairs::{bisect, bisect_from_last};
 use std::alloc::{AllocError, Global};
@@ -25,9 +26,10 @@ use std::marker::Model;
 /// its old value, or without one as before, with the join's value, or with one that stands between
 /// them; a repeated join then gives the whole join.
 ///
-/// `get` and `put` search in about log2(n) steps. A `put` of a new key moves at most some sixty
-/// entries, and a key above all others goes behind them. A join takes time for the other map and
-/// for those parts of this one where the other's keys fall.
+/// `get`, `get_by` and `put` search in about log2(n) steps, `nth` in time for the entries in front.
+/// A `put` of a new key moves at most some sixty entries, and a key above all others goes behind
+/// them. A join takes time for the other map and for those parts of this one where the other's keys
+/// fall.
 ///
 /// ```text
 /// let mut map = Keyed::new(alloc);
@@ -107,13 +109,28 @@ impl<K: Key, J> Keyed<K, J> {
         ensures value { option_copied result ≡ find K.cmp key.now self.now }
         ensures map { IsMap K.cmp self.now }
     {
+        match self.get_by(key) {
+            Some((_, value)) => Some(value),
+            None => None,
+        }
+    }
+
+    /// The entry of the key that the query stands for, if it is held: so a language is found by its
+    /// text, without memory for a key.
+    pub fn get_by<Q: Query<K>>(&self, query: Q) -> Option<(&K, &J)>
+        ensures entry { option_map (λ e. (e.0.now, e.1.now)) result ≡ with_key (Q.sought query) (find K.cmp (Q.sought query) self.now) }
+        ensures map { IsMap K.cmp self.now }
+    {
         if self.chunks.is_empty() {
             return None;
         }
-        let at = chunk_for(&self.chunks, key);
+        let at = chunk_for(&self.chunks, query);
         let chunk = &self.chunks[at];
-        match bisect(chunk, key) {
-            Ok(place) => Some(&chunk[place].1),
+        match bisect(chunk, query) {
+            Ok(place) => {
+                let entry = &chunk[place];
+                Some((&entry.0, &entry.1))
+            }
             Err(_) => None,
         }
     }

@@ -25,7 +25,7 @@ mod weave;
 pub use cell::Cell;
 pub use fault::CellFault;
 pub use join::{Join, agree_all, join_all};
-pub use key::Key;
+pub use key::{Key, Query};
 pub use keyed::Keyed;
 pub use keyed_iter::Entries;
 pub use label::Label;

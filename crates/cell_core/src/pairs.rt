@@ -8,21 +8,21 @@ ghost use Rattle.cell_core.specs.Places.{place_of, IsPlace, IsGap};
 ghost use Rattle.cell_core.specs.Missing.{IsCommonJoined};
 
 use crate::join::Join;
-use crate::key::Key;
+use crate::key::{Key, Query};
 use std::alloc::{AllocError, Global};
 use std::cmp::Ordering;
 
-/// Where the key stands, or else where it would go.
-pub(crate) fn bisect<K: Key, J>(pairs: &[(K, J)], key: &K) -> Result<usize, usize>
+/// Where the key that is sought stands, or else where it would go.
+pub(crate) fn bisect<K: Key, J, Q: Query<K>>(pairs: &[(K, J)], query: Q) -> Result<usize, usize>
     requires { IsMap K.cmp pairs.now }
-    ensures found { IfOk result (IsPlace K.cmp key.now pairs.now) }
-    ensures absent { IfErr result (IsGap K.cmp key.now pairs.now) }
+    ensures found { IfOk result (IsPlace K.cmp (Q.sought query) pairs.now) }
+    ensures absent { IfErr result (IsGap K.cmp (Q.sought query) pairs.now) }
 {
     let mut low = 0;
     let mut high = pairs.len();
     while low < high {
         let middle = low + (high - low) / 2;
-        match key.cmp(&pairs[middle].0) {
+        match query.compare(&pairs[middle].0) {
             Ordering::Less => high = middle,
             Ordering::Equal => return Ok(middle),
             Ordering::Greater => low = middle + 1,

@@ -71,6 +71,32 @@ fn agrees_at_common_keys(rt: HostRuntime) {
     assert!(rt; !a.agrees(&b) && a.agrees(&fr) && fr.agrees(&b));
 }
 
+/// The language that is found by this text.
+fn found_by<'a>(map: &'a Keyed<Lang, Cell>, text: &str) -> Option<&'a str> {
+    map.get_by(text).map(|(key, _)| key.as_str())
+}
+
+#[test]
+fn finds_languages_by_text(rt: HostRuntime) {
+    let map = two(&rt, rt.alloc());
+    assert_eq!(rt; found_by(&map, "en"), Some("en"));
+    assert_eq!(rt; found_by(&map, "fr"), Some("fr"));
+    assert_eq!(rt; found_by(&map, "EN"), None);
+    assert_eq!(rt; found_by(&map, "e n"), None);
+    assert_eq!(rt; found_by(&Keyed::new(rt.alloc()), "en"), None);
+}
+
+#[test]
+fn finds_entries_by_key(rt: HostRuntime) {
+    let map = two(&rt, rt.alloc());
+    let en = lang(&rt, rt.alloc(), "en");
+    let found = map.get_by(&en);
+    assert_eq!(rt;
+        found.map(|(key, cell)| (key.as_str(), cell.stamp().time)),
+        Some(("en", 7))
+    );
+}
+
 /// The time of the language's cell.
 fn time_of(map: &Keyed<Lang, Cell>, key: &Lang) -> Option<u64> {
     map.get(key).map(|cell| cell.stamp().time)

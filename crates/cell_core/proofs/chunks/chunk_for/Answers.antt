@@ -22,7 +22,7 @@ loop-low-preserved-then-is_lt g c =
       order = omega arith;
       within = omega arith;
       front = c.loop-low.invariant.front;
-      back = back_read g.K.Ord.cmp g.met.K.Ord.total c.args.chunks.now c.requires.chunked c.args.key.now middle c.index-chunks-middle.result c.index.result.now lt c.index-chunks-middle.is c.index.ensures (ap is_lt (sym c.cmp.ensures) ∙ sym c.is_lt.ensures ∙ c.if-is_lt.true);
+      back = back_read g.K.Ord.cmp g.met.K.Ord.total c.args.chunks.now c.requires.chunked (g.Q.Query.sought c.args.query) middle c.index-chunks-middle.result c.index.result.now lt c.index-chunks-middle.is c.index.ensures (ap is_lt (sym c.compare.ensures) ∙ sym c.is_lt.ensures ∙ c.if-is_lt.true);
     }
 
 pub loop-low-preserved : goal.loop-low-preserved
@@ -32,7 +32,7 @@ loop-low-preserved g c =
     record {
       order = omega arith;
       within = c.loop-low.invariant.within;
-      front = front_read g.K.Ord.cmp g.met.K.Ord.total c.args.chunks.now c.requires.chunked c.args.key.now middle c.index-chunks-middle.result c.index.result.now lt c.index-chunks-middle.is c.index.ensures (ap is_lt (sym c.cmp.ensures) ∙ sym c.is_lt.ensures ∙ c.if-is_lt.false);
+      front = front_read g.K.Ord.cmp g.met.K.Ord.total c.args.chunks.now c.requires.chunked (g.Q.Query.sought c.args.query) middle c.index-chunks-middle.result c.index.result.now lt c.index-chunks-middle.is c.index.ensures (ap is_lt (sym c.compare.ensures) ∙ sym c.is_lt.ensures ∙ c.if-is_lt.false);
       back = c.loop-low.invariant.back;
     }
 
@@ -42,5 +42,5 @@ returns g c =
     record {
       in_range = omega arith;
       front = c.loop-low.invariant.front;
-      back = subst (λ n. T (below_all g.K.Ord.cmp c.args.key.now (all_of (drop n c.args.chunks.now)))) (same ∙ add-one c.loop-low.low) c.loop-low.invariant.back;
+      back = subst (λ n. T (below_all g.K.Ord.cmp (g.Q.Query.sought c.args.query) (all_of (drop n c.args.chunks.now)))) (same ∙ add-one c.loop-low.low) c.loop-low.invariant.back;
     }
