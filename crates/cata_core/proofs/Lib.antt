@@ -2,6 +2,7 @@ pub mod Apply
 pub mod Basics
 pub mod Behind
 pub mod Best
+pub mod CataFaults
 pub mod CatalogueJoins
 pub mod Catalogues
 pub mod ClashWalks

@@ -1,5 +1,5 @@
 -- What each refusal of a catalogue means, and what it leaves (own rules).
-use Rattle.std.specs.Prelude.{◌≡◌, ℕ}
+use Rattle.std.specs.Prelude.{◌≡◌, ℕ, ⊤}
 use Rattle.cata_core.specs.declared.cata_fault.CataFault.{CataFault}
 use Rattle.cata_core.specs.declared.cata_fault.CataFault.TheVariants.{StampReused, ClockSpent, NotForMe, NoMemory}
 use Rattle.cata_core.specs.Clashes.{IsFirstClash}
@@ -17,6 +17,12 @@ abbrev pub IsRefusal : Entries → Entries → CataFault → Type 0
 IsRefusal own other (StampReused place stamp) = IsFirstClash key_cmp own other place stamp
 IsRefusal own other NoMemory = Agree own other
 IsRefusal own other _ = ⊥
+
+-- a fault that cells can be refused by
+abbrev pub IsOfCells : CataFault → Type 0
+IsOfCells (StampReused place stamp) = ⊤
+IsOfCells NoMemory = ⊤
+IsOfCells _ = ⊥
 
 -- what a refusal leaves: all as it was, or for want of memory at each key the old cell or the join's
 abbrev pub IsLeft : Entries → Entries → Entries → CataFault → Type 0

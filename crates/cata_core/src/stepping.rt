@@ -3,7 +3,7 @@
 ghost use Rattle.std.specs.Prelude.{◌≡◌, [], ◌∷◌, IfErr, OnOk, length};
 ghost use Rattle.cata_core.specs.declared.step.Step.TheVariants.{Edit as EditStep, Merge, AskFilter, AskLookup, AskCells, Tell, Post, Deliver};
 ghost use Rattle.cata_core.specs.Entries.{Entries, Agree, joined};
-ghost use Rattle.cata_core.specs.CataFaults.{IsRefusal};
+ghost use Rattle.cata_core.specs.CataFaults.{IsRefusal, IsOfCells};
 ghost use Rattle.cata_core.specs.Faulty.{IsFaultOf};
 ghost use Rattle.cata_core.specs.Worlds.{held_in, IsRunning, IsStepped, IsClashAt};
 
@@ -24,12 +24,13 @@ use std::mem;
 
 /// The refusal of cells, with the number of the step.
 fn at_step(fault: CataFault, step: usize) -> PlayFault
+    requires { IsOfCells fault }
     ensures { (own other : Entries) → IsRefusal own other fault → IsClashAt step own other result }
 {
     match fault {
         CataFault::StampReused { place, stamp } => PlayFault::StampReused { step, place, stamp },
-        CataFault::ClockSpent | CataFault::NotForMe { .. } | CataFault::NoMemory =>
-            PlayFault::NoMemory,
+        CataFault::NoMemory => PlayFault::NoMemory,
+        CataFault::ClockSpent | CataFault::NotForMe { .. } => unreachable!(),
     }
 }
 

@@ -1,0 +1,12 @@
+-- By what cells are refused.
+use Rattle.std.specs.Prelude.{◌≡◌}
+use Rattle.cata_core.specs.declared.cata_fault.CataFault.{CataFault}
+use Rattle.cata_core.specs.declared.cata_fault.CataFault.TheVariants.{StampReused, ClockSpent, NotForMe, NoMemory}
+use Rattle.cata_core.specs.CataFaults.{IsRefusal, IsOfCells}
+use Rattle.cata_core.specs.Entries.{Entries}
+
+pub of_cells : (own other : Entries) (fault : CataFault) → IsRefusal own other fault → IsOfCells fault
+of_cells own other (StampReused place stamp) h = tt
+of_cells own other ClockSpent h = h
+of_cells own other (NotForMe addressee) h = h
+of_cells own other NoMemory h = tt
