@@ -6,8 +6,8 @@
 //! - [`LangFault`] says why a text is refused, and where.
 //!
 //! Texts are kept in lower case, at most 255 bytes. A parser finds every other refusal before it
-//! asks for memory; all calls but parsers and copies take none, and
-//! these take none for the text of a tag or a range of at most 16 bytes.
+//! asks for memory; all calls but parsers and copies take none, and these take none for the text of
+//! a tag or a range of at most 16 bytes.
 //!
 //! ```text
 //! let tag = Tag::parse(alloc, b"de-Latn-DE")?;

@@ -5,7 +5,8 @@ ghost use Rattle.lang_core.specs.Text.{pieces};
 
 use crate::pieces::{HYPHEN, separator_at};
 
-/// The subtags of a tag or a range as slices of its text, in order; each "*" is one. It takes no memory.
+/// The subtags of a tag or a range as slices of its text, in order; each "*" is one. It takes no
+/// memory.
 #[derive(Clone, Debug, Drop)]
 pub struct Subtags<'a> {
     rest: Option<&'a str>,

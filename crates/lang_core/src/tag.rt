@@ -46,8 +46,8 @@ impl Tag {
     /// The tag that the bytes spell in any case, kept in lower case.
     ///
     /// Refused are, in this order, an empty text, one over 255 bytes, the first subtag that is not
-    /// 1 to 8 letters or digits, and subtags that make no tag. Only then a tag of more than 16 bytes
-    /// makes one allocation, of its size; out of memory is the last refusal.
+    /// 1 to 8 letters or digits, and subtags that make no tag. Only then a tag of more than 16
+    /// bytes makes one allocation, of its size; out of memory is the last refusal.
     ///
     /// ```text
     /// Tag::parse(alloc, b"zh-Hant-CN")?.as_str()  "zh-hant-cn"
