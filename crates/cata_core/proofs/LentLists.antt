@@ -6,8 +6,8 @@ use Rattle.std.specs.Borrow.{Bor}
 use Rattle.std.proofs.lemmas.List.{take_more}
 use Rattle.std.proofs.lemmas.List.Elements.{filter_map-append}
 use Rattle.std.proofs.lemmas.Option.{get_or_from_slice_get}
-use Rattle.nego_core.specs.Filtered.{lent}
-use Rattle.nego_core.specs.declared.pick.Pick.{Pick}
+use Rattle.nego_core.specs.Filtering.{texts_of}
+use Rattle.nego_core.specs.declared.filtering.Pick.{Pick}
 use Rattle.cata_core.specs.Live.{Labelled, languages}
 use Rattle.cata_core.specs.Asking.{with_weight, picked}
 use Rattle.cata_core.specs.LentEntries.{weighed_of, labelled_of}
@@ -37,7 +37,7 @@ pub weighed_push : (xs : List Lent) (x : Lent) → weighed_of (xs ++ x ∷ []) �
 weighed_push xs x = weighed-append xs (x ∷ [])
 
 -- the languages of lent pairs
-pub lent_push : (langs : List (Bor (List ℕ))) (l : Bor (List ℕ)) → lent (langs ++ l ∷ []) ≡ lent langs ++ l.now ∷ []
+pub lent_push : (langs : List (Bor (List ℕ))) (l : Bor (List ℕ)) → texts_of (langs ++ l ∷ []) ≡ texts_of langs ++ l.now ∷ []
 lent_push [] l = refl
 lent_push (x ∷ langs) l = ap (λ xs. x.now ∷ xs) (lent_push langs l)
 

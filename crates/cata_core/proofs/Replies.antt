@@ -6,7 +6,7 @@ use Rattle.std.specs.FinMap.Entries.{find}
 use Rattle.std.proofs.lemmas.List.Splits.{join_with_byte-slice_split}
 use Rattle.lang_core.specs.Text.{pieces_by, pieces, joined}
 use Rattle.nego_core.specs.Item.{Item}
-use Rattle.nego_core.specs.LookedUp.{IsLookedUp}
+use Rattle.nego_core.specs.LookupCandidates.{IsLookedUp}
 use Rattle.cata_core.specs.Entries.{text_cmp}
 use Rattle.cell_core.specs.Found.{with_key}
 use Rattle.cata_core.specs.Live.{Labelled, is_live}

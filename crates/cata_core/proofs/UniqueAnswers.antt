@@ -3,10 +3,10 @@ use Rattle.std.proofs.Common.{◌≡◌, ℕ, List, [], ◌∷◌, ◌++◌, Opt
 use Rattle.std.specs.FinMap.Entries.{find}
 use Rattle.lang_core.specs.Text.{pieces, joined}
 use Rattle.nego_core.specs.Item.{Item}
-use Rattle.nego_core.specs.LookedUp.{IsLookedUp}
+use Rattle.nego_core.specs.LookupCandidates.{IsLookedUp}
 use Rattle.nego_core.specs.declared.scheme.Scheme.{Scheme}
-use Rattle.nego_core.proofs.FilteredLaws.{one_filtered}
-use Rattle.nego_core.proofs.LookedUpLaws.{one_lookup}
+use Rattle.nego_core.proofs.FilteringLaws.{one_filtered}
+use Rattle.nego_core.proofs.LookupCandidatesLaws.{one_lookup}
 use Rattle.cata_core.specs.declared.step.Step.{Step}
 use Rattle.cata_core.specs.declared.step.Step.TheVariants.{Edit, Merge, AskFilter, AskLookup, AskCells, Tell, Post, Deliver}
 use Rattle.cata_core.specs.declared.answer.Answer.{Answer}

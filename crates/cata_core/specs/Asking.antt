@@ -4,11 +4,11 @@ use Rattle.std.specs.List.{filter_map}
 use Rattle.std.specs.FinMap.Entries.{find}
 use Rattle.lang_core.specs.Text.{pieces}
 use Rattle.nego_core.specs.Item.{Item}
-use Rattle.nego_core.specs.declared.pick.Pick.{Pick}
+use Rattle.nego_core.specs.declared.filtering.Pick.{Pick}
 use Rattle.nego_core.specs.declared.scheme.Scheme.{Scheme}
-use Rattle.nego_core.specs.Filtered.{IsFiltered}
-use Rattle.nego_core.specs.LookedUp.{IsLookedUp}
-use Rattle.nego_core.specs.Chosen.{HasOpenDefault}
+use Rattle.nego_core.specs.Filtering.{IsFiltered}
+use Rattle.nego_core.specs.LookupCandidates.{IsLookedUp}
+use Rattle.nego_core.specs.Choosing.{HasOpenDefault}
 use Rattle.cata_core.specs.declared.reply.Reply.{Reply}
 use Rattle.cata_core.specs.declared.reply.Reply.TheVariants.{Matched, Default, Nothing}
 use Rattle.cata_core.specs.Entries.{text_cmp, Entries}

@@ -5,7 +5,7 @@ ghost use Rattle.std.specs.Option.{option_map};
 ghost use Rattle.cell_core.specs.Maps.{IsMap};
 ghost use Rattle.cata_core.specs.Entries.{text_cmp};
 ghost use Rattle.cata_core.specs.Live.{live, languages};
-ghost use Rattle.nego_core.specs.Filtered.{lent};
+ghost use Rattle.nego_core.specs.Filtering.{texts_of};
 ghost use Rattle.cata_core.specs.LiveLeft.{labels_left};
 ghost use Rattle.cata_core.specs.LiveIn.{live_in};
 ghost use Rattle.cata_core.specs.LentEntries.{labelled_of};
@@ -102,7 +102,7 @@ fn languages_of<'a>(
     alloc: Global,
     labels: &[(&'a Lang, &'a Label)],
 ) -> Result<Vec<&'a Lang>, AllocError>
-    ensures { IfOk result (λ langs. lent langs.items ≡ languages (labelled_of labels.now)) }
+    ensures { IfOk result (λ langs. texts_of langs.items ≡ languages (labelled_of labels.now)) }
 {
     let mut langs = Vec::with_capacity(alloc, labels.len())?;
     for (lang, _label) in labels {

@@ -11,7 +11,7 @@ use Rattle.cata_core.specs.Held.{held}
 use Rattle.cata_core.specs.declared.step.Step.{Step}
 use Rattle.cata_core.specs.declared.step.Step.TheVariants.{AskFilter, AskLookup}
 use Rattle.cata_core.proofs.UniqueAnswers.{one_by}
-use Rattle.nego_core.specs.declared.malformed.Malformed.TheVariants.{Refused}
+use Rattle.nego_core.specs.declared.field.Malformed.TheVariants.{Refused}
 use Rattle.nego_core.specs.declared.scheme.Scheme.TheVariants.{Basic}
 use Rattle.nego_core.proofs.FieldUnique.{one_items}
 use Rattle.docs_core.specs.Checks.{AreJson, Check}

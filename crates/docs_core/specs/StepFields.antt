@@ -5,7 +5,7 @@ use Rattle.nego_core.specs.Field.{IsField, RefusesField}
 use Rattle.nego_core.specs.Item.{Item}
 use Rattle.nego_core.specs.declared.fault.NegoFault.{NegoFault}
 use Rattle.nego_core.specs.declared.fault.NegoFault.TheVariants as nego
-use Rattle.nego_core.specs.declared.malformed.Malformed.TheVariants.{Refused}
+use Rattle.nego_core.specs.declared.field.Malformed.TheVariants.{Refused}
 use Rattle.nego_core.specs.declared.scheme.Scheme.{Scheme}
 use Rattle.nego_core.specs.declared.scheme.Scheme.TheVariants.{Basic}
 use Rattle.cata_core.specs.declared.step.Step.{Step}

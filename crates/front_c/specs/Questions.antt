@@ -1,7 +1,7 @@
 -- What a question of C asks (own rules).
 use Rattle.std.specs.Prelude.{◌==◌, ◌∷◌, [], ℕ, List, Option, None, Some, if◌then◌else◌}
-use Rattle.nego_core.specs.declared.malformed.Malformed.{Malformed}
-use Rattle.nego_core.specs.declared.malformed.Malformed.TheVariants.{Refused, PassedOver}
+use Rattle.nego_core.specs.declared.field.Malformed.{Malformed}
+use Rattle.nego_core.specs.declared.field.Malformed.TheVariants.{Refused, PassedOver}
 use Rattle.nego_core.specs.declared.scheme.Scheme.{Scheme}
 use Rattle.nego_core.specs.declared.scheme.Scheme.TheVariants.{Basic, Extended}
 use Rattle.cata_core.specs.Sites.{SiteState}

@@ -9,15 +9,15 @@ use Rattle.lang_core.proofs.PiecesLaws.{joined-pieces}
 use Rattle.lang_core.proofs.RangeText.{not_allowed}
 use Rattle.lang_core.specs.declared.fault.LangFault.{LangFault}
 use Rattle.lang_core.specs.declared.fault.LangFault.TheVariants as lang
-use Rattle.nego_core.specs.Chosen.{HasOpenDefault}
-use Rattle.nego_core.specs.Handed.{is_among}
+use Rattle.nego_core.specs.Choosing.{HasOpenDefault}
+use Rattle.nego_core.specs.LangSet.{is_among}
 use Rattle.nego_core.specs.Item.{Item}
 use Rattle.nego_core.proofs.FieldLaws.{malformed_is_no_field}
 use Rattle.nego_core.proofs.FieldUnique.{one_items}
-use Rattle.nego_core.proofs.LookedUpLaws.{one_lookup}
+use Rattle.nego_core.proofs.LookupCandidatesLaws.{one_lookup}
 use Rattle.nego_core.specs.declared.fault.NegoFault.{NegoFault}
-use Rattle.nego_core.specs.declared.malformed.Malformed.{Malformed}
-use Rattle.nego_core.specs.declared.malformed.Malformed.TheVariants.{Refused, PassedOver}
+use Rattle.nego_core.specs.declared.field.Malformed.{Malformed}
+use Rattle.nego_core.specs.declared.field.Malformed.TheVariants.{Refused, PassedOver}
 use Rattle.nego_core.specs.declared.scheme.Scheme.{Scheme}
 use Rattle.nego_core.specs.declared.fault.NegoFault.TheVariants as nego
 use Rattle.nego_core.specs.Field.{IsField, RefusesField}

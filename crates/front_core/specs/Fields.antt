@@ -3,7 +3,7 @@ use Rattle.std.specs.Prelude.{◌≤◌, ℕ, List, length}
 use Rattle.nego_core.specs.Field.{IsField, RefusesField}
 use Rattle.nego_core.specs.Item.{Item}
 use Rattle.nego_core.specs.declared.fault.NegoFault.{NegoFault}
-use Rattle.nego_core.specs.declared.malformed.Malformed.{Malformed}
+use Rattle.nego_core.specs.declared.field.Malformed.{Malformed}
 use Rattle.nego_core.specs.declared.scheme.Scheme.{Scheme}
 use Rattle.front_core.specs.declared.field.Field.{Field}
 

@@ -2,12 +2,12 @@
 use Rattle.std.specs.Prelude.{◌≡◌, ◌<◌, ◌⊎◌, ℕ, List, ◌++◌, Option, None, Some, codes, length, slice_get}
 use Rattle.lang_core.specs.Lang.{SpellsLang}
 use Rattle.lang_core.specs.Text.{pieces}
-use Rattle.nego_core.specs.Chosen.{HasOpenDefault, IsOpenDefault}
-use Rattle.nego_core.specs.Handed.{is_among}
+use Rattle.nego_core.specs.Choosing.{HasOpenDefault, IsOpenDefault}
+use Rattle.nego_core.specs.LangSet.{is_among}
 use Rattle.nego_core.specs.Item.{Item}
-use Rattle.nego_core.specs.LookedUp.{IsFirst, IsLookedUp}
-use Rattle.nego_core.specs.declared.found.Found.{Found}
-use Rattle.nego_core.specs.declared.found.Found.TheVariants as found
+use Rattle.nego_core.specs.LookupCandidates.{IsFirst, IsLookedUp}
+use Rattle.nego_core.specs.declared.lookup_places.Found.{Found}
+use Rattle.nego_core.specs.declared.lookup_places.Found.TheVariants as found
 use Rattle.front_core.specs.Faults.{IsOf, language_fault}
 use Rattle.front_core.specs.Fields.{FieldText, ReadsAs, Text}
 use Rattle.front_core.specs.Preferring.{HasPreferences, IsDefault, RefusesPreferences}

@@ -10,11 +10,11 @@ use Rattle.lang_core.specs.Text.{pieces}
 use Rattle.lang_core.specs.Grammar.{is_star}
 use Rattle.lang_core.specs.Matching.{Embeds, Extended, without_stars, specificity}
 use Rattle.nego_core.proofs.Basics.{false_true, contains_first, contains_later, contains_cases, same_at}
-use Rattle.nego_core.proofs.BestLaws.{best_same, better_joins, Before, none_before, passed, newest, passed_to, all_before}
-use Rattle.nego_core.specs.Best.{IsBest, better, is_above}
-use Rattle.nego_core.specs.declared.best.Best.{Best}
+use Rattle.nego_core.proofs.MostSpecificLaws.{best_same, better_joins, Before, none_before, passed, newest, passed_to, all_before}
+use Rattle.nego_core.specs.Deciding.{IsBest, better_of, is_above}
+use Rattle.nego_core.specs.declared.deciding.MostSpecific.{MostSpecific}
 use Rattle.nego_core.specs.Item.{Item}
-use Rattle.nego_core.specs.Table.{IsTableOf}
+use Rattle.nego_core.specs.Fingerprint.{IsTableOf}
 use Rattle.nego_core.specs.Chains.{chain_of, MayStandIn, AreNumbers, IsNextIn, AreLinksFrom, AreLinked, StandsIn, StandsAmong}
 use Rattle.nego_core.specs.declared.chains.Chains.{Chains}
 
@@ -148,7 +148,7 @@ abbrev pub FitsIn : (Item → Type 0) → List ℕ → ℕ → ℕ → Item → 
 FitsIn Fits numbers chain k i = StandsIn numbers chain k × Fits i
 
 -- the best of the items of the chain before a place, which is none or stands in the chain too
-pub record IsAskedTo (Fits : Item → Type 0) (items : List Item) (numbers : List ℕ) (chain place : ℕ) (best : Option Best) : Type 0 where
+pub record IsAskedTo (Fits : Item → Type 0) (items : List Item) (numbers : List ℕ) (chain place : ℕ) (best : Option MostSpecific) : Type 0 where
   pub so_far : IsBest (Before (FitsIn Fits numbers chain) place) items best
   pub stands : place < length items → StandsIn numbers chain place
 
@@ -163,7 +163,7 @@ asked_from Fits items numbers chains chain place h small e =
 next_of : (items : List Item) (numbers : List ℕ) (chains : Chains) (chain place : ℕ) → AreLinked items numbers chains → place < length items → StandsIn numbers chain place → IsNextIn numbers chain (place + 1) (get_or chains.next.items place 0)
 next_of items numbers chains chain place h low s = subst (λ (n : ℕ). IsNextIn numbers n (place + 1) (get_or chains.next.items place 0)) s (h.links_ok.next_is place (omega arith) (let m = h.numbers_ok.as_many in omega arith))
 
-asked_on : (Fits : Item → Type 0) (items : List Item) (numbers : List ℕ) (chains : Chains) (chain place next : ℕ) (best : Option Best) → AreLinked items numbers chains → place < length items → StandsIn numbers chain place → next ≡ get_or chains.next.items place 0 → IsBest (Before (FitsIn Fits numbers chain) (place + 1)) items best → IsAskedTo Fits items numbers chain next best
+asked_on : (Fits : Item → Type 0) (items : List Item) (numbers : List ℕ) (chains : Chains) (chain place next : ℕ) (best : Option MostSpecific) → AreLinked items numbers chains → place < length items → StandsIn numbers chain place → next ≡ get_or chains.next.items place 0 → IsBest (Before (FitsIn Fits numbers chain) (place + 1)) items best → IsAskedTo Fits items numbers chain next best
 asked_on Fits items numbers chains chain place next best h low s e b =
     let n : IsNextIn numbers chain (place + 1) next = subst (λ (m : ℕ). IsNextIn numbers chain (place + 1) m) (sym e) (next_of items numbers chains chain place h low s) in
     record {
@@ -171,15 +171,15 @@ asked_on Fits items numbers chains chain place next best h low s e b =
       stands = λ lt. n.stands (let m = h.numbers_ok.as_many in omega arith);
     }
 
-pub asked_better : (Fits : Item → Type 0) (items : List Item) (numbers : List ℕ) (chains : Chains) (chain place next named : ℕ) (i : Item) (best : Option Best) → AreLinked items numbers chains → place < length items → next ≡ get_or chains.next.items place 0 → slice_get items place ≡ Some i → named ≡ specificity (pieces i.range) → Fits i → is_above best named ≡ true → IsAskedTo Fits items numbers chain place best → IsAskedTo Fits items numbers chain next (Some (record { place = place; named = named }))
-asked_better Fits items numbers chains chain place next named i best h low e s n fits above a =
-    asked_on Fits items numbers chains chain place next (Some (record { place = place; named = named })) h low (a.stands low) e (newest (FitsIn Fits numbers chain) items place named i best s n (a.stands low, fits) above a.so_far)
+pub asked_better : (Fits : Item → Type 0) (items : List Item) (numbers : List ℕ) (chains : Chains) (chain place next many : ℕ) (i : Item) (best : Option MostSpecific) → AreLinked items numbers chains → place < length items → next ≡ get_or chains.next.items place 0 → slice_get items place ≡ Some i → many ≡ specificity (pieces i.range) → Fits i → is_above best many ≡ true → IsAskedTo Fits items numbers chain place best → IsAskedTo Fits items numbers chain next (Some (record { place = place; specificity = many }))
+asked_better Fits items numbers chains chain place next many i best h low e s n fits above a =
+    asked_on Fits items numbers chains chain place next (Some (record { place = place; specificity = many })) h low (a.stands low) e (newest (FitsIn Fits numbers chain) items place many i best s n (a.stands low, fits) above a.so_far)
 
-pub asked_passed : (Fits : Item → Type 0) (items : List Item) (numbers : List ℕ) (chains : Chains) (chain place next : ℕ) (i : Item) (best : Option Best) → AreLinked items numbers chains → place < length items → next ≡ get_or chains.next.items place 0 → slice_get items place ≡ Some i → (Fits i → is_above best (specificity (pieces i.range)) ≡ false) → IsAskedTo Fits items numbers chain place best → IsAskedTo Fits items numbers chain next best
+pub asked_passed : (Fits : Item → Type 0) (items : List Item) (numbers : List ℕ) (chains : Chains) (chain place next : ℕ) (i : Item) (best : Option MostSpecific) → AreLinked items numbers chains → place < length items → next ≡ get_or chains.next.items place 0 → slice_get items place ≡ Some i → (Fits i → is_above best (specificity (pieces i.range)) ≡ false) → IsAskedTo Fits items numbers chain place best → IsAskedTo Fits items numbers chain next best
 asked_passed Fits items numbers chains chain place next i best h low e s not a =
     asked_on Fits items numbers chains chain place next best h low (a.stands low) e (passed (FitsIn Fits numbers chain) items place i best s (λ f. not f.1) a.so_far)
 
-pub asked_whole : (Fits : Item → Type 0) (items : List Item) (numbers : List ℕ) (chain place : ℕ) (best : Option Best) → length items ≤ place → IsAskedTo Fits items numbers chain place best → IsBest (FitsIn Fits numbers chain) items best
+pub asked_whole : (Fits : Item → Type 0) (items : List Item) (numbers : List ℕ) (chain place : ℕ) (best : Option MostSpecific) → length items ≤ place → IsAskedTo Fits items numbers chain place best → IsBest (FitsIn Fits numbers chain) items best
 asked_whole Fits items numbers chain place best end a = all_before (FitsIn Fits numbers chain) items place best end a.so_far
 
 -- ---- which chains are asked
@@ -193,7 +193,7 @@ none_set zero c h = cc
 none_set (suc n) zero h = cc
 none_set (suc n) (suc c) h = none_set n c h
 
-pub last_asked : (Fits : Item → Type 0) (items : List Item) (numbers : List ℕ) (best : Option Best) → IsBest (FitsIn Fits numbers 1024) items best → IsBest (FitsAmong Fits numbers (replicate 1024 false)) items best
+pub last_asked : (Fits : Item → Type 0) (items : List Item) (numbers : List ℕ) (best : Option MostSpecific) → IsBest (FitsIn Fits numbers 1024) items best → IsBest (FitsAmong Fits numbers (replicate 1024 false)) items best
 last_asked Fits items numbers best h = best_same (FitsIn Fits numbers 1024) (FitsAmong Fits numbers (replicate 1024 false)) items best
     (λ k i. (
       (λ f. (inl f.0, f.1)),
@@ -204,7 +204,7 @@ last_asked Fits items numbers best h = best_same (FitsIn Fits numbers 1024) (Fit
     ))
     h
 
-pub one_asked : (Fits : Item → Type 0) (items : List Item) (numbers : List ℕ) (table : List Bool) (chain : ℕ) (best found : Option Best) → chain < length table → IsBest (FitsAmong Fits numbers table) items best → IsBest (FitsIn Fits numbers chain) items found → IsBest (FitsAmong Fits numbers (slice_set table chain true)) items (better best found)
+pub one_asked : (Fits : Item → Type 0) (items : List Item) (numbers : List ℕ) (table : List Bool) (chain : ℕ) (best found : Option MostSpecific) → chain < length table → IsBest (FitsAmong Fits numbers table) items best → IsBest (FitsIn Fits numbers chain) items found → IsBest (FitsAmong Fits numbers (slice_set table chain true)) items (better_of best found)
 one_asked Fits items numbers table chain best found low h f =
     better_joins (FitsAmong Fits numbers table) (FitsIn Fits numbers chain) (FitsAmong Fits numbers (slice_set table chain true)) items best found
     (λ k i. (
@@ -239,12 +239,12 @@ stands_among items numbers tag table k i n t s h = elim (n.may k i (slice_get_wi
 ]
 
 -- a range that stands in no chain that was asked does not match
-pub all_asked : (items : List Item) (numbers : List ℕ) (tag : List (List ℕ)) (table : List Bool) (best : Option Best) → AreNumbers items (length items) numbers → IsTableOf chain_of 1024 tag table → IsBest (FitsAmong (λ i. Extended (pieces i.range) tag) numbers table) items best → IsBest (λ _ i. Extended (pieces i.range) tag) items best
+pub all_asked : (items : List Item) (numbers : List ℕ) (tag : List (List ℕ)) (table : List Bool) (best : Option MostSpecific) → AreNumbers items (length items) numbers → IsTableOf chain_of 1024 tag table → IsBest (FitsAmong (λ i. Extended (pieces i.range) tag) numbers table) items best → IsBest (λ _ i. Extended (pieces i.range) tag) items best
 all_asked items numbers tag table None n t h = λ k other s f. h k other s (stands_among items numbers tag table k other n t s f, f)
 all_asked items numbers tag table (Some best) n t h = record {
   item = h.item;
   stands = h.stands;
-  named_is = h.named_is;
+  specificity_is = h.specificity_is;
   fits = h.fits.1;
   most = λ k other s f. h.most k other s (stands_among items numbers tag table k other n t s f, f);
   first = λ k other low s f. h.first k other low s (stands_among items numbers tag table k other n t s f, f);

@@ -9,15 +9,14 @@ use Rattle.lang_core.specs.Matching.{Basic, specificity}
 use Rattle.std.specs.Str.{bytes_eq}
 use Rattle.std.proofs.lemmas.Slice.Eq.{bytes_eq-Decides}
 use Rattle.nego_core.proofs.Basics.{same_at, stands_at}
-use Rattle.nego_core.proofs.Fronts.{IsTextFront, joined-pieces, star_pieces, front_of_text, text_of_front, front_within, front_is_take, take_is_front}
-use Rattle.nego_core.proofs.BestLaws.{best_same, better_joins}
-use Rattle.nego_core.specs.RangeIndex.{IsFirstWith}
+use Rattle.nego_core.proofs.Prefixes.{IsTextFront, joined-pieces, star_pieces, front_of_text, text_of_front, front_within, front_is_take, take_is_front}
+use Rattle.nego_core.proofs.MostSpecificLaws.{best_same, better_joins}
+use Rattle.nego_core.specs.Index.{IsFirstWith}
 use Rattle.nego_core.specs.Item.{Item}
 use Rattle.nego_core.specs.Basics.{IsTheOne}
-use Rattle.nego_core.specs.Best.{better, IsBestOf, IsBest, NoneFits}
-use Rattle.nego_core.specs.Deciding.{Matches, IsMostSpecific, IsDeciding, IsDecidedBy, IsDecidingWeight, DecidesLang, IsAny, MatchesNamed}
-use Rattle.nego_core.specs.declared.best.Best.{Best}
-use Rattle.nego_core.specs.declared.priority_list.Decision.{Decision}
+use Rattle.nego_core.specs.Deciding.{better_of, IsBestOf, IsBest, NoneFits, Matches, IsMostSpecific, IsDeciding, IsDecidedBy, IsDecidingWeight, DecidesLang, IsAny, MatchesNamed}
+use Rattle.nego_core.specs.declared.deciding.MostSpecific.{MostSpecific}
+use Rattle.nego_core.specs.declared.deciding.Decision.{Decision}
 use Rattle.nego_core.specs.declared.scheme.Scheme.{Scheme}
 
 -- the most specific item stands at one place
@@ -43,16 +42,16 @@ two_weights scheme items tag p q d f = one_item_weight (λ i. Matches scheme (pi
 
 -- ---- the best is the most specific
 
-pub most_specific : (Fits : Item → Type 0) (items : List Item) (best : Best) → IsBestOf (λ _ i. Fits i) items best → IsMostSpecific Fits items best.place
+pub most_specific : (Fits : Item → Type 0) (items : List Item) (best : MostSpecific) → IsBestOf (λ _ i. Fits i) items best → IsMostSpecific Fits items best.place
 most_specific Fits items best h = record {
   item = h.item;
   stands = h.stands;
   fits = h.fits;
-  most = λ k other s f. (let m = h.most k other s f in let n = h.named_is in omega arith);
-  first = λ k other low s f. (let m = h.first k other low s f in let n = h.named_is in omega arith);
+  most = λ k other s f. (let m = h.most k other s f in let n = h.specificity_is in omega arith);
+  first = λ k other low s f. (let m = h.first k other low s f in let n = h.specificity_is in omega arith);
 }
 
-pub the_best : (scheme : Scheme) (items : List Item) (tag : List (List ℕ)) (best : Best) → IsBest (λ _ i. Matches scheme (pieces i.range) tag) items (Some best) → IsTheOne (Some best.place) (IsDeciding scheme items tag)
+pub the_best : (scheme : Scheme) (items : List Item) (tag : List (List ℕ)) (best : MostSpecific) → IsBest (λ _ i. Matches scheme (pieces i.range) tag) items (Some best) → IsTheOne (Some best.place) (IsDeciding scheme items tag)
 the_best scheme items tag best h =
     let d = most_specific (λ i. Matches scheme (pieces i.range) tag) items best h in
     (d, λ q f. one_place scheme items tag best.place q d f)
@@ -98,14 +97,14 @@ one_decision scheme items lang p q m n d f = two_decided scheme items (tag_of la
 
 -- ---- under the basic match
 
-pub best_of_first : (items : List Item) (text : List ℕ) (place named : ℕ) (j : Item) → IsFirstWith items text place → j ≡ get_or items place j → named ≡ specificity (pieces j.range) → IsBestOf (λ _ i. i.range ≡ text) items (record { place = place; named = named })
-best_of_first items text place named j f e n =
+pub best_of_first : (items : List Item) (text : List ℕ) (place many : ℕ) (j : Item) → IsFirstWith items text place → j ≡ get_or items place j → many ≡ specificity (pieces j.range) → IsBestOf (λ _ i. i.range ≡ text) items (record { place = place; specificity = many })
+best_of_first items text place many j f e n =
     let same : f.item ≡ j = same_at items place place j f.item refl (stands_at items place j (slice_get_within items place f.item f.stands) e) f.stands in
-    let size : named ≡ specificity (pieces f.item.range) = n ∙ ap (λ (x : Item). specificity (pieces x.range)) (sym same) in
+    let size : many ≡ specificity (pieces f.item.range) = n ∙ ap (λ (x : Item). specificity (pieces x.range)) (sym same) in
     record {
       item = f.item;
       stands = f.stands;
-      named_is = size;
+      specificity_is = size;
       fits = f.same;
       most = λ k other s t. (let alike : specificity (pieces other.range) ≡ specificity (pieces f.item.range) = ap (λ (x : List ℕ). specificity (pieces x)) (t ∙ sym f.same) in omega arith);
       first = λ k other low s t. absurd (f.first k other low s t);
@@ -114,7 +113,7 @@ best_of_first items text place named j f e n =
 pub any_named : (items : List Item) (text : List ℕ) → text ≡ 42 ∷ [] → NoneFits (λ _ i. (¬ IsAny i) × (i.range ≡ text)) items
 any_named items text e = λ k other s f. f.0 (f.1 ∙ e)
 
-pub other_named : (items : List Item) (text : List ℕ) (best : Option Best) → (text ≡ 42 ∷ [] → ⊥) → IsBest (λ _ i. i.range ≡ text) items best → IsBest (λ _ i. (¬ IsAny i) × (i.range ≡ text)) items best
+pub other_named : (items : List Item) (text : List ℕ) (best : Option MostSpecific) → (text ≡ 42 ∷ [] → ⊥) → IsBest (λ _ i. i.range ≡ text) items best → IsBest (λ _ i. (¬ IsAny i) × (i.range ≡ text)) items best
 other_named items text best n h = best_same (λ _ i. i.range ≡ text) (λ _ i. (¬ IsAny i) × (i.range ≡ text)) items best (λ k i. ((λ e. ((λ a. n (sym e ∙ a)), e)), (λ p. p.1))) h
 
 -- another range than "*", of fewer bytes, is a front of the text
@@ -124,7 +123,7 @@ IsShort text n i = (¬ IsAny i) × IsTextFront i.range text × (length i.range <
 pub none_short : (items : List Item) (text : List ℕ) → IsBest (λ _ i. IsShort text 0 i) items None
 none_short items text = λ k other s f. let l = f.2 in absurd (omega arith)
 
-pub short_more : (items : List Item) (text start : List ℕ) (at : ℕ) (best found : Option Best) → at < length text → get_or text at 0 ≡ 45 → start ≡ take at text → IsBest (λ _ i. IsShort text at i) items best → IsBest (λ _ i. (¬ IsAny i) × (i.range ≡ start)) items found → IsBest (λ _ i. IsShort text (at + 1) i) items (better best found)
+pub short_more : (items : List Item) (text start : List ℕ) (at : ℕ) (best found : Option MostSpecific) → at < length text → get_or text at 0 ≡ 45 → start ≡ take at text → IsBest (λ _ i. IsShort text at i) items best → IsBest (λ _ i. (¬ IsAny i) × (i.range ≡ start)) items found → IsBest (λ _ i. IsShort text (at + 1) i) items (better_of best found)
 short_more items text start at best found low hyphen e h f =
     better_joins (λ _ i. IsShort text at i) (λ _ i. (¬ IsAny i) × (i.range ≡ start)) (λ _ i. IsShort text (at + 1) i) items best found
     (λ k i. (
@@ -138,7 +137,7 @@ short_more items text start at best found low hyphen e h f =
     ))
     h f
 
-pub short_same : (items : List Item) (text : List ℕ) (at : ℕ) (best : Option Best) → at < length text → (get_or text at 0 ≡ 45 → ⊥) → IsBest (λ _ i. IsShort text at i) items best → IsBest (λ _ i. IsShort text (at + 1) i) items best
+pub short_same : (items : List Item) (text : List ℕ) (at : ℕ) (best : Option MostSpecific) → at < length text → (get_or text at 0 ≡ 45 → ⊥) → IsBest (λ _ i. IsShort text at i) items best → IsBest (λ _ i. IsShort text (at + 1) i) items best
 short_same items text at best low other h = best_same (λ _ i. IsShort text at i) (λ _ i. IsShort text (at + 1) i) items best
     (λ k i. (
       (λ s. (s.0, s.1, (let l = s.2 in omega arith))),
@@ -153,7 +152,7 @@ basic_named : (text : List ℕ) (i : Item) → MatchesNamed (pieces text) i → 
 basic_named text i (n, inl any) = absurd (n (sym (joined-pieces i.range) ∙ ap joined any))
 basic_named text i (n, inr f) = text_of_front i.range text f
 
-pub all_named : (items : List Item) (text : List ℕ) (at : ℕ) (best found : Option Best) → length text ≤ at → at ≤ length text → IsBest (λ _ i. IsShort text at i) items best → IsBest (λ _ i. (¬ IsAny i) × (i.range ≡ text)) items found → IsBest (λ _ i. MatchesNamed (pieces text) i) items (better best found)
+pub all_named : (items : List Item) (text : List ℕ) (at : ℕ) (best found : Option MostSpecific) → length text ≤ at → at ≤ length text → IsBest (λ _ i. IsShort text at i) items best → IsBest (λ _ i. (¬ IsAny i) × (i.range ≡ text)) items found → IsBest (λ _ i. MatchesNamed (pieces text) i) items (better_of best found)
 all_named items text at best found le ge h f =
     better_joins (λ _ i. IsShort text at i) (λ _ i. (¬ IsAny i) × (i.range ≡ text)) (λ _ i. MatchesNamed (pieces text) i) items best found
     (λ k i. (
@@ -175,7 +174,7 @@ any_or_not i = elim (cases_Bool (bytes_eq i.range (42 ∷ []))) [
   | inr e ↦ inr (λ a. let g : bytes_eq i.range (42 ∷ []) ≡ true = (bytes_eq-Decides i.range (42 ∷ [])).1 a in cc)
 ]
 
-pub all_basic : (items : List Item) (text : List ℕ) (named any : Option Best) → IsBest (λ _ i. MatchesNamed (pieces text) i) items named → IsBest (λ _ i. i.range ≡ 42 ∷ []) items any → IsBest (λ _ i. Basic (pieces i.range) (pieces text)) items (better named any)
+pub all_basic : (items : List Item) (text : List ℕ) (named any : Option MostSpecific) → IsBest (λ _ i. MatchesNamed (pieces text) i) items named → IsBest (λ _ i. i.range ≡ 42 ∷ []) items any → IsBest (λ _ i. Basic (pieces i.range) (pieces text)) items (better_of named any)
 all_basic items text named any h f =
     better_joins (λ _ i. MatchesNamed (pieces text) i) (λ _ i. i.range ≡ 42 ∷ []) (λ _ i. Basic (pieces i.range) (pieces text)) items named any
     (λ k i. ((λ m. m.1), (λ a. any_basic text i a), (λ b. elim (any_or_not i) [ inl a ↦ inr a | inr n ↦ inl (n, b) ])))

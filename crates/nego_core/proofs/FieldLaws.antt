@@ -14,8 +14,8 @@ use Rattle.nego_core.specs.Blanks.{is_blank, AreBlanks}
 use Rattle.nego_core.specs.Element.{IsPadded}
 use Rattle.nego_core.specs.Field.{ArePieces, IsField, IsFirstMalformed, IsOfOneKind, HasElement, RefusesField}
 use Rattle.nego_core.specs.declared.scheme.Scheme.{Scheme}
-use Rattle.nego_core.specs.declared.malformed.Malformed.{Malformed}
-use Rattle.nego_core.specs.declared.malformed.Malformed.TheVariants.{Refused}
+use Rattle.nego_core.specs.declared.field.Malformed.{Malformed}
+use Rattle.nego_core.specs.declared.field.Malformed.TheVariants.{Refused}
 
 no_pieces : (scheme : Scheme) (before after : List (List ℕ)) (piece : List ℕ) (items : List Item) → ¬ AreBlanks piece → ((item : Item) → ¬ IsPadded scheme piece item) → ¬ ArePieces scheme Refused (before ++ piece ∷ after) items
 no_pieces scheme [] after piece [] blank none a = blank a.0

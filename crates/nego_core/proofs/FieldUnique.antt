@@ -11,7 +11,7 @@ use Rattle.nego_core.specs.Weight.{IsTail}
 use Rattle.nego_core.specs.Element.{IsPadded, IsStart, WeightGrammar}
 use Rattle.nego_core.specs.Field.{ArePieces, IsField}
 use Rattle.nego_core.specs.declared.scheme.Scheme.{Scheme}
-use Rattle.nego_core.specs.declared.malformed.Malformed.{Malformed}
+use Rattle.nego_core.specs.declared.field.Malformed.{Malformed}
 
 item_is : (i j : Item) → i.range ≡ j.range → i.weight ≡ j.weight → i ≡ j
 item_is i j r w = ap (λ (x : List ℕ). record { range = x; weight = i.weight }) r ∙ ap (λ (n : ℕ). record { range = j.range; weight = n }) w

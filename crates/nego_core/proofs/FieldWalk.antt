@@ -12,8 +12,8 @@ use Rattle.nego_core.specs.Element.{IsPadded, IsStart, HasStart}
 use Rattle.nego_core.specs.Field.{GivesNone, ArePieces, IsField, IsReadTo, IsFirstMalformed, HasElement}
 use Rattle.nego_core.specs.Item.{Item}
 use Rattle.nego_core.specs.declared.scheme.Scheme.{Scheme}
-use Rattle.nego_core.specs.declared.malformed.Malformed.{Malformed}
-use Rattle.nego_core.specs.declared.malformed.Malformed.TheVariants.{Refused, PassedOver}
+use Rattle.nego_core.specs.declared.field.Malformed.{Malformed}
+use Rattle.nego_core.specs.declared.field.Malformed.TheVariants.{Refused, PassedOver}
 
 -- ---- pieces that give none
 

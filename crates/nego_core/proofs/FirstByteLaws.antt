@@ -7,7 +7,7 @@ use Rattle.std.proofs.lemmas.List.Splits.{slice_split-cons_yes, slice_split-cons
 use Rattle.lang_core.specs.Text.{pieces, pieces_by}
 use Rattle.lang_core.specs.Grammar.{is_star}
 use Rattle.nego_core.specs.Deciding.{Matches}
-use Rattle.nego_core.specs.FirstByte.{first_byte}
+use Rattle.nego_core.specs.Fingerprint.{first_byte}
 use Rattle.nego_core.specs.declared.scheme.Scheme.{Scheme}
 use Rattle.nego_core.specs.declared.scheme.Scheme.TheVariants as scheme
 

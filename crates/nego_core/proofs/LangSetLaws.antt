@@ -6,9 +6,8 @@ use Rattle.std.proofs.lemmas.Bool.{cases_Bool}
 use Rattle.std.proofs.lemmas.Slice.Eq.{bytes_eq-Decides}
 use Rattle.nego_core.proofs.Basics.{false_true, contains_first, contains_later, element_at}
 use Rattle.nego_core.proofs.TableLaws.{IsTableSoFar, one_more}
-use Rattle.nego_core.specs.Handed.{is_among}
-use Rattle.nego_core.specs.LangSet.{slot_of}
-use Rattle.nego_core.specs.Table.{IsTableOf}
+use Rattle.nego_core.specs.LangSet.{is_among}
+use Rattle.nego_core.specs.Fingerprint.{slot_of, IsTableOf}
 
 among_contains : (langs : List (List ℕ)) (text : List ℕ) → is_among langs text ≡ true → Contains langs text
 among_contains [] text h = cc

@@ -9,8 +9,8 @@ use Rattle.nego_core.specs.Item.{Item}
 use Rattle.nego_core.specs.Element.{IsPadded}
 use Rattle.nego_core.specs.Field.{ArePieces, IsField}
 use Rattle.nego_core.specs.declared.scheme.Scheme.{Scheme}
-use Rattle.nego_core.specs.declared.malformed.Malformed.{Malformed}
-use Rattle.nego_core.specs.declared.malformed.Malformed.TheVariants.{Refused, PassedOver}
+use Rattle.nego_core.specs.declared.field.Malformed.{Malformed}
+use Rattle.nego_core.specs.declared.field.Malformed.TheVariants.{Refused, PassedOver}
 
 -- ---- a field without a malformed element
 

@@ -11,12 +11,11 @@ use Rattle.lang_core.specs.Matching.{Basic, Extended, specificity, is_basic_matc
 use Rattle.lang_core.proofs.BasicLaw.{basic_of_test, test_of_basic}
 use Rattle.lang_core.proofs.Embedding.{embeds_of_greedy, greedy_of_embeds}
 use Rattle.nego_core.proofs.Basics.{stands_at}
-use Rattle.nego_core.proofs.BestLaws.{Before, At, none_before, all_before, best_here, none_here, joined_at}
+use Rattle.nego_core.proofs.MostSpecificLaws.{Before, At, none_before, all_before, best_here, none_here, joined_at}
 use Rattle.nego_core.proofs.DecidingLaws.{most_specific}
 use Rattle.nego_core.specs.Item.{Item}
-use Rattle.nego_core.specs.Best.{better, IsBest}
-use Rattle.nego_core.specs.Deciding.{Matches, IsMostSpecific, IsDeciding}
-use Rattle.nego_core.specs.declared.best.Best.{Best}
+use Rattle.nego_core.specs.Deciding.{better_of, IsBest, Matches, IsMostSpecific, IsDeciding}
+use Rattle.nego_core.specs.declared.deciding.MostSpecific.{MostSpecific}
 use Rattle.nego_core.specs.declared.scheme.Scheme.{Scheme}
 use Rattle.nego_core.specs.declared.scheme.Scheme.TheVariants as scheme
 
@@ -51,21 +50,21 @@ matches_or_not scheme.Extended range tag = extended_or_not range tag
 
 -- ---- the best of all items
 
-best_at : (Fits : Item → Type 0) (items : List Item) (n : ℕ) (o : Option Item) → ((i : Item) → Fits i ⊎ (¬ Fits i)) → slice_get items n ≡ o → (best : Option Best) × IsBest (At Fits n) items best
+best_at : (Fits : Item → Type 0) (items : List Item) (n : ℕ) (o : Option Item) → ((i : Item) → Fits i ⊎ (¬ Fits i)) → slice_get items n ≡ o → (best : Option MostSpecific) × IsBest (At Fits n) items best
 best_at Fits items n None either e = (None, λ k other t f. let same : slice_get items k ≡ slice_get items n = ap (slice_get items) f.0 in cc)
 best_at Fits items n (Some i) either e = elim (either i) [
-  | inl fits ↦ (Some (record { place = n; named = specificity (pieces i.range) }), best_here Fits items n (specificity (pieces i.range)) i e refl fits)
+  | inl fits ↦ (Some (record { place = n; specificity = specificity (pieces i.range) }), best_here Fits items n (specificity (pieces i.range)) i e refl fits)
   | inr not ↦ (None, none_here Fits items n i e not)
 ]
 
-best_before : (Fits : Item → Type 0) (items : List Item) (n : ℕ) → ((i : Item) → Fits i ⊎ (¬ Fits i)) → (best : Option Best) × IsBest (Before (λ _ i. Fits i) n) items best
+best_before : (Fits : Item → Type 0) (items : List Item) (n : ℕ) → ((i : Item) → Fits i ⊎ (¬ Fits i)) → (best : Option MostSpecific) × IsBest (Before (λ _ i. Fits i) n) items best
 best_before Fits items zero either = (None, none_before (λ _ i. Fits i) items)
 best_before Fits items (suc n) either =
     let before = best_before Fits items n either in
     let here = best_at Fits items n (slice_get items n) either refl in
-    (better before.0 here.0, subst (λ (m : ℕ). IsBest (Before (λ _ i. Fits i) m) items (better before.0 here.0)) (omega arith) (joined_at Fits items n before.0 here.0 before.1 here.1))
+    (better_of before.0 here.0, subst (λ (m : ℕ). IsBest (Before (λ _ i. Fits i) m) items (better_of before.0 here.0)) (omega arith) (joined_at Fits items n before.0 here.0 before.1 here.1))
 
-decided : (Fits : Item → Type 0) (items : List Item) (best : Option Best) (k : ℕ) (i : Item) → IsBest (λ _ i. Fits i) items best → slice_get items k ≡ Some i → Fits i → (place : ℕ) × IsMostSpecific Fits items place
+decided : (Fits : Item → Type 0) (items : List Item) (best : Option MostSpecific) (k : ℕ) (i : Item) → IsBest (λ _ i. Fits i) items best → slice_get items k ≡ Some i → Fits i → (place : ℕ) × IsMostSpecific Fits items place
 decided Fits items None k i h s f = absurd (h k i s f)
 decided Fits items (Some best) k i h s f = (best.place, most_specific Fits items best h)
 

@@ -10,8 +10,8 @@ use Rattle.lang_core.specs.LookupText.{lookup_text}
 use Rattle.lang_core.specs.Matching.{as_basic, is_lone_star}
 use Rattle.nego_core.proofs.Basics.{element_at}
 use Rattle.nego_core.specs.Item.{Item}
-use Rattle.nego_core.specs.Order.{is_tried, order_keys_from}
-use Rattle.nego_core.specs.declared.order_key.OrderKey.{OrderKey}
+use Rattle.nego_core.specs.LookupOrder.{is_tried, order_keys_from}
+use Rattle.nego_core.specs.declared.lookup_order.OrderKey.{OrderKey}
 
 tried_first : (i : Item) (items : List Item) (k : ℕ) → is_tried i ≡ true → order_keys_from (i ∷ items) k ≡ record { missing_weight = 1000 - i.weight; place = k } ∷ order_keys_from items (k + 1)
 tried_first i items k h = rw h refl

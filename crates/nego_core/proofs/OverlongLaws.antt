@@ -13,7 +13,7 @@ use Rattle.nego_core.proofs.ElementLaws.{range_is_sized, tail_ends}
 use Rattle.nego_core.specs.Blanks.{is_plain, EndsPlain}
 use Rattle.nego_core.specs.Element.{IsStart, is_inner, BeginsOverlong}
 use Rattle.nego_core.specs.Item.{Item}
-use Rattle.nego_core.specs.Separators.{IsFirstPiece}
+use Rattle.nego_core.specs.Field.{IsFirstPiece}
 use Rattle.nego_core.specs.declared.scheme.Scheme.{Scheme}
 
 -- a text begins with what ends a range, or is empty

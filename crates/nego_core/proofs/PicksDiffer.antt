@@ -11,8 +11,8 @@ use Rattle.std.proofs.lemmas.List.Sums.{sum_by-cons, sum_by_more_le, get_or-le-s
 use Rattle.nego_core.proofs.Basics.{pairs_map}
 use Rattle.nego_core.proofs.Unique.{sum_none, next_is}
 use Rattle.nego_core.specs.Item.{Item}
-use Rattle.nego_core.specs.Filtered.{Key, AreKeys, IsFiltered, pick_of}
-use Rattle.nego_core.specs.declared.pick.Pick.{Pick}
+use Rattle.nego_core.specs.Filtering.{Key, AreKeys, IsFiltered, pick_of}
+use Rattle.nego_core.specs.declared.filtering.Pick.{Pick}
 use Rattle.nego_core.specs.declared.scheme.Scheme.{Scheme}
 
 -- ---- the keys of the languages, before they are sorted

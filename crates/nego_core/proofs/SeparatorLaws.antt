@@ -13,12 +13,11 @@ use Rattle.nego_core.proofs.WeightLaws.{skip_all, skip_only, skip_none}
 use Rattle.nego_core.specs.Blanks.{is_blank, AreBlanks, skip_blanks}
 use Rattle.nego_core.proofs.OverlongLaws.{overlong_piece}
 use Rattle.nego_core.specs.Element.{IsStart, HasStart, BeginsOverlong}
-use Rattle.nego_core.specs.Field.{IsField, IsFirstMalformed, HasElement, RefusesField}
+use Rattle.nego_core.specs.Field.{IsField, IsFirstMalformed, HasElement, RefusesField, is_separator, skip_separators, IsFirstPiece}
 use Rattle.nego_core.specs.Item.{Item}
-use Rattle.nego_core.specs.Separators.{is_separator, skip_separators, IsFirstPiece}
 use Rattle.nego_core.specs.declared.scheme.Scheme.{Scheme}
-use Rattle.nego_core.specs.declared.malformed.Malformed.{Malformed}
-use Rattle.nego_core.specs.declared.malformed.Malformed.TheVariants.{Refused, PassedOver}
+use Rattle.nego_core.specs.declared.field.Malformed.{Malformed}
+use Rattle.nego_core.specs.declared.field.Malformed.TheVariants.{Refused, PassedOver}
 use Rattle.nego_core.specs.declared.fault.NegoFault.TheVariants.{FieldMalformed}
 
 -- ---- separators

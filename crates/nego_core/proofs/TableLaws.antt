@@ -4,7 +4,7 @@ use Rattle.std.specs.Prelude.{Contains, slice_set}
 use Rattle.std.proofs.lemmas.Grind.{common_steps}
 use Rattle.std.proofs.Math.ListN.{length-set}
 use Rattle.nego_core.proofs.Basics.{contains_cases}
-use Rattle.nego_core.specs.Table.{IsTableOf}
+use Rattle.nego_core.specs.Fingerprint.{IsTableOf}
 
 -- the numbers of the texts so far are set
 pub record IsTableSoFar (number : List ℕ → ℕ) (size : ℕ) (list left : List (List ℕ)) (table : List Bool) : Type 0 where

@@ -9,12 +9,12 @@ use Rattle.lang_core.specs.Text.{pieces}
 use Rattle.lang_core.specs.Lang.{tag_of}
 use Rattle.nego_core.proofs.Basics.{all_at, contains_map, contains_from_map}
 use Rattle.nego_core.proofs.MatchedLaws.{a_match_decides}
-use Rattle.nego_core.proofs.FilteredEach.{IsKeyFrom, keys_right, keys_all}
+use Rattle.nego_core.proofs.FilteringEach.{IsKeyFrom, keys_right, keys_all}
 use Rattle.nego_core.specs.Item.{Item}
 use Rattle.nego_core.specs.Deciding.{IsDecidedBy}
-use Rattle.nego_core.specs.Filtered.{Key, IsKey, AreKeys, IsFiltered, pick_of}
+use Rattle.nego_core.specs.Filtering.{Key, IsKey, AreKeys, IsFiltered, pick_of}
 use Rattle.nego_core.specs.Unweighted.{AllPositive, MatchesSome, IsMatchedAt}
-use Rattle.nego_core.specs.declared.pick.Pick.{Pick}
+use Rattle.nego_core.specs.declared.filtering.Pick.{Pick}
 use Rattle.nego_core.specs.declared.scheme.Scheme.{Scheme}
 
 -- ---- what is picked is matched

@@ -7,12 +7,12 @@ use Rattle.std.proofs.lemmas.Bool.Decides.{nat_tests}
 use Rattle.lang_core.specs.Text.{pieces_by}
 use Rattle.lang_core.specs.Grammar.{is_digit}
 use Rattle.nego_core.proofs.FieldLaws.{all_items}
-use Rattle.nego_core.specs.Qvalue.{IsQvalue, thousandths}
+use Rattle.nego_core.specs.Weight.{IsQvalue, thousandths}
 use Rattle.nego_core.specs.Element.{WeightGrammar}
 use Rattle.nego_core.specs.Item.{Item}
 use Rattle.nego_core.specs.Field.{IsField}
 use Rattle.nego_core.specs.declared.scheme.Scheme.{Scheme}
-use Rattle.nego_core.specs.declared.malformed.Malformed.{Malformed}
+use Rattle.nego_core.specs.declared.field.Malformed.{Malformed}
 use Rattle.nego_core.specs.declared.scheme.Scheme.TheVariants.{Basic, Extended}
 
 digit_small : (b : ℕ) → is_digit b ≡ true → b ≤ 57

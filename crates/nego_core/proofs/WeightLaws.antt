@@ -12,8 +12,7 @@ use Rattle.nego_core.specs.Element.{WeightGrammar}
 use Rattle.nego_core.specs.declared.scheme.Scheme.{Scheme}
 use Rattle.nego_core.specs.declared.scheme.Scheme.TheVariants.{Basic, Extended}
 use Rattle.nego_core.specs.Blanks.{is_blank, AreBlanks, skip_blanks, is_plain, IsCut}
-use Rattle.nego_core.specs.Qvalue.{IsQvalue, is_zero_digit}
-use Rattle.nego_core.specs.Weight.{HasWeight, IsWeight, IsLastQvalue, FollowsSemicolon, IsNamedQvalue, IsTail}
+use Rattle.nego_core.specs.Weight.{IsQvalue, is_zero_digit, HasWeight, IsWeight, IsLastQvalue, FollowsSemicolon, IsNamedQvalue, IsTail}
 use Rattle.nego_core.specs.Basics.{IsTheOne}
 
 -- ---- blanks at the front

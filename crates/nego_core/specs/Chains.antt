@@ -1,16 +1,10 @@
-use Rattle.std.specs.Prelude.{ℕ, ◌≡◌, ◌≢◌, ◌≤◌, ◌<◌, ◌+◌, ◌*◌, ◌%◌, ◌⊎◌, Bool, true, false, List, length, Some, Contains, fold, slice_index, slice_index_or}
+use Rattle.std.specs.Prelude.{ℕ, ◌≡◌, ◌≢◌, ◌≤◌, ◌<◌, ◌+◌, ◌*◌, ◌%◌, ◌⊎◌, Bool, true, false, List, length, Some, Contains, slice_index, slice_index_or}
 use Rattle.std.specs.List.{slice_get}
 use Rattle.lang_core.specs.Text.{pieces}
 use Rattle.lang_core.specs.Grammar.{is_star}
 use Rattle.nego_core.specs.Item.{Item}
+use Rattle.nego_core.specs.Fingerprint.{fingerprint_of}
 use Rattle.nego_core.specs.declared.chains.Chains.{Chains}
-
--- a number of a subtag, below 65,536
-abbrev pub fingerprint_step : ℕ → ℕ → ℕ
-fingerprint_step fingerprint byte = (fingerprint * 31 % 65536 + byte) % 65536
-
-unfoldable pub fingerprint_of : List ℕ → ℕ
-fingerprint_of subtag = fold fingerprint_step 0 subtag
 
 -- the chain of a subtag, below 1,024
 abbrev pub chain_of : List ℕ → ℕ

@@ -1,4 +1,4 @@
-use Rattle.std.specs.Prelude.{ℕ, ◌≡◌, ◌≤◌, ◌<◌, not, Bool, List, [], ◌∷◌, Some, IsSomeAnd, filter}
+use Rattle.std.specs.Prelude.{ℕ, ◌≡◌, ◌≤◌, ◌<◌, not, Bool, List, [], ◌∷◌, Some, IsSomeAnd, filter, ◌==◌, ◌&&◌, ◌||◌, nat_lt, true, Option, None, MatchOption, if◌then◌else◌}
 use Rattle.std.specs.Str.{bytes_eq}
 use Rattle.std.specs.List.{slice_get}
 use Rattle.lang_core.specs.Text.{pieces}
@@ -7,6 +7,7 @@ use Rattle.lang_core.specs.Matching.{Basic, Extended, specificity}
 use Rattle.nego_core.specs.Item.{Item}
 use Rattle.nego_core.specs.declared.scheme.Scheme.{Scheme}
 use Rattle.nego_core.specs.declared.scheme.Scheme.TheVariants as scheme
+use Rattle.nego_core.specs.declared.deciding.MostSpecific.{MostSpecific}
 
 -- how a range matches a tag: RFC 4647 sections 3.3.1 and 3.3.2
 abbrev pub Matches : Scheme → List (List ℕ) → List (List ℕ) → Type 0
@@ -62,3 +63,34 @@ IsDecidingNamed items tag = IsMostSpecific (MatchesNamed tag) items
 -- the items other than "*" refuse a tag: of them, the deciding one has weight 0 (own rule)
 abbrev pub NamedRefuse : List Item → List (List ℕ) → Type 0
 NamedRefuse items tag = (place : ℕ) × ((d : IsDecidingNamed items tag place) × (d.item.weight ≡ 0))
+
+-- ---- the best of some items
+
+-- the other has more subtags other than "*", or as many and stands before
+abbrev pub is_worse : MostSpecific → MostSpecific → Bool
+is_worse best other = nat_lt best.specificity other.specificity || ((best.specificity == other.specificity) && nat_lt other.place best.place)
+
+abbrev pub better_of : Option MostSpecific → Option MostSpecific → Option MostSpecific
+better_of None other = other
+better_of (Some best) None = Some best
+better_of (Some best) (Some other) = if is_worse best other then Some other else Some best
+
+-- more subtags than the best
+abbrev pub is_above : Option MostSpecific → ℕ → Bool
+is_above None n = true
+is_above (Some best) n = nat_lt best.specificity n
+
+-- of the items that fit at their places, the most specific, the first among equals
+pub record IsBestOf (Fits : ℕ → Item → Type 0) (items : List Item) (best : MostSpecific) : Type 0 where
+  pub item : Item
+  pub stands : slice_get items best.place ≡ Some item
+  pub specificity_is : best.specificity ≡ specificity (pieces item.range)
+  pub fits : Fits best.place item
+  pub most : (k : ℕ) (other : Item) → slice_get items k ≡ Some other → Fits k other → specificity (pieces other.range) ≤ best.specificity
+  pub first : (k : ℕ) (other : Item) → k < best.place → slice_get items k ≡ Some other → Fits k other → specificity (pieces other.range) < best.specificity
+
+abbrev pub NoneFits : (ℕ → Item → Type 0) → List Item → Type 0
+NoneFits Fits items = (k : ℕ) (other : Item) → slice_get items k ≡ Some other → ¬ Fits k other
+
+abbrev pub IsBest : (ℕ → Item → Type 0) → List Item → Option MostSpecific → Type 0
+IsBest Fits items best = MatchOption best (NoneFits Fits items) (IsBestOf Fits items)

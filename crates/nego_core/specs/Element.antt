@@ -1,10 +1,10 @@
 use Rattle.std.specs.Prelude.{ℕ, ◌≡◌, ◌<◌, ◌==◌, ◌&&◌, not, Bool, IsTrue, List, ◌++◌, length, take, Option, Some, None, Result, Ok, Err}
 use Rattle.std.specs.Str.{str_to_ascii_lowercase}
+use Rattle.std.specs.List.{list_all}
 use Rattle.lang_core.specs.Grammar.{BasicRange, ExtendedRange}
 use Rattle.lang_core.specs.Fault.{IsRange}
 use Rattle.lang_core.specs.declared.fault.LangFault.{LangFault}
 use Rattle.lang_core.specs.declared.fault.LangFault.TheVariants as lang
-use Rattle.std.specs.List.{list_all}
 use Rattle.nego_core.specs.Blanks.{AreBlanks, is_plain}
 use Rattle.nego_core.specs.Weight.{IsWeight, IsNoWeight, IsTail}
 use Rattle.nego_core.specs.Item.{Item}
@@ -64,7 +64,7 @@ abbrev pub BeginsOverlong : List ℕ → Type 0
 BeginsOverlong text = (255 < length text) × IsTrue (list_all is_inner (take 256 text))
 
 -- what a parser of ranges says of a text: no item fits it where it is no range
-abbrev pub fitting : Result (List ℕ) LangFault → Result (Option (List ℕ)) NegoFault
-fitting (Ok range) = Ok (Some range)
-fitting (Err lang.NoMemory) = Err nego.NoMemory
-fitting (Err _) = Ok None
+abbrev pub fitting_range : Result (List ℕ) LangFault → Result (Option (List ℕ)) NegoFault
+fitting_range (Ok range) = Ok (Some range)
+fitting_range (Err lang.NoMemory) = Err nego.NoMemory
+fitting_range (Err _) = Ok None

@@ -1,4 +1,4 @@
-use Rattle.std.specs.Prelude.{ℕ, ◌≡◌, ◌≤◌, ◌<◌, ◌+◌, ◌⊎◌, List, [], ◌∷◌, ◌++◌, length, sum_by, All}
+use Rattle.std.specs.Prelude.{ℕ, ◌≡◌, ◌≤◌, ◌<◌, ◌+◌, ◌⊎◌, List, [], ◌∷◌, ◌++◌, length, sum_by, All, ◌==◌, ◌||◌, Bool, if◌then◌else◌}
 use Rattle.std.specs.List.{prefix_len}
 use Rattle.lang_core.specs.Text.{pieces, pieces_by}
 use Rattle.lang_core.specs.Grammar.{BasicRange}
@@ -7,8 +7,8 @@ use Rattle.nego_core.specs.Element.{IsPadded}
 use Rattle.nego_core.specs.Item.{Item}
 use Rattle.nego_core.specs.declared.scheme.Scheme.{Scheme}
 use Rattle.nego_core.specs.declared.scheme.Scheme.TheVariants.{Basic, Extended}
-use Rattle.nego_core.specs.declared.malformed.Malformed.{Malformed}
-use Rattle.nego_core.specs.declared.malformed.Malformed.TheVariants.{Refused, PassedOver}
+use Rattle.nego_core.specs.declared.field.Malformed.{Malformed}
+use Rattle.nego_core.specs.declared.field.Malformed.TheVariants.{Refused, PassedOver}
 use Rattle.nego_core.specs.declared.fault.NegoFault.{NegoFault}
 use Rattle.nego_core.specs.declared.fault.NegoFault.TheVariants.{FieldTooLong, FieldMalformed, NoMemory}
 
@@ -70,3 +70,18 @@ RefusesField scheme malformed bytes FieldTooLong = 65535 < length bytes
 RefusesField scheme Refused bytes (FieldMalformed offset) = (length bytes ≤ 65535) × IsFirstMalformed scheme bytes offset
 RefusesField scheme PassedOver bytes (FieldMalformed offset) = ⊥
 RefusesField scheme malformed bytes NoMemory = (length bytes ≤ 65535) × HasElement scheme malformed bytes
+
+-- ---- from element to element
+
+-- what stands between two elements beside empty ones: RFC 9110 section 5.6.1, OWS "," OWS
+abbrev pub is_separator : ℕ → Bool
+is_separator b = (b == 44) || is_blank b
+
+-- a text without the separators at its front
+abbrev pub skip_separators : List ℕ → List ℕ
+skip_separators [] = []
+skip_separators (b ∷ text) = if is_separator b then skip_separators text else b ∷ text
+
+-- a text up to its first comma, and what follows that comma, if there is one
+abbrev pub IsFirstPiece : List ℕ → List ℕ → List ℕ → Type 0
+IsFirstPiece text piece after = (pieces_by 44 text ≡ piece ∷ pieces_by 44 after) ⊎ ((pieces_by 44 text ≡ piece ∷ []) × (after ≡ []))

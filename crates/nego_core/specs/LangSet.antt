@@ -1,5 +1,7 @@
-use Rattle.std.specs.Prelude.{ℕ, ◌+◌, ◌*◌, ◌%◌, List, slice_index}
+use Rattle.std.specs.Prelude.{ℕ, Bool, List}
+use Rattle.std.specs.List.{list_any}
+use Rattle.std.specs.Str.{bytes_eq}
 
--- a number of a text, below 1024, by its first two bytes
-unfoldable pub slot_of : List ℕ → ℕ
-slot_of text = slice_index text 0 % 32 * 32 + slice_index text 1 % 32
+-- whether a text is that of one of the languages
+abbrev pub is_among : List (List ℕ) → List ℕ → Bool
+is_among langs text = list_any (λ l. bytes_eq l text) langs

@@ -1,3 +1,4 @@
+//! Blanks (RFC 9110 section 5.6.3), and the tokens that end at one.
 ghost use Rattle.std.specs.Prelude.{◌≡◌, position};
 ghost use Rattle.std.specs.List.{list_all};
 ghost use Rattle.nego_core.specs.Blanks.{is_blank, skip_blanks, is_stop, IsCut};
@@ -9,13 +10,14 @@ pub(crate) fn is_blank(byte: u8) -> bool
     byte == b' ' || byte == b'\t'
 }
 
+/// Whether the text is blanks alone.
 pub(crate) fn all_blanks(text: &[u8]) -> bool
     ensures { result ≡ list_all is_blank text.now }
 {
     text.iter().all(|b| is_blank(*b))
 }
 
-/// The text without the blanks at its front.
+/// The text without its leading blanks.
 pub(crate) fn trim_start(text: &[u8]) -> &[u8]
     ensures { result.now ≡ skip_blanks text.now }
 {
@@ -36,12 +38,6 @@ pub(crate) fn is_stop(byte: u8) -> bool
     is_blank(byte) || byte == b';'
 }
 
-fn stop_at(text: &[u8]) -> Option<usize>
-    ensures { result ≡ position is_stop text.now }
-{
-    text.iter().position(|b| is_stop(*b))
-}
-
 /// The text up to the first blank or semicolon, and the rest.
 pub(crate) fn cut_token(text: &[u8]) -> (&[u8], &[u8])
     ensures { IsCut text.now result.0.now result.1.now }
@@ -50,4 +46,11 @@ pub(crate) fn cut_token(text: &[u8]) -> (&[u8], &[u8])
         Some(at) => (&text[..at], &text[at..]),
         None => (text, &[]),
     }
+}
+
+/// Where the first blank or semicolon stands.
+fn stop_at(text: &[u8]) -> Option<usize>
+    ensures { result ≡ position is_stop text.now }
+{
+    text.iter().position(|b| is_stop(*b))
 }

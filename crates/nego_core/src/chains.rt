@@ -3,8 +3,10 @@
 //! subtags does not match where no subtag of the tag has this chain.
 ghost use Rattle.std.specs.Prelude.{ℕ, ◌≡◌, ◌<◌, length, slice_index, IfOk};
 ghost use Rattle.lang_core.specs.Text.{pieces};
-ghost use Rattle.nego_core.specs.Chains.{fingerprint_of, chain_of, MayStandIn, AreNumbers, AreLinks, AreChains};
+ghost use Rattle.nego_core.specs.Fingerprint.{fingerprint_of};
+ghost use Rattle.nego_core.specs.Chains.{chain_of, MayStandIn, AreNumbers, AreLinks, AreChains};
 
+use crate::fingerprint::fingerprint_of;
 use crate::item::Item;
 use lang_core::Range;
 use std::alloc::{AllocError, Global};
@@ -31,7 +33,15 @@ pub(crate) fn chains_of(alloc: Global, items: &[Item]) -> Result<Chains, AllocEr
     ensures { IfOk result (AreChains items.now) }
 {
     let numbers = numbers_of(alloc, items)?;
-    linked(alloc, &numbers)
+    link_chains(alloc, &numbers)
+}
+
+/// The chain of a subtag.
+pub(crate) fn chain_of(subtag: &str) -> usize
+    ensures chain { result ≡ chain_of subtag.now }
+    ensures within { result < 1024 }
+{
+    usize::from(fingerprint_of(subtag.as_bytes()) % 1024)
 }
 
 /// For each item the number of its chain.
@@ -66,7 +76,7 @@ fn shortest_for(lengths: &[usize; CHAINS], range: &Range) -> usize
 }
 
 /// The chains of places that have these numbers.
-fn linked(alloc: Global, numbers: &[usize]) -> Result<Chains, AllocError>
+fn link_chains(alloc: Global, numbers: &[usize]) -> Result<Chains, AllocError>
     requires { (k : ℕ) → k < length numbers.now → slice_index numbers.now k < 1025 }
     ensures { IfOk result (AreLinks numbers.now) }
 {
@@ -79,22 +89,4 @@ fn linked(alloc: Global, numbers: &[usize]) -> Result<Chains, AllocError>
         first[chain] = place;
     }
     Ok(Chains { first, next })
-}
-
-/// The chain of a subtag.
-pub(crate) fn chain_of(subtag: &str) -> usize
-    ensures chain { result ≡ chain_of subtag.now }
-    ensures within { result < 1024 }
-{
-    usize::from(fingerprint_of(subtag.as_bytes()) % 1024)
-}
-
-#[tactic(auto, unfolding(crate::specs::Chains::fingerprint_of))]
-fn fingerprint_of(subtag: &[u8]) -> u16
-    ensures { result ≡ fingerprint_of subtag.now }
-{
-    subtag.iter().fold(
-        0u16,
-        |fingerprint, byte| fingerprint.wrapping_mul(31).wrapping_add(u16::from(*byte)),
-    )
 }

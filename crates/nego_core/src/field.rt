@@ -1,27 +1,31 @@
-ghost use Rattle.std.specs.Prelude.{◌≡◌, ◌≤◌, length, MatchResult};
-ghost use Rattle.nego_core.specs.Field.{IsField, RefusesField};
+//! A field: elements between commas (RFC 9110 section 5.6.1), and what becomes of malformed ones.
+ghost use Rattle.std.specs.Prelude.{◌≡◌, ◌≤◌, length, MatchResult, ◌==◌, position};
+ghost use Rattle.nego_core.specs.Field.{IsField, RefusesField, is_separator, skip_separators, IsFirstPiece};
 ghost use Rattle.nego_core.specs.declared.fault.NegoFault.TheVariants.{FieldMalformed};
-ghost use Rattle.nego_core.specs.declared.malformed.Malformed.TheVariants.{Refused, PassedOver};
+ghost use Rattle.nego_core.specs.declared.field.Malformed.TheVariants.{Refused, PassedOver};
 
+use crate::blanks::is_blank;
 use crate::element::{begins_overlong, read_item};
 use crate::fault::NegoFault;
 use crate::item::Item;
-use crate::malformed::Malformed;
 use crate::scheme::Scheme;
-use crate::separators::{cut_piece, skip_separators};
 use std::alloc::Global;
 
 /// The longest field that is read.
-pub(crate) const MAX_FIELD_LEN: usize = 65535;
+const MAX_FIELD_LEN: usize = 65535;
 
-/// Goes on behind a malformed element, which begins at the offset, or refuses it.
-fn pass_over(malformed: Malformed, offset: usize) -> Result<(), NegoFault>
-    ensures { MatchResult result (λ _. malformed ≡ PassedOver) (λ fault. (malformed ≡ Refused) × (fault ≡ FieldMalformed offset)) }
-{
-    match malformed {
-        Malformed::Refused => Err(NegoFault::FieldMalformed { offset }),
-        Malformed::PassedOver => Ok(()),
-    }
+const COMMA: u8 = b',';
+
+/// This many commas are skipped at once.
+const COMMAS: &[u8] = b",,,,,,,,,,,,,,,,";
+
+/// What becomes of a field's malformed elements. RFC 9110 section 12.5.4 leaves it to a server.
+#[derive(Clone, Copy, Debug, PartialEq, Eq)]
+pub enum Malformed {
+    /// The first of them refuses the field.
+    Refused,
+    /// They are passed over, and the other elements are read.
+    PassedOver,
 }
 
 /// The items of a field, in one pass.
@@ -31,7 +35,9 @@ pub(crate) fn read_items(
     malformed: Malformed,
     field: &[u8],
 ) -> Result<Vec<Item>, NegoFault>
-    ensures { MatchResult result (λ items. (length field.now ≤ 65535) × IsField scheme malformed field.now items.items) (RefusesField scheme malformed field.now) }
+    ensures { MatchResult result
+        (λ items. (length field.now ≤ 65535) × IsField scheme malformed field.now items.items)
+        (RefusesField scheme malformed field.now) }
 {
     if field.len() > MAX_FIELD_LEN {
         return Err(NegoFault::FieldTooLong);
@@ -52,4 +58,65 @@ pub(crate) fn read_items(
         rest = skip_separators(after);
     }
     Ok(items)
+}
+
+/// Goes on after a malformed element, which begins at the offset, or refuses it.
+fn pass_over(malformed: Malformed, offset: usize) -> Result<(), NegoFault>
+    ensures { MatchResult result (λ _. malformed ≡ PassedOver)
+        (λ fault. (malformed ≡ Refused) × (fault ≡ FieldMalformed offset)) }
+{
+    match malformed {
+        Malformed::Refused => Err(NegoFault::FieldMalformed { offset }),
+        Malformed::PassedOver => Ok(()),
+    }
+}
+
+/// The text without its leading separators.
+fn skip_separators(text: &[u8]) -> &[u8]
+    ensures { result.now ≡ skip_separators text.now }
+{
+    let mut rest = text;
+    while let [first, others @ ..] = rest {
+        if !is_separator(*first) {
+            return rest;
+        }
+        rest = skip_commas(others);
+    }
+    rest
+}
+
+/// The text up to its first comma, and what follows that comma.
+fn cut_piece(text: &[u8]) -> (&[u8], &[u8])
+    ensures { IsFirstPiece text.now result.0.now result.1.now }
+{
+    match comma_at(text) {
+        Some(at) => (&text[..at], &text[at + 1..]),
+        None => (text, &[]),
+    }
+}
+
+/// A comma, or a blank beside one (RFC 9110 section 5.6.1).
+fn is_separator(byte: u8) -> bool
+    ensures { result ≡ is_separator byte }
+{
+    byte == COMMA || is_blank(byte)
+}
+
+/// The text without its leading commas, of which fewer than `COMMAS` may be left.
+fn skip_commas(text: &[u8]) -> &[u8]
+    ensures same { skip_separators result.now ≡ skip_separators text.now }
+    ensures shorter { length result.now ≤ length text.now }
+{
+    let mut rest = text;
+    while let Some(others) = rest.strip_prefix(COMMAS) {
+        rest = others;
+    }
+    rest
+}
+
+/// Where the first comma stands.
+fn comma_at(text: &[u8]) -> Option<usize>
+    ensures { result ≡ position (λ b. b == 44) text.now }
+{
+    text.iter().position(|b| *b == COMMA)
 }

@@ -1,12 +1,13 @@
+//! An item of a priority list: a range with its weight.
 ghost use Rattle.std.specs.Prelude.{◌≡◌, ◌≤◌, ◌↔◌, IsTrue};
 ghost use Rattle.nego_core.specs.Deciding.{Matches};
 ghost use Rattle.lang_core.specs.Text.{pieces};
 ghost use Rattle.lang_core.specs.Matching.{specificity};
 ghost use Rattle.std.specs.Cmp as laws_of;
-ghost use Rattle.nego_core.specs.FirstByte.{first_byte};
-ghost use Rattle.nego_core.specs.Equal.{item_eq, item_equiv};
+ghost use Rattle.nego_core.specs.Fingerprint.{first_byte};
+ghost use Rattle.nego_core.specs.Item.{item_eq, item_equiv};
 
-use crate::bytes::byte_at;
+use crate::fingerprint::first_byte;
 use crate::scheme::Scheme;
 use lang_core::{Range, Tag};
 use std::fmt;
@@ -18,7 +19,7 @@ pub struct Item {
     range: Range,
     weight: u16,
     /// The number of the range's subtags other than "*".
-    named: usize,
+    specificity: usize,
     /// The first byte of the range.
     first: u8,
 }
@@ -26,15 +27,15 @@ pub struct Item {
 impl Model for Item {
     ghost use Rattle.std.specs.Prelude.{◌≡◌, ◌≤◌};
     ghost use Rattle.lang_core.specs.Text.{pieces};
-    ghost use Rattle.lang_core.specs.Matching.{specificity};
-    ghost use Rattle.nego_core.specs.FirstByte.{first_byte};
+    ghost use Rattle.lang_core.specs.Matching.{specificity as specificity_of};
+    ghost use Rattle.nego_core.specs.Fingerprint.{first_byte};
     ghost use Rattle.nego_core.specs.Item.{Item};
 
     ghost Value = { Item };
 
     ghost view = { λ i. record { range = i.range; weight = i.weight } };
 
-    ghost invariant = { λ i. (i.weight ≤ 1000) × (i.named ≡ specificity (pieces i.range))
+    ghost invariant = { λ i. (i.weight ≤ 1000) × (i.specificity ≡ specificity_of (pieces i.range))
         × (i.first ≡ first_byte (pieces i.range)) };
 }
 
@@ -44,12 +45,12 @@ impl Item {
         ensures range { result.range ≡ range }
         ensures weight { result.weight ≡ weight }
     {
-        let named = range.specificity();
+        let specificity = range.specificity();
         let first = first_byte(range.as_str());
         Item {
             range,
             weight,
-            named,
+            specificity,
             first,
         }
     }
@@ -87,16 +88,8 @@ impl Item {
     pub(crate) fn specificity(&self) -> usize
         ensures { result ≡ specificity (pieces self.now.range) }
     {
-        self.named
+        self.specificity
     }
-}
-
-/// The first byte of a text's first subtag, or 0 where that is empty.
-pub(crate) fn first_byte(text: &str) -> u8
-    ensures { result ≡ first_byte (pieces text.now) }
-{
-    let first = byte_at(text.as_bytes(), 0);
-    if first == b'-' { 0 } else { first }
 }
 
 impl PartialEq for Item {

@@ -1,17 +1,39 @@
-//! The languages of a slice as a set that tells of most other texts at once that it has them not.
-ghost use Rattle.std.specs.Prelude.{◌≡◌, ◌<◌};
-ghost use Rattle.nego_core.specs.LangSet.{slot_of};
-ghost use Rattle.nego_core.specs.Handed.{is_among};
+//! Sets of languages that lookup asks.
+ghost use Rattle.std.specs.Prelude.{◌≡◌, ◌<◌, ℕ, List, Bool};
+ghost use Rattle.nego_core.specs.Fingerprint.{slot_of};
+ghost use Rattle.nego_core.specs.LangSet.{is_among};
 
-use crate::bytes::byte_at;
-use crate::holds::{Holds, is_among};
+use crate::fingerprint::slot_of;
 use lang_core::Lang;
 use std::marker::Model;
 
 /// How many slots the table has.
 const SLOTS: usize = 1024;
 
-/// The languages, and a table in which the slot of each of them is set.
+/// A set of languages, each by its text: a tag in lower case, or `@none`.
+///
+/// `choose` asks nothing else of what it looks through. It takes no memory, so long as `holds`
+/// takes none. A slice of languages is such a set: `choose(&list, &langs.as_slice(), None)`.
+pub trait Holds {
+    /// Whether a text is in the set.
+    ghost held: { Self → List ℕ → Bool };
+
+    /// Whether the language of this text is held. It should take no memory.
+    fn holds(&self, lang: &str) -> bool
+        ensures { result ≡ held self.now lang.now };
+}
+
+/// The languages of the slice, which are compared one by one.
+impl Holds for &[Lang] {
+    ghost held = { λ langs text. is_among langs.now text };
+
+    fn holds(&self, lang: &str) -> bool {
+        is_among(self, lang)
+    }
+}
+
+/// The languages of a slice, and a table in which the slot of each of them is set: of most other
+/// texts it tells at once that they are not among them.
 #[derive(Drop)]
 pub(crate) struct LangSet<'a> {
     langs: &'a [Lang],
@@ -20,8 +42,7 @@ pub(crate) struct LangSet<'a> {
 
 impl<'a> Model for LangSet<'a> {
     ghost use Rattle.std.specs.Prelude.{List, ℕ};
-    ghost use Rattle.nego_core.specs.LangSet.{slot_of};
-    ghost use Rattle.nego_core.specs.Table.{IsTableOf};
+    ghost use Rattle.nego_core.specs.Fingerprint.{slot_of, IsTableOf};
 
     ghost Value = { List (List ℕ) };
 
@@ -50,13 +71,9 @@ impl<'a> Holds for LangSet<'a> {
     }
 }
 
-/// The slot of a text, by its first two bytes, which are letters of most languages.
-#[tactic(auto, unfolding(crate::specs::LangSet::slot_of))]
-fn slot_of(text: &[u8]) -> usize
-    ensures slot { result ≡ slot_of text.now }
-    ensures within { result < 1024 }
+/// Whether the language of this text is among the languages, which are compared one by one.
+pub(crate) fn is_among(langs: &[Lang], lang: &str) -> bool
+    ensures { result ≡ is_among langs.now lang.now }
 {
-    let first = usize::from(byte_at(text, 0));
-    let second = usize::from(byte_at(text, 1));
-    first % 32 * 32 + second % 32
+    langs.iter().any(|other| other.as_str() == lang)
 }

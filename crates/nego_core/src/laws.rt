@@ -4,18 +4,18 @@ ghost use Rattle.lang_core.specs.Text.{pieces, pieces_by, joined};
 ghost use Rattle.nego_core.specs.Item.{Item};
 ghost use Rattle.nego_core.specs.Element.{IsPadded};
 ghost use Rattle.nego_core.specs.declared.scheme.Scheme.{Scheme};
-ghost use Rattle.nego_core.specs.Filtered.{IsFiltered, IsPicked};
-ghost use Rattle.nego_core.specs.Order.{is_tried, IsOrder};
-ghost use Rattle.nego_core.specs.LookedUp.{IsLookedUp, candidates_of};
-ghost use Rattle.nego_core.specs.Handed.{IsFound};
+ghost use Rattle.nego_core.specs.Filtering.{IsFiltered, IsPicked};
+ghost use Rattle.nego_core.specs.LookupOrder.{is_tried, IsOrder};
+ghost use Rattle.nego_core.specs.LookupCandidates.{IsLookedUp, candidates_of};
+ghost use Rattle.nego_core.specs.LookupPlaces.{IsFound};
 ghost use Rattle.nego_core.specs.Deciding.{Matches, IsDeciding, IsDecidedBy, NamedRefuse, RefusesLang, named_items};
 ghost use Rattle.nego_core.specs.Unweighted.{AllPositive, AllUnweighted, IsMatchedAt, IsFirstHeld};
 ghost use Rattle.nego_core.specs.declared.scheme.Scheme.TheVariants as scheme;
 ghost use Rattle.nego_core.specs.Field.{IsField, IsFirstMalformed, IsOfOneKind};
-ghost use Rattle.nego_core.specs.declared.malformed.Malformed.{Malformed};
-ghost use Rattle.nego_core.specs.declared.malformed.Malformed.TheVariants.{Refused, PassedOver};
-ghost use Rattle.nego_core.specs.declared.found.Found.{Found};
-ghost use Rattle.nego_core.specs.declared.pick.Pick.{Pick};
+ghost use Rattle.nego_core.specs.declared.field.Malformed.{Malformed};
+ghost use Rattle.nego_core.specs.declared.field.Malformed.TheVariants.{Refused, PassedOver};
+ghost use Rattle.nego_core.specs.declared.lookup_places.Found.{Found};
+ghost use Rattle.nego_core.specs.declared.filtering.Pick.{Pick};
 
 /// A field gives one list of items (RFC 9110 section 12.5.4), and one where malformed elements
 /// are passed over.
@@ -46,7 +46,8 @@ pub fn field_is_of_one_kind()
 
 /// The items other than "*" refuse a tag exactly where the list without "*" does.
 pub fn named_refuse_alone()
-    ensures { (items : List Item) (tag : List (List ℕ)) → NamedRefuse items tag ↔ ((place : ℕ) × IsDecidedBy scheme.Basic (named_items items) tag place 0) }
+    ensures { (items : List Item) (tag : List (List ℕ)) → NamedRefuse items tag
+        ↔ ((place : ℕ) × IsDecidedBy scheme.Basic (named_items items) tag place 0) }
 {}
 
 /// Where no weight is 0, no tag and no language is refused.
@@ -59,7 +60,8 @@ pub fn nothing_refused()
 
 /// Lookup finds one text, or none (RFC 4647 section 3.4).
 pub fn one_lookup()
-    ensures { (items : List Item) (held : List ℕ → Bool) (a b : Option (List (List ℕ))) → IsLookedUp items held a → IsLookedUp items held b → a ≡ b }
+    ensures { (items : List Item) (held : List ℕ → Bool) (a b : Option (List (List ℕ)))
+        → IsLookedUp items held a → IsLookedUp items held b → a ≡ b }
 {}
 
 /// What lookup finds is the lookup text of the range of an item that it tries, or a truncation of
@@ -68,11 +70,13 @@ pub fn one_lookup()
 pub fn found_is_a_candidate()
     ensures candidate { (items : List Item) (held : List ℕ → Bool) (found : List (List ℕ))
         → IsLookedUp items held (Some found)
-        → (item : Item) × Contains items item × Contains (candidates_of item) found × IsTrue (is_tried item) }
+        → (item : Item) × Contains items item × Contains (candidates_of item) found
+        × IsTrue (is_tried item) }
     ensures open { (items : List Item) (held : List ℕ → Bool) (found : List (List ℕ))
         → IsLookedUp items held (Some found)
         → IsTrue (held (joined found)) × ¬ NamedRefuse items found }
-    ensures none { (items : List Item) (held : List ℕ → Bool) (item : Item) (candidate : List (List ℕ))
+    ensures none { (items : List Item) (held : List ℕ → Bool) (item : Item)
+        (candidate : List (List ℕ))
         → IsLookedUp items held None → Contains items item → IsTrue (is_tried item)
         → Contains (candidates_of item) candidate
         → ¬ (IsTrue (held (joined candidate)) × ¬ NamedRefuse items candidate) }
@@ -87,18 +91,22 @@ pub fn unweighted_lookup()
 
 /// Lookup over a slice of languages has one answer.
 pub fn one_found()
-    ensures { (items : List Item) (langs : List (List ℕ)) (default : Option (List ℕ)) (a b : Found) → IsFound items langs default a → IsFound items langs default b → a ≡ b }
+    ensures { (items : List Item) (langs : List (List ℕ)) (default : Option (List ℕ)) (a b : Found)
+        → IsFound items langs default a → IsFound items langs default b → a ≡ b }
 {}
 
 /// There is one filtered list.
 pub fn one_filtered()
-    ensures { (scheme : Scheme) (items : List Item) (langs : List (List ℕ)) (a b : List Pick) → IsFiltered scheme items langs a → IsFiltered scheme items langs b → a ≡ b }
+    ensures { (scheme : Scheme) (items : List Item) (langs : List (List ℕ)) (a b : List Pick)
+        → IsFiltered scheme items langs a → IsFiltered scheme items langs b → a ≡ b }
 {}
 
 /// A filtered list has exactly the languages that an item of positive weight decides, each with
 /// that weight.
 pub fn filtered_has_each()
-    ensures { (scheme : Scheme) (items : List Item) (langs : List (List ℕ)) (picks : List Pick) → All (λ i. i.weight ≤ 1000) items → IsFiltered scheme items langs picks → (pick : Pick) → Contains picks pick ↔ IsPicked scheme items langs pick }
+    ensures { (scheme : Scheme) (items : List Item) (langs : List (List ℕ)) (picks : List Pick)
+        → All (λ i. i.weight ≤ 1000) items → IsFiltered scheme items langs picks
+        → (pick : Pick) → Contains picks pick ↔ IsPicked scheme items langs pick }
 {}
 
 /// No place is picked twice.
@@ -112,7 +120,8 @@ pub fn picks_differ()
 pub fn unweighted_filtering()
     ensures { (scheme : Scheme) (items : List Item) (langs : List (List ℕ)) (picks : List Pick)
         → AllPositive items → IsFiltered scheme items langs picks
-        → (place : ℕ) → Contains (map (λ p. p.place) picks) place ↔ IsMatchedAt scheme items langs place }
+        → (place : ℕ) → Contains (map (λ p. p.place) picks) place
+        ↔ IsMatchedAt scheme items langs place }
 {}
 
 /// There is one order of a list's items.
@@ -137,7 +146,8 @@ pub fn order_falls()
 
 /// A field with a malformed element gives no items where such are refused.
 pub fn malformed_is_no_field()
-    ensures { (scheme : Scheme) (bytes : List ℕ) (offset : ℕ) (items : List Item) → IsFirstMalformed scheme bytes offset → ¬ IsField scheme Refused bytes items }
+    ensures { (scheme : Scheme) (bytes : List ℕ) (offset : ℕ) (items : List Item)
+        → IsFirstMalformed scheme bytes offset → ¬ IsField scheme Refused bytes items }
 {}
 
 /// The first malformed element of a field begins at one offset.
@@ -148,10 +158,13 @@ pub fn one_malformed_offset()
 
 /// A tag has one deciding item.
 pub fn one_deciding()
-    ensures { (scheme : Scheme) (items : List Item) (tag : List (List ℕ)) (p q : ℕ) → IsDeciding scheme items tag p → IsDeciding scheme items tag q → q ≡ p }
+    ensures { (scheme : Scheme) (items : List Item) (tag : List (List ℕ)) (p q : ℕ)
+        → IsDeciding scheme items tag p → IsDeciding scheme items tag q → q ≡ p }
 {}
 
 /// Where the range of an item matches a tag, some item decides it.
 pub fn a_match_has_a_deciding_item()
-    ensures { (scheme : Scheme) (items : List Item) (tag : List (List ℕ)) (item : Item) → Contains items item → Matches scheme (pieces item.range) tag → (place : ℕ) × IsDeciding scheme items tag place }
+    ensures { (scheme : Scheme) (items : List Item) (tag : List (List ℕ)) (item : Item)
+        → Contains items item → Matches scheme (pieces item.range) tag
+        → (place : ℕ) × IsDeciding scheme items tag place }
 {}

@@ -9,9 +9,8 @@
 //!   tells whether it holds a text ([`Holds`]).
 //! - [`NegoFault`] says why a field is refused, and where.
 //!
-//! Of several ranges that match a tag the one with the most
-//! subtags other than "*" decides, and weight 0 refuses. Questions allocate nothing but the list of
-//! a filter.
+//! Of several ranges that match a tag the one with the most subtags other than "*" decides, and
+//! weight 0 refuses. Questions allocate nothing but the list of a filter.
 //!
 //! ```text
 //! let list = PriorityList::from_accept(alloc, b"da, en-GB;q=0.8, en;q=0.7")?;
@@ -23,50 +22,33 @@
 //! The laws of these definitions stand in [`laws`].
 #![tactic(auto)]
 
-mod best;
 mod blanks;
-mod bytes;
 mod chains;
-mod choice;
-mod chosen;
+mod choosing;
 mod deciding;
 mod element;
-mod entry;
 mod fault;
 mod field;
-mod filtered;
-mod found;
-mod handed;
-mod holds;
+mod filtering;
+mod fingerprint;
 mod index;
 mod item;
 mod lang_set;
 pub mod laws;
-mod looked_up;
-mod malformed;
-mod order;
-mod order_key;
+mod lookup_candidates;
+mod lookup_order;
+mod lookup_places;
 mod ordered_text;
-mod pick;
-mod picks;
 mod priority_list;
-mod qvalue;
-mod range_index;
-mod rank;
 mod scheme;
-mod separators;
 mod weight;
 
-pub use choice::Choice;
-pub use chosen::choose;
+pub use choosing::{Choice, choose};
 pub use fault::NegoFault;
-pub use filtered::{filter, filter_lent};
-pub use found::Found;
-pub use handed::lookup;
-pub use holds::Holds;
+pub use field::Malformed;
+pub use filtering::{Pick, Picks, filter, filter_lent};
 pub use item::Item;
-pub use malformed::Malformed;
-pub use pick::Pick;
-pub use picks::Picks;
+pub use lang_set::Holds;
+pub use lookup_places::{Found, lookup};
 pub use priority_list::PriorityList;
 pub use scheme::Scheme;

@@ -4,10 +4,10 @@ ghost use Rattle.std.specs.Str.{bytes_eq};
 ghost use Rattle.std.specs.Ordering.{nat_cmp};
 ghost use Rattle.std.specs.Cmp.Lexicographic.{slice_cmp};
 ghost use Rattle.std.specs.Cmp.Rules.{comparing};
-ghost use Rattle.nego_core.specs.OrderedText.{head_of};
+ghost use Rattle.nego_core.specs.Fingerprint.{head_of};
 ghost use borrow.Author.Rules.{rules};
 
-use crate::bytes::byte_at;
+use crate::fingerprint::head_of;
 use std::cmp::Ordering;
 use std::marker::Model;
 
@@ -20,7 +20,7 @@ pub(crate) struct OrderedText<'a> {
 
 impl<'a> Model for OrderedText<'a> {
     ghost use Rattle.std.specs.Prelude.{List, ℕ, ◌≡◌};
-    ghost use Rattle.nego_core.specs.OrderedText.{head_of};
+    ghost use Rattle.nego_core.specs.Fingerprint.{head_of};
 
     ghost Value = { List ℕ };
 
@@ -82,21 +82,4 @@ impl<'a> Ord for OrderedText<'a> {
             self.text.cmp(other.text)
         }
     }
-}
-
-/// The first eight bytes as a number, with zeros past the end.
-fn head_of(text: &str) -> u64
-    ensures { result ≡ head_of text.now }
-{
-    let bytes = text.as_bytes();
-    u64::from_be_bytes([
-        byte_at(bytes, 0),
-        byte_at(bytes, 1),
-        byte_at(bytes, 2),
-        byte_at(bytes, 3),
-        byte_at(bytes, 4),
-        byte_at(bytes, 5),
-        byte_at(bytes, 6),
-        byte_at(bytes, 7),
-    ])
 }

@@ -1,29 +1,26 @@
+//! Priority lists (RFC 4647 section 2.3), and how they are read from a field.
 ghost use Rattle.std.specs.Prelude.{◌≡◌, ◌≤◌, ◌<◌, ◌==◌, ℕ, false, length, All, MatchResult, MatchOption, IfSome};
 ghost use Rattle.std.specs.List.{list_any};
 ghost use Rattle.std.specs.Cmp as laws_of;
 ghost use Rattle.std.specs.Cmp.Lexicographic.{pointwise, lists_equiv};
 ghost use Rattle.lang_core.specs.Text.{pieces};
-ghost use Rattle.nego_core.specs.Equal.{item_eq, item_equiv};
+ghost use Rattle.nego_core.specs.Item.{item_eq, item_equiv};
 ghost use Rattle.nego_core.specs.Basics.{IsTheOne};
-ghost use Rattle.nego_core.specs.Best.{IsBest};
-ghost use Rattle.nego_core.specs.Deciding.{Matches, IsDeciding, IsDecidedBy, IsDecidingWeight, DecidesLang};
-ghost use Rattle.nego_core.specs.Order.{AreOrderKeys};
+ghost use Rattle.nego_core.specs.Deciding.{IsBest, Matches, IsDeciding, IsDecidedBy, IsDecidingWeight, DecidesLang};
+ghost use Rattle.nego_core.specs.LookupOrder.{AreOrderKeys};
 ghost use Rattle.nego_core.specs.Unweighted.{AllPositive};
-ghost use Rattle.nego_core.specs.RangeIndex.{IsRangeIndex};
+ghost use Rattle.nego_core.specs.Index.{IsRangeIndex};
 ghost use Rattle.nego_core.specs.Field.{IsField, IsAccept, IsAcceptRanges, IsOfOneKind, RefusesField};
 ghost use Rattle.nego_core.specs.declared.scheme.Scheme.TheVariants.{Basic, Extended};
-ghost use Rattle.nego_core.specs.declared.malformed.Malformed.TheVariants.{Refused};
+ghost use Rattle.nego_core.specs.declared.field.Malformed.TheVariants.{Refused};
 ghost use Rattle.nego_core.specs.declared.fault.NegoFault.TheVariants.{NoMemory};
 
-use crate::best::Best;
-use crate::deciding::{best_basic, best_extended, best_of};
+use crate::deciding::{Decision, MostSpecific, best_basic, best_extended, best_of};
 use crate::fault::NegoFault;
-use crate::field::read_items;
+use crate::field::{Malformed, read_items};
 use crate::index::{Index, index_of};
 use crate::item::Item;
-use crate::malformed::Malformed;
-use crate::order::order_of;
-use crate::order_key::OrderKey;
+use crate::lookup_order::{OrderKey, order_of};
 use crate::scheme::Scheme;
 use lang_core::{Lang, Tag};
 use std::alloc::Global;
@@ -50,7 +47,7 @@ impl Model for PriorityList {
     ghost Value = { List Item };
 
     ghost use Rattle.nego_core.specs.Field.{IsOfOneKind};
-    ghost use Rattle.nego_core.specs.Order.{AreOrderKeys};
+    ghost use Rattle.nego_core.specs.LookupOrder.{AreOrderKeys};
     ghost use Rattle.nego_core.specs.Index.{IsIndex};
 
     ghost view = { λ l. l.items.items };
@@ -60,44 +57,6 @@ impl Model for PriorityList {
         × (l.may_refuse ≡ false → AllPositive l.items.items)
         × IsOfOneKind l.items.items
         × All (λ i. i.weight ≤ 1000) l.items.items };
-}
-
-/// Whether an item has weight 0.
-fn may_refuse(items: &[Item]) -> bool
-    ensures { result ≡ list_any (λ i. i.weight == 0) items.now }
-{
-    items.iter().any(|item| item.weight() == 0)
-}
-
-fn list_of(alloc: Global, scheme: Scheme, items: Vec<Item>) -> Result<PriorityList, NegoFault>
-    requires one_kind { IsOfOneKind items.items }
-    requires small { All (λ i. i.weight ≤ 1000) items.items }
-    ensures { MatchResult result (λ list. list ≡ items.items) (λ fault. (fault ≡ NoMemory) × (0 < length items.items)) }
-{
-    if items.is_empty() {
-        return Ok(PriorityList {
-            items,
-            order: Vec::new(alloc),
-            index: None,
-            may_refuse: false,
-        });
-    }
-    let order = order_of(alloc, &items)?;
-    let index = index_of(alloc, scheme, &items)?;
-    let may_refuse = may_refuse(&items);
-    Ok(PriorityList {
-        items,
-        order,
-        index,
-        may_refuse,
-    })
-}
-
-/// The item that decides a tag or a language.
-#[derive(Clone, Copy)]
-pub(crate) struct Decision {
-    pub(crate) place: usize,
-    pub(crate) weight: u16,
 }
 
 impl PriorityList {
@@ -121,7 +80,9 @@ impl PriorityList {
         malformed: Malformed,
         field: &[u8],
     ) -> Result<PriorityList, NegoFault>
-        ensures { MatchResult result (λ list. (length field.now ≤ 65535) × IsField scheme malformed field.now list) (RefusesField scheme malformed field.now) }
+        ensures { MatchResult result
+            (λ list. (length field.now ≤ 65535) × IsField scheme malformed field.now list)
+            (RefusesField scheme malformed field.now) }
     {
         let items = read_items(alloc, scheme, malformed, field)?;
         list_of(alloc, scheme, items)
@@ -130,7 +91,8 @@ impl PriorityList {
     /// The list of an Accept-Language field (RFC 9110 section 12.5.4): `parse` under
     /// `Scheme::Basic`, with its refusals, where the first malformed element refuses the field.
     pub fn from_accept(alloc: Global, field: &[u8]) -> Result<PriorityList, NegoFault>
-        ensures { MatchResult result (λ list. (length field.now ≤ 65535) × IsAccept field.now list) (RefusesField Basic Refused field.now) }
+        ensures { MatchResult result (λ list. (length field.now ≤ 65535) × IsAccept field.now list)
+            (RefusesField Basic Refused field.now) }
     {
         PriorityList::parse(alloc, Scheme::Basic, Malformed::Refused, field)
     }
@@ -138,7 +100,9 @@ impl PriorityList {
     /// The list of extended ranges between commas (RFC 4647 section 2.2): `parse` under
     /// `Scheme::Extended`, with its refusals, where the first malformed element refuses the field.
     pub fn from_ranges(alloc: Global, field: &[u8]) -> Result<PriorityList, NegoFault>
-        ensures { MatchResult result (λ list. (length field.now ≤ 65535) × IsAcceptRanges field.now list) (RefusesField Extended Refused field.now) }
+        ensures { MatchResult result
+            (λ list. (length field.now ≤ 65535) × IsAcceptRanges field.now list)
+            (RefusesField Extended Refused field.now) }
     {
         PriorityList::parse(alloc, Scheme::Extended, Malformed::Refused, field)
     }
@@ -177,7 +141,8 @@ impl PriorityList {
         self.may_refuse
     }
 
-    fn best(&self, scheme: Scheme, tag: &Tag) -> Option<Best>
+    /// The best of the items that match the tag, by the index where there is one for the scheme.
+    fn best(&self, scheme: Scheme, tag: &Tag) -> Option<MostSpecific>
         ensures { IsBest (λ _ i. Matches scheme (pieces i.range) (pieces tag.now)) self.now result }
     {
         match (scheme, &self.index) {
@@ -202,8 +167,11 @@ impl PriorityList {
         }
     }
 
+    /// The item that decides the tag, and its weight.
     fn decision(&self, scheme: Scheme, tag: &Tag) -> Option<Decision>
-        ensures decides { MatchOption result ((place : ℕ) → ¬ IsDeciding scheme self.now (pieces tag.now) place) (λ d. IsDecidedBy scheme self.now (pieces tag.now) d.place d.weight) }
+        ensures decides { MatchOption result
+            ((place : ℕ) → ¬ IsDeciding scheme self.now (pieces tag.now) place)
+            (λ d. IsDecidedBy scheme self.now (pieces tag.now) d.place d.weight) }
         ensures small { IfSome result (λ d. d.weight ≤ 1000) }
     {
         match self.item_for(scheme, tag) {
@@ -227,7 +195,9 @@ impl PriorityList {
 
     /// The item that decides the language. None decides `@none`.
     pub(crate) fn decision_on(&self, scheme: Scheme, lang: &Lang) -> Option<Decision>
-        ensures decides { MatchOption result ((place weight : ℕ) → ¬ DecidesLang scheme self.now lang.now place weight) (λ d. DecidesLang scheme self.now lang.now d.place d.weight) }
+        ensures decides { MatchOption result
+            ((place weight : ℕ) → ¬ DecidesLang scheme self.now lang.now place weight)
+            (λ d. DecidesLang scheme self.now lang.now d.place d.weight) }
         ensures small { IfSome result (λ d. d.weight ≤ 1000) }
     {
         match lang.tag() {
@@ -257,4 +227,37 @@ impl fmt::Debug for PriorityList {
     fn fmt<W: fmt::Write>(&self, f: &mut fmt::Formatter<W>) -> fmt::Result {
         f.debug_list().entries(self.items()).finish()
     }
+}
+
+/// The list of the items, with what makes it cheap to ask.
+fn list_of(alloc: Global, scheme: Scheme, items: Vec<Item>) -> Result<PriorityList, NegoFault>
+    requires one_kind { IsOfOneKind items.items }
+    requires small { All (λ i. i.weight ≤ 1000) items.items }
+    ensures { MatchResult result (λ list. list ≡ items.items)
+        (λ fault. (fault ≡ NoMemory) × (0 < length items.items)) }
+{
+    if items.is_empty() {
+        return Ok(PriorityList {
+            items,
+            order: Vec::new(alloc),
+            index: None,
+            may_refuse: false,
+        });
+    }
+    let order = order_of(alloc, &items)?;
+    let index = index_of(alloc, scheme, &items)?;
+    let may_refuse = may_refuse(&items);
+    Ok(PriorityList {
+        items,
+        order,
+        index,
+        may_refuse,
+    })
+}
+
+/// Whether an item has weight 0.
+fn may_refuse(items: &[Item]) -> bool
+    ensures { result ≡ list_any (λ i. i.weight == 0) items.now }
+{
+    items.iter().any(|item| item.weight() == 0)
 }

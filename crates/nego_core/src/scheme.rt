@@ -1,3 +1,5 @@
+//! The two schemes of matching (RFC 4647 section 3.3).
+
 /// How ranges match tags.
 #[derive(Clone, Copy, Debug, PartialEq, Eq)]
 pub enum Scheme {

@@ -1,42 +1,14 @@
-ghost use Rattle.std.specs.Prelude.{◌≤◌, IfSome};
+//! The weight of an element (RFC 9110 section 12.4.2).
+ghost use Rattle.std.specs.Prelude.{◌≤◌, IfSome, ◌≡◌, IsTrue, slice_index, ◌-◌};
 ghost use Rattle.nego_core.specs.Basics.{IsTheOne};
-ghost use Rattle.nego_core.specs.Weight.{IsWeight, IsNoWeight, FollowsSemicolon, IsNamedQvalue, IsLastQvalue, IsTail};
+ghost use Rattle.nego_core.specs.Weight.{IsWeight, IsNoWeight, FollowsSemicolon, IsNamedQvalue, IsLastQvalue, IsTail, IsQvalue, is_zero_digit, thousandths};
+ghost use Rattle.std.specs.List.{list_all};
+ghost use Rattle.lang_core.specs.Grammar.{is_digit};
 
 use crate::blanks::{all_blanks, cut_token, trim_start};
-use crate::qvalue::read_qvalue;
 
 /// The weight of an element that has none.
-pub(crate) const FULL_WEIGHT: u16 = 1000;
-
-/// The value of a qvalue that blanks follow.
-fn read_last_qvalue(text: &[u8]) -> Option<u16>
-    ensures only { IsTheOne result (IsLastQvalue text.now) }
-    ensures small { IfSome result (λ n. n ≤ 1000) }
-{
-    let (qvalue, after) = cut_token(text);
-    if !all_blanks(after) {
-        return None;
-    }
-    read_qvalue(qvalue)
-}
-
-fn read_named(text: &[u8]) -> Option<u16>
-    ensures only { IsTheOne result (IsNamedQvalue text.now) }
-    ensures small { IfSome result (λ n. n ≤ 1000) }
-{
-    match text {
-        [b'q' | b'Q', b'=', qvalue @ ..] => read_last_qvalue(qvalue),
-        _ => None,
-    }
-}
-
-/// The weight that stands after a semicolon.
-fn read_after_semicolon(text: &[u8]) -> Option<u16>
-    ensures only { IsTheOne result (FollowsSemicolon text.now) }
-    ensures small { IfSome result (λ n. n ≤ 1000) }
-{
-    read_named(trim_start(text))
-}
+const FULL_WEIGHT: u16 = 1000;
 
 /// The weight that stands after a range, or that of none.
 pub(crate) fn read_weight(text: &[u8]) -> Option<u16>
@@ -60,4 +32,86 @@ pub(crate) fn read_no_weight(text: &[u8]) -> Option<u16>
     } else {
         None
     }
+}
+
+/// The weight that stands after a semicolon.
+fn read_after_semicolon(text: &[u8]) -> Option<u16>
+    ensures only { IsTheOne result (FollowsSemicolon text.now) }
+    ensures small { IfSome result (λ n. n ≤ 1000) }
+{
+    read_named(trim_start(text))
+}
+
+/// The weight that stands after "q=".
+fn read_named(text: &[u8]) -> Option<u16>
+    ensures only { IsTheOne result (IsNamedQvalue text.now) }
+    ensures small { IfSome result (λ n. n ≤ 1000) }
+{
+    match text {
+        [b'q' | b'Q', b'=', qvalue @ ..] => read_last_qvalue(qvalue),
+        _ => None,
+    }
+}
+
+/// The value of a qvalue that blanks follow.
+fn read_last_qvalue(text: &[u8]) -> Option<u16>
+    ensures only { IsTheOne result (IsLastQvalue text.now) }
+    ensures small { IfSome result (λ n. n ≤ 1000) }
+{
+    let (qvalue, after) = cut_token(text);
+    if !all_blanks(after) {
+        return None;
+    }
+    read_qvalue(qvalue)
+}
+
+/// The weight in thousandths that a qvalue says.
+fn read_qvalue(text: &[u8]) -> Option<u16>
+    ensures only { IsTheOne result (IsQvalue text.now) }
+    ensures small { IfSome result (λ n. n ≤ 1000) }
+{
+    match text {
+        [b'0'] => Some(0),
+        [b'1'] => Some(1000),
+        [b'0', b'.', digits @ ..] if digits.len() <= 3 && all_digits(digits) => Some(value_of(
+            digits,
+        )),
+        [b'1', b'.', digits @ ..] if digits.len() <= 3 && all_zeros(digits) => Some(1000),
+        _ => None,
+    }
+}
+
+/// The thousandths that up to three digits after the point say.
+fn value_of(digits: &[u8]) -> u16
+    requires { IsTrue (list_all is_digit digits.now) }
+    ensures value { result ≡ thousandths digits.now }
+    ensures small { result ≤ 999 }
+{
+    100 * digit_at(digits, 0) + 10 * digit_at(digits, 1) + digit_at(digits, 2)
+}
+
+/// The value of the digit at the place, or 0 past the end.
+fn digit_at(digits: &[u8], place: usize) -> u16
+    requires { IsTrue (list_all is_digit digits.now) }
+    ensures value { result ≡ slice_index digits.now place - 48 }
+    ensures small { result ≤ 9 }
+{
+    match digits.get(place) {
+        Some(b) => u16::from(*b - b'0'),
+        None => 0,
+    }
+}
+
+/// Whether the text is digits alone.
+fn all_digits(digits: &[u8]) -> bool
+    ensures { result ≡ list_all is_digit digits.now }
+{
+    digits.iter().all(|b| b.is_ascii_digit())
+}
+
+/// Whether the text is zeros alone.
+fn all_zeros(digits: &[u8]) -> bool
+    ensures { result ≡ list_all is_zero_digit digits.now }
+{
+    digits.iter().all(|b| *b == b'0')
 }

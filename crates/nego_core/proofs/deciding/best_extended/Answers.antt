@@ -18,7 +18,7 @@ loop-subtag-init c = (
 pub loop-subtag-preserved-then-not-asked-chain : goal.loop-subtag-preserved-then-not-asked-chain
 loop-subtag-preserved-then-not-asked-chain c = (
   one_more chain_of 1024 (pieces c.args.tag.now) (subtags_left c.next.new.self) c.in-Some.subtag.now c.chain_of-chain.result c.loop-subtag.asked (rw c.in-Some.ensures.steps at c.loop-subtag.invariant.0) c.chain_of-chain.ensures.chain c.chain_of-chain.ensures.within,
-  λ numbers h. rw c.better-best.ensures (one_asked (λ i. Extended (pieces i.range) (pieces c.args.tag.now)) c.args.items.now numbers c.loop-subtag.asked c.chain_of-chain.result c.loop-subtag.best c.best_in.result (let f = c.loop-subtag.invariant.0.full in let w = c.chain_of-chain.ensures.within in omega arith) (c.loop-subtag.invariant.1 numbers h) (c.best_in.ensures numbers h)),
+  λ numbers h. rw c.better_of-best.ensures (one_asked (λ i. Extended (pieces i.range) (pieces c.args.tag.now)) c.args.items.now numbers c.loop-subtag.asked c.chain_of-chain.result c.loop-subtag.best c.best_in.result (let f = c.loop-subtag.invariant.0.full in let w = c.chain_of-chain.ensures.within in omega arith) (c.loop-subtag.invariant.1 numbers h) (c.best_in.ensures numbers h)),
 )
 
 pub returns : goal.returns

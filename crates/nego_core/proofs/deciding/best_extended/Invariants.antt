@@ -2,7 +2,7 @@ use Rattle.std.proofs.Common.{ℕ, List}
 use Rattle.lang_core.specs.Text.{pieces}
 use Rattle.lang_core.specs.Matching.{Extended}
 use Rattle.lang_core.specs.Subtags.{subtags_left}
-use Rattle.nego_core.specs.Best.{IsBest}
+use Rattle.nego_core.specs.Deciding.{IsBest}
 use Rattle.nego_core.specs.Chains.{AreLinked, chain_of}
 use Rattle.nego_core.proofs.TableLaws.{IsTableSoFar}
 use Rattle.nego_core.proofs.ChainsLaws.{FitsAmong}

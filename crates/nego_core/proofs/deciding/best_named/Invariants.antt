@@ -1,4 +1,4 @@
-use Rattle.nego_core.specs.Best.{IsBest}
+use Rattle.nego_core.specs.Deciding.{IsBest}
 use Rattle.nego_core.proofs.DecidingLaws.{IsShort}
 use Rattle.nego_core.proofs.deciding.best_named.Given as goal
 

@@ -1,4 +1,4 @@
-use Rattle.nego_core.proofs.FilteredEach.{has_each}
+use Rattle.nego_core.proofs.FilteringEach.{has_each}
 use Rattle.nego_core.proofs.laws.filtered_has_each.Goals as goal
 
 pub returns : goal.returns

@@ -1,6 +1,6 @@
 use Rattle.std.proofs.Common.{◌≡◌, ◌∙◌, ap, subst}
 use Rattle.std.proofs.lemmas.Result.{IfOk-weaker}
-use Rattle.nego_core.specs.Filtered.{IsFiltered, lent}
+use Rattle.nego_core.specs.Filtering.{IsFiltered, texts_of}
 use Rattle.cata_core.specs.Live.{live, languages}
 use Rattle.cata_core.specs.LentEntries.{labelled_of}
 use Rattle.cata_core.specs.Asking.{picked, IsFilterAnswer}
@@ -14,8 +14,8 @@ returns-in-Ok c =
     let items = c.args.list.now in
     let picks = c.in-Ok.picks in
     let labels_are : labelled_of c.in_ok-labels.labels.items ≡ live cells id = c.in_ok-labels.ensures ∙ c.labels.ensures in
-    let langs_are : lent c.deref-2.result.now ≡ languages (live cells id) =
-    ap lent c.deref-2.ensures.value ∙ c.in_ok-langs.ensures ∙ ap (λ xs. languages (labelled_of xs)) c.deref.ensures.value ∙ ap languages labels_are in
+    let langs_are : texts_of c.deref-2.result.now ≡ languages (live cells id) =
+    ap texts_of c.deref-2.ensures.value ∙ c.in_ok-langs.ensures ∙ ap (λ xs. languages (labelled_of xs)) c.deref.ensures.value ∙ ap languages labels_are in
     IfOk-weaker c.pick_all.result (λ entries. entries ≡ picked (labelled_of c.deref-in-Ok.result.now) picks) (IsFilterAnswer cells id scheme items)
     (λ entries is. record {
       picks = picks;

@@ -1,5 +1,5 @@
 use Rattle.std.proofs.Common.{drop}
-use Rattle.nego_core.specs.LangSet.{slot_of}
+use Rattle.nego_core.specs.Fingerprint.{slot_of}
 use Rattle.nego_core.proofs.TableLaws.{IsTableSoFar}
 use Rattle.nego_core.proofs.lang_set.LangSet.new.Given as goal
 

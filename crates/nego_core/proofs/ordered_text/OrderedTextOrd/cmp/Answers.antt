@@ -1,5 +1,5 @@
 use Rattle.std.proofs.Common.{◌∙◌, ap}
-use Rattle.nego_core.specs.OrderedText.{head_of}
+use Rattle.nego_core.specs.Fingerprint.{head_of}
 use Rattle.nego_core.proofs.OrderedTextLaws.{lower, higher}
 use Rattle.nego_core.proofs.ordered_text.OrderedTextOrd.cmp.Goals as goal
 

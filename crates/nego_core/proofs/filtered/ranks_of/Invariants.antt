@@ -1,7 +1,0 @@
-use Rattle.std.proofs.Common.{take}
-use Rattle.std.specs.Prelude.{map}
-use Rattle.nego_core.specs.Filtered.{key_of, AreKeys}
-use Rattle.nego_core.proofs.filtered.ranks_of.Given as goal
-
-abbrev pub invariant-loop-place : goal.invariant-loop-place
-invariant-loop-place g l = AreKeys l.scheme l.list 0 (take l.place (map g.L.AsLang.text l.langs)) (map key_of l.ranks.items)

@@ -1,5 +1,0 @@
-use Rattle.nego_core.proofs.RangeIndexLaws.{NoneBefore}
-use Rattle.nego_core.proofs.range_index.first_place.Given as goal
-
-abbrev pub invariant-loop-place : goal.invariant-loop-place
-invariant-loop-place l = NoneBefore l.items l.text l.place

@@ -1,0 +1,39 @@
+-- Numbers of a text's bytes, and a table of such numbers.
+use Rattle.std.specs.Prelude.{ℕ, List, [], ◌∷◌, ◌+◌, ◌*◌, nat_lt, zero, suc, if◌then◌else◌, ◌%◌, slice_index, ◌≡◌, Bool, true, false, length, Contains, fold, slice_index_or}
+
+-- the first byte of the first subtag, or 0 where that is empty
+abbrev pub first_byte : List (List ℕ) → ℕ
+first_byte [] = 0
+first_byte ([] ∷ more) = 0
+first_byte ((b ∷ s) ∷ more) = b
+
+-- what a byte counts before k others
+abbrev pub worth : ℕ → ℕ
+worth zero = 1
+worth (suc k) = 256 * worth k
+
+-- The first k bytes as a number in base 256, with zeros past the end. What is no byte counts as more than any byte.
+unfoldable pub head_from : ℕ → List ℕ → ℕ
+head_from zero text = 0
+head_from (suc k) [] = 0
+head_from (suc k) (b ∷ text) = if nat_lt b 256 then b * worth k + head_from k text else worth (suc k)
+
+-- the first eight bytes
+unfoldable pub head_of : List ℕ → ℕ
+head_of text = head_from 8 text
+
+-- a number of a text, below 1024, by its first two bytes
+unfoldable pub slot_of : List ℕ → ℕ
+slot_of text = slice_index text 0 % 32 * 32 + slice_index text 1 % 32
+
+-- a number of a subtag, below 65,536
+abbrev pub fingerprint_step : ℕ → ℕ → ℕ
+fingerprint_step fingerprint byte = (fingerprint * 31 % 65536 + byte) % 65536
+
+unfoldable pub fingerprint_of : List ℕ → ℕ
+fingerprint_of subtag = fold fingerprint_step 0 subtag
+
+-- the numbers of all texts of the list are set in a table of this size
+pub record IsTableOf (number : List ℕ → ℕ) (size : ℕ) (list : List (List ℕ)) (table : List Bool) : Type 0 where
+  pub full : length table ≡ size
+  pub set : (s : List ℕ) → Contains list s → slice_index_or table (number s) false ≡ true

@@ -1,0 +1,73 @@
+//! Lookup (RFC 4647 section 3.4) over any set of languages, with a default.
+ghost use Rattle.std.specs.Prelude.{◌↔◌, IsTrue, option_map};
+ghost use Rattle.nego_core.specs.Deciding.{RefusesLang};
+ghost use Rattle.nego_core.specs.Choosing.{IsOpenDefault, HasOpenDefault, IsChosen};
+ghost use Rattle.nego_core.specs.declared.scheme.Scheme.TheVariants as scheme;
+
+use crate::lang_set::Holds;
+use crate::lookup_candidates::look_up;
+use crate::priority_list::PriorityList;
+use crate::scheme::Scheme;
+use lang_core::Lang;
+
+/// What lookup answers over a set of languages.
+#[derive(Clone, Copy, Debug, PartialEq, Eq)]
+pub enum Choice<'a> {
+    /// The language found, by its text: a prefix of an item's lookup text.
+    Matched(&'a str),
+    /// The default.
+    Default,
+    /// Nothing fits, and no default is open.
+    Nothing,
+}
+
+/// Lookup (RFC 4647 section 3.4) over anything that tells which languages it holds. It takes no
+/// memory.
+///
+/// The ranges are tried by weight downwards, then as written, each through all its truncations.
+/// The first text that is held and not refused by the items other than "*" is answered. Where
+/// there is none, the default is answered if it is held and the whole list does not refuse it.
+///
+/// So `*;q=0` bars the default, but no match: `en-GB, *;q=0` over a set with `en` finds `en`.
+pub fn choose<'a, H: Holds>(list: &'a PriorityList, held: &H, default: Option<&Lang>) -> Choice<'a>
+    ensures { IsChosen list.now (H.held held.now) (option_map (λ l. l.now) default.entry) result }
+{
+    match look_up(list, held) {
+        Some(text) => Choice::Matched(text),
+        None => {
+            if has_open_default(list, held, default) {
+                Choice::Default
+            } else {
+                Choice::Nothing
+            }
+        }
+    }
+}
+
+/// Whether there is a default, and it is open.
+fn has_open_default<H: Holds>(list: &PriorityList, held: &H, default: Option<&Lang>) -> bool
+    ensures { IsTrue result
+        ↔ HasOpenDefault list.now (H.held held.now) (option_map (λ l. l.now) default.entry) }
+{
+    match default {
+        Some(lang) => is_open_default(list, held, lang),
+        None => false,
+    }
+}
+
+/// Whether the default is held and the whole list does not refuse it.
+fn is_open_default<H: Holds>(list: &PriorityList, held: &H, lang: &Lang) -> bool
+    ensures { IsTrue result ↔ IsOpenDefault list.now (H.held held.now) lang.now }
+{
+    held.holds(lang.as_str()) && !refuses(list, lang)
+}
+
+/// Whether the item that decides the language has weight 0.
+fn refuses(list: &PriorityList, lang: &Lang) -> bool
+    ensures { IsTrue result ↔ RefusesLang scheme.Basic list.now lang.now }
+{
+    match list.decision_on(Scheme::Basic, lang) {
+        Some(decision) => decision.weight == 0,
+        None => false,
+    }
+}
