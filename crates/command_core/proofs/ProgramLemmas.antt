@@ -6,7 +6,7 @@ use Rattle.clap.specs.Kinds.{Kinds, HasKind}
 use Rattle.clap.specs.declared.error.Error.{Error}
 use Rattle.clap.specs.declared.error.kind.ErrorKind.TheVariants.{OutOfMemory}
 use Rattle.clap.specs.declared.parser.matches.ArgMatches.{ArgMatches}
-use Rattle.command_core.specs.Endings.{Ends}
+use Rattle.command_core.specs.Endings.{EndsForMemory}
 use Rattle.command_core.specs.Program.{Does, MatchesBy, TellsBy}
 use Rattle.command_core.specs.Words.{Schemes, lexicat_app}
 
@@ -22,10 +22,10 @@ no_memory schemes are words (Err error) h = record {
 }
 
 -- where clap finds a fault, it is told, or memory ran out
-pub told : {R W : Type 0} (remaining : R → Option (List ℕ)) (broken : R → Bool) (contents : W → Option (List ℕ)) (failed : W → Bool) (kinds : Kinds) (met : Option (Text × List Row)) (error : Error)
-    (r : R) (old new : W) (status : ℕ) → HasKind kinds error → TellsBy contents failed (kind_of error) old new status
-    → Does remaining broken contents failed kinds met r r old new status ⊎ ((r ≡ r) × Ends contents failed 5 old new status)
-told remaining broken contents failed kinds met error r old new status has (inl memory) = inr (refl, memory)
-told remaining broken contents failed kinds met error r old new status (inl memory) (inr tells) = absurd (tells.0 memory)
-told remaining broken contents failed [] met error r old new status (inr among) (inr tells) = absurd among
-told remaining broken contents failed (k ∷ ks) met error r old new status (inr among) (inr tells) = inl (refl, (kind_of error, among, tells.1))
+pub told : {R W F : Type 0} (remaining : R → Option (List ℕ)) (broken : R → Bool) (contents : W → Option (List ℕ)) (failed : W → Bool) (lines : F → Option (List ℕ)) (closed : F → Bool) (kinds : Kinds) (met : Option (Text × List Row)) (error : Error)
+    (r : R) (old new : W) (f f' : F) (status : ℕ) → HasKind kinds error → TellsBy contents failed lines closed (kind_of error) old new f f' status
+    → Does remaining broken contents failed lines closed kinds met r r old new f f' status ⊎ ((r ≡ r) × EndsForMemory contents failed lines closed old new f f' status)
+told remaining broken contents failed lines closed kinds met error r old new f f' status has (inl memory) = inr (refl, memory)
+told remaining broken contents failed lines closed kinds met error r old new f f' status (inl memory) (inr tells) = absurd (tells.0 memory)
+told remaining broken contents failed lines closed [] met error r old new f f' status (inr among) (inr tells) = absurd among
+told remaining broken contents failed lines closed (k ∷ ks) met error r old new f f' status (inr among) (inr tells) = inl (refl, (kind_of error, among, tells.1))

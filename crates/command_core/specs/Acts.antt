@@ -24,12 +24,10 @@ use Rattle.front_core.specs.Preferring.{HasPreferences, RefusesPreferences}
 use Rattle.front_core.specs.declared.answer.Answer.{Answer}
 use Rattle.command_core.specs.AskWords.{BundleWords, FilterWords, LookupWords}
 use Rattle.command_core.specs.EditWords.{DeleteWords, PutWords}
-use Rattle.command_core.specs.Endings.{Ends, Writes}
+use Rattle.command_core.specs.Endings.{EndsRefused, Writes}
 use Rattle.command_core.specs.Input.{AreDocuments, AreThreeDocuments}
 use Rattle.command_core.specs.Picks.{BarsPick, IsPick}
 use Rattle.command_core.specs.Reading.{AnswersInput, RefusesInput}
-use Rattle.command_core.specs.Refusals.{number_of}
-use Rattle.command_core.specs.Status.{status_of}
 use Rattle.command_core.specs.TaskWords.{GivesTask, TaskWords}
 use Rattle.command_core.specs.TaskWords as task
 use Rattle.command_core.specs.Wording.{BarsNone, NoWords, RefusesKey, RefusesLabelWords}
@@ -228,17 +226,17 @@ module _ {R : Type 0} (remaining : R → Option (List ℕ)) (broken : R → Bool
   Refuses task.Sync old new refused = RefusesInput remaining broken NoWords BarsNone RefusesSync old new refused
   Refuses task.Replay old new refused = RefusesInput remaining broken NoWords BarsNone RefusesReplay old new refused
 
-module _ {R W : Type 0} (remaining : R → Option (List ℕ)) (broken : R → Bool) (contents : W → Option (List ℕ)) (failed : W → Bool) where
-  -- it is answered and the answer written, or it is refused and nothing is written
-  abbrev pub Treats : TaskWords → R → R → W → W → ℕ → Type 0
-  Treats asked r r' w w' status =
-      ((text : List ℕ) × (answered : ℕ) × Answers remaining broken asked r r' text answered × Writes contents failed text answered w w' status)
-      ⊎ ((refused : Refusal) × Refuses remaining broken asked r r' refused × Ends contents failed (status_of (number_of refused)) w w' status)
+module _ {R W F : Type 0} (remaining : R → Option (List ℕ)) (broken : R → Bool) (contents : W → Option (List ℕ)) (failed : W → Bool) (lines : F → Option (List ℕ)) (closed : F → Bool) where
+  -- it is answered and the answer written, or it is refused, which is told, and nothing is written
+  abbrev pub Treats : TaskWords → R → R → W → W → F → F → ℕ → Type 0
+  Treats asked r r' w w' f f' status =
+      ((text : List ℕ) × (answered : ℕ) × Answers remaining broken asked r r' text answered × Writes contents failed lines closed text answered w w' f f' status)
+      ⊎ ((refused : Refusal) × Refuses remaining broken asked r r' refused × EndsRefused contents failed lines closed refused w w' f f' status)
 
-  -- a usage fault: nothing was read or written
-  abbrev pub IsMisused : R → R → W → W → ℕ → Type 0
-  IsMisused r r' w w' status = (r' ≡ r) × Ends contents failed 2 w w' status
+  -- a usage fault: nothing was read, written or told
+  abbrev pub IsMisused : R → R → W → W → F → F → ℕ → Type 0
+  IsMisused r r' w w' f f' status = (status ≡ 2) × (r' ≡ r) × (w' ≡ w) × (f' ≡ f)
 
   -- what the command that was met asks is done
-  abbrev pub ActsBy : Option (Text × List Row) → R → R → W → W → ℕ → Type 0
-  ActsBy met r r' w w' status = (task : Option TaskWords) × GivesTask met task × MatchOption task (IsMisused r r' w w' status) (λ asked. Treats asked r r' w w' status)
+  abbrev pub ActsBy : Option (Text × List Row) → R → R → W → W → F → F → ℕ → Type 0
+  ActsBy met r r' w w' f f' status = (task : Option TaskWords) × GivesTask met task × MatchOption task (IsMisused r r' w w' f f' status) (λ asked. Treats asked r r' w w' f f' status)

@@ -1,15 +1,25 @@
--- How a command ends: with its text written, or with nothing written.
+-- How a command ends: with its text written, or with a refusal told and nothing written.
 use Rattle.std.specs.Prelude.{◌≡◌, ◌⊎◌, ℕ, Bool, true, false, List, Option}
 use Rattle.std.specs.Io.KnownBytes.{Appends}
+use Rattle.docs_core.specs.Faults.{of_no_document}
 use Rattle.docs_core.specs.Sinks.{AppendsFront}
+use Rattle.docs_core.specs.declared.fault.DocCause.TheVariants.{NoMemory, WriteFault}
+use Rattle.command_core.specs.Refusals.{PrintsDocument, PrintsRefusal, number_of}
+use Rattle.command_core.specs.Status.{status_of}
+use Rattle.command_core.specs.declared.refusal.Refusal.{Refusal}
+use Rattle.command_core.specs.declared.refusal.Refusal.TheVariants.{Document}
 
-module _ {W : Type 0} (contents : W → Option (List ℕ)) (failed : W → Bool) where
-  -- the whole text was written, or a front of it with a fault of the sink
-  abbrev pub Writes : List ℕ → ℕ → W → W → ℕ → Type 0
-  Writes text answered old new status =
-      ((status ≡ answered) × Appends (contents old) (contents new) text × (failed new ≡ false))
-      ⊎ ((status ≡ 4) × AppendsFront (contents old) (contents new) text × (failed new ≡ true))
+module _ {W F : Type 0} (contents : W → Option (List ℕ)) (failed : W → Bool) (lines : F → Option (List ℕ)) (closed : F → Bool) where
+  -- the whole text was written and nothing told, or a front of it with a fault of the sink, which was told
+  abbrev pub Writes : List ℕ → ℕ → W → W → F → F → ℕ → Type 0
+  Writes text answered old new faults faults' status =
+      ((status ≡ answered) × Appends (contents old) (contents new) text × (failed new ≡ false) × (faults' ≡ faults))
+      ⊎ ((status ≡ 4) × AppendsFront (contents old) (contents new) text × (failed new ≡ true) × PrintsDocument lines closed (of_no_document WriteFault) faults faults')
 
-  -- the program ended with this status, and wrote nothing
-  abbrev pub Ends : ℕ → W → W → ℕ → Type 0
-  Ends ended old new status = (status ≡ ended) × (new ≡ old)
+  -- nothing was written, and the refusal was told
+  abbrev pub EndsRefused : Refusal → W → W → F → F → ℕ → Type 0
+  EndsRefused refused old new faults faults' status = (status ≡ status_of (number_of refused)) × (new ≡ old) × PrintsRefusal lines closed refused faults faults'
+
+  -- the same where memory ran out
+  abbrev pub EndsForMemory : W → W → F → F → ℕ → Type 0
+  EndsForMemory = EndsRefused (Document (of_no_document NoMemory))

@@ -3,6 +3,7 @@ pub mod AskWords
 pub mod Asked
 pub mod EditWords
 pub mod Endings
+pub mod FaultLine
 pub mod FieldWords
 pub mod Given
 pub mod Help

@@ -8,7 +8,7 @@ use Rattle.clap.specs.declared.error.kind.ErrorKind.TheVariants.{DisplayHelp, Di
 use Rattle.clap.specs.declared.parser.matches.ArgMatches.{ArgMatches}
 use Rattle.docs_core.specs.Sinks.{AppendsFront}
 use Rattle.command_core.specs.Acts.{ActsBy}
-use Rattle.command_core.specs.Endings.{Ends}
+use Rattle.command_core.specs.Endings.{EndsForMemory}
 use Rattle.command_core.specs.Words.{Schemes, lexicat_app}
 
 -- help and the version are answers, and no faults
@@ -30,23 +30,25 @@ pub record MatchesBy (words : List Text) (result : Result ArgMatches Error) : Ty
   pub matches : IfOk result (λ m. subcommand_rows_of m ≡ subcommand_of app words)
   pub fails : FailsBy (fault_of app words) result
 
-module _ {W : Type 0} (contents : W → Option (List ℕ)) (failed : W → Bool) where
-  -- help and the version are written out; of any other fault in the words the output has nothing
-  abbrev pub Tells : ErrorKind → W → W → ℕ → Type 0
-  Tells kind old new status = MatchBool (is_shown kind) ((status ≡ 0) × ((text : List ℕ) × AppendsFront (contents old) (contents new) text)) (Ends contents failed 2 old new status)
+module _ {W F : Type 0} (contents : W → Option (List ℕ)) (failed : W → Bool) (lines : F → Option (List ℕ)) (closed : F → Bool) where
+  -- help and the version are written out; any other fault in the words is told, and the output has nothing
+  abbrev pub Tells : ErrorKind → W → W → F → F → ℕ → Type 0
+  Tells kind old new f f' status = MatchBool (is_shown kind)
+      ((status ≡ 0) × ((text : List ℕ) × AppendsFront (contents old) (contents new) text) × (f' ≡ f))
+      ((status ≡ 2) × (new ≡ old) × ((text : List ℕ) × AppendsFront (lines f) (lines f') text))
 
   -- the same, unless memory runs out
-  abbrev pub TellsBy : ErrorKind → W → W → ℕ → Type 0
-  TellsBy kind old new status = Ends contents failed 5 old new status ⊎ ((kind ≢ OutOfMemory) × Tells kind old new status)
+  abbrev pub TellsBy : ErrorKind → W → W → F → F → ℕ → Type 0
+  TellsBy kind old new f f' status = EndsForMemory contents failed lines closed old new f f' status ⊎ ((kind ≢ OutOfMemory) × Tells kind old new f f' status)
 
-module _ {R W : Type 0} (remaining : R → Option (List ℕ)) (broken : R → Bool) (contents : W → Option (List ℕ)) (failed : W → Bool) where
+module _ {R W F : Type 0} (remaining : R → Option (List ℕ)) (broken : R → Bool) (contents : W → Option (List ℕ)) (failed : W → Bool) (lines : F → Option (List ℕ)) (closed : F → Bool) where
   -- what is done at these words, by the kinds of fault that clap finds in them and the command that it meets
-  abbrev pub Does : Kinds → Option (Text × List Row) → R → R → W → W → ℕ → Type 0
-  Does [] met r r' w w' status = ActsBy remaining broken contents failed met r r' w w' status
-  Does (k ∷ ks) met r r' w w' status = (r' ≡ r) × ((kind : ErrorKind) × IsAmong kind (k ∷ ks) × Tells contents failed kind w w' status)
+  abbrev pub Does : Kinds → Option (Text × List Row) → R → R → W → W → F → F → ℕ → Type 0
+  Does [] met r r' w w' f f' status = ActsBy remaining broken contents failed lines closed met r r' w w' f f' status
+  Does (k ∷ ks) met r r' w w' f f' status = (r' ≡ r) × ((kind : ErrorKind) × IsAmong kind (k ∷ ks) × Tells contents failed lines closed kind w w' f f' status)
 
   -- what is asked is done, unless memory runs out
-  pub record RunsBy (words : List Text) (r r' : R) (w w' : W) (status : ℕ) : Type 0 where
+  pub record RunsBy (words : List Text) (r r' : R) (w w' : W) (f f' : F) (status : ℕ) : Type 0 where
     pub app : App
     pub app_ok : IsProgram app
-    pub done : Does (fault_of app words) (subcommand_of app words) r r' w w' status ⊎ ((r' ≡ r) × Ends contents failed 5 w w' status)
+    pub done : Does (fault_of app words) (subcommand_of app words) r r' w w' f f' status ⊎ ((r' ≡ r) × EndsForMemory contents failed lines closed w w' f f' status)

@@ -1,9 +1,20 @@
 -- The command line: what a parse reads of the command and of its subcommands.
-use Rattle.std.specs.Prelude.{ℕ, List, Some, true, codes}
+use Rattle.std.specs.Prelude.{◌≡◌, ℕ, List, Some, false, true, codes}
 use Rattle.std.specs.Borrow.{Bor}
-use Rattle.clap.specs.Words.{App, Rule, new_app, new_rule, with_rule, with_subcommand}
+use Rattle.clap.specs.Words.{App, Rule, Text, app_of, new_app, new_rule, rule_of, with_rule, with_subcommand}
+use Rattle.clap.specs.declared.builder.arg.Arg.{Arg}
+use Rattle.clap.specs.declared.builder.command.Command.{Command}
+use Rattle.clap.specs.declared.builder.command.Command.TheViews.{out-Command}
 use Rattle.clap.specs.declared.builder.action.ArgAction.TheVariants.{Append, SetTrue}
 use Rattle.clap.specs.declared.builder.value_parser.ValueParser.TheVariants.{Names, Unsigned}
+
+-- an argument of one command alone, with this rule
+abbrev pub IsArgument : Rule → Arg → Type 0
+IsArgument rule arg = (rule_of arg ≡ rule) × (arg.global ≡ false)
+
+-- a command with these arguments, and none that its subcommands share
+abbrev pub IsCommand : App → Command → Type 0
+IsCommand app command = (app_of command ≡ app) × ((out-Command command).has_globals ≡ false)
 
 -- the words that a scheme may be, where they lie in memory
 abbrev pub Schemes : Type 0
@@ -19,15 +30,17 @@ lenient_rule = record (new_rule (codes "lenient")) { long = Some (codes "lenient
 abbrev pub default_rule : Rule
 default_rule = record (new_rule (codes "default")) { long = Some (codes "default"); value_names = 1 }
 
-abbrev pub ranges_rule : Rule
-ranges_rule = record (new_rule (codes "ranges")) { value_names = 1; required = true }
+-- a priority list of language ranges
+abbrev pub field_rule : Text → Rule
+field_rule name = record (new_rule name) { value_names = 1; required = true }
 
-abbrev pub tags_rule : Rule
-tags_rule = record (new_rule (codes "tags")) { value_names = 1; required = true; range = Some (record { start_inclusive = 1; end_inclusive = 18446744073709551615 }); action = Some Append }
+-- one word or more
+abbrev pub words_rule : Text → Rule
+words_rule name = record (new_rule name) { value_names = 1; required = true; range = Some (record { start_inclusive = 1; end_inclusive = 18446744073709551615 }); action = Some Append }
 
 -- `pick [--scheme SCHEME] [--lenient] [--default LANG] RANGES TAG..`
 abbrev pub pick_app : Schemes → App
-pick_app schemes = with_rule (with_rule (with_rule (with_rule (with_rule (new_app (codes "pick")) (scheme_rule schemes)) lenient_rule) default_rule) ranges_rule) tags_rule
+pick_app schemes = with_rule (with_rule (with_rule (with_rule (with_rule (new_app (codes "pick")) (scheme_rule schemes)) lenient_rule) default_rule) (field_rule (codes "ranges"))) (words_rule (codes "tags"))
 
 -- `--now N`, a number of 64 bits
 abbrev pub now_rule : Rule
@@ -42,19 +55,13 @@ id_rule = record (new_rule (codes "id")) { long = Some (codes "id"); value_names
 abbrev pub lang_rule : Rule
 lang_rule = record (new_rule (codes "lang")) { long = Some (codes "lang"); value_names = 1; required = true }
 
-abbrev pub field_rule : Rule
-field_rule = record (new_rule (codes "field")) { value_names = 1; required = true }
-
-abbrev pub texts_rule : Rule
-texts_rule = record (new_rule (codes "texts")) { value_names = 1; required = true; range = Some (record { start_inclusive = 1; end_inclusive = 18446744073709551615 }); action = Some Append }
-
 -- `new --site NAME`
 abbrev pub new_site_app : App
 new_site_app = with_rule (new_app (codes "new")) site_rule
 
 -- `put --now N --id ID --lang LANG TEXT..`
 abbrev pub put_app : App
-put_app = with_rule (with_rule (with_rule (with_rule (new_app (codes "put")) now_rule) id_rule) lang_rule) texts_rule
+put_app = with_rule (with_rule (with_rule (with_rule (new_app (codes "put")) now_rule) id_rule) lang_rule) (words_rule (codes "texts"))
 
 -- `delete --now N --id ID --lang LANG`
 abbrev pub delete_app : App
@@ -72,15 +79,15 @@ export_app = new_app (codes "export")
 
 -- `filter --id ID [--scheme SCHEME] [--lenient] FIELD`
 abbrev pub filter_app : Schemes → App
-filter_app schemes = with_rule (with_rule (with_rule (with_rule (new_app (codes "filter")) id_rule) (scheme_rule schemes)) lenient_rule) field_rule
+filter_app schemes = with_rule (with_rule (with_rule (with_rule (new_app (codes "filter")) id_rule) (scheme_rule schemes)) lenient_rule) (field_rule (codes "field"))
 
 -- `lookup --id ID [--scheme SCHEME] [--lenient] [--default LANG] FIELD`
 abbrev pub lookup_app : Schemes → App
-lookup_app schemes = with_rule (with_rule (with_rule (with_rule (with_rule (new_app (codes "lookup")) id_rule) (scheme_rule schemes)) lenient_rule) default_rule) field_rule
+lookup_app schemes = with_rule (with_rule (with_rule (with_rule (with_rule (new_app (codes "lookup")) id_rule) (scheme_rule schemes)) lenient_rule) default_rule) (field_rule (codes "field"))
 
 -- `bundle [--scheme SCHEME] [--lenient] [--default LANG] FIELD`
 abbrev pub bundle_app : Schemes → App
-bundle_app schemes = with_rule (with_rule (with_rule (with_rule (new_app (codes "bundle")) (scheme_rule schemes)) lenient_rule) default_rule) field_rule
+bundle_app schemes = with_rule (with_rule (with_rule (with_rule (new_app (codes "bundle")) (scheme_rule schemes)) lenient_rule) default_rule) (field_rule (codes "field"))
 
 -- `missing --lang LANG`
 abbrev pub missing_app : App
@@ -109,17 +116,12 @@ replay_app = new_app (codes "replay")
 abbrev pub bare_app : App
 bare_app = record (new_app (codes "lexicat")) { top = record (new_app (codes "lexicat")).top { has_version = true; no_binary_name = true; subcommand_required = true; disable_help_subcommand = true } }
 
-abbrev pub with_site_commands : Schemes → App → App
-with_site_commands schemes app = with_subcommand (with_subcommand (with_subcommand (with_subcommand (with_subcommand app (pick_app schemes).top) new_site_app.top) put_app.top) delete_app.top) status_app.top
-
-abbrev pub with_label_commands : App → App
-with_label_commands app = with_subcommand (with_subcommand (with_subcommand (with_subcommand app import_app.top) update_app.top) export_app.top) missing_app.top
-
-abbrev pub with_questions : Schemes → App → App
-with_questions schemes app = with_subcommand (with_subcommand (with_subcommand app (filter_app schemes).top) (lookup_app schemes).top) (bundle_app schemes).top
-
-abbrev pub with_exchange_commands : App → App
-with_exchange_commands app = with_subcommand (with_subcommand (with_subcommand (with_subcommand (with_subcommand app summary_app.top) delta_app.top) take_app.top) sync_app.top) replay_app.top
+abbrev under : App → App → App
+under app command = with_subcommand app command.top
 
 abbrev pub lexicat_app : Schemes → App
-lexicat_app schemes = with_exchange_commands (with_questions schemes (with_label_commands (with_site_commands schemes bare_app)))
+lexicat_app schemes =
+    let sites = under (under (under (under (under bare_app (pick_app schemes)) new_site_app) put_app) delete_app) status_app in
+    let labels = under (under (under (under sites import_app) update_app) export_app) missing_app in
+    let questions = under (under (under labels (filter_app schemes)) (lookup_app schemes)) (bundle_app schemes) in
+    under (under (under (under (under questions summary_app) delta_app) take_app) sync_app) replay_app

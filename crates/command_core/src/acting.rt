@@ -1,7 +1,7 @@
 //! What follows clap: the task that the words set.
-ghost use Rattle.std.specs.Prelude.{◌≡◌, ◌≤◌, false};
+ghost use Rattle.std.specs.Prelude.{◌≡◌, false};
 ghost use Rattle.clap.specs.Words.{subcommand_rows_of};
-ghost use Rattle.command_core.specs.Acts.{ActsBy, HasOneText, Treats};
+ghost use Rattle.command_core.specs.Acts.{ActsBy, Treats};
 ghost use Rattle.command_core.specs.Asked.{task_asked};
 
 use crate::answer::finish;
@@ -24,8 +24,7 @@ pub fn act<R: Source, W: Sink, F: Sink>(
     requires reads { R.failed reader.old ≡ false }
     requires writes { W.failed writer.old ≡ false }
     requires tells { F.failed faults.old ≡ false }
-    ensures acts { ActsBy R.remaining R.failed W.contents W.failed (subcommand_rows_of matches.now) reader.old reader.new writer.old writer.new result }
-    ensures quiet { result ≤ 1 → faults.new ≡ faults.old }
+    ensures acts { ActsBy R.remaining R.failed W.contents W.failed F.contents F.failed (subcommand_rows_of matches.now) reader.old reader.new writer.old writer.new faults.old faults.new result }
 {
     let Some(task) = read(matches) else {
         return status::USAGE;
@@ -43,29 +42,11 @@ fn perform<R: Source, W: Sink, F: Sink>(
 ) -> u8
     requires reads { R.failed reader.old ≡ false }
     requires writes { W.failed writer.old ≡ false }
-    ensures acts { Treats R.remaining R.failed W.contents W.failed (task_asked task.entry) reader.old reader.new writer.old writer.new result }
-    ensures quiet { result ≤ 1 → faults.new ≡ faults.old }
+    ensures acts { Treats R.remaining R.failed W.contents W.failed F.contents F.failed (task_asked task.entry) reader.old reader.new writer.old writer.new faults.old faults.new result }
 {
     match task {
         Task::Sync => sync::act(alloc, reader, writer, faults),
         Task::Replay => replay::act(alloc, reader, writer, faults),
-        task => treat(alloc, task, reader, writer, faults),
+        task => finish(answer(alloc, task, reader), writer, faults),
     }
-}
-
-/// Does a task whose answer is one text.
-fn treat<R: Source, W: Sink, F: Sink>(
-    alloc: Global,
-    task: Task<'_, '_>,
-    reader: &mut R,
-    writer: &mut W,
-    faults: &mut F,
-) -> u8
-    requires reads { R.failed reader.old ≡ false }
-    requires writes { W.failed writer.old ≡ false }
-    requires one { HasOneText (task_asked task) }
-    ensures acts { Treats R.remaining R.failed W.contents W.failed (task_asked task.entry) reader.old reader.new writer.old writer.new result }
-    ensures quiet { result ≤ 1 → faults.new ≡ faults.old }
-{
-    finish(answer(alloc, task, reader), writer, faults)
 }

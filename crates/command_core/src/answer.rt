@@ -1,9 +1,7 @@
 //! What a command answers, and how it ends.
-ghost use Rattle.std.specs.Prelude.{◌≡◌, ◌≤◌, false, if◌then◌else◌, MatchResult};
+ghost use Rattle.std.specs.Prelude.{◌≡◌, false, if◌then◌else◌, MatchResult};
 ghost use Rattle.front_core.specs.Asks.{is_found};
-ghost use Rattle.command_core.specs.Endings.{Ends, Writes};
-ghost use Rattle.command_core.specs.Refusals.{number_of};
-ghost use Rattle.command_core.specs.Status.{status_of};
+ghost use Rattle.command_core.specs.Endings.{EndsRefused, Writes};
 
 use crate::fault_line::refuse;
 use crate::printing::print;
@@ -11,6 +9,9 @@ use crate::refusal::Refusal;
 use crate::status;
 use docs_core::{Doc, Sink};
 use front_core::Outcome;
+
+/// What a command answers, or why it is refused.
+pub(crate) type Answered = Result<Answer, Refusal>;
 
 /// The text for the output, and the status that goes with it.
 #[derive(Drop)]
@@ -52,16 +53,11 @@ impl Answer {
 }
 
 /// Writes the answer or tells the refusal, and gives the status.
-pub(crate) fn finish<W: Sink, F: Sink>(
-    answered: Result<Answer, Refusal>,
-    writer: &mut W,
-    faults: &mut F,
-) -> u8
+pub(crate) fn finish<W: Sink, F: Sink>(answered: Answered, writer: &mut W, faults: &mut F) -> u8
     requires { W.failed writer.old ≡ false }
     ensures ends { MatchResult answered
-        (λ answer. Writes W.contents W.failed answer.text answer.status writer.old writer.new result)
-        (λ refusal. Ends W.contents W.failed (status_of (number_of refusal)) writer.old writer.new result) }
-    ensures quiet { result ≤ 1 → faults.new ≡ faults.old }
+        (λ answer. Writes W.contents W.failed F.contents F.failed answer.text answer.status writer.old writer.new faults.old faults.new result)
+        (λ refusal. EndsRefused W.contents W.failed F.contents F.failed refusal writer.old writer.new faults.old faults.new result) }
 {
     match answered {
         Ok(answer) => print(&answer.text, answer.status, writer, faults),

@@ -1,15 +1,12 @@
 //! The arguments of the commands, each with its rule.
-ghost use Rattle.std.specs.Prelude.{◌≡◌, false};
-ghost use Rattle.clap.specs.Words.{rule_of};
-ghost use Rattle.command_core.specs.Words.{default_rule, field_rule, id_rule, lang_rule, lenient_rule, now_rule, ranges_rule, scheme_rule, site_rule, tags_rule, texts_rule};
+ghost use Rattle.command_core.specs.Words.{IsArgument, default_rule, field_rule, id_rule, lang_rule, lenient_rule, now_rule, scheme_rule, site_rule, words_rule};
 
 use clap::{Arg, ArgAction, value_parser};
 use std::alloc::Global;
 
 /// `--scheme`, one of the words of the schemes.
 pub(crate) fn scheme<'a>(alloc: Global, schemes: &'a [&'a str]) -> Arg<'a>
-    ensures rule { rule_of result ≡ scheme_rule schemes.entry }
-    ensures local { result.global ≡ false }
+    ensures { IsArgument (scheme_rule schemes.entry) result }
 {
     Arg::new(alloc, "scheme")
         .long("scheme")
@@ -20,8 +17,7 @@ pub(crate) fn scheme<'a>(alloc: Global, schemes: &'a [&'a str]) -> Arg<'a>
 
 /// `--lenient`, which takes no value.
 pub(crate) fn lenient<'a>(alloc: Global) -> Arg<'a>
-    ensures rule { rule_of result ≡ lenient_rule }
-    ensures local { result.global ≡ false }
+    ensures { IsArgument lenient_rule result }
 {
     Arg::new(alloc, "lenient")
         .long("lenient")
@@ -31,34 +27,9 @@ pub(crate) fn lenient<'a>(alloc: Global) -> Arg<'a>
         .action(ArgAction::SetTrue)
 }
 
-/// RANGES, a priority list of language ranges.
-pub(crate) fn ranges<'a>(alloc: Global) -> Arg<'a>
-    ensures rule { rule_of result ≡ ranges_rule }
-    ensures local { result.global ≡ false }
-{
-    Arg::new(alloc, "ranges")
-        .value_name("RANGES")
-        .help("Language ranges with commas between them, as in Accept-Language")
-        .required(true)
-}
-
-/// TAG.., the languages that there are.
-pub(crate) fn tags<'a>(alloc: Global) -> Arg<'a>
-    ensures rule { rule_of result ≡ tags_rule }
-    ensures local { result.global ≡ false }
-{
-    Arg::new(alloc, "tags")
-        .value_name("TAG")
-        .help("The languages to pick from")
-        .required(true)
-        .num_args(1..)
-        .action(ArgAction::Append)
-}
-
 /// `--now`, the moment of an edit.
 pub(crate) fn now<'a>(alloc: Global) -> Arg<'a>
-    ensures rule { rule_of result ≡ now_rule }
-    ensures local { result.global ≡ false }
+    ensures { IsArgument now_rule result }
 {
     Arg::new(alloc, "now")
         .long("now")
@@ -70,8 +41,7 @@ pub(crate) fn now<'a>(alloc: Global) -> Arg<'a>
 
 /// `--site`, the name of a site.
 pub(crate) fn site<'a>(alloc: Global) -> Arg<'a>
-    ensures rule { rule_of result ≡ site_rule }
-    ensures local { result.global ≡ false }
+    ensures { IsArgument site_rule result }
 {
     Arg::new(alloc, "site")
         .long("site")
@@ -82,8 +52,7 @@ pub(crate) fn site<'a>(alloc: Global) -> Arg<'a>
 
 /// `--id`, the id of a message.
 pub(crate) fn id<'a>(alloc: Global) -> Arg<'a>
-    ensures rule { rule_of result ≡ id_rule }
-    ensures local { result.global ≡ false }
+    ensures { IsArgument id_rule result }
 {
     Arg::new(alloc, "id")
         .long("id")
@@ -94,8 +63,7 @@ pub(crate) fn id<'a>(alloc: Global) -> Arg<'a>
 
 /// `--lang`, the language of a label.
 pub(crate) fn lang<'a>(alloc: Global) -> Arg<'a>
-    ensures rule { rule_of result ≡ lang_rule }
-    ensures local { result.global ≡ false }
+    ensures { IsArgument lang_rule result }
 {
     Arg::new(alloc, "lang")
         .long("lang")
@@ -106,8 +74,7 @@ pub(crate) fn lang<'a>(alloc: Global) -> Arg<'a>
 
 /// `--default`, the language that a lookup or a pick falls back to.
 pub(crate) fn default<'a>(alloc: Global) -> Arg<'a>
-    ensures rule { rule_of result ≡ default_rule }
-    ensures local { result.global ≡ false }
+    ensures { IsArgument default_rule result }
 {
     Arg::new(alloc, "default")
         .long("default")
@@ -117,25 +84,23 @@ pub(crate) fn default<'a>(alloc: Global) -> Arg<'a>
         )
 }
 
-/// FIELD, a priority list of language ranges.
-pub(crate) fn field<'a>(alloc: Global) -> Arg<'a>
-    ensures rule { rule_of result ≡ field_rule }
-    ensures local { result.global ≡ false }
+/// A priority list of language ranges, by this name.
+pub(crate) fn field<'a>(alloc: Global, name: &'a str, value: &'a str) -> Arg<'a>
+    ensures { IsArgument (field_rule name.entry.now) result }
 {
-    Arg::new(alloc, "field")
-        .value_name("FIELD")
+    Arg::new(alloc, name)
+        .value_name(value)
         .help("Language ranges with commas between them, as in Accept-Language")
         .required(true)
 }
 
-/// TEXT.., the texts of a label.
-pub(crate) fn texts<'a>(alloc: Global) -> Arg<'a>
-    ensures rule { rule_of result ≡ texts_rule }
-    ensures local { result.global ≡ false }
+/// One word or more, by this name.
+pub(crate) fn words<'a>(alloc: Global, name: &'a str, value: &'a str, help: &'a str) -> Arg<'a>
+    ensures { IsArgument (words_rule name.entry.now) result }
 {
-    Arg::new(alloc, "texts")
-        .value_name("TEXT")
-        .help("The texts of the label, 1 to 64")
+    Arg::new(alloc, name)
+        .value_name(value)
+        .help(help)
         .required(true)
         .num_args(1..)
         .action(ArgAction::Append)

@@ -1,7 +1,7 @@
 //! The command line: the program with its subcommands, each of which stands in a file of its own.
 ghost use Rattle.std.specs.Prelude.{◌≡◌, IfOk};
 ghost use Rattle.clap.specs.Words.{app_of};
-ghost use Rattle.command_core.specs.Words.{bare_app, lexicat_app, with_site_commands, with_label_commands, with_questions, with_exchange_commands};
+ghost use Rattle.command_core.specs.Words.{bare_app, lexicat_app};
 
 pub(crate) mod bundle;
 pub(crate) mod delete;
@@ -27,15 +27,28 @@ use std::alloc::{AllocError, Global};
 /// The version that `--version` tells.
 const VERSION: &str = "0.2.0";
 
-/// The program and all its commands.
+/// The program and all its commands, in the order in which the help shows them.
 pub(crate) fn lexicat<'a>(alloc: Global, schemes: &'a [&'a str]) -> Result<Command<'a>, AllocError>
     ensures { IfOk result (λ c. app_of c ≡ lexicat_app schemes.entry) }
 {
-    let bare = bare(alloc)?;
-    let sites = site_commands(alloc, schemes, bare)?;
-    let labels = label_commands(alloc, sites)?;
-    let questions = questions(alloc, schemes, labels)?;
-    exchange_commands(alloc, questions)
+    bare(alloc)?
+        .subcommand(pick::command(alloc, schemes)?)?
+        .subcommand(new::command(alloc)?)?
+        .subcommand(put::command(alloc)?)?
+        .subcommand(delete::command(alloc)?)?
+        .subcommand(status::command(alloc))?
+        .subcommand(import::command(alloc)?)?
+        .subcommand(update::command(alloc)?)?
+        .subcommand(export::command(alloc))?
+        .subcommand(missing::command(alloc)?)?
+        .subcommand(filter::command(alloc, schemes)?)?
+        .subcommand(lookup::command(alloc, schemes)?)?
+        .subcommand(bundle::command(alloc, schemes)?)?
+        .subcommand(summary::command(alloc))?
+        .subcommand(delta::command(alloc))?
+        .subcommand(take::command(alloc))?
+        .subcommand(sync::command(alloc))?
+        .subcommand(replay::command(alloc))
 }
 
 /// The program without its commands.
@@ -54,57 +67,4 @@ fn bare<'a>(alloc: Global) -> Result<Command<'a>, AllocError>
         .subcommand_required(true)
         .disable_help_subcommand(true)
         .bin_name("lexicat")
-}
-
-/// Adds the commands that pick, and that begin and edit a site.
-fn site_commands<'a>(
-    alloc: Global,
-    schemes: &'a [&'a str],
-    command: Command<'a>,
-) -> Result<Command<'a>, AllocError>
-    ensures { IfOk result (λ c. app_of c ≡ with_site_commands schemes.entry (app_of command.entry)) }
-{
-    command
-        .subcommand(pick::command(alloc, schemes)?)?
-        .subcommand(new::command(alloc)?)?
-        .subcommand(put::command(alloc)?)?
-        .subcommand(delete::command(alloc)?)?
-        .subcommand(status::command(alloc))
-}
-
-/// Adds the commands that bring labels in and out.
-fn label_commands<'a>(alloc: Global, command: Command<'a>) -> Result<Command<'a>, AllocError>
-    ensures { IfOk result (λ c. app_of c ≡ with_label_commands (app_of command.entry)) }
-{
-    command
-        .subcommand(import::command(alloc)?)?
-        .subcommand(update::command(alloc)?)?
-        .subcommand(export::command(alloc))?
-        .subcommand(missing::command(alloc)?)
-}
-
-/// Adds the commands that ask for labels.
-fn questions<'a>(
-    alloc: Global,
-    schemes: &'a [&'a str],
-    command: Command<'a>,
-) -> Result<Command<'a>, AllocError>
-    ensures { IfOk result (λ c. app_of c ≡ with_questions schemes.entry (app_of command.entry)) }
-{
-    command
-        .subcommand(filter::command(alloc, schemes)?)?
-        .subcommand(lookup::command(alloc, schemes)?)?
-        .subcommand(bundle::command(alloc, schemes)?)
-}
-
-/// Adds the commands by which sites exchange what they hold, and the one that replays a script.
-fn exchange_commands<'a>(alloc: Global, command: Command<'a>) -> Result<Command<'a>, AllocError>
-    ensures { IfOk result (λ c. app_of c ≡ with_exchange_commands (app_of command.entry)) }
-{
-    command
-        .subcommand(summary::command(alloc))?
-        .subcommand(delta::command(alloc))?
-        .subcommand(take::command(alloc))?
-        .subcommand(sync::command(alloc))?
-        .subcommand(replay::command(alloc))
 }

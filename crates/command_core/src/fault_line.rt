@@ -1,128 +1,111 @@
 //! The line that tells a refusal, and the status that goes with it. The line takes no memory, it is
-//! one write where it fits a small buffer, and where its writer fails the rest of it is left out.
-ghost use Rattle.std.specs.Prelude.{◌≡◌, ◌≤◌, false};
-ghost use Rattle.docs_core.specs.Faults.{number_of};
+//! one write, and where its writer fails the rest of it is left out.
+ghost use Rattle.std.specs.Prelude.{◌≡◌, ◌+◌, ◌≤◌, ◌++◌, None, length};
+ghost use Rattle.arrayvec.specs.ArrayString.{array_string_len};
+ghost use Rattle.docs_core.specs.Faults.{number_of, of_no_document};
+ghost use Rattle.docs_core.specs.declared.fault.DocCause.TheVariants.{NoMemory};
+ghost use Rattle.command_core.specs.FaultLine.{PrintsFault, counted, document_meant, fault_line};
+ghost use Rattle.command_core.specs.Refusals.{PrintsDocument, PrintsRefusal};
 ghost use Rattle.command_core.specs.Refusals as refusals;
 ghost use Rattle.command_core.specs.Status.{status_of};
-ghost use Rattle.command_core.specs.declared.fault_line.TheConstants.{LINE_BYTES};
 
 use crate::refusal::Refusal;
 use crate::status;
+use arrayvec::ArrayString;
 use docs_core::{DocCause, DocFault, Sink, write_out};
 use itoa::Buffer;
-use std::fmt;
-use std::fmt::Write;
+use std::fmt::{Display, InlineText};
 
-/// How many bytes the buffer holds. The longest line of a refusal has fewer.
-const LINE_BYTES: usize = 192;
+/// How many bytes of its text a line has at most. No text of a refusal has more.
+const TEXT_BYTES: usize = 160;
 
-/// A line that is not written yet.
-#[derive(Drop)]
-struct Line {
-    bytes: [u8; LINE_BYTES],
-    len: usize,
-    ghost fits: { len ≤ LINE_BYTES },
-}
+/// Room for the text and for all that stands around it.
+const LINE_BYTES: usize = 320;
 
-impl Line {
-    fn new() -> Line {
-        Line {
-            bytes: [0; LINE_BYTES],
-            len: 0,
-        }
-    }
-
-    fn bytes(&self) -> &[u8] {
-        &self.bytes[..self.len]
-    }
-}
-
-impl Write for Line {
-    fn write_str(&mut self, text: &str) -> fmt::Result {
-        let end = self.len.saturating_add(text.len());
-        let Some(room) = self.bytes.get_mut(self.len..end) else {
-            return Err(fmt::Error);
-        };
-        room.copy_from_slice(text.as_bytes());
-        self.len = end;
-        Ok(())
-    }
-}
-
-/// Text that goes to a sink piece by piece, until the sink fails.
-#[derive(Drop)]
-struct Pieces<'a, S> {
-    sink: &'a mut S,
-}
-
-impl<S: Sink> Write for Pieces<'_, S> {
-    fn write_str(&mut self, text: &str) -> fmt::Result {
-        if self.sink.failed() || write_out(self.sink, text.as_bytes()).is_err() {
-            return Err(fmt::Error);
-        }
-        Ok(())
-    }
-}
-
-/// A refusal of the command's words: `refused N: TEXT`.
-#[derive(Clone, Copy)]
-struct WordRefusal<'a, T> {
-    number: u8,
-    text: &'a T,
-}
-
-impl<T: fmt::Display> fmt::Display for WordRefusal<'_, T> {
-    fn fmt<W: fmt::Write>(&self, f: &mut fmt::Formatter<W>) -> fmt::Result {
-        f.write_str("refused ")?;
-        f.write_str(Buffer::new().format(self.number))?;
-        f.write_str(": ")?;
-        self.text.fmt(f)
-    }
-}
-
-/// Tells a refusal of the command's words, and gives its status.
-pub fn refuse_words<S: Sink, T: fmt::Display>(faults: &mut S, number: u8, text: &T) -> u8
-    ensures { result ≡ status_of number }
+/// Tells a refusal of the command's words, and gives its status. A text of more than 160 bytes is
+/// cut and ends in dots.
+pub fn refuse_words<S: Sink, T: Display>(faults: &mut S, number: u8, text: &T) -> u8
+    ensures status { result ≡ status_of number }
+    ensures told { PrintsFault S.contents S.failed number (T.output text.now) None 0 faults.old faults.new }
 {
-    tell(faults, WordRefusal { number, text });
+    tell(faults, number, text, None, 0);
     status::of_refusal(number)
-}
-
-/// Writes the text and LF: at once, so that the line of another process can't come between, or
-/// piece by piece where the buffer is too small.
-fn tell<S: Sink, T: fmt::Display + Drop>(faults: &mut S, text: T) {
-    let mut line = Line::new();
-    if line.writeln(&text).is_err() {
-        let mut pieces = Pieces { sink: faults };
-        let _ = pieces.writeln(text);
-    } else if !faults.failed() {
-        let _ = write_out(faults, line.bytes());
-    }
 }
 
 /// Tells a refusal of a document or a stream, and gives its status.
 pub fn refuse_document<S: Sink>(faults: &mut S, fault: DocFault) -> u8
-    ensures { result ≡ status_of (number_of fault.cause) }
+    ensures status { result ≡ status_of (number_of fault.cause) }
+    ensures told { PrintsDocument S.contents S.failed fault faults.old faults.new }
 {
-    tell(faults, fault);
-    status::of_refusal(fault.number())
+    let cause = fault.cause;
+    tell(faults, cause.number(), &cause, cause.row(), fault.document);
+    status::of_refusal(cause.number())
 }
 
 /// Tells that memory ended, and gives the status.
 pub fn refuse_for_memory<S: Sink>(faults: &mut S) -> u8
-    ensures { result ≡ 5 }
+    ensures status { result ≡ 5 }
+    ensures told { PrintsDocument S.contents S.failed (of_no_document NoMemory) faults.old faults.new }
 {
     refuse_document(faults, DocFault::of_no_document(DocCause::NoMemory))
 }
 
 /// Tells a refusal, and gives its status.
 pub(crate) fn refuse<S: Sink>(faults: &mut S, refusal: Refusal) -> u8
-    ensures { result ≡ status_of (refusals.number_of refusal) }
+    ensures status { result ≡ status_of (refusals.number_of refusal) }
+    ensures told { PrintsRefusal S.contents S.failed refusal faults.old faults.new }
 {
     match refusal {
         Refusal::Lang(fault) => refuse_words(faults, fault.number(), &fault),
         Refusal::Question(fault) => refuse_words(faults, fault.number(), &fault),
         Refusal::Cell(fault) => refuse_words(faults, fault.number(), &fault),
         Refusal::Document(fault) => refuse_document(faults, fault),
+    }
+}
+
+/// Writes the line at once, so that the line of another process can't come between.
+fn tell<S: Sink, T: Display>(faults: &mut S, number: u8, text: &T, row: Option<usize>, document: u8)
+    ensures { PrintsFault S.contents S.failed number (T.output text.now) row document faults.old faults.new }
+{
+    if !faults.failed() {
+        let text = InlineText::<TEXT_BYTES>::of(text);
+        let line = line_of(number, text.as_str(), row, document);
+        let _ = write_out(faults, line.as_str().as_bytes());
+    }
+}
+
+fn line_of(number: u8, text: &str, row: Option<usize>, document: u8) -> ArrayString<LINE_BYTES>
+    requires { length text.now ≤ 160 }
+    ensures { result.bytes ≡ fault_line number text.now row document }
+{
+    let mut line = ArrayString::new();
+    push_number(&mut line, "refused ", Some(number as usize));
+    line.push_str(": ");
+    line.push_str(text);
+    push_number(&mut line, " in row ", row);
+    push_number(&mut line, " of document ", document_meant(document));
+    line.push_str("\n");
+    line
+}
+
+/// Appends the word and the number, where there is one.
+fn push_number(line: &mut ArrayString<LINE_BYTES>, word: &str, number: Option<usize>)
+    requires { array_string_len line.old + length word.now + 40 ≤ 320 }
+    ensures bytes { line.new.bytes ≡ line.old.bytes ++ counted word.now number }
+    ensures len { array_string_len line.new ≤ array_string_len line.old + length word.now + 40 }
+{
+    if let Some(number) = number {
+        line.push_str(word);
+        line.push_str(Buffer::new().format(number));
+    }
+}
+
+/// The document that is meant, where it is one.
+fn document_meant(document: u8) -> Option<usize>
+    ensures { result ≡ document_meant document }
+{
+    match document {
+        0 => None,
+        _ => Some(document as usize),
     }
 }

@@ -13,8 +13,7 @@ use docs_core::{Doc, DocFault, Sink, write_out};
 /// Writes the whole text and gives the status, or that of the fault of the output.
 pub(crate) fn print<W: Sink, F: Sink>(text: &Doc, status: u8, writer: &mut W, faults: &mut F) -> u8
     requires { W.failed writer.old ≡ false }
-    ensures written { Writes W.contents W.failed text.now status writer.old writer.new result }
-    ensures quiet { W.failed writer.new ≡ false → faults.new ≡ faults.old }
+    ensures written { Writes W.contents W.failed F.contents F.failed text.now status writer.old writer.new faults.old faults.new result }
 {
     match write_out(writer, text.bytes()) {
         Ok(()) => status,
@@ -30,8 +29,7 @@ pub(crate) fn print_both<W: Sink, F: Sink>(
     faults: &mut F,
 ) -> u8
     requires { W.failed writer.old ≡ false }
-    ensures written { Writes W.contents W.failed (first.now ++ second.now) 0 writer.old writer.new result }
-    ensures quiet { W.failed writer.new ≡ false → faults.new ≡ faults.old }
+    ensures written { Writes W.contents W.failed F.contents F.failed (first.now ++ second.now) 0 writer.old writer.new faults.old faults.new result }
 {
     match write_both(first, second, writer) {
         Ok(()) => status::ANSWERED,

@@ -1,5 +1,5 @@
 //! The whole program, over any streams.
-ghost use Rattle.std.specs.Prelude.{◌≡◌, ◌≤◌, false, codes, map, string_bytes, IfOk, IfSome};
+ghost use Rattle.std.specs.Prelude.{◌≡◌, false, codes, map, string_bytes, IfOk, IfSome};
 ghost use Rattle.clap.specs.Words.{kind_of, fault_of, subcommand_of, subcommand_rows_of, FailsBy};
 ghost use Rattle.command_core.specs.Help.{words_meant};
 ghost use Rattle.command_core.specs.Program.{MatchesBy, RunsBy, TellsBy};
@@ -29,8 +29,7 @@ pub fn run<R: Source, W: Sink, F: Sink>(
     requires reads { R.failed reader.old ≡ false }
     requires writes { W.failed writer.old ≡ false }
     requires tells { F.failed faults.old ≡ false }
-    ensures runs { RunsBy R.remaining R.failed W.contents W.failed (words_meant (map string_bytes words.now)) reader.old reader.new writer.old writer.new result }
-    ensures quiet { result ≤ 1 → faults.new ≡ faults.old }
+    ensures runs { RunsBy R.remaining R.failed W.contents W.failed F.contents F.failed (words_meant (map string_bytes words.now)) reader.old reader.new writer.old writer.new faults.old faults.new result }
 {
     match words {
         [help] if help.as_str() == "help" => {
@@ -54,8 +53,7 @@ fn answer_words<S: AsStr, R: Source, W: Sink, F: Sink>(
     requires reads { R.failed reader.old ≡ false }
     requires writes { W.failed writer.old ≡ false }
     requires tells { F.failed faults.old ≡ false }
-    ensures runs { RunsBy R.remaining R.failed W.contents W.failed (map S.text words.now) reader.old reader.new writer.old writer.new result }
-    ensures quiet { result ≤ 1 → faults.new ≡ faults.old }
+    ensures runs { RunsBy R.remaining R.failed W.contents W.failed F.contents F.failed (map S.text words.now) reader.old reader.new writer.old writer.new faults.old faults.new result }
 {
     match matches_of(alloc, words) {
         Ok(matches) => act(alloc, &matches, reader, writer, faults),
@@ -73,8 +71,7 @@ fn matches_of<S: AsStr>(alloc: Global, words: &[S]) -> Result<ArgMatches<'_>, Er
 fn tell<W: Sink, F: Sink>(alloc: Global, error: &Error, writer: &mut W, faults: &mut F) -> u8
     requires writes { W.failed writer.old ≡ false }
     requires tells { F.failed faults.old ≡ false }
-    ensures tells { TellsBy W.contents W.failed (kind_of error.now) writer.old writer.new result }
-    ensures quiet { result ≤ 1 → faults.new ≡ faults.old }
+    ensures tells { TellsBy W.contents W.failed F.contents F.failed (kind_of error.now) writer.old writer.new faults.old faults.new result }
 {
     if error.kind() == ErrorKind::OutOfMemory {
         return refuse_for_memory(faults);

@@ -5,13 +5,12 @@ ghost use Rattle.command_core.specs.Acts.{Answers, HasOneText, Refuses};
 ghost use Rattle.command_core.specs.Asked.{task_asked};
 ghost use Rattle.command_core.specs.TaskWords.{GivesTask, task_words};
 
-use crate::answer::Answer;
+use crate::answer::Answered;
 use crate::commands::{
     bundle, delete, delta, export, filter, import, lookup, missing, new, pick, put, status,
     summary, take, update,
 };
 use crate::given::{now_of, text_of};
-use crate::refusal::Refusal;
 use clap::ArgMatches;
 use docs_core::Source;
 use std::alloc::Global;
@@ -74,11 +73,7 @@ fn task_of<'m, 'a>(name: &str, now: Option<u64>, given: &'m ArgMatches<'a>) -> O
 }
 
 /// What answers a task whose answer is one text, or why it is refused.
-pub(crate) fn answer<R: Source>(
-    alloc: Global,
-    task: Task<'_, '_>,
-    reader: &mut R,
-) -> Result<Answer, Refusal>
+pub(crate) fn answer<R: Source>(alloc: Global, task: Task<'_, '_>, reader: &mut R) -> Answered
     requires reads { R.failed reader.old ≡ false }
     requires one { HasOneText (task_asked task) }
     ensures { let words = task_asked task.entry in MatchResult result

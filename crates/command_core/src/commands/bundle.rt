@@ -1,17 +1,15 @@
 //! The command `bundle`.
 ghost use Rattle.std.specs.Prelude.{◌≡◌, false, option_map, IfOk, MatchResult};
-ghost use Rattle.clap.specs.Words.{app_of, found_of, rows_of};
-ghost use Rattle.clap.specs.declared.builder.command.Command.TheViews.{out-Command};
+ghost use Rattle.clap.specs.Words.{found_of, rows_of};
 ghost use Rattle.command_core.specs.Asked.{bundle_asked};
 ghost use Rattle.command_core.specs.Acts.{FitsBundle, BarsBundle, IsBundle, RefusesOnly};
 ghost use Rattle.command_core.specs.AskWords.{bundle_words};
 ghost use Rattle.command_core.specs.Reading.{AnswersInput, RefusesInput};
-ghost use Rattle.command_core.specs.Words.{bundle_app};
+ghost use Rattle.command_core.specs.Words.{IsCommand, bundle_app};
 
-use crate::answer::Answer;
+use crate::answer::{Answer, Answered};
 use crate::arguments;
 use crate::given::{bytes_given, field_of};
-use crate::refusal::Refusal;
 use clap::{ArgMatches, Command};
 use docs_core::{Source, read_all, read_site};
 use front_core::{Field, Preferences};
@@ -19,8 +17,7 @@ use std::alloc::{AllocError, Global};
 
 /// `bundle [--scheme SCHEME] [--lenient] [--default LANG] FIELD`
 pub(crate) fn command<'a>(alloc: Global, schemes: &'a [&'a str]) -> Result<Command<'a>, AllocError>
-    ensures app { IfOk result (λ c. app_of c ≡ bundle_app schemes.entry) }
-    ensures local { IfOk result (λ c. (out-Command c).has_globals ≡ false) }
+    ensures { IfOk result (IsCommand (bundle_app schemes.entry)) }
 {
     Command::new(alloc, "bundle")
         .about("Prints for each message the one label that a reader gets, as language maps")
@@ -30,7 +27,7 @@ pub(crate) fn command<'a>(alloc: Global, schemes: &'a [&'a str]) -> Result<Comma
         .arg(arguments::scheme(alloc, schemes))?
         .arg(arguments::lenient(alloc))?
         .arg(arguments::default(alloc))?
-        .arg(arguments::field(alloc))
+        .arg(arguments::field(alloc, "field", "FIELD"))
 }
 
 /// What the words of `bundle` ask.
@@ -50,11 +47,7 @@ pub(crate) fn asked_of<'a>(given: &ArgMatches<'a>) -> Option<Asked<'a>>
 }
 
 /// The labels that one reader gets of the site of the input, as language maps.
-pub(crate) fn answer_of<R: Source>(
-    alloc: Global,
-    asked: Asked<'_>,
-    reader: &mut R,
-) -> Result<Answer, Refusal>
+pub(crate) fn answer_of<R: Source>(alloc: Global, asked: Asked<'_>, reader: &mut R) -> Answered
     requires { R.failed reader.old ≡ false }
     ensures { let words = bundle_asked asked.entry in MatchResult result
         (λ answer. AnswersInput R.remaining R.failed (IsBundle words) reader.old reader.new answer.text answer.status)

@@ -1,17 +1,15 @@
 //! The command `delete`.
 ghost use Rattle.std.specs.Prelude.{◌≡◌, false, option_map, IfOk, MatchResult};
-ghost use Rattle.clap.specs.Words.{app_of, found_of, rows_of};
-ghost use Rattle.clap.specs.declared.builder.command.Command.TheViews.{out-Command};
+ghost use Rattle.clap.specs.Words.{found_of, rows_of};
 ghost use Rattle.command_core.specs.Asked.{delete_asked};
 ghost use Rattle.command_core.specs.Acts.{FitsDelete, BarsDelete, IsDeletion, RefusesDeletion};
 ghost use Rattle.command_core.specs.EditWords.{delete_words};
 ghost use Rattle.command_core.specs.Reading.{AnswersInput, RefusesInput};
-ghost use Rattle.command_core.specs.Words.{delete_app};
+ghost use Rattle.command_core.specs.Words.{IsCommand, delete_app};
 
-use crate::answer::Answer;
+use crate::answer::{Answer, Answered};
 use crate::arguments;
 use crate::given::text_of;
-use crate::refusal::Refusal;
 use crate::wording::read_key;
 use clap::{ArgMatches, Command};
 use docs_core::{Source, edit_document, read_all};
@@ -19,8 +17,7 @@ use std::alloc::{AllocError, Global};
 
 /// `delete --now N --id ID --lang LANG`
 pub(crate) fn command<'a>(alloc: Global) -> Result<Command<'a>, AllocError>
-    ensures app { IfOk result (λ c. app_of c ≡ delete_app) }
-    ensures local { IfOk result (λ c. (out-Command c).has_globals ≡ false) }
+    ensures { IfOk result (IsCommand delete_app) }
 {
     Command::new(alloc, "delete")
         .about("Deletes a label of a site, with a new stamp")
@@ -52,11 +49,7 @@ pub(crate) fn asked_of<'a>(now: Option<u64>, given: &ArgMatches<'a>) -> Option<A
 }
 
 /// The site of the input with the label deleted.
-pub(crate) fn answer_of<R: Source>(
-    alloc: Global,
-    asked: Asked<'_>,
-    reader: &mut R,
-) -> Result<Answer, Refusal>
+pub(crate) fn answer_of<R: Source>(alloc: Global, asked: Asked<'_>, reader: &mut R) -> Answered
     requires { R.failed reader.old ≡ false }
     ensures { let words = delete_asked asked.entry in MatchResult result
         (λ answer. AnswersInput R.remaining R.failed (IsDeletion words) reader.old reader.new answer.text answer.status)

@@ -1,23 +1,19 @@
 //! The command `delta`.
 ghost use Rattle.std.specs.Prelude.{◌≡◌, false, IfOk, MatchResult};
-ghost use Rattle.clap.specs.Words.{app_of};
-ghost use Rattle.clap.specs.declared.builder.command.Command.TheViews.{out-Command};
 ghost use Rattle.command_core.specs.Acts.{IsDelta, RefusesDelta};
 ghost use Rattle.command_core.specs.Reading.{AnswersInput, RefusesInput};
-ghost use Rattle.command_core.specs.Words.{delta_app};
+ghost use Rattle.command_core.specs.Words.{IsCommand, delta_app};
 ghost use Rattle.command_core.specs.Wording.{NoWords, BarsNone};
 
-use crate::answer::Answer;
+use crate::answer::{Answer, Answered};
 use crate::input::two_documents;
-use crate::refusal::Refusal;
 use clap::Command;
 use docs_core::{Source, delta_document, read_all};
 use std::alloc::Global;
 
 /// `delta`
 pub(crate) fn command<'a>(alloc: Global) -> Command<'a>
-    ensures app { app_of result ≡ delta_app }
-    ensures local { (out-Command result).has_globals ≡ false }
+    ensures { IsCommand delta_app result }
 {
     Command::new(alloc, "delta")
         .about("Prints the cells of a site that the owner of a summary lacks")
@@ -27,7 +23,7 @@ pub(crate) fn command<'a>(alloc: Global) -> Command<'a>
 }
 
 /// The delta of the first document, a site, for the owner of the second, a summary.
-pub(crate) fn answer_of<R: Source>(alloc: Global, reader: &mut R) -> Result<Answer, Refusal>
+pub(crate) fn answer_of<R: Source>(alloc: Global, reader: &mut R) -> Answered
     requires { R.failed reader.old ≡ false }
     ensures { MatchResult result
         (λ answer. AnswersInput R.remaining R.failed IsDelta reader.old reader.new answer.text answer.status)

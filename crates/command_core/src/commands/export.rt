@@ -1,22 +1,18 @@
 //! The command `export`.
 ghost use Rattle.std.specs.Prelude.{◌≡◌, false, IfOk, MatchResult};
-ghost use Rattle.clap.specs.Words.{app_of};
-ghost use Rattle.clap.specs.declared.builder.command.Command.TheViews.{out-Command};
 ghost use Rattle.command_core.specs.Acts.{IsExport, RefusesOnly};
 ghost use Rattle.command_core.specs.Reading.{AnswersInput, RefusesInput};
-ghost use Rattle.command_core.specs.Words.{export_app};
+ghost use Rattle.command_core.specs.Words.{IsCommand, export_app};
 ghost use Rattle.command_core.specs.Wording.{NoWords, BarsNone};
 
-use crate::answer::Answer;
-use crate::refusal::Refusal;
+use crate::answer::{Answer, Answered};
 use clap::Command;
 use docs_core::{Source, export_document, read_all};
 use std::alloc::Global;
 
 /// `export`
 pub(crate) fn command<'a>(alloc: Global) -> Command<'a>
-    ensures app { app_of result ≡ export_app }
-    ensures local { (out-Command result).has_globals ≡ false }
+    ensures { IsCommand export_app result }
 {
     Command::new(alloc, "export")
         .about("Prints the labels of a site as language maps")
@@ -24,7 +20,7 @@ pub(crate) fn command<'a>(alloc: Global) -> Command<'a>
 }
 
 /// The live labels of the site of the input, as language maps.
-pub(crate) fn answer_of<R: Source>(alloc: Global, reader: &mut R) -> Result<Answer, Refusal>
+pub(crate) fn answer_of<R: Source>(alloc: Global, reader: &mut R) -> Answered
     requires { R.failed reader.old ≡ false }
     ensures { MatchResult result
         (λ answer. AnswersInput R.remaining R.failed IsExport reader.old reader.new answer.text answer.status)

@@ -1,24 +1,20 @@
 //! The command `import`.
 ghost use Rattle.std.specs.Prelude.{◌≡◌, false, IfOk, MatchResult};
-ghost use Rattle.clap.specs.Words.{app_of};
-ghost use Rattle.clap.specs.declared.builder.command.Command.TheViews.{out-Command};
 ghost use Rattle.command_core.specs.Acts.{IsImport, RefusesImport};
 ghost use Rattle.command_core.specs.Reading.{AnswersInput, RefusesInput};
-ghost use Rattle.command_core.specs.Words.{import_app};
+ghost use Rattle.command_core.specs.Words.{IsCommand, import_app};
 ghost use Rattle.command_core.specs.Wording.{NoWords, BarsNone};
 
-use crate::answer::Answer;
+use crate::answer::{Answer, Answered};
 use crate::arguments;
 use crate::input::two_documents;
-use crate::refusal::Refusal;
 use clap::Command;
 use docs_core::{Source, import_document, read_all};
 use std::alloc::{AllocError, Global};
 
 /// `import --now N`
 pub(crate) fn command<'a>(alloc: Global) -> Result<Command<'a>, AllocError>
-    ensures app { IfOk result (λ c. app_of c ≡ import_app) }
-    ensures local { IfOk result (λ c. (out-Command c).has_globals ≡ false) }
+    ensures { IfOk result (IsCommand import_app) }
 {
     Command::new(alloc, "import")
         .about("Puts the labels of language maps into a site, each with a new stamp")
@@ -29,11 +25,7 @@ pub(crate) fn command<'a>(alloc: Global) -> Result<Command<'a>, AllocError>
 }
 
 /// The site of the first document with the labels of the second put in.
-pub(crate) fn answer_of<R: Source>(
-    alloc: Global,
-    now: u64,
-    reader: &mut R,
-) -> Result<Answer, Refusal>
+pub(crate) fn answer_of<R: Source>(alloc: Global, now: u64, reader: &mut R) -> Answered
     requires { R.failed reader.old ≡ false }
     ensures { MatchResult result
         (λ answer. AnswersInput R.remaining R.failed (IsImport now) reader.old reader.new answer.text answer.status)

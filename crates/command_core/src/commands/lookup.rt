@@ -1,17 +1,15 @@
 //! The command `lookup`.
 ghost use Rattle.std.specs.Prelude.{◌≡◌, false, option_map, IfOk, MatchResult};
-ghost use Rattle.clap.specs.Words.{app_of, found_of, rows_of};
-ghost use Rattle.clap.specs.declared.builder.command.Command.TheViews.{out-Command};
+ghost use Rattle.clap.specs.Words.{found_of, rows_of};
 ghost use Rattle.command_core.specs.Asked.{lookup_asked};
 ghost use Rattle.command_core.specs.Acts.{FitsLookup, BarsLookup, IsLookup, RefusesOnly};
 ghost use Rattle.command_core.specs.AskWords.{lookup_words};
 ghost use Rattle.command_core.specs.Reading.{AnswersInput, RefusesInput};
-ghost use Rattle.command_core.specs.Words.{lookup_app};
+ghost use Rattle.command_core.specs.Words.{IsCommand, lookup_app};
 
-use crate::answer::Answer;
+use crate::answer::{Answer, Answered};
 use crate::arguments;
 use crate::given::{bytes_given, field_of};
-use crate::refusal::Refusal;
 use clap::{ArgMatches, Command};
 use docs_core::{Source, read_all, read_site};
 use front_core::{Field, Lookup};
@@ -19,8 +17,7 @@ use std::alloc::{AllocError, Global};
 
 /// `lookup --id ID [--scheme SCHEME] [--lenient] [--default LANG] FIELD`
 pub(crate) fn command<'a>(alloc: Global, schemes: &'a [&'a str]) -> Result<Command<'a>, AllocError>
-    ensures app { IfOk result (λ c. app_of c ≡ lookup_app schemes.entry) }
-    ensures local { IfOk result (λ c. (out-Command c).has_globals ≡ false) }
+    ensures { IfOk result (IsCommand (lookup_app schemes.entry)) }
 {
     Command::new(alloc, "lookup")
         .about("Prints the one label of a message that fits best, or the default's, or nothing")
@@ -31,7 +28,7 @@ pub(crate) fn command<'a>(alloc: Global, schemes: &'a [&'a str]) -> Result<Comma
         .arg(arguments::scheme(alloc, schemes))?
         .arg(arguments::lenient(alloc))?
         .arg(arguments::default(alloc))?
-        .arg(arguments::field(alloc))
+        .arg(arguments::field(alloc, "field", "FIELD"))
 }
 
 /// What the words of `lookup` ask.
@@ -53,11 +50,7 @@ pub(crate) fn asked_of<'a>(given: &ArgMatches<'a>) -> Option<Asked<'a>>
 }
 
 /// The line of the lookup over the site of the input.
-pub(crate) fn answer_of<R: Source>(
-    alloc: Global,
-    asked: Asked<'_>,
-    reader: &mut R,
-) -> Result<Answer, Refusal>
+pub(crate) fn answer_of<R: Source>(alloc: Global, asked: Asked<'_>, reader: &mut R) -> Answered
     requires { R.failed reader.old ≡ false }
     ensures { let words = lookup_asked asked.entry in MatchResult result
         (λ answer. AnswersInput R.remaining R.failed (IsLookup words) reader.old reader.new answer.text answer.status)

@@ -1,14 +1,11 @@
 //! The command `missing`.
 ghost use Rattle.std.specs.Prelude.{◌≡◌, false, IfOk, MatchResult};
-ghost use Rattle.clap.specs.Words.{app_of};
-ghost use Rattle.clap.specs.declared.builder.command.Command.TheViews.{out-Command};
 ghost use Rattle.command_core.specs.Acts.{FitsMissing, BarsMissing, IsMissing, RefusesOnly};
 ghost use Rattle.command_core.specs.Reading.{AnswersInput, RefusesInput};
-ghost use Rattle.command_core.specs.Words.{missing_app};
+ghost use Rattle.command_core.specs.Words.{IsCommand, missing_app};
 
-use crate::answer::Answer;
+use crate::answer::{Answer, Answered};
 use crate::arguments;
-use crate::refusal::Refusal;
 use crate::wording::read_lang;
 use clap::Command;
 use docs_core::{Source, missing_document, read_all};
@@ -16,8 +13,7 @@ use std::alloc::{AllocError, Global};
 
 /// `missing --lang LANG`
 pub(crate) fn command<'a>(alloc: Global) -> Result<Command<'a>, AllocError>
-    ensures app { IfOk result (λ c. app_of c ≡ missing_app) }
-    ensures local { IfOk result (λ c. (out-Command c).has_globals ≡ false) }
+    ensures { IfOk result (IsCommand missing_app) }
 {
     Command::new(alloc, "missing")
         .about(
@@ -30,11 +26,7 @@ pub(crate) fn command<'a>(alloc: Global) -> Result<Command<'a>, AllocError>
 }
 
 /// The messages of the site of the input that have no label of the language.
-pub(crate) fn answer_of<R: Source>(
-    alloc: Global,
-    word: &str,
-    reader: &mut R,
-) -> Result<Answer, Refusal>
+pub(crate) fn answer_of<R: Source>(alloc: Global, word: &str, reader: &mut R) -> Answered
     requires { R.failed reader.old ≡ false }
     ensures { MatchResult result
         (λ answer. AnswersInput R.remaining R.failed (IsMissing word.now) reader.old reader.new answer.text answer.status)

@@ -1,13 +1,10 @@
 //! The command `new`.
 ghost use Rattle.std.specs.Prelude.{◌≡◌, false, IfOk, MatchResult};
-ghost use Rattle.clap.specs.Words.{app_of};
-ghost use Rattle.clap.specs.declared.builder.command.Command.TheViews.{out-Command};
 ghost use Rattle.command_core.specs.Acts.{IsNew, BarsNew};
-ghost use Rattle.command_core.specs.Words.{new_site_app};
+ghost use Rattle.command_core.specs.Words.{IsCommand, new_site_app};
 
-use crate::answer::Answer;
+use crate::answer::{Answer, Answered};
 use crate::arguments;
-use crate::refusal::Refusal;
 use cata_core::Site;
 use cell_core::SiteName;
 use clap::Command;
@@ -16,8 +13,7 @@ use std::alloc::{AllocError, Global};
 
 /// `new --site NAME`
 pub(crate) fn command<'a>(alloc: Global) -> Result<Command<'a>, AllocError>
-    ensures app { IfOk result (λ c. app_of c ≡ new_site_app) }
-    ensures local { IfOk result (λ c. (out-Command c).has_globals ≡ false) }
+    ensures { IfOk result (IsCommand new_site_app) }
 {
     Command::new(alloc, "new")
         .about("Prints the document of a new site, which is empty")
@@ -28,7 +24,7 @@ pub(crate) fn command<'a>(alloc: Global) -> Result<Command<'a>, AllocError>
 }
 
 /// The document of the empty site of this name.
-pub(crate) fn answer_of(alloc: Global, name: &str) -> Result<Answer, Refusal>
+pub(crate) fn answer_of(alloc: Global, name: &str) -> Answered
     ensures { MatchResult result (λ answer. IsNew name.now answer.text answer.status) (BarsNew name.now) }
 {
     let name = SiteName::new(name)?;

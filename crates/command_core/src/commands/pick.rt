@@ -1,8 +1,7 @@
 //! The command `pick`.
 ghost use Rattle.std.specs.Prelude.{◌≡◌, false, option_map, IfOk, MatchResult};
-ghost use Rattle.clap.specs.Words.{app_of, found_of, rows_of};
-ghost use Rattle.clap.specs.declared.builder.command.Command.TheViews.{out-Command};
-ghost use Rattle.command_core.specs.Words.{pick_app};
+ghost use Rattle.clap.specs.Words.{found_of, rows_of};
+ghost use Rattle.command_core.specs.Words.{IsCommand, pick_app};
 ghost use Rattle.command_core.specs.PickWords.{pick_words};
 ghost use Rattle.command_core.specs.Asked.{pick_asked};
 ghost use Rattle.command_core.specs.Picks.{FailsPick, IsPick};
@@ -17,8 +16,7 @@ use std::alloc::{AllocError, Global};
 
 /// `pick [--scheme SCHEME] [--lenient] [--default LANG] RANGES TAG..`
 pub(crate) fn command<'a>(alloc: Global, schemes: &'a [&'a str]) -> Result<Command<'a>, AllocError>
-    ensures app { IfOk result (λ c. app_of c ≡ pick_app schemes.entry) }
-    ensures local { IfOk result (λ c. (out-Command c).has_globals ≡ false) }
+    ensures { IfOk result (IsCommand (pick_app schemes.entry)) }
 {
     Command::new(alloc, "pick")
         .about("Prints the first language that fits the ranges, or the default, or nothing")
@@ -26,8 +24,8 @@ pub(crate) fn command<'a>(alloc: Global, schemes: &'a [&'a str]) -> Result<Comma
         .arg(arguments::scheme(alloc, schemes))?
         .arg(arguments::lenient(alloc))?
         .arg(arguments::default(alloc))?
-        .arg(arguments::ranges(alloc))?
-        .arg(arguments::tags(alloc))
+        .arg(arguments::field(alloc, "ranges", "RANGES"))?
+        .arg(arguments::words(alloc, "tags", "TAG", "The languages to pick from"))
 }
 
 /// What the words of a `pick` ask.

@@ -1,17 +1,15 @@
 //! The command `put`.
 ghost use Rattle.std.specs.Prelude.{◌≡◌, false, option_map, IfOk, MatchResult};
-ghost use Rattle.clap.specs.Words.{app_of, found_of, rows_of};
-ghost use Rattle.clap.specs.declared.builder.command.Command.TheViews.{out-Command};
+ghost use Rattle.clap.specs.Words.{found_of, rows_of};
 ghost use Rattle.command_core.specs.Asked.{put_asked};
 ghost use Rattle.command_core.specs.Acts.{FitsPut, BarsPut, IsPut, RefusesPut};
 ghost use Rattle.command_core.specs.EditWords.{put_words};
 ghost use Rattle.command_core.specs.Reading.{AnswersInput, RefusesInput};
-ghost use Rattle.command_core.specs.Words.{put_app};
+ghost use Rattle.command_core.specs.Words.{IsCommand, put_app};
 
-use crate::answer::Answer;
+use crate::answer::{Answer, Answered};
 use crate::arguments;
 use crate::given::{text_of, texts_of};
-use crate::refusal::Refusal;
 use crate::wording::{read_key, read_label};
 use clap::{ArgMatches, Command};
 use docs_core::{Source, edit_document, read_all};
@@ -19,8 +17,7 @@ use std::alloc::{AllocError, Global};
 
 /// `put --now N --id ID --lang LANG TEXT..`
 pub(crate) fn command<'a>(alloc: Global) -> Result<Command<'a>, AllocError>
-    ensures app { IfOk result (λ c. app_of c ≡ put_app) }
-    ensures local { IfOk result (λ c. (out-Command c).has_globals ≡ false) }
+    ensures { IfOk result (IsCommand put_app) }
 {
     Command::new(alloc, "put")
         .about("Puts a label into a site, with a new stamp")
@@ -30,7 +27,7 @@ pub(crate) fn command<'a>(alloc: Global) -> Result<Command<'a>, AllocError>
         .arg(arguments::now(alloc))?
         .arg(arguments::id(alloc))?
         .arg(arguments::lang(alloc))?
-        .arg(arguments::texts(alloc))
+        .arg(arguments::words(alloc, "texts", "TEXT", "The texts of the label, 1 to 64"))
 }
 
 /// What the words of `put` ask.
@@ -60,11 +57,7 @@ pub(crate) fn asked_of<'m, 'a>(now: Option<u64>, given: &'m ArgMatches<'a>) -> O
 }
 
 /// The site of the input with the label put in.
-pub(crate) fn answer_of<R: Source>(
-    alloc: Global,
-    asked: Asked<'_, '_>,
-    reader: &mut R,
-) -> Result<Answer, Refusal>
+pub(crate) fn answer_of<R: Source>(alloc: Global, asked: Asked<'_, '_>, reader: &mut R) -> Answered
     requires { R.failed reader.old ≡ false }
     ensures { let words = put_asked asked.entry in MatchResult result
         (λ answer. AnswersInput R.remaining R.failed (IsPut words) reader.old reader.new answer.text answer.status)

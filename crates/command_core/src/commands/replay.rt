@@ -1,10 +1,8 @@
 //! The command `replay`.
-ghost use Rattle.std.specs.Prelude.{◌≡◌, ◌≤◌, false};
-ghost use Rattle.clap.specs.Words.{app_of};
-ghost use Rattle.clap.specs.declared.builder.command.Command.TheViews.{out-Command};
+ghost use Rattle.std.specs.Prelude.{◌≡◌, false};
 ghost use Rattle.command_core.specs.Acts.{Treats};
 ghost use Rattle.command_core.specs.TaskWords.{Replay};
-ghost use Rattle.command_core.specs.Words.{replay_app};
+ghost use Rattle.command_core.specs.Words.{IsCommand, replay_app};
 
 use crate::fault_line::refuse_document;
 use crate::status;
@@ -14,8 +12,7 @@ use std::alloc::Global;
 
 /// `replay`
 pub(crate) fn command<'a>(alloc: Global) -> Command<'a>
-    ensures app { app_of result ≡ replay_app }
-    ensures local { (out-Command result).has_globals ≡ false }
+    ensures { IsCommand replay_app result }
 {
     Command::new(alloc, "replay")
         .about("Runs a script of sites from their beginning, and prints the answers")
@@ -33,8 +30,7 @@ pub(crate) fn act<R: Source, W: Sink, F: Sink>(
 ) -> u8
     requires reads { R.failed reader.old ≡ false }
     requires writes { W.failed writer.old ≡ false }
-    ensures acts { Treats R.remaining R.failed W.contents W.failed Replay reader.old reader.new writer.old writer.new result }
-    ensures quiet { result ≤ 1 → faults.new ≡ faults.old }
+    ensures acts { Treats R.remaining R.failed W.contents W.failed F.contents F.failed Replay reader.old reader.new writer.old writer.new faults.old faults.new result }
 {
     match replay(alloc, reader, writer) {
         Ok(()) => status::ANSWERED,

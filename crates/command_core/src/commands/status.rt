@@ -1,22 +1,18 @@
 //! The command `status`.
 ghost use Rattle.std.specs.Prelude.{◌≡◌, false, IfOk, MatchResult};
-ghost use Rattle.clap.specs.Words.{app_of};
-ghost use Rattle.clap.specs.declared.builder.command.Command.TheViews.{out-Command};
 ghost use Rattle.command_core.specs.Acts.{IsStatus, RefusesOnly};
 ghost use Rattle.command_core.specs.Reading.{AnswersInput, RefusesInput};
-ghost use Rattle.command_core.specs.Words.{status_app};
+ghost use Rattle.command_core.specs.Words.{IsCommand, status_app};
 ghost use Rattle.command_core.specs.Wording.{NoWords, BarsNone};
 
-use crate::answer::Answer;
-use crate::refusal::Refusal;
+use crate::answer::{Answer, Answered};
 use clap::Command;
 use docs_core::{Source, read_all, status_document};
 use std::alloc::Global;
 
 /// `status`
 pub(crate) fn command<'a>(alloc: Global) -> Command<'a>
-    ensures app { app_of result ≡ status_app }
-    ensures local { (out-Command result).has_globals ≡ false }
+    ensures { IsCommand status_app result }
 {
     Command::new(alloc, "status")
         .about("Prints how many cells and labels a site has, and its last stamp")
@@ -24,7 +20,7 @@ pub(crate) fn command<'a>(alloc: Global) -> Command<'a>
 }
 
 /// The status line of the site of the input.
-pub(crate) fn answer_of<R: Source>(alloc: Global, reader: &mut R) -> Result<Answer, Refusal>
+pub(crate) fn answer_of<R: Source>(alloc: Global, reader: &mut R) -> Answered
     requires { R.failed reader.old ≡ false }
     ensures { MatchResult result
         (λ answer. AnswersInput R.remaining R.failed IsStatus reader.old reader.new answer.text answer.status)

@@ -1,22 +1,18 @@
 //! The command `summary`.
 ghost use Rattle.std.specs.Prelude.{◌≡◌, false, IfOk, MatchResult};
-ghost use Rattle.clap.specs.Words.{app_of};
-ghost use Rattle.clap.specs.declared.builder.command.Command.TheViews.{out-Command};
 ghost use Rattle.command_core.specs.Acts.{IsSummary, RefusesOnly};
 ghost use Rattle.command_core.specs.Reading.{AnswersInput, RefusesInput};
-ghost use Rattle.command_core.specs.Words.{summary_app};
+ghost use Rattle.command_core.specs.Words.{IsCommand, summary_app};
 ghost use Rattle.command_core.specs.Wording.{NoWords, BarsNone};
 
-use crate::answer::Answer;
-use crate::refusal::Refusal;
+use crate::answer::{Answer, Answered};
 use clap::Command;
 use docs_core::{Source, read_all, summary_document};
 use std::alloc::Global;
 
 /// `summary`
 pub(crate) fn command<'a>(alloc: Global) -> Command<'a>
-    ensures app { app_of result ≡ summary_app }
-    ensures local { (out-Command result).has_globals ≡ false }
+    ensures { IsCommand summary_app result }
 {
     Command::new(alloc, "summary")
         .about("Prints what a site tells of its cells, to ask others for what it lacks")
@@ -26,7 +22,7 @@ pub(crate) fn command<'a>(alloc: Global) -> Command<'a>
 }
 
 /// The summary of the site of the input.
-pub(crate) fn answer_of<R: Source>(alloc: Global, reader: &mut R) -> Result<Answer, Refusal>
+pub(crate) fn answer_of<R: Source>(alloc: Global, reader: &mut R) -> Answered
     requires { R.failed reader.old ≡ false }
     ensures { MatchResult result
         (λ answer. AnswersInput R.remaining R.failed IsSummary reader.old reader.new answer.text answer.status)

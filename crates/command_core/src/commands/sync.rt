@@ -1,11 +1,9 @@
 //! The command `sync`.
-ghost use Rattle.std.specs.Prelude.{◌≡◌, ◌≤◌, ◌++◌, false, IfOk, MatchResult};
-ghost use Rattle.clap.specs.Words.{app_of};
-ghost use Rattle.clap.specs.declared.builder.command.Command.TheViews.{out-Command};
+ghost use Rattle.std.specs.Prelude.{◌≡◌, ◌++◌, false, IfOk, MatchResult};
 ghost use Rattle.command_core.specs.Acts.{IsSync, RefusesSync, Treats};
 ghost use Rattle.command_core.specs.Reading.{AnswersInput, RefusesInput};
 ghost use Rattle.command_core.specs.TaskWords.{Sync};
-ghost use Rattle.command_core.specs.Words.{sync_app};
+ghost use Rattle.command_core.specs.Words.{IsCommand, sync_app};
 ghost use Rattle.command_core.specs.Wording.{NoWords, BarsNone};
 
 use crate::fault_line::refuse;
@@ -18,8 +16,7 @@ use std::alloc::Global;
 
 /// `sync`
 pub(crate) fn command<'a>(alloc: Global) -> Command<'a>
-    ensures app { app_of result ≡ sync_app }
-    ensures local { (out-Command result).has_globals ≡ false }
+    ensures { IsCommand sync_app result }
 {
     Command::new(alloc, "sync")
         .about("Merges two sites with one another, so that both hold the same cells")
@@ -37,8 +34,7 @@ pub(crate) fn act<R: Source, W: Sink, F: Sink>(
 ) -> u8
     requires reads { R.failed reader.old ≡ false }
     requires writes { W.failed writer.old ≡ false }
-    ensures acts { Treats R.remaining R.failed W.contents W.failed Sync reader.old reader.new writer.old writer.new result }
-    ensures quiet { result ≤ 1 → faults.new ≡ faults.old }
+    ensures acts { Treats R.remaining R.failed W.contents W.failed F.contents F.failed Sync reader.old reader.new writer.old writer.new faults.old faults.new result }
 {
     match answer_of(alloc, reader) {
         Ok((first, second)) => print_both(&first, &second, writer, faults),

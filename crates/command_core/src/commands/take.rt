@@ -1,23 +1,19 @@
 //! The command `take`.
 ghost use Rattle.std.specs.Prelude.{◌≡◌, false, IfOk, MatchResult};
-ghost use Rattle.clap.specs.Words.{app_of};
-ghost use Rattle.clap.specs.declared.builder.command.Command.TheViews.{out-Command};
 ghost use Rattle.command_core.specs.Acts.{IsTake, RefusesTake};
 ghost use Rattle.command_core.specs.Reading.{AnswersInput, RefusesInput};
-ghost use Rattle.command_core.specs.Words.{take_app};
+ghost use Rattle.command_core.specs.Words.{IsCommand, take_app};
 ghost use Rattle.command_core.specs.Wording.{NoWords, BarsNone};
 
-use crate::answer::Answer;
+use crate::answer::{Answer, Answered};
 use crate::input::two_documents;
-use crate::refusal::Refusal;
 use clap::Command;
 use docs_core::{Source, read_all, take_document};
 use std::alloc::Global;
 
 /// `take`
 pub(crate) fn command<'a>(alloc: Global) -> Command<'a>
-    ensures app { app_of result ≡ take_app }
-    ensures local { (out-Command result).has_globals ≡ false }
+    ensures { IsCommand take_app result }
 {
     Command::new(alloc, "take")
         .about("Joins a delta into the site that it is for")
@@ -27,7 +23,7 @@ pub(crate) fn command<'a>(alloc: Global) -> Command<'a>
 }
 
 /// The site of the first document with the delta of the second taken in.
-pub(crate) fn answer_of<R: Source>(alloc: Global, reader: &mut R) -> Result<Answer, Refusal>
+pub(crate) fn answer_of<R: Source>(alloc: Global, reader: &mut R) -> Answered
     requires { R.failed reader.old ≡ false }
     ensures { MatchResult result
         (λ answer. AnswersInput R.remaining R.failed IsTake reader.old reader.new answer.text answer.status)

@@ -1,0 +1,32 @@
+-- The line that tells a refusal, and what a sink takes of it (own rule).
+use Rattle.std.specs.Prelude.{◌≡◌, ◌==◌, ◌≤◌, ℕ, Bool, false, List, ◌++◌, length, Option, None, Some, [], codes, decimal, if◌then◌else◌, IfSome, MatchBool}
+use Rattle.std.specs.Fmt.Cut.{IsTextOrCut}
+use Rattle.std.specs.Io.KnownBytes.{Appends}
+use Rattle.docs_core.specs.Sinks.{AppendsFront}
+
+-- a word and a number behind it, where there is one
+abbrev pub counted : List ℕ → Option ℕ → List ℕ
+counted word None = []
+counted word (Some number) = word ++ decimal number
+
+-- the document that is meant, counted from 1; 0 means none
+abbrev pub document_meant : ℕ → Option ℕ
+document_meant document = if document == 0 then None else Some document
+
+-- `refused N: TEXT`, ` in row R`, ` of document D`, LF
+abbrev pub fault_line : ℕ → List ℕ → Option ℕ → ℕ → List ℕ
+fault_line number text row document = codes "refused " ++ decimal number ++ codes ": " ++ text ++ counted (codes " in row ") row ++ counted (codes " of document ") (document_meant document) ++ codes "\n"
+
+-- what a line shows of a value, in at most 160 bytes: its text, or something that ends in dots where it is longer; anything, where the value's type does not say its text
+abbrev pub Shows : Option (List ℕ) → List ℕ → Type 0
+Shows output text = (length text ≤ 160) × IfSome output (λ bytes. IsTextOrCut 160 bytes text)
+
+module _ {S : Type 0} (contents : S → Option (List ℕ)) (failed : S → Bool) where
+  -- the sink took the whole line, or where it failed a front of it
+  abbrev pub PrintsLine : List ℕ → S → S → Type 0
+  PrintsLine line old new = AppendsFront (contents old) (contents new) line × (failed new ≡ false → Appends (contents old) (contents new) line)
+
+  -- it took the line of a fault; nothing, where it had failed before
+  abbrev pub PrintsFault : ℕ → Option (List ℕ) → Option ℕ → ℕ → S → S → Type 0
+  PrintsFault number output row document old new = MatchBool (failed old) (new ≡ old)
+      ((text : List ℕ) × Shows output text × PrintsLine (fault_line number text row document) old new)
