@@ -3,4 +3,4 @@ use Rattle.command_core.proofs.commands.sync.act.Goals as goal
 
 pub returns-in-Ok : goal.returns-in-Ok
 returns-in-Ok g c =
-    record { acts = inl (c.in-Ok.first ++ c.in-Ok.second, 0, c.in-Ok.ensures, c.print_both.ensures.written); }
+    record { acts = inl (c.in-Ok.first ++ c.in-Ok.second, 0, c.in-Ok.ensures, c.print_both.ensures.written) }
