@@ -5,10 +5,10 @@ use Rattle.std.proofs.lemmas.List.Quantifiers.{position-Some}
 use Rattle.std.specs.Prelude.{◌⊎◌, Option, Some, unwrap_or}
 use Rattle.std.specs.List.{position}
 use Rattle.std.specs.Str.{str_to_ascii_lowercase}
-use Rattle.lang_core.specs.Fault.{HasSubtags, IsSized, IsTag, RefusesTag}
+use Rattle.lang_core.specs.Text.{IsSized, pieces}
+use Rattle.lang_core.specs.Tag.{HasSubtags, IsTag, RefusesTag}
 use Rattle.lang_core.specs.Grammar.{IsFirstRefused, WellFormed, are_allowed, tag_piece}
 use Rattle.lang_core.specs.Lang.{RefusesLang, SpellsLang}
-use Rattle.lang_core.specs.Text.{pieces}
 use Rattle.lang_core.specs.declared.fault.LangFault.{LangFault}
 use Rattle.lang_core.specs.declared.fault.LangFault.TheVariants as lang
 use Rattle.lang_core.proofs.Basics.{each_true}

@@ -32,7 +32,7 @@ use Rattle.json.proofs.Printed.Trees.{ArePrintable-json_tokens, value-json_token
 use Rattle.lang_core.proofs.Basics.{each_true}
 use Rattle.lang_core.proofs.CaseLaws.{lowered}
 use Rattle.lang_core.proofs.PiecesLaws.{joined-pieces, pieces-lower}
-use Rattle.lang_core.specs.Fault.{IsTag}
+use Rattle.lang_core.specs.Tag.{IsTag}
 use Rattle.lang_core.specs.Grammar.{are_allowed, is_alphanum, is_private_piece, is_run, tag_piece}
 use Rattle.lang_core.specs.Text.{joined, pieces}
 use Rattle.std.specs.Char.{to_ascii_lowercase}

@@ -4,7 +4,7 @@ use Rattle.std.proofs.lemmas.Bool.Decides.{nat_tests}
 use Rattle.std.specs.Char.{to_ascii_lowercase}
 use Rattle.std.specs.List.{list_all}
 use Rattle.std.specs.Str.{str_to_ascii_lowercase}
-use Rattle.lang_core.specs.Fault.{IsTag}
+use Rattle.lang_core.specs.Tag.{IsTag}
 use Rattle.lang_core.specs.Grammar.{are_allowed, is_alphanum, is_private_piece, is_run, tag_piece}
 use Rattle.lang_core.specs.Lang.{IsLang, SpellsLang}
 use Rattle.lang_core.specs.Text.{joined, pieces}

@@ -4,9 +4,9 @@ use Rattle.std.specs.Prelude.{◌↔◌, ◌||◌, IsTrue}
 use Rattle.std.specs.Char.{to_ascii_lowercase}
 use Rattle.std.specs.Str.{str_to_ascii_lowercase}
 use Rattle.std.proofs.lemmas.List.{length-map}
-use Rattle.lang_core.specs.Text.{pieces, subtags}
+use Rattle.lang_core.specs.Text.{pieces, subtags, IsSized}
 use Rattle.lang_core.specs.Grammar.{WellFormed, is_irregular, are_allowed, tag_piece}
-use Rattle.lang_core.specs.Fault.{IsSized, IsTag, RefusesTagFirst}
+use Rattle.lang_core.specs.Tag.{IsTag, RefusesTagFirst}
 use Rattle.lang_core.specs.declared.fault.LangFault.TheVariants.{TagNotWellFormed}
 use Rattle.lang_core.specs.Stage.{accepts, stage_after}
 use Rattle.lang_core.specs.declared.stage.Stage.{Stage}

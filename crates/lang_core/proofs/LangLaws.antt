@@ -4,7 +4,7 @@ use Rattle.std.specs.Str.{bytes_eq}
 use Rattle.std.proofs.lemmas.Slice.Eq.{bytes_eq-Decides}
 use Rattle.lang_core.specs.Text.{pieces_by}
 use Rattle.lang_core.specs.Grammar.{is_private_piece, is_run}
-use Rattle.lang_core.specs.Fault.{IsTag, HasSubtags}
+use Rattle.lang_core.specs.Tag.{IsTag, HasSubtags}
 use Rattle.lang_core.specs.Lang.{none_text, tag_of}
 use Rattle.lang_core.proofs.Basics.{is_false}
 

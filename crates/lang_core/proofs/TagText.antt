@@ -5,9 +5,9 @@ use Rattle.std.specs.Str.{IsAscii}
 use Rattle.std.proofs.lemmas.Bool.Decides.{nat_tests}
 use Rattle.std.proofs.lemmas.List.Splits.{slice_split-cons_yes, slice_split-cons_no}
 use Rattle.std.proofs.lemmas.Str.Ascii.{IsAscii-nil, IsAscii-cons}
-use Rattle.lang_core.specs.Text.{pieces_by, pieces}
+use Rattle.lang_core.specs.Text.{pieces_by, pieces, IsSized}
 use Rattle.lang_core.specs.Grammar.{are_allowed, tag_piece, is_alphanum, is_private_piece}
-use Rattle.lang_core.specs.Fault.{IsSized, RefusesTag, RefusesTagFirst, HasSubtags}
+use Rattle.lang_core.specs.Tag.{RefusesTag, RefusesTagFirst, HasSubtags}
 use Rattle.lang_core.specs.declared.fault.LangFault.{LangFault}
 use Rattle.lang_core.specs.declared.fault.LangFault.TheVariants.{TagEmpty, TagTooLong, TagSubtag, TagNotWellFormed, RangeEmpty, RangeTooLong, RangeSubtag, NoMemory}
 use Rattle.lang_core.proofs.Basics.{cases_bool, each_true, both}

@@ -1,5 +1,5 @@
 use Rattle.std.specs.Prelude.{ℕ, List}
-use Rattle.lang_core.specs.Fault.{IsTag}
+use Rattle.lang_core.specs.Tag.{IsTag}
 use Rattle.lang_core.specs.Lang.{none_text}
 use Rattle.lang_core.specs.declared.lang.Choice.{Choice}
 use Rattle.lang_core.specs.declared.lang.Choice.TheVariants.{Tagged, NoLanguage}

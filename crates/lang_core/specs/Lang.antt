@@ -1,6 +1,6 @@
 use Rattle.std.specs.Prelude.{ℕ, ◌≡◌, ◌≢◌, ◌⊎◌, codes, List, Option, Some, None, if◌then◌else◌}
 use Rattle.std.specs.Str.{bytes_eq, str_to_ascii_lowercase}
-use Rattle.lang_core.specs.Fault.{IsTag, RefusesTag}
+use Rattle.lang_core.specs.Tag.{IsTag, RefusesTag}
 use Rattle.lang_core.specs.declared.fault.LangFault.{LangFault}
 
 -- JSON-LD 1.1, section 9.8: the key "@none" stands for a text without a language

@@ -4,6 +4,8 @@ pub mod Subtag
 pub mod Pieces
 pub mod Stage
 pub mod Fault
+pub mod Tag
+pub mod Range
 pub mod RangeSyntax
 pub mod Matching
 pub mod Candidates

@@ -1,7 +1,7 @@
 //! The grammar of tags (RFC 5646 section 2.1).
 ghost use Rattle.std.specs.Prelude.{◌≡◌, ◌<◌, ◌≤◌, [], ◌||◌, length, MatchOption};
 ghost use Rattle.std.specs.Str.{str_to_ascii_lowercase};
-ghost use Rattle.lang_core.specs.Fault.{IsTag, RefusesTagFirst};
+ghost use Rattle.lang_core.specs.Tag.{IsTag, RefusesTagFirst};
 ghost use Rattle.lang_core.specs.Grammar.{is_irregular};
 ghost use Rattle.lang_core.specs.Stage.{accepts, stage_after};
 

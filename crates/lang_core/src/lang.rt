@@ -7,7 +7,7 @@ ghost use Rattle.std.specs.Cmp.Lexicographic.{slice_cmp};
 ghost use Rattle.std.specs.Cmp.Rules.{comparing, hashing};
 ghost use Rattle.std.specs.Fmt.{padded};
 ghost use Rattle.std.specs.Hash as fed;
-ghost use Rattle.lang_core.specs.Fault.{IsTag};
+ghost use Rattle.lang_core.specs.Tag.{IsTag};
 ghost use Rattle.lang_core.specs.Lang.{IsLang, none_text, tag_of, SpellsLang, RefusesLang};
 ghost use borrow.Author.Rules.{rules};
 

@@ -1,7 +1,7 @@
 //! Laws about the definitions alone: each function's contract is the law.
 ghost use Rattle.std.specs.Prelude.{ℕ, ◌≡◌, ◌⊎◌, List, [], ◌∷◌, Bool, IsTrue, ◌↔◌};
 ghost use Rattle.lang_core.specs.Text.{pieces};
-ghost use Rattle.lang_core.specs.Fault.{IsTag};
+ghost use Rattle.lang_core.specs.Tag.{IsTag};
 ghost use Rattle.lang_core.specs.Grammar.{BasicRange, ExtendedRange, IsFirstRefused};
 ghost use Rattle.lang_core.specs.Lang.{none_text};
 ghost use Rattle.lang_core.specs.Matching.{Basic, BasicInBytes, Embeds, greedy, is_basic_match, without_stars, as_basic};

@@ -5,7 +5,7 @@ ghost use Rattle.std.specs.Cmp.Rules.{comparing};
 ghost use Rattle.std.specs.Fmt.{padded};
 ghost use Rattle.lang_core.specs.Text.{pieces, subtags};
 ghost use Rattle.lang_core.specs.Grammar.{BasicRange, ExtendedRange, basic_piece, extended_piece};
-ghost use Rattle.lang_core.specs.Fault.{IsRange, RefusesRange};
+ghost use Rattle.lang_core.specs.Range.{IsRange, RefusesRange};
 ghost use Rattle.lang_core.specs.Matching.{Basic, Extended, as_basic, is_basic_match, specificity};
 ghost use Rattle.lang_core.specs.Candidates.{candidates};
 ghost use Rattle.lang_core.specs.LookupText.{lookup_text};
@@ -37,7 +37,7 @@ pub struct Range {
 
 impl Model for Range {
     ghost use Rattle.std.specs.Prelude.{List, ℕ, ◌≡◌};
-    ghost use Rattle.lang_core.specs.Fault.{IsRange};
+    ghost use Rattle.lang_core.specs.Range.{IsRange};
     ghost use Rattle.lang_core.specs.Grammar.{ExtendedRange};
     ghost use Rattle.lang_core.specs.LookupText.{lookup_text, kept_text};
     ghost use Rattle.lang_core.specs.LowerText.{lower_bytes};

@@ -6,7 +6,7 @@ ghost use Rattle.std.specs.Cmp.Lexicographic.{slice_cmp};
 ghost use Rattle.std.specs.Cmp.Rules.{comparing, hashing};
 ghost use Rattle.std.specs.Fmt.{padded};
 ghost use Rattle.std.specs.Hash as fed;
-ghost use Rattle.lang_core.specs.Fault.{IsTag, RefusesTag};
+ghost use Rattle.lang_core.specs.Tag.{IsTag, RefusesTag};
 ghost use Rattle.lang_core.specs.Subtags.{subtags_left};
 ghost use Rattle.lang_core.specs.Text.{pieces};
 ghost use borrow.Author.Rules.{rules};
@@ -32,7 +32,7 @@ pub struct Tag {
 
 impl Model for Tag {
     ghost use Rattle.std.specs.Prelude.{List, ℕ};
-    ghost use Rattle.lang_core.specs.Fault.{IsTag};
+    ghost use Rattle.lang_core.specs.Tag.{IsTag};
     ghost use Rattle.lang_core.specs.LowerText.{lower_bytes};
 
     ghost Value = { List ℕ };

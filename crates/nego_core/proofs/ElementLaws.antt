@@ -6,9 +6,9 @@ use Rattle.std.specs.Char.{to_ascii_lowercase}
 use Rattle.std.proofs.lemmas.Bool.{and_from, and_parts, cases_Bool}
 use Rattle.std.proofs.lemmas.Bool.Decides.{nat_tests}
 use Rattle.std.proofs.lemmas.List.{length-map}
-use Rattle.lang_core.specs.Text.{pieces}
+use Rattle.lang_core.specs.Text.{pieces, IsSized}
 use Rattle.lang_core.specs.Grammar.{ExtendedRange}
-use Rattle.lang_core.specs.Fault.{IsRange, IsSized}
+use Rattle.lang_core.specs.Range.{IsRange}
 use Rattle.lang_core.proofs.RangeText.{is_range_byte, range_bytes, basic_extended}
 use Rattle.nego_core.proofs.BlanksLaws.{cut_only, blanks_end, blank_stops}
 use Rattle.nego_core.proofs.WeightLaws.{IsTrimmed, trimmed, skip_all, skip_none}

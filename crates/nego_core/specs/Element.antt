@@ -2,7 +2,7 @@ use Rattle.std.specs.Prelude.{ℕ, ◌≡◌, ◌<◌, ◌==◌, ◌&&◌, not, 
 use Rattle.std.specs.Str.{str_to_ascii_lowercase}
 use Rattle.std.specs.List.{list_all}
 use Rattle.lang_core.specs.Grammar.{BasicRange, ExtendedRange}
-use Rattle.lang_core.specs.Fault.{IsRange}
+use Rattle.lang_core.specs.Range.{IsRange}
 use Rattle.lang_core.specs.declared.fault.LangFault.{LangFault}
 use Rattle.lang_core.specs.declared.fault.LangFault.TheVariants as lang
 use Rattle.nego_core.specs.Blanks.{AreBlanks, is_plain}

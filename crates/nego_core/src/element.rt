@@ -2,7 +2,7 @@
 ghost use Rattle.std.specs.Prelude.{◌≡◌, ◌≤◌, ◌↔◌, IsTrue, MatchOption, MatchResult, IfSome, Some};
 ghost use Rattle.std.specs.List.{list_all};
 ghost use Rattle.std.specs.Str.{str_to_ascii_lowercase};
-ghost use Rattle.lang_core.specs.Fault.{IsRange};
+ghost use Rattle.lang_core.specs.Range.{IsRange};
 ghost use Rattle.nego_core.specs.Basics.{IsTheOne};
 ghost use Rattle.nego_core.specs.Weight.{IsTail};
 ghost use Rattle.nego_core.specs.Element.{RangeGrammar, WeightGrammar, IsStart, HasStart, fitting_range, is_inner, BeginsOverlong};

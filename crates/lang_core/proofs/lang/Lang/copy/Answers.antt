@@ -1,5 +1,5 @@
 use Rattle.std.proofs.Common.{rules, ◌≡◌, ◌∙◌}
-use Rattle.lang_core.specs.Fault.{IsTag}
+use Rattle.lang_core.specs.Tag.{IsTag}
 use Rattle.lang_core.proofs.LangLaws.{tag_not_none}
 use Rattle.lang_core.proofs.lang.Lang.copy.Goals as goal
 

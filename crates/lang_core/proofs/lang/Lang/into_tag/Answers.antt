@@ -1,5 +1,5 @@
 use Rattle.std.proofs.Common.{rules, ◌≡◌, sym}
-use Rattle.lang_core.specs.Fault.{IsTag}
+use Rattle.lang_core.specs.Tag.{IsTag}
 use Rattle.lang_core.proofs.LangLaws.{tag_of_tag}
 use Rattle.lang_core.proofs.lang.Lang.into_tag.Goals as goal
 

@@ -2,9 +2,8 @@ use Rattle.std.proofs.Common.{◌≡◌, length, arith}
 use Rattle.std.proofs.lemmas.List.{length-map}
 use Rattle.std.specs.Char.{to_ascii_lowercase}
 use Rattle.std.specs.Str.{str_to_ascii_lowercase}
-use Rattle.lang_core.specs.Text.{subtags}
+use Rattle.lang_core.specs.Text.{subtags, IsSized}
 use Rattle.lang_core.specs.Grammar.{BasicRange}
-use Rattle.lang_core.specs.Fault.{IsSized}
 use Rattle.lang_core.proofs.RangeText.{basic_ascii, basic_extended}
 use Rattle.lang_core.proofs.LookupLaws.{lookup_text-basic}
 use Rattle.lang_core.proofs.range.Range.parse_basic.Goals as goal
