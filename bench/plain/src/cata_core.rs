@@ -264,7 +264,7 @@ impl Catalogue {
     }
 
     /// The cells whose key a summary lacks or has with a lesser stamp; both are settled.
-    fn news(&self, told: &Catalogue) -> Catalogue {
+    fn missing_cells(&self, told: &Catalogue) -> Catalogue {
         assert!(self.settled && told.settled);
         let messages = told.messages.numbers_in(&self.messages);
         let langs = told.langs.numbers_in(&self.langs);
@@ -274,11 +274,11 @@ impl Catalogue {
         };
         let mut told_rows = told.rows.iter().filter_map(numbered);
         let mut next = told_rows.next();
-        let mut news = Catalogue {
+        let mut missing = Catalogue {
             langs: self.langs.clone(),
             ..Catalogue::default()
         };
-        let sites = news.heap.site_numbers(&self.heap);
+        let sites = missing.heap.site_numbers(&self.heap);
         let mut taken = self.heap.taken();
         let mut message = None;
         for row in &self.rows {
@@ -293,17 +293,17 @@ impl Catalogue {
             }
             if message != Some(row.message) {
                 message = Some(row.message);
-                news.messages.push(self.messages.get(row.message as usize));
+                missing.messages.push(self.messages.get(row.message as usize));
             }
-            let cell = news.heap.take(&mut taken, &sites, &row.cell);
-            news.rows.push(Row {
-                message: news.messages.len() as u32 - 1,
+            let cell = missing.heap.take(&mut taken, &sites, &row.cell);
+            missing.rows.push(Row {
+                message: missing.messages.len() as u32 - 1,
                 lang: row.lang,
                 cell,
             });
         }
-        news.heap.finish(taken);
-        news
+        missing.heap.finish(taken);
+        missing
     }
 }
 
@@ -424,7 +424,7 @@ impl Site {
     pub fn delta_for(&self, summary: &Summary) -> Delta {
         Delta {
             addressee: summary.owner,
-            cells: self.catalogue.news(&summary.told),
+            cells: self.catalogue.missing_cells(&summary.told),
         }
     }
 }
@@ -520,7 +520,7 @@ impl World {
                     .get(*told)
                     .ok_or(PlayFault::NoSuchPost { step: n })?;
                 self.posts
-                    .push((*teller, self.sites[*site].news(&summary.told)));
+                    .push((*teller, self.sites[*site].missing_cells(&summary.told)));
             }
             Step::Deliver { post } => {
                 let addressee = self

@@ -14,7 +14,7 @@ use Rattle.cata_core.specs.Entries.{key_cmp, key_cmp_total, key_cmp_exact, Entry
 use Rattle.cata_core.specs.Clashes.{IsFirstClash}
 use Rattle.cata_core.proofs.Basics.{tied}
 use Rattle.cata_core.proofs.NestedCatalogues.{put_same}
-use Rattle.cata_core.proofs.Places.{stands_at_place, before_place}
+use Rattle.cata_core.proofs.KeyPlaces.{stands_at_place, before_place}
 
 pub with_none : (o : Option Cell) → AgreeIfBoth AgreeCells o None
 with_none None = tt

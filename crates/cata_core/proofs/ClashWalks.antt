@@ -21,9 +21,9 @@ use Rattle.cata_core.specs.Clashes.{AgreesAt, IsFirstClash}
 use Rattle.cata_core.proofs.Basics.{some_same}
 use Rattle.cata_core.proofs.Flat.{find-flat}
 use Rattle.cata_core.proofs.NestedCatalogues.{IsMap-catalogue}
-use Rattle.cata_core.proofs.Places.{stands_at_place}
+use Rattle.cata_core.proofs.KeyPlaces.{stands_at_place}
 use Rattle.cata_core.proofs.Lengths.{length-under}
-use Rattle.cata_core.proofs.Walks.{with_outer}
+use Rattle.cata_core.proofs.NestedPlaces.{with_outer}
 
 -- ---- what stands behind a place
 

@@ -7,7 +7,7 @@ use Rattle.cata_core.specs.declared.step.Step.TheVariants.{Tell, Post, Deliver}
 use Rattle.cata_core.specs.Entries.{Entries, joined}
 use Rattle.cata_core.specs.Deltas.{summary_of, delta_of}
 use Rattle.cata_core.specs.Taken.{PostedEdits, Taken, taken_step, taken_after, nothing_taken, taken, edits_in, edits_delivered, tellers_by, post_to}
-use Rattle.cata_core.specs.Held.{Told, PostedCells, Held, held_step, held_after, nothing_held, held, cells_in, cells_delivered, joins, told_by, delta_to, cells_posted}
+use Rattle.cata_core.specs.Held.{ToldStamps, PostedCells, Held, held_step, held_after, nothing_held, held, cells_in, cells_delivered, joins, told_by, delta_to, cells_posted}
 use Rattle.cata_core.proofs.Deltas.{nothing_lost_of_maps}
 use Rattle.cata_core.proofs.Machine.{held_one_more}
 use Rattle.cata_core.proofs.Spreading.{after_append, get_kept, get_next, post_stays}
@@ -17,7 +17,7 @@ teller_stays : (w : Taken) (steps : List Step) (i : ℕ) (t : ℕ) → slice_get
 teller_stays w [] i t e = e
 teller_stays w (step ∷ steps) i t e = teller_stays (taken_step w step) steps i t (get_kept w.tellers (tellers_by step) i t e)
 
-summary_stays : (w : Held) (steps : List Step) (i : ℕ) (t : Told) → slice_get w.told i ≡ Some t → let v = held_after w steps in slice_get v.told i ≡ Some t
+summary_stays : (w : Held) (steps : List Step) (i : ℕ) (t : ToldStamps) → slice_get w.told i ≡ Some t → let v = held_after w steps in slice_get v.told i ≡ Some t
 summary_stays w [] i t e = e
 summary_stays w (step ∷ steps) i t e = summary_stays (held_step w step) steps i t (get_kept w.told (told_by w step) i t e)
 
@@ -30,7 +30,7 @@ pub delivered_delta : (a b c : List Step) (s t : ℕ) → let v = held_after not
 delivered_delta a b c s t =
     let v = held_after nothing_held a in
     let k = length v.told in
-    let told : Told = record { teller = t; stamps = summary_of (held a t) } in
+    let told : ToldStamps = record { teller = t; stamps = summary_of (held a t) } in
     let u = held_step v (Tell t) in
     let w = held_after u b in
     let same : held_after nothing_held (a ++ Tell t ∷ b) ≡ w = held_append nothing_held a (Tell t ∷ b) in

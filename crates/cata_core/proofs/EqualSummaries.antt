@@ -1,13 +1,13 @@
--- When what was told is equal.
+-- When the entries of summaries are equal.
 use Rattle.std.proofs.Common.{◌≡◌, ◌&&◌, List, [], ◌∷◌, refl, ap}
 use Rattle.std.specs.Ordering.{on}
 use Rattle.std.specs.Cmp.Lexicographic.{pointwise}
-use Rattle.cata_core.specs.declared.summary.Told.{Told}
-use Rattle.cata_core.specs.SummaryEq.{told_eq}
-use Rattle.cata_core.specs.Told.{entry_of, told_of}
+use Rattle.cata_core.specs.declared.summary.SummaryEntry.{SummaryEntry}
+use Rattle.cata_core.specs.SummaryEq.{summary_entry_eq}
+use Rattle.cata_core.specs.Summary.{entry_of, stamps_of}
 
-pub pointwise_told : (xs ys : List Told) → pointwise (on entry_of told_eq) xs ys ≡ pointwise told_eq (told_of xs) (told_of ys)
-pointwise_told [] [] = refl
-pointwise_told [] (y ∷ ys) = refl
-pointwise_told (x ∷ xs) [] = refl
-pointwise_told (x ∷ xs) (y ∷ ys) = ap (λ b. told_eq (entry_of x) (entry_of y) && b) (pointwise_told xs ys)
+pub pointwise_entries : (xs ys : List SummaryEntry) → pointwise (on entry_of summary_entry_eq) xs ys ≡ pointwise summary_entry_eq (stamps_of xs) (stamps_of ys)
+pointwise_entries [] [] = refl
+pointwise_entries [] (y ∷ ys) = refl
+pointwise_entries (x ∷ xs) [] = refl
+pointwise_entries (x ∷ xs) (y ∷ ys) = ap (λ b. summary_entry_eq (entry_of x) (entry_of y) && b) (pointwise_entries xs ys)

@@ -14,7 +14,7 @@ use Rattle.cata_core.specs.Entries.{pair_cmp}
 use Rattle.cata_core.specs.Flat.{under, flat, found_in, inner_of, IsInner, IsNested}
 use Rattle.cata_core.proofs.Basics.{first_part, second_part, both_parts, less_than, tied, apart_first, some_same}
 use Rattle.cata_core.proofs.Filtered.{find-below}
-use Rattle.cata_core.proofs.Places.{find-at}
+use Rattle.cata_core.proofs.KeyPlaces.{find-at}
 
 or_none : {X : Type 0} (o : Option X) → option_or o None ≡ o
 or_none None = refl

@@ -7,8 +7,8 @@ use Rattle.cell_core.specs.Maps.{IsMap, joined_maps-IsMap}
 use Rattle.cata_core.specs.declared.step.Step.{Step}
 use Rattle.cata_core.specs.declared.step.Step.TheVariants.{Edit, Merge, Post, Deliver}
 use Rattle.cata_core.specs.Entries.{key_cmp, key_cmp_total, Entry, Entries, joined}
-use Rattle.cata_core.specs.Deltas.{Stamps, is_news, summary_of, HasAll}
-use Rattle.cata_core.specs.Held.{Told, PostedCells, Held, cells_delivered, cells_in, joins, delta_to, cells_posted, held_step, nothing_held, held_after, held}
+use Rattle.cata_core.specs.Deltas.{Stamps, is_missing, summary_of, HasAll}
+use Rattle.cata_core.specs.Held.{ToldStamps, PostedCells, Held, cells_delivered, cells_in, joins, delta_to, cells_posted, held_step, nothing_held, held_after, held}
 use Rattle.cata_core.proofs.Members.{In, in_append_cases}
 use Rattle.cata_core.proofs.Filtered.{filter-IsMap}
 use Rattle.cata_core.proofs.Spreading.{get_in}
@@ -53,10 +53,10 @@ module _ (of : ℕ → Entries) (m : (s : ℕ) → IsMap key_cmp (of s)) where
     | false ↦ has
   ]
 
-delta_map : (cells : Entries) → IsMap key_cmp cells → (o : Option Told) (p : PostedCells) → In (delta_to cells o) p → IsMap key_cmp p.cells
+delta_map : (cells : Entries) → IsMap key_cmp cells → (o : Option ToldStamps) (p : PostedCells) → In (delta_to cells o) p → IsMap key_cmp p.cells
 delta_map cells m None p h = absurd h
 delta_map cells m (Some t) p h = elim h as (λ _. IsMap key_cmp p.cells) [
-  | inl e ↦ subst (λ (q : PostedCells). IsMap key_cmp q.cells) e (filter-IsMap key_cmp (λ (e : Entry). is_news (find key_cmp e.0 t.stamps) e.1.stamp) cells m)
+  | inl e ↦ subst (λ (q : PostedCells). IsMap key_cmp q.cells) e (filter-IsMap key_cmp (λ (e : Entry). is_missing (find key_cmp e.0 t.stamps) e.1.stamp) cells m)
   | inr gone ↦ absurd gone
 ]
 

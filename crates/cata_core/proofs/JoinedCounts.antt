@@ -10,7 +10,7 @@ use Rattle.cell_core.specs.Maps.{IsMap, joined_at, joined_entries, joined_entrie
 use Rattle.cata_core.specs.Counts.{count_absent}
 use Rattle.cata_core.specs.Entries.{key_cmp, key_cmp_total, Entry, Entries, joined}
 use Rattle.cata_core.proofs.Basics.{second_part}
-use Rattle.cata_core.proofs.JoinedLasts.{found_first}
+use Rattle.cata_core.proofs.JoinedLatest.{found_first}
 
 -- one cell more of the other
 pub absent_more : (own : Entries) (e : Entry) (es : Entries) → count_absent own (e ∷ es) ≡ cond (is_none (find key_cmp e.0 own)) (count_absent own es + 1) (count_absent own es)

@@ -14,7 +14,7 @@ use Rattle.cata_core.specs.Nested.{Nested, IsCatalogue}
 use Rattle.cata_core.proofs.Basics.{less_of}
 use Rattle.cata_core.proofs.Lengths.{length-flat-cons}
 use Rattle.cata_core.proofs.Search.{sorted_get}
-use Rattle.cata_core.proofs.Walks.{with_outer, place_within, place_behind}
+use Rattle.cata_core.proofs.NestedPlaces.{with_outer, place_within, place_behind}
 
 module _ {K L J : Type 0} where
   -- the last entry of the last inner map is the last of all

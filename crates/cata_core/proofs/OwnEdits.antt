@@ -9,15 +9,15 @@ use Rattle.cell_core.specs.Joins.{IsBelow}
 use Rattle.cell_core.specs.Maps.{IsMap}
 use Rattle.cata_core.specs.Entries.{EntryKey, key_cmp, Entry, Entries, Agree, joined, IsBelowCells, catalogue_laws}
 use Rattle.cata_core.specs.Edits.{catalogue_of, IsSettled}
-use Rattle.cata_core.specs.Last.{last_of}
+use Rattle.cata_core.specs.Latest.{latest_of}
 use Rattle.cata_core.proofs.Apply.{agree_some, agree_none, joined_new, joined_later}
 use Rattle.cata_core.proofs.Catalogues.{catalogue_of-IsMap}
 use Rattle.cata_core.proofs.CatalogueJoins.{joined_catalogue}
-use Rattle.cata_core.proofs.LastStamps.{held_less}
+use Rattle.cata_core.proofs.LatestStamps.{held_less}
 use Rattle.cata_core.proofs.Settling.{settled_if_agree, settled_one, catalogue_of-one}
 use Rattle.cata_core.proofs.StampOrder.{not_less_self}
 
-module _ (es : Entries) (key : EntryKey) (cell : Cell) (m : IsMap key_cmp es) (above : IsAbove (last_of es) cell.stamp) where
+module _ (es : Entries) (key : EntryKey) (cell : Cell) (m : IsMap key_cmp es) (above : IsAbove (latest_of es) cell.stamp) where
   pub own_agrees : Agree es ((key, cell) ∷ [])
   own_agrees = at (find key_cmp key es) refl
     where
@@ -37,7 +37,7 @@ module _ (es : Entries) (key : EntryKey) (cell : Cell) (m : IsMap key_cmp es) (a
   own_rises = subst (IsBelow Agree joined es) (sym own_joins) (catalogue_laws.above_first es ((key, cell) ∷ []) own_agrees)
 
 -- the catalogue of settled edits, edited, is that of one edit more
-pub own_taken : (edits : List Entry) (key : EntryKey) (cell : Cell) → IsSettled edits → IsAbove (last_of (catalogue_of edits)) cell.stamp
+pub own_taken : (edits : List Entry) (key : EntryKey) (cell : Cell) → IsSettled edits → IsAbove (latest_of (catalogue_of edits)) cell.stamp
     → IsSettled (edits ++ (key, cell) ∷ []) × (put key_cmp key cell (catalogue_of edits) ≡ catalogue_of (edits ++ (key, cell) ∷ []))
 own_taken edits key cell settled above =
     let e : Entry = (key, cell) in

@@ -10,7 +10,7 @@ use Rattle.cell_core.specs.Cells.{AgreeCells, joined_cells}
 use Rattle.cell_core.specs.Maps.{IsMap, AgreeIfBoth, joined_if_both, joined_maps-IsMap, find-joined_maps, same_maps}
 use Rattle.cata_core.specs.declared.reply.Reply.{Reply}
 use Rattle.cata_core.specs.Entries.{EntryKey, key_cmp, key_cmp_total, key_cmp_exact, text_cmp, Entry, Entries, Agree, joined}
-use Rattle.cata_core.specs.Deltas.{Stamps, summary_of, is_news, delta_of}
+use Rattle.cata_core.specs.Deltas.{Stamps, summary_of, is_missing, delta_of}
 use Rattle.cata_core.specs.Live.{Labelled, live_of, live}
 use Rattle.cata_core.specs.Asking.{Weighed, IsFilteredOf, IsLookedUpOf, IsFilterAnswer, IsLookupAnswer}
 use Rattle.cata_core.specs.Parts.{part_of}
@@ -83,18 +83,18 @@ part_of_delta messages (e ∷ es) summary =
     let rest = part_of_delta messages es summary in
     let whole = delta_of es summary in
     let part = part_of messages es in
-    let told = part_of messages summary in
-    elim (messages e.0.0) as (λ b. messages e.0.0 ≡ b → part_of messages (cond (is_news (find key_cmp e.0 summary) e.1.stamp) (e ∷ whole) whole) ≡ delta_of (cond b (e ∷ part) part) told) [
+    let summarised = part_of messages summary in
+    elim (messages e.0.0) as (λ b. messages e.0.0 ≡ b → part_of messages (cond (is_missing (find key_cmp e.0 summary) e.1.stamp) (e ∷ whole) whole) ≡ delta_of (cond b (e ∷ part) part) summarised) [
       | true ↦ λ b.
-          let same : is_news (find key_cmp e.0 told) e.1.stamp ≡ is_news (find key_cmp e.0 summary) e.1.stamp =
-          ap (λ o. is_news o e.1.stamp) (find-part messages e.0 summary ∙ ap (λ u. cond u (find key_cmp e.0 summary) None) b) in
-          elim (is_news (find key_cmp e.0 summary) e.1.stamp) as (λ n. is_news (find key_cmp e.0 summary) e.1.stamp ≡ n
-          → part_of messages (cond n (e ∷ whole) whole) ≡ cond (is_news (find key_cmp e.0 told) e.1.stamp) (e ∷ delta_of part told) (delta_of part told)) [
+          let same : is_missing (find key_cmp e.0 summarised) e.1.stamp ≡ is_missing (find key_cmp e.0 summary) e.1.stamp =
+          ap (λ o. is_missing o e.1.stamp) (find-part messages e.0 summary ∙ ap (λ u. cond u (find key_cmp e.0 summary) None) b) in
+          elim (is_missing (find key_cmp e.0 summary) e.1.stamp) as (λ n. is_missing (find key_cmp e.0 summary) e.1.stamp ≡ n
+          → part_of messages (cond n (e ∷ whole) whole) ≡ cond (is_missing (find key_cmp e.0 summarised) e.1.stamp) (e ∷ delta_of part summarised) (delta_of part summarised)) [
             | true ↦ λ n. ap (λ u. cond u (e ∷ part_of messages whole) (part_of messages whole)) b ∙ ap (λ xs. e ∷ xs) rest
-                ∙ ap (λ u. cond u (e ∷ delta_of part told) (delta_of part told)) (sym (same ∙ n))
-            | false ↦ λ n. rest ∙ ap (λ u. cond u (e ∷ delta_of part told) (delta_of part told)) (sym (same ∙ n))
+                ∙ ap (λ u. cond u (e ∷ delta_of part summarised) (delta_of part summarised)) (sym (same ∙ n))
+            | false ↦ λ n. rest ∙ ap (λ u. cond u (e ∷ delta_of part summarised) (delta_of part summarised)) (sym (same ∙ n))
           ] refl
-      | false ↦ λ b. elim (is_news (find key_cmp e.0 summary) e.1.stamp) as (λ n. part_of messages (cond n (e ∷ whole) whole) ≡ delta_of part told) [
+      | false ↦ λ b. elim (is_missing (find key_cmp e.0 summary) e.1.stamp) as (λ n. part_of messages (cond n (e ∷ whole) whole) ≡ delta_of part summarised) [
         | true ↦ ap (λ u. cond u (e ∷ part_of messages whole) (part_of messages whole)) b ∙ rest
         | false ↦ rest
       ]

@@ -4,7 +4,7 @@ use Rattle.std.proofs.lemmas.List.{drop_more, drop_all}
 use Rattle.cata_core.specs.declared.step.Step.{Step}
 use Rattle.cata_core.specs.declared.answer.Answer.{Answer}
 use Rattle.cata_core.specs.declared.play_fault.PlayFault.{PlayFault}
-use Rattle.cata_core.specs.declared.world.World.{World}
+use Rattle.cata_core.specs.declared.runs.world.World.{World}
 use Rattle.cata_core.specs.Edits.{IsConsistent}
 use Rattle.cata_core.specs.Taken.{edits_of}
 use Rattle.cata_core.specs.Held.{nothing_held}
@@ -16,11 +16,11 @@ use Rattle.cata_core.proofs.Machine.{AllSound, FaultFrom, HeldAnswersFrom, held_
 use Rattle.cata_core.proofs.TakenAndHeld.{consistent_answers}
 use Rattle.cata_core.proofs.SettledRuns.{undelivered_answers}
 
--- after n steps what is told and found of the steps that are left is so of all steps
+-- after n steps what is answered and found of the steps that are left is so of all steps
 pub record IsPlayed (sites : ℕ) (steps : List Step) (n : ℕ) (world : World) : Type 0 where
   pub len : length world.sites.items ≡ sites
   pub addressed : IsRunning (length world.sites.items) (held_in world)
-  pub told : (later : List Answer) → HeldAnswersFrom (held_in world) (drop n steps) later → HeldAnswersFrom nothing_held steps (world.answers.items ++ later)
+  pub answered : (later : List Answer) → HeldAnswersFrom (held_in world) (drop n steps) later → HeldAnswersFrom nothing_held steps (world.answers.items ++ later)
   pub sound : AllSound sites (held_in world) (drop n steps) → AllSound sites nothing_held steps
   pub refused : (fault : PlayFault) → FaultFrom sites (held_in world) n (drop n steps) fault → FaultFrom sites nothing_held 0 steps fault
 
@@ -35,9 +35,9 @@ module _ (sites : ℕ) (steps : List Step) (n : ℕ) (old : World) (step : Step)
       record {
         len = s.sites ∙ played.len;
         addressed = subst (λ m. IsRunning m (held_in new)) (sym s.sites) s.addressed;
-        told = λ later h.
+        answered = λ later h.
             subst (HeldAnswersFrom nothing_held steps) (sym (ap (λ xs. xs ++ later) s.answers ∙ append_assoc old.answers.items s.answered later))
-            (played.told (s.answered ++ later) (subst (λ xs. HeldAnswersFrom (held_in old) xs (s.answered ++ later)) (sym rest)
+            (played.answered (s.answered ++ later) (subst (λ xs. HeldAnswersFrom (held_in old) xs (s.answered ++ later)) (sym rest)
             (s.answered, later, refl, s.are_answers, subst (λ w. HeldAnswersFrom w (drop (n + 1) steps) later) s.held h)));
         sound = λ h. played.sound (subst (AllSound sites (held_in old)) (sym rest) (sound_now, subst (λ w. AllSound sites w (drop (n + 1) steps)) s.held h));
         refused = λ fault h. played.refused fault (subst (λ xs. FaultFrom sites (held_in old) n xs fault) (sym rest) (inr (sound_now, subst (λ w. FaultFrom sites w (n + 1) (drop (n + 1) steps) fault) s.held h)));
@@ -52,18 +52,18 @@ module _ (sites : ℕ) (steps : List Step) (n : ℕ) (world : World) (played : I
   all_sound : AllSound sites nothing_held steps
   all_sound = played.sound (subst (AllSound sites (held_in world)) (sym (drop_all n steps all)) tt)
 
-  told : HeldAnswersFrom nothing_held steps world.answers.items
-  told =
-      subst (HeldAnswersFrom nothing_held steps) (append_nil world.answers.items) (played.told [] (subst (λ xs. HeldAnswersFrom (held_in world) xs []) (sym (drop_all n steps all)) refl))
+  answered : HeldAnswersFrom nothing_held steps world.answers.items
+  answered =
+      subst (HeldAnswersFrom nothing_held steps) (append_nil world.answers.items) (played.answered [] (subst (λ xs. HeldAnswersFrom (held_in world) xs []) (sym (drop_all n steps all)) refl))
 
   pub none_is_faulty : NoneFaulty sites steps
   none_is_faulty = none_faulty sites steps all_sound
 
-  pub held_told : AreHeldAnswers steps world.answers.items
-  held_told = held_answers steps world.answers.items told
+  pub answers_held : AreHeldAnswers steps world.answers.items
+  answers_held = held_answers steps world.answers.items answered
 
-  pub consistent_told : IsConsistent (edits_of steps) → AreAnswers steps world.answers.items
-  consistent_told consistent = consistent_answers steps consistent world.answers.items told
+  pub answers_consistent : IsConsistent (edits_of steps) → AreAnswers steps world.answers.items
+  answers_consistent consistent = consistent_answers steps consistent world.answers.items answered
 
-  pub undelivered_told : NoDelivers steps → AreAnswers steps world.answers.items
-  undelivered_told none = undelivered_answers sites steps none all_sound world.answers.items told
+  pub answers_undelivered : NoDelivers steps → AreAnswers steps world.answers.items
+  answers_undelivered none = undelivered_answers sites steps none all_sound world.answers.items answered

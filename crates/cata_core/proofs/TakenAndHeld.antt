@@ -16,7 +16,7 @@ use Rattle.cata_core.specs.Entries.{EntryKey, key_cmp, Entry, Entries, Agree, jo
 use Rattle.cata_core.specs.Edits.{catalogue_of, IsConsistent}
 use Rattle.cata_core.specs.Deltas.{summary_of, delta_of}
 use Rattle.cata_core.specs.Taken.{PostedEdits, Taken, edits_delivered, edits_in, takes, tellers_by, post_to, edits_posted, taken_step, nothing_taken, taken_after, taken, edits_by, edits_of}
-use Rattle.cata_core.specs.Held.{Told, PostedCells, Held, cells_delivered, cells_in, joins, told_by, delta_to, cells_posted, held_step, nothing_held, held_after, held}
+use Rattle.cata_core.specs.Held.{ToldStamps, PostedCells, Held, cells_delivered, cells_in, joins, told_by, delta_to, cells_posted, held_step, nothing_held, held_after, held}
 use Rattle.cata_core.specs.Answers.{IsAnswered, AreAnswers}
 use Rattle.cata_core.specs.Clashes.{IsFirstClash}
 use Rattle.cata_core.specs.Faulty.{IsFaultOf, IsNoClash}
@@ -63,7 +63,7 @@ module _ (all : List Entry) (consistent : IsConsistent all) where
   whole_joins own sent p q = sym (joined_catalogue own sent (settled_part all (own ++ sent) consistent (λ f h. elim (in_append_cases own sent f h) as (λ _. In all f) [ inl a ↦ p f a | inr b ↦ q f b ])))
 
   -- a summary is that of edits which its owner took
-  record ToldMatches (of : ℕ → List Entry) (t : Told) (owner : ℕ) : Type 0 where
+  record ToldMatches (of : ℕ → List Entry) (t : ToldStamps) (owner : ℕ) : Type 0 where
     edits : List Entry
     same : t.teller ≡ owner
     summary : t.stamps ≡ summary_of (catalogue_of edits)
@@ -180,7 +180,7 @@ module _ (all : List Entry) (consistent : IsConsistent all) where
   told_go v w g (Tell site) = (record { edits = w.of_site site; same = refl; summary = ap summary_of (g.sites site); within = λ f h. h }, tt)
   told_go v w g _ = tt
 
-  post_go : (v : Held) (w : Taken) → Goes v w → (site : ℕ) (t : Option Told) (o : Option ℕ) → Both (ToldMatches w.of_site) t o → Each (PostMatches w.of_site) (delta_to (v.of_site site) t) (post_to (w.of_site site) o)
+  post_go : (v : Held) (w : Taken) → Goes v w → (site : ℕ) (t : Option ToldStamps) (o : Option ℕ) → Both (ToldMatches w.of_site) t o → Each (PostMatches w.of_site) (delta_to (v.of_site site) t) (post_to (w.of_site site) o)
   post_go v w g site None None r = tt
   post_go v w g site None (Some owner) r = absurd r
   post_go v w g site (Some t) None r = absurd r

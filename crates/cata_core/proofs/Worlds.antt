@@ -13,7 +13,7 @@ use Rattle.cata_core.specs.declared.play_fault.PlayFault.TheVariants.{NoSuchSite
 use Rattle.cata_core.specs.Entries.{key_cmp, Entry, Entries, Agree, joined, catalogue_laws}
 use Rattle.cata_core.specs.Clashes.{IsFirstClash}
 use Rattle.cata_core.specs.Deltas.{summary_of, delta_of}
-use Rattle.cata_core.specs.Held.{Told, PostedCells, Held, joins, held_step, cells_in, cells_delivered, delta_to}
+use Rattle.cata_core.specs.Held.{ToldStamps, PostedCells, Held, joins, held_step, cells_in, cells_delivered, delta_to}
 use Rattle.cata_core.specs.Faulty.{IsSound, AgreesWith, IsFaultOf}
 use Rattle.cata_core.specs.Worlds.{at_sites, IsClashAt}
 use Rattle.cata_core.proofs.Basics.{append_nil}
@@ -62,7 +62,7 @@ merged_self w i j e = λ k. record {
     ] refl
 
 -- cells that come in at a site by a step that tells and posts nothing
-pub merged : (xs : List Entries) (told : List Told) (posts : List PostedCells) (i j : ℕ) (gap own theirs : Entries) → i < length xs → theirs ≡ at_sites xs j → own ≡ joined (at_sites xs i) theirs
+pub merged : (xs : List Entries) (told : List ToldStamps) (posts : List PostedCells) (i j : ℕ) (gap own theirs : Entries) → i < length xs → theirs ≡ at_sites xs j → own ≡ joined (at_sites xs i) theirs
     → record { of_site = at_sites (slice_set (slice_set xs i gap) i own); told = told; posts = posts } ≡ held_step (record { of_site = at_sites xs; told = told; posts = posts }) (Merge i j)
 merged xs told posts i j gap own theirs lt t e = λ k. record {
   of_site = (ap at_sites (set_twice xs i gap own) ∙ joined_set xs i own theirs lt e ∙ ap (λ c. joins (at_sites xs) (Some (i, c))) t) k;
@@ -86,7 +86,7 @@ pub comes_by : (w : Held) (k : ℕ) (p : PostedCells) → k < length w.posts →
 comes_by w k p lt e = ap cells_delivered (got w.posts k p lt e)
 
 -- a delta that comes in
-pub delivered : (xs : List Entries) (told : List Told) (posts : List PostedCells) (k : ℕ) (p : PostedCells) (own : Entries) → k < length posts → p ≡ get_or posts k p → p.addressee < length xs → own ≡ joined (at_sites xs p.addressee) p.cells
+pub delivered : (xs : List Entries) (told : List ToldStamps) (posts : List PostedCells) (k : ℕ) (p : PostedCells) (own : Entries) → k < length posts → p ≡ get_or posts k p → p.addressee < length xs → own ≡ joined (at_sites xs p.addressee) p.cells
     → record { of_site = at_sites (slice_set xs p.addressee own); told = told; posts = posts } ≡ held_step (record { of_site = at_sites xs; told = told; posts = posts }) (Deliver k)
 delivered xs told posts k p own lt e there is = λ i. record {
   of_site = (joined_set xs p.addressee own p.cells there is ∙ ap (joins (at_sites xs)) (sym (ap cells_delivered (got posts k p lt e)))) i;
@@ -95,7 +95,7 @@ delivered xs told posts k p own lt e there is = λ i. record {
 }
 
 -- a delta that is posted
-pub posted_step : (of : ℕ → Entries) (told : List Told) (posts : List PostedCells) (site k : ℕ) (t : Told) (cells : Entries) → k < length told → t ≡ get_or told k t → cells ≡ delta_of (of site) t.stamps
+pub posted_step : (of : ℕ → Entries) (told : List ToldStamps) (posts : List PostedCells) (site k : ℕ) (t : ToldStamps) (cells : Entries) → k < length told → t ≡ get_or told k t → cells ≡ delta_of (of site) t.stamps
     → record { of_site = of; told = told; posts = posts ++ record { addressee = t.teller; cells = cells } ∷ [] } ≡ held_step (record { of_site = of; told = told; posts = posts }) (Post site k)
 posted_step of told posts site k t cells lt e is = λ i. record {
   of_site = of;
@@ -107,7 +107,7 @@ posted_step of told posts site k t cells lt e is = λ i. record {
 pub at_site : (xs : List Entries) (i : ℕ) (x : Entries) → i < length xs → x ≡ get_or xs i x → x ≡ at_sites xs i
 at_site xs i x lt e = e ∙ get_or_default xs i x [] lt
 
-module _ (sites : List Entries) (told : List Told) (posts : List PostedCells) (step : Step) (k : ℕ) (p : PostedCells) (own : Entries)
+module _ (sites : List Entries) (told : List ToldStamps) (posts : List PostedCells) (step : Step) (k : ℕ) (p : PostedCells) (own : Entries)
     (is : step ≡ Deliver k) (post_there : k < length posts) (post : p ≡ get_or posts k p) (site_there : p.addressee < length sites) (here : own ≡ get_or sites p.addressee own) where
   abbrev world : Held
   world = record { of_site = at_sites sites; told = told; posts = posts }
@@ -163,7 +163,7 @@ both_hold (Ok x) f p q = f p q
 both_hold (Err e) f p q = tt
 
 -- an edit that is joined
-pub edited_held : (xs : List Entries) (told : List Told) (posts : List PostedCells) (site : ℕ) (edit : Entry) (own incoming new : Entries) → site < length xs → own ≡ get_or xs site own → incoming ≡ edit ∷ [] → new ≡ joined own incoming
+pub edited_held : (xs : List Entries) (told : List ToldStamps) (posts : List PostedCells) (site : ℕ) (edit : Entry) (own incoming new : Entries) → site < length xs → own ≡ get_or xs site own → incoming ≡ edit ∷ [] → new ≡ joined own incoming
     → record { of_site = at_sites (slice_set xs site new); told = told; posts = posts } ≡ held_step (record { of_site = at_sites xs; told = told; posts = posts }) (Edit site edit)
 edited_held xs told posts site edit own incoming new lt here is e = λ i. record {
   of_site = joined_set xs site new ((edit ∷ [])) lt (e ∙ (λ j. joined (at_site xs site own lt here j) (is j))) i;
@@ -172,16 +172,16 @@ edited_held xs told posts site edit own incoming new lt here is e = λ i. record
 }
 
 -- a post to who told
-pub posted_addressed : (n : ℕ) (told : List Told) (posts : List PostedCells) (k : ℕ) (t : Told) (cells : Entries) → All (λ q. q.teller < n) told → All (λ q. q.addressee < n) posts → k < length told → t ≡ get_or told k t
+pub posted_addressed : (n : ℕ) (told : List ToldStamps) (posts : List PostedCells) (k : ℕ) (t : ToldStamps) (cells : Entries) → All (λ q. q.teller < n) told → All (λ q. q.addressee < n) posts → k < length told → t ≡ get_or told k t
     → All (λ q. q.addressee < n) (posts ++ record { addressee = t.teller; cells = cells } ∷ [])
 posted_addressed n told posts k t cells owners h lt e = All-push (λ q. q.addressee < n) posts (record { addressee = t.teller; cells = cells }) h (subst (λ q. q.teller < n) (sym e) (All-get_or (λ q. q.teller < n) told k t lt owners))
 
 -- a summary that is told
-pub told_step : (of : ℕ → Entries) (told : List Told) (posts : List PostedCells) (site : ℕ) (t : Told) → t ≡ record { teller = site; stamps = summary_of (of site) }
+pub told_step : (of : ℕ → Entries) (told : List ToldStamps) (posts : List PostedCells) (site : ℕ) (t : ToldStamps) → t ≡ record { teller = site; stamps = summary_of (of site) }
     → record { of_site = of; told = told ++ t ∷ []; posts = posts } ≡ held_step (record { of_site = of; told = told; posts = posts }) (Tell site)
 told_step of told posts site t is = λ i. record { of_site = of; told = told ++ is i ∷ []; posts = sym (append_nil posts) i }
 
-pub told_addressed : (n : ℕ) (told : List Told) (t : Told) → All (λ q. q.teller < n) told → t.teller < n → All (λ q. q.teller < n) (told ++ t ∷ [])
+pub told_addressed : (n : ℕ) (told : List ToldStamps) (t : ToldStamps) → All (λ q. q.teller < n) told → t.teller < n → All (λ q. q.teller < n) (told ++ t ∷ [])
 told_addressed n told t h lt = All-push (λ q. q.teller < n) told t h lt
 
 -- a refusal for want of memory may be at any step

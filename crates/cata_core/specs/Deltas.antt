@@ -19,14 +19,14 @@ Stamps = List (EntryKey × Stamp)
 abbrev pub summary_of : Entries → Stamps
 summary_of = map (λ e. (e.0, e.1.stamp))
 
--- what was told of the key is nothing or a lesser stamp
-abbrev pub is_news : Option Stamp → Stamp → Bool
-is_news None s = true
-is_news (Some told) s = is_lt (stamp_cmp told s)
+-- the summary has nothing of the key, or an older stamp
+abbrev pub is_missing : Option Stamp → Stamp → Bool
+is_missing None s = true
+is_missing (Some known) s = is_lt (stamp_cmp known s)
 
--- the cells whose key the summary lacks or has with a lesser stamp
+-- the cells whose key the summary lacks or has with an older stamp
 abbrev pub delta_of : Entries → Stamps → Entries
-delta_of cells summary = filter (λ e. is_news (find key_cmp e.0 summary) e.1.stamp) cells
+delta_of cells summary = filter (λ e. is_missing (find key_cmp e.0 summary) e.1.stamp) cells
 
 -- a cell is there, with a stamp at least as great
 abbrev pub HasAtLeast : Option Cell → Stamp → Type 0

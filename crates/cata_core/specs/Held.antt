@@ -6,7 +6,7 @@ use Rattle.cata_core.specs.Entries.{Entries, joined}
 use Rattle.cata_core.specs.Deltas.{Stamps, summary_of, delta_of}
 
 -- a summary that was told: who told it, and its stamps
-pub record Told : Type 0 where
+pub record ToldStamps : Type 0 where
   pub teller : ℕ
   pub stamps : Stamps
 
@@ -18,7 +18,7 @@ pub record PostedCells : Type 0 where
 -- what each site holds, what was told, and what was posted
 pub record Held : Type 0 where
   pub of_site : ℕ → Entries
-  pub told : List Told
+  pub told : List ToldStamps
   pub posts : List PostedCells
 
 abbrev pub cells_delivered : Option PostedCells → Option (ℕ × Entries)
@@ -38,12 +38,12 @@ joins of None = of
 joins of (Some c) = λ s. if s == c.0 then joined (of s) c.1 else of s
 
 -- the summary that is told by a step
-abbrev pub told_by : Held → Step → List Told
+abbrev pub told_by : Held → Step → List ToldStamps
 told_by w (Tell site) = record { teller = site; stamps = summary_of (w.of_site site) } ∷ []
 told_by w _ = []
 
 -- the delta of the sender's cells to the teller of the summary, if it was told
-abbrev pub delta_to : Entries → Option Told → List PostedCells
+abbrev pub delta_to : Entries → Option ToldStamps → List PostedCells
 delta_to cells None = []
 delta_to cells (Some told) = record { addressee = told.teller; cells = delta_of cells told.stamps } ∷ []
 

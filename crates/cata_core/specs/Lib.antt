@@ -14,7 +14,7 @@ pub mod Equality
 pub mod Faulty
 pub mod Flat
 pub mod Held
-pub mod Last
+pub mod Latest
 pub mod Lent
 pub mod LentAnswers
 pub mod LentEntries
@@ -32,7 +32,7 @@ pub mod Settled
 pub mod Sites
 pub mod Spreads
 pub mod StampsLeft
+pub mod Summary
 pub mod SummaryEq
 pub mod Taken
-pub mod Told
 pub mod Worlds

@@ -8,7 +8,7 @@ use Rattle.cata_core.specs.declared.delta.Delta.{Delta}
 use Rattle.cata_core.specs.Entries.{EntryKey, key_cmp, Entry, Entries}
 use Rattle.cata_core.specs.Deltas.{Stamps}
 use Rattle.cata_core.specs.Sites.{SiteState}
-use Rattle.cata_core.specs.Told.{SummaryState}
+use Rattle.cata_core.specs.Summary.{SummaryState}
 
 -- an entry whose stamp names its site by a number
 abbrev pub OldEntry : Type 0

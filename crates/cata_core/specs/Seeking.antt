@@ -1,4 +1,4 @@
--- Walks through what was told, past one key.
+-- Walks through the stamps of a summary, past one key.
 use Rattle.std.specs.Prelude.{◌≡◌}
 use Rattle.std.specs.declared.cmp.Ordering.TheVariants.{Less}
 use Rattle.std.specs.FinMap.Entries.{find}
@@ -6,7 +6,7 @@ use Rattle.cell_core.specs.Maps.{IsMap}
 use Rattle.cata_core.specs.Entries.{EntryKey, key_cmp}
 use Rattle.cata_core.specs.Deltas.{Stamps}
 
--- behind this key, the rest has what was told
-pub record IsBehind (key : EntryKey) (told rest : Stamps) : Type 0 where
+-- behind this key, the rest has what all of them have
+pub record IsBehind (key : EntryKey) (all rest : Stamps) : Type 0 where
   pub sorted : IsMap key_cmp rest
-  pub same : (q : EntryKey) → key_cmp key q ≡ Less → find key_cmp q rest ≡ find key_cmp q told
+  pub same : (q : EntryKey) → key_cmp key q ≡ Less → find key_cmp q rest ≡ find key_cmp q all

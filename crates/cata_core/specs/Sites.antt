@@ -6,7 +6,7 @@ use Rattle.cata_core.specs.declared.cata_fault.CataFault.TheVariants.{ClockSpent
 use Rattle.cata_core.specs.declared.delta.Delta.{Delta}
 use Rattle.cata_core.specs.CataFaults.{IsRefusal, IsLeft}
 use Rattle.cata_core.specs.Entries.{Entries}
-use Rattle.cata_core.specs.Last.{last_of}
+use Rattle.cata_core.specs.Latest.{latest_of}
 
 -- a site, by its name and its catalogue
 pub record SiteState : Type 0 where
@@ -15,8 +15,8 @@ pub record SiteState : Type 0 where
 
 -- an edit is refused where the site has no next stamp, else for want of memory alone
 abbrev pub RefusesEdit : SiteState → ℕ → CataFault → Type 0
-RefusesEdit site now ClockSpent = NoNext (last_of site.cells) now site.name
-RefusesEdit site now NoMemory = ¬ (NoNext (last_of site.cells) now site.name)
+RefusesEdit site now ClockSpent = NoNext (latest_of site.cells) now site.name
+RefusesEdit site now NoMemory = ¬ (NoNext (latest_of site.cells) now site.name)
 RefusesEdit site now _ = ⊥
 
 -- a delta is refused where it is for another site, else as cells are

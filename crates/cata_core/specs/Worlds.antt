@@ -4,7 +4,7 @@ use Rattle.cata_core.specs.declared.step.Step.{Step}
 use Rattle.cata_core.specs.declared.answer.Answer.{Answer}
 use Rattle.cata_core.specs.declared.play_fault.PlayFault.{PlayFault}
 use Rattle.cata_core.specs.declared.play_fault.PlayFault.TheVariants.{StampReused, NoMemory}
-use Rattle.cata_core.specs.declared.world.World.{World}
+use Rattle.cata_core.specs.declared.runs.world.World.{World}
 use Rattle.cata_core.specs.Entries.{key_cmp, Entries}
 use Rattle.cata_core.specs.Clashes.{IsFirstClash}
 use Rattle.cata_core.specs.Held.{Held, held_step}

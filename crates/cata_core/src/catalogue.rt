@@ -18,7 +18,7 @@ use crate::cata_fault::CataFault;
 use crate::cells::Cells;
 use crate::clash::first_clash;
 use crate::edit::Edit;
-use crate::walk;
+use crate::places;
 use cell_core::{Cell, Join, Key, Keyed, MessageId};
 use lang_core::Lang;
 use std::alloc::{AllocError, Global};
@@ -103,7 +103,7 @@ impl Catalogue {
     pub fn nth(&self, place: u128) -> Option<(&MessageId, &Lang, &Cell)>
         ensures { option_map (λ e. ((e.0.now, e.1.now), e.2.now)) result ≡ slice_get self.now place }
     {
-        walk::entry(&self.map, place)
+        places::entry(&self.map, place)
     }
 
     /// All cells, each with its message and language, in rising order of key.
@@ -155,7 +155,7 @@ impl Catalogue {
         if let Some(mine) = self.cell(id, lang) {
             if !mine.agrees(cell) {
                 return Err(CataFault::StampReused {
-                    place: walk::place(&self.map, id, lang),
+                    place: places::place(&self.map, id, lang),
                     stamp: mine.stamp(),
                 });
             }
@@ -200,12 +200,12 @@ impl Catalogue {
             Ok(()) => {
                 self.len = match len {
                     Some(len) => len,
-                    None => walk::count(&self.map),
+                    None => places::count(&self.map),
                 };
                 Ok(())
             }
             Err(fault) => {
-                self.len = walk::count(&self.map);
+                self.len = places::count(&self.map);
                 Err(fault)
             }
         }
@@ -241,7 +241,7 @@ impl Catalogue {
     pub fn is_above_all(&self, id: &MessageId, lang: &Lang) -> bool
         ensures { IsTrue result ↔ IsAboveAll (id.now, lang.now) self.now }
     {
-        match walk::last(&self.map) {
+        match places::last(&self.map) {
             Some((last, held, _)) => last.cmp(id).then(held.cmp(lang)).is_lt(),
             None => true,
         }
@@ -402,7 +402,7 @@ fn put_message(
     put(map, id, cells)
 }
 
-/// Whether the other cell has a greater stamp.
+/// Whether the other cell has a later stamp.
 fn is_older(mine: &Cell, other: &Cell) -> bool
     ensures { result ≡ is_lt (stamp_cmp mine.now.stamp other.now.stamp) }
 {

@@ -2,7 +2,7 @@
 
 ghost use Rattle.std.specs.Iterator.{YieldsFirstBy, item_count};
 
-use cell_core::{Cell, Entries, Keyed, MessageId};
+use cell_core::{Cell, Iter, Keyed, MessageId};
 use lang_core::Lang;
 
 /// Lends the cells of a message, each with the message and its language, in rising order of
@@ -10,7 +10,7 @@ use lang_core::Lang;
 #[derive(Debug, Drop)]
 struct MessageCells<'a> {
     id: &'a MessageId,
-    cells: Entries<'a, Lang, Cell>,
+    cells: Iter<'a, Lang, Cell>,
 }
 
 impl<'a> Iterator for MessageCells<'a> {
@@ -32,7 +32,7 @@ impl<'a> Iterator for MessageCells<'a> {
 #[derive(Debug, Drop)]
 pub struct Cells<'a> {
     current: Option<MessageCells<'a>>,
-    messages: Entries<'a, MessageId, Keyed<Lang, Cell>>,
+    messages: Iter<'a, MessageId, Keyed<Lang, Cell>>,
 }
 
 impl<'a> Cells<'a> {

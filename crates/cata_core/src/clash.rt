@@ -27,7 +27,7 @@ pub fn first_clash(
     find_clash(mine, theirs)
 }
 
-/// The same by a walk over the own messages.
+/// The first place whose cell does not agree, message by message.
 fn find_clash(
     mine: &Keyed<MessageId, Keyed<Lang, Cell>>,
     theirs: &Keyed<MessageId, Keyed<Lang, Cell>>,
@@ -50,11 +50,12 @@ fn find_clash(
     None
 }
 
-/// The same within a message.
+/// The first place within a message whose cell does not agree, and the stamp there.
 fn find_clash_in(mine: &Keyed<Lang, Cell>, theirs: &Keyed<Lang, Cell>) -> Option<(usize, Stamp)>
     ensures { MatchOption result ((j : ℕ) → j < length mine.now → AgreesAt text_cmp mine.now theirs.now j)
         (λ clash. IsFirstClash text_cmp mine.now theirs.now clash.0 clash.1) }
 {
+    // No map has more entries than a `usize` counts.
     let _languages = mine.len();
     let mut place = 0;
     for (lang, cell) in mine.iter() {

@@ -3,13 +3,13 @@
 ghost use Rattle.std.specs.Prelude.{◌≡◌, IfOk};
 ghost use Rattle.std.specs.FinMap.Entries.{find};
 ghost use Rattle.cell_core.specs.Maps.{IsMap};
-ghost use Rattle.cata_core.specs.Deltas.{delta_of, is_news};
+ghost use Rattle.cata_core.specs.Deltas.{delta_of, is_missing};
 ghost use Rattle.cata_core.specs.Entries.{key_cmp};
 ghost use Rattle.cata_core.specs.Seeking.{IsBehind};
-ghost use Rattle.cata_core.specs.Told.{told_of};
+ghost use Rattle.cata_core.specs.Summary.{stamps_of};
 
 use crate::catalogue::Catalogue;
-use crate::summary::{Summary, Told};
+use crate::summary::{Summary, SummaryEntry};
 use cell_core::{MessageId, SiteName, Stamp};
 use lang_core::Lang;
 use std::alloc::{AllocError, Global};
@@ -63,33 +63,37 @@ impl Delta {
 }
 
 /// The cells whose key the summary lacks or has with an older stamp.
-pub(crate) fn news(
+pub(crate) fn missing_cells(
     alloc: Global,
     catalogue: &Catalogue,
     summary: &Summary,
 ) -> Result<Catalogue, AllocError>
-    ensures { IfOk result (λ news. news ≡ delta_of catalogue.now summary.now.stamps) }
+    ensures { IfOk result (λ missing. missing ≡ delta_of catalogue.now summary.now.stamps) }
 {
-    let mut news = Catalogue::new(alloc);
-    let mut rest = summary.told();
+    let mut missing = Catalogue::new(alloc);
+    let mut rest = summary.entries();
     for (id, lang, cell) in catalogue.iter() {
         let (stamp, more) = stamp_at(rest, id, lang);
         rest = more;
-        if !is_news(stamp, cell.stamp()) {
+        if !is_missing(stamp, cell.stamp()) {
             continue;
         }
-        news.push_copy(alloc, id, lang, cell)?;
+        missing.push_copy(alloc, id, lang, cell)?;
     }
-    Ok(news)
+    Ok(missing)
 }
 
-/// What was told of the key, and what is left behind it: the keys up to it are passed over.
-fn stamp_at<'a>(told: &'a [Told], id: &MessageId, lang: &Lang) -> (Option<Stamp>, &'a [Told])
-    requires { IsMap key_cmp (told_of told.now) }
-    ensures stamp { result.0 ≡ find key_cmp (id.now, lang.now) (told_of told.now) }
-    ensures rest { IsBehind (id.now, lang.now) (told_of told.now) (told_of result.1.now) }
+/// The stamp of the key, if it is among the entries, and the entries with greater keys.
+fn stamp_at<'a>(
+    entries: &'a [SummaryEntry],
+    id: &MessageId,
+    lang: &Lang,
+) -> (Option<Stamp>, &'a [SummaryEntry])
+    requires { IsMap key_cmp (stamps_of entries.now) }
+    ensures stamp { result.0 ≡ find key_cmp (id.now, lang.now) (stamps_of entries.now) }
+    ensures rest { IsBehind (id.now, lang.now) (stamps_of entries.now) (stamps_of result.1.now) }
 {
-    let mut rest = told;
+    let mut rest = entries;
     while let Some((first, more)) = rest.split_first() {
         match first.compare(id, lang) {
             Ordering::Less => rest = more,
@@ -100,12 +104,12 @@ fn stamp_at<'a>(told: &'a [Told], id: &MessageId, lang: &Lang) -> (Option<Stamp>
     (None, rest)
 }
 
-/// Whether nothing was told, or an older stamp.
-fn is_news(told: Option<Stamp>, stamp: Stamp) -> bool
-    ensures { result ≡ is_news told stamp }
+/// Whether the summary has nothing of the key, or an older stamp.
+fn is_missing(known: Option<Stamp>, stamp: Stamp) -> bool
+    ensures { result ≡ is_missing known stamp }
 {
-    match told {
-        Some(told) => told.cmp(&stamp).is_lt(),
+    match known {
+        Some(known) => known.cmp(&stamp).is_lt(),
         None => true,
     }
 }

@@ -4,14 +4,14 @@ ghost use Rattle.std.specs.Prelude.{◌≡◌};
 ghost use Rattle.std.specs.Iterator.{YieldsFirstBy, item_count};
 ghost use Rattle.cata_core.specs.LiveLeft.{live_left};
 
-use cell_core::{Cell, Entries, Keyed, Label};
+use cell_core::{Cell, Iter, Keyed, Label};
 use lang_core::Lang;
 
 /// Lends the languages of a message whose cell has a label, each with its label, in rising order of
 /// their bytes.
 #[derive(Debug, Drop)]
 pub struct Labels<'a> {
-    cells: Option<Entries<'a, Lang, Cell>>,
+    cells: Option<Iter<'a, Lang, Cell>>,
 }
 
 impl<'a> Labels<'a> {
@@ -50,7 +50,7 @@ impl<'a> Iterator for Labels<'a> {
 }
 
 /// The first cell that is left and has a label, with its language.
-fn next_live<'a>(cells: &mut Entries<'a, Lang, Cell>) -> Option<(&'a Lang, &'a Label)>
+fn next_live<'a>(cells: &mut Iter<'a, Lang, Cell>) -> Option<(&'a Lang, &'a Label)>
     ensures { YieldsFirstBy (λ x. (x.0.now, x.1.now)) live_left cells.old result cells.new }
 {
     while let Some((lang, cell)) = cells.next() {

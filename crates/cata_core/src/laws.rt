@@ -8,7 +8,7 @@ ghost use Rattle.cell_core.specs.Stamps.{IsAbove};
 ghost use Rattle.cell_core.specs.Maps.{IsMap, IsJoinedWith, joined_if_both};
 ghost use Rattle.cell_core.specs.Cells.{joined_stamps, joined_cells};
 ghost use Rattle.cata_core.specs.Entries.{EntryKey, Entry, Entries, text_cmp, key_cmp, Agree, Between, joined, IsBelowCells};
-ghost use Rattle.cata_core.specs.Last.{last_of, IsLast};
+ghost use Rattle.cata_core.specs.Latest.{latest_of, IsLatest};
 ghost use Rattle.cata_core.specs.Flat.{flat};
 ghost use Rattle.cata_core.specs.Nested.{AgreeNested, IsCatalogue, Nested, joined_nested};
 ghost use Rattle.cata_core.specs.Deltas.{Stamps, HasAll, IsPart, IsBelowStamps, summary_of, delta_of};
@@ -46,8 +46,8 @@ pub fn a_join_has_each_key()
     ensures one { (a b c : Entries) → IsMap key_cmp a → IsMap key_cmp b → IsJoinedWith key_cmp joined_cells a b c → c ≡ joined a b }
 {}
 
-/// A map of maps and its list of entries say the same: one map has the list, and both agree and
-/// join alike.
+/// A map of maps and its list of entries determine each other: one map has the list, and both
+/// agree and join alike.
 pub fn lists_tell_the_maps()
     ensures one { (a b : Nested) → IsCatalogue a → IsCatalogue b → flat a ≡ flat b → a ≡ b }
     ensures agree { (a b : Nested) → IsCatalogue a → IsCatalogue b → AgreeNested a b ↔ Agree (flat a) (flat b) }
@@ -78,20 +78,20 @@ pub fn catalogue_of_both()
 /// that is held. So what is said of joins and of the catalogue of edits holds of sites that are
 /// edited and joined by hand.
 pub fn an_own_edit_is_joined()
-    ensures agree { (cells : Entries) (key : EntryKey) (cell : Cell) → IsMap key_cmp cells → IsAbove (last_of cells) cell.stamp → Agree cells ((key, cell) ∷ []) }
-    ensures join { (cells : Entries) (key : EntryKey) (cell : Cell) → IsMap key_cmp cells → IsAbove (last_of cells) cell.stamp
+    ensures agree { (cells : Entries) (key : EntryKey) (cell : Cell) → IsMap key_cmp cells → IsAbove (latest_of cells) cell.stamp → Agree cells ((key, cell) ∷ []) }
+    ensures join { (cells : Entries) (key : EntryKey) (cell : Cell) → IsMap key_cmp cells → IsAbove (latest_of cells) cell.stamp
         → put key_cmp key cell cells ≡ joined cells ((key, cell) ∷ []) }
-    ensures above { (cells : Entries) (key : EntryKey) (cell : Cell) → IsMap key_cmp cells → IsAbove (last_of cells) cell.stamp
+    ensures above { (cells : Entries) (key : EntryKey) (cell : Cell) → IsMap key_cmp cells → IsAbove (latest_of cells) cell.stamp
         → IsBelowCells cells (put key_cmp key cell cells) }
-    ensures taken { (edits : List Entry) (key : EntryKey) (cell : Cell) → IsSettled edits → IsAbove (last_of (catalogue_of edits)) cell.stamp
+    ensures taken { (edits : List Entry) (key : EntryKey) (cell : Cell) → IsSettled edits → IsAbove (latest_of (catalogue_of edits)) cell.stamp
         → IsSettled (edits ++ (key, cell) ∷ []) × (put key_cmp key cell (catalogue_of edits) ≡ catalogue_of (edits ++ (key, cell) ∷ [])) }
 {}
 
-/// The greatest stamp that is held is the greatest that was ever taken in, and that of a join the
-/// greater of both.
-pub fn the_last_held_is_the_last_taken()
-    ensures edits { (edits : List Entry) → IsLast edits (last_of (catalogue_of edits)) }
-    ensures join { (a b : Entries) → Agree a b → last_of (joined a b) ≡ joined_if_both joined_stamps (last_of a) (last_of b) }
+/// The latest stamp that is held is the latest that was ever taken in, and that of a join the later
+/// of both.
+pub fn the_latest_held_is_the_latest_taken()
+    ensures edits { (edits : List Entry) → IsLatest edits (latest_of (catalogue_of edits)) }
+    ensures join { (a b : Entries) → Agree a b → latest_of (joined a b) ≡ joined_if_both joined_stamps (latest_of a) (latest_of b) }
 {}
 
 /// A consistent list is settled.

@@ -49,14 +49,14 @@ impl<'a> Live<'a> {
         match choose(list, self, default) {
             Choice::Matched(text) => match self.label(text) {
                 Some((lang, label)) => LentReply::Matched(lang, label),
-                None => LentReply::Nothing,
+                None => unreachable!(),
             },
             Choice::Default => match default {
                 Some(default) => match self.label(default.as_str()) {
                     Some((lang, label)) => LentReply::Default(lang, label),
-                    None => LentReply::Nothing,
+                    None => unreachable!(),
                 },
-                None => LentReply::Nothing,
+                None => unreachable!(),
             },
             Choice::Nothing => LentReply::Nothing,
         }

@@ -8,7 +8,7 @@ ghost use Rattle.cata_core.specs.LiveMessages.{if_any};
 use crate::labels::Labels;
 use crate::live::Live;
 use crate::reply::LentReply;
-use cell_core::{Cell, Entries, Keyed, Label, MessageId};
+use cell_core::{Cell, Iter, Keyed, Label, MessageId};
 use lang_core::Lang;
 use nego_core::PriorityList;
 use std::marker::Model;
@@ -76,7 +76,7 @@ impl<'a> Message<'a> {
 /// Lends the messages of a catalogue that have a live label, in rising order of the ids' bytes.
 #[derive(Debug, Drop)]
 pub struct Messages<'a> {
-    messages: Entries<'a, MessageId, Keyed<Lang, Cell>>,
+    messages: Iter<'a, MessageId, Keyed<Lang, Cell>>,
 }
 
 impl<'a> Messages<'a> {

@@ -7,12 +7,15 @@ ghost use Rattle.cata_core.specs.Taken.{edits_of};
 ghost use Rattle.cata_core.specs.Answers.{AreHeldAnswers, AreAnswers};
 ghost use Rattle.cata_core.specs.Faulty.{NoneFaulty, IsFirstFault, IsNoClash, NoDelivers};
 
+pub(crate) mod steps;
+pub(crate) mod world;
+
 use crate::answer::Answers;
 use crate::catalogue::Catalogue;
 use crate::play_fault::PlayFault;
+use crate::runs::steps::take_step;
+use crate::runs::world::World;
 use crate::step::Step;
-use crate::stepping::take_step;
-use crate::world::World;
 use std::alloc::Global;
 
 /// The answers of a run over at most 1,024 sites, which begin empty.
@@ -42,8 +45,8 @@ pub fn play(alloc: Global, sites: usize, steps: &[Step]) -> Result<Answers, Play
         posts: Vec::new(alloc),
         answers: Vec::new(alloc),
     };
-    for (n, step) in steps.iter().enumerate() {
-        take_step(&mut world, alloc, n, step)?;
+    for (number, step) in steps.iter().enumerate() {
+        take_step(&mut world, alloc, number, step)?;
     }
     let answers = Answers::new(world.answers);
     Ok(answers)

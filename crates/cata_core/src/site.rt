@@ -6,14 +6,14 @@ ghost use Rattle.cell_core.specs.Stamps.{IsNext, IsAbove};
 ghost use Rattle.cata_core.specs.CataFaults.{IsRefusal, IsLeft};
 ghost use Rattle.cata_core.specs.Deltas.{summary_of, delta_of};
 ghost use Rattle.cata_core.specs.Entries.{key_cmp, Agree, joined, Between};
-ghost use Rattle.cata_core.specs.Last.{last_of, IsLast};
+ghost use Rattle.cata_core.specs.Latest.{latest_of, IsLatest};
 ghost use Rattle.cata_core.specs.Settled.{IsSettledIn};
 
 use crate::cata_fault::CataFault;
 use crate::catalogue::Catalogue;
-use crate::delta::{Delta, news};
+use crate::delta::{Delta, missing_cells};
 use crate::edit::Edit;
-use crate::last::{greater, greatest};
+use crate::latest::{latest_of, latest_of_both};
 use crate::summary::Summary;
 use cell_core::{Cell, Label, MessageId, SiteName, Stamp};
 use lang_core::Lang;
@@ -25,24 +25,24 @@ use std::marker::Model;
 pub struct Site {
     own_name: SiteName,
     catalogue: Catalogue,
-    greatest: Option<Stamp>,
+    latest: Option<Stamp>,
 }
 
 impl Model for Site {
     ghost use Rattle.std.specs.Prelude.{◌≡◌};
-    ghost use Rattle.cata_core.specs.Last.{last_of};
+    ghost use Rattle.cata_core.specs.Latest.{latest_of};
     ghost use Rattle.cata_core.specs.Sites.{SiteState};
 
     ghost Value = { SiteState };
 
     ghost view = { λ s. record { name = s.own_name; cells = s.catalogue } };
 
-    ghost invariant = { λ s. s.greatest ≡ last_of s.catalogue };
+    ghost invariant = { λ s. s.latest ≡ latest_of s.catalogue };
 }
 
 impl Site {
     ghost use Rattle.cata_core.specs.Sites.{SiteState, RefusesEdit, RefusesDelta, IsLeftSite};
-    ghost use Rattle.cata_core.specs.Told.{SummaryState};
+    ghost use Rattle.cata_core.specs.Summary.{SummaryState};
 
     /// The empty site of this name, whose catalogue grows by this allocator.
     pub fn new(alloc: Global, name: SiteName) -> Site
@@ -51,7 +51,7 @@ impl Site {
         Site {
             own_name: name,
             catalogue: Catalogue::new(alloc),
-            greatest: None,
+            latest: None,
         }
     }
 
@@ -59,11 +59,11 @@ impl Site {
     pub fn from_catalogue(name: SiteName, catalogue: Catalogue) -> Site
         ensures { result ≡ record { name = name; cells = catalogue } }
     {
-        let greatest = greatest(&catalogue);
+        let latest = latest_of(&catalogue);
         Site {
             own_name: name,
             catalogue,
-            greatest,
+            latest,
         }
     }
 
@@ -95,19 +95,19 @@ impl Site {
         Ok(Site {
             own_name: self.own_name,
             catalogue: self.catalogue.copy(alloc)?,
-            greatest: self.greatest,
+            latest: self.latest,
         })
     }
 
-    /// The greatest stamp of its cells, deletions among them; none where it has no cell.
+    /// The latest stamp of its cells, deletions among them; none where it has no cell.
     ///
-    /// A key keeps its greatest stamp, so this is the greatest stamp that the site ever took in.
+    /// A key keeps its latest stamp, so this is the latest stamp that the site ever took in.
     pub fn last(&self) -> Option<Stamp>
-        ensures value { result ≡ last_of self.now.cells }
-        ensures greatest { IsLast self.now.cells result }
+        ensures value { result ≡ latest_of self.now.cells }
+        ensures latest { IsLatest self.now.cells result }
     {
-        let Site { greatest, .. } = self;
-        *greatest
+        let Site { latest, .. } = self;
+        *latest
     }
 
     /// Gives the key this label, and answers the stamp of the edit, which is above all that the
@@ -123,7 +123,7 @@ impl Site {
         lang: &Lang,
         label: &Label,
     ) -> Result<Stamp, CataFault>
-        ensures ok { IfOk result (λ stamp. IsNext (last_of self.old.cells) now self.old.name stamp
+        ensures ok { IfOk result (λ stamp. IsNext (latest_of self.old.cells) now self.old.name stamp
             × (self.new ≡ record { name = self.old.name; cells = put key_cmp (id.now, lang.now) (record { stamp = stamp; label = Some label.now }) self.old.cells })) }
         ensures err { IfErr result (RefusesEdit self.old now) }
         ensures left { OnErr result (self.new ≡ self.old) }
@@ -146,7 +146,7 @@ impl Site {
         id: &MessageId,
         lang: &Lang,
     ) -> Result<Stamp, CataFault>
-        ensures ok { IfOk result (λ stamp. IsNext (last_of self.old.cells) now self.old.name stamp
+        ensures ok { IfOk result (λ stamp. IsNext (latest_of self.old.cells) now self.old.name stamp
             × (self.new ≡ record { name = self.old.name; cells = put key_cmp (id.now, lang.now) (record { stamp = stamp; label = None }) self.old.cells })) }
         ensures err { IfErr result (RefusesEdit self.old now) }
         ensures left { OnErr result (self.new ≡ self.old) }
@@ -171,7 +171,7 @@ impl Site {
         ensures settled { IsSettledIn self.old.cells edit.now → IsOk result }
     {
         self.catalogue.apply(alloc, edit)?;
-        self.greatest = greater(self.greatest, Some(edit.cell().stamp()));
+        self.latest = latest_of_both(self.latest, Some(edit.cell().stamp()));
         Ok(())
     }
 
@@ -187,7 +187,7 @@ impl Site {
     pub fn delta_for(&self, alloc: Global, summary: &Summary) -> Result<Delta, AllocError>
         ensures { IfOk result (λ delta. delta ≡ record { addressee = summary.now.owner; cells = delta_of self.now.cells summary.now.stamps }) }
     {
-        let cells = news(alloc, &self.catalogue, summary)?;
+        let cells = missing_cells(alloc, &self.catalogue, summary)?;
         Ok(Delta::from_catalogue(summary.owner(), cells))
     }
 
@@ -222,60 +222,60 @@ impl Site {
         ensures fault { IfErr result (IsRefusal self.old.cells other.now) }
         ensures left { IfErr result (IsLeftSite self.old self.new other.now) }
     {
-        self.merge_with(alloc, other, greatest(other))
+        self.merge_with(alloc, other, latest_of(other))
     }
 
-    /// Joins the cells of the catalogue, whose greatest stamp is this.
+    /// Joins the cells of the catalogue, whose latest stamp is this.
     pub(crate) fn merge_with(
         &mut self,
         alloc: Global,
         other: &Catalogue,
-        last: Option<Stamp>,
+        latest: Option<Stamp>,
     ) -> Result<(), CataFault>
-        requires { last ≡ last_of other.now }
+        requires { latest ≡ latest_of other.now }
         ensures ok { OnOk result (self.new ≡ record { name = self.old.name; cells = joined self.old.cells other.now }) }
         ensures agree { OnOk result (Agree self.old.cells other.now) }
         ensures fault { IfErr result (IsRefusal self.old.cells other.now) }
         ensures left { IfErr result (IsLeftSite self.old self.new other.now) }
     {
         let result = self.catalogue.merge(alloc, other);
-        self.greatest = if result.is_ok() {
-            greater(self.greatest, last)
+        self.latest = if result.is_ok() {
+            latest_of_both(self.latest, latest)
         } else {
             // Cells may have come in although memory ran out.
-            greatest(&self.catalogue)
+            latest_of(&self.catalogue)
         };
         result
     }
 
-    /// Joins the cells of the catalogue, which agrees, and whose greatest stamp is this.
+    /// Joins the cells of the catalogue, which agrees, and whose latest stamp is this.
     pub(crate) fn join(
         &mut self,
         alloc: Global,
         other: &Catalogue,
-        last: Option<Stamp>,
+        latest: Option<Stamp>,
     ) -> Result<(), AllocError>
         requires agree { Agree self.old.cells other.now }
-        requires last { last ≡ last_of other.now }
+        requires latest { latest ≡ latest_of other.now }
         ensures ok { OnOk result (self.new ≡ record { name = self.old.name; cells = joined self.old.cells other.now }) }
         ensures name { self.new.name ≡ self.old.name }
         ensures err { OnErr result (Between self.old.cells self.new.cells other.now) }
     {
         let result = self.catalogue.join(alloc, other);
-        self.greatest = if result.is_ok() {
-            greater(self.greatest, last)
+        self.latest = if result.is_ok() {
+            latest_of_both(self.latest, latest)
         } else {
-            greatest(&self.catalogue)
+            latest_of(&self.catalogue)
         };
         result
     }
 
     /// The least stamp above all that the site holds, with a time of at least `now`.
     fn next_stamp(&self, now: u64) -> Result<Stamp, CataFault>
-        ensures { MatchResult result (IsNext (last_of self.now.cells) now self.now.name)
+        ensures { MatchResult result (IsNext (latest_of self.now.cells) now self.now.name)
             (λ fault. (fault ≡ CataFault.ClockSpent) × RefusesEdit self.now now fault) }
     {
-        match Stamp::next(self.greatest, now, self.own_name) {
+        match Stamp::next(self.latest, now, self.own_name) {
             Ok(stamp) => Ok(stamp),
             Err(_) => Err(CataFault::ClockSpent),
         }
@@ -290,7 +290,7 @@ impl Site {
         stamp: &Stamp,
         label: &Label,
     ) -> Result<(), AllocError>
-        requires { IsAbove (last_of self.old.cells) stamp.now }
+        requires { IsAbove (latest_of self.old.cells) stamp.now }
         ensures ok { OnOk result (self.new ≡ record { name = self.old.name; cells = put key_cmp (id.now, lang.now) (record { stamp = stamp.now; label = Some label.now }) self.old.cells }) }
         ensures err { OnErr result (self.new ≡ self.old) }
     {
@@ -306,7 +306,7 @@ impl Site {
         lang: &Lang,
         stamp: &Stamp,
     ) -> Result<(), AllocError>
-        requires { IsAbove (last_of self.old.cells) stamp.now }
+        requires { IsAbove (latest_of self.old.cells) stamp.now }
         ensures ok { OnOk result (self.new ≡ record { name = self.old.name; cells = put key_cmp (id.now, lang.now) (record { stamp = stamp.now; label = None }) self.old.cells }) }
         ensures err { OnErr result (self.new ≡ self.old) }
     {
@@ -321,13 +321,13 @@ impl Site {
         lang: &Lang,
         cell: Cell,
     ) -> Result<(), AllocError>
-        requires { IsAbove (last_of self.old.cells) cell.stamp }
+        requires { IsAbove (latest_of self.old.cells) cell.stamp }
         ensures ok { OnOk result (self.new ≡ record { name = self.old.name; cells = put key_cmp (id.now, lang.now) cell self.old.cells }) }
         ensures err { OnErr result (self.new ≡ self.old) }
     {
         let stamp = cell.stamp();
         self.catalogue.write(alloc, id, lang, cell)?;
-        self.greatest = Some(stamp);
+        self.latest = Some(stamp);
         Ok(())
     }
 }

@@ -14,15 +14,15 @@ use std::alloc::{AllocError, Global};
 use std::cmp::Ordering;
 use std::marker::Model;
 
-/// A message in a language, with the stamp that was told of it.
+/// A message in a language, with the stamp of its cell.
 #[derive(Debug, Drop)]
-pub(crate) struct Told {
+pub(crate) struct SummaryEntry {
     pub(crate) id: MessageId,
     pub(crate) lang: Lang,
     pub(crate) stamp: Stamp,
 }
 
-impl Told {
+impl SummaryEntry {
     ghost use Rattle.cata_core.specs.Entries.{key_cmp};
 
     /// How its key compares with a key.
@@ -33,10 +33,10 @@ impl Told {
     }
 
     /// An equal key with an equal stamp.
-    fn copy(&self, alloc: Global) -> Result<Told, AllocError>
+    fn copy(&self, alloc: Global) -> Result<SummaryEntry, AllocError>
         ensures { IfOk result (λ copied. copied ≡ self.now) }
     {
-        Ok(Told {
+        Ok(SummaryEntry {
             id: self.id.copy(alloc)?,
             lang: self.lang.copy(alloc)?,
             stamp: self.stamp,
@@ -49,25 +49,25 @@ impl Told {
 #[derive(Debug, Drop)]
 pub struct Summary {
     owner: SiteName,
-    told: Vec<Told>,
+    entries: Vec<SummaryEntry>,
 }
 
 impl Model for Summary {
     ghost use Rattle.cell_core.specs.Maps.{IsMap};
     ghost use Rattle.cata_core.specs.Entries.{key_cmp};
-    ghost use Rattle.cata_core.specs.Told.{SummaryState, told_of};
+    ghost use Rattle.cata_core.specs.Summary.{SummaryState, stamps_of};
 
     ghost Value = { SummaryState };
 
-    ghost view = { λ s. record { owner = s.owner; stamps = told_of s.told.items } };
+    ghost view = { λ s. record { owner = s.owner; stamps = stamps_of s.entries.items } };
 
-    ghost invariant = { λ s. IsMap key_cmp (told_of s.told.items) };
+    ghost invariant = { λ s. IsMap key_cmp (stamps_of s.entries.items) };
 }
 
 impl Summary {
     ghost use Rattle.cata_core.specs.Entries.{IsAboveAll};
     ghost use Rattle.cata_core.specs.StampsLeft.{stamps_left};
-    ghost use Rattle.cata_core.specs.Told.{SummaryState, told_of};
+    ghost use Rattle.cata_core.specs.Summary.{SummaryState, stamps_of};
 
     /// The summary of this owner without a key, which grows by this allocator.
     pub fn new(alloc: Global, owner: SiteName) -> Summary
@@ -75,7 +75,7 @@ impl Summary {
     {
         Summary {
             owner,
-            told: Vec::new(alloc),
+            entries: Vec::new(alloc),
         }
     }
 
@@ -92,7 +92,7 @@ impl Summary {
     {
         Summary {
             owner,
-            told: self.told,
+            entries: self.entries,
         }
     }
 
@@ -101,22 +101,22 @@ impl Summary {
         ensures len { result ≡ length self.now.stamps }
         ensures sorted { IsMap key_cmp self.now.stamps }
     {
-        self.told.len()
+        self.entries.len()
     }
 
     /// Whether there is no key.
     pub fn is_empty(&self) -> bool
         ensures empty { IsTrue result ↔ (self.now.stamps ≡ []) }
     {
-        self.told.is_empty()
+        self.entries.is_empty()
     }
 
     /// The key and stamp at a place in rising order of key, from 0; none from `len` on.
     pub fn nth(&self, place: usize) -> Option<(&MessageId, &Lang, Stamp)>
         ensures { option_map (λ e. ((e.0.now, e.1.now), e.2)) result ≡ slice_get self.now.stamps place }
     {
-        match self.told.get(place) {
-            Some(told) => Some((&told.id, &told.lang, told.stamp)),
+        match self.entries.get(place) {
+            Some(entry) => Some((&entry.id, &entry.lang, entry.stamp)),
             None => None,
         }
     }
@@ -126,14 +126,14 @@ impl Summary {
         ensures stamps { stamps_left result ≡ self.now.stamps }
         ensures sorted { IsMap key_cmp self.now.stamps }
     {
-        SummaryEntries::new(&self.told)
+        SummaryEntries::new(&self.entries)
     }
 
     /// Whether the key is greater than all that are there, as [`Summary::push`] asks.
     pub fn is_above_all(&self, id: &MessageId, lang: &Lang) -> bool
         ensures { IsTrue result ↔ IsAboveAll (id.now, lang.now) self.now.stamps }
     {
-        match self.told.last() {
+        match self.entries.last() {
             Some(last) => last.compare(id, lang).is_lt(),
             None => true,
         }
@@ -148,7 +148,7 @@ impl Summary {
         ensures ok { OnOk result (self.new ≡ record { owner = self.old.owner; stamps = self.old.stamps ++ ((id, lang), stamp) ∷ [] }) }
         ensures err { OnErr result (self.new ≡ self.old) }
     {
-        self.told.push(Told { id, lang, stamp })?;
+        self.entries.push(SummaryEntry { id, lang, stamp })?;
         Ok(())
     }
 
@@ -156,22 +156,22 @@ impl Summary {
     pub fn copy(&self, alloc: Global) -> Result<Summary, AllocError>
         ensures { IfOk result (λ copied. copied ≡ self.now) }
     {
-        let mut told = Vec::with_capacity(alloc, self.told.len())?;
-        for entry in &self.told {
-            told.push(entry.copy(alloc)?)?;
+        let mut entries = Vec::with_capacity(alloc, self.entries.len())?;
+        for entry in &self.entries {
+            entries.push(entry.copy(alloc)?)?;
         }
         Ok(Summary {
             owner: self.owner,
-            told,
+            entries,
         })
     }
 
-    /// What was told, in rising order of key.
-    pub(crate) fn told(&self) -> &[Told]
-        ensures told { told_of result.now ≡ self.now.stamps }
+    /// Its entries, in rising order of key.
+    pub(crate) fn entries(&self) -> &[SummaryEntry]
+        ensures entries { stamps_of result.now ≡ self.now.stamps }
         ensures sorted { IsMap key_cmp self.now.stamps }
     {
-        &self.told
+        &self.entries
     }
 
     /// The summary of a catalogue, for this owner.
@@ -182,30 +182,30 @@ impl Summary {
     ) -> Result<Summary, AllocError>
         ensures { IfOk result (λ summary. summary ≡ record { owner = owner; stamps = summary_of catalogue.now }) }
     {
-        let mut told = Vec::new(alloc);
+        let mut entries = Vec::new(alloc);
         for (id, lang, cell) in catalogue.iter() {
-            told.push(Told {
+            entries.push(SummaryEntry {
                 id: id.copy(alloc)?,
                 lang: lang.copy(alloc)?,
                 stamp: cell.stamp(),
             })?;
         }
-        Ok(Summary { owner, told })
+        Ok(Summary { owner, entries })
     }
 }
 
-impl PartialEq for Told {
+impl PartialEq for SummaryEntry {
     ghost use Rattle.std.specs.Cmp as laws_of;
     ghost use Rattle.std.specs.Cmp.{on_equiv};
     ghost use Rattle.std.specs.Ordering.{on};
-    ghost use Rattle.cata_core.specs.SummaryEq.{told_eq, told_equiv};
-    ghost use Rattle.cata_core.specs.Told.{entry_of};
+    ghost use Rattle.cata_core.specs.SummaryEq.{summary_entry_eq, summary_entry_equiv};
+    ghost use Rattle.cata_core.specs.Summary.{entry_of};
 
-    ghost eq = { on entry_of told_eq };
+    ghost eq = { on entry_of summary_entry_eq };
 
-    ghost laws = { laws_of.partial_equiv_from_equiv (on_equiv entry_of told_equiv) };
+    ghost laws = { laws_of.partial_equiv_from_equiv (on_equiv entry_of summary_entry_equiv) };
 
-    fn eq(&self, other: &Told) -> bool {
+    fn eq(&self, other: &SummaryEntry) -> bool {
         self.compare(&other.id, &other.lang).is_eq() && self.stamp.cmp(&other.stamp).is_eq()
     }
 }
@@ -219,7 +219,7 @@ impl PartialEq for Summary {
     ghost laws = { laws_of.partial_equiv_from_equiv summary_equiv };
 
     fn eq(&self, other: &Summary) -> bool {
-        other.owner == self.owner && self.told == other.told
+        other.owner == self.owner && self.entries == other.entries
     }
 }
 

@@ -2,25 +2,25 @@
 
 ghost use Rattle.std.specs.Iterator.{YieldsFirstBy, item_count};
 
-use crate::summary::Told;
+use crate::summary::SummaryEntry;
 use cell_core::{MessageId, Stamp};
 use lang_core::Lang;
 
 /// Lends the keys of a summary, each with its stamp, in rising order of key.
 #[derive(Debug, Drop)]
 pub struct SummaryEntries<'a> {
-    told: &'a [Told],
+    entries: &'a [SummaryEntry],
 }
 
 impl<'a> SummaryEntries<'a> {
     ghost use Rattle.std.specs.Prelude.{◌≡◌};
-    ghost use Rattle.cata_core.specs.Told.{told_of};
+    ghost use Rattle.cata_core.specs.Summary.{stamps_of};
     ghost use Rattle.cata_core.specs.StampsLeft.{stamps_left};
 
-    pub(crate) fn new(told: &'a [Told]) -> SummaryEntries<'a>
-        ensures { stamps_left result ≡ told_of told.now }
+    pub(crate) fn new(entries: &'a [SummaryEntry]) -> SummaryEntries<'a>
+        ensures { stamps_left result ≡ stamps_of entries.now }
     {
-        SummaryEntries { told }
+        SummaryEntries { entries }
     }
 }
 
@@ -34,8 +34,8 @@ impl<'a> Iterator for SummaryEntries<'a> {
     ghost remaining = { item_count stamps_left };
 
     fn next(&mut self) -> Option<(&'a MessageId, &'a Lang, Stamp)> {
-        let (first, rest) = self.told.split_first()?;
-        self.told = rest;
+        let (first, rest) = self.entries.split_first()?;
+        self.entries = rest;
         Some((&first.id, &first.lang, first.stamp))
     }
 }

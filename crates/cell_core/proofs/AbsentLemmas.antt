@@ -4,7 +4,7 @@ use Rattle.cell_core.specs.Joins.{JoinLaws}
 use Rattle.cell_core.specs.Maps.{AgreeIfBoth, joined_if_both, if_both_laws, BetweenIfBoth}
 use Rattle.cell_core.specs.Missing.{or_other}
 use Rattle.cell_core.proofs.Basics.{some_not_none}
-use Rattle.cell_core.proofs.WeaveLemmas.{or_none}
+use Rattle.cell_core.proofs.InterleaveLemmas.{or_none}
 
 pub stays_between : {J : Type 0} (between : J → J → J → Type 0) (x : Option J) → BetweenIfBoth between x x None
 stays_between between None = tt

@@ -113,9 +113,9 @@ module _ {K J : Type 0} {cmp : K → K → Ordering} (total : IsTotalOrder cmp) 
             ∙ ap (kept_joined joined (find cmp q old)) (sym (find-take_more cmp total other i k v other_map lt is q));
         gaps = s.gaps;
         lacking =
-            let old_news : is_new cmp old k ≡ false = ap (λ o. not (is_some o)) had in
+            let not_new : is_new cmp old k ≡ false = ap (λ o. not (is_some o)) had in
             s.lacking ∙ sym (append-nil (where_key cmp (is_new cmp old) (take i other)))
-            ∙ ap (λ b. where_key cmp (is_new cmp old) (take i other) ++ cond b ((k, v) ∷ []) []) (sym old_news)
+            ∙ ap (λ b. where_key cmp (is_new cmp old) (take i other) ++ cond b ((k, v) ∷ []) []) (sym not_new)
             ∙ sym (filter-append (λ (e : K × J). is_new cmp old e.0) (take i other) ((k, v) ∷ []))
             ∙ ap (where_key cmp (is_new cmp old)) (sym (take_more other i (k, v) lt ∙ ap (λ (e : K × J). take i other ++ e ∷ []) (sym is)));
       }
@@ -143,10 +143,10 @@ module _ {K J : Type 0} {cmp : K → K → Ordering} (total : IsTotalOrder cmp) 
               ∙ ap (kept_joined joined (find cmp q old)) (sym (find-take_more cmp total other i k v other_map lt is q));
           gaps = AllGaps-append cmp old 0 missing m s.gaps old_gap;
           lacking =
-              let news : is_new cmp old k ≡ true = ap (λ o. not (is_some o)) none in
+              let is_new_key : is_new cmp old k ≡ true = ap (λ o. not (is_some o)) none in
               pairs_of-append missing m
               ∙ ap (λ xs. xs ++ (k, v) ∷ []) s.lacking
-              ∙ ap (λ b. where_key cmp (is_new cmp old) (take i other) ++ cond b ((k, v) ∷ []) []) (sym news)
+              ∙ ap (λ b. where_key cmp (is_new cmp old) (take i other) ++ cond b ((k, v) ∷ []) []) (sym is_new_key)
               ∙ sym (filter-append (λ (e : K × J). is_new cmp old e.0) (take i other) ((k, v) ∷ []))
               ∙ ap (where_key cmp (is_new cmp old)) (sym (take_more other i (k, v) lt ∙ ap (λ (e : K × J). take i other ++ e ∷ []) (sym is)));
         })

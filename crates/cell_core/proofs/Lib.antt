@@ -5,6 +5,7 @@ pub mod CellLemmas
 pub mod ChunkLemmas
 pub mod CommonLemmas
 pub mod FirstRunLemmas
+pub mod InterleaveLemmas
 pub mod JoinLemmas
 pub mod LabelLemmas
 pub mod MigrationLemmas
@@ -14,4 +15,3 @@ pub mod RunLemmas
 pub mod SiteNameLemmas
 pub mod StampLemmas
 pub mod WalkLemmas
-pub mod WeaveLemmas

@@ -3,6 +3,7 @@ use Rattle.std.specs.Prelude.{◌≡◌, ℕ, suc, ◌<◌, T, List, [], ◌∷�
 use Rattle.std.specs.declared.cmp.Ordering.{Ordering}
 use Rattle.std.specs.FinMap.Entries.{find, below_all}
 use Rattle.std.specs.declared.vec.Vec.{Vec}
+use Rattle.cell_core.specs.declared.chunks.Chunks.{Chunks}
 use Rattle.cell_core.specs.Maps.{IsMap}
 use Rattle.cell_core.specs.Places.{place_of}
 
@@ -21,10 +22,14 @@ pub record IsChunked {K J Z : Type 0} (cmp : K → K → Ordering) (cs : List (V
   pub map : IsMap cmp (all_of cs)
   pub filled : AllFilled cs
 
--- the same, and their entries are so many
-pub record IsKept {K J Z : Type 0} (cmp : K → K → Ordering) (cs : List (Vec (K × J) Z)) (count : ℕ) : Type 0 where
-  pub chunked : IsChunked cmp cs
-  pub counted : count ≡ length (all_of cs)
+-- the entries, in order
+abbrev pub entries_of : {K J : Type 0} → Chunks K J → List (K × J)
+entries_of chunks = all_of chunks.list.items
+
+-- the chunks are filled, their entries in order, and so many as is counted
+pub record IsKept {K J : Type 0} (cmp : K → K → Ordering) (chunks : Chunks K J) : Type 0 where
+  pub chunked : IsChunked cmp chunks.list.items
+  pub counted : chunks.count ≡ length (entries_of chunks)
 
 -- the keys in front are lesser, and those behind are greater
 pub record IsChunkFor {K J Z : Type 0} (cmp : K → K → Ordering) (key : K) (cs : List (Vec (K × J) Z)) (at : ℕ) : Type 0 where

@@ -1,7 +1,7 @@
 -- What an iterator over the entries of a map has still to give.
 use Rattle.std.specs.Prelude.{List, ◌++◌}
-use Rattle.cell_core.specs.declared.keyed_iter.Entries.{Entries}
+use Rattle.cell_core.specs.declared.keyed.iter.Iter.{Iter}
 use Rattle.cell_core.specs.Chunks.{all_of}
 
-abbrev pub entries_left : {K J : Type 0} → Entries K J → List (K × J)
+abbrev pub entries_left : {K J : Type 0} → Iter K J → List (K × J)
 entries_left s = s.rest.now ++ all_of s.chunks.now

@@ -5,14 +5,14 @@ ghost use Rattle.std.specs.Prelude.{◌≡◌, ◌<◌, ◌≤◌, ◌↔◌, If
 ghost use Rattle.std.specs.FinMap.Entries.{find};
 ghost use Rattle.std.specs.Vec.{vec_len};
 ghost use Rattle.cell_core.specs.Maps.{IsMap, AgreeIfBoth, BetweenAtKeys, IsJoinedWith};
-ghost use Rattle.cell_core.specs.Chunks.{all_of, IsChunked, IsRunFor};
+ghost use Rattle.cell_core.specs.Chunks.{all_of, entries_of, IsChunked, IsKept, IsRunFor};
 ghost use Rattle.cell_core.specs.Places.{place_of};
 
-use crate::chunks::{chunk_for, cut_if_full};
+use crate::chunks::{Chunks, chunk_for, cut_if_full};
+use crate::interleave::join_pairs;
 use crate::join::Join;
 use crate::key::Key;
 use crate::pairs::{agree_pairs, bisect};
-use crate::weave::join_pairs;
 use std::alloc::{AllocError, Global};
 
 /// Whether the values of common keys agree.
@@ -55,75 +55,71 @@ fn agree_all_of<K: Key, J: Join>(pairs: &[(K, J)], theirs: &[Vec<(K, J)>]) -> bo
 
 /// Joins the other's entries to the chunks, and counts those that are new.
 pub(crate) fn join_chunks<K: Key, J: Join>(
-    chunks: &mut Vec<Vec<(K, J)>>,
+    chunks: &mut Chunks<K, J>,
     alloc: Global,
     theirs: &[Vec<(K, J)>],
-    count: &mut usize,
 ) -> Result<(), AllocError>
-    requires some { 0 < vec_len chunks.old }
-    requires chunked { IsChunked K.cmp chunks.old.items }
-    requires counted { count.old ≡ length (all_of chunks.old.items) }
+    requires some { 0 < vec_len chunks.old.list }
+    requires kept { IsKept K.cmp chunks.old }
     requires theirs { IsChunked K.cmp theirs.now }
-    requires agree { (q : K) → AgreeIfBoth J.agree (find K.cmp q (all_of chunks.old.items)) (find K.cmp q (all_of theirs.now)) }
-    ensures chunked { IsChunked K.cmp chunks.new.items }
-    ensures counted { count.new ≡ length (all_of chunks.new.items) }
-    ensures ok { OnOk result (IsJoinedWith K.cmp J.joined (all_of chunks.old.items) (all_of theirs.now) (all_of chunks.new.items)) }
-    ensures err { OnErr result (BetweenAtKeys K.cmp J.between (all_of chunks.old.items) (all_of chunks.new.items) (all_of theirs.now)) }
+    requires agree { (q : K) → AgreeIfBoth J.agree (find K.cmp q (entries_of chunks.old)) (find K.cmp q (all_of theirs.now)) }
+    ensures kept { IsKept K.cmp chunks.new }
+    ensures ok { OnOk result (IsJoinedWith K.cmp J.joined (entries_of chunks.old) (all_of theirs.now) (entries_of chunks.new)) }
+    ensures err { OnErr result (BetweenAtKeys K.cmp J.between (entries_of chunks.old) (entries_of chunks.new) (all_of theirs.now)) }
 {
     for pairs in theirs {
-        join_all_of(chunks, alloc, pairs, count)?;
+        join_all_of(chunks, alloc, pairs)?;
     }
     Ok(())
 }
 
-/// The same of entries side by side.
+/// Joins entries that lie side by side to the chunks, and counts those that are new.
 fn join_all_of<K: Key, J: Join>(
-    chunks: &mut Vec<Vec<(K, J)>>,
+    chunks: &mut Chunks<K, J>,
     alloc: Global,
     pairs: &[(K, J)],
-    count: &mut usize,
 ) -> Result<(), AllocError>
-    requires some { 0 < vec_len chunks.old }
-    requires chunked { IsChunked K.cmp chunks.old.items }
-    requires counted { count.old ≡ length (all_of chunks.old.items) }
+    requires some { 0 < vec_len chunks.old.list }
+    requires kept { IsKept K.cmp chunks.old }
     requires pairs { IsMap K.cmp pairs.now }
-    requires agree { (q : K) → AgreeIfBoth J.agree (find K.cmp q (all_of chunks.old.items)) (find K.cmp q pairs.now) }
-    ensures some { 0 < vec_len chunks.new }
-    ensures chunked { IsChunked K.cmp chunks.new.items }
-    ensures counted { count.new ≡ length (all_of chunks.new.items) }
-    ensures ok { OnOk result (IsJoinedWith K.cmp J.joined (all_of chunks.old.items) pairs.now (all_of chunks.new.items)) }
-    ensures err { OnErr result (BetweenAtKeys K.cmp J.between (all_of chunks.old.items) (all_of chunks.new.items) pairs.now) }
+    requires agree { (q : K) → AgreeIfBoth J.agree (find K.cmp q (entries_of chunks.old)) (find K.cmp q pairs.now) }
+    ensures some { 0 < vec_len chunks.new.list }
+    ensures kept { IsKept K.cmp chunks.new }
+    ensures ok { OnOk result (IsJoinedWith K.cmp J.joined (entries_of chunks.old) pairs.now (entries_of chunks.new)) }
+    ensures err { OnErr result (BetweenAtKeys K.cmp J.between (entries_of chunks.old) (entries_of chunks.new) pairs.now) }
 {
     let mut from = 0;
     while from < pairs.len() {
-        from += join_first_run(chunks, alloc, &pairs[from..], count)?;
+        from += join_first_run(chunks, alloc, &pairs[from..])?;
     }
     Ok(())
 }
 
 /// Joins the first run of the entries to its chunk, and says how long it is.
 fn join_first_run<K: Key, J: Join>(
-    chunks: &mut Vec<Vec<(K, J)>>,
+    chunks: &mut Chunks<K, J>,
     alloc: Global,
     pairs: &[(K, J)],
-    count: &mut usize,
 ) -> Result<usize, AllocError>
-    requires some { 0 < vec_len chunks.old }
-    requires chunked { IsChunked K.cmp chunks.old.items }
-    requires counted { count.old ≡ length (all_of chunks.old.items) }
+    requires some { 0 < vec_len chunks.old.list }
+    requires kept { IsKept K.cmp chunks.old }
     requires pairs { IsMap K.cmp pairs.now }
     requires more { 0 < length pairs.now }
-    requires agree { (q : K) → AgreeIfBoth J.agree (find K.cmp q (all_of chunks.old.items)) (find K.cmp q pairs.now) }
-    ensures some { 0 < vec_len chunks.new }
-    ensures chunked { IsChunked K.cmp chunks.new.items }
-    ensures counted { count.new ≡ length (all_of chunks.new.items) }
+    requires agree { (q : K) → AgreeIfBoth J.agree (find K.cmp q (entries_of chunks.old)) (find K.cmp q pairs.now) }
+    ensures some { 0 < vec_len chunks.new.list }
+    ensures kept { IsKept K.cmp chunks.new }
     ensures end { IfOk result (λ end. (0 < end) × (end ≤ length pairs.now)) }
-    ensures ok { IfOk result (λ end. IsJoinedWith K.cmp J.joined (all_of chunks.old.items) (take end pairs.now) (all_of chunks.new.items)) }
-    ensures err { OnErr result (BetweenAtKeys K.cmp J.between (all_of chunks.old.items) (all_of chunks.new.items) pairs.now) }
+    ensures ok { IfOk result (λ end. IsJoinedWith K.cmp J.joined (entries_of chunks.old) (take end pairs.now) (entries_of chunks.new)) }
+    ensures err { OnErr result (BetweenAtKeys K.cmp J.between (entries_of chunks.old) (entries_of chunks.new) pairs.now) }
 {
-    let (at, end) = first_run(chunks, pairs);
-    join_pairs(&mut chunks[at], alloc, &pairs[..end], count)?;
-    cut_if_full(chunks, at);
+    let (at, end) = first_run(&chunks.list, pairs);
+    join_pairs(
+        &mut chunks.list[at],
+        alloc,
+        &pairs[..end],
+        &mut chunks.count,
+    )?;
+    cut_if_full(&mut chunks.list, at);
     Ok(end)
 }
 

@@ -7,7 +7,7 @@ ghost use Rattle.std.specs.FinMap.Entries.{find, put};
 ghost use Rattle.std.specs.Vec.{vec_len, vec_capacity};
 ghost use Rattle.cell_core.specs.Maps.{IsMap};
 ghost use Rattle.cell_core.specs.Places.{IsGap};
-ghost use Rattle.cell_core.specs.Chunks.{all_of, AllFilled, IsChunked, IsChunkFor};
+ghost use Rattle.cell_core.specs.Chunks.{all_of, entries_of, AllFilled, IsChunked, IsChunkFor, IsKept};
 
 use crate::join::Join;
 use crate::key::{Key, Query};
@@ -16,6 +16,13 @@ use std::alloc::{AllocError, Global};
 
 /// A chunk that reaches this length is split in two.
 pub(crate) const FULL: usize = 64;
+
+/// Entries in chunks, with their number.
+#[derive(Drop)]
+pub(crate) struct Chunks<K, J> {
+    pub(crate) list: Vec<Vec<(K, J)>>,
+    pub(crate) count: usize,
+}
 
 /// The chunk where the key that is sought stands, or would go.
 pub(crate) fn chunk_for<K: Key, J, Q: Query<K>>(chunks: &[Vec<(K, J)>], query: Q) -> usize
@@ -36,7 +43,7 @@ pub(crate) fn chunk_for<K: Key, J, Q: Query<K>>(chunks: &[Vec<(K, J)>], query: Q
     low
 }
 
-/// The same, with a look at the last chunk first.
+/// As [`chunk_for`], with a look at the last chunk first.
 pub(crate) fn chunk_from_last<K: Key, J>(chunks: &[Vec<(K, J)>], key: &K) -> usize
     requires chunked { IsChunked K.cmp chunks.now }
     requires some { 0 < length chunks.now }
@@ -103,27 +110,24 @@ fn copy_pairs<K: Key, J: Join>(alloc: Global, pairs: &[(K, J)]) -> Result<Vec<(K
 
 /// Gives the key the value; if a new key cannot be stored, the pair is returned.
 pub(crate) fn put_pair<K: Key, J: Drop>(
-    chunks: &mut Vec<Vec<(K, J)>>,
+    chunks: &mut Chunks<K, J>,
     key: K,
     value: J,
-    count: &mut usize,
 ) -> Result<(), (K, J)>
-    requires chunked { IsChunked K.cmp chunks.old.items }
-    requires counted { count.old ≡ length (all_of chunks.old.items) }
-    ensures chunked { IsChunked K.cmp chunks.new.items }
-    ensures counted { count.new ≡ length (all_of chunks.new.items) }
-    ensures ok { OnOk result (all_of chunks.new.items ≡ put K.cmp key value (all_of chunks.old.items)) }
-    ensures err { IfErr result (λ pair. (pair ≡ (key, value)) × (all_of chunks.new.items ≡ all_of chunks.old.items)) }
-    ensures held { IsSome (find K.cmp key (all_of chunks.old.items)) → IsOk result }
+    requires { IsKept K.cmp chunks.old }
+    ensures kept { IsKept K.cmp chunks.new }
+    ensures ok { OnOk result (entries_of chunks.new ≡ put K.cmp key value (entries_of chunks.old)) }
+    ensures err { IfErr result (λ pair. (pair ≡ (key, value)) × (entries_of chunks.new ≡ entries_of chunks.old)) }
+    ensures held { IsSome (find K.cmp key (entries_of chunks.old)) → IsOk result }
 {
-    if is_above_all(chunks, &key) {
-        return append(chunks, key, value, count);
+    if is_above_all(&chunks.list, &key) {
+        return append(chunks, key, value);
     }
-    let at = chunk_for(chunks, &key);
-    match put_in(&mut chunks[at], key, value, count) {
+    let at = chunk_for(&chunks.list, &key);
+    match put_in(&mut chunks.list[at], key, value, &mut chunks.count) {
         Ok(added) => {
             if added {
-                cut_if_full(chunks, at);
+                cut_if_full(&mut chunks.list, at);
             }
             Ok(())
         }
@@ -144,26 +148,19 @@ fn is_above_all<K: Key, J>(chunks: &[Vec<(K, J)>], key: &K) -> bool
 }
 
 /// Puts a key that is above all behind them; a full last chunk stays whole.
-fn append<K: Key, J: Drop>(
-    chunks: &mut Vec<Vec<(K, J)>>,
-    key: K,
-    value: J,
-    count: &mut usize,
-) -> Result<(), (K, J)>
-    requires chunked { IsChunked K.cmp chunks.old.items }
-    requires counted { count.old ≡ length (all_of chunks.old.items) }
-    requires above { IsGap K.cmp key (all_of chunks.old.items) (length (all_of chunks.old.items)) }
-    ensures chunked { IsChunked K.cmp chunks.new.items }
-    ensures counted { count.new ≡ length (all_of chunks.new.items) }
-    ensures ok { OnOk result (all_of chunks.new.items ≡ put K.cmp key value (all_of chunks.old.items)) }
-    ensures err { IfErr result (λ pair. (pair ≡ (key, value)) × (all_of chunks.new.items ≡ all_of chunks.old.items)) }
+fn append<K: Key, J: Drop>(chunks: &mut Chunks<K, J>, key: K, value: J) -> Result<(), (K, J)>
+    requires kept { IsKept K.cmp chunks.old }
+    requires above { IsGap K.cmp key (entries_of chunks.old) (length (entries_of chunks.old)) }
+    ensures kept { IsKept K.cmp chunks.new }
+    ensures ok { OnOk result (entries_of chunks.new ≡ put K.cmp key value (entries_of chunks.old)) }
+    ensures err { IfErr result (λ pair. (pair ≡ (key, value)) × (entries_of chunks.new ≡ entries_of chunks.old)) }
 {
-    let Some(total) = count.checked_add(1) else {
+    let Some(total) = chunks.count.checked_add(1) else {
         return Err((key, value));
     };
-    match push_last(chunks, (key, value)) {
+    match push_last(&mut chunks.list, (key, value)) {
         Ok(()) => {
-            *count = total;
+            chunks.count = total;
             Ok(())
         }
         Err(pair) => Err(pair),

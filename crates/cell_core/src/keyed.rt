@@ -8,11 +8,15 @@ ghost use Rattle.cell_core.specs.contracts.keyed.Keyed.{the_row};
 ghost use Rattle.cell_core.specs.Found.{with_key};
 ghost use Rattle.cell_core.specs.Maps.{IsMap, AgreeMaps, joined_maps, BetweenMaps, map_laws};
 
+pub(crate) mod iter;
+
 use crate::chunk_joins::{agree_chunks, join_chunks};
-use crate::chunks::{chunk_for, chunk_from_last, copy_chunks, last_pair, nth_pair, put_pair};
+use crate::chunks::{
+    Chunks, chunk_for, chunk_from_last, copy_chunks, last_pair, nth_pair, put_pair,
+};
 use crate::join::Join;
 use crate::key::{Key, Query};
-use crate::keyed_iter::{Entries, are_equal};
+use crate::keyed::iter::{Iter, are_equal};
 use crate::pairs::{bisect, bisect_from_last};
 use std::alloc::{AllocError, Global};
 use std::fmt;
@@ -38,20 +42,19 @@ use std::marker::Model;
 /// ```
 #[derive(Drop)]
 pub struct Keyed<K: Key, J> {
-    // In chunks of fewer than 64 entries where memory allows, so that a new key moves few entries.
-    chunks: Vec<Vec<(K, J)>>,
-    count: usize,
+    // Of fewer than 64 entries each where memory allows, so that a new key moves few entries.
+    chunks: Chunks<K, J>,
 }
 
 impl<K: Key, J> Model for Keyed<K, J> {
     ghost use Rattle.std.specs.Prelude.{List};
-    ghost use Rattle.cell_core.specs.Chunks.{all_of, IsKept};
+    ghost use Rattle.cell_core.specs.Chunks.{entries_of, IsKept};
 
     ghost Value = { List (K × J) };
 
-    ghost view = { λ a. all_of a.chunks.items };
+    ghost view = { λ a. entries_of a.chunks };
 
-    ghost invariant = { λ a. IsKept K.cmp a.chunks.items a.count };
+    ghost invariant = { λ a. IsKept K.cmp a.chunks };
 }
 
 impl<K: Key, J> Keyed<K, J> {
@@ -62,8 +65,10 @@ impl<K: Key, J> Keyed<K, J> {
         ensures { result ≡ [] }
     {
         Keyed {
-            chunks: Vec::new(alloc),
-            count: 0,
+            chunks: Chunks {
+                list: Vec::new(alloc),
+                count: 0,
+            },
         }
     }
 
@@ -72,7 +77,7 @@ impl<K: Key, J> Keyed<K, J> {
         ensures len { result ≡ length self.now }
         ensures map { IsMap K.cmp self.now }
     {
-        self.count
+        self.chunks.count
     }
 
     /// Whether no key is held.
@@ -87,7 +92,7 @@ impl<K: Key, J> Keyed<K, J> {
         ensures entry { option_map (λ e. (e.0.now, e.1.now)) result ≡ slice_get self.now place }
         ensures map { IsMap K.cmp self.now }
     {
-        match nth_pair(&self.chunks, place) {
+        match nth_pair(&self.chunks.list, place) {
             Some(pair) => Some((&pair.0, &pair.1)),
             None => None,
         }
@@ -98,7 +103,7 @@ impl<K: Key, J> Keyed<K, J> {
         ensures entry { option_map (λ e. (e.0.now, e.1.now)) result ≡ slice_get self.now (length self.now - 1) }
         ensures map { IsMap K.cmp self.now }
     {
-        match last_pair(&self.chunks) {
+        match last_pair(&self.chunks.list) {
             Some(pair) => Some((&pair.0, &pair.1)),
             None => None,
         }
@@ -121,11 +126,11 @@ impl<K: Key, J> Keyed<K, J> {
         ensures entry { option_map (λ e. (e.0.now, e.1.now)) result ≡ with_key (Q.sought query) (find K.cmp (Q.sought query) self.now) }
         ensures map { IsMap K.cmp self.now }
     {
-        if self.chunks.is_empty() {
+        if self.chunks.list.is_empty() {
             return None;
         }
-        let at = chunk_for(&self.chunks, query);
-        let chunk = &self.chunks[at];
+        let at = chunk_for(&self.chunks.list, query);
+        let chunk = &self.chunks.list[at];
         match bisect(chunk, query) {
             Ok(place) => {
                 let entry = &chunk[place];
@@ -144,12 +149,12 @@ impl<K: Key, J> Keyed<K, J> {
         ensures value { option_copied_mut result ≡ find K.cmp key.now self.old }
         ensures map { IsMap K.cmp self.old }
     {
-        if self.chunks.is_empty() {
+        if self.chunks.list.is_empty() {
             return None;
         }
-        let at = chunk_from_last(&self.chunks, key);
-        match bisect_from_last(&self.chunks[at], key) {
-            Ok(place) => Some(&mut self.chunks[at][place].1),
+        let at = chunk_from_last(&self.chunks.list, key);
+        match bisect_from_last(&self.chunks.list[at], key) {
+            Ok(place) => Some(&mut self.chunks.list[at][place].1),
             Err(_) => None,
         }
     }
@@ -165,17 +170,17 @@ impl<K: Key, J> Keyed<K, J> {
         ensures err { IfErr result (λ pair. (pair ≡ (key, value)) × (self.new ≡ self.old)) }
         ensures held { IsSome (find K.cmp key self.old) → IsOk result }
     {
-        put_pair(&mut self.chunks, key, value, &mut self.count)
+        put_pair(&mut self.chunks, key, value)
     }
 
     /// An iterator over the entries in rising order of the keys.
-    pub fn iter(&self) -> Entries<'_, K, J>
+    pub fn iter(&self) -> Iter<'_, K, J>
         ensures rest { entries_left result ≡ self.now }
         ensures map { IsMap K.cmp self.now }
     {
-        Entries {
+        Iter {
             rest: &[],
-            chunks: self.chunks.as_slice(),
+            chunks: self.chunks.list.as_slice(),
         }
     }
 }
@@ -190,7 +195,7 @@ impl<K: Key, J: PartialEq> PartialEq for Keyed<K, J> {
     ghost laws = { lists_per (and_per (on_per (λ p. p.0) K.PartialEq.laws) (on_per (λ p. p.1) J.laws)) };
 
     fn eq(&self, other: &Self) -> bool {
-        other.count == self.count && are_equal(self.iter(), other.iter())
+        other.chunks.count == self.chunks.count && are_equal(self.iter(), other.iter())
     }
 }
 
@@ -219,25 +224,27 @@ impl<K: Key, J: Join> Join for Keyed<K, J> {
 
     fn agrees(&self, other: &Self) -> bool {
         // Over the smaller map, with a search in the greater.
-        if self.count <= other.count {
-            agree_chunks(&self.chunks, &other.chunks)
+        if self.chunks.count <= other.chunks.count {
+            agree_chunks(&self.chunks.list, &other.chunks.list)
         } else {
-            agree_chunks(&other.chunks, &self.chunks)
+            agree_chunks(&other.chunks.list, &self.chunks.list)
         }
     }
 
     fn join(&mut self, alloc: Global, other: &Self) -> Result<(), AllocError> {
-        if self.chunks.is_empty() {
+        if self.chunks.list.is_empty() {
             *self = other.copy(alloc)?;
             return Ok(());
         }
-        join_chunks(&mut self.chunks, alloc, &other.chunks, &mut self.count)
+        join_chunks(&mut self.chunks, alloc, &other.chunks.list)
     }
 
     fn copy(&self, alloc: Global) -> Result<Self, AllocError> {
         Ok(Keyed {
-            chunks: copy_chunks(alloc, &self.chunks)?,
-            count: self.count,
+            chunks: Chunks {
+                list: copy_chunks(alloc, &self.chunks.list)?,
+                count: self.chunks.count,
+            },
         })
     }
 }

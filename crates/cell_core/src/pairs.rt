@@ -31,7 +31,7 @@ pub(crate) fn bisect<K: Key, J, Q: Query<K>>(pairs: &[(K, J)], query: Q) -> Resu
     Err(low)
 }
 
-/// The same, with a look at the last entry first.
+/// As [`bisect`], with a look at the last entry first.
 pub(crate) fn bisect_from_last<K: Key, J>(pairs: &[(K, J)], key: &K) -> Result<usize, usize>
     requires { IsMap K.cmp pairs.now }
     ensures found { IfOk result (IsPlace K.cmp key.now pairs.now) }

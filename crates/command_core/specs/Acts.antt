@@ -97,10 +97,10 @@ abbrev pub RefusesImport : ℕ → List ℕ → DocFault → Type 0
 RefusesImport now input fault = (site maps : List ℕ) × AreDocuments input site maps × exchange.RefusesImport site now maps fault
 
 abbrev pub IsDelta : List ℕ → List ℕ → ℕ → Type 0
-IsDelta input text answered = (site summary : List ℕ) × AreDocuments input site summary × call.IsNewsFor site summary text × (answered ≡ 0)
+IsDelta input text answered = (site summary : List ℕ) × AreDocuments input site summary × call.IsDeltaFor site summary text × (answered ≡ 0)
 
 abbrev pub RefusesDelta : List ℕ → DocFault → Type 0
-RefusesDelta input fault = (site summary : List ℕ) × AreDocuments input site summary × call.RefusesNews site summary fault
+RefusesDelta input fault = (site summary : List ℕ) × AreDocuments input site summary × call.RefusesDeltaFor site summary fault
 
 abbrev pub IsTake : List ℕ → List ℕ → ℕ → Type 0
 IsTake input text answered = (site delta : List ℕ) × AreDocuments input site delta × call.IsTaken site delta text × (answered ≡ 0)

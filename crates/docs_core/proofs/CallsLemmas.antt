@@ -3,7 +3,7 @@ use Rattle.std.proofs.Common.{◌≡◌, ◌∙◌, ℕ, List, ap, inl, refl, su
 use Rattle.serde_json.specs.Data.{Data}
 use Rattle.docs_core.specs.Checks.{Check, IsRefusal}
 use Rattle.cata_core.specs.Sites.{SiteState}
-use Rattle.cata_core.specs.Told.{SummaryState}
+use Rattle.cata_core.specs.Summary.{SummaryState}
 use Rattle.cata_core.specs.declared.delta.Delta.{Delta}
 use Rattle.docs_core.specs.Documents.{delta_text, site_text, summary_text}
 use Rattle.docs_core.specs.Faults.{of_no_document}

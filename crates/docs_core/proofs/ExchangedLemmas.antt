@@ -4,10 +4,10 @@ use Rattle.cata_core.specs.Deltas.{HasAll, Stamps, delta_of, summary_of}
 use Rattle.cata_core.specs.Entries.{Agree, Entries, joined}
 use Rattle.cata_core.specs.Sites.{SiteState}
 use Rattle.cata_core.specs.declared.delta.Delta.{Delta}
-use Rattle.cata_core.specs.Told.{SummaryState}
+use Rattle.cata_core.specs.Summary.{SummaryState}
 use Rattle.cata_core.proofs.Deltas.{nothing_lost}
 use Rattle.cata_core.proofs.Summaries.{has_own}
-use Rattle.docs_core.specs.Calls.{AreSynced, IsNewsFor, IsSummarised, IsTaken}
+use Rattle.docs_core.specs.Calls.{AreSynced, IsDeltaFor, IsSummarised, IsTaken}
 use Rattle.docs_core.specs.Documents.{cells_values}
 use Rattle.docs_core.specs.ReadsAs.{IsSiteText, ReadsAsDelta, ReadsAsSite}
 use Rattle.docs_core.specs.Texts.{text}
@@ -30,7 +30,7 @@ taken_suffices a b text site sender told reads_site reads_delta agree has (own, 
 
 -- the summary of the one, the delta that the other makes for it, and its taking
 pub exchanged : (a b told delta taken : List ℕ) (site other : SiteState) → ReadsAsSite a site → ReadsAsSite b other → Agree site.cells other.cells
-    → IsSummarised a told → IsNewsFor b told delta → IsTaken a delta taken → IsSiteText (record { name = site.name; cells = joined site.cells other.cells }) taken
+    → IsSummarised a told → IsDeltaFor b told delta → IsTaken a delta taken → IsSiteText (record { name = site.name; cells = joined site.cells other.cells }) taken
 exchanged a b told delta taken site other reads_site reads_other agree (s, s_reads, summarised) (o, summary, o_reads, summary_reads, news) takes =
     let own : s ≡ site = one_site a s site s_reads reads_site in
     let sender : o ≡ other = one_site b o other o_reads reads_other in

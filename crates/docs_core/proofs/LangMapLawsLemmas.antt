@@ -13,7 +13,7 @@ use Rattle.std.specs.declared.cmp.Ordering.TheVariants.{Less, Equal}
 use Rattle.cell_core.specs.Maps.{IsMap}
 use Rattle.cata_core.proofs.Basics.{first_part, second_part}
 use Rattle.cata_core.proofs.Flat.{pair_total}
-use Rattle.cata_core.proofs.Places.{below-at}
+use Rattle.cata_core.proofs.KeyPlaces.{below-at}
 use Rattle.cata_core.specs.Entries.{key_cmp, key_cmp_exact, key_cmp_total, pair_cmp, text_cmp}
 use Rattle.nego_core.proofs.Unique.{one_order, text_tied, then_tied}
 use Rattle.serde_json.specs.Data.{Data}

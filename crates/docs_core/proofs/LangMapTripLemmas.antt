@@ -18,7 +18,7 @@ use Rattle.cell_core.specs.Labels.{IsLabel}
 use Rattle.cell_core.specs.Maps.{IsMap}
 use Rattle.cell_core.specs.MessageIds.{IsMessageId}
 use Rattle.cata_core.proofs.Basics.{both_parts, first_part, less_than, second_part}
-use Rattle.cata_core.proofs.Places.{below_lesser}
+use Rattle.cata_core.proofs.KeyPlaces.{below_lesser}
 use Rattle.cata_core.specs.Entries.{EntryKey, key_cmp, text_cmp}
 use Rattle.cata_core.specs.Flat.{flat, under}
 use Rattle.json.specs.Json.{value}

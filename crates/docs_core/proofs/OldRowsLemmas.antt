@@ -8,7 +8,7 @@ use Rattle.cell_core.specs.SiteNames.{padded_name}
 use Rattle.cata_core.specs.Deltas.{Stamps}
 use Rattle.cata_core.specs.Entries.{Entries, Entry, EntryKey}
 use Rattle.cata_core.specs.Sites.{SiteState}
-use Rattle.cata_core.specs.Told.{SummaryState}
+use Rattle.cata_core.specs.Summary.{SummaryState}
 use Rattle.cata_core.specs.declared.delta.Delta.{Delta as DeltaState}
 use Rattle.cell_core.specs.declared.stamp.Stamp.{Stamp}
 use Rattle.cata_core.specs.Migration.{OldDelta, OldEntries, OldEntry, OldSite, OldStamps, OldSummary, migrated_delta, migrated_entries, migrated_entry, migrated_site, migrated_stamps, migrated_summary}

@@ -12,7 +12,7 @@ use Rattle.serde_json.specs.Data.{Data, Members, member}
 use Rattle.serde_json.specs.Find.{get_member}
 use Rattle.cata_core.specs.declared.delta.Delta.{Delta as DeltaState}
 use Rattle.cata_core.specs.Sites.{SiteState}
-use Rattle.cata_core.specs.Told.{SummaryState}
+use Rattle.cata_core.specs.Summary.{SummaryState}
 use Rattle.docs_core.specs.Checks.{AllPass, Check, rows_checks}
 use Rattle.docs_core.specs.Documents.{cells_values, delta_text, site_text, stamps_values, summary_text}
 use Rattle.docs_core.specs.Forms.{names_of}

@@ -16,10 +16,10 @@ use Rattle.cell_core.specs.declared.cell.Cell.{Cell}
 use Rattle.cell_core.specs.declared.stamp.Stamp.{Stamp}
 use Rattle.cell_core.proofs.CellLemmas.{label_decides}
 use Rattle.cata_core.specs.Entries.{Entries, EntryKey, key_cmp, key_cmp_exact, key_cmp_total}
-use Rattle.cata_core.specs.Last.{last_of}
+use Rattle.cata_core.specs.Latest.{latest_of}
 use Rattle.cata_core.proofs.Basics.{both_parts, first_part, less_than, second_part, tied}
 use Rattle.cata_core.proofs.Filtered.{find-below}
-use Rattle.cata_core.proofs.Places.{below_lesser}
+use Rattle.cata_core.proofs.KeyPlaces.{below_lesser}
 use Rattle.docs_core.specs.Exported.{label_at}
 use Rattle.docs_core.specs.LangMaps.{Labelled}
 use Rattle.docs_core.specs.Made.{Change, Makes, SpendsClock, with_change}
@@ -323,7 +323,7 @@ module _ (now : ℕ) (name : List ℕ) (r : Revised) (old new old_rest new_rest 
   ]
 
 -- a list in which something is found is not empty, so that its first change would be made
-spends_first : (now : ℕ) (name : List ℕ) (q : EntryKey) (changes : List Change) (cells : Entries) → find key_cmp q changes ≢ None → NoNext (last_of cells) now name → SpendsClock now name changes cells
+spends_first : (now : ℕ) (name : List ℕ) (q : EntryKey) (changes : List Change) (cells : Entries) → find key_cmp q changes ≢ None → NoNext (latest_of cells) now name → SpendsClock now name changes cells
 spends_first now name q [] cells found none = absurd (found refl)
 spends_first now name q (e ∷ es) cells found none = inl none
 

@@ -6,9 +6,9 @@ use Rattle.cell_core.specs.declared.stamp.Stamp.{Stamp}
 use Rattle.cata_core.specs.CataFaults.{IsRefusal}
 use Rattle.cata_core.specs.Deltas.{delta_of, summary_of}
 use Rattle.cata_core.specs.Entries.{Agree, EntryKey, joined, key_cmp}
-use Rattle.cata_core.specs.Last.{last_of}
+use Rattle.cata_core.specs.Latest.{latest_of}
 use Rattle.cata_core.specs.Sites.{RefusesDelta as NotTaken, RefusesEdit, SiteState}
-use Rattle.cata_core.specs.Told.{SummaryState}
+use Rattle.cata_core.specs.Summary.{SummaryState}
 use Rattle.cata_core.specs.declared.cata_fault.CataFault.{CataFault}
 use Rattle.cata_core.specs.declared.delta.Delta.{Delta}
 use Rattle.docs_core.specs.Faults.{of_no_document, of_site}
@@ -25,7 +25,7 @@ IsOfSite Refuses fault = (cause : CataFault) × Refuses cause × (fault ≡ of_n
 -- the site with the next stamp and the label at this key, none where it is deleted
 abbrev pub IsEdited : List ℕ → ℕ → EntryKey → Option (List (List ℕ)) → List ℕ → Type 0
 IsEdited bytes now key label text =
-    (site : SiteState) × (stamp : Stamp) × ReadsAsSite bytes site × IsNext (last_of site.cells) now site.name stamp
+    (site : SiteState) × (stamp : Stamp) × ReadsAsSite bytes site × IsNext (latest_of site.cells) now site.name stamp
     × IsSiteText (record { name = site.name; cells = put key_cmp key (record { stamp = stamp; label = label }) site.cells }) text
 
 abbrev pub RefusesEditing : List ℕ → ℕ → DocFault → Type 0
@@ -53,14 +53,14 @@ RefusesSync a b fault =
 abbrev pub IsSummarised : List ℕ → List ℕ → Type 0
 IsSummarised bytes text = (site : SiteState) × ReadsAsSite bytes site × IsSummaryText (record { owner = site.name; stamps = summary_of site.cells }) text
 
--- what the summary lacks, for its owner
-abbrev pub IsNewsFor : List ℕ → List ℕ → List ℕ → Type 0
-IsNewsFor a b text =
+-- the cells that the summary lacks, for its owner
+abbrev pub IsDeltaFor : List ℕ → List ℕ → List ℕ → Type 0
+IsDeltaFor a b text =
     (site : SiteState) × (summary : SummaryState) × ReadsAsSite a site × ReadsAsSummary b summary
     × IsDeltaText (record { addressee = summary.owner; cells = delta_of site.cells summary.stamps }) text
 
-abbrev pub RefusesNews : List ℕ → List ℕ → DocFault → Type 0
-RefusesNews a b fault =
+abbrev pub RefusesDeltaFor : List ℕ → List ℕ → DocFault → Type 0
+RefusesDeltaFor a b fault =
     IsOfDocument 1 (RefusesSite a) fault
     ⊎ ((site : SiteState) × ReadsAsSite a site × IsOfDocument 2 (RefusesSummary b) fault)
 

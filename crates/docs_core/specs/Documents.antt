@@ -6,7 +6,7 @@ use Rattle.cata_core.specs.declared.delta.Delta.{Delta}
 use Rattle.cata_core.specs.Deltas.{Stamps}
 use Rattle.cata_core.specs.Entries.{Entries, Entry, EntryKey}
 use Rattle.cata_core.specs.Sites.{SiteState}
-use Rattle.cata_core.specs.Told.{SummaryState}
+use Rattle.cata_core.specs.Summary.{SummaryState}
 use Rattle.docs_core.specs.Entries.{row_of}
 use Rattle.docs_core.specs.Texts.{text}
 use Rattle.docs_core.specs.Values.{cell_value, delta_value, site_value, stamp_value, summary_value}

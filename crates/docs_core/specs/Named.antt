@@ -4,7 +4,7 @@ use Rattle.cell_core.specs.SiteNames.{IsSiteName}
 use Rattle.serde_json.specs.Data.{Data}
 use Rattle.cata_core.specs.declared.delta.Delta.{Delta as DeltaState}
 use Rattle.cata_core.specs.Sites.{SiteState}
-use Rattle.cata_core.specs.Told.{SummaryState}
+use Rattle.cata_core.specs.Summary.{SummaryState}
 use Rattle.docs_core.specs.Checks.{Check, check, rows_checks}
 use Rattle.docs_core.specs.Heads.{head_checks, own_data, rows_in, version_of}
 use Rattle.docs_core.specs.Rising.{AreEntries, cell_checks, entry_in, stamp_checks, told_in}

@@ -6,7 +6,7 @@ use Rattle.cell_core.specs.Maps.{IsMap}
 use Rattle.cell_core.specs.Stamps.{IsNext, NoNext}
 use Rattle.cell_core.specs.declared.stamp.Stamp.{Stamp}
 use Rattle.cata_core.specs.Entries.{Entries, EntryKey, key_cmp}
-use Rattle.cata_core.specs.Last.{last_of}
+use Rattle.cata_core.specs.Latest.{latest_of}
 use Rattle.docs_core.specs.Exported.{label_at}
 use Rattle.docs_core.specs.LangMaps.{Labelled}
 use Rattle.docs_core.specs.Made.{with_change}
@@ -38,8 +38,8 @@ abbrev pub IsRevised : ℕ → List ℕ → Revised → Entries → Entries → 
 IsRevised now name r old new =
     (IsChangeAt (old_of r) (new_of r) (label_at (key_of r) old) None × (new ≡ old))
     ⊎ (IsChangeAt (old_of r) (new_of r) (label_at (key_of r) old) (Some (new_of r))
-    × (stamp : Stamp) × IsNext (last_of old) now name stamp × (new ≡ with_change (key_of r, new_of r) stamp old))
+    × (stamp : Stamp) × IsNext (latest_of old) now name stamp × (new ≡ with_change (key_of r, new_of r) stamp old))
 
 -- it would be done, and there is no next stamp
 abbrev pub NoStamp : ℕ → List ℕ → Revised → Entries → Type 0
-NoStamp now name r old = IsChangeAt (old_of r) (new_of r) (label_at (key_of r) old) (Some (new_of r)) × NoNext (last_of old) now name
+NoStamp now name r old = IsChangeAt (old_of r) (new_of r) (label_at (key_of r) old) (Some (new_of r)) × NoNext (latest_of old) now name

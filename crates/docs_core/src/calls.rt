@@ -3,9 +3,9 @@ ghost use Rattle.std.specs.Prelude.{◌≡◌, option_map, IfErr, IfOk, MatchRes
 ghost use Rattle.std.specs.FinMap.Entries.{put};
 ghost use Rattle.cell_core.specs.Stamps.{IsNext};
 ghost use Rattle.cata_core.specs.Entries.{key_cmp};
-ghost use Rattle.cata_core.specs.Last.{last_of};
+ghost use Rattle.cata_core.specs.Latest.{latest_of};
 ghost use Rattle.cata_core.specs.Sites.{RefusesEdit};
-ghost use Rattle.docs_core.specs.Calls.{AreSynced, IsEdited, IsNewsFor, IsStatus, IsSummarised, IsTaken, RefusesEditing, RefusesNews, RefusesSync, RefusesTaking};
+ghost use Rattle.docs_core.specs.Calls.{AreSynced, IsDeltaFor, IsEdited, IsStatus, IsSummarised, IsTaken, RefusesDeltaFor, RefusesEditing, RefusesSync, RefusesTaking};
 ghost use Rattle.docs_core.specs.ReadsAs.{IsOfDocument, RefusesSite};
 
 use crate::doc::Doc;
@@ -47,7 +47,7 @@ pub(crate) fn edit(
     lang: &Lang,
     label: Option<&Label>,
 ) -> Result<Stamp, CataFault>
-    ensures ok { IfOk result (λ stamp. IsNext (last_of site.old.cells) now site.old.name stamp
+    ensures ok { IfOk result (λ stamp. IsNext (latest_of site.old.cells) now site.old.name stamp
         × (site.new ≡ record { name = site.old.name; cells = put key_cmp (id.now, lang.now) (record { stamp = stamp; label = option_map (λ l. l.now) label.entry }) site.old.cells })) }
     ensures err { IfErr result (RefusesEdit site.old now) }
 {
@@ -89,7 +89,7 @@ pub fn summary_document(alloc: Global, site: &[u8]) -> Result<Doc, DocFault>
 /// Refusals, in their order: a reader's with document 1, a reader's with document 2. Out of memory
 /// (26) may come before.
 pub fn delta_document(alloc: Global, site: &[u8], summary: &[u8]) -> Result<Doc, DocFault>
-    ensures { MatchResult result (IsNewsFor site.now summary.now) (RefusesNews site.now summary.now) }
+    ensures { MatchResult result (IsDeltaFor site.now summary.now) (RefusesDeltaFor site.now summary.now) }
 {
     let site = site_at(alloc, 1, site)?;
     let summary = summary_at(alloc, 2, summary)?;

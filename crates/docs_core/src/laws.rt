@@ -8,10 +8,10 @@ ghost use Rattle.cata_core.specs.Deltas.{HasAll, Stamps, delta_of};
 ghost use Rattle.cata_core.specs.Entries.{Agree, Entries, EntryKey, joined, key_cmp};
 ghost use Rattle.cata_core.specs.Parts.{part_of};
 ghost use Rattle.cata_core.specs.Sites.{SiteState};
-ghost use Rattle.cata_core.specs.Told.{SummaryState};
+ghost use Rattle.cata_core.specs.Summary.{SummaryState};
 ghost use Rattle.cata_core.specs.declared.delta.Delta.{Delta};
 ghost use Rattle.docs_core.specs.Bundled.{IsBundle};
-ghost use Rattle.docs_core.specs.Calls.{AreSynced, IsNewsFor, IsSummarised, IsTaken};
+ghost use Rattle.docs_core.specs.Calls.{AreSynced, IsDeltaFor, IsSummarised, IsTaken};
 ghost use Rattle.docs_core.specs.Documents.{cells_values, delta_text, site_text, summary_text};
 ghost use Rattle.docs_core.specs.Exported.{live_labels};
 ghost use Rattle.docs_core.specs.LangMapLabels.{AreLangMaps, RefusesLangMaps};
@@ -100,7 +100,7 @@ pub fn a_delta_document_suffices()
 /// summary has the document of the cells of both.
 pub fn an_exchange_is_a_join()
     ensures { (a b told delta taken : List ℕ) (site other : SiteState) → ReadsAsSite a site → ReadsAsSite b other → Agree site.cells other.cells
-        → IsSummarised a told → IsNewsFor b told delta → IsTaken a delta taken
+        → IsSummarised a told → IsDeltaFor b told delta → IsTaken a delta taken
         → IsSiteText (record { name = site.name; cells = joined site.cells other.cells }) taken }
 {}
 

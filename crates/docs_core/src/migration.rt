@@ -3,7 +3,7 @@ ghost use Rattle.std.specs.Prelude.{◌≡◌, Some, List, Option, ℕ};
 ghost use Rattle.serde_json.specs.Data.{Data};
 ghost use Rattle.cata_core.specs.Migration.{OldDelta, OldEntry, OldSite, OldSummary, migrated_delta, migrated_entry, migrated_site, migrated_summary};
 ghost use Rattle.cata_core.specs.Sites.{SiteState};
-ghost use Rattle.cata_core.specs.Told.{SummaryState};
+ghost use Rattle.cata_core.specs.Summary.{SummaryState};
 ghost use Rattle.cata_core.specs.declared.delta.Delta.{Delta};
 ghost use Rattle.docs_core.specs.Checks.{AreJson};
 ghost use Rattle.docs_core.specs.Fields.{entry_of};

@@ -3,11 +3,11 @@ use Rattle.std.specs.declared.cmp.Ordering.TheVariants.{Greater}
 use Rattle.std.specs.FinMap.Entries.{find}
 use Rattle.cell_core.specs.Maps.{IsMap}
 use Rattle.cata_core.specs.Entries.{EntryKey, key_cmp}
-use Rattle.cata_core.specs.Told.{told_of}
+use Rattle.cata_core.specs.Summary.{stamps_of}
 use Rattle.cata_core.proofs.delta.stamp_at.Given as goal
 
 abbrev pub invariant-loop-first : goal.invariant-loop-first
-invariant-loop-first l = IsMap key_cmp (told_of l.rest) × ((q : EntryKey) → key_cmp (l.id, l.lang) q ≢ Greater → find key_cmp q (told_of l.rest) ≡ find key_cmp q (told_of l.told))
+invariant-loop-first l = IsMap key_cmp (stamps_of l.rest) × ((q : EntryKey) → key_cmp (l.id, l.lang) q ≢ Greater → find key_cmp q (stamps_of l.rest) ≡ find key_cmp q (stamps_of l.entries))
 
 abbrev pub decreases-loop-first : goal.decreases-loop-first
 decreases-loop-first l = length l.rest

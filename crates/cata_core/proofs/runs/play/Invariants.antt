@@ -9,5 +9,5 @@ invariant-loop l = record {
   empty : at_sites l.catalogues.items ≡ (λ _. []);
 }
 
-abbrev pub invariant-loop-n : goal.invariant-loop-n
-invariant-loop-n l = IsPlayed l.sites l.steps l.n l.world
+abbrev pub invariant-loop-number : goal.invariant-loop-number
+invariant-loop-number l = IsPlayed l.sites l.steps l.number l.world

@@ -9,9 +9,8 @@ use Rattle.cell_core.proofs.chunk_joins.join_chunks.Goals as goal
 pub loop-pairs-init : goal.loop-pairs-init
 loop-pairs-init g c = record {
   some = c.requires.some;
-  chunked = c.requires.chunked;
-  counted = c.requires.counted;
-  joined = joined_none_yet g.K.Ord.cmp g.met.K.Ord.total g.J.Join.joined (all_of c.args.chunks.now.items) c.requires.chunked.map;
+  kept = c.requires.kept;
+  joined = joined_none_yet g.K.Ord.cmp g.met.K.Ord.total g.J.Join.joined (all_of c.args.chunks.now.list.items) c.requires.kept.chunked.map;
 }
 
 pub join_all_of-requires-clause-pairs : goal.join_all_of-requires-clause-pairs
@@ -26,7 +25,7 @@ join_all_of-requires-clause-agree g c =
     let rest = all_of (drop (suc i) theirs) in
     let split = all_of-split theirs i c.pairs-item.result c.loop-pairs-test.true
     ∙ ap (λ xs. all_of (take i theirs) ++ (xs ++ rest)) (ap (λ (x : Vec (g.row.K.Denot × g.row.J.Denot) Global). x.items) (sym c.pairs-item.is) ∙ sym c.deref.ensures.value) in
-    agree_further g.K.Ord.cmp g.met.K.Ord.total g.met.J.Join.laws (all_of c.args.chunks.now.items) (all_of theirs) (all_of (take i theirs)) c.deref.result.now rest (all_of c.loop-pairs.chunks.items) split
+    agree_further g.K.Ord.cmp g.met.K.Ord.total g.met.J.Join.laws (all_of c.args.chunks.now.list.items) (all_of theirs) (all_of (take i theirs)) c.deref.result.now rest (all_of c.loop-pairs.chunks.list.items) split
     c.requires.theirs.map c.requires.agree c.loop-pairs.invariant.joined
 
 pub returns-in_err-join_all_of-clause-err : goal.returns-in_err-join_all_of-clause-err
@@ -37,15 +36,15 @@ returns-in_err-join_all_of-clause-err g c =
     let split = all_of-split theirs i c.pairs-item.result c.loop-pairs-test.true
     ∙ ap (λ xs. all_of (take i theirs) ++ (xs ++ rest)) (ap (λ (x : Vec (g.row.K.Denot × g.row.J.Denot) Global). x.items) (sym c.pairs-item.is) ∙ sym c.deref.ensures.value) in
     on_err_always c.from_residual.result
-    (stopped_further g.K.Ord.cmp g.met.K.Ord.total g.met.J.Join.laws (all_of c.args.chunks.now.items) (all_of theirs) (all_of (take i theirs)) c.deref.result.now rest (all_of c.loop-pairs.chunks.items) split
-    c.requires.theirs.map c.requires.agree c.loop-pairs.invariant.joined (all_of c.join_all_of.new.chunks.items) c.requires.chunked.map c.in_err-join_all_of.ensures.err)
+    (stopped_further g.K.Ord.cmp g.met.K.Ord.total g.met.J.Join.laws (all_of c.args.chunks.now.list.items) (all_of theirs) (all_of (take i theirs)) c.deref.result.now rest (all_of c.loop-pairs.chunks.list.items) split
+    c.requires.theirs.map c.requires.agree c.loop-pairs.invariant.joined (all_of c.join_all_of.new.chunks.list.items) c.requires.kept.chunked.map c.in_err-join_all_of.ensures.err)
 
 pub loop-pairs-preserved : goal.loop-pairs-preserved
 loop-pairs-preserved g c =
     let cmp = g.K.Ord.cmp in
     let joined = g.J.Join.joined in
-    let old = all_of c.args.chunks.now.items in
-    let new = all_of c.join_all_of.new.chunks.items in
+    let old = all_of c.args.chunks.now.list.items in
+    let new = all_of c.join_all_of.new.chunks.list.items in
     let theirs = c.args.theirs.now in
     let i = c.loop-pairs.pairs-index in
     let front = all_of (take i theirs) in
@@ -57,9 +56,8 @@ loop-pairs-preserved g c =
     ∙ sym (append_assoc front run rest) in
     record {
       some = c.join_all_of.ensures.some;
-      chunked = c.join_all_of.ensures.chunked;
-      counted = c.join_all_of.ensures.counted;
+      kept = c.join_all_of.ensures.kept;
       joined = subst (λ xs. IsJoinedWith cmp joined old xs new) more
-          (joined_further cmp g.met.K.Ord.total joined old front (all_of c.loop-pairs.chunks.items) run new (map_front cmp (front ++ run) rest (subst (IsMap cmp) split c.requires.theirs.map))
+          (joined_further cmp g.met.K.Ord.total joined old front (all_of c.loop-pairs.chunks.list.items) run new (map_front cmp (front ++ run) rest (subst (IsMap cmp) split c.requires.theirs.map))
           c.loop-pairs.invariant.joined c.in_ok-join_all_of.ensures.ok);
     }

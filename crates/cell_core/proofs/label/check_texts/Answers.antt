@@ -1,5 +1,4 @@
-use Rattle.std.proofs.Common.{◌≡◌, None, sym, ◌∙◌, ap, arith}
-use Rattle.std.specs.List.{position}
+use Rattle.std.proofs.Common.{sym, ◌∙◌, arith}
 use Rattle.std.specs.String.{string_bytes}
 use Rattle.cell_core.specs.Labels.{texts_of, is_too_long}
 use Rattle.cell_core.proofs.LabelLemmas.{position-map, length-texts_of, all_short}

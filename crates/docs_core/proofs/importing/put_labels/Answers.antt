@@ -1,6 +1,6 @@
 use Rattle.std.proofs.Common.{◌∙◌, ◌+◌, ℕ, List, drop, ap, inl, subst, sym}
 use Rattle.cell_core.specs.Stamps.{IsNext, NoNext}
-use Rattle.cata_core.specs.Last.{last_of}
+use Rattle.cata_core.specs.Latest.{latest_of}
 use Rattle.cata_core.specs.Sites.{SiteState}
 use Rattle.docs_core.specs.Imported.{Imports, SpendsImport}
 use Rattle.docs_core.specs.LangMaps.{Labelled, labels_of}
@@ -19,7 +19,7 @@ returns-in-Err-clause-err c =
       spent.0,
       subst (λ (labels : List Labelled). SpendsImport c.args.now c.args.site.now.name labels c.args.site.now.cells) c.labels-found-items.ensures.labels
           (inv.spent (subst (λ (labels : List Labelled). SpendsImport c.args.now c.args.site.now.name labels c.labels.site.cells) (sym left)
-          (inl (subst (λ (name : List ℕ). NoNext (last_of c.labels.site.cells) c.args.now name) inv.name spent.1)))),
+          (inl (subst (λ (name : List ℕ). NoNext (latest_of c.labels.site.cells) c.args.now name) inv.name spent.1)))),
     ))
 
 pub labels-preserved : goal.labels-preserved
@@ -32,7 +32,7 @@ labels-preserved c =
     let rest = labels_of (drop (c.labels.found-index + 1) c.labels-found-items.result.now) in
     let left = ap labels_of (first_left c.labels-found-items.result.now c.labels.found-index item c.labels-test.true c.found-item.is) in
     let put = c.in-Ok.ensures.ok in
-    let next = subst (λ (n : List ℕ). IsNext (last_of old) c.args.now n c.in-Ok.field-0) inv.name put.0 in
+    let next = subst (λ (n : List ℕ). IsNext (latest_of old) c.args.now n c.in-Ok.field-0) inv.name put.0 in
     let cells = ap (λ (s : SiteState). s.cells) put.1 in record {
       name = ap (λ (s : SiteState). s.name) put.1 ∙ inv.name;
       put = λ new imports. inv.put new (subst (λ (labels : List Labelled). Imports c.args.now name labels old new) (sym left)

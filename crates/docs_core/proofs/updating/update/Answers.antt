@@ -1,6 +1,6 @@
 use Rattle.std.proofs.Common.{◌∙◌, ℕ, List, subst}
 use Rattle.cell_core.specs.Stamps.{NoNext}
-use Rattle.cata_core.specs.Last.{last_of}
+use Rattle.cata_core.specs.Latest.{latest_of}
 use Rattle.docs_core.specs.LangMaps.{labels_of}
 use Rattle.docs_core.specs.Revised.{IsRevised}
 use Rattle.docs_core.proofs.LangMapLabelsLemmas.{else_by}
@@ -16,7 +16,7 @@ returns-in-Err-clause-err c =
       spent.0,
       inv.spent
           (SpendsUpdate-here c.args.now c.args.site.now.name c.in-Some.revised (labels_of c.keys.olds.now) (labels_of c.keys.news.now) (labels_of c.in-Some.old_rest.now) (labels_of c.in-Some.new_rest.now)
-          c.in-Some.ensures.first cells (spent.1.0, subst (λ (name : List ℕ). NoNext (last_of c.keys.site.cells) c.args.now name) inv.name spent.1.1)),
+          c.in-Some.ensures.first cells (spent.1.0, subst (λ (name : List ℕ). NoNext (latest_of c.keys.site.cells) c.args.now name) inv.name spent.1.1)),
     ))
 
 pub keys-preserved : goal.keys-preserved

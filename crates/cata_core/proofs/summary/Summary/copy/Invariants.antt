@@ -2,4 +2,4 @@ use Rattle.std.proofs.Common.{◌≡◌, take}
 use Rattle.cata_core.proofs.summary.Summary.copy.Given as goal
 
 abbrev pub invariant-loop-entry : goal.invariant-loop-entry
-invariant-loop-entry l = l.told.items ≡ take l.entry-index l.entry-items
+invariant-loop-entry l = l.entries.items ≡ take l.entry-index l.entry-items

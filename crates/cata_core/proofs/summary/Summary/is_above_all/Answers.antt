@@ -7,21 +7,21 @@ use Rattle.std.proofs.lemmas.Option.{slice_get-map}
 use Rattle.cell_core.specs.Maps.{IsMap}
 use Rattle.cata_core.specs.Deltas.{Stamps}
 use Rattle.cata_core.specs.Entries.{EntryKey, key_cmp, IsAboveAll}
-use Rattle.cata_core.specs.Told.{SummaryState, told_of, entry_of}
+use Rattle.cata_core.specs.Summary.{SummaryState, stamps_of, entry_of}
 use Rattle.cata_core.proofs.LastKeys.{above_last}
 use Rattle.cata_core.proofs.summary.Summary.is_above_all.Goals as goal
 
 pub returns-in-Some : goal.returns-in-Some
 returns-in-Some c =
-    let told = c.self.inside.told.items in
+    let entries = c.self.inside.entries.items in
     let stamps_are = ap (λ (s : SummaryState). s.stamps) c.self.view_is in
     let key : EntryKey = (c.args.id.now, c.args.lang.now) in
     let last = c.in-Some.last.now in
     let held : EntryKey = (last.id, last.lang) in
-    let from : slice_get c.self.inside.told.items (length c.self.inside.told.items - 1) ≡ Some c.in-Some.last.now =
+    let from : slice_get c.self.inside.entries.items (length c.self.inside.entries.items - 1) ≡ Some c.in-Some.last.now =
     sym (c.in-Some.ensures.value ∙ ap (λ xs. slice_get xs (length xs - 1)) c.deref.ensures.value) in
-    let there : slice_get (told_of c.self.inside.told.items) (length (told_of c.self.inside.told.items) - 1) ≡ Some (entry_of c.in-Some.last.now) =
-    ap (λ n. slice_get (told_of c.self.inside.told.items) (n - 1)) (length-map told entry_of) ∙ slice_get-map entry_of told (length told - 1) ∙ ap (option_map entry_of) from in
+    let there : slice_get (stamps_of c.self.inside.entries.items) (length (stamps_of c.self.inside.entries.items) - 1) ≡ Some (entry_of c.in-Some.last.now) =
+    ap (λ n. slice_get (stamps_of c.self.inside.entries.items) (n - 1)) (length-map entries entry_of) ∙ slice_get-map entry_of entries (length entries - 1) ∙ ap (option_map entry_of) from in
     let tells = c.is_lt.ensures ∙ ap is_lt c.compare.ensures in
     subst (λ (b : Bool). IsTrue b ↔ IsAboveAll (c.args.id.now, c.args.lang.now) c.args.self.now.stamps) (sym tells)
     (above_last c.args.self.now.stamps key held last.stamp (subst (IsMap key_cmp) stamps_are c.self.invariant) (subst (λ (es : Stamps). slice_get es (length es - 1) ≡ Some (entry_of c.in-Some.last.now)) stamps_are there))

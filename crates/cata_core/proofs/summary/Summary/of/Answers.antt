@@ -2,13 +2,13 @@ use Rattle.std.proofs.Common.{◌≡◌, ◌++◌, sym, ◌∙◌, subst}
 use Rattle.cell_core.specs.Maps.{IsMap}
 use Rattle.cata_core.specs.Deltas.{summary_of}
 use Rattle.cata_core.specs.Entries.{key_cmp, Entries}
-use Rattle.cata_core.specs.Told.{told_of}
+use Rattle.cata_core.specs.Summary.{stamps_of}
 use Rattle.cata_core.proofs.Basics.{append_nil}
 use Rattle.cata_core.proofs.Summaries.{summary-IsMap}
 use Rattle.cata_core.proofs.summary.Summary.of.Goals as goal
 
 pub invariant_of-result : goal.invariant_of-result
 invariant_of-result c =
-    let all : told_of c.loop-id.told.items ≡ summary_of c.args.catalogue.now =
-    sym (append_nil (told_of c.loop-id.told.items)) ∙ subst (λ (left : Entries). told_of c.loop-id.told.items ++ summary_of left ≡ summary_of c.args.catalogue.now) c.in-None.ensures.steps.0 c.loop-id.invariant in
+    let all : stamps_of c.loop-id.entries.items ≡ summary_of c.args.catalogue.now =
+    sym (append_nil (stamps_of c.loop-id.entries.items)) ∙ subst (λ (left : Entries). stamps_of c.loop-id.entries.items ++ summary_of left ≡ summary_of c.args.catalogue.now) c.in-None.ensures.steps.0 c.loop-id.invariant in
     subst (IsMap key_cmp) (sym all) (summary-IsMap c.args.catalogue.now c.iter-id-items.ensures.sorted)

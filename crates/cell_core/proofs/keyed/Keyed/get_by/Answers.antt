@@ -10,7 +10,7 @@ use Rattle.cell_core.proofs.keyed.Keyed.get_by.Goals as goal
 pub bisect-requires : goal.bisect-requires
 bisect-requires g c =
     let cmp = g.K.Ord.cmp in
-    let cs = c.self.inside.chunks.items in
+    let cs = c.self.inside.chunks.list.items in
     let at = c.chunk_for-at.result in
     let chunk = c.index-chunk.result.now in
     let place = subst (λ xs. IsChunkFor cmp (g.Q.Query.sought c.args.query) xs at) c.deref.ensures.value c.chunk_for-at.ensures in
@@ -21,7 +21,7 @@ pub returns-in-Ok : goal.returns-in-Ok
 returns-in-Ok g c =
     let cmp = g.K.Ord.cmp in
     let key = g.Q.Query.sought c.args.query in
-    let cs = c.self.inside.chunks.items in
+    let cs = c.self.inside.chunks.list.items in
     let at = c.chunk_for-at.result in
     let chunk = c.index-chunk.result.now in
     let e = c.index-entry.result.now in
@@ -39,7 +39,7 @@ pub returns-in-Err : goal.returns-in-Err
 returns-in-Err g c =
     let cmp = g.K.Ord.cmp in
     let key = g.Q.Query.sought c.args.query in
-    let cs = c.self.inside.chunks.items in
+    let cs = c.self.inside.chunks.list.items in
     let at = c.chunk_for-at.result in
     let chunk = c.index-chunk.result.now in
     let place = subst (λ xs. IsChunkFor cmp key xs at) c.deref.ensures.value c.chunk_for-at.ensures in

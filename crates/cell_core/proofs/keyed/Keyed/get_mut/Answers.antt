@@ -13,7 +13,7 @@ use Rattle.cell_core.proofs.keyed.Keyed.get_mut.Goals as goal
 pub bisect_from_last-requires : goal.bisect_from_last-requires
 bisect_from_last-requires g c =
     let cmp = g.K.Ord.cmp in
-    let cs = c.self.inside.chunks.items in
+    let cs = c.self.inside.chunks.list.items in
     let at = c.chunk_from_last-at.result in
     let chunk = c.index.result.now in
     let fits = subst (λ xs. IsChunkFor cmp c.args.key.now xs at) c.deref.ensures.value c.chunk_from_last-at.ensures in
@@ -24,7 +24,7 @@ pub invariant_of-self-lent : goal.invariant_of-self-lent
 invariant_of-self-lent g c = λ w.
     let cmp = g.K.Ord.cmp in
     let key = c.args.key.now in
-    let cs = c.self.inside.chunks.items in
+    let cs = c.self.inside.chunks.list.items in
     let at = c.chunk_from_last-at.result in
     let chunk = c.index_mut.result.now in
     let e = c.index_mut-in-Ok.result.now in
@@ -45,7 +45,7 @@ pub returns-in-Ok : goal.returns-in-Ok
 returns-in-Ok g c =
     let cmp = g.K.Ord.cmp in
     let key = c.args.key.now in
-    let cs = c.self.inside.chunks.items in
+    let cs = c.self.inside.chunks.list.items in
     let at = c.chunk_from_last-at.result in
     let chunk = c.index_mut.result.now in
     let e = c.index_mut-in-Ok.result.now in
@@ -66,7 +66,7 @@ pub returns-in-Err : goal.returns-in-Err
 returns-in-Err g c =
     let cmp = g.K.Ord.cmp in
     let key = c.args.key.now in
-    let cs = c.self.inside.chunks.items in
+    let cs = c.self.inside.chunks.list.items in
     let at = c.chunk_from_last-at.result in
     let fits = subst (λ xs. IsChunkFor cmp key xs at) c.deref.ensures.value c.chunk_from_last-at.ensures in
     let absent = ap (find cmp key) (sym c.self.view_is) ∙ find-chunk cmp g.met.K.Ord.total cs c.self.invariant.chunked key at c.index.result.now fits

@@ -1,4 +1,4 @@
-use Rattle.std.proofs.Common.{◌≡◌, sym, ◌∙◌, ap, subst, arith}
+use Rattle.std.proofs.Common.{sym, ◌∙◌, ap, subst, arith}
 use Rattle.std.proofs.lemmas.Bool.Decides.{nat_tests}
 use Rattle.cell_core.specs.SiteNames.{IsSiteName, KeepsName, filled, unfilled}
 use Rattle.cell_core.proofs.SiteNameLemmas.{KeepsName-filled, unfilled-filled}

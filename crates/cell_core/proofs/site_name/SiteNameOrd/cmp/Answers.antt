@@ -1,4 +1,4 @@
-use Rattle.std.proofs.Common.{◌∙◌, ◌≡◌}
+use Rattle.std.proofs.Common.{◌∙◌}
 use Rattle.cell_core.proofs.SiteNameLemmas.{cmp-unfilled}
 use Rattle.cell_core.proofs.site_name.SiteNameOrd.cmp.Goals as goal
 

@@ -1,6 +1,6 @@
-use Rattle.std.proofs.Common.{◌≡◌, ◌+◌, ◌<◌, ◌^◌, sym, ◌∙◌, ap, arith, true≢false}
+use Rattle.std.proofs.Common.{sym, ◌∙◌, ap, arith, true≢false}
 use Rattle.std.specs.Ordering.{is_lt, is_eq}
-use Rattle.cell_core.proofs.StampLemmas.{next_of_none, next_now, next_at_last, next_count, next_later, no_next, IsFull, less_from, equal_from}
+use Rattle.cell_core.proofs.StampLemmas.{next_of_none, next_now, next_at_last, next_count, next_later, IsFull, less_from, equal_from}
 use Rattle.cell_core.proofs.stamp.Stamp.next.Goals as goal
 use Rattle.cell_core.proofs.stamp.Stamp.next.Goals.{else-is_eq-via-then-is_eq+else-last-lt4294967295, else-is_eq-via-else-is_eq}
 

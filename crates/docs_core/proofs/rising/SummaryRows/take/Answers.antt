@@ -1,5 +1,5 @@
 use Rattle.std.proofs.Common.{◌≡◌, true, false, refl, inr, ap}
-use Rattle.cata_core.specs.Told.{SummaryState}
+use Rattle.cata_core.specs.Summary.{SummaryState}
 use Rattle.docs_core.specs.Reads.{seen}
 use Rattle.docs_core.specs.Rising.{told_in, own_stamp_checks}
 use Rattle.docs_core.proofs.RisingLemmas.{fails_row, key_of_stamp, MakesEntries-push, passes_row}

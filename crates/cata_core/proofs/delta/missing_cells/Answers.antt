@@ -1,0 +1,49 @@
+use Rattle.std.proofs.Common.{sym, ◌∙◌, subst}
+use Rattle.cata_core.specs.CellsLeft.{cells_left}
+use Rattle.cata_core.specs.Deltas.{is_missing}
+use Rattle.cata_core.specs.Entries.{EntryKey, Entries}
+use Rattle.cata_core.specs.Summary.{stamps_of}
+use Rattle.cata_core.proofs.MissingCells.{AreMissingSoFar, sent_above, missing_more, missing_same}
+use Rattle.cata_core.proofs.SummaryLists.{not_greater_self}
+use Rattle.cata_core.proofs.delta.missing_cells.Goals as goal
+
+-- the key of a cell is above those in front
+pub push_copy-requires : goal.push_copy-requires
+push_copy-requires c =
+    let all = c.args.catalogue.now in
+    let left = cells_left c.next.new.self in
+    let summary = c.args.summary.now.stamps in
+    let rest = stamps_of c.loop-id.rest.now in
+    let more = stamps_of c.stamp_at-stamp.result.1.now in
+    let k : EntryKey = (c.in-Some.id.now, c.in-Some.lang.now) in
+    let h = subst (λ (left : Entries). AreMissingSoFar c.args.catalogue.now left c.loop-id.missing c.args.summary.now.stamps (stamps_of c.loop-id.rest.now)) c.in-Some.ensures.steps c.loop-id.invariant in
+    let found = c.stamp_at-stamp.ensures.stamp ∙ h.same k (not_greater_self k) in
+    sent_above all left c.loop-id.missing summary rest more k c.in-Some.cell.now h c.stamp_at-stamp.ensures.rest
+    ((λ i. is_missing (sym found i) (sym c.stamp.ensures i)) ∙ sym c.is_missing.ensures ∙ c.if-not-is_missing.false)
+
+pub loop-id-preserved : goal.loop-id-preserved
+loop-id-preserved c =
+    let all = c.args.catalogue.now in
+    let left = cells_left c.next.new.self in
+    let summary = c.args.summary.now.stamps in
+    let rest = stamps_of c.loop-id.rest.now in
+    let more = stamps_of c.stamp_at-stamp.result.1.now in
+    let k : EntryKey = (c.in-Some.id.now, c.in-Some.lang.now) in
+    let h = subst (λ (left : Entries). AreMissingSoFar c.args.catalogue.now left c.loop-id.missing c.args.summary.now.stamps (stamps_of c.loop-id.rest.now)) c.in-Some.ensures.steps c.loop-id.invariant in
+    let found = c.stamp_at-stamp.ensures.stamp ∙ h.same k (not_greater_self k) in
+    subst (λ (missing : Entries). AreMissingSoFar c.args.catalogue.now (cells_left c.next.new.self) missing c.args.summary.now.stamps (stamps_of c.stamp_at-stamp.result.1.now)) (sym c.in_ok-push_copy.ensures.ok)
+    (missing_more all left c.loop-id.missing summary rest more k c.in-Some.cell.now h c.stamp_at-stamp.ensures.rest
+    ((λ i. is_missing (sym found i) (sym c.stamp.ensures i)) ∙ sym c.is_missing.ensures ∙ c.if-not-is_missing.false))
+
+pub loop-id-preserved-then-not-is_missing : goal.loop-id-preserved-then-not-is_missing
+loop-id-preserved-then-not-is_missing c =
+    let all = c.args.catalogue.now in
+    let left = cells_left c.next.new.self in
+    let summary = c.args.summary.now.stamps in
+    let rest = stamps_of c.loop-id.rest.now in
+    let more = stamps_of c.stamp_at-stamp.result.1.now in
+    let k : EntryKey = (c.in-Some.id.now, c.in-Some.lang.now) in
+    let h = subst (λ (left : Entries). AreMissingSoFar c.args.catalogue.now left c.loop-id.missing c.args.summary.now.stamps (stamps_of c.loop-id.rest.now)) c.in-Some.ensures.steps c.loop-id.invariant in
+    let found = c.stamp_at-stamp.ensures.stamp ∙ h.same k (not_greater_self k) in
+    missing_same all left c.loop-id.missing summary rest more k c.in-Some.cell.now h c.stamp_at-stamp.ensures.rest
+    ((λ i. is_missing (sym found i) (sym c.stamp.ensures i)) ∙ sym c.is_missing.ensures ∙ c.if-not-is_missing.true)

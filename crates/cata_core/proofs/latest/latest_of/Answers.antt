@@ -1,0 +1,13 @@
+use Rattle.std.proofs.Common.{◌≡◌, subst}
+use Rattle.cell_core.specs.Cells.{joined_stamps}
+use Rattle.cell_core.specs.Maps.{joined_if_both}
+use Rattle.cata_core.specs.CellsLeft.{cells_left}
+use Rattle.cata_core.specs.Entries.{Entries}
+use Rattle.cata_core.specs.Latest.{latest_of}
+use Rattle.cata_core.proofs.LatestStamps.{latest_next}
+use Rattle.cata_core.proofs.latest.latest_of.Goals as goal
+
+pub loop-cell-preserved : goal.loop-cell-preserved
+loop-cell-preserved c =
+    latest_next c.loop-cell.latest c.latest_with.result c.stamp.result (c.in-Some.field-0-0.now, c.in-Some.field-0-1.now) c.in-Some.cell.now (cells_left c.next.new.self) (latest_of c.args.catalogue.now) c.latest_with.ensures c.stamp.ensures
+    (subst (λ (left : Entries). joined_if_both joined_stamps c.loop-cell.latest (latest_of left) ≡ latest_of c.args.catalogue.now) c.in-Some.ensures.steps c.loop-cell.invariant)

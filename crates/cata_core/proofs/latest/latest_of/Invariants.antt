@@ -1,0 +1,9 @@
+use Rattle.std.proofs.Common.{◌≡◌}
+use Rattle.cell_core.specs.Cells.{joined_stamps}
+use Rattle.cell_core.specs.Maps.{joined_if_both}
+use Rattle.cata_core.specs.CellsLeft.{cells_left}
+use Rattle.cata_core.specs.Latest.{latest_of}
+use Rattle.cata_core.proofs.latest.latest_of.Given as goal
+
+abbrev pub invariant-loop-cell : goal.invariant-loop-cell
+invariant-loop-cell l = joined_if_both joined_stamps l.latest (latest_of (cells_left l.cell-iterator)) ≡ latest_of l.catalogue

@@ -1,6 +1,0 @@
-use Rattle.cell_core.specs.EntriesLeft.{entries_left}
-use Rattle.cata_core.proofs.Walks.{IsCounted}
-use Rattle.cata_core.proofs.walk.count.Given as goal
-
-abbrev pub invariant-loop-cells : goal.invariant-loop-cells
-invariant-loop-cells l = IsCounted l.map (entries_left l.cells-iterator) l.total

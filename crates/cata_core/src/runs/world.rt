@@ -1,0 +1,87 @@
+//! The sites of a run as they stand, and what was told, posted and answered.
+
+ghost use Rattle.std.specs.Prelude.{◌≡◌};
+
+use crate::answer::Answer;
+use crate::catalogue::Catalogue;
+use crate::summary::Summary;
+use std::marker::Model;
+
+/// A summary that was told, with the place of the site that told it.
+#[derive(Drop)]
+pub struct ToldSummary {
+    teller: usize,
+    summary: Summary,
+}
+
+impl Model for ToldSummary {
+    ghost use Rattle.cata_core.specs.Held.{ToldStamps};
+
+    ghost Value = { ToldStamps };
+
+    ghost view = { λ t. record { teller = t.teller; stamps = t.summary.stamps } };
+}
+
+impl ToldSummary {
+    pub fn new(teller: usize, summary: Summary) -> ToldSummary
+        ensures { result ≡ record { teller = teller; stamps = summary.stamps } }
+    {
+        ToldSummary { teller, summary }
+    }
+
+    pub fn teller(&self) -> usize
+        ensures { result ≡ self.now.teller }
+    {
+        self.teller
+    }
+
+    pub fn summary(&self) -> &Summary
+        ensures { result.now.stamps ≡ self.now.stamps }
+    {
+        &self.summary
+    }
+}
+
+/// A delta that was posted, with the place of the site that it is for.
+#[derive(Drop)]
+pub struct PostedDelta {
+    addressee: usize,
+    cells: Catalogue,
+}
+
+impl Model for PostedDelta {
+    ghost use Rattle.cata_core.specs.Held.{PostedCells};
+
+    ghost Value = { PostedCells };
+
+    ghost view = { λ p. record { addressee = p.addressee; cells = p.cells } };
+}
+
+impl PostedDelta {
+    pub fn new(addressee: usize, cells: Catalogue) -> PostedDelta
+        ensures { result ≡ record { addressee = addressee; cells = cells } }
+    {
+        PostedDelta { addressee, cells }
+    }
+
+    pub fn addressee(&self) -> usize
+        ensures { result ≡ self.now.addressee }
+    {
+        self.addressee
+    }
+
+    pub fn cells(&self) -> &Catalogue
+        ensures { result.now ≡ self.now.cells }
+    {
+        &self.cells
+    }
+}
+
+/// The catalogues of the sites by place, and what was told, posted and answered so far.
+#[derive(Drop)]
+pub struct World {
+    pub sites: Vec<Catalogue>,
+    pub told: Vec<ToldSummary>,
+    pub posts: Vec<PostedDelta>,
+    pub answers: Vec<Answer>,
+}
