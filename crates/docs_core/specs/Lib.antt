@@ -12,6 +12,7 @@ pub mod EntriesSeen
 pub mod Exchange
 pub mod Exported
 pub mod Faults
+pub mod FieldWritten
 pub mod Fields
 pub mod Forms
 pub mod HeadSeen
@@ -44,6 +45,7 @@ pub mod Rising
 pub mod Rows
 pub mod RowsSeen
 pub mod ScriptReads
+pub mod ScriptWritten
 pub mod Scripts
 pub mod Sinks
 pub mod Sources
@@ -51,6 +53,7 @@ pub mod Status
 pub mod StepFields
 pub mod Steps
 pub mod StepsSeen
+pub mod StepsWritten
 pub mod Texts
 pub mod Updated
 pub mod Valid

@@ -1,7 +1,8 @@
 //! The product's documents: from bytes to values and back, over streams.
 //!
 //! - [`read_site`], [`read_delta`], [`read_summary`], [`read_script`] and [`read_langmaps`] read a
-//!   document; [`write_site`], [`write_delta`], [`write_summary`] and [`write_langmaps`] write one.
+//!   document; [`write_site`], [`write_delta`], [`write_summary`], [`write_script`] and
+//!   [`write_langmaps`] write one.
 //! - [`edit_document`], [`import_document`], [`update_document`], [`export_document`],
 //!   [`bundle_document`], [`missing_document`], [`sync_documents`], [`summary_document`],
 //!   [`delta_document`], [`take_document`], [`ask_document`] and [`status_document`] treat whole
@@ -31,6 +32,7 @@ mod entries;
 mod exchange;
 mod exporting;
 mod fault;
+mod field_writing;
 mod fields;
 mod form;
 mod head;
@@ -55,10 +57,12 @@ mod rows;
 mod scanning;
 mod script;
 mod script_document;
+mod script_writing;
 mod sinks;
 mod sources;
 mod status;
 mod step_fields;
+mod step_writing;
 mod steps;
 mod updating;
 mod version;
@@ -81,6 +85,7 @@ pub use reading::{read_delta, read_site, read_summary};
 pub use replaying::replay;
 pub use script::Script;
 pub use script_document::read_script;
+pub use script_writing::write_script;
 pub use sinks::{Output, Sink, write_out};
 pub use sources::{Input, MOST_BYTES, Source, read_all};
 pub use status::status_line;

@@ -11,6 +11,7 @@ mod missing;
 mod readers;
 mod reading;
 mod refusals;
+mod script_writing;
 mod scripts;
 mod update;
 mod writing;

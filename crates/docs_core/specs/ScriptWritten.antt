@@ -1,0 +1,57 @@
+-- Documents of scripts, written. Own rule: the members of an object stand in byte order of their names.
+use Rattle.std.specs.Prelude.{◌≡◌, ◌⊎◌, ℕ, List, [], ◌∷◌, codes, decimal, map, take, All, Some, slice_get}
+use Rattle.cata_core.specs.declared.step.Step.{Step}
+use Rattle.json.specs.Token.{begin_object, begin_array, key, number as number_token, string as string_token}
+use Rattle.json.specs.Written.{Written}
+use Rattle.serde_json.specs.Data.{Data, object, array, number, unsigned, string, no_members, member}
+use Rattle.serde_json.specs.View.{items_of}
+use Rattle.docs_core.specs.Faults.{of_no_document}
+use Rattle.docs_core.specs.Steps.{StepText}
+use Rattle.docs_core.specs.StepsWritten.{IsRowOf, IsWritable, step_value}
+use Rattle.docs_core.specs.Texts.{row_tokens}
+use Rattle.docs_core.specs.declared.fault.DocCause.{DocCause}
+use Rattle.docs_core.specs.declared.fault.DocCause.TheVariants.{NoMemory, Shape}
+use Rattle.docs_core.specs.declared.fault.DocFault.{DocFault}
+use Rattle.docs_core.specs.declared.fault.Spot.TheVariants as spot
+
+-- the first step that no document can have
+pub record IsFirstUnwritable (steps : List Step) (place : ℕ) : Type 0 where
+  pub step : Step
+  pub there : slice_get steps place ≡ Some step
+  pub before : All IsWritable (take place steps)
+  pub refused : ¬ IsWritable step
+
+-- why a script of these steps has no document: memory ran out, or its first step that none can have, whose row is meant
+abbrev pub RefusesWriting : List Step → DocCause → Type 0
+RefusesWriting steps cause = (cause ≡ NoMemory) ⊎ ((place : ℕ) × IsFirstUnwritable steps place × (cause ≡ Shape (spot.Row place)))
+
+-- a refusal that means no input document
+abbrev pub IsOfNone : (DocCause → Type 0) → DocFault → Type 0
+IsOfNone Refuses fault = (cause : DocCause) × Refuses cause × (fault ≡ of_no_document cause)
+
+-- ---- the document
+
+-- `{"kind":"script","sites":N,"steps":[..],"version":2}`
+abbrev pub script_value : ℕ → List Data → Data
+script_value sites rows = object
+    (member (codes "kind") (string (codes "script"))
+    (member (codes "sites") (number (unsigned sites))
+    (member (codes "steps") (array (items_of rows))
+    (member (codes "version") (number (unsigned 2)) no_members))))
+
+-- a script's draft of so many sites: it is open behind these rows
+abbrev pub HoldsSteps : Written → ℕ → List Data → Type 0
+HoldsSteps draft sites rows =
+    (draft.before ≡ [])
+    × (draft.tokens ≡ begin_object ∷ key (codes "kind") ∷ string_token (codes "script") ∷ key (codes "sites") ∷ number_token (decimal sites) ∷ key (codes "steps") ∷ begin_array ∷ row_tokens rows)
+
+-- each text is that of the step at its place
+abbrev pub AreRowsOf : List StepText → List Step → Type 0
+AreRowsOf [] [] = Unit {0}
+AreRowsOf [] (step ∷ steps) = ⊥
+AreRowsOf (text ∷ texts) [] = ⊥
+AreRowsOf (text ∷ texts) (step ∷ steps) = IsRowOf text step × AreRowsOf texts steps
+
+-- a script's draft has a row for each of these steps
+abbrev pub HasRows : Written → ℕ → List Step → Type 0
+HasRows draft sites steps = (texts : List StepText) × AreRowsOf texts steps × HoldsSteps draft sites (map step_value texts)
