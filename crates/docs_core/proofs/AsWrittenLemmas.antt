@@ -18,19 +18,19 @@ use Rattle.docs_core.specs.Arrays.{ReadsItems}
 use Rattle.docs_core.specs.AsWritten.{BeginsLabel, BeginsRow, EndsNamed, ReadsCells, cells_document}
 use Rattle.docs_core.specs.Checks.{AllPass, rows_checks}
 use Rattle.docs_core.specs.Fields.{cell_fields, entry_of, key_of}
-use Rattle.docs_core.specs.Forms.{kind_of, own_of}
-use Rattle.docs_core.specs.Heads.{head_checks}
+use Rattle.docs_core.specs.Kinds.{kind_text, subject_of}
+use Rattle.docs_core.specs.Headers.{header_checks}
 use Rattle.docs_core.specs.Reads.{Reads}
 use Rattle.docs_core.specs.ReadsAs.{ReadsAsDelta, ReadsAsSite}
 use Rattle.docs_core.specs.Rising.{MakesEntries, cell_checks, cell_row, entry_in, own_cell_checks}
 use Rattle.docs_core.specs.Rows.{cell_in, list_of}
 use Rattle.docs_core.specs.Values.{Row, cell_value, delta_value, label_value, site_value}
-use Rattle.docs_core.specs.declared.form.Form.{Form}
-use Rattle.docs_core.specs.declared.form.Form.TheVariants.{Delta, Script, Site, Summary}
-use Rattle.docs_core.specs.declared.version.Version.TheVariants.{Two}
+use Rattle.docs_core.specs.declared.document.kind.Kind.{Kind}
+use Rattle.docs_core.specs.declared.document.kind.Kind.TheVariants.{Delta, Script, Site, Summary}
+use Rattle.docs_core.specs.declared.document.version.Version.TheVariants.{Two}
 use Rattle.docs_core.proofs.ChecksLemmas.{AllPass-both, rows-pass}
 use Rattle.docs_core.proofs.MembersLemmas.{array_read}
-use Rattle.docs_core.proofs.PartsLemmas.{object_whole}
+use Rattle.docs_core.proofs.TestedHeaderLemmas.{object_whole}
 use Rattle.docs_core.proofs.ReadingLemmas.{member_read, members_over}
 use Rattle.docs_core.proofs.RisingLemmas.{MakesEntries-push, key_of_cell, passes_row}
 use Rattle.docs_core.proofs.RoundTrip.{delta_names, rest_checks, site_names}
@@ -127,23 +127,23 @@ scalar_text s r = ap (converted of_json) (value_is 126 (string s ∷ r))
 scalar_number : (s : List ℕ) (n : ℕ) (r : List Token) → number_of s ≡ Some (unsigned n) → converted of_json (value 126 (number s ∷ r)) ≡ Some (json_data.number (unsigned n), r)
 scalar_number s n r is = ap (converted of_json) (value_is 126 (number s ∷ r)) ∙ rw is refl
 
-abbrev last_members : Form → List ℕ → List ℕ → List Token
-last_members form name version = key (codes "kind") ∷ string (kind_of form) ∷ key (own_of form) ∷ string name ∷ key (codes "version") ∷ number version ∷ end_object ∷ []
+abbrev last_members : Kind → List ℕ → List ℕ → List Token
+last_members kind name version = key (codes "kind") ∷ string (kind_text kind) ∷ key (subject_of kind) ∷ string name ∷ key (codes "version") ∷ number version ∷ end_object ∷ []
 
-abbrev with_last : Form → List ℕ → Members → Members
-with_last form name found = put (codes "version") (json_data.number (unsigned 2)) (put (own_of form) (json_data.string name) (put (codes "kind") (json_data.string (kind_of form)) found))
+abbrev with_last : Kind → List ℕ → Members → Members
+with_last kind name found = put (codes "version") (json_data.number (unsigned 2)) (put (subject_of kind) (json_data.string name) (put (codes "kind") (json_data.string (kind_text kind)) found))
 
-last_read : (form : Form) (name version : List ℕ) (n : ℕ) (found : Members) → 7 ≤ n → number_of version ≡ Some (unsigned 2)
-    → converted (λ ms. of_members ms found) (json.members (value 126) n (last_members form name version)) ≡ Some (with_last form name found, [])
-last_read form name version n found enough two =
+last_read : (kind : Kind) (name version : List ℕ) (n : ℕ) (found : Members) → 7 ≤ n → number_of version ≡ Some (unsigned 2)
+    → converted (λ ms. of_members ms found) (json.members (value 126) n (last_members kind name version)) ≡ Some (with_last kind name found, [])
+last_read kind name version n found enough two =
     let p = value 126 in
-    let t2 = key (own_of form) ∷ string name ∷ key (codes "version") ∷ number version ∷ end_object ∷ [] in
+    let t2 = key (subject_of kind) ∷ string name ∷ key (codes "version") ∷ number version ∷ end_object ∷ [] in
     let t3 = key (codes "version") ∷ number version ∷ end_object ∷ [] in
-    let found2 = put (codes "kind") (json_data.string (kind_of form)) found in
-    let found3 = put (own_of form) (json_data.string name) found2 in
+    let found2 = put (codes "kind") (json_data.string (kind_text kind)) found in
+    let found3 = put (subject_of kind) (json_data.string name) found2 in
     let found4 = put (codes "version") (json_data.number (unsigned 2)) found3 in
-    member_read p found n (codes "kind") (last_members form name version) (string (kind_of form) ∷ t2) t2 (json_data.string (kind_of form)) (omega (arith, enough)) refl (scalar_text (kind_of form) t2)
-    ∙ member_read p found2 (n - 1) (own_of form) t2 (string name ∷ t3) t3 (json_data.string name) (omega (arith, enough)) refl (scalar_text name t3)
+    member_read p found n (codes "kind") (last_members kind name version) (string (kind_text kind) ∷ t2) t2 (json_data.string (kind_text kind)) (omega (arith, enough)) refl (scalar_text (kind_text kind) t2)
+    ∙ member_read p found2 (n - 1) (subject_of kind) t2 (string name ∷ t3) t3 (json_data.string name) (omega (arith, enough)) refl (scalar_text name t3)
     ∙ member_read p found3 (n - 1 - 1) (codes "version") t3 (number version ∷ end_object ∷ []) (end_object ∷ []) (json_data.number (unsigned 2)) (omega (arith, enough)) refl (scalar_number version 2 (end_object ∷ []) two)
     ∙ members_over p found4 (n - 1 - 1 - 1) (end_object ∷ []) [] (omega (arith, enough)) refl
 
@@ -151,7 +151,7 @@ items_of-list_of : (ds : Items) → items_of (list_of ds) ≡ ds
 items_of-list_of no_items = refl
 items_of-list_of (item d ds) = ap (item d) (items_of-list_of ds)
 
-in_order : (form : Form) (name : List ℕ) (ds : Items) → json_data.object (with_last form name (put (codes "cells") (array ds) no_members)) ≡ cells_document form name (list_of ds)
+in_order : (kind : Kind) (name : List ℕ) (ds : Items) → json_data.object (with_last kind name (put (codes "cells") (array ds) no_members)) ≡ cells_document kind name (list_of ds)
 in_order Site name ds = rw (items_of-list_of ds) refl
 in_order Delta name ds = rw (items_of-list_of ds) refl
 in_order Summary name ds = rw (items_of-list_of ds) refl
@@ -159,19 +159,19 @@ in_order Script name ds = rw (items_of-list_of ds) refl
 
 -- ---- the whole text
 
-pub document_read : (form : Form) (text name : List ℕ) (ts rest : List Token) (ds : Items) → tokens text ≡ begin_object ∷ key (codes "cells") ∷ begin_array ∷ ts
-    → ReadsItems 125 ts ds rest → length rest < length ts → EndsNamed form rest name → read text ≡ Some (cells_document form name (list_of ds))
-document_read form text name ts rest ds is rows shorter last =
+pub document_read : (kind : Kind) (text name : List ℕ) (ts rest : List Token) (ds : Items) → tokens text ≡ begin_object ∷ key (codes "cells") ∷ begin_array ∷ ts
+    → ReadsItems 125 ts ds rest → length rest < length ts → EndsNamed kind rest name → read text ≡ Some (cells_document kind name (list_of ds))
+document_read kind text name ts rest ds is rows shorter last =
     let p = value 126 in
     let all = key (codes "cells") ∷ begin_array ∷ ts in
     let found = put (codes "cells") (array ds) no_members in
     let many : length rest ≡ 7 = ap length last.tokens in
     let first : converted (λ ms. of_members ms no_members) (json.members p (length all) all) ≡ converted (λ ms. of_members ms found) (json.members p (length all - 1) rest) =
     member_read p no_members (length all) (codes "cells") all (begin_array ∷ ts) rest (array ds) (omega arith) refl (array_read (begin_array ∷ ts) ts rest ds refl rows) in
-    let behind : converted (λ ms. of_members ms found) (json.members p (length all - 1) rest) ≡ Some (with_last form name found, []) =
+    let behind : converted (λ ms. of_members ms found) (json.members p (length all - 1) rest) ≡ Some (with_last kind name found, []) =
     ap (λ r. converted (λ ms. of_members ms found) (json.members p (length all - 1) r)) last.tokens
-    ∙ last_read form name last.version (length all - 1) found (omega (arith, shorter, many)) last.version_is in
-    object_whole text all is (with_last form name found) (first ∙ behind) ∙ ap Some (in_order form name ds)
+    ∙ last_read kind name last.version (length all - 1) found (omega (arith, shorter, many)) last.version_is in
+    object_whole text all is (with_last kind name found) (first ∙ behind) ∙ ap Some (in_order kind name ds)
 
 -- ---- what it reads as
 
@@ -179,14 +179,14 @@ pub site_read : (bytes name : List ℕ) (cells : Entries) → ReadsCells Site by
 site_read bytes name cells read =
     let d = site_value name read.rows in
     let same = list_of-items_of read.rows in
-    let head : AllPass (head_checks Site d) = ((refl, refl), (inr refl, ((site_names name read.rows, refl), tt))) in
+    let header : AllPass (header_checks Site d) = ((refl, refl), (inr refl, ((site_names name read.rows, refl), tt))) in
     let rest : AllPass (rest_checks Site cell_checks d) = (refl, (read.is_name, rw same read.passes)) in
-    (d, read.json, AllPass-both (head_checks Site d) (rest_checks Site cell_checks d) head rest, record { name = refl; cells = rw same read.makes })
+    (d, read.json, AllPass-both (header_checks Site d) (rest_checks Site cell_checks d) header rest, record { name = refl; cells = rw same read.makes })
 
 pub delta_read : (bytes name : List ℕ) (cells : Entries) → ReadsCells Delta bytes name cells → ReadsAsDelta bytes (record { addressee = name; cells = cells })
 delta_read bytes name cells read =
     let d = delta_value name read.rows in
     let same = list_of-items_of read.rows in
-    let head : AllPass (head_checks Delta d) = ((refl, refl), (inr refl, ((delta_names name read.rows, refl), tt))) in
+    let header : AllPass (header_checks Delta d) = ((refl, refl), (inr refl, ((delta_names name read.rows, refl), tt))) in
     let rest : AllPass (rest_checks Delta cell_checks d) = (refl, (read.is_name, rw same read.passes)) in
-    (d, read.json, AllPass-both (head_checks Delta d) (rest_checks Delta cell_checks d) head rest, record { addressee = refl; cells = rw same read.makes })
+    (d, read.json, AllPass-both (header_checks Delta d) (rest_checks Delta cell_checks d) header rest, record { addressee = refl; cells = rw same read.makes })

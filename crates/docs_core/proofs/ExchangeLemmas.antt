@@ -11,8 +11,8 @@ use Rattle.docs_core.specs.Faults.{of_no_document, of_site}
 use Rattle.docs_core.specs.Imported.{SpendsImport}
 use Rattle.docs_core.specs.LangMapLabels.{AreLangMaps}
 use Rattle.docs_core.specs.LangMaps.{Labelled}
-use Rattle.docs_core.specs.Named.{site_checks}
 use Rattle.docs_core.specs.ReadsAs.{ReadsAsSite}
+use Rattle.docs_core.specs.SiteDocuments.{site_checks}
 use Rattle.docs_core.specs.Updated.{IsUpdated, RefusesUpdate, SpendsUpdate, Updates}
 use Rattle.docs_core.specs.declared.fault.DocFault.{DocFault}
 

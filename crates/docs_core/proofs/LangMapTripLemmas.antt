@@ -27,7 +27,7 @@ use Rattle.json.specs.Tree.{HasNumbers, ItemsHaveNumbers, MembersHaveNumbers, de
 use Rattle.json.proofs.Printed.Tokens.{tokens-print}
 use Rattle.std.proofs.Math.Seq.{take-suc}
 use Rattle.docs_core.proofs.LangMapsLemmas.{labels_push}
-use Rattle.docs_core.specs.declared.lang_maps.KeyedLabel.{KeyedLabel}
+use Rattle.docs_core.specs.declared.language_map.maps.KeyedLabel.{KeyedLabel}
 use Rattle.json.proofs.Printed.Trees.{ArePrintable-json_tokens, value-json_tokens}
 use Rattle.lang_core.proofs.Basics.{each_true}
 use Rattle.lang_core.proofs.CaseLaws.{lowered}

@@ -8,7 +8,7 @@ use Rattle.json.specs.Token.{Token, begin_object, end_object, key}
 use Rattle.json.specs.Tree.{members_tokens}
 use Rattle.json.specs.Written.{Written}
 use Rattle.serde_json.specs.Written.{members_outline}
-use Rattle.docs_core.specs.declared.lang_maps.KeyedLabel.{KeyedLabel}
+use Rattle.docs_core.specs.declared.language_map.maps.KeyedLabel.{KeyedLabel}
 use Rattle.docs_core.specs.LangMaps.{Labelled, labels_of}
 use Rattle.docs_core.specs.LangMapsValue.{Messages, by_message, langmaps_value, language_value, languages_members, messages_members, with_label}
 use Rattle.docs_core.specs.LangMapsWritten.{label_tokens, labels_tokens, opening_tokens}

@@ -18,21 +18,21 @@ use Rattle.cata_core.specs.declared.step.Step.TheVariants as step
 use Rattle.serde_json.specs.Data.{Data}
 use Rattle.serde_json.specs.Find.{as_str}
 use Rattle.docs_core.specs.Fields.{entry_of, key_of, stamp_of, told_of}
-use Rattle.docs_core.specs.Heads.{own_data, rows_in, version_of}
+use Rattle.docs_core.specs.Headers.{rows_in, subject_data, version_of}
 use Rattle.docs_core.specs.OldRows.{AreOldStepsOf, IsOldDeltaDocument, IsOldScriptDocument, IsOldSiteDocument, IsOldStepOf, IsOldSummaryDocument, OldScript, migrated_script, old_entry_in, old_entry_of, old_told_in, old_told_of}
-use Rattle.docs_core.specs.Named.{IsDeltaDocument, IsSiteDocument, IsSummaryDocument, named_in}
+use Rattle.docs_core.specs.SiteDocuments.{IsDeltaDocument, IsSiteDocument, IsSummaryDocument, named_in}
 use Rattle.docs_core.specs.Rising.{entry_in, told_in}
 use Rattle.docs_core.specs.Rows.{cell_in, cell_of, items_in, label_in, parts_in, stamp_in, stamp_of as stamp_row_of, u32_in, u64_in}
 use Rattle.docs_core.specs.ScriptReads.{IsScriptDocument}
 use Rattle.docs_core.specs.Scripts.{ScriptState}
 use Rattle.docs_core.specs.StepFields.{AreSteps, IsStep}
-use Rattle.docs_core.specs.Steps.{StepText, edit_step, merge_step, filter_step, lookup_step, cells_step, tell_step, post_step, deliver_step, behind, default_in, edit_of, filter_of, lookup_of, one_of, scheme_in, step_of, two_of, word_of}
+use Rattle.docs_core.specs.Steps.{StepText, edit_step, merge_step, filter_step, lookup_step, cells_step, tell_step, post_step, deliver_step, step_after, default_in, edit_of, filter_of, lookup_of, one_of, scheme_in, step_of, two_of, word_of}
 use Rattle.docs_core.specs.Values.{Row}
-use Rattle.docs_core.specs.declared.form.Form.{Form}
-use Rattle.docs_core.specs.declared.form.Form.TheVariants as form
-use Rattle.docs_core.specs.declared.steps.Word.{Word}
-use Rattle.docs_core.specs.declared.steps.Word.TheVariants.{Edit, Merge, Filter, Lookup, Cells, Tell, Post, Deliver}
-use Rattle.docs_core.specs.declared.version.Version.TheVariants.{One}
+use Rattle.docs_core.specs.declared.document.kind.Kind.{Kind}
+use Rattle.docs_core.specs.declared.document.kind.Kind.TheVariants as kind
+use Rattle.docs_core.specs.declared.script.steps.Word.{Word}
+use Rattle.docs_core.specs.declared.script.steps.Word.TheVariants.{Edit, Merge, Filter, Lookup, Cells, Tell, Post, Deliver}
+use Rattle.docs_core.specs.declared.document.version.Version.TheVariants.{One}
 
 -- ---- rows
 
@@ -117,7 +117,7 @@ no_edit_lookup : (ds : List Data) → NoEdit (lookup_of ds)
 no_edit_lookup (s ∷ i ∷ f ∷ l ∷ []) site row is = four_by lookup_step (λ n a b c site row e. cc) (u32_in s) (as_str i) (as_str f) (default_in l) site row is
 no_edit_lookup ds site row is = cc
 
-edit_word : (word : Word) (ds : List Data) (site : ℕ) (row : Row × Option (List (List ℕ))) → behind One word ds ≡ Some (edit_step site row) → word ≡ Edit
+edit_word : (word : Word) (ds : List Data) (site : ℕ) (row : Row × Option (List (List ℕ))) → step_after One word ds ≡ Some (edit_step site row) → word ≡ Edit
 edit_word Edit ds site row is = refl
 edit_word Merge ds site row is = absurd (no_edit_two merge_step (λ m n site row e. cc) ds site row is)
 edit_word Filter ds site row is = absurd (no_edit_filter ds site row is)
@@ -159,7 +159,7 @@ abbrev EditParts : List Data → ℕ → Row × Option (List (List ℕ)) → Typ
 EditParts ds site row = (word place cell : Data) × (ds ≡ word ∷ place ∷ cell ∷ []) × (as_str word ≡ Some (codes "edit")) × (u32_in place ≡ Some site) × (cell_in One cell ≡ Some row)
 
 edit_behind : (w : Data) (ds : List Data) (text : List ℕ) (o : Option Word) (site : ℕ) (row : Row × Option (List (List ℕ))) → as_str w ≡ Some text → word_of text ≡ o
-    → option_and_then (λ word. behind One word ds) o ≡ Some (edit_step site row) → EditParts (w ∷ ds) site row
+    → option_and_then (λ word. step_after One word ds) o ≡ Some (edit_step site row) → EditParts (w ∷ ds) site row
 edit_behind w ds text None site row spelled known is = absurd (cc)
 edit_behind w ds text (Some word) site row spelled known is =
     let edit : word ≡ Edit = edit_word word ds site row is in
@@ -167,7 +167,7 @@ edit_behind w ds text (Some word) site row spelled known is =
     (w, parts.0, parts.1, ap (λ t. w ∷ t) parts.2, spelled ∙ ap Some (edit_text text (known ∙ ap Some edit)), parts.3, parts.4)
 
 edit_spelled : (w : Data) (ds : List Data) (o : Option (List ℕ)) (site : ℕ) (row : Row × Option (List (List ℕ))) → as_str w ≡ o
-    → option_and_then (λ text. option_and_then (λ word. behind One word ds) (word_of text)) o ≡ Some (edit_step site row) → EditParts (w ∷ ds) site row
+    → option_and_then (λ text. option_and_then (λ word. step_after One word ds) (word_of text)) o ≡ Some (edit_step site row) → EditParts (w ∷ ds) site row
 edit_spelled w ds None site row spelled is = absurd (cc)
 edit_spelled w ds (Some text) site row spelled is = edit_behind w ds text (word_of text) site row spelled refl is
 
@@ -206,7 +206,7 @@ steps_migrated (d ∷ ds) (s ∷ ss) are =
 
 pub script_migrated : (d : Data) (script : ScriptState) → version_of d ≡ One → IsScriptDocument d script → (old : OldScript) × IsOldScriptDocument d old × (script ≡ migrated_script old)
 script_migrated d script first reads =
-    let steps = steps_migrated (rows_in form.Script d) script.steps (rw first at reads.steps) in
+    let steps = steps_migrated (rows_in kind.Script d) script.steps (rw first at reads.steps) in
     let old : OldScript = record { sites = script.sites; steps = steps.0 } in
     (old, record { sites = reads.sites; steps = steps.1 }, ap (λ s. let r : ScriptState = record { sites = script.sites; steps = s } in r) steps.2)
 
@@ -260,35 +260,35 @@ number_by : (o : Option ℕ) (name : List ℕ) → option_map padded_name o ≡ 
 number_by None name is = absurd (cc)
 number_by (Some n) name is = (n, refl, cc)
 
-own_number : (form : Form) (d : Data) (name : List ℕ) → version_of d ≡ One → named_in form d ≡ Some name → (n : ℕ) × (u32_in (own_data form d) ≡ Some n) × (padded_name n ≡ name)
-own_number form d name first named = number_by (u32_in (own_data form d)) name (rw first at named)
+subject_number : (kind : Kind) (d : Data) (name : List ℕ) → version_of d ≡ One → named_in kind d ≡ Some name → (n : ℕ) × (u32_in (subject_data kind d) ≡ Some n) × (padded_name n ≡ name)
+subject_number kind d name first named = number_by (u32_in (subject_data kind d)) name (rw first at named)
 
 pub site_migrated : (d : Data) (site : SiteState) → version_of d ≡ One → IsSiteDocument d site → (old : OldSite) × IsOldSiteDocument d old × (site ≡ migrated_site old)
 site_migrated d site first reads =
-    let own = own_number form.Site d site.name first reads.name in
-    let cells = entries_migrated (rows_in form.Site d) site.cells (rw first at reads.cells) in
-    let old : OldSite = record { number = own.0; cells = cells.0 } in (
+    let subject = subject_number kind.Site d site.name first reads.name in
+    let cells = entries_migrated (rows_in kind.Site d) site.cells (rw first at reads.cells) in
+    let old : OldSite = record { number = subject.0; cells = cells.0 } in (
       old,
-      record { number = own.1; cells = cells.1 },
-      ap (λ name. let r : SiteState = record { name = name; cells = site.cells } in r) (sym own.2) ∙ ap (λ es. let r : SiteState = record { name = padded_name own.0; cells = es } in r) cells.2,
+      record { number = subject.1; cells = cells.1 },
+      ap (λ name. let r : SiteState = record { name = name; cells = site.cells } in r) (sym subject.2) ∙ ap (λ es. let r : SiteState = record { name = padded_name subject.0; cells = es } in r) cells.2,
     )
 
 pub delta_migrated : (d : Data) (delta : DeltaState) → version_of d ≡ One → IsDeltaDocument d delta → (old : OldDelta) × IsOldDeltaDocument d old × (delta ≡ migrated_delta old)
 delta_migrated d delta first reads =
-    let own = own_number form.Delta d delta.addressee first reads.addressee in
-    let cells = entries_migrated (rows_in form.Delta d) delta.cells (rw first at reads.cells) in
-    let old : OldDelta = record { addressee = own.0; cells = cells.0 } in (
+    let subject = subject_number kind.Delta d delta.addressee first reads.addressee in
+    let cells = entries_migrated (rows_in kind.Delta d) delta.cells (rw first at reads.cells) in
+    let old : OldDelta = record { addressee = subject.0; cells = cells.0 } in (
       old,
-      record { addressee = own.1; cells = cells.1 },
-      ap (λ name. let r : DeltaState = record { addressee = name; cells = delta.cells } in r) (sym own.2) ∙ ap (λ es. let r : DeltaState = record { addressee = padded_name own.0; cells = es } in r) cells.2,
+      record { addressee = subject.1; cells = cells.1 },
+      ap (λ name. let r : DeltaState = record { addressee = name; cells = delta.cells } in r) (sym subject.2) ∙ ap (λ es. let r : DeltaState = record { addressee = padded_name subject.0; cells = es } in r) cells.2,
     )
 
 pub summary_migrated : (d : Data) (summary : SummaryState) → version_of d ≡ One → IsSummaryDocument d summary → (old : OldSummary) × IsOldSummaryDocument d old × (summary ≡ migrated_summary old)
 summary_migrated d summary first reads =
-    let own = own_number form.Summary d summary.owner first reads.owner in
-    let stamps = stamps_migrated (rows_in form.Summary d) summary.stamps (rw first at reads.stamps) in
-    let old : OldSummary = record { owner = own.0; stamps = stamps.0 } in (
+    let subject = subject_number kind.Summary d summary.owner first reads.owner in
+    let stamps = stamps_migrated (rows_in kind.Summary d) summary.stamps (rw first at reads.stamps) in
+    let old : OldSummary = record { owner = subject.0; stamps = stamps.0 } in (
       old,
-      record { owner = own.1; stamps = stamps.1 },
-      ap (λ name. let r : SummaryState = record { owner = name; stamps = summary.stamps } in r) (sym own.2) ∙ ap (λ es. let r : SummaryState = record { owner = padded_name own.0; stamps = es } in r) stamps.2,
+      record { owner = subject.1; stamps = stamps.1 },
+      ap (λ name. let r : SummaryState = record { owner = name; stamps = summary.stamps } in r) (sym subject.2) ∙ ap (λ es. let r : SummaryState = record { owner = padded_name subject.0; stamps = es } in r) stamps.2,
     )

@@ -8,10 +8,10 @@ use Rattle.nego_core.specs.declared.fault.NegoFault.{NegoFault}
 use Rattle.nego_core.specs.declared.scheme.Scheme.{Scheme}
 use Rattle.docs_core.specs.Checks.{AllPass, AreJson, Check, FirstFails, IsRefusal, IsTextRefusal, check, rows_checks}
 use Rattle.docs_core.specs.Fields.{IsLabelRefusal, IsLabelText, cell_fields, key_of, label_check, language_check, order_check, stamp_fields}
-use Rattle.docs_core.specs.Heads.{head_checks, own_data, rows_in, version_of}
+use Rattle.docs_core.specs.Headers.{header_checks, rows_in, subject_data, version_of}
 use Rattle.docs_core.specs.LangMapChecks as maps
 use Rattle.docs_core.specs.LangMapRows as map_rows
-use Rattle.docs_core.specs.Named.{document_checks, own_checks}
+use Rattle.docs_core.specs.SiteDocuments.{document_checks, subject_checks}
 use Rattle.docs_core.specs.ReadsAs.{Reads}
 use Rattle.docs_core.specs.Rising.{cell_checks, cell_row, entry_in, last_key, own_cell_checks, own_stamp_checks, stamp_checks, stamp_row, told_in}
 use Rattle.docs_core.specs.ScriptReads.{script_checks, sites_check}
@@ -21,9 +21,9 @@ use Rattle.docs_core.specs.Values.{Row}
 use Rattle.docs_core.specs.declared.fault.DocCause.{DocCause}
 use Rattle.docs_core.specs.declared.fault.DocCause.TheVariants.{Field, NoMemory}
 use Rattle.docs_core.specs.declared.fault.FieldFault.TheVariants.{Cell, Language, Priorities}
-use Rattle.docs_core.specs.declared.form.Form.{Form}
-use Rattle.docs_core.specs.declared.form.Form.TheVariants.{Script}
-use Rattle.docs_core.specs.declared.version.Version.{Version}
+use Rattle.docs_core.specs.declared.document.kind.Kind.{Kind}
+use Rattle.docs_core.specs.declared.document.kind.Kind.TheVariants.{Script}
+use Rattle.docs_core.specs.declared.document.version.Version.{Version}
 use Rattle.docs_core.proofs.FieldRefusals.{no_label, no_language, no_list, one_label_fault, one_language_fault, one_list_fault}
 
 -- nothing both passes and fails it, and it refuses for one cause
@@ -130,22 +130,22 @@ step_rows version before d = (plain _ _, shaped (length before) (step_in version
 
 -- ---- documents
 
-heads : (form : Form) (d : Data) → AreTests (head_checks form d)
-heads form d = (plain _ _, (plain _ _, (plain _ _, tt)))
+headers : (kind : Kind) (d : Data) → AreTests (header_checks kind d)
+headers kind d = (plain _ _, (plain _ _, (plain _ _, tt)))
 
-named : (form : Form) (checks : Version → List Data → Data → List Check) → ((version : Version) (before : List Data) (d : Data) → AreTests (checks version before d)) → (d : Data) → AreTests (document_checks form checks d)
-named form checks each d =
-    both (head_checks form d) (own_checks (version_of d) (own_data form d) ++ rows_checks (checks (version_of d)) [] (rows_in form d)) (heads form d)
-    (both (own_checks (version_of d) (own_data form d)) (rows_checks (checks (version_of d)) [] (rows_in form d)) (plain _ _, (plain _ _, tt)) (rows (checks (version_of d)) (each (version_of d)) [] (rows_in form d)))
+named : (kind : Kind) (checks : Version → List Data → Data → List Check) → ((version : Version) (before : List Data) (d : Data) → AreTests (checks version before d)) → (d : Data) → AreTests (document_checks kind checks d)
+named kind checks each d =
+    both (header_checks kind d) (subject_checks (version_of d) (subject_data kind d) ++ rows_checks (checks (version_of d)) [] (rows_in kind d)) (headers kind d)
+    (both (subject_checks (version_of d) (subject_data kind d)) (rows_checks (checks (version_of d)) [] (rows_in kind d)) (plain _ _, (plain _ _, tt)) (rows (checks (version_of d)) (each (version_of d)) [] (rows_in kind d)))
 
-pub cells_named : (form : Form) (d : Data) → AreTests (document_checks form cell_checks d)
-cells_named form d = named form cell_checks cell_rows d
+pub cells_named : (kind : Kind) (d : Data) → AreTests (document_checks kind cell_checks d)
+cells_named kind d = named kind cell_checks cell_rows d
 
-pub stamps_named : (form : Form) (d : Data) → AreTests (document_checks form stamp_checks d)
-stamps_named form d = named form stamp_checks stamp_rows d
+pub stamps_named : (kind : Kind) (d : Data) → AreTests (document_checks kind stamp_checks d)
+stamps_named kind d = named kind stamp_checks stamp_rows d
 
 pub scripts : (d : Data) → AreTests (script_checks d)
-scripts d = both (head_checks Script d) (sites_check (own_data Script d) ∷ rows_checks (step_checks (version_of d)) [] (rows_in Script d)) (heads Script d) (plain _ _, rows (step_checks (version_of d)) (step_rows (version_of d)) [] (rows_in Script d))
+scripts d = both (header_checks Script d) (sites_check (subject_data Script d) ∷ rows_checks (step_checks (version_of d)) [] (rows_in Script d)) (headers Script d) (plain _ _, rows (step_checks (version_of d)) (step_rows (version_of d)) [] (rows_in Script d))
 
 -- ---- language maps
 

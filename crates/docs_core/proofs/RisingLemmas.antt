@@ -14,11 +14,11 @@ use Rattle.docs_core.specs.Fields.{cell_fields, IsBehind, entry_of, key_of, orde
 use Rattle.docs_core.specs.Rising.{AreEntries, entry_in, MakesEntries, last_key, no_row, own_cell_checks, own_stamp_checks, told_in}
 use Rattle.docs_core.specs.Rows.{cell_in, stamp_in}
 use Rattle.docs_core.specs.Values.{Row}
-use Rattle.docs_core.specs.declared.fields.CellEntry.{CellEntry}
-use Rattle.docs_core.specs.declared.fields.StampEntry.{StampEntry}
+use Rattle.docs_core.specs.declared.row.fields.CellEntry.{CellEntry}
+use Rattle.docs_core.specs.declared.row.fields.StampEntry.{StampEntry}
 use Rattle.docs_core.specs.declared.fault.DocCause.{DocCause}
 use Rattle.docs_core.specs.declared.fault.DocCause.TheVariants.{CellOrder, NoMemory}
-use Rattle.docs_core.specs.declared.version.Version.{Version}
+use Rattle.docs_core.specs.declared.document.version.Version.{Version}
 use Rattle.cata_core.proofs.Basics.{less_of}
 use Rattle.cata_core.proofs.Behind.{IsMap-behind}
 use Rattle.cata_core.proofs.LastKeys.{above_last, above_none}

@@ -15,16 +15,16 @@ use Rattle.cata_core.specs.Sites.{SiteState}
 use Rattle.cata_core.specs.Summary.{SummaryState}
 use Rattle.docs_core.specs.Checks.{AllPass, Check, rows_checks}
 use Rattle.docs_core.specs.Documents.{cells_values, delta_text, site_text, stamps_values, summary_text}
-use Rattle.docs_core.specs.Forms.{names_of}
-use Rattle.docs_core.specs.Heads.{HasJust, head_checks, own_data, rows_in, version_of}
-use Rattle.docs_core.specs.Named.{own_checks}
+use Rattle.docs_core.specs.Kinds.{names_of}
+use Rattle.docs_core.specs.Headers.{HasJust, header_checks, rows_in, subject_data, version_of}
+use Rattle.docs_core.specs.SiteDocuments.{subject_checks}
 use Rattle.docs_core.specs.ReadsAs.{ReadsAsDelta, ReadsAsSite, ReadsAsSummary}
 use Rattle.docs_core.specs.Rising.{cell_checks, stamp_checks}
 use Rattle.docs_core.specs.Valid.{AreKeptCells, AreKeptStamps}
 use Rattle.docs_core.specs.Values.{delta_value, site_value, summary_value}
-use Rattle.docs_core.specs.declared.form.Form.{Form}
-use Rattle.docs_core.specs.declared.form.Form.TheVariants.{Delta, Site, Summary}
-use Rattle.docs_core.specs.declared.version.Version.{Version}
+use Rattle.docs_core.specs.declared.document.kind.Kind.{Kind}
+use Rattle.docs_core.specs.declared.document.kind.Kind.TheVariants.{Delta, Site, Summary}
+use Rattle.docs_core.specs.declared.document.version.Version.{Version}
 use Rattle.docs_core.proofs.ChecksLemmas.{AllPass-both}
 use Rattle.docs_core.proofs.WrittenRows.{cells_pass, entries_again, list_of-items_of, stamps_again, stamps_pass}
 use Rattle.docs_core.proofs.WrittenTexts.{read-delta, read-site, read-summary}
@@ -39,20 +39,20 @@ by_order Greater x d = refl
 some_member : (name k : List ℕ) (d : Data) (ms : Members) → is_some (get_member name (member k d ms)) ≡ (bytes_eq name k || is_some (get_member name ms))
 some_member name k d ms = by_order (slice_cmp nat_cmp name k) (get_member name ms) d ∙ ap (λ b. b || is_some (get_member name ms)) (is_eq-slice_cmp name k)
 
-rows_first : (rows kind own version : Bool) → (rows || (kind || (own || (version || false)))) ≡ (kind || (version || (own || (rows || false))))
-rows_first true true own version = refl
+rows_first : (rows kind subject version : Bool) → (rows || (kind || (subject || (version || false)))) ≡ (kind || (version || (subject || (rows || false))))
+rows_first true true subject version = refl
 rows_first true false true true = refl
 rows_first true false true false = refl
 rows_first true false false true = refl
 rows_first true false false false = refl
-rows_first false true own version = refl
+rows_first false true subject version = refl
 rows_first false false true true = refl
 rows_first false false true false = refl
 rows_first false false false true = refl
 rows_first false false false false = refl
 
-rows_third : (kind own rows version : Bool) → (kind || (own || (rows || (version || false)))) ≡ (kind || (version || (own || (rows || false))))
-rows_third true own rows version = refl
+rows_third : (kind subject rows version : Bool) → (kind || (subject || (rows || (version || false)))) ≡ (kind || (version || (subject || (rows || false))))
+rows_third true subject rows version = refl
 rows_third false true rows true = refl
 rows_third false true rows false = refl
 rows_third false false true true = refl
@@ -77,42 +77,42 @@ summary_names name rows q =
 
 -- ---- documents
 
--- the tests behind those of the head
-abbrev pub rest_checks : Form → (Version → List Data → Data → List Check) → Data → List Check
-rest_checks form checks d = own_checks (version_of d) (own_data form d) ++ rows_checks (checks (version_of d)) [] (rows_in form d)
+-- the tests after those of the header
+abbrev pub rest_checks : Kind → (Version → List Data → Data → List Check) → Data → List Check
+rest_checks kind checks d = subject_checks (version_of d) (subject_data kind d) ++ rows_checks (checks (version_of d)) [] (rows_in kind d)
 
 pub site_again : (site : SiteState) → IsSiteName site.name → AreKeptCells site.cells → IsUtf8 (site_text site) → ReadsAsSite (site_text site) site
 site_again site name kept utf8 =
     let d = site_value site.name (cells_values site.cells) in
-    let head : AllPass (head_checks Site d) = ((refl, refl), (inr refl, ((site_names site.name (cells_values site.cells), refl), tt))) in
+    let header : AllPass (header_checks Site d) = ((refl, refl), (inr refl, ((site_names site.name (cells_values site.cells), refl), tt))) in
     let rows = cells_pass site.cells kept in
     let rest : AllPass (rest_checks Site cell_checks d) = (refl, (name, rw (list_of-items_of (cells_values site.cells)) rows)) in (
       d,
       (utf8, read-site site.name site.cells kept.each),
-      AllPass-both (head_checks Site d) (rest_checks Site cell_checks d) head rest,
+      AllPass-both (header_checks Site d) (rest_checks Site cell_checks d) header rest,
       record { name = refl; cells = rw (list_of-items_of (cells_values site.cells)) (entries_again site.cells kept.each) },
     )
 
 pub delta_again : (delta : DeltaState) → IsSiteName delta.addressee → AreKeptCells delta.cells → IsUtf8 (delta_text delta) → ReadsAsDelta (delta_text delta) delta
 delta_again delta name kept utf8 =
     let d = delta_value delta.addressee (cells_values delta.cells) in
-    let head : AllPass (head_checks Delta d) = ((refl, refl), (inr refl, ((delta_names delta.addressee (cells_values delta.cells), refl), tt))) in
+    let header : AllPass (header_checks Delta d) = ((refl, refl), (inr refl, ((delta_names delta.addressee (cells_values delta.cells), refl), tt))) in
     let rows = cells_pass delta.cells kept in
     let rest : AllPass (rest_checks Delta cell_checks d) = (refl, (name, rw (list_of-items_of (cells_values delta.cells)) rows)) in (
       d,
       (utf8, read-delta delta.addressee delta.cells kept.each),
-      AllPass-both (head_checks Delta d) (rest_checks Delta cell_checks d) head rest,
+      AllPass-both (header_checks Delta d) (rest_checks Delta cell_checks d) header rest,
       record { addressee = refl; cells = rw (list_of-items_of (cells_values delta.cells)) (entries_again delta.cells kept.each) },
     )
 
 pub summary_again : (summary : SummaryState) → IsSiteName summary.owner → AreKeptStamps summary.stamps → IsUtf8 (summary_text summary) → ReadsAsSummary (summary_text summary) summary
 summary_again summary name kept utf8 =
     let d = summary_value summary.owner (stamps_values summary.stamps) in
-    let head : AllPass (head_checks Summary d) = ((refl, refl), (inr refl, ((summary_names summary.owner (stamps_values summary.stamps), refl), tt))) in
+    let header : AllPass (header_checks Summary d) = ((refl, refl), (inr refl, ((summary_names summary.owner (stamps_values summary.stamps), refl), tt))) in
     let rows = stamps_pass summary.stamps kept in
     let rest : AllPass (rest_checks Summary stamp_checks d) = (refl, (name, rw (list_of-items_of (stamps_values summary.stamps)) rows)) in (
       d,
       (utf8, read-summary summary.owner summary.stamps kept.each),
-      AllPass-both (head_checks Summary d) (rest_checks Summary stamp_checks d) head rest,
+      AllPass-both (header_checks Summary d) (rest_checks Summary stamp_checks d) header rest,
       record { owner = refl; stamps = rw (list_of-items_of (stamps_values summary.stamps)) (stamps_again summary.stamps kept.each) },
     )

@@ -6,7 +6,7 @@ use Rattle.serde_json.specs.Data.{Data}
 use Rattle.docs_core.specs.Reads.{seen}
 use Rattle.docs_core.specs.Rows.{cell_in, cell_of, items_in, label_in, parts_in}
 use Rattle.docs_core.specs.Values.{Row}
-use Rattle.docs_core.specs.declared.version.Version.{Version}
+use Rattle.docs_core.specs.declared.document.version.Version.{Version}
 
 cell_read : (version : Version) (i l t s c b : Data) (row : Row) (label : Option (List (List ℕ))) → Some row ≡ parts_in version i l t s c → Some label ≡ label_in b
     → Some (row, label) ≡ cell_of version (i ∷ l ∷ t ∷ s ∷ c ∷ b ∷ [])

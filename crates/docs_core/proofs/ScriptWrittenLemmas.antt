@@ -22,8 +22,8 @@ use Rattle.serde_json.specs.Find.{get_member}
 use Rattle.serde_json.proofs.Numbers.{number_of-decimal}
 use Rattle.docs_core.specs.Checks.{AllPass, Check, rows_checks}
 use Rattle.docs_core.specs.Drafts.{version_tokens}
-use Rattle.docs_core.specs.Forms.{names_of}
-use Rattle.docs_core.specs.Heads.{HasJust, head_checks, own_data, rows_in, version_of}
+use Rattle.docs_core.specs.Kinds.{names_of}
+use Rattle.docs_core.specs.Headers.{HasJust, header_checks, rows_in, subject_data, version_of}
 use Rattle.docs_core.specs.ScriptReads.{ReadsAsScript, sites_check}
 use Rattle.docs_core.specs.ScriptWritten.{AreRowsOf, HasRows, HoldsSteps, IsFirstUnwritable, RefusesWriting, script_value}
 use Rattle.docs_core.specs.Scripts.{IsSiteCount, ScriptState}
@@ -32,7 +32,7 @@ use Rattle.docs_core.specs.Steps.{StepText}
 use Rattle.docs_core.specs.StepsWritten.{IsWritable, RefusesStep, WritesStep, step_value}
 use Rattle.docs_core.specs.Texts.{Adds, text, value_tokens}
 use Rattle.docs_core.specs.declared.fault.DocCause.{DocCause}
-use Rattle.docs_core.specs.declared.form.Form.TheVariants.{Script}
+use Rattle.docs_core.specs.declared.document.kind.Kind.TheVariants.{Script}
 use Rattle.docs_core.proofs.ChecksLemmas.{AllPass-both}
 use Rattle.docs_core.proofs.StepsWrittenLemmas.{rows_push, rows_sound, steps_again, steps_pass, writable_of}
 use Rattle.docs_core.proofs.TextsLemmas.{printed, row_tokens-push, rows_member}
@@ -121,7 +121,7 @@ two : 2 < 2 ^ 64
 two = omega arith
 
 abbrev rest_checks : Data → List Check
-rest_checks d = sites_check (own_data Script d) ∷ rows_checks (step_checks (version_of d)) [] (rows_in Script d)
+rest_checks d = sites_check (subject_data Script d) ∷ rows_checks (step_checks (version_of d)) [] (rows_in Script d)
 
 pub script_again : (script : ScriptState) (texts : List StepText) → IsSiteCount script.sites → AreRowsOf texts script.steps → IsUtf8 (text (script_value script.sites (map step_value texts)))
     → ReadsAsScript (text (script_value script.sites (map step_value texts))) script
@@ -129,7 +129,7 @@ script_again script texts count held utf8 =
     let d = script_value script.sites (map step_value texts) in
     let rows = rows_sound texts script.steps held in
     let small = few script.sites count in
-    let head : AllPass (head_checks Script d) = ((refl, refl), (inr refl, ((script_names script.sites (map step_value texts), refl), tt))) in
+    let head : AllPass (header_checks Script d) = ((refl, refl), (inr refl, ((script_names script.sites (map step_value texts), refl), tt))) in
     let rest : AllPass (rest_checks d) = (rw count refl, rw (list_of-items_of (map step_value texts)) (steps_pass [] texts script.steps held)) in (
       d,
       (
@@ -137,6 +137,6 @@ script_again script texts count held utf8 =
         read-text d (tt, (IsNumber-decimal script.sites small, (rows.numbers, (IsNumber-decimal 2 two, tt)))) (omega (arith, rows.shallow))
             (rw (number_of-decimal script.sites small, rows.back, number_of-decimal 2 two) refl),
       ),
-      AllPass-both (head_checks Script d) (rest_checks d) head rest,
+      AllPass-both (header_checks Script d) (rest_checks d) head rest,
       record { sites = rw count refl; steps = rw (list_of-items_of (map step_value texts)) (steps_again texts script.steps held) },
     )

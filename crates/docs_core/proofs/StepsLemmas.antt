@@ -6,10 +6,10 @@ use Rattle.serde_json.specs.Data.{Data}
 use Rattle.docs_core.specs.Checks.{AllPass, FirstFails}
 use Rattle.docs_core.specs.StepFields.{AreSteps, IsStep, step_checks, step_fields}
 use Rattle.docs_core.specs.Steps.{StepText, step_in}
+use Rattle.docs_core.specs.declared.document.version.Version.{Version}
 use Rattle.docs_core.specs.declared.fault.DocCause.{DocCause}
 use Rattle.docs_core.specs.declared.fault.DocCause.TheVariants.{Shape}
 use Rattle.docs_core.specs.declared.fault.Spot.TheVariants.{Row}
-use Rattle.docs_core.specs.declared.version.Version.{Version}
 
 pub AreSteps-push : (version : Version) (ds : List Data) (d : Data) (steps : List Step) (step : Step) → AreSteps version ds steps → IsStep version d step → AreSteps version (ds ++ d ∷ []) (steps ++ step ∷ [])
 AreSteps-push version [] d [] step so_far last = (last, tt)

@@ -26,7 +26,7 @@ use Rattle.docs_core.specs.Steps.{StepText, edit_step, merge_step, filter_step, 
 use Rattle.docs_core.specs.StepsWritten.{FitsMember, HasRoom, IsDefault, IsRowOf, IsWritable, step_value}
 use Rattle.docs_core.specs.Valid.{IsKeptCell}
 use Rattle.docs_core.specs.Values.{Row, cell_value, label_value}
-use Rattle.docs_core.specs.declared.version.Version.TheVariants.{Two}
+use Rattle.docs_core.specs.declared.document.version.Version.TheVariants.{Two}
 use Rattle.docs_core.proofs.ChecksLemmas.{AllPass-both}
 use Rattle.docs_core.proofs.LowerLemmas.{lower-IsLang, spells-IsLang}
 use Rattle.docs_core.proofs.StepsLemmas.{step_passes}

@@ -1,4 +1,4 @@
--- The tests of a head, by what was read of the members.
+-- The tests of a header, by what was read of the members.
 use Rattle.std.proofs.Common.{◌≡◌, ◌∙◌, ℕ, List, [], ◌||◌, Bool, true, false, codes, ap, sym, refl, inl, inr}
 use Rattle.std.specs.Prelude.{Option, None, Some, IsUtf8, is_some, option_and_then, unwrap_or}
 use Rattle.std.specs.Str.{bytes_eq}
@@ -7,30 +7,30 @@ use Rattle.serde_json.specs.Data.{Data, Members, null, boolean, number, string, 
 use Rattle.serde_json.specs.Find.{as_object, as_str, get, get_member}
 use Rattle.docs_core.specs.Arrays.{TakesRows}
 use Rattle.docs_core.specs.Checks.{Check, FirstFails}
-use Rattle.docs_core.specs.Forms.{is_among, kind_of, member_by, member_of, names_of, own_of, rows_of}
-use Rattle.docs_core.specs.HeadSeen.{Shows, ShowsOwn, ShowsRows, is_text}
-use Rattle.docs_core.specs.Heads.{Begins, HasMembers, IsKnownVersion, IsOwn, head_checks, kind_in, version_by}
-use Rattle.docs_core.specs.PartsRead.{HasParts, RefusesHead, RefusesText}
-use Rattle.docs_core.specs.PartsSeen.{FailsHead, HasKnownVersion, IsWhole, PassesHead, Starts}
+use Rattle.docs_core.specs.Kinds.{is_among, kind_text, member_by, member_of, names_of, rows_of, subject_of}
+use Rattle.docs_core.specs.HeaderSeen.{Shows, ShowsRows, ShowsSubject, is_text}
+use Rattle.docs_core.specs.Headers.{Begins, HasMembers, IsKnownVersion, IsSubject, header_checks, kind_in, version_by}
+use Rattle.docs_core.specs.TestedHeaders.{HasHeader, RefusesHeader, RefusesText}
+use Rattle.docs_core.specs.HeaderTests.{FailsHeader, HasKnownVersion, IsWhole, PassesHeader, Starts}
 use Rattle.serde_json.specs.Read.{read}
 use Rattle.docs_core.specs.Rows.{items_in, u64_in}
 use Rattle.docs_core.specs.declared.fault.DocCause.{DocCause}
 use Rattle.docs_core.specs.declared.fault.DocCause.TheVariants.{Shape}
 use Rattle.docs_core.specs.declared.fault.Spot.TheVariants as spot
-use Rattle.docs_core.specs.declared.form.Form.{Form}
-use Rattle.docs_core.specs.declared.form.Member.{Member}
-use Rattle.docs_core.specs.declared.form.Member.TheVariants.{Kind, Version, Own, Rows, Other}
-use Rattle.docs_core.specs.declared.head.Head.{Head}
-use Rattle.docs_core.specs.declared.head.Own.{Own as OwnValue}
-use Rattle.docs_core.specs.declared.parts.Parts.{Parts}
-use Rattle.docs_core.proofs.HeadsLemmas.{named_kind, named_own, named_rows, named_version, own_is}
+use Rattle.docs_core.specs.declared.document.kind.Kind.{Kind}
+use Rattle.docs_core.specs.declared.document.kind.Member.{Member}
+use Rattle.docs_core.specs.declared.document.kind.Member.TheVariants.{Kind as KindMember, Version, Subject, Rows, Other}
+use Rattle.docs_core.specs.declared.document.header.Header.{Header}
+use Rattle.docs_core.specs.declared.document.header.Subject.{Subject as SubjectValue}
+use Rattle.docs_core.specs.declared.document.tested_header.TestedHeader.{TestedHeader}
+use Rattle.docs_core.proofs.HeadersLemmas.{named_kind, named_rows, named_subject, named_version, subject_is}
 
 -- ---- names
 
 is_named : Member → Bool
-is_named Kind = true
+is_named KindMember = true
 is_named Version = true
-is_named Own = true
+is_named Subject = true
 is_named Rows = true
 is_named Other = false
 
@@ -42,8 +42,8 @@ among_by false false true d = refl
 among_by false false false true = refl
 among_by false false false false = refl
 
-among_is : (form : Form) (name : List ℕ) → is_among name (names_of form) ≡ is_named (member_of form name)
-among_is form name = among_by (bytes_eq name (codes "kind")) (bytes_eq name (codes "version")) (bytes_eq name (own_of form)) (bytes_eq name (rows_of form))
+among_is : (kind : Kind) (name : List ℕ) → is_among name (names_of kind) ≡ is_named (member_of kind name)
+among_is kind name = among_by (bytes_eq name (codes "kind")) (bytes_eq name (codes "version")) (bytes_eq name (subject_of kind)) (bytes_eq name (rows_of kind))
 
 -- ---- parts that are there
 
@@ -58,21 +58,21 @@ first_there : {A : Type 0} (f : Data → Option A) (m : Option Data) → is_some
 first_there f None h = h
 first_there f (Some d) h = refl
 
-own_there : (o : Option OwnValue) (m : Option Data) → is_some o ≡ true → ShowsOwn o m → is_some m ≡ true
-own_there None m some shown = cc
-own_there (Some own) m some shown = ap is_some shown.1
+subject_there : (o : Option SubjectValue) (m : Option Data) → is_some o ≡ true → ShowsSubject o m → is_some m ≡ true
+subject_there None m some shown = cc
+subject_there (Some subject) m some shown = ap is_some shown.1
 
-own_shown : (o : Option OwnValue) (m : Option Data) → is_some m ≡ true → ShowsOwn o m → is_some o ≡ true
-own_shown None m some shown = sym (ap is_some shown) ∙ some
-own_shown (Some own) m some shown = refl
+subject_shown : (o : Option SubjectValue) (m : Option Data) → is_some m ≡ true → ShowsSubject o m → is_some o ≡ true
+subject_shown None m some shown = sym (ap is_some shown) ∙ some
+subject_shown (Some subject) m some shown = refl
 
 false_if : (b : Bool) → (b ≡ true → ⊥) → b ≡ false
 false_if true h = absurd (h refl)
 false_if false h = refl
 
-own_held : (own : OwnValue) (o : Option OwnValue) (m : Option Data) → o ≡ Some own → ShowsOwn o m → IsOwn own (unwrap_or m null)
-own_held own o m is shown =
-    let there : ShowsOwn (Some own) m = rw is at shown in
+subject_held : (subject : SubjectValue) (o : Option SubjectValue) (m : Option Data) → o ≡ Some subject → ShowsSubject o m → IsSubject subject (unwrap_or m null)
+subject_held subject o m is shown =
+    let there : ShowsSubject (Some subject) m = rw is at shown in
     rw there.1 there.2
 
 module _ {S : Type 0} (checks : List Data → Data → List Check) (Holds : S → List Data → Type 0) (rows : S) where
@@ -91,51 +91,51 @@ module _ {S : Type 0} (checks : List Data → Data → List Check) (Holds : S �
 
 -- ---- the tests
 
-module _ {S : Type 0} (form : Form) (checks : List Data → Data → List Check) (Holds : S → List Data → Type 0) (head : Head) (rows : S) (ms : Members) (shown : Shows form checks Holds head rows ms) where
-  begins : Starts head → Begins form (object ms)
-  begins starts = (text_is (kind_of form) (kind_in (object ms)) (sym shown.kind ∙ starts.0), sym (ap is_some shown.version) ∙ starts.1)
+module _ {S : Type 0} (kind : Kind) (checks : List Data → Data → List Check) (Holds : S → List Data → Type 0) (header : Header) (rows : S) (ms : Members) (shown : Shows kind checks Holds header rows ms) where
+  begins : Starts header → Begins kind (object ms)
+  begins starts = (text_is (kind_text kind) (kind_in (object ms)) (sym shown.is_kind ∙ starts.0), sym (ap is_some shown.version) ∙ starts.1)
 
-  starts_if : Begins form (object ms) → Starts head
-  starts_if begun = (shown.kind ∙ ap (is_text (kind_of form)) begun.0 ∙ is_same (kind_of form), ap is_some shown.version ∙ begun.1)
+  starts_if : Begins kind (object ms) → Starts header
+  starts_if begun = (shown.is_kind ∙ ap (is_text (kind_text kind)) begun.0 ∙ is_same (kind_text kind), ap is_some shown.version ∙ begun.1)
 
-  known : HasKnownVersion head → IsKnownVersion (object ms)
+  known : HasKnownVersion header → IsKnownVersion (object ms)
   known is = elim is [ inl h ↦ inl (sym shown.version ∙ h) | inr h ↦ inr (sym shown.version ∙ h) ]
 
-  known_if : IsKnownVersion (object ms) → HasKnownVersion head
+  known_if : IsKnownVersion (object ms) → HasKnownVersion header
   known_if is = elim is [ inl h ↦ inl (shown.version ∙ h) | inr h ↦ inr (shown.version ∙ h) ]
 
-  just : Starts head → IsWhole head → (name : List ℕ) (m : Member) → member_of form name ≡ m → is_some (get_member name ms) ≡ is_named m
+  just : Starts header → IsWhole header → (name : List ℕ) (m : Member) → member_of kind name ≡ m → is_some (get_member name ms) ≡ is_named m
   unfolding is_named
-  just starts whole name Kind is = rw (named_kind form name is) (first_there as_str (get_member (codes "kind") ms) (ap is_some (begins starts).0))
-  just starts whole name Version is = rw (named_version form name is) (first_there u64_in (get_member (codes "version") ms) (begins starts).1)
-  just starts whole name Own is = rw (named_own form name is) (own_there head.own (get_member (own_of form) ms) whole.1 shown.own)
-  just starts whole name Rows is = rw (named_rows form name is) (first_there items_in (get_member (rows_of form) ms) (rows_there checks Holds rows head.rows _ whole.2 shown.rows_part))
+  just starts whole name KindMember is = rw (named_kind kind name is) (first_there as_str (get_member (codes "kind") ms) (ap is_some (begins starts).0))
+  just starts whole name Version is = rw (named_version kind name is) (first_there u64_in (get_member (codes "version") ms) (begins starts).1)
+  just starts whole name Subject is = rw (named_subject kind name is) (subject_there header.subject (get_member (subject_of kind) ms) whole.1 shown.subject)
+  just starts whole name Rows is = rw (named_rows kind name is) (first_there items_in (get_member (rows_of kind) ms) (rows_there checks Holds rows header.rows _ whole.2 shown.rows_part))
   just starts whole name Other is =
       false_if (is_some (get_member name ms)) (λ some. let never : true ≡ false = sym (shown.others.told name is some) ∙ whole.0 in absurd (cc))
 
-  has_members : Starts head → IsWhole head → HasMembers form (object ms)
+  has_members : Starts header → IsWhole header → HasMembers kind (object ms)
   has_members starts whole =
-      (λ name. just starts whole name (member_of form name) refl ∙ sym (among_is form name), rows_there checks Holds rows head.rows _ whole.2 shown.rows_part)
+      (λ name. just starts whole name (member_of kind name) refl ∙ sym (among_is kind name), rows_there checks Holds rows header.rows _ whole.2 shown.rows_part)
 
-  whole_if : HasMembers form (object ms) → IsWhole head
+  whole_if : HasMembers kind (object ms) → IsWhole header
   unfolding is_named
   whole_if has =
-      let own_named : is_some (get_member (own_of form) ms) ≡ true = has.0 (own_of form) ∙ among_is form (own_of form) ∙ ap is_named (own_is form) in (
-        false_if head.has_other (λ other. let o = shown.others.there other in let never : true ≡ false = sym o.2 ∙ has.0 o.0 ∙ among_is form o.0 ∙ ap is_named o.1 in absurd (cc)),
-        own_shown head.own (get_member (own_of form) ms) own_named shown.own,
-        rows_shown checks Holds rows head.rows _ has.1 shown.rows_part,
+      let subject_named : is_some (get_member (subject_of kind) ms) ≡ true = has.0 (subject_of kind) ∙ among_is kind (subject_of kind) ∙ ap is_named (subject_is kind) in (
+        false_if header.has_other (λ other. let o = shown.others.there other in let never : true ≡ false = sym o.2 ∙ has.0 o.0 ∙ among_is kind o.0 ∙ ap is_named o.1 in absurd (cc)),
+        subject_shown header.subject (get_member (subject_of kind) ms) subject_named shown.subject,
+        rows_shown checks Holds rows header.rows _ has.1 shown.rows_part,
       )
 
-  pub has_parts : (parts : Parts) → PassesHead head parts → HasParts form checks Holds (object ms) parts rows
-  has_parts parts passes = record {
+  pub has_header : (tested : TestedHeader) → PassesHeader header tested → HasHeader kind checks Holds (object ms) tested rows
+  has_header tested passes = record {
     passes = (begins passes.starts, (known passes.known, (has_members passes.starts passes.whole, tt)));
     version = passes.version ∙ ap version_by shown.version;
-    own = own_held parts.own head.own (get_member (own_of form) ms) passes.own shown.own;
-    taken = rows_held checks Holds rows parts.refusal head.rows _ passes.rows shown.rows_part;
+    subject = subject_held tested.subject header.subject (get_member (subject_of kind) ms) passes.subject shown.subject;
+    taken = rows_held checks Holds rows tested.refusal header.rows _ passes.rows shown.rows_part;
   }
 
-  pub head_fails : (e : DocCause) → FailsHead head e → FirstFails (head_checks form (object ms)) e
-  head_fails e fails = elim fails [
+  pub header_fails : (e : DocCause) → FailsHeader header e → FirstFails (header_checks kind (object ms)) e
+  header_fails e fails = elim fails [
     | inl h ↦ inl (λ begun. h.0 (starts_if begun), h.1)
     | inr rest ↦ elim rest [
       | inl h ↦ inr (begins h.0, inl (λ is. h.1 (known_if is), h.2))
@@ -152,13 +152,13 @@ none_in name (array ds) h = refl
 none_in name (object ms) h = cc
 
 -- what is no object has no kind
-pub no_head : (form : Form) (d : Data) (e : DocCause) → as_object d ≡ None → e ≡ Shape spot.Document → FirstFails (head_checks form d) e
-no_head form d e none is =
-    inl (λ begun. let never : None ≡ Some (kind_of form) = sym (ap (option_and_then as_str) (none_in (codes "kind") d none)) ∙ begun.0 in absurd (cc), is)
+pub no_header : (kind : Kind) (d : Data) (e : DocCause) → as_object d ≡ None → e ≡ Shape spot.Document → FirstFails (header_checks kind d) e
+no_header kind d e none is =
+    inl (λ begun. let never : None ≡ Some (kind_text kind) = sym (ap (option_and_then as_str) (none_in (codes "kind") d none)) ∙ begun.0 in absurd (cc), is)
 
 -- a text that is refused, as the bytes of a document
-pub bytes_refused : (form : Form) (bytes text : List ℕ) → text ≡ bytes → IsUtf8 bytes → (e : DocCause) → RefusesText form text e → RefusesHead form bytes e
-bytes_refused form bytes text same utf8 e why =
+pub bytes_refused : (kind : Kind) (bytes text : List ℕ) → text ≡ bytes → IsUtf8 bytes → (e : DocCause) → RefusesText kind text e → RefusesHeader kind bytes e
+bytes_refused kind bytes text same utf8 e why =
     elim why [
       | inl memory ↦ inl (inl memory)
       | inr rest ↦ elim rest [

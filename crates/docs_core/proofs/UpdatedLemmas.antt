@@ -25,7 +25,7 @@ use Rattle.docs_core.specs.LangMaps.{Labelled}
 use Rattle.docs_core.specs.Made.{Change, Makes, SpendsClock, with_change}
 use Rattle.docs_core.specs.Revised.{IsFirstRevised, IsHead, IsRevised, NoStamp, key_of, new_of, old_of}
 use Rattle.docs_core.specs.Updated.{AreChanges, IsChangeAt, SpendsUpdate, Texts, Updates}
-use Rattle.docs_core.specs.declared.updating.Revised.{Revised}
+use Rattle.docs_core.specs.declared.call.updating.Revised.{Revised}
 use Rattle.docs_core.proofs.LiveLemmas.{label_in}
 
 -- keys that tie are one

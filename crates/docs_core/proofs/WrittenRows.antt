@@ -18,7 +18,7 @@ use Rattle.docs_core.specs.Rising.{AreEntries, cell_checks, cell_row, entry_in, 
 use Rattle.docs_core.specs.Rows.{cell_in, label_in, list_of, narrowed, stamp_in, texts_in}
 use Rattle.docs_core.specs.Valid.{AreKeptCells, AreKeptStamps, IsKeptCell, IsKeptStamp}
 use Rattle.docs_core.specs.Values.{label_value}
-use Rattle.docs_core.specs.declared.version.Version.TheVariants.{Two}
+use Rattle.docs_core.specs.declared.document.version.Version.TheVariants.{Two}
 use Rattle.docs_core.proofs.ChecksLemmas.{AllPass-both}
 use Rattle.docs_core.proofs.LowerLemmas.{lower-IsLang, spells-IsLang}
 use Rattle.docs_core.proofs.RisingLemmas.{last_key-push}

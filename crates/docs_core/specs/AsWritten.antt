@@ -10,19 +10,19 @@ use Rattle.cata_core.specs.Entries.{Entries, Entry}
 use Rattle.docs_core.specs.Arrays.{ReadsItems}
 use Rattle.docs_core.specs.Checks.{AllPass, AreJson, rows_checks}
 use Rattle.docs_core.specs.Fields.{cell_fields, entry_of}
-use Rattle.docs_core.specs.Forms.{kind_of, own_of}
+use Rattle.docs_core.specs.Kinds.{kind_text, subject_of}
 use Rattle.docs_core.specs.Rising.{AreEntries, MakesEntries, cell_checks, entry_in}
 use Rattle.docs_core.specs.Rows.{list_of}
 use Rattle.docs_core.specs.Values.{Row}
-use Rattle.docs_core.specs.declared.form.Form.{Form}
-use Rattle.docs_core.specs.declared.version.Version.TheVariants.{Two}
+use Rattle.docs_core.specs.declared.document.kind.Kind.{Kind}
+use Rattle.docs_core.specs.declared.document.version.Version.TheVariants.{Two}
 
 -- `{"cells":[..],"kind":KIND,OWN:NAME,"version":2}`
-abbrev pub cells_document : Form → List ℕ → List Data → Data
-cells_document form name rows = object
+abbrev pub cells_document : Kind → List ℕ → List Data → Data
+cells_document kind name rows = object
     (member (codes "cells") (array (items_of rows))
-    (member (codes "kind") (json_data.string (kind_of form))
-    (member (own_of form) (json_data.string name)
+    (member (codes "kind") (json_data.string (kind_text kind))
+    (member (subject_of kind) (json_data.string name)
     (member (codes "version") (json_data.number (unsigned 2)) no_members))))
 
 -- an unsigned whole number comes first
@@ -64,16 +64,16 @@ pub record BeginsRows (old : List Token) (cells : Entries) (new : List Token) : 
   pub makes : MakesEntries (entry_in Two) (list_of rows) cells
 
 -- the members behind the rows come last
-pub record EndsNamed (form : Form) (old : List Token) (name : List ℕ) : Type 0 where
+pub record EndsNamed (kind : Kind) (old : List Token) (name : List ℕ) : Type 0 where
   pub version : List ℕ
-  pub tokens : old ≡ key (codes "kind") ∷ string (kind_of form) ∷ key (own_of form) ∷ string name ∷ key (codes "version") ∷ number version ∷ end_object ∷ []
+  pub tokens : old ≡ key (codes "kind") ∷ string (kind_text kind) ∷ key (subject_of kind) ∷ string name ∷ key (codes "version") ∷ number version ∷ end_object ∷ []
   pub version_is : number_of version ≡ Some (unsigned 2)
   pub is_name : IsSiteName name
 
 -- the bytes are such a document of this name, whose rows pass and make these entries
-pub record ReadsCells (form : Form) (bytes name : List ℕ) (cells : Entries) : Type 0 where
+pub record ReadsCells (kind : Kind) (bytes name : List ℕ) (cells : Entries) : Type 0 where
   pub rows : List Data
-  pub json : AreJson bytes (cells_document form name rows)
+  pub json : AreJson bytes (cells_document kind name rows)
   pub is_name : IsSiteName name
   pub passes : AllPass (rows_checks (cell_checks Two) [] rows)
   pub makes : AreEntries (entry_in Two) rows cells

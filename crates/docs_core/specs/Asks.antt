@@ -7,8 +7,8 @@ use Rattle.cata_core.specs.declared.reply.Reply.{Reply}
 use Rattle.cata_core.specs.declared.reply.Reply.TheVariants.{Matched, Default, Nothing}
 use Rattle.docs_core.specs.Lines.{filter_lines, reply_line}
 use Rattle.docs_core.specs.ReadsAs.{ReadsAsSite}
-use Rattle.docs_core.specs.declared.asking.Ask.{Ask}
-use Rattle.docs_core.specs.declared.asking.Ask.TheVariants.{Filter, Lookup}
+use Rattle.docs_core.specs.declared.call.asking.Ask.{Ask}
+use Rattle.docs_core.specs.declared.call.asking.Ask.TheVariants.{Filter, Lookup}
 
 abbrev pub is_found : Reply → Bool
 is_found (Matched lang label) = true

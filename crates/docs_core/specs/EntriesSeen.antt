@@ -1,8 +1,8 @@
 -- Entries that were made, as pairs of a key and what it has.
 use Rattle.cell_core.specs.declared.stamp.Stamp.{Stamp}
 use Rattle.cata_core.specs.Entries.{Entry, EntryKey}
-use Rattle.docs_core.specs.declared.fields.CellEntry.{CellEntry}
-use Rattle.docs_core.specs.declared.fields.StampEntry.{StampEntry}
+use Rattle.docs_core.specs.declared.row.fields.CellEntry.{CellEntry}
+use Rattle.docs_core.specs.declared.row.fields.StampEntry.{StampEntry}
 
 abbrev pub told_by : StampEntry → EntryKey × Stamp
 told_by e = ((e.id, e.lang), e.stamp)

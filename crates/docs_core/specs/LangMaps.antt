@@ -1,7 +1,7 @@
 -- Language maps as one list of labels, in rising order of key.
 use Rattle.std.specs.Prelude.{ℕ, List, map}
 use Rattle.cata_core.specs.Entries.{EntryKey}
-use Rattle.docs_core.specs.declared.lang_maps.KeyedLabel.{KeyedLabel}
+use Rattle.docs_core.specs.declared.language_map.maps.KeyedLabel.{KeyedLabel}
 
 -- a message's id and a language, with the texts of their label
 abbrev pub Labelled : Type 0

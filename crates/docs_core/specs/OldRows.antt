@@ -8,14 +8,14 @@ use Rattle.cata_core.specs.Migration.{OldDelta, OldEntry, OldSite, OldSummary}
 use Rattle.cata_core.specs.OldSteps.{OldStep, OldEdit, OldMerge, OldAskFilter, OldAskLookup, OldAskCells, OldTell, OldPost, OldDeliver, migrated_steps}
 use Rattle.serde_json.specs.Data.{Data}
 use Rattle.serde_json.specs.Find.{as_str}
-use Rattle.docs_core.specs.Heads.{own_data, rows_in}
+use Rattle.docs_core.specs.Headers.{rows_in, subject_data}
 use Rattle.docs_core.specs.Rows.{items_in, label_in, u32_in, u64_in}
 use Rattle.docs_core.specs.ScriptReads.{sites_in}
 use Rattle.docs_core.specs.Scripts.{ScriptState}
 use Rattle.docs_core.specs.StepFields.{Lists}
 use Rattle.docs_core.specs.Steps.{merge_step, filter_step, lookup_step, cells_step, tell_step, post_step, deliver_step, step_in}
-use Rattle.docs_core.specs.declared.form.Form.TheVariants.{Delta, Script, Site, Summary}
-use Rattle.docs_core.specs.declared.version.Version.TheVariants.{One}
+use Rattle.docs_core.specs.declared.document.kind.Kind.TheVariants.{Delta, Script, Site, Summary}
+use Rattle.docs_core.specs.declared.document.version.Version.TheVariants.{One}
 
 -- the key and the stamp of a row; languages stand in lower case
 abbrev pub old_parts_in : Data → Data → Data → Data → Data → Option (EntryKey × OldStamp)
@@ -43,15 +43,15 @@ old_told_in d = option_and_then old_told_of (items_in d)
 -- ---- documents that name a site
 
 pub record IsOldSiteDocument (d : Data) (site : OldSite) : Type 0 where
-  pub number : u32_in (own_data Site d) ≡ Some site.number
+  pub number : u32_in (subject_data Site d) ≡ Some site.number
   pub cells : map old_entry_in (rows_in Site d) ≡ map Some site.cells
 
 pub record IsOldDeltaDocument (d : Data) (delta : OldDelta) : Type 0 where
-  pub addressee : u32_in (own_data Delta d) ≡ Some delta.addressee
+  pub addressee : u32_in (subject_data Delta d) ≡ Some delta.addressee
   pub cells : map old_entry_in (rows_in Delta d) ≡ map Some delta.cells
 
 pub record IsOldSummaryDocument (d : Data) (summary : OldSummary) : Type 0 where
-  pub owner : u32_in (own_data Summary d) ≡ Some summary.owner
+  pub owner : u32_in (subject_data Summary d) ≡ Some summary.owner
   pub stamps : map old_told_in (rows_in Summary d) ≡ map Some summary.stamps
 
 -- ---- scripts
@@ -83,7 +83,7 @@ pub record OldScript : Type 0 where
 
 -- the document of version 1 has these sites and steps
 pub record IsOldScriptDocument (d : Data) (script : OldScript) : Type 0 where
-  pub sites : sites_in (own_data Script d) ≡ Some script.sites
+  pub sites : sites_in (subject_data Script d) ≡ Some script.sites
   pub steps : AreOldStepsOf (rows_in Script d) script.steps
 
 -- the same with the padded names of the sites in the stamps

@@ -7,7 +7,7 @@ use Rattle.cata_core.specs.Summary.{SummaryState}
 use Rattle.docs_core.specs.Checks.{AllPass, AreJson, Check, IsRefusal}
 use Rattle.docs_core.specs.Documents.{delta_text, site_text, summary_text}
 use Rattle.docs_core.specs.Faults.{of_document}
-use Rattle.docs_core.specs.Named.{IsDeltaDocument, IsSiteDocument, IsSummaryDocument, delta_checks, site_checks, summary_checks}
+use Rattle.docs_core.specs.SiteDocuments.{IsDeltaDocument, IsSiteDocument, IsSummaryDocument, delta_checks, site_checks, summary_checks}
 use Rattle.docs_core.specs.declared.fault.DocCause.{DocCause}
 use Rattle.docs_core.specs.declared.fault.DocFault.{DocFault}
 

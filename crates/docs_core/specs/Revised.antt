@@ -11,7 +11,7 @@ use Rattle.docs_core.specs.Exported.{label_at}
 use Rattle.docs_core.specs.LangMaps.{Labelled}
 use Rattle.docs_core.specs.Made.{with_change}
 use Rattle.docs_core.specs.Updated.{IsChangeAt, Texts}
-use Rattle.docs_core.specs.declared.updating.Revised.{Revised}
+use Rattle.docs_core.specs.declared.call.updating.Revised.{Revised}
 
 abbrev pub key_of : Revised → EntryKey
 key_of r = (r.key.now.id, r.key.now.lang)

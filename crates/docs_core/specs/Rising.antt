@@ -8,9 +8,9 @@ use Rattle.docs_core.specs.Checks.{Check, check}
 use Rattle.docs_core.specs.Fields.{cell_fields, entry_of, key_of, order_check, stamp_fields, told_of}
 use Rattle.docs_core.specs.Rows.{cell_in, stamp_in}
 use Rattle.docs_core.specs.Values.{Row}
+use Rattle.docs_core.specs.declared.document.version.Version.{Version}
 use Rattle.docs_core.specs.declared.fault.DocCause.TheVariants.{Shape}
 use Rattle.docs_core.specs.declared.fault.Spot.TheVariants as spot
-use Rattle.docs_core.specs.declared.version.Version.{Version}
 
 -- the entry of a row of a site or a delta
 abbrev pub entry_in : Version → Data → Option Entry

@@ -4,8 +4,8 @@ use Rattle.cell_core.specs.SiteNames.{padded_name}
 use Rattle.serde_json.specs.Data.{Data, null, boolean, number, string, array, object, Items, no_items, item}
 use Rattle.serde_json.specs.Find.{as_array, as_number, as_str, as_u64}
 use Rattle.docs_core.specs.Values.{Row}
-use Rattle.docs_core.specs.declared.version.Version.{Version}
-use Rattle.docs_core.specs.declared.version.Version.TheVariants.{One, Two}
+use Rattle.docs_core.specs.declared.document.version.Version.{Version}
+use Rattle.docs_core.specs.declared.document.version.Version.TheVariants.{One, Two}
 
 -- ---- parts of data
 

@@ -6,10 +6,10 @@ use Rattle.json.specs.declared.value.Value.{Value}
 use Rattle.docs_core.specs.Reads.{seen}
 use Rattle.docs_core.specs.Rows.{texts_in}
 use Rattle.docs_core.specs.Values.{Row as Plain}
-use Rattle.docs_core.specs.declared.rows.CellRow.{CellRow}
-use Rattle.docs_core.specs.declared.rows.Row.{Row}
-use Rattle.docs_core.specs.declared.rows.SiteText.{SiteText}
-use Rattle.docs_core.specs.declared.rows.SiteText.TheVariants.{Number, Name}
+use Rattle.docs_core.specs.declared.row.shapes.CellRow.{CellRow}
+use Rattle.docs_core.specs.declared.row.shapes.Row.{Row}
+use Rattle.docs_core.specs.declared.row.shapes.SiteText.{SiteText}
+use Rattle.docs_core.specs.declared.row.shapes.SiteText.TheVariants.{Number, Name}
 
 abbrev pub site_of : SiteText → List ℕ
 site_of (Number n) = padded_name n

@@ -2,15 +2,15 @@
 use Rattle.std.specs.Prelude.{◌≡◌, ℕ, List, [], ◌∷◌, ◌++◌, true, Option, None, Some, is_some, if◌then◌else◌, option_and_then}
 use Rattle.serde_json.specs.Data.{Data}
 use Rattle.docs_core.specs.Checks.{Check, IsRefusal, check, rows_checks}
-use Rattle.docs_core.specs.Heads.{head_checks, own_data, rows_in, version_of}
+use Rattle.docs_core.specs.Headers.{header_checks, rows_in, subject_data, version_of}
 use Rattle.docs_core.specs.ReadsAs.{Reads}
 use Rattle.docs_core.specs.Rows.{u64_in}
 use Rattle.docs_core.specs.Scripts.{ScriptState, is_site_count}
 use Rattle.docs_core.specs.StepFields.{AreSteps, step_checks}
+use Rattle.docs_core.specs.declared.document.kind.Kind.TheVariants.{Script}
 use Rattle.docs_core.specs.declared.fault.DocCause.{DocCause}
 use Rattle.docs_core.specs.declared.fault.DocCause.TheVariants.{Shape}
 use Rattle.docs_core.specs.declared.fault.Spot.TheVariants as spot
-use Rattle.docs_core.specs.declared.form.Form.TheVariants.{Script}
 
 -- as many sites as there may be
 abbrev pub count_of : ℕ → Option ℕ
@@ -21,14 +21,14 @@ abbrev pub sites_in : Data → Option ℕ
 sites_in d = option_and_then count_of (u64_in d)
 
 abbrev pub sites_check : Data → Check
-sites_check own = check (is_some (sites_in own) ≡ true) (Shape spot.Document)
+sites_check subject = check (is_some (sites_in subject) ≡ true) (Shape spot.Document)
 
 abbrev pub script_checks : Data → List Check
-script_checks d = head_checks Script d ++ (sites_check (own_data Script d) ∷ rows_checks (step_checks (version_of d)) [] (rows_in Script d))
+script_checks d = header_checks Script d ++ (sites_check (subject_data Script d) ∷ rows_checks (step_checks (version_of d)) [] (rows_in Script d))
 
 -- the document has these sites and steps
 pub record IsScriptDocument (d : Data) (script : ScriptState) : Type 0 where
-  pub sites : sites_in (own_data Script d) ≡ Some script.sites
+  pub sites : sites_in (subject_data Script d) ≡ Some script.sites
   pub steps : AreSteps (version_of d) (rows_in Script d) script.steps
 
 -- the bytes are a document of this script

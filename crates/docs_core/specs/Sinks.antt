@@ -1,7 +1,7 @@
 -- What a write of a whole text does to the bytes that a sink has taken. Own rule.
 use Rattle.std.specs.Prelude.{◌≡◌, ◌==◌, ◌&&◌, ℕ, Bool, true, not, List, ◌++◌, length, Option, Result, Ok, Err}
 use Rattle.std.specs.Io.KnownBytes.{Appends}
-use Rattle.docs_core.specs.declared.sinks.Output.{Output}
+use Rattle.docs_core.specs.declared.stream.sinks.Output.{Output}
 
 -- the writer that a sink is over
 abbrev pub writer_of : {W : Type 0} → Output W → W

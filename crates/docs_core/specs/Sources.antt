@@ -4,7 +4,7 @@ use Rattle.std.specs.Io.KnownBytes.{Consumes, IsAtEnd}
 use Rattle.docs_core.specs.declared.fault.DocCause.{DocCause}
 use Rattle.docs_core.specs.declared.fault.DocCause.TheVariants.{TooLarge, ReadFault, NoMemory}
 use Rattle.docs_core.specs.declared.fault.DocFault.{DocFault}
-use Rattle.docs_core.specs.declared.sources.Input.{Input}
+use Rattle.docs_core.specs.declared.stream.sources.Input.{Input}
 use Rattle.docs_core.specs.Faults.{of_no_document}
 
 -- the reader that a source is over

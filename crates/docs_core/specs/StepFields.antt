@@ -14,11 +14,11 @@ use Rattle.serde_json.specs.Data.{Data}
 use Rattle.docs_core.specs.Checks.{Check, check}
 use Rattle.docs_core.specs.Fields.{cell_fields, entry_of, id_check, language_check}
 use Rattle.docs_core.specs.Steps.{StepText, edit_step, merge_step, filter_step, lookup_step, cells_step, tell_step, post_step, deliver_step, step_in}
+use Rattle.docs_core.specs.declared.document.version.Version.{Version}
 use Rattle.docs_core.specs.declared.fault.DocCause.{DocCause}
 use Rattle.docs_core.specs.declared.fault.DocCause.TheVariants.{Field, Shape}
 use Rattle.docs_core.specs.declared.fault.FieldFault.TheVariants.{Priorities}
 use Rattle.docs_core.specs.declared.fault.Spot.TheVariants as spot
-use Rattle.docs_core.specs.declared.version.Version.{Version}
 
 -- ---- priority lists
 

@@ -7,9 +7,9 @@ use Rattle.serde_json.specs.Data.{Data, null, boolean, number, string, array, ob
 use Rattle.serde_json.specs.Find.{as_str}
 use Rattle.docs_core.specs.Rows.{cell_in, items_in, u32_in}
 use Rattle.docs_core.specs.Values.{Row}
-use Rattle.docs_core.specs.declared.steps.Word.{Word}
-use Rattle.docs_core.specs.declared.steps.Word.TheVariants.{Edit, Merge, Filter, Lookup, Cells, Tell, Post, Deliver}
-use Rattle.docs_core.specs.declared.version.Version.{Version}
+use Rattle.docs_core.specs.declared.document.version.Version.{Version}
+use Rattle.docs_core.specs.declared.script.steps.Word.{Word}
+use Rattle.docs_core.specs.declared.script.steps.Word.TheVariants.{Edit, Merge, Filter, Lookup, Cells, Tell, Post, Deliver}
 
 -- a step, with its texts as they are written
 pub data StepText : Type 0 where
@@ -52,7 +52,7 @@ default_in (string s) = Some (Some s)
 default_in (array ds) = None
 default_in (object ms) = None
 
--- ---- what stands behind the word
+-- ---- what stands after the word
 
 -- `site,CELL`
 abbrev pub edit_of : Version → List Data → Option StepText
@@ -83,19 +83,19 @@ abbrev pub two_of : (ℕ → ℕ → StepText) → List Data → Option StepText
 two_of step (d ∷ e ∷ []) = option_and_then (λ m. option_map (λ n. step m n) (u32_in e)) (u32_in d)
 two_of step _ = None
 
-abbrev pub behind : Version → Word → List Data → Option StepText
-behind version Edit ds = edit_of version ds
-behind version Merge ds = two_of merge_step ds
-behind version Filter ds = filter_of ds
-behind version Lookup ds = lookup_of ds
-behind version Cells ds = one_of cells_step ds
-behind version Tell ds = one_of tell_step ds
-behind version Post ds = two_of post_step ds
-behind version Deliver ds = one_of deliver_step ds
+abbrev pub step_after : Version → Word → List Data → Option StepText
+step_after version Edit ds = edit_of version ds
+step_after version Merge ds = two_of merge_step ds
+step_after version Filter ds = filter_of ds
+step_after version Lookup ds = lookup_of ds
+step_after version Cells ds = one_of cells_step ds
+step_after version Tell ds = one_of tell_step ds
+step_after version Post ds = two_of post_step ds
+step_after version Deliver ds = one_of deliver_step ds
 
 abbrev pub step_of : Version → List Data → Option StepText
 step_of version [] = None
-step_of version (d ∷ ds) = option_and_then (λ text. option_and_then (λ word. behind version word ds) (word_of text)) (as_str d)
+step_of version (d ∷ ds) = option_and_then (λ text. option_and_then (λ word. step_after version word ds) (word_of text)) (as_str d)
 
 -- a row of a script
 abbrev pub step_in : Version → Data → Option StepText

@@ -2,8 +2,8 @@
 use Rattle.std.specs.Prelude.{option_map}
 use Rattle.docs_core.specs.RowsSeen.{AreTextsOf, cell_of}
 use Rattle.docs_core.specs.Steps.{StepText, edit_step, merge_step, filter_step, lookup_step, cells_step, tell_step, post_step, deliver_step}
-use Rattle.docs_core.specs.declared.steps.StepRow.{StepRow}
-use Rattle.docs_core.specs.declared.steps.StepRow.TheVariants.{Edit, Merge, Filter, Lookup, Cells, Tell, Post, Deliver}
+use Rattle.docs_core.specs.declared.script.steps.StepRow.{StepRow}
+use Rattle.docs_core.specs.declared.script.steps.StepRow.TheVariants.{Edit, Merge, Filter, Lookup, Cells, Tell, Post, Deliver}
 
 abbrev pub text_of : StepRow → StepText
 text_of (Edit site cell) = edit_step site (cell_of cell)

@@ -2,7 +2,7 @@
 use Rattle.std.specs.Prelude.{ℕ, List, [], ◌∷◌, map, decimal, string_bytes, String}
 use Rattle.json.specs.Token.{Token, number, string}
 use Rattle.docs_core.specs.Values.{Row}
-use Rattle.docs_core.specs.declared.writing.WrittenRow.{WrittenRow}
+use Rattle.docs_core.specs.declared.row.writing.WrittenRow.{WrittenRow}
 
 abbrev pub row_of : WrittenRow → Row
 row_of row = record { id = row.id.now; language = row.language.now; time = row.time; site = row.site.now; count = row.count }

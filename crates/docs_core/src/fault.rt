@@ -1,7 +1,7 @@
 //! Why a document is refused.
 ghost use Rattle.std.specs.Prelude.{◌≡◌};
 
-use crate::sources::MOST_BYTES;
+use crate::stream::sources::MOST_BYTES;
 use cata_core::{CataFault, PlayFault};
 use cell_core::CellFault;
 use lang_core::LangFault;

@@ -7,15 +7,15 @@ ghost use Rattle.cata_core.specs.Summary.{SummaryState};
 ghost use Rattle.cata_core.specs.declared.delta.Delta.{Delta};
 ghost use Rattle.docs_core.specs.Checks.{AreJson};
 ghost use Rattle.docs_core.specs.Fields.{entry_of};
-ghost use Rattle.docs_core.specs.Heads.{version_of};
+ghost use Rattle.docs_core.specs.Headers.{version_of};
 ghost use Rattle.docs_core.specs.OldRows.{IsOldDeltaDocument, IsOldScriptDocument, IsOldSiteDocument, IsOldSummaryDocument, OldScript, migrated_script, old_entry_in};
-ghost use Rattle.docs_core.specs.Named.{IsDeltaDocument, IsSiteDocument, IsSummaryDocument};
+ghost use Rattle.docs_core.specs.SiteDocuments.{IsDeltaDocument, IsSiteDocument, IsSummaryDocument};
 ghost use Rattle.docs_core.specs.ReadsAs.{ReadsAsDelta, ReadsAsSite, ReadsAsSummary};
 ghost use Rattle.docs_core.specs.Rows.{cell_in};
 ghost use Rattle.docs_core.specs.ScriptReads.{IsScriptDocument, ReadsAsScript};
 ghost use Rattle.docs_core.specs.Scripts.{ScriptState};
 ghost use Rattle.docs_core.specs.Values.{Row};
-ghost use Rattle.docs_core.specs.declared.version.Version.TheVariants.{One};
+ghost use Rattle.docs_core.specs.declared.document.version.Version.TheVariants.{One};
 
 /// A row with a cell is read as the migrated cell that it has.
 pub fn a_row_reads_as_migrated()

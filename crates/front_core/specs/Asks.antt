@@ -12,7 +12,7 @@ use Rattle.docs_core.specs.Bundled.{IsBundle}
 use Rattle.docs_core.specs.LangMapTexts.{AreWritten}
 use Rattle.docs_core.specs.LangMaps.{Labelled}
 use Rattle.docs_core.specs.LooksUp.{answered}
-use Rattle.docs_core.specs.declared.asking.Ask.TheVariants as ask
+use Rattle.docs_core.specs.declared.call.asking.Ask.TheVariants as ask
 use Rattle.front_core.specs.Faults.{IsOf, field_fault, id_fault}
 use Rattle.front_core.specs.Fields.{FieldText, HasList, ReadsAs, RefusesRanges, Text}
 use Rattle.front_core.specs.Preferring.{ArePreferences, HasPreferences, RefusesPreferences}

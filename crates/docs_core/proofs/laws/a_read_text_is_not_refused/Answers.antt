@@ -1,8 +1,8 @@
 use Rattle.docs_core.specs.LangMapChecks.{langmaps_checks}
 use Rattle.docs_core.specs.LangMapLabels.{ReadsAsLangMaps}
-use Rattle.docs_core.specs.Named.{IsDeltaDocument, IsSiteDocument, IsSummaryDocument, delta_checks, site_checks, summary_checks}
+use Rattle.docs_core.specs.SiteDocuments.{IsDeltaDocument, IsSiteDocument, IsSummaryDocument, delta_checks, site_checks, summary_checks}
 use Rattle.docs_core.specs.ScriptReads.{IsScriptDocument, script_checks}
-use Rattle.docs_core.specs.declared.form.Form.TheVariants.{Delta, Site, Summary}
+use Rattle.docs_core.specs.declared.document.kind.Kind.TheVariants.{Delta, Site, Summary}
 use Rattle.docs_core.proofs.OneRefusal.{cells_named, langmaps, read_not_refused, scripts, stamps_named}
 use Rattle.docs_core.proofs.laws.a_read_text_is_not_refused.Goals as goal
 

@@ -1,0 +1,15 @@
+use Rattle.std.proofs.Common.{◌∙◌, [], sym}
+use Rattle.docs_core.specs.Lines.{lines_of}
+use Rattle.docs_core.proofs.LinesLemmas.{item_there, more_lines}
+use Rattle.docs_core.proofs.call.lines.answer_lines.Goals as goal
+use Rattle.docs_core.proofs.call.lines.answer_lines.Goals.{in-Some+in_ok-written, in_default}
+
+-- the lines of one answer more
+pub answers-preserved : goal.answers-preserved
+answers-preserved c =
+    let answers = c.args.answers.now in
+    elim c.match-nth.branch [
+      | in-Some+in_ok-written w ↦
+          w.written-is ∙ w.in_ok-written.ensures ∙ more_lines lines_of [] answers c.answers.place w.in-Some.answer.now c.answers.written (sym w.in-Some.ensures) c.answers.invariant
+      | in_default w ↦ absurd (item_there answers c.answers.place (rw c.len-place-end.ensures at c.answers-test.true) (sym w.in_default.ensures))
+    ]

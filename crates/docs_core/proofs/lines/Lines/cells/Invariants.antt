@@ -1,8 +1,0 @@
-use Rattle.std.proofs.Common.{◌≡◌, ◌++◌, ◌∷◌, codes, decimal, length, take}
-use Rattle.std.specs.Prelude.{flat_map}
-use Rattle.docs_core.specs.Lines.{cell_line, line}
-use Rattle.docs_core.proofs.lines.Lines.cells.Given as goal
-
--- the lines of the cells so far
-abbrev pub invariant-cells : goal.invariant-cells
-invariant-cells l = l.written ≡ (l.fn.self ++ line (codes "cells" ++ 32 ∷ decimal (length l.cells))) ++ flat_map cell_line (take l.place l.cells)

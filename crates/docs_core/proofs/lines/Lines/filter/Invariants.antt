@@ -1,9 +1,0 @@
-use Rattle.std.proofs.Common.{◌≡◌, ◌++◌, ◌∷◌, codes, decimal, length, take}
-use Rattle.std.specs.Prelude.{flat_map}
-use Rattle.docs_core.specs.Lines.{line, weighed_line}
-use Rattle.docs_core.proofs.lines.Lines.filter.Given as goal
-
--- the lines of the languages so far
-abbrev pub invariant-entries : goal.invariant-entries
-invariant-entries g l =
-    l.written ≡ (l.fn.self ++ line (codes "filter" ++ 32 ∷ decimal (length (g.W.Weights.weighed l.entries)))) ++ flat_map weighed_line (take l.place (g.W.Weights.weighed l.entries))

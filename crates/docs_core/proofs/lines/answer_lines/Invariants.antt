@@ -1,7 +1,0 @@
-use Rattle.std.proofs.Common.{◌≡◌, take}
-use Rattle.docs_core.specs.Lines.{lines}
-use Rattle.docs_core.proofs.lines.answer_lines.Given as goal
-
--- the lines of the answers so far
-abbrev pub invariant-answers : goal.invariant-answers
-invariant-answers l = l.written ≡ lines (take l.place l.answers)

@@ -1,0 +1,17 @@
+use Rattle.std.proofs.Common.{◌≡◌, ℕ, List, map, subst, sym}
+use Rattle.std.specs.Prelude.{IsUtf8}
+use Rattle.docs_core.specs.ScriptReads.{ReadsAsScript}
+use Rattle.docs_core.specs.ScriptWritten.{script_value}
+use Rattle.docs_core.specs.StepsWritten.{step_value}
+use Rattle.docs_core.specs.Texts.{text}
+use Rattle.docs_core.proofs.ScriptWrittenLemmas.{script_again}
+use Rattle.docs_core.proofs.script.writing.written_script.Goals as goal
+
+-- the rows are those of the steps, and the text is UTF-8
+pub returns-clause-ok : goal.returns-clause-ok
+returns-clause-ok c =
+    let script = c.args.script.now in
+    let held = c.in_ok-draft.ensures.ok in
+    let closed = c.in_ok-doc.ensures in
+    let is : c.in_ok-doc.doc ≡ text (script_value script.sites (map step_value held.0)) = closed.text script.sites (map step_value held.0) held.2 in
+    subst (λ (d : List ℕ). ReadsAsScript d script) (sym is) (script_again script held.0 c.in_ok-draft.ensures.count held.1 (subst IsUtf8 is (closed.utf8 held.2.0)))

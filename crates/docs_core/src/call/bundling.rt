@@ -1,0 +1,72 @@
+//! The labels of one reader: what a lookup answers for each message.
+ghost use Rattle.std.specs.Prelude.{◌≡◌, IfOk, List, MatchResult, option_map};
+ghost use Rattle.cata_core.specs.Lent.{lent_pair};
+ghost use Rattle.cata_core.specs.LentAnswers.{reply_of};
+ghost use Rattle.docs_core.specs.Bundled.{IsBundle, IsBundled};
+ghost use Rattle.docs_core.specs.LangMapTexts.{AreWritten};
+ghost use Rattle.docs_core.specs.LangMaps.{Labelled};
+ghost use Rattle.docs_core.specs.LooksUp.{answered};
+ghost use Rattle.docs_core.specs.ReadsAs.{IsOfDocument, RefusesSite};
+
+use crate::doc::Doc;
+use crate::document::reading::site_at;
+use crate::fault::DocFault;
+use crate::language_map::writing::{close_labels, open_labels, write_label};
+use cata_core::{Catalogue, LentReply};
+use cell_core::{Label, MessageId};
+use lang_core::Lang;
+use nego_core::PriorityList;
+use std::alloc::{AllocError, Global};
+
+/// The language-map document of the labels of one reader, and whether there is one: for each message
+/// the one label that its lookup answers, matched or as the default (RFC 4647, section 3.4). A
+/// message for which nothing is answered is left out.
+///
+/// Refusals: a reader's with document 1. Out of memory (26) may come before.
+pub fn bundle_document(
+    alloc: Global,
+    site: &[u8],
+    list: &PriorityList,
+    default: Option<&Lang>,
+) -> Result<(Doc, bool), DocFault>
+    ensures { MatchResult result (λ answer. IsBundled site.now list.now (option_map (λ l. l.now) default.entry) answer.0 answer.1) (IsOfDocument 1 (RefusesSite site.now)) }
+{
+    let site = site_at(alloc, 1, site)?;
+    let answer = write_bundle(alloc, site.catalogue(), list, default)?;
+    Ok(answer)
+}
+
+/// The same of a catalogue that is held in memory: what [`bundle_document`] gives for its document.
+///
+/// Refused when memory runs out alone (26).
+pub fn write_bundle(
+    alloc: Global,
+    catalogue: &Catalogue,
+    list: &PriorityList,
+    default: Option<&Lang>,
+) -> Result<(Doc, bool), AllocError>
+    ensures { IfOk result (λ written. (labels : List Labelled)
+        × IsBundle catalogue.now list.now (option_map (λ l. l.now) default.entry) labels × AreWritten labels written.0 written.1) }
+{
+    let mut draft = open_labels(alloc)?;
+    let mut current: Option<&MessageId> = None;
+    'messages: for message in catalogue.messages() {
+        if let Some((lang, label)) = answered(message.lookup(list, default)) {
+            let id = message.id();
+            write_label(&mut draft, current, id, lang, label)?;
+            current = Some(id);
+        }
+    }
+    let doc = close_labels(draft, current)?;
+    Ok((doc, current.is_some()))
+}
+
+// The language that was answered, with its label.
+fn answered(reply: LentReply<'_>) -> Option<(&Lang, &Label)>
+    ensures { lent_pair result ≡ answered (reply_of reply.entry) }
+{
+    match reply {
+        LentReply::Matched(lang, label) | LentReply::Default(lang, label) => Some((lang, label)),
+        LentReply::Nothing => None,
+    }
+}

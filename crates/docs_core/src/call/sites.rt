@@ -1,0 +1,125 @@
+//! Calls on whole documents, from bytes to bytes.
+ghost use Rattle.std.specs.Prelude.{◌≡◌, option_map, IfErr, IfOk, MatchResult};
+ghost use Rattle.std.specs.FinMap.Entries.{put};
+ghost use Rattle.cell_core.specs.Stamps.{IsNext};
+ghost use Rattle.cata_core.specs.Entries.{key_cmp};
+ghost use Rattle.cata_core.specs.Latest.{latest_of};
+ghost use Rattle.cata_core.specs.Sites.{RefusesEdit};
+ghost use Rattle.docs_core.specs.Calls.{AreSynced, IsDeltaFor, IsEdited, IsStatus, IsSummarised, IsTaken, RefusesDeltaFor, RefusesEditing, RefusesSync, RefusesTaking};
+ghost use Rattle.docs_core.specs.ReadsAs.{IsOfDocument, RefusesSite};
+
+use crate::call::status::status_line;
+use crate::doc::Doc;
+use crate::document::reading::{delta_at, site_at, summary_at};
+use crate::document::writing::{write_delta, write_site, write_summary};
+use crate::fault::DocFault;
+use cata_core::{CataFault, Site, sync};
+use cell_core::{Label, MessageId, Stamp};
+use lang_core::Lang;
+use std::alloc::Global;
+
+/// The document of the site after an edit at the time `now`: a label is put, and none deletes.
+///
+/// Refusals, in their order: a reader's with document 1, then 14 where the site has no next stamp.
+/// Out of memory (26) may come before.
+pub fn edit_document(
+    alloc: Global,
+    site: &[u8],
+    now: u64,
+    id: &MessageId,
+    lang: &Lang,
+    label: Option<&Label>,
+) -> Result<Doc, DocFault>
+    ensures { MatchResult result (IsEdited site.now now (id.now, lang.now) (option_map (λ l. l.now) label.entry)) (RefusesEditing site.now now) }
+{
+    let mut site = site_at(alloc, 1, site)?;
+    edit(alloc, &mut site, now, id, lang, label)?;
+    let doc = write_site(alloc, &site)?;
+    Ok(doc)
+}
+
+/// Puts the label, or deletes it where there is none.
+pub(crate) fn edit(
+    alloc: Global,
+    site: &mut Site,
+    now: u64,
+    id: &MessageId,
+    lang: &Lang,
+    label: Option<&Label>,
+) -> Result<Stamp, CataFault>
+    ensures ok { IfOk result (λ stamp. IsNext (latest_of site.old.cells) now site.old.name stamp
+        × (site.new ≡ record { name = site.old.name; cells = put key_cmp (id.now, lang.now) (record { stamp = stamp; label = option_map (λ l. l.now) label.entry }) site.old.cells })) }
+    ensures err { IfErr result (RefusesEdit site.old now) }
+{
+    match label {
+        Some(label) => site.put(alloc, now, id, lang, label),
+        None => site.delete(alloc, now, id, lang),
+    }
+}
+
+/// The documents of both sites after each took the other's cells, in the order given.
+///
+/// Refusals, in their order: a reader's with document 1, a reader's with document 2, then 13 with
+/// the place in the first site. Out of memory (26) may come before.
+pub fn sync_documents(alloc: Global, first: &[u8], second: &[u8]) -> Result<(Doc, Doc), DocFault>
+    ensures { MatchResult result (λ docs. AreSynced first.now second.now docs.0 docs.1) (RefusesSync first.now second.now) }
+{
+    let mut first = site_at(alloc, 1, first)?;
+    let mut second = site_at(alloc, 2, second)?;
+    sync(alloc, &mut first, &mut second)?;
+    let first = write_site(alloc, &first)?;
+    let second = write_site(alloc, &second)?;
+    Ok((first, second))
+}
+
+/// The document of the site's summary: the stamps of its cells, deletions among them.
+///
+/// Refusals: a reader's with document 1. Out of memory (26) may come before.
+pub fn summary_document(alloc: Global, site: &[u8]) -> Result<Doc, DocFault>
+    ensures { MatchResult result (IsSummarised site.now) (IsOfDocument 1 (RefusesSite site.now)) }
+{
+    let site = site_at(alloc, 1, site)?;
+    let summary = site.summary(alloc)?;
+    let doc = write_summary(alloc, &summary)?;
+    Ok(doc)
+}
+
+/// The document of the delta of what the summary lacks, for the summary's owner.
+///
+/// Refusals, in their order: a reader's with document 1, a reader's with document 2. Out of memory
+/// (26) may come before.
+pub fn delta_document(alloc: Global, site: &[u8], summary: &[u8]) -> Result<Doc, DocFault>
+    ensures { MatchResult result (IsDeltaFor site.now summary.now) (RefusesDeltaFor site.now summary.now) }
+{
+    let site = site_at(alloc, 1, site)?;
+    let summary = summary_at(alloc, 2, summary)?;
+    let delta = site.delta_for(alloc, &summary)?;
+    let doc = write_delta(alloc, &delta)?;
+    Ok(doc)
+}
+
+/// The document of the site after it took the delta.
+///
+/// Refusals, in their order: a reader's with document 1, a reader's with document 2, then 15 where
+/// the delta is for another site, then 13 with the place in the site. Out of memory (26) may come
+/// before.
+pub fn take_document(alloc: Global, site: &[u8], delta: &[u8]) -> Result<Doc, DocFault>
+    ensures { MatchResult result (IsTaken site.now delta.now) (RefusesTaking site.now delta.now) }
+{
+    let mut site = site_at(alloc, 1, site)?;
+    let delta = delta_at(alloc, 2, delta)?;
+    site.take(alloc, &delta)?;
+    let doc = write_site(alloc, &site)?;
+    Ok(doc)
+}
+
+/// The status line of the site: how many cells and labels it has, and its greatest stamp.
+///
+/// Refusals: a reader's with document 1. Out of memory (26) may come before.
+pub fn status_document(alloc: Global, site: &[u8]) -> Result<Doc, DocFault>
+    ensures { MatchResult result (IsStatus site.now) (IsOfDocument 1 (RefusesSite site.now)) }
+{
+    let site = site_at(alloc, 1, site)?;
+    let line = status_line(alloc, &site)?;
+    Ok(line)
+}

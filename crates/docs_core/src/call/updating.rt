@@ -1,0 +1,178 @@
+//! What an editor changed in language maps, handed in to a site.
+ghost use Rattle.std.specs.Prelude.{◌≡◌, ◌⊎◌, ◌+◌, ◌<◌, [], IfErr, IfSome, MatchOption, MatchResult, None, OnOk, Some, length, option_map};
+ghost use Rattle.std.specs.Bool.{Decides};
+ghost use Rattle.cell_core.specs.Maps.{IsMap};
+ghost use Rattle.cata_core.specs.Entries.{key_cmp};
+ghost use Rattle.cata_core.specs.declared.cata_fault.CataFault.TheVariants.{ClockSpent, NoMemory};
+ghost use Rattle.docs_core.specs.LangMaps.{labels_of};
+ghost use Rattle.docs_core.specs.Revised.{IsFirstRevised, IsRevised, NoStamp, key_of, new_of, old_of};
+ghost use Rattle.docs_core.specs.Updated.{IsUpdated, RefusesUpdate, SpendsUpdate, Updates};
+
+use crate::call::exporting::label_at;
+use crate::call::sites::edit;
+use crate::doc::Doc;
+use crate::document::reading::site_at;
+use crate::document::writing::write_site;
+use crate::fault::DocFault;
+use crate::language_map::maps::{KeyedLabel, LangMaps};
+use crate::language_map::reading::langmaps_of_document;
+use cata_core::{CataFault, Site};
+use cell_core::Label;
+use std::alloc::Global;
+use std::cmp::Ordering;
+
+/// The document of the site after what an editor changed in language maps: from `old`, as they were
+/// before, to `new`, as they are now. The changes are made in rising order of key at the time `now`,
+/// each with the next stamp of the site; no other cell changes.
+///
+/// A label that was added or is another now is put, unless the site has it already. A label that is
+/// left out is deleted, unless the site has no live label of the key. Where the old and the new label
+/// are equal nothing is done, whatever the site holds. Labels are equal where their texts are.
+///
+/// Refusals, in their order: a reader's with document 1, a reader's with document 2 (the old language
+/// maps), a reader's with document 3 (the new ones), then 14 where there is no next stamp for a
+/// change, which refuses the whole. Out of memory (26) may come before.
+pub fn update_document(
+    alloc: Global,
+    site: &[u8],
+    now: u64,
+    old: &[u8],
+    new: &[u8],
+) -> Result<Doc, DocFault>
+    ensures { MatchResult result (IsUpdated site.now now old.now new.now) (RefusesUpdate site.now now old.now new.now) }
+{
+    let mut site = site_at(alloc, 1, site)?;
+    let old = langmaps_of_document(alloc, 2, old)?;
+    let new = langmaps_of_document(alloc, 3, new)?;
+    update(alloc, &mut site, now, &old, &new)?;
+    let doc = write_site(alloc, &site)?;
+    Ok(doc)
+}
+
+// Makes the changes from the old labels to the new ones.
+fn update(
+    alloc: Global,
+    site: &mut Site,
+    now: u64,
+    old: &LangMaps,
+    new: &LangMaps,
+) -> Result<(), CataFault>
+    ensures name { OnOk result (site.new.name ≡ site.old.name) }
+    ensures ok { OnOk result (Updates now site.old.name old.now new.now site.old.cells site.new.cells) }
+    ensures err { IfErr result (λ fault. (fault ≡ NoMemory) ⊎ ((fault ≡ ClockSpent) × SpendsUpdate now site.old.name old.now new.now site.old.cells)) }
+{
+    let mut olds = old.labels();
+    let mut news = new.labels();
+    'keys: while let Some((revised, old_rest, new_rest)) = first_revised(olds, news) {
+        match revise(alloc, site, now, &revised) {
+            Ok(()) => {}
+            Err(fault) => return Err(fault),
+        }
+        olds = old_rest;
+        news = new_rest;
+    }
+    Ok(())
+}
+
+/// A key of language maps, with its label before an editor worked on them, and as it is now.
+#[derive(Drop)]
+pub(crate) struct Revised<'a> {
+    key: &'a KeyedLabel,
+    old: Option<&'a Label>,
+    new: Option<&'a Label>,
+}
+
+// The least key of both lists, and what is left of them.
+fn first_revised<'a>(
+    old: &'a [KeyedLabel],
+    new: &'a [KeyedLabel],
+) -> Option<(Revised<'a>, &'a [KeyedLabel], &'a [KeyedLabel])>
+    requires old { IsMap key_cmp (labels_of old.now) }
+    requires new { IsMap key_cmp (labels_of new.now) }
+    ensures first { MatchOption result ((old.now ≡ []) × (new.now ≡ []))
+        (λ r. IsFirstRevised r.0 (labels_of old.now) (labels_of new.now) (labels_of r.1.now) (labels_of r.2.now)) }
+    ensures less { IfSome result (λ r. length r.1.now + length r.2.now < length old.now + length new.now) }
+{
+    match (old.split_first(), new.split_first()) {
+        (None, None) => None,
+        (Some((left, olds)), None) => Some((removed(left), olds, new)),
+        (None, Some((right, news))) => Some((added(right), old, news)),
+        (Some((left, olds)), Some((right, news))) => Some(match compare(left, right) {
+            Ordering::Less => (removed(left), olds, new),
+            Ordering::Greater => (added(right), old, news),
+            Ordering::Equal => (kept(left, right), olds, news),
+        }),
+    }
+}
+
+// The order of two keys.
+fn compare(key: &KeyedLabel, other: &KeyedLabel) -> Ordering
+    ensures { result ≡ key_cmp (key.now.id, key.now.lang) (other.now.id, other.now.lang) }
+{
+    key.id.cmp(&other.id).then(key.lang.cmp(&other.lang))
+}
+
+// A label that was there alone.
+fn removed(was: &KeyedLabel) -> Revised<'_>
+    ensures key { key_of result ≡ (was.now.id, was.now.lang) }
+    ensures old { old_of result ≡ Some was.now.label }
+    ensures new { new_of result ≡ None }
+{
+    Revised {
+        key: was,
+        old: Some(&was.label),
+        new: None,
+    }
+}
+
+// A label that is there alone.
+fn added(is: &KeyedLabel) -> Revised<'_>
+    ensures key { key_of result ≡ (is.now.id, is.now.lang) }
+    ensures old { old_of result ≡ None }
+    ensures new { new_of result ≡ Some is.now.label }
+{
+    Revised {
+        key: is,
+        old: None,
+        new: Some(&is.label),
+    }
+}
+
+// A label that was there and is there.
+fn kept<'a>(was: &'a KeyedLabel, is: &'a KeyedLabel) -> Revised<'a>
+    ensures key { key_of result ≡ (was.now.id, was.now.lang) }
+    ensures old { old_of result ≡ Some was.now.label }
+    ensures new { new_of result ≡ Some is.now.label }
+{
+    Revised {
+        key: was,
+        old: Some(&was.label),
+        new: Some(&is.label),
+    }
+}
+
+// Makes the change of a key, unless nothing was changed or the site has it already.
+fn revise(alloc: Global, site: &mut Site, now: u64, revised: &Revised<'_>) -> Result<(), CataFault>
+    ensures name { OnOk result (site.new.name ≡ site.old.name) }
+    ensures ok { OnOk result (IsRevised now site.old.name revised.now site.old.cells site.new.cells) }
+    ensures err { IfErr result (λ fault. (fault ≡ NoMemory) ⊎ ((fault ≡ ClockSpent) × NoStamp now site.old.name revised.now site.old.cells)) }
+{
+    let key = revised.key;
+    if are_equal(revised.old, revised.new) {
+        return Ok(());
+    }
+    if are_equal(label_at(site.catalogue(), &key.id, &key.lang), revised.new) {
+        return Ok(());
+    }
+    match edit(alloc, site, now, &key.id, &key.lang, revised.new) {
+        Ok(_) => Ok(()),
+        Err(fault) => Err(fault),
+    }
+}
+
+// Whether both have the same texts, or neither is there.
+fn are_equal(label: Option<&Label>, other: Option<&Label>) -> bool
+    ensures { Decides result (option_map (λ l. l.now) label.entry ≡ option_map (λ l. l.now) other.entry) }
+{
+    label == other
+}

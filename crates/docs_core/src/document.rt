@@ -1,0 +1,12 @@
+//! The documents of sites, deltas and summaries, and the header that scripts have too: read in any
+//! order of their members, read as they are written, and written.
+
+pub(crate) mod as_written;
+pub(crate) mod drafts;
+pub(crate) mod header;
+pub(crate) mod kind;
+pub(crate) mod reading;
+pub(crate) mod site_documents;
+pub(crate) mod tested_header;
+pub(crate) mod version;
+pub(crate) mod writing;

@@ -1,0 +1,282 @@
+//! The members of a document, each taken as it is read.
+ghost use Rattle.std.specs.Prelude.{◌≡◌, ◌⊎◌, ◌<◌, ◌^◌, ℕ, List, Some, None, Option, true, length, option_map, MatchResult, OnOk};
+ghost use Rattle.json.specs.Json.{read_key};
+ghost use Rattle.json.specs.Reads.{token_of};
+ghost use Rattle.serde_json.specs.Data.{Data, Members, put};
+ghost use Rattle.serde_json.specs.Find.{as_str};
+ghost use Rattle.docs_core.specs.HeaderSeen.{Shows, ShowsRows, is_text};
+ghost use Rattle.docs_core.specs.Headers.{IsSubject};
+ghost use Rattle.docs_core.specs.Kinds.{kind_text, member_of};
+ghost use Rattle.docs_core.specs.MembersRead.{ReadsMembers, ReadsNext, ReadsNoMembers, ReadsNone, is_scalar};
+ghost use Rattle.docs_core.specs.Numbers.{are_in_range};
+ghost use Rattle.docs_core.specs.Reads.{seen};
+ghost use Rattle.docs_core.specs.Rows.{items_in, u64_in};
+ghost use Rattle.docs_core.specs.declared.fault.DocCause.TheVariants.{NoMemory, NotJson};
+
+use crate::document::kind::{Kind, Member};
+use crate::document::version::Version;
+use crate::fault::DocCause;
+use crate::json_text::scanning::next_value;
+use crate::row::arrays::{Rows, read_rows};
+use crate::row::shapes::{text_of, u64_of};
+use cell_core::SiteName;
+use json::{Reader, Token, Value};
+use std::alloc::Global;
+
+// How deep a member of the outermost object nests at most.
+const MEMBER_DEPTH: usize = 126;
+
+/// What a document is about: the value of `site`, `to`, `owner` or `sites`.
+#[derive(Clone, Copy, Debug)]
+pub enum Subject {
+    Name(SiteName),
+    /// A text that is no site name.
+    NoName,
+    /// An unsigned whole number of 64 bits.
+    Number(u64),
+    Other,
+}
+
+/// The header as far as it was read. Of two members with one name the last one counts.
+#[derive(Clone, Copy, Debug)]
+pub struct Header {
+    /// The kind is that of the document that is asked for.
+    pub is_kind: bool,
+    pub version: Option<u64>,
+    pub subject: Option<Subject>,
+    /// The first refusal of a row, if any, where there is an array of rows.
+    pub rows: Option<Option<DocCause>>,
+    /// There is a member of another name.
+    pub has_other: bool,
+}
+
+/// Reads the members of an object whose brace was read.
+pub fn read_members<R: Rows>(
+    alloc: Global,
+    reader: &mut Reader<'_>,
+    kind: Kind,
+    version: Version,
+    rows: &mut R,
+) -> Result<Header, DocCause>
+    requires numbers { are_in_range reader.old ≡ true }
+    requires places { length reader.old < 2 ^ 64 }
+    ensures { MatchResult result
+        (λ header. (ms : Members) × ReadsMembers 126 reader.old ms reader.new × Shows kind (R.Checks version) (R.Holds version) header rows.new ms)
+        (λ e. (e ≡ NoMemory) ⊎ ((e ≡ NotJson) × ReadsNoMembers 126 reader.old)) }
+{
+    let mut header = Header {
+        is_kind: false,
+        version: None,
+        subject: None,
+        rows: None,
+        has_other: false,
+    };
+    'members: while let Some(name) = next_name(reader)? {
+        let member = kind.member(name);
+        header = read_member(alloc, reader, kind, version, member, header, rows)?;
+    }
+    Ok(header)
+}
+
+/// The name of the next member, or none at the brace that closes the object.
+pub(crate) fn next_name<'t>(reader: &mut Reader<'t>) -> Result<Option<&'t str>, DocCause>
+    ensures { MatchResult result
+        (λ name. read_key reader.old ≡ Some (option_map (λ s. s.now) name, reader.new))
+        (λ e. (e ≡ NotJson) × (read_key reader.old ≡ None)) }
+{
+    match reader.next_key() {
+        Ok(name) => Ok(name),
+        Err(_) => Err(DocCause::NotJson),
+    }
+}
+
+// Reads a member behind its name.
+fn read_member<R: Rows>(
+    alloc: Global,
+    reader: &mut Reader<'_>,
+    kind: Kind,
+    version: Version,
+    member: Member,
+    header: Header,
+    rows: &mut R,
+) -> Result<Header, DocCause>
+    requires numbers { are_in_range reader.old ≡ true }
+    requires places { length reader.old < 2 ^ 64 }
+    ensures { MatchResult result
+        (λ next. (d : Data) × ReadsNext reader.old d reader.new
+        × ((name : List ℕ) (ms : Members) → member_of kind name ≡ member → Shows kind (R.Checks version) (R.Holds version) header rows.old ms
+        → Shows kind (R.Checks version) (R.Holds version) next rows.new (put name d ms)))
+        (ReadsNone 126 reader.old) }
+{
+    match member {
+        Member::Kind => read_kind(alloc, reader, kind, header),
+        Member::Version => read_version(alloc, reader, header),
+        Member::Subject => read_subject(alloc, reader, header),
+        Member::Rows => read_array(alloc, reader, version, header, rows),
+        Member::Other => pass_over(reader, header),
+    }
+}
+
+fn read_kind(
+    alloc: Global,
+    reader: &mut Reader<'_>,
+    kind: Kind,
+    header: Header,
+) -> Result<Header, DocCause>
+    requires { are_in_range reader.old ≡ true }
+    ensures { MatchResult result
+        (λ next. (d : Data) × ReadsNext reader.old d reader.new × (next ≡ record header { is_kind = is_text (kind_text kind) (as_str d) }))
+        (ReadsNone 126 reader.old) }
+{
+    let value = next_value(alloc, reader, MEMBER_DEPTH)?;
+    Ok(Header {
+        is_kind: is_kind(kind, &value),
+        ..header
+    })
+}
+
+fn read_version(alloc: Global, reader: &mut Reader<'_>, header: Header) -> Result<Header, DocCause>
+    requires { are_in_range reader.old ≡ true }
+    ensures { MatchResult result
+        (λ next. (d : Data) × ReadsNext reader.old d reader.new × (next ≡ record header { version = u64_in d }))
+        (ReadsNone 126 reader.old) }
+{
+    let version = next_value(alloc, reader, MEMBER_DEPTH)?;
+    Ok(Header {
+        version: u64_of(&version),
+        ..header
+    })
+}
+
+fn read_subject(alloc: Global, reader: &mut Reader<'_>, header: Header) -> Result<Header, DocCause>
+    requires { are_in_range reader.old ≡ true }
+    ensures { MatchResult result
+        (λ next. (d : Data) × ReadsNext reader.old d reader.new × ((subject : Subject) × IsSubject subject d × (next ≡ record header { subject = Some subject })))
+        (ReadsNone 126 reader.old) }
+{
+    let subject = next_value(alloc, reader, MEMBER_DEPTH)?;
+    Ok(Header {
+        subject: Some(subject_of(&subject)),
+        ..header
+    })
+}
+
+// Reads the rows, where the member is an array.
+fn read_array<R: Rows>(
+    alloc: Global,
+    reader: &mut Reader<'_>,
+    version: Version,
+    header: Header,
+    rows: &mut R,
+) -> Result<Header, DocCause>
+    requires numbers { are_in_range reader.old ≡ true }
+    requires places { length reader.old < 2 ^ 64 }
+    ensures { MatchResult result
+        (λ next. (d : Data) × ReadsNext reader.old d reader.new
+        × ((read : Option (Option DocCause)) × ShowsRows (R.Checks version) (R.Holds version) read rows.new (items_in d) × (next ≡ record header { rows = read })))
+        (ReadsNone 126 reader.old) }
+{
+    let Some(token) = reader.next() else {
+        return Err(DocCause::NotJson);
+    };
+    match token {
+        Token::BeginArray => {
+            let refusal = read_rows(alloc, reader, MEMBER_DEPTH - 1, version, rows)?;
+            Ok(Header {
+                rows: Some(refusal),
+                ..header
+            })
+        }
+        Token::BeginObject => {
+            pass_members(reader)?;
+            Ok(Header {
+                rows: None,
+                ..header
+            })
+        }
+        _ => {
+            if !is_scalar(token) {
+                return Err(DocCause::NotJson);
+            }
+            Ok(Header {
+                rows: None,
+                ..header
+            })
+        }
+    }
+}
+
+/// Whether the token is a value of its own.
+pub(crate) fn is_scalar(token: Token<'_>) -> bool
+    ensures { result ≡ is_scalar (token_of token.entry) }
+{
+    matches!(
+        token,
+        Token::String(_) | Token::Number(_) | Token::Bool(_) | Token::Null
+    )
+}
+
+// Passes over the members of an object whose brace was read.
+fn pass_members(reader: &mut Reader<'_>) -> Result<(), DocCause>
+    requires { are_in_range reader.old ≡ true }
+    ensures read { MatchResult result
+        (λ _. (ms : Members) × ReadsMembers 125 reader.old ms reader.new)
+        (λ e. (e ≡ NotJson) × ReadsNoMembers 125 reader.old) }
+    ensures left { OnOk result (are_in_range reader.new ≡ true) }
+    ensures shorter { OnOk result (length reader.new < length reader.old) }
+{
+    'members: while let Some(_) = next_name(reader)? {
+        match reader.skip_value(MEMBER_DEPTH - 1) {
+            Ok(()) => {}
+            Err(_) => return Err(DocCause::NotJson),
+        }
+    }
+    Ok(())
+}
+
+// Passes over a member of another name.
+fn pass_over(reader: &mut Reader<'_>, header: Header) -> Result<Header, DocCause>
+    requires { are_in_range reader.old ≡ true }
+    ensures { MatchResult result
+        (λ next. (d : Data) × ReadsNext reader.old d reader.new × (next ≡ record header { has_other = true }))
+        (ReadsNone 126 reader.old) }
+{
+    match reader.skip_value(MEMBER_DEPTH) {
+        Ok(()) => Ok(Header {
+            has_other: true,
+            ..header
+        }),
+        Err(_) => Err(DocCause::NotJson),
+    }
+}
+
+// Whether the text is the kind that is asked for.
+fn is_kind(kind: Kind, value: &Value<'_>) -> bool
+    ensures { result ≡ is_text (kind_text kind) (as_str (seen value.now)) }
+{
+    match text_of(value) {
+        Some(text) => text == kind.text(),
+        None => false,
+    }
+}
+
+fn subject_of(value: &Value<'_>) -> Subject
+    ensures { IsSubject result (seen value.now) }
+{
+    if let Some(text) = text_of(value) {
+        return name_of(text);
+    }
+    match u64_of(value) {
+        Some(number) => Subject::Number(number),
+        None => Subject::Other,
+    }
+}
+
+fn name_of(text: &str) -> Subject
+    ensures { (d : Data) → as_str d ≡ Some text.now → IsSubject result d }
+{
+    match SiteName::new(text) {
+        Ok(name) => Subject::Name(name),
+        Err(_) => Subject::NoName,
+    }
+}

@@ -1,0 +1,54 @@
+//! JSON read from a text a value at a time.
+ghost use Rattle.std.specs.Prelude.{◌≡◌, ◌⊎◌, ◌<◌, None, length, true, IfOk, IfErr, OnOk};
+ghost use Rattle.json.specs.Json.{value};
+ghost use Rattle.json.specs.Reads.{token_of};
+ghost use Rattle.json.specs.Value.{value_view};
+ghost use Rattle.docs_core.specs.Numbers.{are_in_range, is_token_in_range};
+ghost use Rattle.docs_core.specs.Reads.{IsRead, Reads, seen};
+ghost use Rattle.docs_core.specs.declared.fault.DocCause.TheVariants.{NoMemory, NotJson};
+
+use crate::fault::DocCause;
+use crate::json_text::numbers::is_in_range;
+use json::{Reader, Token, Value};
+use std::alloc::Global;
+
+/// Whether all numbers from here to the end are in range.
+pub fn has_numbers_in_range(reader: &mut Reader<'_>) -> bool
+    ensures { result ≡ are_in_range reader.old }
+{
+    'tokens: while let Some(token) = reader.next() {
+        if !is_token_in_range(token) {
+            return false;
+        }
+    }
+    true
+}
+
+fn is_token_in_range(token: Token<'_>) -> bool
+    ensures { result ≡ is_token_in_range (token_of token.entry) }
+{
+    match token {
+        Token::Number(text) => is_in_range(text),
+        _ => true,
+    }
+}
+
+/// The next value, which nests at most this deep.
+pub fn next_value<'t>(
+    alloc: Global,
+    reader: &mut Reader<'t>,
+    depth: usize,
+) -> Result<Value<'t>, DocCause>
+    requires { are_in_range reader.old ≡ true }
+    ensures ok { IfOk result (λ v. Reads depth reader.old (seen v) reader.new) }
+    ensures read { IfOk result (λ v. IsRead (value_view v)) }
+    ensures left { OnOk result (are_in_range reader.new ≡ true) }
+    ensures shorter { OnOk result (length reader.new < length reader.old) }
+    ensures err { IfErr result (λ e. (e ≡ NoMemory) ⊎ ((e ≡ NotJson) × (value depth reader.old ≡ None))) }
+{
+    match Value::read(alloc, reader, depth) {
+        Ok(value) => Ok(value),
+        Err(json::Error::OutOfMemory) => Err(DocCause::NoMemory),
+        Err(_) => Err(DocCause::NotJson),
+    }
+}

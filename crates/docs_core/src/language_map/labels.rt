@@ -1,0 +1,185 @@
+//! The labels of a language-map document, made of its rows.
+ghost use Rattle.std.specs.Prelude.{◌≡◌, ◌⊎◌, ◌++◌, ◌∷◌, ◌<◌, ◌^◌, [], List, ℕ, Bool, MatchResult, IfErr, OnOk, IfOk, map, string_bytes, unwrap_or, length};
+ghost use Rattle.std.specs.List.Sorted.{IsPermutation};
+ghost use Rattle.cell_core.specs.Maps.{IsMap};
+ghost use Rattle.cata_core.specs.Entries.{key_cmp, text_cmp};
+ghost use Rattle.cata_core.specs.Flat.{under};
+ghost use Rattle.docs_core.specs.Checks.{AllPass, FirstFails};
+ghost use Rattle.docs_core.specs.LangMapChecks.{IsLabelOrNone, IsStringsRefusal, is_marked, key_checks, keys_checks, message_checks, row_checks, rows_checks};
+ghost use Rattle.docs_core.specs.LangMapLabels.{languages_of, rows_labels};
+ghost use Rattle.docs_core.specs.LangMapRows.{Keys as PlainKeys};
+ghost use Rattle.docs_core.specs.LangMapRowsSeen.{AddsLanguages, AddsRow, AreLesser, HoldsKeys, IsOneLabel, keys_in_seen, keys_seen, live, rows_seen, strings_seen};
+ghost use Rattle.docs_core.specs.declared.fault.DocCause.TheVariants.{Field, NoMemory, Shape as ShapeRefused};
+ghost use Rattle.docs_core.specs.declared.fault.FieldFault.TheVariants.{Cell};
+ghost use Rattle.docs_core.specs.declared.fault.Spot.TheVariants.{Row as InRow};
+ghost use Rattle.cell_core.specs.MessageIds.{IsMessageId};
+ghost use Rattle.cell_core.specs.declared.fault.CellFault.TheVariants.{IdRefused};
+
+use crate::fault::{DocCause, FieldFault, Spot};
+use crate::language_map::maps::LangMaps;
+use crate::language_map::rows::{Keys, Rows, Strings};
+use crate::row::fields::{language_of, of_cell};
+use cell_core::{Key, Label, MessageId};
+use lang_core::Lang;
+use std::alloc::{AllocError, Global};
+use std::collections::BTreeMap;
+
+/// The labels of the rows in rising order of key, or the refusal of the first test that fails.
+pub(crate) fn labels_of(alloc: Global, rows: Rows) -> Result<LangMaps, DocCause>
+    ensures { MatchResult result
+        (λ maps. AllPass (rows_checks 0 (rows_seen rows.entries)) × IsPermutation (rows_labels (rows_seen rows.entries)) maps × IsMap key_cmp maps)
+        (λ e. (e ≡ NoMemory) ⊎ FirstFails (rows_checks 0 (rows_seen rows.entries)) e) }
+{
+    let mut maps = LangMaps::new(alloc);
+    let mut row = 0;
+    'rows: for (name, keys) in rows {
+        add_row(alloc, &mut maps, row, name, keys)?;
+        row += 1;
+    }
+    Ok(maps)
+}
+
+// Adds the labels of a row behind those of lesser messages; a name that begins with "@" is skipped.
+fn add_row(
+    alloc: Global,
+    maps: &mut LangMaps,
+    row: usize,
+    name: String,
+    keys: Option<Keys>,
+) -> Result<(), DocCause>
+    requires lesser { AreLesser maps.old (string_bytes name) }
+    requires sorted { IsMap key_cmp maps.old }
+    ensures ok { OnOk result (AllPass (row_checks row (string_bytes name, keys_in_seen keys)) × AddsRow maps.old maps.new (string_bytes name, keys_in_seen keys)) }
+    ensures err { IfErr result (λ e. (e ≡ NoMemory) ⊎ FirstFails (row_checks row (string_bytes name, keys_in_seen keys)) e) }
+{
+    if is_marked(&name) {
+        return Ok(());
+    }
+    add_message(alloc, maps, row, name, keys)
+}
+
+// Whether the name begins with "@".
+fn is_marked(name: &String) -> bool
+    ensures { result ≡ is_marked (string_bytes name.now) }
+{
+    match name.as_bytes().first() {
+        Some(first) => *first == b'@',
+        None => false,
+    }
+}
+
+// Adds the labels of a message behind those of lesser messages.
+fn add_message(
+    alloc: Global,
+    maps: &mut LangMaps,
+    row: usize,
+    name: String,
+    keys: Option<Keys>,
+) -> Result<(), DocCause>
+    requires lesser { AreLesser maps.old (string_bytes name) }
+    requires sorted { IsMap key_cmp maps.old }
+    ensures ok { OnOk result (AllPass (message_checks row (string_bytes name) (keys_in_seen keys)) × AddsLanguages maps.old maps.new (string_bytes name) (unwrap_or (keys_in_seen keys) [])) }
+    ensures err { IfErr result (λ e. (e ≡ NoMemory) ⊎ FirstFails (message_checks row (string_bytes name) (keys_in_seen keys)) e) }
+{
+    let id = id_of_name(row, name)?;
+    let Some(keys) = keys else {
+        return Err(DocCause::Shape {
+            spot: Spot::Row(row),
+        });
+    };
+    let found = languages_of(alloc, row, keys)?;
+    push_languages(alloc, maps, &id, found)?;
+    Ok(())
+}
+
+// The id that a name is.
+fn id_of_name(row: usize, name: String) -> Result<MessageId, DocCause>
+    ensures { MatchResult result (λ id. IsMessageId (string_bytes name) × (id ≡ string_bytes name))
+        (λ e. (¬ (IsMessageId (string_bytes name))) × (e ≡ Field row (Cell IdRefused))) }
+{
+    match MessageId::from_text(name) {
+        Ok(id) => Ok(id),
+        Err(fault) => Err(DocCause::Field {
+            row,
+            fault: FieldFault::Cell(fault),
+        }),
+    }
+}
+
+// The languages of a language map, each with its label where it has one.
+fn languages_of(
+    alloc: Global,
+    row: usize,
+    keys: Keys,
+) -> Result<BTreeMap<Lang, Option<Label>>, DocCause>
+    ensures { MatchResult result
+        (λ found. AllPass (keys_checks row [] (keys_seen keys.entries)) × HoldsKeys (keys_seen keys.entries) found.entries)
+        (λ e. (e ≡ NoMemory) ⊎ FirstFails (keys_checks row [] (keys_seen keys.entries)) e) }
+{
+    let mut found = BTreeMap::new(alloc);
+    'keys: for (key, strings) in keys {
+        add_key(alloc, &mut found, row, key, strings)?;
+    }
+    Ok(found)
+}
+
+// Adds a key of a language map behind others.
+fn add_key(
+    alloc: Global,
+    found: &mut BTreeMap<Lang, Option<Label>>,
+    row: usize,
+    key: String,
+    strings: Strings,
+) -> Result<(), DocCause>
+    ensures ok { OnOk result ((before : PlainKeys) → HoldsKeys before found.old.entries
+        → AllPass (key_checks row (map (λ m. m.0) before) (string_bytes key) (strings_seen strings))
+        × HoldsKeys (before ++ (string_bytes key, strings_seen strings) ∷ []) found.new.entries) }
+    ensures err { IfErr result (λ e. (e ≡ NoMemory) ⊎ ((before : PlainKeys) → HoldsKeys before found.old.entries
+        → FirstFails (key_checks row (map (λ m. m.0) before) (string_bytes key) (strings_seen strings)) e)) }
+{
+    let lang = language_of(alloc, row, key.as_str())?;
+    if found.contains_key(&lang) {
+        return Err(DocCause::RepeatedTag { row });
+    }
+    let Some(strings) = strings else {
+        return Err(DocCause::Shape {
+            spot: Spot::Row(row),
+        });
+    };
+    let label = label_of(row, strings)?;
+    drop(found.insert(lang, label)?);
+    Ok(())
+}
+
+// The label of some strings; none where there is no string.
+fn label_of(row: usize, strings: Vec<String>) -> Result<Option<Label>, DocCause>
+    ensures { let texts = map string_bytes strings.items in MatchResult result
+        (λ label. IsLabelOrNone texts × IsOneLabel texts label)
+        (λ e. (e ≡ NoMemory) ⊎ IsStringsRefusal row texts e) }
+{
+    if strings.is_empty() {
+        return Ok(None);
+    }
+    match Label::from_texts(strings) {
+        Ok(label) => Ok(Some(label)),
+        Err(fault) => Err(of_cell(row, fault)),
+    }
+}
+
+// Puts the labels that were found behind those of lesser messages.
+fn push_languages(
+    alloc: Global,
+    maps: &mut LangMaps,
+    id: &MessageId,
+    found: BTreeMap<Lang, Option<Label>>,
+) -> Result<(), AllocError>
+    requires { IsMap key_cmp (maps.old ++ under id.now (live found.entries)) }
+    ensures { OnOk result (maps.new ≡ maps.old ++ under id.now (live found.entries)) }
+{
+    'found: for (lang, label) in found {
+        if let Some(label) = label {
+            maps.push(id.copy(alloc)?, lang, label)?;
+        }
+    }
+    Ok(())
+}

@@ -1,0 +1,240 @@
+//! The rows of a language-map document, read off its text.
+ghost use Rattle.std.specs.Prelude.{◌≡◌, ◌⊎◌, ◌<◌, ◌∷◌, ◌++◌, [], ℕ, Option, None, Some, true, length, map, MatchResult, IfOk, OnOk, string_bytes};
+ghost use Rattle.std.specs.List.{filter_map};
+ghost use Rattle.json.specs.Value.{value_view};
+ghost use Rattle.serde_json.specs.Data.{Data, Items, Members};
+ghost use Rattle.serde_json.specs.Find.{as_str};
+ghost use Rattle.serde_json.specs.Read.{read};
+ghost use Rattle.docs_core.specs.Arrays.{ReadsItems, ReadsNoItems};
+ghost use Rattle.docs_core.specs.LangMapRows.{Keys as PlainKeys, Strings as PlainStrings, is_string_or_null, keys_in, members_by, rows_in, rows_of, strings_in, strings_of};
+ghost use Rattle.docs_core.specs.LangMapRowsSeen.{keys_in_seen, members_seen, rows_in_seen, rows_seen, strings_seen};
+ghost use Rattle.docs_core.specs.MembersRead.{IsNotWhole, ReadsMembers, ReadsNoMembers, ReadsNone};
+ghost use Rattle.docs_core.specs.Numbers.{are_in_range};
+ghost use Rattle.docs_core.specs.Reads.{AreRead, IsRead, Reads, seen};
+ghost use Rattle.docs_core.specs.declared.fault.DocCause.TheVariants.{NoMemory, NotJson};
+
+use crate::document::header::{is_scalar, next_name};
+use crate::document::tested_header::{begins_object, check_numbers, check_value};
+use crate::fault::DocCause;
+use crate::json_text::scanning::next_value;
+use crate::language_map::rows::{Keys, Rows, Strings};
+use crate::row::shapes::{items_of, text_of};
+use json::{Reader, Scratch, Token, Value};
+use std::alloc::{AllocError, Global};
+use std::collections::BTreeMap;
+
+/// How deep the value of a key nests at most.
+const MOST_DEPTH: usize = 125;
+
+/// The rows of the document in byte order of their names, or none where it is no object. Of two
+/// members of one name the last counts.
+pub(crate) fn read_rows(alloc: Global, text: &str) -> Result<Option<Rows>, DocCause>
+    ensures { MatchResult result
+        (λ rows. (d : Data) × (read text.now ≡ Some d) × (rows_in_seen rows ≡ rows_in d))
+        (λ e. (e ≡ NoMemory) ⊎ ((e ≡ NotJson) × (read text.now ≡ None))) }
+{
+    let mut scratch = Scratch::new(alloc);
+    check_numbers(text, &mut scratch)?;
+    let mut reader = Reader::new(text, &mut scratch)?;
+    if begins_object(&mut reader) {
+        let rows = read_rest(alloc, &mut reader)?;
+        Ok(Some(rows))
+    } else {
+        check_value(text, &mut scratch)?;
+        Ok(None)
+    }
+}
+
+// The rows of the object whose brace was read, where nothing follows it.
+fn read_rest(alloc: Global, reader: &mut Reader<'_>) -> Result<Rows, DocCause>
+    requires { are_in_range reader.old ≡ true }
+    ensures { MatchResult result
+        (λ rows. (ms : Members) × ReadsMembers 126 reader.old ms [] × (rows_seen rows.entries ≡ rows_of ms))
+        (λ e. (e ≡ NoMemory) ⊎ ((e ≡ NotJson) × IsNotWhole reader.old)) }
+{
+    let rows = read_members(alloc, reader)?;
+    match reader.next() {
+        None => Ok(rows),
+        Some(_) => Err(DocCause::NotJson),
+    }
+}
+
+/// What stands behind the names of an object.
+trait MemberValue: Sized {
+    // What a contract sees of it.
+    ghost Plain: { Type 0 };
+
+    ghost seen_of: { Self → Plain };
+
+    // What it is of a value.
+    ghost in_data: { Data → Plain };
+
+    // How deep it nests at most.
+    ghost most_depth: { ℕ };
+
+    /// Reads the next value.
+    fn read(alloc: Global, reader: &mut Reader<'_>) -> Result<Self, DocCause>
+        requires { are_in_range reader.old ≡ true }
+        ensures read { MatchResult result
+            (λ found. (d : Data) × Reads most_depth reader.old d reader.new × (seen_of found ≡ in_data d))
+            (ReadsNone most_depth reader.old) }
+        ensures left { OnOk result (are_in_range reader.new ≡ true) }
+        ensures shorter { OnOk result (length reader.new < length reader.old) };
+}
+
+// Reads the members of an object whose brace was read, in byte order of their names.
+fn read_members<V: MemberValue + Drop>(
+    alloc: Global,
+    reader: &mut Reader<'_>,
+) -> Result<BTreeMap<String, V>, DocCause>
+    requires { are_in_range reader.old ≡ true }
+    ensures read { MatchResult result
+        (λ found. (ms : Members) × ReadsMembers V.most_depth reader.old ms reader.new × (members_seen V.seen_of found.entries ≡ members_by V.in_data ms))
+        (λ e. (e ≡ NoMemory) ⊎ ((e ≡ NotJson) × ReadsNoMembers V.most_depth reader.old)) }
+    ensures left { OnOk result (are_in_range reader.new ≡ true) }
+    ensures shorter { OnOk result (length reader.new < length reader.old) }
+{
+    let mut found = BTreeMap::new(alloc);
+    'members: while let Some(name) = next_name(reader)? {
+        let value = V::read(alloc, reader)?;
+        let name = String::from_str(alloc, name)?;
+        drop(found.insert(name, value)?);
+    }
+    Ok(found)
+}
+
+impl MemberValue for Option<Keys> {
+    ghost Plain = { Option PlainKeys };
+
+    ghost seen_of = { keys_in_seen };
+
+    ghost in_data = { keys_in };
+
+    ghost most_depth = { 126 };
+
+    fn read(alloc: Global, reader: &mut Reader<'_>) -> Result<Option<Keys>, DocCause> {
+        read_keys(alloc, reader)
+    }
+}
+
+impl MemberValue for Strings {
+    ghost Plain = { PlainStrings };
+
+    ghost seen_of = { strings_seen };
+
+    ghost in_data = { strings_in };
+
+    ghost most_depth = { 125 };
+
+    fn read(alloc: Global, reader: &mut Reader<'_>) -> Result<Strings, DocCause> {
+        let value = next_value(alloc, reader, MOST_DEPTH)?;
+        Ok(strings_of(alloc, &value)?)
+    }
+}
+
+// Reads the value of a row: the keys of an object. What is no object is passed over.
+fn read_keys(alloc: Global, reader: &mut Reader<'_>) -> Result<Option<Keys>, DocCause>
+    requires { are_in_range reader.old ≡ true }
+    ensures read { MatchResult result
+        (λ keys. (d : Data) × Reads 126 reader.old d reader.new × (keys_in_seen keys ≡ keys_in d))
+        (ReadsNone 126 reader.old) }
+    ensures left { OnOk result (are_in_range reader.new ≡ true) }
+    ensures shorter { OnOk result (length reader.new < length reader.old) }
+{
+    let Some(token) = reader.next() else {
+        return Err(DocCause::NotJson);
+    };
+    match token {
+        Token::BeginObject => {
+            let keys = read_members(alloc, reader)?;
+            Ok(Some(keys))
+        }
+        Token::BeginArray => {
+            pass_items(reader)?;
+            Ok(None)
+        }
+        _ => {
+            if !is_scalar(token) {
+                return Err(DocCause::NotJson);
+            }
+            Ok(None)
+        }
+    }
+}
+
+// Passes over the items of an array whose opening bracket was read.
+fn pass_items(reader: &mut Reader<'_>) -> Result<(), DocCause>
+    requires { are_in_range reader.old ≡ true }
+    ensures read { MatchResult result
+        (λ _. (ds : Items) × ReadsItems 125 reader.old ds reader.new)
+        (λ e. (e ≡ NotJson) × ReadsNoItems 125 reader.old) }
+    ensures left { OnOk result (are_in_range reader.new ≡ true) }
+    ensures shorter { OnOk result (length reader.new < length reader.old) }
+{
+    'items: while !reader.take_end_array() {
+        match reader.skip_value(MOST_DEPTH) {
+            Ok(()) => {}
+            Err(_) => return Err(DocCause::NotJson),
+        }
+    }
+    Ok(())
+}
+
+// The strings of a value: a string, null, or an array of strings and nulls.
+fn strings_of(alloc: Global, value: &Value<'_>) -> Result<Strings, AllocError>
+    requires { IsRead (value_view value.now) }
+    ensures { IfOk result (λ strings. strings_seen strings ≡ strings_in (seen value.now)) }
+{
+    if value.is_null() {
+        return Ok(Some(Vec::new(alloc)));
+    }
+    if let Some(text) = text_of(value) {
+        return Ok(Some(one_string(alloc, text)?));
+    }
+    match items_of(value) {
+        Some(items) => strings_of_items(alloc, items),
+        None => Ok(None),
+    }
+}
+
+// The text alone.
+fn one_string(alloc: Global, text: &str) -> Result<Vec<String>, AllocError>
+    ensures { IfOk result (λ strings. map string_bytes strings.items ≡ text.now ∷ []) }
+{
+    let mut strings = Vec::new(alloc);
+    strings.push(String::from_str(alloc, text)?)?;
+    Ok(strings)
+}
+
+// The strings of an array without its nulls, where it has nothing else.
+fn strings_of_items(alloc: Global, items: &[Value<'_>]) -> Result<Strings, AllocError>
+    requires { AreRead items.now }
+    ensures { IfOk result (λ strings. strings_seen strings ≡ strings_of (map seen items.now)) }
+{
+    let mut strings = Vec::new(alloc);
+    'items: for item in items {
+        if !add_string(alloc, &mut strings, item)? {
+            return Ok(None);
+        }
+    }
+    Ok(Some(strings))
+}
+
+// Adds the text of an item, where it is one, and says whether it is a string or null.
+fn add_string(
+    alloc: Global,
+    strings: &mut Vec<String>,
+    item: &Value<'_>,
+) -> Result<bool, AllocError>
+    requires { IsRead (value_view item.now) }
+    ensures fits { IfOk result (λ fits. fits ≡ is_string_or_null (seen item.now)) }
+    ensures strings { OnOk result (map string_bytes strings.new.items ≡ map string_bytes strings.old.items ++ filter_map as_str (seen item.now ∷ [])) }
+{
+    match text_of(item) {
+        Some(text) => {
+            strings.push(String::from_str(alloc, text)?)?;
+            Ok(true)
+        }
+        None => Ok(item.is_null()),
+    }
+}

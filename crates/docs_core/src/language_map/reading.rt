@@ -1,0 +1,55 @@
+//! Language-map documents read.
+ghost use Rattle.std.specs.Prelude.{MatchResult};
+ghost use Rattle.docs_core.specs.LangMapLabels.{AreLangMaps, RefusesLangMaps};
+ghost use Rattle.docs_core.specs.ReadsAs.{IsOfDocument};
+
+use crate::document::tested_header::text_in;
+use crate::fault::{DocCause, DocFault, Spot};
+use crate::language_map::labels::labels_of;
+use crate::language_map::maps::LangMaps;
+use crate::language_map::members::read_rows;
+use std::alloc::Global;
+
+/// The labels of a language-map document, in rising order of key: an object from message id to
+/// language map (JSON-LD 1.1, sections 4.6.2 and 9.8).
+///
+/// A member whose name begins with `@` is skipped. A string is a label of one text, an array one of
+/// its strings; nulls are skipped, and where no string is left there is no label. Languages are
+/// read without case.
+///
+/// Refused, with document 1, where the bytes are not UTF-8 (18) or no JSON text (19), where the
+/// value is no object (20), and by its first row that fails, in byte order of the names: by its id
+/// (10) or shape (20), or by its first key that fails: by its language (1 to 4), because an earlier
+/// key is equal without case (22), or by its value's shape (20) or label (12, 11). Out of memory
+/// (26) may come first, and means no document.
+pub fn read_langmaps(alloc: Global, bytes: &[u8]) -> Result<LangMaps, DocFault>
+    ensures { MatchResult result (AreLangMaps bytes.now) (IsOfDocument 1 (RefusesLangMaps bytes.now)) }
+{
+    langmaps_of_document(alloc, 1, bytes)
+}
+
+// The labels of the document that stands at this place of the input.
+pub(crate) fn langmaps_of_document(
+    alloc: Global,
+    document: u8,
+    bytes: &[u8],
+) -> Result<LangMaps, DocFault>
+    ensures { MatchResult result (AreLangMaps bytes.now) (IsOfDocument document (RefusesLangMaps bytes.now)) }
+{
+    match langmaps_in(alloc, bytes) {
+        Ok(maps) => Ok(maps),
+        Err(cause) => Err(DocFault::of_document(document, cause)),
+    }
+}
+
+fn langmaps_in(alloc: Global, bytes: &[u8]) -> Result<LangMaps, DocCause>
+    ensures { MatchResult result (AreLangMaps bytes.now) (RefusesLangMaps bytes.now) }
+{
+    let text = text_in(bytes)?;
+    match read_rows(alloc, text)? {
+        Some(rows) => labels_of(alloc, rows),
+        None => Err(DocCause::Shape {
+            spot: Spot::Document,
+        }),
+    }
+}
