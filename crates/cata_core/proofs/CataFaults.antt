@@ -1,5 +1,4 @@
 -- By what cells are refused.
-use Rattle.std.specs.Prelude.{◌≡◌}
 use Rattle.cata_core.specs.declared.cata_fault.CataFault.{CataFault}
 use Rattle.cata_core.specs.declared.cata_fault.CataFault.TheVariants.{StampReused, ClockSpent, NotForMe, NoMemory}
 use Rattle.cata_core.specs.CataFaults.{IsRefusal, IsOfCells}

@@ -1,11 +1,11 @@
 -- Walks that gather the cells that a summary lacks.
 use Rattle.std.proofs.Common.{◌≡◌, ◌≢◌, true, false, cond, [], ◌∷◌, ◌++◌, refl, sym, ap, ◌∙◌, subst, append_assoc}
 use Rattle.std.specs.declared.cmp.Ordering.TheVariants.{Less, Greater}
-use Rattle.std.specs.Ordering.{is_lt, ordering_reverse}
+use Rattle.std.specs.Ordering.{is_lt}
 use Rattle.std.specs.FinMap.Entries.{find, is_sorted, below_all}
 use Rattle.cell_core.specs.declared.cell.Cell.{Cell}
 use Rattle.cell_core.specs.Maps.{IsMap}
-use Rattle.cata_core.specs.Entries.{EntryKey, key_cmp, key_cmp_total, Entries, IsAboveAll}
+use Rattle.cata_core.specs.Entries.{EntryKey, key_cmp, Entries, IsAboveAll}
 use Rattle.cata_core.specs.Deltas.{Stamps, is_missing, delta_of}
 use Rattle.cata_core.specs.Seeking.{IsBehind}
 use Rattle.cata_core.proofs.Basics.{first_part, second_part, less_than, append_nil}

@@ -7,15 +7,20 @@ use std::alloc::Global;
 use std::test::Fail;
 
 // Each kind of step.
-const STEPS: &str = r#"{"kind":"script","sites":2,"steps":[["edit",0,["m","en",5,"paris",0,["one","two"]]],["edit",1,["m","@none",18446744073709551615,"rome",4294967295,null]],["merge",0,1],["filter",0,"m","basic","de-ch,en;q=0.5,*;q=0"],["filter",0,"m","extended","de-*-ch,*"],["lookup",0,"m","en-gb","fr"],["lookup",1,"m","",null],["lookup",1,"m","*","@none"],["cells",1],["tell",1],["post",0,0],["deliver",0]],"version":2}"#;
+const STEPS: &str =
+    r#"{"kind":"script","sites":2,"steps":[["edit",0,["m","en",5,"paris",0,["one","two"]]],["edit",1,["m","@none",18446744073709551615,"rome",4294967295,null]],["merge",0,1],["filter",0,"m","basic","de-ch,en;q=0.5,*;q=0"],["filter",0,"m","extended","de-*-ch,*"],["lookup",0,"m","en-gb","fr"],["lookup",1,"m","",null],["lookup",1,"m","*","@none"],["cells",1],["tell",1],["post",0,0],["deliver",0]],"version":2}"#;
 
-const WEIGHTS: &str = r#"{ "version" : 2, "steps" : [["lookup",4294967295,"m"," , EN ; Q=1.000,fr;q=0.900,\tde;q=0.120,it;q=0.123,nl;q=0.010,da;q=0.001,sv;q=0. , ",null]], "sites" : 1, "kind" : "script" }"#;
+const WEIGHTS: &str =
+    r#"{ "version" : 2, "steps" : [["lookup",4294967295,"m"," , EN ; Q=1.000,fr;q=0.900,\tde;q=0.120,it;q=0.123,nl;q=0.010,da;q=0.001,sv;q=0. , ",null]], "sites" : 1, "kind" : "script" }"#;
 
-const WEIGHTS_AGAIN: &str = r#"{"kind":"script","sites":1,"steps":[["lookup",4294967295,"m","en,fr;q=0.9,de;q=0.12,it;q=0.123,nl;q=0.01,da;q=0.001,sv;q=0",null]],"version":2}"#;
+const WEIGHTS_AGAIN: &str =
+    r#"{"kind":"script","sites":1,"steps":[["lookup",4294967295,"m","en,fr;q=0.9,de;q=0.12,it;q=0.123,nl;q=0.01,da;q=0.001,sv;q=0",null]],"version":2}"#;
 
-const TWO_SITES: &str = r#"{"kind":"script","sites":2,"steps":[["edit",0,["m","en",5,1,0,["one"]]],["merge",0,1],["lookup",0,"m","en-GB",null]],"version":1}"#;
+const TWO_SITES: &str =
+    r#"{"kind":"script","sites":2,"steps":[["edit",0,["m","en",5,1,0,["one"]]],["merge",0,1],["lookup",0,"m","en-GB",null]],"version":1}"#;
 
-const TWO_SITES_AGAIN: &str = r#"{"kind":"script","sites":2,"steps":[["edit",0,["m","en",5,"0000000001",0,["one"]]],["merge",0,1],["lookup",0,"m","en-gb",null]],"version":2}"#;
+const TWO_SITES_AGAIN: &str =
+    r#"{"kind":"script","sites":2,"steps":[["edit",0,["m","en",5,"0000000001",0,["one"]]],["merge",0,1],["lookup",0,"m","en-gb",null]],"version":2}"#;
 
 fn rewritten(alloc: Global, text: &str) -> Result<Doc, DocFault> {
     let script = read_script(alloc, text.as_bytes())?;
@@ -74,9 +79,18 @@ fn numbers_over_32_bits(rt: HostRuntime) -> Result<(), Fail> {
     let most = 4_294_967_295;
     let over = 4_294_967_296;
     assert_eq!(rt; refusal(alloc, Step::AskCells { site: most })?, None);
-    assert_eq!(rt; refusal(alloc, Step::AskCells { site: over })?, Some(SECOND_ROW));
-    assert_eq!(rt; refusal(alloc, Step::Tell { site: over })?, Some(SECOND_ROW));
-    assert_eq!(rt; refusal(alloc, Step::Deliver { post: over })?, Some(SECOND_ROW));
+    assert_eq!(rt;
+        refusal(alloc, Step::AskCells { site: over })?,
+        Some(SECOND_ROW)
+    );
+    assert_eq!(rt;
+        refusal(alloc, Step::Tell { site: over })?,
+        Some(SECOND_ROW)
+    );
+    assert_eq!(rt;
+        refusal(alloc, Step::Deliver { post: over })?,
+        Some(SECOND_ROW)
+    );
     let merge = Step::Merge {
         into: 0,
         source: over,
@@ -105,8 +119,14 @@ fn lists_of_the_other_scheme(rt: HostRuntime) -> Result<(), Fail> {
     let alloc = rt.alloc();
     let basic = Scheme::Basic;
     let extended = Scheme::Extended;
-    assert_eq!(rt; refusal(alloc, filter(alloc, basic, extended, "de,en")?)?, None);
-    assert_eq!(rt; refusal(alloc, filter(alloc, extended, basic, "de,en")?)?, None);
+    assert_eq!(rt;
+        refusal(alloc, filter(alloc, basic, extended, "de,en")?)?,
+        None
+    );
+    assert_eq!(rt;
+        refusal(alloc, filter(alloc, extended, basic, "de,en")?)?,
+        None
+    );
     assert_eq!(rt;
         refusal(alloc, filter(alloc, basic, extended, "de;q=0.5")?)?,
         Some(SECOND_ROW)
@@ -137,6 +157,9 @@ fn the_first_of_two(rt: HostRuntime) -> Result<(), Fail> {
     steps.push(Step::Deliver {
         post: 4_294_967_296,
     })?;
-    assert_eq!(rt; write_script(alloc, &Script::new(1, steps)).err(), Some(SECOND_ROW));
+    assert_eq!(rt;
+        write_script(alloc, &Script::new(1, steps)).err(),
+        Some(SECOND_ROW)
+    );
     Ok(())
 }
