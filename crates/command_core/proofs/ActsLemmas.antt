@@ -3,6 +3,8 @@ use Rattle.std.proofs.Common.{◌≡◌, ◌∙◌, ℕ, List, Bool, true, false
 use Rattle.std.specs.Prelude.{◌⊎◌, MatchResult}
 use Rattle.std.specs.Io.KnownBytes.{Appends}
 use Rattle.docs_core.specs.Faults as doc
+use Rattle.docs_core.specs.Checks.{OrMemory}
+use Rattle.docs_core.specs.ReadsAs.{no_memory}
 use Rattle.docs_core.specs.Replays.{RefusesReplay, Replays}
 use Rattle.docs_core.specs.Sinks.{AppendsFront}
 use Rattle.docs_core.specs.Sources.{IsReadFault, ReadsWhole}
@@ -34,7 +36,7 @@ module _ {R W F : Type 0} (remaining : R → Option (List ℕ)) (broken : R → 
   -- or it was refused: in reading, by the script, or in writing
   pub not_replayed : (fault : DocFault) (r r' : R) (w w' : W) (f f' : F) (status : ℕ) → status ≡ status_of (doc.number_of fault.cause) → PrintsDocument lines closed fault f f'
       → ((IsReadFault broken remaining r r' fault × (w' ≡ w))
-      ⊎ ((bytes : List ℕ) × ReadsWhole broken remaining r r' bytes × RefusesReplay bytes fault × (w' ≡ w))
+      ⊎ ((bytes : List ℕ) × ReadsWhole broken remaining r r' bytes × OrMemory no_memory (RefusesReplay bytes) fault × (w' ≡ w))
       ⊎ ((bytes text : List ℕ) × ReadsWhole broken remaining r r' bytes × Replays bytes text
       × (fault ≡ doc.of_no_document WriteFault) × (failed w' ≡ true) × AppendsFront (contents w) (contents w') text))
       → Treats remaining broken contents failed lines closed Replay r r' w w' f f' status

@@ -1,5 +1,7 @@
 -- What a command does with its input: its words are read first, then the whole input, and what that holds is answered or refused (own rules).
 use Rattle.std.specs.Prelude.{◌≡◌, ◌⊎◌, ℕ, Bool, List, Option}
+use Rattle.docs_core.specs.Checks.{OrMemory}
+use Rattle.docs_core.specs.ReadsAs.{no_memory}
 use Rattle.docs_core.specs.Sources.{IsReadFault, ReadsWhole}
 use Rattle.docs_core.specs.declared.fault.DocFault.{DocFault}
 use Rattle.command_core.specs.declared.refusal.Refusal.{Refusal}
@@ -10,7 +12,7 @@ module _ {R : Type 0} (remaining : R → Option (List ℕ)) (broken : R → Bool
   abbrev pub AnswersInput : (List ℕ → List ℕ → ℕ → Type 0) → R → R → List ℕ → ℕ → Type 0
   AnswersInput answers old new text answered = (input : List ℕ) × ReadsWhole broken remaining old new input × answers input text answered
 
-  -- why a command is refused: by its words, and then nothing was read; or else for the reading, or for what was read
+  -- why a command is refused: by its words, and then nothing was read; or else for the reading, or for what was read, where memory may run out too
   abbrev pub RefusesInput : Type 0 → (Refusal → Type 0) → (List ℕ → DocFault → Type 0) → R → R → Refusal → Type 0
-  RefusesInput fits bars refuses old new (Document fault) = fits × (IsReadFault broken remaining old new fault ⊎ ((input : List ℕ) × ReadsWhole broken remaining old new input × refuses input fault))
+  RefusesInput fits bars refuses old new (Document fault) = fits × (IsReadFault broken remaining old new fault ⊎ ((input : List ℕ) × ReadsWhole broken remaining old new input × OrMemory no_memory (refuses input) fault))
   RefusesInput fits bars refuses old new refusal = bars refusal × (new ≡ old)

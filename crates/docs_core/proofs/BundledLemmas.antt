@@ -212,16 +212,6 @@ module _ (cells : Entries) (items : List Item) (default : Option (List ℕ)) whe
       (found_at old new current m left reply lang label b is found (subst (λ (x : List ℕ). Adds old new (opening_tokens current x ++ label_tokens ((x, lang), label))) same adds)
       (subst (λ (x : List ℕ). IsWritable ((x, lang), label)) same valid))
 
-  pub bundling_none : (draft : Written) (current : Option (List ℕ)) (m : LiveMessage) (left : List LiveMessage) (reply : Reply) → IsBundling cells items default draft current (m ∷ left)
-      → IsLookedUpOf m.1 items default reply → None ≡ answered reply → IsBundling cells items default draft current left
-  bundling_none draft current m left reply b is none = record {
-    messages = b.messages;
-    are = b.are;
-    done = b.done;
-    writing = b.writing;
-    looks = λ rest looks. b.looks rest (reply, rest, is, looks, ap (λ o. answered_of m.0 o ++ rest) none);
-  }
-
   pub bundling_last : (draft : Written) (current : Option (List ℕ)) → IsBundling cells items default draft current [] → (labels : List Labelled) × IsBundle cells items default labels × IsWriting draft current [] labels
   bundling_last draft current b = (
     b.done ++ [],

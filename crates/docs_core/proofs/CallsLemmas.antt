@@ -1,27 +1,28 @@
--- What a call on documents writes, and its want of memory.
-use Rattle.std.proofs.Common.{◌≡◌, ◌∙◌, ℕ, List, ap, inl, refl, subst}
-use Rattle.serde_json.specs.Data.{Data}
-use Rattle.docs_core.specs.Checks.{Check, IsRefusal}
+-- What a call on documents writes, and which refusal it hands on.
+use Rattle.std.proofs.Common.{◌≡◌, ◌∙◌, ℕ, List, ap, inl, inr, refl, subst}
 use Rattle.cata_core.specs.Sites.{SiteState}
-use Rattle.cata_core.specs.Summary.{SummaryState}
-use Rattle.cata_core.specs.declared.delta.Delta.{Delta}
-use Rattle.docs_core.specs.Documents.{delta_text, site_text, summary_text}
-use Rattle.docs_core.specs.Faults.{of_no_document}
-use Rattle.docs_core.specs.ReadsAs.{IsDeltaText, IsOfDocument, IsSiteText, IsSummaryText, ReadsAsDelta, ReadsAsSite, ReadsAsSummary}
+use Rattle.cata_core.specs.declared.cata_fault.CataFault.{CataFault}
+use Rattle.cata_core.specs.declared.cata_fault.CataFault.TheVariants as cata
+use Rattle.docs_core.specs.Calls.{IsOfSite}
+use Rattle.docs_core.specs.Checks.{OrMemory}
+use Rattle.docs_core.specs.Documents.{site_text}
+use Rattle.docs_core.specs.Faults.{of_document, of_no_document, of_site}
+use Rattle.docs_core.specs.ReadsAs.{IsOfDocument, IsSiteText, ReadsAsSite, no_memory}
+use Rattle.docs_core.specs.declared.fault.DocCause.{DocCause}
 use Rattle.docs_core.specs.declared.fault.DocCause.TheVariants.{NoMemory}
 use Rattle.docs_core.specs.declared.fault.DocFault.{DocFault}
 
-pub no_memory : (checks : Data → List Check) (bytes : List ℕ) (document : ℕ) (fault : DocFault) → fault ≡ of_no_document NoMemory
-    → IsOfDocument document (IsRefusal checks bytes) fault
-no_memory checks bytes document fault is = (NoMemory, inl (inl refl), is)
+-- a reader's refusal, as that of an input document
+pub of_reader : (document : ℕ) (Refuses : DocCause → Type 0) (cause : DocCause) → OrMemory NoMemory Refuses cause → OrMemory no_memory (IsOfDocument document Refuses) (of_document document cause)
+of_reader document Refuses cause why = elim why [ inl memory ↦ inl (ap (of_document document) memory) | inr h ↦ inr (cause, h, refl) ]
 
--- ---- a document that was written for an equal value
+-- the refusal of a site's call, as that of a call on documents
+pub of_call : (Refuses : CataFault → Type 0) (cause : CataFault) (fault : DocFault) → Refuses cause → fault ≡ of_no_document (of_site cause) → OrMemory no_memory (IsOfSite Refuses) fault
+of_call Refuses (cata.StampReused place stamp) fault why is = inr (cata.StampReused place stamp, (λ e. cc), why, is)
+of_call Refuses cata.ClockSpent fault why is = inr (cata.ClockSpent, (λ e. cc), why, is)
+of_call Refuses (cata.NotForMe addressee) fault why is = inr (cata.NotForMe addressee, (λ e. cc), why, is)
+of_call Refuses cata.NoMemory fault why is = inl is
 
+-- the document that was written for an equal site
 pub site_written : (doc : List ℕ) (left site : SiteState) → left ≡ site → doc ≡ site_text left → ReadsAsSite doc left → IsSiteText site doc
 site_written doc left site same text reads = (text ∙ ap site_text same, subst (ReadsAsSite doc) same reads)
-
-pub delta_written : (doc : List ℕ) (left delta : Delta) → left ≡ delta → doc ≡ delta_text left → ReadsAsDelta doc left → IsDeltaText delta doc
-delta_written doc left delta same text reads = (text ∙ ap delta_text same, subst (ReadsAsDelta doc) same reads)
-
-pub summary_written : (doc : List ℕ) (left summary : SummaryState) → left ≡ summary → doc ≡ summary_text left → ReadsAsSummary doc left → IsSummaryText summary doc
-summary_written doc left summary same text reads = (text ∙ ap summary_text same, subst (ReadsAsSummary doc) same reads)

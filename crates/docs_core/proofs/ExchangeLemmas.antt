@@ -1,27 +1,26 @@
 -- Why labels are not put into a site.
 use Rattle.std.proofs.Common.{◌≡◌, ◌∙◌, ℕ, List, ap, inl, inr}
-use Rattle.std.specs.Prelude.{◌⊎◌}
 use Rattle.cata_core.specs.Sites.{SiteState}
 use Rattle.cata_core.specs.declared.cata_fault.CataFault.{CataFault}
 use Rattle.cata_core.specs.declared.cata_fault.CataFault.TheVariants.{ClockSpent, NoMemory}
-use Rattle.docs_core.proofs.CallsLemmas.{no_memory, site_written}
+use Rattle.docs_core.proofs.CallsLemmas.{site_written}
+use Rattle.docs_core.specs.Checks.{OrMemory}
 use Rattle.docs_core.specs.Documents.{site_text}
 use Rattle.docs_core.specs.Exchange.{RefusesImport}
 use Rattle.docs_core.specs.Faults.{of_no_document, of_site}
 use Rattle.docs_core.specs.Imported.{SpendsImport}
 use Rattle.docs_core.specs.LangMapLabels.{AreLangMaps}
 use Rattle.docs_core.specs.LangMaps.{Labelled}
-use Rattle.docs_core.specs.ReadsAs.{ReadsAsSite}
-use Rattle.docs_core.specs.SiteDocuments.{site_checks}
+use Rattle.docs_core.specs.ReadsAs.{ReadsAsSite, no_memory}
 use Rattle.docs_core.specs.Updated.{IsUpdated, RefusesUpdate, SpendsUpdate, Updates}
 use Rattle.docs_core.specs.declared.fault.DocFault.{DocFault}
 
 pub not_imported : (bytes : List ℕ) (now : ℕ) (maps : List ℕ) (site : SiteState) (labels : List Labelled) (cause : CataFault) (fault : DocFault)
-    → ReadsAsSite bytes site → AreLangMaps maps labels → (cause ≡ NoMemory) ⊎ ((cause ≡ ClockSpent) × SpendsImport now site.name labels site.cells)
-    → fault ≡ of_no_document (of_site cause) → RefusesImport bytes now maps fault
+    → ReadsAsSite bytes site → AreLangMaps maps labels → OrMemory NoMemory (λ c. (c ≡ ClockSpent) × SpendsImport now site.name labels site.cells) cause
+    → fault ≡ of_no_document (of_site cause) → OrMemory no_memory (RefusesImport bytes now maps) fault
 not_imported bytes now maps site labels cause fault reads are why is = elim why [
-  | inl memory ↦ inl (no_memory site_checks bytes 1 fault (is ∙ ap (λ c. of_no_document (of_site c)) memory))
-  | inr spent ↦ inr (inr (site, labels, reads, are, spent.1, is ∙ ap (λ c. of_no_document (of_site c)) spent.0))
+  | inl memory ↦ inl (is ∙ ap (λ c. of_no_document (of_site c)) memory)
+  | inr spent ↦ inr (inr (inr (site, labels, reads, are, spent.1, is ∙ ap (λ c. of_no_document (of_site c)) spent.0)))
 ]
 
 -- ---- updates
@@ -33,9 +32,9 @@ updated bytes now old new site before after left doc reads olds news name update
     (site, before, after, left.cells, reads, olds, news, updates, site_written doc left _ same text again)
 
 pub not_updated : (bytes : List ℕ) (now : ℕ) (old new : List ℕ) (site : SiteState) (before after : List Labelled) (cause : CataFault) (fault : DocFault)
-    → ReadsAsSite bytes site → AreLangMaps old before → AreLangMaps new after → (cause ≡ NoMemory) ⊎ ((cause ≡ ClockSpent) × SpendsUpdate now site.name before after site.cells)
-    → fault ≡ of_no_document (of_site cause) → RefusesUpdate bytes now old new fault
+    → ReadsAsSite bytes site → AreLangMaps old before → AreLangMaps new after → OrMemory NoMemory (λ c. (c ≡ ClockSpent) × SpendsUpdate now site.name before after site.cells) cause
+    → fault ≡ of_no_document (of_site cause) → OrMemory no_memory (RefusesUpdate bytes now old new) fault
 not_updated bytes now old new site before after cause fault reads olds news why is = elim why [
-  | inl memory ↦ inl (no_memory site_checks bytes 1 fault (is ∙ ap (λ c. of_no_document (of_site c)) memory))
-  | inr spent ↦ inr (inr (inr (site, before, after, reads, olds, news, spent.1, is ∙ ap (λ c. of_no_document (of_site c)) spent.0)))
+  | inl memory ↦ inl (is ∙ ap (λ c. of_no_document (of_site c)) memory)
+  | inr spent ↦ inr (inr (inr (inr (site, before, after, reads, olds, news, spent.1, is ∙ ap (λ c. of_no_document (of_site c)) spent.0))))
 ]

@@ -5,14 +5,12 @@ use Rattle.std.proofs.lemmas.Bool.Decides.{nat_tests}
 use Rattle.std.proofs.lemmas.List.{map-append}
 use Rattle.std.specs.List.{cons_option, filter_map}
 use Rattle.std.specs.Prelude.{◌⊎◌, ◌==◌, false, Option, None, Some, is_some, option_and_then, option_map, unwrap_or}
-use Rattle.std.specs.Str.{str_to_ascii_lowercase}
 use Rattle.json.specs.declared.value.Value.{Value}
 use Rattle.serde_json.specs.Data.{Data}
 use Rattle.serde_json.specs.Find.{as_str}
 use Rattle.cell_core.specs.Refusals.{RefusesLabel}
 use Rattle.cell_core.specs.declared.fault.CellFault.{CellFault}
 use Rattle.cell_core.specs.declared.fault.CellFault.TheVariants.{IdRefused, TextTooLong, LabelCount, ClockSpent, NoMemory, SiteName}
-use Rattle.lang_core.specs.Lang.{SpellsLang}
 use Rattle.docs_core.specs.Fields.{IsLabelRefusal, cell_cause}
 use Rattle.docs_core.specs.LangMapChecks.{IsStringsRefusal}
 use Rattle.docs_core.specs.Reads.{seen}
@@ -61,10 +59,6 @@ some_strings n h = grind (arith, nat_tests)
 pub strings_cause : (k : ℕ) (texts : List (List ℕ)) (fault : CellFault) → 0 < length texts → RefusesLabel texts fault → (cell_cause k fault ≡ no_memory) ⊎ IsStringsRefusal k texts (cell_cause k fault)
 strings_cause k [] fault some why = absurd (omega (arith, some))
 strings_cause k (t ∷ ts) fault some why = label_cause k (t ∷ ts) fault why
-
--- a language stands in lower case
-pub spelled-lower : (text lang : List ℕ) → SpellsLang text lang → lang ≡ str_to_ascii_lowercase text
-spelled-lower text lang spells = elim spells [ inl h ↦ h.1 ∙ ap str_to_ascii_lowercase (sym h.0) | inr h ↦ h.1 ]
 
 pub pushed_text : (items old : List (String Global)) (x : String Global) (text : List ℕ) (texts : List (List ℕ))
     → items ≡ old ++ x ∷ [] → string_bytes x ≡ text → map string_bytes old ≡ texts → map string_bytes items ≡ texts ++ text ∷ []

@@ -1,5 +1,5 @@
 -- One member more.
-use Rattle.std.proofs.Common.{◌≡◌, ◌∙◌, ℕ, List, Bool, true, false, codes, ap, sym, refl}
+use Rattle.std.proofs.Common.{◌≡◌, ◌∙◌, ℕ, List, Bool, true, false, codes, ap, subst, sym, refl}
 use Rattle.std.specs.Prelude.{Option, None, Some, is_some, option_and_then}
 use Rattle.std.proofs.lemmas.Slice.Eq.{bytes_eq-Decides}
 use Rattle.serde_json.specs.Data.{Data, Members, no_members, put}
@@ -32,46 +32,36 @@ rows_is Delta = refl
 rows_is Summary = refl
 rows_is Script = refl
 
-kind_first : (a b c d : Bool) → member_by a b c d ≡ KindMember → a ≡ true
-kind_first true b c d is = refl
-kind_first false true c d is = cc
-kind_first false false true d is = cc
-kind_first false false false true is = cc
-kind_first false false false false is = cc
+-- the test for a member of this class
+abbrev test_for : Member → Bool → Bool → Bool → Bool → Bool
+test_for KindMember kind version subject rows = kind
+test_for Version kind version subject rows = version
+test_for Subject kind version subject rows = subject
+test_for Rows kind version subject rows = rows
+test_for Other kind version subject rows = true
 
-version_first : (a b c d : Bool) → member_by a b c d ≡ Version → b ≡ true
-version_first true b c d is = cc
-version_first false true c d is = refl
-version_first false false true d is = cc
-version_first false false false true is = cc
-version_first false false false false is = cc
+passed : (a b c d : Bool) → test_for (member_by a b c d) a b c d ≡ true
+passed true b c d = refl
+passed false true c d = refl
+passed false false true d = refl
+passed false false false true = refl
+passed false false false false = refl
 
-subject_first : (a b c d : Bool) → member_by a b c d ≡ Subject → c ≡ true
-subject_first true b c d is = cc
-subject_first false true c d is = cc
-subject_first false false true d is = refl
-subject_first false false false true is = cc
-subject_first false false false false is = cc
-
-rows_first : (a b c d : Bool) → member_by a b c d ≡ Rows → d ≡ true
-rows_first true b c d is = cc
-rows_first false true c d is = cc
-rows_first false false true d is = cc
-rows_first false false false true is = refl
-rows_first false false false false is = cc
+passes : (a b c d : Bool) (m : Member) → member_by a b c d ≡ m → test_for m a b c d ≡ true
+passes a b c d m is = subst (λ (n : Member). test_for n a b c d ≡ true) is (passed a b c d)
 
 module _ (kind : Kind) (name : List ℕ) where
   pub named_kind : member_of kind name ≡ KindMember → name ≡ codes "kind"
-  named_kind is = (bytes_eq-Decides name (codes "kind")).0 (kind_first _ _ _ _ is)
+  named_kind is = (bytes_eq-Decides name (codes "kind")).0 (passes _ _ _ _ KindMember is)
 
   pub named_version : member_of kind name ≡ Version → name ≡ codes "version"
-  named_version is = (bytes_eq-Decides name (codes "version")).0 (version_first _ _ _ _ is)
+  named_version is = (bytes_eq-Decides name (codes "version")).0 (passes _ _ _ _ Version is)
 
   pub named_subject : member_of kind name ≡ Subject → name ≡ subject_of kind
-  named_subject is = (bytes_eq-Decides name (subject_of kind)).0 (subject_first _ _ _ _ is)
+  named_subject is = (bytes_eq-Decides name (subject_of kind)).0 (passes _ _ _ _ Subject is)
 
   pub named_rows : member_of kind name ≡ Rows → name ≡ rows_of kind
-  named_rows is = (bytes_eq-Decides name (rows_of kind)).0 (rows_first _ _ _ _ is)
+  named_rows is = (bytes_eq-Decides name (rows_of kind)).0 (passes _ _ _ _ Rows is)
 
   -- a member of another class stays
   pub kept : (other : List ℕ) (d : Data) (ms : Members) → (member_of kind other ≡ member_of kind name → ⊥) → get_member other (put name d ms) ≡ get_member other ms

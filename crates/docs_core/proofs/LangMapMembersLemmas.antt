@@ -1,6 +1,6 @@
 -- Rows that are read off tokens, or off a value.
-use Rattle.std.proofs.Common.{◌≡◌, ◌∙◌, ◌++◌, ◌&&◌, ◌<◌, ◌+◌, ℕ, zero, suc, Bool, true, false, List, [], ◌∷◌, map, drop, take, length, get_or, Option, None, Some, String, Global, string_bytes, string_cmp, refl, sym, ap, add-one, arith}
-use Rattle.std.specs.Prelude.{if◌then◌else◌, option_map, unwrap_or}
+use Rattle.std.proofs.Common.{◌≡◌, ◌∙◌, ◌++◌, ◌&&◌, ◌<◌, ◌+◌, ℕ, zero, suc, Bool, true, false, List, [], ◌∷◌, map, drop, take, length, get_or, None, Some, String, Global, string_bytes, string_cmp, refl, sym, ap, add-one, arith}
+use Rattle.std.specs.Prelude.{if◌then◌else◌}
 use Rattle.std.proofs.lemmas.List.{map-append}
 use Rattle.std.proofs.lemmas.List.Elements.{filter_map-append}
 use Rattle.std.proofs.lemmas.List.Folds.{list_all-append}
@@ -11,22 +11,13 @@ use Rattle.std.specs.List.{filter_map, list_all}
 use Rattle.std.specs.Ordering.{match_ordering}
 use Rattle.std.specs.declared.cmp.Ordering.TheVariants.{Less, Equal, Greater}
 use Rattle.cata_core.specs.Entries.{text_cmp}
-use Rattle.json.specs.Json as json
-use Rattle.json.specs.Json.{if_last, value, value_with, parse_map}
-use Rattle.json.specs.Token as token
-use Rattle.json.specs.Token.{Token}
 use Rattle.json.specs.declared.value.Value.{Value}
-use Rattle.json.proofs.Grammar.{value_is}
 use Rattle.serde_json.specs.Data as plain
 use Rattle.serde_json.specs.Data.{Data, Members, no_members, member}
 use Rattle.serde_json.specs.Find.{as_str}
-use Rattle.serde_json.specs.Read.{number_of}
-use Rattle.docs_core.specs.LangMapRows.{is_string_or_null, keys_in, members_by, strings_of}
+use Rattle.docs_core.specs.LangMapRows.{is_string_or_null, members_by, strings_of}
 use Rattle.docs_core.specs.LangMapRowsSeen.{members_seen}
-use Rattle.docs_core.specs.Numbers.{are_in_range}
-use Rattle.docs_core.specs.MembersRead.{is_scalar}
-use Rattle.docs_core.specs.Reads.{Reads, data_of, seen}
-use Rattle.docs_core.proofs.ReadableLemmas.{Reads-in_range}
+use Rattle.docs_core.specs.Reads.{seen}
 
 -- ---- a member more, as it is read and as it is held
 
@@ -62,24 +53,6 @@ member_inserted seen_of in_data es name x k d ms same named is =
     ∙ ap (λ y. put text_cmp k y (members_seen seen_of es)) is
     ∙ ap (put text_cmp k (in_data d)) same
     ∙ sym (members_by-put in_data k d ms)
-
--- ---- the value of a row that is no object
-
-number_keys : (o : Option plain.Num) → None ≡ keys_in (unwrap_or (option_map plain.number o) plain.null)
-number_keys None = refl
-number_keys (Some n) = refl
-
-pub scalar_row : (t : Token) (ts : List Token) → is_scalar t ≡ true → are_in_range (t ∷ ts) ≡ true → (d : Data) × Reads 126 (t ∷ ts) d ts × (None ≡ keys_in d)
-scalar_row token.begin_object ts is range = absurd (cc)
-scalar_row token.end_object ts is range = absurd (cc)
-scalar_row token.begin_array ts is range = absurd (cc)
-scalar_row token.end_array ts is range = absurd (cc)
-scalar_row (token.key s) ts is range = absurd (cc)
-scalar_row (token.string s) ts is range = (data_of (json.string s), Reads-in_range 126 (token.string s ∷ ts) ts (json.string s) range (value_is 126 (token.string s ∷ ts)), refl)
-scalar_row (token.number s) ts is range = (data_of (json.number s), Reads-in_range 126 (token.number s ∷ ts) ts (json.number s) range (value_is 126 (token.number s ∷ ts)), number_keys (number_of s))
-scalar_row (token.boolean b) ts is range = (data_of (json.boolean b), Reads-in_range 126 (token.boolean b ∷ ts) ts (json.boolean b) range (value_is 126 (token.boolean b ∷ ts)), refl)
-scalar_row token.null ts is range = (data_of json.null, Reads-in_range 126 (token.null ∷ ts) ts json.null range (value_is 126 (token.null ∷ ts)), refl)
-scalar_row token.bad ts is range = absurd (cc)
 
 -- ---- an item more
 

@@ -1,5 +1,5 @@
 -- What is written of labels reads as those labels.
-use Rattle.std.proofs.Common.{◌≡◌, ◌∙◌, ◌≢◌, ◌≤◌, ◌<◌, ◌+◌, ◌++◌, ℕ, suc, Bool, true, false, List, [], ◌∷◌, map, Option, None, Some, length, refl, sym, ap, ap₂, subst, append_assoc, append-nil, inl, inr, arith, true≢false, take, get_or, add-one}
+use Rattle.std.proofs.Common.{◌≡◌, ◌∙◌, ◌≢◌, ◌≤◌, ◌+◌, ◌++◌, ℕ, suc, Bool, true, false, List, [], ◌∷◌, map, Option, None, Some, length, refl, sym, ap, ap₂, subst, append_assoc, append-nil, inl, inr, arith, true≢false}
 use Rattle.std.specs.Prelude.{◌&&◌, nat_le, ◌||◌, ◌==◌, Decides, IsUtf8, T, if◌then◌else◌, option_map, option_and_then, slice_get}
 use Rattle.std.proofs.lemmas.Bool.{eqb-true}
 use Rattle.std.proofs.lemmas.Bool.Decides.{nat_tests}
@@ -25,9 +25,6 @@ use Rattle.json.specs.Json.{value}
 use Rattle.json.specs.Lex.{tokens}
 use Rattle.json.specs.Tree.{HasNumbers, ItemsHaveNumbers, MembersHaveNumbers, depth, items_depth, json_tokens, members_depth}
 use Rattle.json.proofs.Printed.Tokens.{tokens-print}
-use Rattle.std.proofs.Math.Seq.{take-suc}
-use Rattle.docs_core.proofs.LangMapsLemmas.{labels_push}
-use Rattle.docs_core.specs.declared.language_map.maps.KeyedLabel.{KeyedLabel}
 use Rattle.json.proofs.Printed.Trees.{ArePrintable-json_tokens, value-json_tokens}
 use Rattle.lang_core.proofs.Basics.{each_true}
 use Rattle.lang_core.proofs.CaseLaws.{lowered}
@@ -38,7 +35,7 @@ use Rattle.lang_core.specs.Text.{joined, pieces}
 use Rattle.std.specs.Char.{to_ascii_lowercase}
 use Rattle.lang_core.specs.Lang.{IsLang}
 use Rattle.serde_json.specs.Data as plain
-use Rattle.serde_json.specs.Data.{Data, Members, no_members, member}
+use Rattle.serde_json.specs.Data.{Data, member}
 use Rattle.serde_json.specs.Find.{as_str}
 use Rattle.serde_json.specs.Read.{of_items, of_json, of_members, read}
 use Rattle.serde_json.specs.View.{items_of}
@@ -50,10 +47,10 @@ use Rattle.docs_core.proofs.ReadingLemmas.{whole}
 use Rattle.docs_core.specs.Checks.{AllPass}
 use Rattle.docs_core.specs.Fields.{IsSpelled}
 use Rattle.docs_core.specs.LangMapChecks.{IsLabelOrNone, is_marked, is_repeated, keys_checks, langmaps_checks, message_checks, row_checks, rows_checks, unless_marked}
-use Rattle.docs_core.specs.LangMaps.{Labelled, labels_of}
+use Rattle.docs_core.specs.LangMaps.{Labelled}
 use Rattle.docs_core.specs.LangMapsValue.{Languages, Messages, by_message, language_value, languages_members, langmaps_value, messages_members, with_label}
 use Rattle.docs_core.specs.LangMapLabels.{AreLangMaps, labelled, languages_of, rows_labels, unless_skipped}
-use Rattle.docs_core.specs.LangMapLaws.{AreWritable, IsWritable}
+use Rattle.docs_core.specs.LangMapLaws.{AreWritable}
 use Rattle.docs_core.specs.Texts.{text}
 use Rattle.docs_core.specs.LangMapRows.{Keys, Strings, is_string_or_null, keys_of, rows_of, strings_in, strings_of}
 use Rattle.docs_core.specs.Rows.{list_of}
@@ -411,16 +408,3 @@ reads_back es m w utf8 =
       passes_back es m w,
       (rows, refl, subst (λ (l : List Labelled). IsPermutation l es) (sym (labels_back es m w)) (IsPermutation-refl es), m),
     )
-
--- ---- what is written, piece by piece
-
-writable_push : (es : List Labelled) (e : Labelled) → AreWritable es → IsWritable e → AreWritable (es ++ e ∷ [])
-writable_push [] e all one = (one, tt)
-writable_push (f ∷ es) e all one = (all.0, writable_push es e all.1 one)
-
--- one label more
-pub writable_next : (labels : List KeyedLabel) (k : ℕ) (l : KeyedLabel) → k < length labels → l ≡ get_or labels k l → AreWritable (labels_of (take k labels)) → IsWritable ((l.id, l.lang), l.label)
-    → AreWritable (labels_of (take (k + 1) labels))
-writable_next labels k l h is all one =
-    let taken : take (k + 1) labels ≡ take k labels ++ l ∷ [] = rw (add-one, take-suc labels k l h) (ap (λ (x : KeyedLabel). take k labels ++ x ∷ []) (sym is)) in
-    subst AreWritable (sym (ap labels_of taken ∙ labels_push (take k labels) l)) (writable_push (labels_of (take k labels)) ((l.id, l.lang), l.label) all one)

@@ -1,7 +1,6 @@
 -- Lines behind lines.
 use Rattle.std.proofs.Common.{◌≡◌, ◌∙◌, ◌+◌, ◌<◌, ◌++◌, ℕ, List, [], ◌∷◌, arith, ap, sym, length, take, get_or}
 use Rattle.std.specs.Prelude.{Option, flat_map, slice_get, Some, None}
-use Rattle.std.proofs.Math.Seq.{take-length}
 use Rattle.std.proofs.lemmas.List.{flat_map_more, take_more}
 use Rattle.std.proofs.lemmas.Option.{get_or_from_slice_get, slice_get-get_or, slice_get_within}
 use Rattle.json.specs.Print.{print}
@@ -25,10 +24,6 @@ module _ {A : Type 0} (each : A → List ℕ) (start : List ℕ) (xs : List A) w
   more_lines k x written here so_far =
       let taken : take (k + 1) xs ≡ take k xs ++ x ∷ [] = take_more xs k x (slice_get_within xs k x here) ∙ ap (λ y. take k xs ++ y ∷ []) (get_or_from_slice_get xs k x x here) in
       ap (λ t. t ++ each x) so_far ∙ flat_map_more each start (take k xs) x ∙ ap (λ t. start ++ flat_map each t) (sym taken)
-
-  -- all items
-  pub all_lines : (k : ℕ) (written : List ℕ) → k ≡ length xs → written ≡ start ++ flat_map each (take k xs) → written ≡ start ++ flat_map each xs
-  all_lines k written all so_far = so_far ∙ ap (λ n. start ++ flat_map each (take n xs)) all ∙ ap (λ t. start ++ flat_map each t) (take-length xs)
 
 -- an item stands at each place
 some_none : {A : Type 0} (x : A) (o : Option A) → o ≡ Some x → o ≡ None → ⊥

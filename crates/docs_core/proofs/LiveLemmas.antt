@@ -1,15 +1,15 @@
 -- The live labels of a catalogue, as a map.
-use Rattle.std.proofs.Common.{◌≡◌, ◌∙◌, ℕ, Bool, true, false, cond, List, [], ◌∷◌, refl, sym, ap}
+use Rattle.std.proofs.Common.{◌≡◌, ◌∙◌, ℕ, true, false, cond, List, [], ◌∷◌, refl, ap}
 use Rattle.std.specs.Prelude.{None, Option, Some, T, filter, option_and_then, option_map}
 use Rattle.std.specs.List.{cons_option}
 use Rattle.std.specs.Ordering.{eq_by_cmp, is_lt}
 use Rattle.std.specs.FinMap.Entries.{below_all, find, is_sorted}
 use Rattle.cell_core.specs.Maps.{IsMap}
 use Rattle.cell_core.specs.declared.cell.Cell.{Cell}
-use Rattle.cata_core.specs.Entries.{Entries, Entry, EntryKey, key_cmp, key_cmp_total}
+use Rattle.cata_core.specs.Entries.{Entries, EntryKey, key_cmp, key_cmp_total}
 use Rattle.cata_core.proofs.Basics.{both_parts, first_part, second_part, tied}
 use Rattle.cata_core.proofs.Filtered.{below_tied_all, filter-IsMap, find-below}
-use Rattle.docs_core.specs.Chosen.{chosen_labels, chosen_of, is_chosen}
+use Rattle.docs_core.specs.Chosen.{chosen_labels, is_chosen}
 use Rattle.docs_core.specs.Exported.{label_at, live_labels}
 use Rattle.docs_core.specs.LangMaps.{Labelled}
 
@@ -72,16 +72,3 @@ find-live q (e ∷ es) m =
         | Some label ↦ ap (λ b. cond b (Some label) (find key_cmp q (live_labels es))) t ∙ rest
       ]
     ] refl
-
--- ---- cell by cell
-
--- a cell without a label adds nothing
-pub chosen_none : (lacking : Option (List ℕ)) (cells left : Entries) (e : Entry) → None ≡ e.1.label → chosen_of lacking cells (e ∷ left) ≡ chosen_of lacking cells left
-chosen_none lacking cells left e none = ap (λ o. filter (λ (x : Labelled). is_chosen lacking cells x.0.0) (labelled e.0 o (live_labels left))) (sym none)
-
--- a label adds itself where it is chosen
-pub chosen_some : (lacking : Option (List ℕ)) (cells left : Entries) (e : Entry) (label : List (List ℕ)) (chosen : Bool) → Some label ≡ e.1.label → chosen ≡ is_chosen lacking cells e.0.0
-    → chosen_of lacking cells (e ∷ left) ≡ cond chosen ((e.0, label) ∷ chosen_of lacking cells left) (chosen_of lacking cells left)
-chosen_some lacking cells left e label chosen some is =
-    ap (λ o. filter (λ (x : Labelled). is_chosen lacking cells x.0.0) (labelled e.0 o (live_labels left))) (sym some)
-    ∙ ap (λ b. cond b ((e.0, label) ∷ chosen_of lacking cells left) (chosen_of lacking cells left)) (sym is)

@@ -12,6 +12,7 @@ use Rattle.json.proofs.Grammar.{read_key_is, value_is, value-begin_array, value-
 use Rattle.serde_json.specs.Data.{Data, Items, Members, Num, array, number, object}
 use Rattle.serde_json.specs.Read.{converted, number_of, of_json}
 use Rattle.docs_core.specs.Arrays.{ReadsItems, ReadsNoItems}
+use Rattle.docs_core.specs.LangMapRows.{keys_in}
 use Rattle.docs_core.specs.MembersRead.{ReadsMembers, ReadsNoMembers, is_scalar}
 use Rattle.docs_core.specs.Numbers.{are_in_range, is_token_in_range}
 use Rattle.docs_core.specs.Reads.{Reads, data_of}
@@ -77,20 +78,21 @@ pub no_object : (old ts : List Token) → old ≡ begin_object ∷ ts → ReadsN
 no_object old ts is none =
     ap (converted of_json) (ap (value 126) is ∙ value-begin_object 126 ts (omega arith)) ∙ converted-object (json.members (value 125) (length ts) ts) ∙ ap (parse_map object) none
 
-number_items : (o : Option Num) → items_in (unwrap_or (option_map number o) Data.null) ≡ None
-number_items None = refl
-number_items (Some n) = refl
+number_alone : (o : Option Num) → (items_in (unwrap_or (option_map number o) Data.null) ≡ None) × (None ≡ keys_in (unwrap_or (option_map number o) Data.null))
+number_alone None = (refl, refl)
+number_alone (Some n) = (refl, refl)
 
-pub scalar_read : (t : Token) (ts : List Token) → is_scalar t ≡ true → are_in_range (t ∷ ts) ≡ true → (d : Data) × Reads 126 (t ∷ ts) d ts × (items_in d ≡ None)
+-- it has neither items nor keys
+pub scalar_read : (t : Token) (ts : List Token) → is_scalar t ≡ true → are_in_range (t ∷ ts) ≡ true → (d : Data) × Reads 126 (t ∷ ts) d ts × (items_in d ≡ None) × (None ≡ keys_in d)
 scalar_read token.begin_object ts is range = absurd (cc)
 scalar_read token.end_object ts is range = absurd (cc)
 scalar_read token.begin_array ts is range = absurd (cc)
 scalar_read token.end_array ts is range = absurd (cc)
 scalar_read (token.key s) ts is range = absurd (cc)
-scalar_read (token.string s) ts is range = (data_of (json.string s), Reads-in_range 126 (token.string s ∷ ts) ts (json.string s) range (value_is 126 (token.string s ∷ ts)), refl)
-scalar_read (token.number s) ts is range = (data_of (json.number s), Reads-in_range 126 (token.number s ∷ ts) ts (json.number s) range (value_is 126 (token.number s ∷ ts)), number_items (number_of s))
-scalar_read (token.boolean b) ts is range = (data_of (json.boolean b), Reads-in_range 126 (token.boolean b ∷ ts) ts (json.boolean b) range (value_is 126 (token.boolean b ∷ ts)), refl)
-scalar_read token.null ts is range = (data_of json.null, Reads-in_range 126 (token.null ∷ ts) ts json.null range (value_is 126 (token.null ∷ ts)), refl)
+scalar_read (token.string s) ts is range = (data_of (json.string s), Reads-in_range 126 (token.string s ∷ ts) ts (json.string s) range (value_is 126 (token.string s ∷ ts)), refl, refl)
+scalar_read (token.number s) ts is range = (data_of (json.number s), Reads-in_range 126 (token.number s ∷ ts) ts (json.number s) range (value_is 126 (token.number s ∷ ts)), (number_alone (number_of s)).0, (number_alone (number_of s)).1)
+scalar_read (token.boolean b) ts is range = (data_of (json.boolean b), Reads-in_range 126 (token.boolean b ∷ ts) ts (json.boolean b) range (value_is 126 (token.boolean b ∷ ts)), refl, refl)
+scalar_read token.null ts is range = (data_of json.null, Reads-in_range 126 (token.null ∷ ts) ts json.null range (value_is 126 (token.null ∷ ts)), refl, refl)
 scalar_read token.bad ts is range = absurd (cc)
 
 pub no_scalar : (t : Read) (ts : List Token) → (t ≡ read.BeginArray → ⊥) → (t ≡ read.BeginObject → ⊥) → is_scalar (token_of t) ≡ false → converted of_json (value 126 (token_of t ∷ ts)) ≡ None

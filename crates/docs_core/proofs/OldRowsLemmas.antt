@@ -6,7 +6,7 @@ use Rattle.std.proofs.lemmas.Slice.Eq.{bytes_eq-Decides}
 use Rattle.cell_core.specs.Migration.{OldStamp, migrated_stamp}
 use Rattle.cell_core.specs.SiteNames.{padded_name}
 use Rattle.cata_core.specs.Deltas.{Stamps}
-use Rattle.cata_core.specs.Entries.{Entries, Entry, EntryKey}
+use Rattle.cata_core.specs.Entries.{Entries, EntryKey}
 use Rattle.cata_core.specs.Sites.{SiteState}
 use Rattle.cata_core.specs.Summary.{SummaryState}
 use Rattle.cata_core.specs.declared.delta.Delta.{Delta as DeltaState}
@@ -212,9 +212,9 @@ script_migrated d script first reads =
 
 -- ---- documents that name a site
 
-entry_by : (o : Option (Row × Option (List (List ℕ)))) (e : Entry) → option_map (λ p. entry_of p.0 p.1) o ≡ Some e → (p : Row × Option (List (List ℕ))) × (o ≡ Some p) × (entry_of p.0 p.1 ≡ e)
-entry_by None e is = absurd (cc)
-entry_by (Some p) e is = (p, refl, cc)
+mapped_by : {A B : Type 0} (f : A → B) (o : Option A) (y : B) → option_map f o ≡ Some y → (x : A) × (o ≡ Some x) × (f x ≡ y)
+mapped_by f None y is = absurd (cc)
+mapped_by f (Some x) y is = (x, refl, cc)
 
 entries_migrated : (ds : List Data) (es : Entries) → map (entry_in One) ds ≡ map Some es → (olds : OldEntries) × (map old_entry_in ds ≡ map Some olds) × (es ≡ migrated_entries olds)
 entries_migrated [] [] are = ([], refl, refl)
@@ -223,7 +223,7 @@ entries_migrated (d ∷ ds) [] are = absurd (cc)
 entries_migrated (d ∷ ds) (e ∷ es) are =
     let first : entry_in One d ≡ Some e = cc in
     let later : map (entry_in One) ds ≡ map Some es = cc in
-    let row = entry_by (cell_in One d) e first in
+    let row = mapped_by (λ (p : Row × Option (List (List ℕ))). entry_of p.0 p.1) (cell_in One d) e first in
     let old = cell_migrated d row.0 row.1 in
     let rest = entries_migrated ds es later in
     (old.0 ∷ rest.0, ap (λ o. o ∷ map old_entry_in ds) old.1 ∙ ap (λ t. Some old.0 ∷ t) rest.1, ap (λ x. x ∷ es) (sym row.2 ∙ sym old.2) ∙ ap (λ t. migrated_entry old.0 ∷ t) rest.2)
@@ -236,10 +236,6 @@ told_listed : (o : Option (List Data)) (row : Row) → option_and_then (stamp_ro
 told_listed None row is = absurd (cc)
 told_listed (Some ds) row is = told_row ds row is
 
-told_by : (o : Option Row) (e : EntryKey × Stamp) → option_map told_of o ≡ Some e → (row : Row) × (o ≡ Some row) × (told_of row ≡ e)
-told_by None e is = absurd (cc)
-told_by (Some row) e is = (row, refl, cc)
-
 stamps_migrated : (ds : List Data) (es : Stamps) → map (told_in One) ds ≡ map Some es → (olds : OldStamps) × (map old_told_in ds ≡ map Some olds) × (es ≡ migrated_stamps olds)
 stamps_migrated [] [] are = ([], refl, refl)
 stamps_migrated [] (e ∷ es) are = absurd (cc)
@@ -247,7 +243,7 @@ stamps_migrated (d ∷ ds) [] are = absurd (cc)
 stamps_migrated (d ∷ ds) (e ∷ es) are =
     let first : told_in One d ≡ Some e = cc in
     let later : map (told_in One) ds ≡ map Some es = cc in
-    let row = told_by (stamp_in One d) e first in
+    let row = mapped_by told_of (stamp_in One d) e first in
     let old = told_listed (items_in d) row.0 row.1 in
     let rest = stamps_migrated ds es later in
     let held : EntryKey × OldStamp = (key_of row.0, old.0) in (
@@ -256,12 +252,8 @@ stamps_migrated (d ∷ ds) (e ∷ es) are =
       ap (λ x. x ∷ es) (sym row.2 ∙ ap (λ stamp. let x : EntryKey × Stamp = (key_of row.0, stamp) in x) (sym old.2)) ∙ ap (λ t. let x : EntryKey × Stamp = (key_of row.0, migrated_stamp old.0) in x ∷ t) rest.2,
     )
 
-number_by : (o : Option ℕ) (name : List ℕ) → option_map padded_name o ≡ Some name → (n : ℕ) × (o ≡ Some n) × (padded_name n ≡ name)
-number_by None name is = absurd (cc)
-number_by (Some n) name is = (n, refl, cc)
-
 subject_number : (kind : Kind) (d : Data) (name : List ℕ) → version_of d ≡ One → named_in kind d ≡ Some name → (n : ℕ) × (u32_in (subject_data kind d) ≡ Some n) × (padded_name n ≡ name)
-subject_number kind d name first named = number_by (u32_in (subject_data kind d)) name (rw first at named)
+subject_number kind d name first named = mapped_by padded_name (u32_in (subject_data kind d)) name (rw first at named)
 
 pub site_migrated : (d : Data) (site : SiteState) → version_of d ≡ One → IsSiteDocument d site → (old : OldSite) × IsOldSiteDocument d old × (site ≡ migrated_site old)
 site_migrated d site first reads =

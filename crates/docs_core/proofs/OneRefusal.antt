@@ -1,5 +1,5 @@
--- No text is both read and refused, and it is refused for one cause, want of memory apart.
-use Rattle.std.proofs.Common.{◌≡◌, ◌≢◌, ◌∙◌, ◌++◌, ◌+◌, ℕ, List, [], ◌∷◌, Bool, true, false, length, sym, ap, subst, inl, inr}
+-- No text is both read and refused, and it is refused for one cause.
+use Rattle.std.proofs.Common.{◌≡◌, ◌∙◌, ◌++◌, ◌+◌, ℕ, List, [], ◌∷◌, Bool, true, false, length, sym, ap, subst, inl, inr}
 use Rattle.std.specs.Prelude.{Option, None, Some, unwrap_or}
 use Rattle.serde_json.specs.Data.{Data}
 use Rattle.cell_core.specs.declared.fault.CellFault.{CellFault}
@@ -19,7 +19,7 @@ use Rattle.docs_core.specs.StepFields.{default_checks, list_check, shaped_fields
 use Rattle.docs_core.specs.Steps.{StepText, edit_step, merge_step, filter_step, lookup_step, cells_step, tell_step, post_step, deliver_step, step_in}
 use Rattle.docs_core.specs.Values.{Row}
 use Rattle.docs_core.specs.declared.fault.DocCause.{DocCause}
-use Rattle.docs_core.specs.declared.fault.DocCause.TheVariants.{Field, NoMemory}
+use Rattle.docs_core.specs.declared.fault.DocCause.TheVariants.{Field}
 use Rattle.docs_core.specs.declared.fault.FieldFault.TheVariants.{Cell, Language, Priorities}
 use Rattle.docs_core.specs.declared.document.kind.Kind.{Kind}
 use Rattle.docs_core.specs.declared.document.kind.Kind.TheVariants.{Script}
@@ -171,38 +171,29 @@ module _ (checks : Data → List Check) (tests : (d : Data) → AreTests (checks
   same_data : (bytes : List ℕ) (d f : Data) → AreJson bytes d → AreJson bytes f → f ≡ d
   same_data bytes d f p q = ap (λ (o : Option Data). unwrap_or o f) (sym q.1 ∙ p.1)
 
-  no_json : (bytes : List ℕ) (d : Data) (e : DocCause) → e ≢ NoMemory → AreJson bytes d → IsTextRefusal bytes e → ⊥
-  no_json bytes d e n json why = elim why [
-    | inl memory ↦ n memory
-    | inr why ↦ elim why [
-      | inl text ↦ text.0 json.0
-      | inr none ↦ let found = json.1 in let lost = none.1 in cc
-    ]
+  no_json : (bytes : List ℕ) (d : Data) (e : DocCause) → AreJson bytes d → IsTextRefusal bytes e → ⊥
+  no_json bytes d e json why = elim why [
+    | inl text ↦ text.0 json.0
+    | inr none ↦ let found = json.1 in let lost = none.1 in cc
   ]
 
-  pub read_not_refused : {X : Type 0} (Is : Data → X → Type 0) (bytes : List ℕ) (x : X) (e : DocCause) → e ≢ NoMemory → Reads checks Is bytes x → IsRefusal checks bytes e → ⊥
-  read_not_refused Is bytes x e n reads why = elim why [
-    | inl text ↦ no_json bytes reads.0 e n reads.1 text
+  pub read_not_refused : {X : Type 0} (Is : Data → X → Type 0) (bytes : List ℕ) (x : X) (e : DocCause) → Reads checks Is bytes x → IsRefusal checks bytes e → ⊥
+  read_not_refused Is bytes x e reads why = elim why [
+    | inl text ↦ no_json bytes reads.0 e reads.1 text
     | inr row ↦ apart_all (checks reads.0) e (tests reads.0) reads.2 (subst (λ d. FirstFails (checks d) e) (same_data bytes reads.0 row.0 reads.1 row.1) row.2)
   ]
 
-  one_text_refusal : (bytes : List ℕ) (e f : DocCause) → e ≢ NoMemory → f ≢ NoMemory → IsTextRefusal bytes e → IsTextRefusal bytes f → e ≡ f
-  one_text_refusal bytes e f m n p q = elim p [
-    | inl memory ↦ absurd (m memory)
-    | inr p ↦ elim q [
-      | inl memory ↦ absurd (n memory)
-      | inr q ↦ elim p [
-        | inl h ↦ elim q [ inl k ↦ h.1 ∙ sym k.1 | inr k ↦ absurd (h.0 k.0) ]
-        | inr h ↦ elim q [ inl k ↦ absurd (k.0 h.0) | inr k ↦ h.2 ∙ sym k.2 ]
-      ]
-    ]
+  one_text_refusal : (bytes : List ℕ) (e f : DocCause) → IsTextRefusal bytes e → IsTextRefusal bytes f → e ≡ f
+  one_text_refusal bytes e f p q = elim p [
+    | inl h ↦ elim q [ inl k ↦ h.1 ∙ sym k.1 | inr k ↦ absurd (h.0 k.0) ]
+    | inr h ↦ elim q [ inl k ↦ absurd (k.0 h.0) | inr k ↦ h.2 ∙ sym k.2 ]
   ]
 
-  pub one_cause : (bytes : List ℕ) (e f : DocCause) → e ≢ NoMemory → f ≢ NoMemory → IsRefusal checks bytes e → IsRefusal checks bytes f → e ≡ f
-  one_cause bytes e f m n p q = elim p [
-    | inl h ↦ elim q [ inl k ↦ one_text_refusal bytes e f m n h k | inr k ↦ absurd (no_json bytes k.0 e m k.1 h) ]
+  pub one_cause : (bytes : List ℕ) (e f : DocCause) → IsRefusal checks bytes e → IsRefusal checks bytes f → e ≡ f
+  one_cause bytes e f p q = elim p [
+    | inl h ↦ elim q [ inl k ↦ one_text_refusal bytes e f h k | inr k ↦ absurd (no_json bytes k.0 e k.1 h) ]
     | inr h ↦ elim q [
-      | inl k ↦ absurd (no_json bytes h.0 f n h.1 k)
+      | inl k ↦ absurd (no_json bytes h.0 f h.1 k)
       | inr k ↦ one_all (checks h.0) e f (tests h.0) h.2 (subst (λ d. FirstFails (checks d) f) (same_data bytes h.0 k.0 h.1 k.1) k.2)
     ]
   ]

@@ -1,24 +1,46 @@
 -- What follows at each end of a call.
-use Rattle.std.proofs.Common.{◌≡◌, List, Bool, true, false}
-use Rattle.std.specs.Prelude.{◌⊎◌, IfErr, IfOk, MatchResult, OnOk, Result, Ok, Err, is_err}
+use Rattle.std.proofs.Common.{◌≡◌, ◌∙◌, ℕ, List, Bool, true, false, ap, inl, inr, refl}
+use Rattle.std.specs.Prelude.{◌≢◌, ◌⊎◌, IfErr, IfOk, MatchResult, OnOk, Result, Ok, Err, is_err}
 use Rattle.cata_core.specs.Answers.{AreAnswers, AreHeldAnswers}
 use Rattle.cata_core.specs.Edits.{IsConsistent}
 use Rattle.cata_core.specs.Faulty.{IsFirstFault, IsNoClash, NoDelivers, NoneFaulty}
 use Rattle.cata_core.specs.Taken.{edits_of}
 use Rattle.cata_core.specs.declared.answer.Answer.{Answer}
 use Rattle.cata_core.specs.declared.play_fault.PlayFault.{PlayFault}
-use Rattle.cata_core.specs.declared.play_fault.PlayFault.TheVariants.{NoMemory}
-use Rattle.docs_core.specs.Replays.{IsPlayed, RefusesRun}
+use Rattle.cata_core.specs.declared.play_fault.PlayFault.TheVariants.{NoMemory, NoSuchPost, NoSuchSite, StampReused}
+use Rattle.docs_core.specs.Checks.{OrMemory}
+use Rattle.docs_core.specs.Faults.{of_no_document, of_step}
+use Rattle.docs_core.specs.ReadsAs.{no_memory}
+use Rattle.docs_core.specs.Replays.{IsPlayed, RefusesReplay, RefusesRun}
+use Rattle.docs_core.specs.ScriptReads.{ReadsAsScript}
 use Rattle.docs_core.specs.Scripts.{ScriptState}
 use Rattle.docs_core.specs.declared.fault.DocFault.{DocFault}
+
+module _ (script : ScriptState) where
+  faulty : (fault : PlayFault) → fault ≢ NoMemory → (fault ≡ NoMemory) ⊎ IsFirstFault script.sites script.steps fault → (IsConsistent (edits_of script.steps) → IsNoClash fault) → RefusesRun script fault
+  faulty fault apart first no_clash = record { apart = apart; first = elim first [ inl memory ↦ absurd (apart memory) | inr h ↦ h ]; no_clash = no_clash }
+
+  run_refused : (fault : PlayFault) → (fault ≡ NoMemory) ⊎ IsFirstFault script.sites script.steps fault → (IsConsistent (edits_of script.steps) → IsNoClash fault) → OrMemory NoMemory (RefusesRun script) fault
+  run_refused (StampReused step place stamp) first no_clash = inr (faulty _ (λ e. cc) first no_clash)
+  run_refused (NoSuchSite step) first no_clash = inr (faulty _ (λ e. cc) first no_clash)
+  run_refused (NoSuchPost step) first no_clash = inr (faulty _ (λ e. cc) first no_clash)
+  run_refused NoMemory first no_clash = inl refl
 
 pub played_or_refused : (r : Result (List Answer) PlayFault) (script : ScriptState)
     → OnOk r (NoneFaulty script.sites script.steps) → IfOk r (AreHeldAnswers script.steps)
     → IfOk r (λ answers. IsConsistent (edits_of script.steps) → AreAnswers script.steps answers) → IfOk r (λ answers. NoDelivers script.steps → AreAnswers script.steps answers)
     → IfErr r (λ fault. (fault ≡ NoMemory) ⊎ IsFirstFault script.sites script.steps fault) → IfErr r (λ fault. IsConsistent (edits_of script.steps) → IsNoClash fault)
-    → MatchResult r (IsPlayed script) (RefusesRun script)
+    → MatchResult r (IsPlayed script) (OrMemory NoMemory (RefusesRun script))
 played_or_refused (Ok answers) script sound held consistent undelivered first no_clash = record { sound = sound; held = held; consistent = consistent; undelivered = undelivered }
-played_or_refused (Err fault) script sound held consistent undelivered first no_clash = record { first = first; no_clash = no_clash }
+played_or_refused (Err fault) script sound held consistent undelivered first no_clash = run_refused script fault first no_clash
+
+-- a run that is refused, as the replay of its script
+pub steps_refused : (bytes : List ℕ) (script : ScriptState) (cause : PlayFault) (fault : DocFault) → ReadsAsScript bytes script → OrMemory NoMemory (RefusesRun script) cause → fault ≡ of_no_document (of_step cause)
+    → OrMemory no_memory (RefusesReplay bytes) fault
+steps_refused bytes script cause fault reads why is = elim why [
+  | inl memory ↦ inl (is ∙ ap (λ c. of_no_document (of_step c)) memory)
+  | inr run ↦ inr (inr (script, reads, (cause, run, is)))
+]
 
 -- at the end of a write
 pub written : (r : Result (Unit {0}) DocFault) (P Q : Type 0) (failed : Bool) → OnOk r P → failed ≡ is_err r → (P → failed ≡ false → Q) → OnOk r Q

@@ -4,7 +4,7 @@ use Rattle.std.proofs.Common.{length, take, drop, ◌-◌}
 use Rattle.std.proofs.lemmas.List.{take_rest, take-append-drop}
 use Rattle.std.proofs.Common.{◌+◌}
 use Rattle.std.proofs.Math.Seq.{take-add}
-use Rattle.std.specs.Io.KnownBytes.{Appends, Consumes, Keeps}
+use Rattle.std.specs.Io.KnownBytes.{Appends, Consumes}
 
 pub Appends-then : (a b c : Option (List ℕ)) (x y : List ℕ) → Appends a b x → Appends b c y → Appends a c (x ++ y)
 Appends-then None b c x y p q = tt
@@ -29,10 +29,3 @@ pub Consumes-behind : (a b c : Option (List ℕ)) (m n : ℕ) (old new : List �
     → Consumes a b (take m old) → take m new ≡ take m old → Consumes b c (take n (drop m new)) → Consumes a c (take (m + n) new)
 Consumes-behind a b c m n old new given same more =
     rw (take-add m n new, same) (Consumes-then a b c (take m old) (take n (drop m new)) given more)
-
--- what was read before a read that gave nothing
-pub Consumes-keeps : (a b c : Option (List ℕ)) (x : List ℕ) → Consumes a b x → Keeps b c → Consumes a c x
-Consumes-keeps None b c x p q = tt
-Consumes-keeps (Some u) None c x p q = absurd p
-Consumes-keeps (Some u) (Some v) None x p q = absurd q
-Consumes-keeps (Some u) (Some v) (Some w) x p q = p ∙ ap (λ t. x ++ t) (sym q)

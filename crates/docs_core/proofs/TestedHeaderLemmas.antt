@@ -15,7 +15,7 @@ use Rattle.serde_json.specs.Find.{as_object}
 use Rattle.serde_json.specs.Read.{converted, number_of, of_items, of_json, of_members, read}
 use Rattle.docs_core.specs.MembersRead.{IsNotWhole, NoObject, ReadsMembers, ReadsNoMembers}
 use Rattle.docs_core.specs.Numbers.{are_in_range, is_token_in_range}
-use Rattle.docs_core.proofs.MembersLemmas.{not_skipped, skipped}
+use Rattle.docs_core.proofs.MembersLemmas.{skipped}
 use Rattle.docs_core.proofs.ReadableLemmas.{is_some-of_json}
 use Rattle.docs_core.proofs.ReadingLemmas.{converted-object, whole, whole_and_more, whole_read, whole_refused}
 
@@ -105,12 +105,6 @@ module _ (text : List ℕ) (ts : List Token) (is : tokens text ≡ begin_object 
 module _ (text : List ℕ) where
   pub value_whole : are_in_range (tokens text) ≡ true → skip_value 127 (tokens text) ≡ Some [] → (d : Data) × (read text ≡ Some d)
   value_whole range passed = let there = skipped 127 (tokens text) [] range passed in (there.0, whole_read (value 127 (tokens text)) there.0 there.1)
-
-  pub value_and_more : (t : Token) (r : List Token) → are_in_range (tokens text) ≡ true → skip_value 127 (tokens text) ≡ Some (t ∷ r) → read text ≡ None
-  value_and_more t r range passed = let there = skipped 127 (tokens text) (t ∷ r) range passed in whole_and_more (value 127 (tokens text)) there.0 t r there.1
-
-  pub value_refused : skip_value 127 (tokens text) ≡ None → read text ≡ None
-  value_refused none = whole_refused (value 127 (tokens text)) (not_skipped 127 (tokens text) none)
 
 none_of : (o : Option Data) → is_some o ≡ false → o ≡ None
 none_of None h = refl

@@ -3,10 +3,10 @@ use Rattle.std.proofs.Common.{◌≡◌, ◌∙◌, ℕ, List, [], ◌||◌, Boo
 use Rattle.std.specs.Prelude.{Option, None, Some, IsUtf8, is_some, option_and_then, unwrap_or}
 use Rattle.std.specs.Str.{bytes_eq}
 use Rattle.std.proofs.lemmas.Slice.Eq.{bytes_eq-Decides}
-use Rattle.serde_json.specs.Data.{Data, Members, null, boolean, number, string, array, object}
-use Rattle.serde_json.specs.Find.{as_object, as_str, get, get_member}
+use Rattle.serde_json.specs.Data.{Data, Members, null, object}
+use Rattle.serde_json.specs.Find.{as_str, get_member}
 use Rattle.docs_core.specs.Arrays.{TakesRows}
-use Rattle.docs_core.specs.Checks.{Check, FirstFails}
+use Rattle.docs_core.specs.Checks.{Check, FirstFails, OrMemory}
 use Rattle.docs_core.specs.Kinds.{is_among, kind_text, member_by, member_of, names_of, rows_of, subject_of}
 use Rattle.docs_core.specs.HeaderSeen.{Shows, ShowsRows, ShowsSubject, is_text}
 use Rattle.docs_core.specs.Headers.{Begins, HasMembers, IsKnownVersion, IsSubject, header_checks, kind_in, version_by}
@@ -15,8 +15,7 @@ use Rattle.docs_core.specs.HeaderTests.{FailsHeader, HasKnownVersion, IsWhole, P
 use Rattle.serde_json.specs.Read.{read}
 use Rattle.docs_core.specs.Rows.{items_in, u64_in}
 use Rattle.docs_core.specs.declared.fault.DocCause.{DocCause}
-use Rattle.docs_core.specs.declared.fault.DocCause.TheVariants.{Shape}
-use Rattle.docs_core.specs.declared.fault.Spot.TheVariants as spot
+use Rattle.docs_core.specs.declared.fault.DocCause.TheVariants.{NoMemory}
 use Rattle.docs_core.specs.declared.document.kind.Kind.{Kind}
 use Rattle.docs_core.specs.declared.document.kind.Member.{Member}
 use Rattle.docs_core.specs.declared.document.kind.Member.TheVariants.{Kind as KindMember, Version, Subject, Rows, Other}
@@ -143,26 +142,13 @@ module _ {S : Type 0} (kind : Kind) (checks : List Data → Data → List Check)
     ]
   ]
 
-none_in : (name : List ℕ) (d : Data) → as_object d ≡ None → get name d ≡ None
-none_in name null h = refl
-none_in name (boolean b) h = refl
-none_in name (number n) h = refl
-none_in name (string s) h = refl
-none_in name (array ds) h = refl
-none_in name (object ms) h = cc
-
--- what is no object has no kind
-pub no_header : (kind : Kind) (d : Data) (e : DocCause) → as_object d ≡ None → e ≡ Shape spot.Document → FirstFails (header_checks kind d) e
-no_header kind d e none is =
-    inl (λ begun. let never : None ≡ Some (kind_text kind) = sym (ap (option_and_then as_str) (none_in (codes "kind") d none)) ∙ begun.0 in absurd (cc), is)
-
 -- a text that is refused, as the bytes of a document
-pub bytes_refused : (kind : Kind) (bytes text : List ℕ) → text ≡ bytes → IsUtf8 bytes → (e : DocCause) → RefusesText kind text e → RefusesHeader kind bytes e
+pub bytes_refused : (kind : Kind) (bytes text : List ℕ) → text ≡ bytes → IsUtf8 bytes → (e : DocCause) → OrMemory NoMemory (RefusesText kind text) e → OrMemory NoMemory (RefusesHeader kind bytes) e
 bytes_refused kind bytes text same utf8 e why =
     elim why [
-      | inl memory ↦ inl (inl memory)
+      | inl memory ↦ inl memory
       | inr rest ↦ elim rest [
-        | inl h ↦ inl (inr (inr (utf8, ap read (sym same) ∙ h.1, h.0)))
-        | inr h ↦ inr (h.0, (utf8, ap read (sym same) ∙ h.1), h.2)
+        | inl h ↦ inr (inl (inr (utf8, ap read (sym same) ∙ h.1, h.0)))
+        | inr h ↦ inr (inr (h.0, (utf8, ap read (sym same) ∙ h.1), h.2))
       ]
     ]

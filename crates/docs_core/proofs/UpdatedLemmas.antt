@@ -289,9 +289,6 @@ there_are_changes old new cells = (changes_at done both, record { rising = chang
 -- ---- one key more
 
 module _ (now : ℕ) (name : List ℕ) (r : Revised) (old new old_rest new_rest : List Labelled) (first : IsFirstRevised r old new old_rest new_rest) (cells mid : Entries) where
-  abbrev same_step : Type 0
-  same_step = IsChangeAt (old_of r) (new_of r) (label_at (key_of r) cells) None
-
   pub Updates-next : IsRevised now name r cells mid → (final : Entries) → Updates now name old_rest new_rest mid final → Updates now name old new cells final
   Updates-next done final (changes, are, makes) = elim done [
     | inl nothing ↦ (
@@ -338,7 +335,3 @@ SpendsUpdate-here now name r old new old_rest new_rest first cells (done, none) 
     let here = subst (λ x. IsChangeAt (old_of r) x (label_at k cells) (find key_cmp k there.0)) at_new (subst (λ x. IsChangeAt x (find key_cmp k new) (label_at k cells) (find key_cmp k there.0)) at_old (there.1.at k)) in
     let found : find key_cmp k there.0 ≡ Some (new_of r) = one_change (old_of r) (new_of r) (label_at k cells) (find key_cmp k there.0) (Some (new_of r)) here done in
     (there.0, there.1, spends_first now name k there.0 cells (λ nothing. Some≢None (new_of r) (sym found ∙ nothing)) none)
-
--- nothing is left
-pub Updates-none : (now : ℕ) (name : List ℕ) (cells : Entries) → Updates now name [] [] cells cells
-Updates-none now name cells = ([], record { rising = tt; at = λ q. inl (inl refl, refl) }, refl)

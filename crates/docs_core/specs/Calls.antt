@@ -1,5 +1,5 @@
 -- What the calls on whole documents answer, and which refusals. Own rules.
-use Rattle.std.specs.Prelude.{◌≡◌, ◌⊎◌, ℕ, List, Option}
+use Rattle.std.specs.Prelude.{◌≡◌, ◌≢◌, ◌⊎◌, ℕ, List, Option}
 use Rattle.std.specs.FinMap.Entries.{put}
 use Rattle.cell_core.specs.Stamps.{IsNext}
 use Rattle.cell_core.specs.declared.stamp.Stamp.{Stamp}
@@ -10,15 +10,16 @@ use Rattle.cata_core.specs.Latest.{latest_of}
 use Rattle.cata_core.specs.Sites.{RefusesDelta as NotTaken, RefusesEdit, SiteState}
 use Rattle.cata_core.specs.Summary.{SummaryState}
 use Rattle.cata_core.specs.declared.cata_fault.CataFault.{CataFault}
+use Rattle.cata_core.specs.declared.cata_fault.CataFault.TheVariants.{NoMemory}
 use Rattle.cata_core.specs.declared.delta.Delta.{Delta}
 use Rattle.docs_core.specs.Faults.{of_no_document, of_site}
 use Rattle.docs_core.specs.ReadsAs.{IsDeltaText, IsOfDocument, IsSiteText, IsSummaryText, ReadsAsDelta, ReadsAsSite, ReadsAsSummary, RefusesDelta, RefusesSite, RefusesSummary}
 use Rattle.docs_core.specs.Status.{status_line}
 use Rattle.docs_core.specs.declared.fault.DocFault.{DocFault}
 
--- it is the refusal of a site's call
+-- it is the refusal of a site's call, want of memory apart
 abbrev pub IsOfSite : (CataFault → Type 0) → DocFault → Type 0
-IsOfSite Refuses fault = (cause : CataFault) × Refuses cause × (fault ≡ of_no_document (of_site cause))
+IsOfSite Refuses fault = (cause : CataFault) × (cause ≢ NoMemory) × Refuses cause × (fault ≡ of_no_document (of_site cause))
 
 -- ---- edits
 

@@ -4,7 +4,7 @@ use Rattle.std.specs.Str.Lossy.{utf8_valid_len}
 use Rattle.serde_json.specs.Data.{Data}
 use Rattle.serde_json.specs.Read.{read}
 use Rattle.docs_core.specs.declared.fault.DocCause.{DocCause}
-use Rattle.docs_core.specs.declared.fault.DocCause.TheVariants.{NotUtf8, NotJson, NoMemory}
+use Rattle.docs_core.specs.declared.fault.DocCause.TheVariants.{NotUtf8, NotJson}
 
 -- a test: what passes it, and for which cause it refuses the rest
 pub record Check : Type 1 where
@@ -29,17 +29,22 @@ abbrev pub rows_checks : (List Data → Data → List Check) → List Data → L
 rows_checks checks before [] = []
 rows_checks checks before (d ∷ ds) = checks before d ++ rows_checks checks (before ++ d ∷ []) ds
 
+-- ---- want of memory
+
+-- what this relation refuses for, or this fault, which is want of memory: memory may run out before any refusal is known, and that says nothing of what is read
+abbrev pub OrMemory : {F : Type 0} → F → (F → Type 0) → F → Type 0
+OrMemory memory Refuses fault = (fault ≡ memory) ⊎ Refuses fault
+
 -- ---- the text of a document
 
 -- the bytes are UTF-8, and the JSON text of this data
 abbrev pub AreJson : List ℕ → Data → Type 0
 AreJson bytes d = IsUtf8 bytes × (read bytes ≡ Some d)
 
--- the bytes are no JSON text, for the cause e, or memory ran out
+-- the bytes are no JSON text, for the cause e
 abbrev pub IsTextRefusal : List ℕ → DocCause → Type 0
 IsTextRefusal bytes e =
-    (e ≡ NoMemory)
-    ⊎ ((¬ (IsUtf8 bytes)) × (e ≡ NotUtf8 (utf8_valid_len bytes)))
+    ((¬ (IsUtf8 bytes)) × (e ≡ NotUtf8 (utf8_valid_len bytes)))
     ⊎ (IsUtf8 bytes × (read bytes ≡ None) × (e ≡ NotJson))
 
 -- the bytes are refused for e, where these are the tests of JSON data

@@ -7,7 +7,7 @@ use Rattle.serde_json.specs.Read.{converted, of_json, of_members}
 use Rattle.docs_core.specs.Numbers.{are_in_range}
 use Rattle.docs_core.specs.Reads.{Reads}
 use Rattle.docs_core.specs.declared.fault.DocCause.{DocCause}
-use Rattle.docs_core.specs.declared.fault.DocCause.TheVariants.{NoMemory, NotJson}
+use Rattle.docs_core.specs.declared.fault.DocCause.TheVariants.{NotJson}
 
 -- the next member was read, which nests at most 126 deep
 pub record ReadsNext (old : List Token) (d : Data) (new : List Token) : Type 0 where
@@ -15,9 +15,9 @@ pub record ReadsNext (old : List Token) (d : Data) (new : List Token) : Type 0 w
   pub left : are_in_range new ≡ true
   pub shorter : length new < length old
 
--- there is no next value that nests at most this deep, or memory ran out
+-- there is no next value that nests at most this deep
 abbrev pub ReadsNone : ℕ → List Token → DocCause → Type 0
-ReadsNone depth old e = (e ≡ NoMemory) ⊎ ((e ≡ NotJson) × (converted of_json (value depth old) ≡ None))
+ReadsNone depth old e = (e ≡ NotJson) × (converted of_json (value depth old) ≡ None)
 
 -- behind its brace `old` is an object of these members, which nest at most this deep, and then `new`
 abbrev pub ReadsMembers : ℕ → List Token → Members → List Token → Type 0

@@ -6,9 +6,10 @@ use Rattle.cata_core.specs.Sites.{SiteState}
 use Rattle.cata_core.specs.Summary.{SummaryState}
 use Rattle.docs_core.specs.Checks.{AllPass, AreJson, Check, IsRefusal}
 use Rattle.docs_core.specs.Documents.{delta_text, site_text, summary_text}
-use Rattle.docs_core.specs.Faults.{of_document}
+use Rattle.docs_core.specs.Faults.{of_document, of_no_document}
 use Rattle.docs_core.specs.SiteDocuments.{IsDeltaDocument, IsSiteDocument, IsSummaryDocument, delta_checks, site_checks, summary_checks}
 use Rattle.docs_core.specs.declared.fault.DocCause.{DocCause}
+use Rattle.docs_core.specs.declared.fault.DocCause.TheVariants.{NoMemory}
 use Rattle.docs_core.specs.declared.fault.DocFault.{DocFault}
 
 -- the bytes are a document that passes all tests, and its parts are those of x
@@ -36,6 +37,10 @@ RefusesSummary = IsRefusal summary_checks
 -- it is the refusal of this input document by its reader
 abbrev pub IsOfDocument : ℕ → (DocCause → Type 0) → DocFault → Type 0
 IsOfDocument document Refuses fault = (cause : DocCause) × Refuses cause × (fault ≡ of_document document cause)
+
+-- 26, which means no document
+abbrev pub no_memory : DocFault
+no_memory = of_no_document NoMemory
 
 -- ---- what is written
 

@@ -1,18 +1,17 @@
 -- A script from bytes to bytes. Own rule.
-use Rattle.std.specs.Prelude.{◌≡◌, ◌⊎◌, List, ℕ}
+use Rattle.std.specs.Prelude.{◌≡◌, ◌≢◌, ◌⊎◌, List, ℕ}
 use Rattle.cata_core.specs.Answers.{AreAnswers, AreHeldAnswers}
 use Rattle.cata_core.specs.Edits.{IsConsistent}
 use Rattle.cata_core.specs.Faulty.{IsFirstFault, IsNoClash, NoDelivers, NoneFaulty}
 use Rattle.cata_core.specs.Taken.{edits_of}
 use Rattle.cata_core.specs.declared.answer.Answer.{Answer}
 use Rattle.cata_core.specs.declared.play_fault.PlayFault.{PlayFault}
-use Rattle.cata_core.specs.declared.play_fault.PlayFault.TheVariants as play
+use Rattle.cata_core.specs.declared.play_fault.PlayFault.TheVariants.{NoMemory}
 use Rattle.docs_core.specs.Faults.{of_no_document, of_step}
 use Rattle.docs_core.specs.Lines.{lines}
 use Rattle.docs_core.specs.ReadsAs.{IsOfDocument}
 use Rattle.docs_core.specs.ScriptReads.{ReadsAsScript, RefusesScript}
 use Rattle.docs_core.specs.Scripts.{ScriptState}
-use Rattle.docs_core.specs.declared.fault.DocCause.TheVariants.{NoMemory}
 use Rattle.docs_core.specs.declared.fault.DocFault.{DocFault}
 
 -- no step is faulty, and these are the answers: by what the sites hold, and where no two edits clash, or nothing is delivered, the expected ones
@@ -22,9 +21,10 @@ pub record IsPlayed (script : ScriptState) (answers : List Answer) : Type 0 wher
   pub consistent : IsConsistent (edits_of script.steps) → AreAnswers script.steps answers
   pub undelivered : NoDelivers script.steps → AreAnswers script.steps answers
 
--- why the run is refused: its first faulty step, which where no two edits clash is no clash, or want of memory
+-- why the run is refused, want of memory apart: its first faulty step, which where no two edits clash is no clash
 pub record RefusesRun (script : ScriptState) (fault : PlayFault) : Type 0 where
-  pub first : (fault ≡ play.NoMemory) ⊎ IsFirstFault script.sites script.steps fault
+  pub apart : fault ≢ NoMemory
+  pub first : IsFirstFault script.sites script.steps fault
   pub no_clash : IsConsistent (edits_of script.steps) → IsNoClash fault
 
 -- ---- from bytes to bytes
@@ -37,10 +37,6 @@ Replays bytes text = (script : ScriptState) × ReadsAsScript bytes script × ((a
 abbrev pub RefusesSteps : List ℕ → DocFault → Type 0
 RefusesSteps bytes fault = (script : ScriptState) × ReadsAsScript bytes script × ((refused : PlayFault) × RefusesRun script refused × (fault ≡ of_no_document (of_step refused)))
 
--- the lines of the answers want memory
-abbrev pub RefusesLines : List ℕ → DocFault → Type 0
-RefusesLines bytes fault = (text : List ℕ) × Replays bytes text × (fault ≡ of_no_document NoMemory)
-
--- why bytes are not replayed, by the first stage that refuses: the script, its steps, or the lines
+-- why bytes are not replayed, by the first stage that refuses: the script, or its steps
 abbrev pub RefusesReplay : List ℕ → DocFault → Type 0
-RefusesReplay bytes fault = IsOfDocument 1 (RefusesScript bytes) fault ⊎ RefusesSteps bytes fault ⊎ RefusesLines bytes fault
+RefusesReplay bytes fault = IsOfDocument 1 (RefusesScript bytes) fault ⊎ RefusesSteps bytes fault

@@ -3,12 +3,12 @@ use Rattle.std.specs.Prelude.{◌≡◌, ◌⊎◌, ℕ, List, [], None, Some}
 use Rattle.serde_json.specs.Data.{Data}
 use Rattle.serde_json.specs.Read.{read}
 use Rattle.docs_core.specs.Arrays.{TakesRows}
-use Rattle.docs_core.specs.Checks.{AllPass, AreJson, Check, FirstFails, IsTextRefusal}
+use Rattle.docs_core.specs.Checks.{AllPass, Check, FirstFails, IsRefusal}
 use Rattle.docs_core.specs.Headers.{IsSubject, header_checks, rows_in, subject_data, version_of}
 use Rattle.docs_core.specs.declared.document.kind.Kind.{Kind}
 use Rattle.docs_core.specs.declared.document.tested_header.TestedHeader.{TestedHeader}
 use Rattle.docs_core.specs.declared.fault.DocCause.{DocCause}
-use Rattle.docs_core.specs.declared.fault.DocCause.TheVariants.{NoMemory, NotJson}
+use Rattle.docs_core.specs.declared.fault.DocCause.TheVariants.{NotJson}
 
 -- the header of a document that passes its tests, with the rows as far as they pass theirs
 pub record HasHeader {S : Type 0} (kind : Kind) (checks : List Data → Data → List Check) (Holds : S → List Data → Type 0) (d : Data) (tested : TestedHeader) (rows : S) : Type 0 where
@@ -19,8 +19,8 @@ pub record HasHeader {S : Type 0} (kind : Kind) (checks : List Data → Data →
 
 -- why the text is refused, which is UTF-8
 abbrev pub RefusesText : Kind → List ℕ → DocCause → Type 0
-RefusesText kind text e = (e ≡ NoMemory) ⊎ ((e ≡ NotJson) × (read text ≡ None)) ⊎ ((d : Data) × (read text ≡ Some d) × FirstFails (header_checks kind d) e)
+RefusesText kind text e = ((e ≡ NotJson) × (read text ≡ None)) ⊎ ((d : Data) × (read text ≡ Some d) × FirstFails (header_checks kind d) e)
 
 -- why the bytes are refused before the rows are looked at
 abbrev pub RefusesHeader : Kind → List ℕ → DocCause → Type 0
-RefusesHeader kind bytes e = IsTextRefusal bytes e ⊎ ((d : Data) × AreJson bytes d × FirstFails (header_checks kind d) e)
+RefusesHeader kind = IsRefusal (header_checks kind)

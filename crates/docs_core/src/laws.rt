@@ -1,5 +1,5 @@
 //! Laws over the definitions alone, each the contract of a function that does nothing.
-ghost use Rattle.std.specs.Prelude.{◌≡◌, ◌≢◌, ◌↔◌, ℕ, Bool, Contains, List, [], IsTrue, IsUtf8, Option};
+ghost use Rattle.std.specs.Prelude.{◌≡◌, ◌↔◌, ℕ, Bool, Contains, List, [], IsTrue, IsUtf8, Option};
 ghost use Rattle.std.specs.FinMap.Entries.{find};
 ghost use Rattle.cell_core.specs.Maps.{IsMap};
 ghost use Rattle.cell_core.specs.SiteNames.{IsSiteName};
@@ -27,7 +27,6 @@ ghost use Rattle.docs_core.specs.Updated.{AreChanges, IsUpdated, Updates};
 ghost use Rattle.docs_core.specs.Valid.{AreKeptCells, AreKeptStamps};
 ghost use Rattle.docs_core.specs.Values.{site_value};
 ghost use Rattle.docs_core.specs.declared.fault.DocCause.{DocCause};
-ghost use Rattle.docs_core.specs.declared.fault.DocCause.TheVariants.{NoMemory};
 
 /// The text that is written for a site reads as that site.
 pub fn written_site_reads()
@@ -69,22 +68,22 @@ pub fn one_replay()
     ensures { (bytes x y : List ℕ) → Replays bytes x → Replays bytes y → x ≡ y }
 {}
 
-/// No text is both read and refused, want of memory apart.
+/// No text is both read and refused.
 pub fn a_read_text_is_not_refused()
-    ensures site { (bytes : List ℕ) (site : SiteState) (cause : DocCause) → cause ≢ NoMemory → ReadsAsSite bytes site → ¬ RefusesSite bytes cause }
-    ensures delta { (bytes : List ℕ) (delta : Delta) (cause : DocCause) → cause ≢ NoMemory → ReadsAsDelta bytes delta → ¬ RefusesDelta bytes cause }
-    ensures summary { (bytes : List ℕ) (summary : SummaryState) (cause : DocCause) → cause ≢ NoMemory → ReadsAsSummary bytes summary → ¬ RefusesSummary bytes cause }
-    ensures script { (bytes : List ℕ) (script : ScriptState) (cause : DocCause) → cause ≢ NoMemory → ReadsAsScript bytes script → ¬ RefusesScript bytes cause }
-    ensures labels { (bytes : List ℕ) (labels : List Labelled) (cause : DocCause) → cause ≢ NoMemory → AreLangMaps bytes labels → ¬ RefusesLangMaps bytes cause }
+    ensures site { (bytes : List ℕ) (site : SiteState) (cause : DocCause) → ReadsAsSite bytes site → ¬ RefusesSite bytes cause }
+    ensures delta { (bytes : List ℕ) (delta : Delta) (cause : DocCause) → ReadsAsDelta bytes delta → ¬ RefusesDelta bytes cause }
+    ensures summary { (bytes : List ℕ) (summary : SummaryState) (cause : DocCause) → ReadsAsSummary bytes summary → ¬ RefusesSummary bytes cause }
+    ensures script { (bytes : List ℕ) (script : ScriptState) (cause : DocCause) → ReadsAsScript bytes script → ¬ RefusesScript bytes cause }
+    ensures labels { (bytes : List ℕ) (labels : List Labelled) (cause : DocCause) → AreLangMaps bytes labels → ¬ RefusesLangMaps bytes cause }
 {}
 
-/// A text that is refused is refused for one cause, want of memory apart.
+/// A text that is refused is refused for one cause.
 pub fn one_refusal()
-    ensures site { (bytes : List ℕ) (a b : DocCause) → a ≢ NoMemory → b ≢ NoMemory → RefusesSite bytes a → RefusesSite bytes b → a ≡ b }
-    ensures delta { (bytes : List ℕ) (a b : DocCause) → a ≢ NoMemory → b ≢ NoMemory → RefusesDelta bytes a → RefusesDelta bytes b → a ≡ b }
-    ensures summary { (bytes : List ℕ) (a b : DocCause) → a ≢ NoMemory → b ≢ NoMemory → RefusesSummary bytes a → RefusesSummary bytes b → a ≡ b }
-    ensures script { (bytes : List ℕ) (a b : DocCause) → a ≢ NoMemory → b ≢ NoMemory → RefusesScript bytes a → RefusesScript bytes b → a ≡ b }
-    ensures labels { (bytes : List ℕ) (a b : DocCause) → a ≢ NoMemory → b ≢ NoMemory → RefusesLangMaps bytes a → RefusesLangMaps bytes b → a ≡ b }
+    ensures site { (bytes : List ℕ) (a b : DocCause) → RefusesSite bytes a → RefusesSite bytes b → a ≡ b }
+    ensures delta { (bytes : List ℕ) (a b : DocCause) → RefusesDelta bytes a → RefusesDelta bytes b → a ≡ b }
+    ensures summary { (bytes : List ℕ) (a b : DocCause) → RefusesSummary bytes a → RefusesSummary bytes b → a ≡ b }
+    ensures script { (bytes : List ℕ) (a b : DocCause) → RefusesScript bytes a → RefusesScript bytes b → a ≡ b }
+    ensures labels { (bytes : List ℕ) (a b : DocCause) → RefusesLangMaps bytes a → RefusesLangMaps bytes b → a ≡ b }
 {}
 
 /// A delta suffices: made against a summary that the site has in full, by a sender that agrees with

@@ -7,8 +7,8 @@
 //!   [`bundle_document`], [`missing_document`], [`sync_documents`], [`summary_document`],
 //!   [`delta_document`], [`take_document`], [`ask_document`] and [`status_document`] treat whole
 //!   documents, from bytes to bytes.
-//! - [`filter_lines`], [`reply_line`], [`status_line`] and [`write_bundle`] write what a site that is
-//!   held in memory answers, without its document.
+//! - [`filter_lines`], [`reply_line`], [`status_line`] and [`write_bundle`] write what a site that
+//!   is held in memory answers, without its document.
 //! - [`replay`] runs the script of a [`Source`] and writes the lines of its answers to a [`Sink`];
 //!   [`read_all`] and [`write_out`] are its two ends. [`Input`] and [`Output`] make a source and a
 //!   sink of `std`'s `Read` and `Write`.

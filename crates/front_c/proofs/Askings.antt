@@ -1,8 +1,7 @@
 -- What is told of a question, and of a document that finds no memory.
 use Rattle.std.proofs.Common.{◌≡◌, refl, inl, inr, ℕ, ℤ, Option, Some}
 use Rattle.cata_core.specs.Sites.{SiteState}
-use Rattle.docs_core.specs.declared.fault.DocCause.TheVariants.{NoMemory}
-use Rattle.docs_core.specs.Faults.{of_document}
+use Rattle.docs_core.specs.ReadsAs.{no_memory}
 use Rattle.front_core.specs.Fields.{FieldText}
 use Rattle.front_core.specs.Opens.{RefusesOpening}
 use Rattle.front_core.specs.declared.fault.FrontFault.{FrontFault}
@@ -26,4 +25,4 @@ refused_tells Is Refuses As fault out told status refuses tells = inr (fault, re
 
 -- memory may end before any document is read
 pub no_memory_to_open : (text : Text) → RefusesOpening text fault.NoMemory
-no_memory_to_open text = (of_document 1 NoMemory, (NoMemory, inl (inl refl), refl), refl)
+no_memory_to_open text = (no_memory, inl refl, refl)

@@ -2,7 +2,8 @@
 ghost use Rattle.std.specs.Prelude.{◌≡◌, IfOk, MatchResult};
 ghost use Rattle.cata_core.specs.LentAnswers.{reply_of};
 ghost use Rattle.docs_core.specs.Asks.{Answers, IsAsked, is_found};
-ghost use Rattle.docs_core.specs.ReadsAs.{IsOfDocument, RefusesSite};
+ghost use Rattle.docs_core.specs.Checks.{OrMemory};
+ghost use Rattle.docs_core.specs.ReadsAs.{IsOfDocument, RefusesSite, no_memory};
 
 use crate::call::lines::{filter_lines, reply_line};
 use crate::doc::Doc;
@@ -34,7 +35,7 @@ pub fn ask_document(
     id: &MessageId,
     ask: &Ask,
 ) -> Result<(Doc, bool), DocFault>
-    ensures { MatchResult result (λ answer. IsAsked site.now id.now ask.now answer.0 answer.1) (IsOfDocument 1 (RefusesSite site.now)) }
+    ensures { MatchResult result (λ answer. IsAsked site.now id.now ask.now answer.0 answer.1) (OrMemory no_memory (IsOfDocument 1 (RefusesSite site.now))) }
 {
     let site = site_at(alloc, 1, site)?;
     let answer = answer_of(alloc, site.catalogue(), id, ask)?;

@@ -3,10 +3,11 @@ ghost use Rattle.std.specs.Prelude.{◌≡◌, IfOk, List, MatchResult, option_m
 ghost use Rattle.cata_core.specs.Lent.{lent_pair};
 ghost use Rattle.cata_core.specs.LentAnswers.{reply_of};
 ghost use Rattle.docs_core.specs.Bundled.{IsBundle, IsBundled};
+ghost use Rattle.docs_core.specs.Checks.{OrMemory};
 ghost use Rattle.docs_core.specs.LangMapTexts.{AreWritten};
 ghost use Rattle.docs_core.specs.LangMaps.{Labelled};
 ghost use Rattle.docs_core.specs.LooksUp.{answered};
-ghost use Rattle.docs_core.specs.ReadsAs.{IsOfDocument, RefusesSite};
+ghost use Rattle.docs_core.specs.ReadsAs.{IsOfDocument, RefusesSite, no_memory};
 
 use crate::doc::Doc;
 use crate::document::reading::site_at;
@@ -18,9 +19,9 @@ use lang_core::Lang;
 use nego_core::PriorityList;
 use std::alloc::{AllocError, Global};
 
-/// The language-map document of the labels of one reader, and whether there is one: for each message
-/// the one label that its lookup answers, matched or as the default (RFC 4647, section 3.4). A
-/// message for which nothing is answered is left out.
+/// The language-map document of the labels of one reader, and whether there is one: for each
+/// message the one label that its lookup answers, matched or as the default (RFC 4647, section
+/// 3.4). A message for which nothing is answered is left out.
 ///
 /// Refusals: a reader's with document 1. Out of memory (26) may come before.
 pub fn bundle_document(
@@ -29,7 +30,7 @@ pub fn bundle_document(
     list: &PriorityList,
     default: Option<&Lang>,
 ) -> Result<(Doc, bool), DocFault>
-    ensures { MatchResult result (λ answer. IsBundled site.now list.now (option_map (λ l. l.now) default.entry) answer.0 answer.1) (IsOfDocument 1 (RefusesSite site.now)) }
+    ensures { MatchResult result (λ answer. IsBundled site.now list.now (option_map (λ l. l.now) default.entry) answer.0 answer.1) (OrMemory no_memory (IsOfDocument 1 (RefusesSite site.now))) }
 {
     let site = site_at(alloc, 1, site)?;
     let answer = write_bundle(alloc, site.catalogue(), list, default)?;

@@ -1,6 +1,7 @@
 //! Labels put into a site.
-ghost use Rattle.std.specs.Prelude.{◌≡◌, ◌⊎◌, IfErr, OnOk};
+ghost use Rattle.std.specs.Prelude.{◌≡◌, IfErr, OnOk};
 ghost use Rattle.cata_core.specs.declared.cata_fault.CataFault.TheVariants.{ClockSpent, NoMemory};
+ghost use Rattle.docs_core.specs.Checks.{OrMemory};
 ghost use Rattle.docs_core.specs.Imported.{Imports, SpendsImport};
 
 use crate::language_map::maps::LangMaps;
@@ -20,7 +21,7 @@ pub(crate) fn put_labels(
 ) -> Result<(), CataFault>
     ensures name { site.new.name ≡ site.old.name }
     ensures ok { OnOk result (Imports now site.old.name maps.now site.old.cells site.new.cells) }
-    ensures err { IfErr result (λ fault. (fault ≡ NoMemory) ⊎ ((fault ≡ ClockSpent) × SpendsImport now site.old.name maps.now site.old.cells)) }
+    ensures err { IfErr result (OrMemory NoMemory (λ fault. (fault ≡ ClockSpent) × SpendsImport now site.old.name maps.now site.old.cells)) }
 {
     'labels: for found in maps.labels() {
         match site.put(alloc, now, &found.id, &found.lang, &found.label) {

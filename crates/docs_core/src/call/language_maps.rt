@@ -1,8 +1,9 @@
 //! Language maps put into the document of a site, and made of it.
 ghost use Rattle.std.specs.Prelude.{MatchResult};
+ghost use Rattle.docs_core.specs.Checks.{OrMemory};
 ghost use Rattle.docs_core.specs.Exchange.{IsExported, IsImported, RefusesImport};
 ghost use Rattle.docs_core.specs.Missing.{IsMissing};
-ghost use Rattle.docs_core.specs.ReadsAs.{IsOfDocument, RefusesSite};
+ghost use Rattle.docs_core.specs.ReadsAs.{IsOfDocument, RefusesSite, no_memory};
 
 use crate::call::exporting::write_live;
 use crate::call::importing::put_labels;
@@ -26,7 +27,7 @@ pub fn import_document(
     now: u64,
     langmaps: &[u8],
 ) -> Result<Doc, DocFault>
-    ensures { MatchResult result (IsImported site.now now langmaps.now) (RefusesImport site.now now langmaps.now) }
+    ensures { MatchResult result (IsImported site.now now langmaps.now) (OrMemory no_memory (RefusesImport site.now now langmaps.now)) }
 {
     let mut site = site_at(alloc, 1, site)?;
     let maps = langmaps_of_document(alloc, 2, langmaps)?;
@@ -40,7 +41,7 @@ pub fn import_document(
 ///
 /// Refusals: a reader's with document 1. Out of memory (26) may come before.
 pub fn export_document(alloc: Global, site: &[u8]) -> Result<Doc, DocFault>
-    ensures { MatchResult result (IsExported site.now) (IsOfDocument 1 (RefusesSite site.now)) }
+    ensures { MatchResult result (IsExported site.now) (OrMemory no_memory (IsOfDocument 1 (RefusesSite site.now))) }
 {
     let site = site_at(alloc, 1, site)?;
     let written = write_live(alloc, site.catalogue(), None)?;
@@ -53,7 +54,7 @@ pub fn export_document(alloc: Global, site: &[u8]) -> Result<Doc, DocFault>
 ///
 /// Refusals: a reader's with document 1. Out of memory (26) may come before.
 pub fn missing_document(alloc: Global, site: &[u8], lang: &Lang) -> Result<(Doc, bool), DocFault>
-    ensures { MatchResult result (λ answer. IsMissing site.now lang.now answer.0 answer.1) (IsOfDocument 1 (RefusesSite site.now)) }
+    ensures { MatchResult result (λ answer. IsMissing site.now lang.now answer.0 answer.1) (OrMemory no_memory (IsOfDocument 1 (RefusesSite site.now))) }
 {
     let site = site_at(alloc, 1, site)?;
     let answer = write_live(alloc, site.catalogue(), Some(lang))?;

@@ -5,8 +5,9 @@ ghost use Rattle.cell_core.specs.Stamps.{IsNext};
 ghost use Rattle.cata_core.specs.Entries.{key_cmp};
 ghost use Rattle.cata_core.specs.Latest.{latest_of};
 ghost use Rattle.cata_core.specs.Sites.{RefusesEdit};
-ghost use Rattle.docs_core.specs.Calls.{AreSynced, IsDeltaFor, IsEdited, IsStatus, IsSummarised, IsTaken, RefusesDeltaFor, RefusesEditing, RefusesSync, RefusesTaking};
-ghost use Rattle.docs_core.specs.ReadsAs.{IsOfDocument, RefusesSite};
+ghost use Rattle.docs_core.specs.Calls.{AreSynced, IsEdited, IsDeltaFor, IsStatus, IsSummarised, IsTaken, RefusesEditing, RefusesDeltaFor, RefusesSync, RefusesTaking};
+ghost use Rattle.docs_core.specs.Checks.{OrMemory};
+ghost use Rattle.docs_core.specs.ReadsAs.{IsOfDocument, RefusesSite, no_memory};
 
 use crate::call::status::status_line;
 use crate::doc::Doc;
@@ -30,7 +31,7 @@ pub fn edit_document(
     lang: &Lang,
     label: Option<&Label>,
 ) -> Result<Doc, DocFault>
-    ensures { MatchResult result (IsEdited site.now now (id.now, lang.now) (option_map (λ l. l.now) label.entry)) (RefusesEditing site.now now) }
+    ensures { MatchResult result (IsEdited site.now now (id.now, lang.now) (option_map (λ l. l.now) label.entry)) (OrMemory no_memory (RefusesEditing site.now now)) }
 {
     let mut site = site_at(alloc, 1, site)?;
     edit(alloc, &mut site, now, id, lang, label)?;
@@ -62,7 +63,7 @@ pub(crate) fn edit(
 /// Refusals, in their order: a reader's with document 1, a reader's with document 2, then 13 with
 /// the place in the first site. Out of memory (26) may come before.
 pub fn sync_documents(alloc: Global, first: &[u8], second: &[u8]) -> Result<(Doc, Doc), DocFault>
-    ensures { MatchResult result (λ docs. AreSynced first.now second.now docs.0 docs.1) (RefusesSync first.now second.now) }
+    ensures { MatchResult result (λ docs. AreSynced first.now second.now docs.0 docs.1) (OrMemory no_memory (RefusesSync first.now second.now)) }
 {
     let mut first = site_at(alloc, 1, first)?;
     let mut second = site_at(alloc, 2, second)?;
@@ -76,7 +77,7 @@ pub fn sync_documents(alloc: Global, first: &[u8], second: &[u8]) -> Result<(Doc
 ///
 /// Refusals: a reader's with document 1. Out of memory (26) may come before.
 pub fn summary_document(alloc: Global, site: &[u8]) -> Result<Doc, DocFault>
-    ensures { MatchResult result (IsSummarised site.now) (IsOfDocument 1 (RefusesSite site.now)) }
+    ensures { MatchResult result (IsSummarised site.now) (OrMemory no_memory (IsOfDocument 1 (RefusesSite site.now))) }
 {
     let site = site_at(alloc, 1, site)?;
     let summary = site.summary(alloc)?;
@@ -89,7 +90,7 @@ pub fn summary_document(alloc: Global, site: &[u8]) -> Result<Doc, DocFault>
 /// Refusals, in their order: a reader's with document 1, a reader's with document 2. Out of memory
 /// (26) may come before.
 pub fn delta_document(alloc: Global, site: &[u8], summary: &[u8]) -> Result<Doc, DocFault>
-    ensures { MatchResult result (IsDeltaFor site.now summary.now) (RefusesDeltaFor site.now summary.now) }
+    ensures { MatchResult result (IsDeltaFor site.now summary.now) (OrMemory no_memory (RefusesDeltaFor site.now summary.now)) }
 {
     let site = site_at(alloc, 1, site)?;
     let summary = summary_at(alloc, 2, summary)?;
@@ -104,7 +105,7 @@ pub fn delta_document(alloc: Global, site: &[u8], summary: &[u8]) -> Result<Doc,
 /// the delta is for another site, then 13 with the place in the site. Out of memory (26) may come
 /// before.
 pub fn take_document(alloc: Global, site: &[u8], delta: &[u8]) -> Result<Doc, DocFault>
-    ensures { MatchResult result (IsTaken site.now delta.now) (RefusesTaking site.now delta.now) }
+    ensures { MatchResult result (IsTaken site.now delta.now) (OrMemory no_memory (RefusesTaking site.now delta.now)) }
 {
     let mut site = site_at(alloc, 1, site)?;
     let delta = delta_at(alloc, 2, delta)?;
@@ -117,7 +118,7 @@ pub fn take_document(alloc: Global, site: &[u8], delta: &[u8]) -> Result<Doc, Do
 ///
 /// Refusals: a reader's with document 1. Out of memory (26) may come before.
 pub fn status_document(alloc: Global, site: &[u8]) -> Result<Doc, DocFault>
-    ensures { MatchResult result (IsStatus site.now) (IsOfDocument 1 (RefusesSite site.now)) }
+    ensures { MatchResult result (IsStatus site.now) (OrMemory no_memory (IsOfDocument 1 (RefusesSite site.now))) }
 {
     let site = site_at(alloc, 1, site)?;
     let line = status_line(alloc, &site)?;

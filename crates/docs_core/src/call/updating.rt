@@ -1,10 +1,12 @@
 //! What an editor changed in language maps, handed in to a site.
-ghost use Rattle.std.specs.Prelude.{◌≡◌, ◌⊎◌, ◌+◌, ◌<◌, [], IfErr, IfSome, MatchOption, MatchResult, None, OnOk, Some, length, option_map};
+ghost use Rattle.std.specs.Prelude.{◌≡◌, ◌+◌, ◌<◌, [], IfErr, IfSome, MatchOption, MatchResult, None, OnOk, Some, length, option_map};
 ghost use Rattle.std.specs.Bool.{Decides};
 ghost use Rattle.cell_core.specs.Maps.{IsMap};
 ghost use Rattle.cata_core.specs.Entries.{key_cmp};
 ghost use Rattle.cata_core.specs.declared.cata_fault.CataFault.TheVariants.{ClockSpent, NoMemory};
+ghost use Rattle.docs_core.specs.Checks.{OrMemory};
 ghost use Rattle.docs_core.specs.LangMaps.{labels_of};
+ghost use Rattle.docs_core.specs.ReadsAs.{no_memory};
 ghost use Rattle.docs_core.specs.Revised.{IsFirstRevised, IsRevised, NoStamp, key_of, new_of, old_of};
 ghost use Rattle.docs_core.specs.Updated.{IsUpdated, RefusesUpdate, SpendsUpdate, Updates};
 
@@ -22,16 +24,17 @@ use std::alloc::Global;
 use std::cmp::Ordering;
 
 /// The document of the site after what an editor changed in language maps: from `old`, as they were
-/// before, to `new`, as they are now. The changes are made in rising order of key at the time `now`,
-/// each with the next stamp of the site; no other cell changes.
+/// before, to `new`, as they are now. The changes are made in rising order of key at the time
+/// `now`, each with the next stamp of the site; no other cell changes.
 ///
 /// A label that was added or is another now is put, unless the site has it already. A label that is
-/// left out is deleted, unless the site has no live label of the key. Where the old and the new label
-/// are equal nothing is done, whatever the site holds. Labels are equal where their texts are.
+/// left out is deleted, unless the site has no live label of the key. Where the old and the new
+/// label are equal nothing is done, whatever the site holds. Labels are equal where their texts
+/// are.
 ///
-/// Refusals, in their order: a reader's with document 1, a reader's with document 2 (the old language
-/// maps), a reader's with document 3 (the new ones), then 14 where there is no next stamp for a
-/// change, which refuses the whole. Out of memory (26) may come before.
+/// Refusals, in their order: a reader's with document 1, a reader's with document 2 (the old
+/// language maps), a reader's with document 3 (the new ones), then 14 where there is no next stamp
+/// for a change, which refuses the whole. Out of memory (26) may come before.
 pub fn update_document(
     alloc: Global,
     site: &[u8],
@@ -39,7 +42,7 @@ pub fn update_document(
     old: &[u8],
     new: &[u8],
 ) -> Result<Doc, DocFault>
-    ensures { MatchResult result (IsUpdated site.now now old.now new.now) (RefusesUpdate site.now now old.now new.now) }
+    ensures { MatchResult result (IsUpdated site.now now old.now new.now) (OrMemory no_memory (RefusesUpdate site.now now old.now new.now)) }
 {
     let mut site = site_at(alloc, 1, site)?;
     let old = langmaps_of_document(alloc, 2, old)?;
@@ -59,7 +62,7 @@ fn update(
 ) -> Result<(), CataFault>
     ensures name { OnOk result (site.new.name ≡ site.old.name) }
     ensures ok { OnOk result (Updates now site.old.name old.now new.now site.old.cells site.new.cells) }
-    ensures err { IfErr result (λ fault. (fault ≡ NoMemory) ⊎ ((fault ≡ ClockSpent) × SpendsUpdate now site.old.name old.now new.now site.old.cells)) }
+    ensures err { IfErr result (OrMemory NoMemory (λ fault. (fault ≡ ClockSpent) × SpendsUpdate now site.old.name old.now new.now site.old.cells)) }
 {
     let mut olds = old.labels();
     let mut news = new.labels();
@@ -155,7 +158,7 @@ fn kept<'a>(was: &'a KeyedLabel, is: &'a KeyedLabel) -> Revised<'a>
 fn revise(alloc: Global, site: &mut Site, now: u64, revised: &Revised<'_>) -> Result<(), CataFault>
     ensures name { OnOk result (site.new.name ≡ site.old.name) }
     ensures ok { OnOk result (IsRevised now site.old.name revised.now site.old.cells site.new.cells) }
-    ensures err { IfErr result (λ fault. (fault ≡ NoMemory) ⊎ ((fault ≡ ClockSpent) × NoStamp now site.old.name revised.now site.old.cells)) }
+    ensures err { IfErr result (OrMemory NoMemory (λ fault. (fault ≡ ClockSpent) × NoStamp now site.old.name revised.now site.old.cells)) }
 {
     let key = revised.key;
     if are_equal(revised.old, revised.new) {

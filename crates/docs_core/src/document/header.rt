@@ -1,9 +1,10 @@
 //! The members of a document, each taken as it is read.
-ghost use Rattle.std.specs.Prelude.{◌≡◌, ◌⊎◌, ◌<◌, ◌^◌, ℕ, List, Some, None, Option, true, length, option_map, MatchResult, OnOk};
+ghost use Rattle.std.specs.Prelude.{◌≡◌, ◌<◌, ◌^◌, ℕ, List, Some, None, Option, true, length, option_map, MatchResult, OnOk};
 ghost use Rattle.json.specs.Json.{read_key};
 ghost use Rattle.json.specs.Reads.{token_of};
 ghost use Rattle.serde_json.specs.Data.{Data, Members, put};
 ghost use Rattle.serde_json.specs.Find.{as_str};
+ghost use Rattle.docs_core.specs.Checks.{OrMemory};
 ghost use Rattle.docs_core.specs.HeaderSeen.{Shows, ShowsRows, is_text};
 ghost use Rattle.docs_core.specs.Headers.{IsSubject};
 ghost use Rattle.docs_core.specs.Kinds.{kind_text, member_of};
@@ -62,7 +63,7 @@ pub fn read_members<R: Rows>(
     requires places { length reader.old < 2 ^ 64 }
     ensures { MatchResult result
         (λ header. (ms : Members) × ReadsMembers 126 reader.old ms reader.new × Shows kind (R.Checks version) (R.Holds version) header rows.new ms)
-        (λ e. (e ≡ NoMemory) ⊎ ((e ≡ NotJson) × ReadsNoMembers 126 reader.old)) }
+        (OrMemory NoMemory (λ e. (e ≡ NotJson) × ReadsNoMembers 126 reader.old)) }
 {
     let mut header = Header {
         is_kind: false,
@@ -106,7 +107,7 @@ fn read_member<R: Rows>(
         (λ next. (d : Data) × ReadsNext reader.old d reader.new
         × ((name : List ℕ) (ms : Members) → member_of kind name ≡ member → Shows kind (R.Checks version) (R.Holds version) header rows.old ms
         → Shows kind (R.Checks version) (R.Holds version) next rows.new (put name d ms)))
-        (ReadsNone 126 reader.old) }
+        (OrMemory NoMemory (ReadsNone 126 reader.old)) }
 {
     match member {
         Member::Kind => read_kind(alloc, reader, kind, header),
@@ -126,7 +127,7 @@ fn read_kind(
     requires { are_in_range reader.old ≡ true }
     ensures { MatchResult result
         (λ next. (d : Data) × ReadsNext reader.old d reader.new × (next ≡ record header { is_kind = is_text (kind_text kind) (as_str d) }))
-        (ReadsNone 126 reader.old) }
+        (OrMemory NoMemory (ReadsNone 126 reader.old)) }
 {
     let value = next_value(alloc, reader, MEMBER_DEPTH)?;
     Ok(Header {
@@ -139,7 +140,7 @@ fn read_version(alloc: Global, reader: &mut Reader<'_>, header: Header) -> Resul
     requires { are_in_range reader.old ≡ true }
     ensures { MatchResult result
         (λ next. (d : Data) × ReadsNext reader.old d reader.new × (next ≡ record header { version = u64_in d }))
-        (ReadsNone 126 reader.old) }
+        (OrMemory NoMemory (ReadsNone 126 reader.old)) }
 {
     let version = next_value(alloc, reader, MEMBER_DEPTH)?;
     Ok(Header {
@@ -152,7 +153,7 @@ fn read_subject(alloc: Global, reader: &mut Reader<'_>, header: Header) -> Resul
     requires { are_in_range reader.old ≡ true }
     ensures { MatchResult result
         (λ next. (d : Data) × ReadsNext reader.old d reader.new × ((subject : Subject) × IsSubject subject d × (next ≡ record header { subject = Some subject })))
-        (ReadsNone 126 reader.old) }
+        (OrMemory NoMemory (ReadsNone 126 reader.old)) }
 {
     let subject = next_value(alloc, reader, MEMBER_DEPTH)?;
     Ok(Header {
@@ -174,7 +175,7 @@ fn read_array<R: Rows>(
     ensures { MatchResult result
         (λ next. (d : Data) × ReadsNext reader.old d reader.new
         × ((read : Option (Option DocCause)) × ShowsRows (R.Checks version) (R.Holds version) read rows.new (items_in d) × (next ≡ record header { rows = read })))
-        (ReadsNone 126 reader.old) }
+        (OrMemory NoMemory (ReadsNone 126 reader.old)) }
 {
     let Some(token) = reader.next() else {
         return Err(DocCause::NotJson);
@@ -239,7 +240,7 @@ fn pass_over(reader: &mut Reader<'_>, header: Header) -> Result<Header, DocCause
     requires { are_in_range reader.old ≡ true }
     ensures { MatchResult result
         (λ next. (d : Data) × ReadsNext reader.old d reader.new × (next ≡ record header { has_other = true }))
-        (ReadsNone 126 reader.old) }
+        (OrMemory NoMemory (ReadsNone 126 reader.old)) }
 {
     match reader.skip_value(MEMBER_DEPTH) {
         Ok(()) => Ok(Header {

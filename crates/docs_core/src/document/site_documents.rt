@@ -1,12 +1,13 @@
 //! Documents that name a site, read.
 ghost use Rattle.std.specs.Prelude.{◌≡◌, Some, MatchResult, IfOk, IfErr};
 ghost use Rattle.serde_json.specs.Data.{Data};
-ghost use Rattle.docs_core.specs.Checks.{AllPass, AreJson, FirstFails, IsRefusal};
+ghost use Rattle.docs_core.specs.Checks.{AllPass, AreJson, FirstFails, IsRefusal, OrMemory};
 ghost use Rattle.docs_core.specs.Headers.{IsSubject, rows_in, version_of};
 ghost use Rattle.docs_core.specs.ReadsAs.{ReadsAsDelta, ReadsAsSite, ReadsAsSummary, RefusesDelta, RefusesSite, RefusesSummary};
 ghost use Rattle.docs_core.specs.Rows.{site_in};
 ghost use Rattle.docs_core.specs.SiteDocuments.{document_checks, named_in, subject_checks};
 ghost use Rattle.docs_core.specs.declared.document.version.Version.TheVariants.{One, Two};
+ghost use Rattle.docs_core.specs.declared.fault.DocCause.TheVariants.{NoMemory};
 
 use crate::document::as_written::cells_as_written;
 use crate::document::header::Subject;
@@ -21,7 +22,7 @@ use std::alloc::Global;
 
 /// The site of a document, or why it is refused.
 pub fn site_from(alloc: Global, bytes: &[u8]) -> Result<Site, DocCause>
-    ensures { MatchResult result (ReadsAsSite bytes.now) (RefusesSite bytes.now) }
+    ensures { MatchResult result (ReadsAsSite bytes.now) (OrMemory NoMemory (RefusesSite bytes.now)) }
 {
     match cells_as_written(alloc, bytes, Kind::Site) {
         Some((name, cells)) => Ok(Site::from_catalogue(name, cells)),
@@ -31,7 +32,7 @@ pub fn site_from(alloc: Global, bytes: &[u8]) -> Result<Site, DocCause>
 
 // The site of a document whose members may stand in any order.
 fn site_of_members(alloc: Global, bytes: &[u8]) -> Result<Site, DocCause>
-    ensures { MatchResult result (ReadsAsSite bytes.now) (RefusesSite bytes.now) }
+    ensures { MatchResult result (ReadsAsSite bytes.now) (OrMemory NoMemory (RefusesSite bytes.now)) }
 {
     let mut cells = Catalogue::new(alloc);
     let name = read_named(alloc, bytes, Kind::Site, &mut cells)?;
@@ -40,7 +41,7 @@ fn site_of_members(alloc: Global, bytes: &[u8]) -> Result<Site, DocCause>
 
 /// The delta of a document, or why it is refused.
 pub fn delta_from(alloc: Global, bytes: &[u8]) -> Result<Delta, DocCause>
-    ensures { MatchResult result (ReadsAsDelta bytes.now) (RefusesDelta bytes.now) }
+    ensures { MatchResult result (ReadsAsDelta bytes.now) (OrMemory NoMemory (RefusesDelta bytes.now)) }
 {
     match cells_as_written(alloc, bytes, Kind::Delta) {
         Some((to, cells)) => Ok(Delta::from_catalogue(to, cells)),
@@ -50,7 +51,7 @@ pub fn delta_from(alloc: Global, bytes: &[u8]) -> Result<Delta, DocCause>
 
 // The delta of a document whose members may stand in any order.
 fn delta_of_members(alloc: Global, bytes: &[u8]) -> Result<Delta, DocCause>
-    ensures { MatchResult result (ReadsAsDelta bytes.now) (RefusesDelta bytes.now) }
+    ensures { MatchResult result (ReadsAsDelta bytes.now) (OrMemory NoMemory (RefusesDelta bytes.now)) }
 {
     let mut cells = Catalogue::new(alloc);
     let addressee = read_named(alloc, bytes, Kind::Delta, &mut cells)?;
@@ -59,7 +60,7 @@ fn delta_of_members(alloc: Global, bytes: &[u8]) -> Result<Delta, DocCause>
 
 /// The summary of a document, or why it is refused.
 pub fn summary_from(alloc: Global, bytes: &[u8]) -> Result<Summary, DocCause>
-    ensures { MatchResult result (ReadsAsSummary bytes.now) (RefusesSummary bytes.now) }
+    ensures { MatchResult result (ReadsAsSummary bytes.now) (OrMemory NoMemory (RefusesSummary bytes.now)) }
 {
     let mut summary = Summary::new(alloc, SiteName::of_number(0));
     let owner = read_named(alloc, bytes, Kind::Summary, &mut summary)?;
@@ -74,7 +75,7 @@ fn read_named<R: Rows>(
     rows: &mut R,
 ) -> Result<SiteName, DocCause>
     ensures ok { IfOk result (λ name. (d : Data) × AreJson bytes.now d × AllPass (document_checks kind R.Checks d) × (named_in kind d ≡ Some name) × R.Holds (version_of d) rows.new (rows_in kind d)) }
-    ensures err { IfErr result (IsRefusal (document_checks kind R.Checks) bytes.now) }
+    ensures err { IfErr result (OrMemory NoMemory (IsRefusal (document_checks kind R.Checks) bytes.now)) }
 {
     let tested = read_header(alloc, bytes, kind, rows)?;
     let name = subject_name(tested.version, tested.subject)?;

@@ -1,5 +1,5 @@
 //! The header of a document, tested, and its rows as they were taken.
-ghost use Rattle.std.specs.Prelude.{◌≡◌, ◌⊎◌, ◌<◌, ◌^◌, ◌∷◌, [], None, Some, true, length, MatchOption, MatchResult, IsUtf8};
+ghost use Rattle.std.specs.Prelude.{◌≡◌, ◌<◌, ◌^◌, ◌∷◌, [], None, Some, true, length, MatchOption, MatchResult, IsUtf8};
 ghost use Rattle.std.specs.Bool.{MatchBool};
 ghost use Rattle.std.specs.Str.Lossy.{utf8_valid_len};
 ghost use Rattle.json.specs.Lex.{tokens};
@@ -7,7 +7,7 @@ ghost use Rattle.json.specs.Token.{begin_object};
 ghost use Rattle.serde_json.specs.Data.{Data, Members, object};
 ghost use Rattle.serde_json.specs.Find.{as_object};
 ghost use Rattle.serde_json.specs.Read.{read};
-ghost use Rattle.docs_core.specs.Checks.{AreJson};
+ghost use Rattle.docs_core.specs.Checks.{AreJson, OrMemory};
 ghost use Rattle.docs_core.specs.HeaderSeen.{Shows};
 ghost use Rattle.docs_core.specs.HeaderTests.{FailsHeader, PassesHeader};
 ghost use Rattle.docs_core.specs.MembersRead.{IsNotWhole, NoObject, ReadsMembers};
@@ -50,7 +50,7 @@ pub fn read_header<R: Rows>(
 ) -> Result<TestedHeader, DocCause>
     ensures { MatchResult result
         (λ tested. (d : Data) × AreJson bytes.now d × HasHeader kind (R.Checks tested.version) (R.Holds tested.version) d tested rows.new)
-        (RefusesHeader kind bytes.now) }
+        (OrMemory NoMemory (RefusesHeader kind bytes.now)) }
 {
     let text = text_in(bytes)?;
     let mut scratch = Scratch::new(alloc);
@@ -78,7 +78,7 @@ pub fn text_in(bytes: &[u8]) -> Result<&str, DocCause>
 /// Refuses a text with a number out of range.
 pub(crate) fn check_numbers(text: &str, scratch: &mut Scratch) -> Result<(), DocCause>
     ensures { MatchResult result (λ _. are_in_range (tokens text.now) ≡ true)
-        (λ e. (e ≡ NoMemory) ⊎ ((e ≡ NotJson) × (read text.now ≡ None))) }
+        (OrMemory NoMemory (λ e. (e ≡ NotJson) × (read text.now ≡ None))) }
 {
     let Ok(mut reader) = Reader::new(text, scratch) else {
         return Err(DocCause::NoMemory);
@@ -102,7 +102,7 @@ fn read_as<R: Rows>(
     requires { are_in_range (tokens text.now) ≡ true }
     ensures { MatchResult result
         (λ tested. (d : Data) × (read text.now ≡ Some d) × HasHeader kind (R.Checks version) (R.Holds version) d tested rows.new)
-        (RefusesText kind text.now) }
+        (OrMemory NoMemory (RefusesText kind text.now)) }
 {
     match read_object(alloc, text, scratch, kind, version, rows)? {
         Some(header) => test_header(header),
@@ -125,7 +125,7 @@ fn read_object<R: Rows>(
     ensures { MatchResult result
         (λ header. MatchOption header ((d : Data) × (read text.now ≡ Some d) × (as_object d ≡ None))
         (λ h. (ms : Members) × (read text.now ≡ Some (object ms)) × Shows kind (R.Checks version) (R.Holds version) h rows.new ms))
-        (λ e. (e ≡ NoMemory) ⊎ ((e ≡ NotJson) × (read text.now ≡ None))) }
+        (OrMemory NoMemory (λ e. (e ≡ NotJson) × (read text.now ≡ None))) }
 {
     let Ok(mut reader) = Reader::new(text, scratch) else {
         return Err(DocCause::NoMemory);
@@ -158,7 +158,7 @@ fn read_rest<R: Rows>(
     requires places { length reader.old < 2 ^ 64 }
     ensures { MatchResult result
         (λ header. (ms : Members) × ReadsMembers 126 reader.old ms [] × Shows kind (R.Checks version) (R.Holds version) header rows.new ms)
-        (λ e. (e ≡ NoMemory) ⊎ ((e ≡ NotJson) × IsNotWhole reader.old)) }
+        (OrMemory NoMemory (λ e. (e ≡ NotJson) × IsNotWhole reader.old)) }
 {
     let header = read_members(alloc, reader, kind, version, rows)?;
     match reader.next() {
@@ -171,7 +171,7 @@ fn read_rest<R: Rows>(
 pub(crate) fn check_value(text: &str, scratch: &mut Scratch) -> Result<(), DocCause>
     requires { are_in_range (tokens text.now) ≡ true }
     ensures { MatchResult result (λ _. (d : Data) × (read text.now ≡ Some d))
-        (λ e. (e ≡ NoMemory) ⊎ ((e ≡ NotJson) × (read text.now ≡ None))) }
+        (OrMemory NoMemory (λ e. (e ≡ NotJson) × (read text.now ≡ None))) }
 {
     let Ok(mut reader) = Reader::new(text, scratch) else {
         return Err(DocCause::NoMemory);

@@ -1,8 +1,9 @@
 //! JSON read from a text a value at a time.
-ghost use Rattle.std.specs.Prelude.{◌≡◌, ◌⊎◌, ◌<◌, None, length, true, IfOk, IfErr, OnOk};
+ghost use Rattle.std.specs.Prelude.{◌≡◌, ◌<◌, None, length, true, IfOk, IfErr, OnOk};
 ghost use Rattle.json.specs.Json.{value};
 ghost use Rattle.json.specs.Reads.{token_of};
 ghost use Rattle.json.specs.Value.{value_view};
+ghost use Rattle.docs_core.specs.Checks.{OrMemory};
 ghost use Rattle.docs_core.specs.Numbers.{are_in_range, is_token_in_range};
 ghost use Rattle.docs_core.specs.Reads.{IsRead, Reads, seen};
 ghost use Rattle.docs_core.specs.declared.fault.DocCause.TheVariants.{NoMemory, NotJson};
@@ -44,7 +45,7 @@ pub fn next_value<'t>(
     ensures read { IfOk result (λ v. IsRead (value_view v)) }
     ensures left { OnOk result (are_in_range reader.new ≡ true) }
     ensures shorter { OnOk result (length reader.new < length reader.old) }
-    ensures err { IfErr result (λ e. (e ≡ NoMemory) ⊎ ((e ≡ NotJson) × (value depth reader.old ≡ None))) }
+    ensures err { IfErr result (OrMemory NoMemory (λ e. (e ≡ NotJson) × (value depth reader.old ≡ None))) }
 {
     match Value::read(alloc, reader, depth) {
         Ok(value) => Ok(value),

@@ -1,10 +1,10 @@
 //! The labels of a language-map document, made of its rows.
-ghost use Rattle.std.specs.Prelude.{◌≡◌, ◌⊎◌, ◌++◌, ◌∷◌, ◌<◌, ◌^◌, [], List, ℕ, Bool, MatchResult, IfErr, OnOk, IfOk, map, string_bytes, unwrap_or, length};
+ghost use Rattle.std.specs.Prelude.{◌≡◌, ◌++◌, ◌∷◌, ◌<◌, ◌^◌, [], List, ℕ, Bool, MatchResult, IfErr, OnOk, IfOk, map, string_bytes, unwrap_or, length};
 ghost use Rattle.std.specs.List.Sorted.{IsPermutation};
 ghost use Rattle.cell_core.specs.Maps.{IsMap};
 ghost use Rattle.cata_core.specs.Entries.{key_cmp, text_cmp};
 ghost use Rattle.cata_core.specs.Flat.{under};
-ghost use Rattle.docs_core.specs.Checks.{AllPass, FirstFails};
+ghost use Rattle.docs_core.specs.Checks.{AllPass, FirstFails, OrMemory};
 ghost use Rattle.docs_core.specs.LangMapChecks.{IsLabelOrNone, IsStringsRefusal, is_marked, key_checks, keys_checks, message_checks, row_checks, rows_checks};
 ghost use Rattle.docs_core.specs.LangMapLabels.{languages_of, rows_labels};
 ghost use Rattle.docs_core.specs.LangMapRows.{Keys as PlainKeys};
@@ -28,7 +28,7 @@ use std::collections::BTreeMap;
 pub(crate) fn labels_of(alloc: Global, rows: Rows) -> Result<LangMaps, DocCause>
     ensures { MatchResult result
         (λ maps. AllPass (rows_checks 0 (rows_seen rows.entries)) × IsPermutation (rows_labels (rows_seen rows.entries)) maps × IsMap key_cmp maps)
-        (λ e. (e ≡ NoMemory) ⊎ FirstFails (rows_checks 0 (rows_seen rows.entries)) e) }
+        (OrMemory NoMemory (FirstFails (rows_checks 0 (rows_seen rows.entries)))) }
 {
     let mut maps = LangMaps::new(alloc);
     let mut row = 0;
@@ -50,7 +50,7 @@ fn add_row(
     requires lesser { AreLesser maps.old (string_bytes name) }
     requires sorted { IsMap key_cmp maps.old }
     ensures ok { OnOk result (AllPass (row_checks row (string_bytes name, keys_in_seen keys)) × AddsRow maps.old maps.new (string_bytes name, keys_in_seen keys)) }
-    ensures err { IfErr result (λ e. (e ≡ NoMemory) ⊎ FirstFails (row_checks row (string_bytes name, keys_in_seen keys)) e) }
+    ensures err { IfErr result (OrMemory NoMemory (FirstFails (row_checks row (string_bytes name, keys_in_seen keys)))) }
 {
     if is_marked(&name) {
         return Ok(());
@@ -79,7 +79,7 @@ fn add_message(
     requires lesser { AreLesser maps.old (string_bytes name) }
     requires sorted { IsMap key_cmp maps.old }
     ensures ok { OnOk result (AllPass (message_checks row (string_bytes name) (keys_in_seen keys)) × AddsLanguages maps.old maps.new (string_bytes name) (unwrap_or (keys_in_seen keys) [])) }
-    ensures err { IfErr result (λ e. (e ≡ NoMemory) ⊎ FirstFails (message_checks row (string_bytes name) (keys_in_seen keys)) e) }
+    ensures err { IfErr result (OrMemory NoMemory (FirstFails (message_checks row (string_bytes name) (keys_in_seen keys)))) }
 {
     let id = id_of_name(row, name)?;
     let Some(keys) = keys else {
@@ -114,7 +114,7 @@ fn languages_of(
 ) -> Result<BTreeMap<Lang, Option<Label>>, DocCause>
     ensures { MatchResult result
         (λ found. AllPass (keys_checks row [] (keys_seen keys.entries)) × HoldsKeys (keys_seen keys.entries) found.entries)
-        (λ e. (e ≡ NoMemory) ⊎ FirstFails (keys_checks row [] (keys_seen keys.entries)) e) }
+        (OrMemory NoMemory (FirstFails (keys_checks row [] (keys_seen keys.entries)))) }
 {
     let mut found = BTreeMap::new(alloc);
     'keys: for (key, strings) in keys {
@@ -134,7 +134,7 @@ fn add_key(
     ensures ok { OnOk result ((before : PlainKeys) → HoldsKeys before found.old.entries
         → AllPass (key_checks row (map (λ m. m.0) before) (string_bytes key) (strings_seen strings))
         × HoldsKeys (before ++ (string_bytes key, strings_seen strings) ∷ []) found.new.entries) }
-    ensures err { IfErr result (λ e. (e ≡ NoMemory) ⊎ ((before : PlainKeys) → HoldsKeys before found.old.entries
+    ensures err { IfErr result (OrMemory NoMemory (λ e. (before : PlainKeys) → HoldsKeys before found.old.entries
         → FirstFails (key_checks row (map (λ m. m.0) before) (string_bytes key) (strings_seen strings)) e)) }
 {
     let lang = language_of(alloc, row, key.as_str())?;
@@ -155,7 +155,7 @@ fn add_key(
 fn label_of(row: usize, strings: Vec<String>) -> Result<Option<Label>, DocCause>
     ensures { let texts = map string_bytes strings.items in MatchResult result
         (λ label. IsLabelOrNone texts × IsOneLabel texts label)
-        (λ e. (e ≡ NoMemory) ⊎ IsStringsRefusal row texts e) }
+        (OrMemory NoMemory (IsStringsRefusal row texts)) }
 {
     if strings.is_empty() {
         return Ok(None);

@@ -1,11 +1,12 @@
 //! The rows of a language-map document, read off its text.
-ghost use Rattle.std.specs.Prelude.{◌≡◌, ◌⊎◌, ◌<◌, ◌∷◌, ◌++◌, [], ℕ, Option, None, Some, true, length, map, MatchResult, IfOk, OnOk, string_bytes};
+ghost use Rattle.std.specs.Prelude.{◌≡◌, ◌<◌, ◌∷◌, ◌++◌, [], ℕ, Option, None, Some, true, length, map, MatchResult, IfOk, OnOk, string_bytes};
 ghost use Rattle.std.specs.List.{filter_map};
 ghost use Rattle.json.specs.Value.{value_view};
 ghost use Rattle.serde_json.specs.Data.{Data, Items, Members};
 ghost use Rattle.serde_json.specs.Find.{as_str};
 ghost use Rattle.serde_json.specs.Read.{read};
 ghost use Rattle.docs_core.specs.Arrays.{ReadsItems, ReadsNoItems};
+ghost use Rattle.docs_core.specs.Checks.{OrMemory};
 ghost use Rattle.docs_core.specs.LangMapRows.{Keys as PlainKeys, Strings as PlainStrings, is_string_or_null, keys_in, members_by, rows_in, rows_of, strings_in, strings_of};
 ghost use Rattle.docs_core.specs.LangMapRowsSeen.{keys_in_seen, members_seen, rows_in_seen, rows_seen, strings_seen};
 ghost use Rattle.docs_core.specs.MembersRead.{IsNotWhole, ReadsMembers, ReadsNoMembers, ReadsNone};
@@ -31,7 +32,7 @@ const MOST_DEPTH: usize = 125;
 pub(crate) fn read_rows(alloc: Global, text: &str) -> Result<Option<Rows>, DocCause>
     ensures { MatchResult result
         (λ rows. (d : Data) × (read text.now ≡ Some d) × (rows_in_seen rows ≡ rows_in d))
-        (λ e. (e ≡ NoMemory) ⊎ ((e ≡ NotJson) × (read text.now ≡ None))) }
+        (OrMemory NoMemory (λ e. (e ≡ NotJson) × (read text.now ≡ None))) }
 {
     let mut scratch = Scratch::new(alloc);
     check_numbers(text, &mut scratch)?;
@@ -50,7 +51,7 @@ fn read_rest(alloc: Global, reader: &mut Reader<'_>) -> Result<Rows, DocCause>
     requires { are_in_range reader.old ≡ true }
     ensures { MatchResult result
         (λ rows. (ms : Members) × ReadsMembers 126 reader.old ms [] × (rows_seen rows.entries ≡ rows_of ms))
-        (λ e. (e ≡ NoMemory) ⊎ ((e ≡ NotJson) × IsNotWhole reader.old)) }
+        (OrMemory NoMemory (λ e. (e ≡ NotJson) × IsNotWhole reader.old)) }
 {
     let rows = read_members(alloc, reader)?;
     match reader.next() {
@@ -77,7 +78,7 @@ trait MemberValue: Sized {
         requires { are_in_range reader.old ≡ true }
         ensures read { MatchResult result
             (λ found. (d : Data) × Reads most_depth reader.old d reader.new × (seen_of found ≡ in_data d))
-            (ReadsNone most_depth reader.old) }
+            (OrMemory NoMemory (ReadsNone most_depth reader.old)) }
         ensures left { OnOk result (are_in_range reader.new ≡ true) }
         ensures shorter { OnOk result (length reader.new < length reader.old) };
 }
@@ -90,7 +91,7 @@ fn read_members<V: MemberValue + Drop>(
     requires { are_in_range reader.old ≡ true }
     ensures read { MatchResult result
         (λ found. (ms : Members) × ReadsMembers V.most_depth reader.old ms reader.new × (members_seen V.seen_of found.entries ≡ members_by V.in_data ms))
-        (λ e. (e ≡ NoMemory) ⊎ ((e ≡ NotJson) × ReadsNoMembers V.most_depth reader.old)) }
+        (OrMemory NoMemory (λ e. (e ≡ NotJson) × ReadsNoMembers V.most_depth reader.old)) }
     ensures left { OnOk result (are_in_range reader.new ≡ true) }
     ensures shorter { OnOk result (length reader.new < length reader.old) }
 {
@@ -137,7 +138,7 @@ fn read_keys(alloc: Global, reader: &mut Reader<'_>) -> Result<Option<Keys>, Doc
     requires { are_in_range reader.old ≡ true }
     ensures read { MatchResult result
         (λ keys. (d : Data) × Reads 126 reader.old d reader.new × (keys_in_seen keys ≡ keys_in d))
-        (ReadsNone 126 reader.old) }
+        (OrMemory NoMemory (ReadsNone 126 reader.old)) }
     ensures left { OnOk result (are_in_range reader.new ≡ true) }
     ensures shorter { OnOk result (length reader.new < length reader.old) }
 {

@@ -1,7 +1,9 @@
 //! Language-map documents read.
 ghost use Rattle.std.specs.Prelude.{MatchResult};
+ghost use Rattle.docs_core.specs.Checks.{OrMemory};
 ghost use Rattle.docs_core.specs.LangMapLabels.{AreLangMaps, RefusesLangMaps};
-ghost use Rattle.docs_core.specs.ReadsAs.{IsOfDocument};
+ghost use Rattle.docs_core.specs.ReadsAs.{IsOfDocument, no_memory};
+ghost use Rattle.docs_core.specs.declared.fault.DocCause.TheVariants.{NoMemory};
 
 use crate::document::tested_header::text_in;
 use crate::fault::{DocCause, DocFault, Spot};
@@ -23,7 +25,7 @@ use std::alloc::Global;
 /// key is equal without case (22), or by its value's shape (20) or label (12, 11). Out of memory
 /// (26) may come first, and means no document.
 pub fn read_langmaps(alloc: Global, bytes: &[u8]) -> Result<LangMaps, DocFault>
-    ensures { MatchResult result (AreLangMaps bytes.now) (IsOfDocument 1 (RefusesLangMaps bytes.now)) }
+    ensures { MatchResult result (AreLangMaps bytes.now) (OrMemory no_memory (IsOfDocument 1 (RefusesLangMaps bytes.now))) }
 {
     langmaps_of_document(alloc, 1, bytes)
 }
@@ -34,7 +36,7 @@ pub(crate) fn langmaps_of_document(
     document: u8,
     bytes: &[u8],
 ) -> Result<LangMaps, DocFault>
-    ensures { MatchResult result (AreLangMaps bytes.now) (IsOfDocument document (RefusesLangMaps bytes.now)) }
+    ensures { MatchResult result (AreLangMaps bytes.now) (OrMemory no_memory (IsOfDocument document (RefusesLangMaps bytes.now))) }
 {
     match langmaps_in(alloc, bytes) {
         Ok(maps) => Ok(maps),
@@ -43,7 +45,7 @@ pub(crate) fn langmaps_of_document(
 }
 
 fn langmaps_in(alloc: Global, bytes: &[u8]) -> Result<LangMaps, DocCause>
-    ensures { MatchResult result (AreLangMaps bytes.now) (RefusesLangMaps bytes.now) }
+    ensures { MatchResult result (AreLangMaps bytes.now) (OrMemory NoMemory (RefusesLangMaps bytes.now)) }
 {
     let text = text_in(bytes)?;
     match read_rows(alloc, text)? {

@@ -1,10 +1,10 @@
 //! The rows of an array, taken one after another as they are read.
-ghost use Rattle.std.specs.Prelude.{◌≡◌, ◌≢◌, ◌⊎◌, ◌∷◌, [], ◌++◌, ◌<◌, ◌+◌, ◌≤◌, ◌^◌, ℕ, List, None, true, length, MatchResult, OnOk, IfErr};
+ghost use Rattle.std.specs.Prelude.{◌≡◌, ◌≢◌, ◌∷◌, [], ◌++◌, ◌<◌, ◌+◌, ◌≤◌, ◌^◌, ℕ, List, None, true, length, MatchResult, OnOk, IfErr};
 ghost use Rattle.json.specs.Json.{value};
 ghost use Rattle.json.specs.Value.{value_view};
 ghost use Rattle.serde_json.specs.Data.{Data, Items};
 ghost use Rattle.docs_core.specs.Arrays.{ReadsItems, ReadsNoItems, TakesNext, TakesRows};
-ghost use Rattle.docs_core.specs.Checks.{AllPass, Check, FirstFails};
+ghost use Rattle.docs_core.specs.Checks.{AllPass, Check, FirstFails, OrMemory};
 ghost use Rattle.docs_core.specs.Numbers.{are_in_range};
 ghost use Rattle.docs_core.specs.Reads.{IsRead, Reads, seen};
 ghost use Rattle.docs_core.specs.Rows.{list_of};
@@ -40,7 +40,7 @@ pub trait Rows {
         requires { IsRead (value_view row.now) }
         ensures ok { OnOk result ((before : List Data) → length before ≡ place → Holds version self.old before
             → AllPass (Checks version before (seen row.now)) × Holds version self.new (before ++ seen row.now ∷ [])) }
-        ensures err { IfErr result (λ e. (e ≡ NoMemory) ⊎ ((before : List Data) → length before ≡ place → Holds version self.old before
+        ensures err { IfErr result (OrMemory NoMemory (λ e. (before : List Data) → length before ≡ place → Holds version self.old before
             → FirstFails (Checks version before (seen row.now)) e)) };
 }
 
@@ -57,7 +57,7 @@ pub fn read_rows<R: Rows>(
     requires places { length reader.old < 2 ^ 64 }
     ensures read { MatchResult result
         (λ refusal. (ds : Items) × ReadsItems depth reader.old ds reader.new × TakesRows (R.Checks version) (R.Holds version) [] rows.new refusal (list_of ds))
-        (λ e. (e ≡ NoMemory) ⊎ ((e ≡ NotJson) × ReadsNoItems depth reader.old)) }
+        (OrMemory NoMemory (λ e. (e ≡ NotJson) × ReadsNoItems depth reader.old)) }
     ensures left { OnOk result (are_in_range reader.new ≡ true) }
     ensures shorter { OnOk result (length reader.new < length reader.old) }
 {
@@ -87,7 +87,7 @@ fn read_row<R: Rows>(
     requires { are_in_range reader.old ≡ true }
     ensures read { MatchResult result
         (λ next. (d : Data) × Reads depth reader.old d reader.new × ((before : List Data) → length before ≡ place → TakesNext (R.Checks version) (R.Holds version) before refusal rows.old rows.new next d))
-        (λ e. (e ≡ NoMemory) ⊎ ((e ≡ NotJson) × (value depth reader.old ≡ None))) }
+        (OrMemory NoMemory (λ e. (e ≡ NotJson) × (value depth reader.old ≡ None))) }
     ensures left { OnOk result (are_in_range reader.new ≡ true) }
     ensures shorter { OnOk result (length reader.new < length reader.old) }
 {

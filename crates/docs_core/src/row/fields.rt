@@ -1,10 +1,10 @@
 //! The fields of a row, each by the call that reads it.
-ghost use Rattle.std.specs.Prelude.{◌≡◌, ◌⊎◌, Some, map, option_map, string_bytes, MatchResult, IfOk};
+ghost use Rattle.std.specs.Prelude.{◌≡◌, Some, map, option_map, string_bytes, MatchResult, IfOk};
 ghost use Rattle.cell_core.specs.MessageIds.{IsMessageId};
 ghost use Rattle.cell_core.specs.SiteNames.{IsSiteName};
 ghost use Rattle.cell_core.specs.declared.fault.CellFault.TheVariants.{IdRefused, SiteName as NameRefused};
 ghost use Rattle.lang_core.specs.Lang.{SpellsLang};
-ghost use Rattle.docs_core.specs.Checks.{AllPass, FirstFails};
+ghost use Rattle.docs_core.specs.Checks.{AllPass, FirstFails, OrMemory};
 ghost use Rattle.docs_core.specs.Fields.{IsLabelRefusal, IsLabelText, IsLanguageRefusal, cell_cause, cell_fields, entry_of, stamp_fields, told_of};
 ghost use Rattle.docs_core.specs.EntriesSeen.{entry_by, told_by};
 ghost use Rattle.docs_core.specs.Reads.{seen};
@@ -24,7 +24,7 @@ use std::alloc::{AllocError, Global};
 /// The id of a row.
 pub fn id_of(alloc: Global, place: usize, text: &str) -> Result<MessageId, DocCause>
     ensures { MatchResult result (λ id. IsMessageId text.now × (id ≡ text.now))
-        (λ e. (e ≡ NoMemory) ⊎ ((¬ (IsMessageId text.now)) × (e ≡ Field place (CellRefused IdRefused)))) }
+        (OrMemory NoMemory (λ e. (¬ (IsMessageId text.now)) × (e ≡ Field place (CellRefused IdRefused)))) }
 {
     match MessageId::new(alloc, text) {
         Ok(id) => Ok(id),
@@ -35,7 +35,7 @@ pub fn id_of(alloc: Global, place: usize, text: &str) -> Result<MessageId, DocCa
 /// The language of a row.
 pub fn language_of(alloc: Global, place: usize, text: &str) -> Result<Lang, DocCause>
     ensures { MatchResult result (SpellsLang text.now)
-        (λ e. (e ≡ NoMemory) ⊎ IsLanguageRefusal place text.now e) }
+        (OrMemory NoMemory (IsLanguageRefusal place text.now)) }
 {
     match Lang::parse(alloc, text.as_bytes()) {
         Ok(lang) => Ok(lang),
@@ -69,7 +69,7 @@ pub fn label_of(
 ) -> Result<Option<Label>, DocCause>
     requires { AreTextsOf texts }
     ensures { let plain = option_map (λ values. texts_of values.now) texts.entry in MatchResult result (λ label. IsLabelText plain × (label ≡ plain))
-        (λ e. (e ≡ NoMemory) ⊎ IsLabelRefusal place plain e) }
+        (OrMemory NoMemory (IsLabelRefusal place plain)) }
 {
     match texts {
         None => Ok(None),
@@ -83,7 +83,7 @@ pub fn label_of(
 fn label_from(alloc: Global, place: usize, values: &[Value<'_>]) -> Result<Label, DocCause>
     requires { AreTexts values.now }
     ensures { let plain = texts_of values.now in MatchResult result (λ label. IsLabelText (Some plain) × (label ≡ plain))
-        (λ e. (e ≡ NoMemory) ⊎ IsLabelRefusal place (Some plain) e) }
+        (OrMemory NoMemory (IsLabelRefusal place (Some plain))) }
 {
     let texts = copied_texts(alloc, values)?;
     match Label::from_texts(texts) {
@@ -125,7 +125,7 @@ pub struct CellEntry {
 pub fn stamp_entry(alloc: Global, place: usize, row: Row<'_>) -> Result<StampEntry, DocCause>
     ensures { let plain = row_of row.entry in MatchResult result
         (λ x. AllPass (stamp_fields place plain) × (told_by x ≡ told_of plain))
-        (λ e. (e ≡ NoMemory) ⊎ FirstFails (stamp_fields place plain) e) }
+        (OrMemory NoMemory (FirstFails (stamp_fields place plain))) }
 {
     let id = id_of(alloc, place, row.id)?;
     let lang = language_of(alloc, place, row.language)?;
@@ -143,7 +143,7 @@ pub fn cell_entry(alloc: Global, place: usize, cell: CellRow<'_, '_>) -> Result<
     requires { AreTextsOf cell.texts }
     ensures { let plain = row_of cell.entry.row in let texts = option_map (λ values. texts_of values.now) cell.entry.texts in MatchResult result
         (λ x. AllPass (cell_fields place plain texts) × (entry_by x ≡ entry_of plain texts))
-        (λ e. (e ≡ NoMemory) ⊎ FirstFails (cell_fields place plain texts) e) }
+        (OrMemory NoMemory (FirstFails (cell_fields place plain texts))) }
 {
     let StampEntry { id, lang, stamp } = stamp_entry(alloc, place, cell.row)?;
     let label = label_of(alloc, place, cell.texts)?;

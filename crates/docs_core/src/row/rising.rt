@@ -1,7 +1,7 @@
 //! The rows of sites, deltas and summaries, put behind one another as they are read.
-ghost use Rattle.std.specs.Prelude.{◌≡◌, ◌⊎◌, Some, MatchResult};
+ghost use Rattle.std.specs.Prelude.{◌≡◌, Some, MatchResult};
 ghost use Rattle.json.specs.Value.{value_view};
-ghost use Rattle.docs_core.specs.Checks.{AllPass, FirstFails};
+ghost use Rattle.docs_core.specs.Checks.{AllPass, FirstFails, OrMemory};
 ghost use Rattle.docs_core.specs.EntriesSeen.{entry_by, told_by};
 ghost use Rattle.docs_core.specs.Reads.{IsRead, seen};
 ghost use Rattle.docs_core.specs.Rising.{MakesEntries, cell_checks, entry_in, own_cell_checks, own_stamp_checks, stamp_checks, told_in};
@@ -76,7 +76,7 @@ fn own_cell(
     requires { IsRead (value_view row.now) }
     ensures { MatchResult result
         (λ x. AllPass (own_cell_checks version place (seen row.now)) × (entry_in version (seen row.now) ≡ Some (entry_by x)))
-        (λ e. (e ≡ NoMemory) ⊎ FirstFails (own_cell_checks version place (seen row.now)) e) }
+        (OrMemory NoMemory (FirstFails (own_cell_checks version place (seen row.now)))) }
 {
     let Some(cell) = cell_of(version, row) else {
         return Err(DocCause::Shape {
@@ -96,7 +96,7 @@ fn own_stamp(
     requires { IsRead (value_view row.now) }
     ensures { MatchResult result
         (λ x. AllPass (own_stamp_checks version place (seen row.now)) × (told_in version (seen row.now) ≡ Some (told_by x)))
-        (λ e. (e ≡ NoMemory) ⊎ FirstFails (own_stamp_checks version place (seen row.now)) e) }
+        (OrMemory NoMemory (FirstFails (own_stamp_checks version place (seen row.now)))) }
 {
     let Some(stamp) = stamp_of(version, row) else {
         return Err(DocCause::Shape {

@@ -1,14 +1,14 @@
 //! Documents of scripts, read.
 ghost use Rattle.std.specs.Prelude.{◌≡◌, None, Some, is_some, true, MatchResult};
 ghost use Rattle.serde_json.specs.Data.{Data};
-ghost use Rattle.docs_core.specs.Checks.{AllPass, AreJson};
+ghost use Rattle.docs_core.specs.Checks.{AllPass, AreJson, OrMemory};
 ghost use Rattle.docs_core.specs.Headers.{IsSubject, rows_in, subject_data, version_of};
-ghost use Rattle.docs_core.specs.ReadsAs.{IsOfDocument};
+ghost use Rattle.docs_core.specs.ReadsAs.{IsOfDocument, no_memory};
 ghost use Rattle.docs_core.specs.ScriptReads.{ReadsAsScript, RefusesScript, count_of, script_checks, sites_in};
 ghost use Rattle.docs_core.specs.Scripts.{IsSiteCount};
 ghost use Rattle.docs_core.specs.StepFields.{AreSteps};
 ghost use Rattle.docs_core.specs.declared.document.kind.Kind.TheVariants as kind;
-ghost use Rattle.docs_core.specs.declared.fault.DocCause.TheVariants.{Shape};
+ghost use Rattle.docs_core.specs.declared.fault.DocCause.TheVariants.{NoMemory, Shape};
 ghost use Rattle.docs_core.specs.declared.fault.Spot.TheVariants as spot;
 
 use crate::document::header::Subject;
@@ -30,7 +30,7 @@ const MOST_SITES: u64 = 1024;
 /// default (1 to 4) of a question; 26, which may come before a later one. All but 26 name document
 /// 1.
 pub fn read_script(alloc: Global, bytes: &[u8]) -> Result<Script, DocFault>
-    ensures { MatchResult result (ReadsAsScript bytes.now) (IsOfDocument 1 (RefusesScript bytes.now)) }
+    ensures { MatchResult result (ReadsAsScript bytes.now) (OrMemory no_memory (IsOfDocument 1 (RefusesScript bytes.now))) }
 {
     match script_from(alloc, bytes) {
         Ok(script) => Ok(script),
@@ -39,7 +39,7 @@ pub fn read_script(alloc: Global, bytes: &[u8]) -> Result<Script, DocFault>
 }
 
 fn script_from(alloc: Global, bytes: &[u8]) -> Result<Script, DocCause>
-    ensures { MatchResult result (ReadsAsScript bytes.now) (RefusesScript bytes.now) }
+    ensures { MatchResult result (ReadsAsScript bytes.now) (OrMemory NoMemory (RefusesScript bytes.now)) }
 {
     let mut steps = Steps::new(alloc);
     match read_steps(alloc, bytes, &mut steps) {
@@ -53,7 +53,7 @@ fn read_steps(alloc: Global, bytes: &[u8], steps: &mut Steps) -> Result<usize, D
     ensures { MatchResult result
         (λ sites. (d : Data) × AreJson bytes.now d × AllPass (script_checks d) × IsSiteCount sites × (sites_in (subject_data kind.Script d) ≡ Some sites)
         × AreSteps (version_of d) (rows_in kind.Script d) steps.new.steps.items)
-        (RefusesScript bytes.now) }
+        (OrMemory NoMemory (RefusesScript bytes.now)) }
 {
     let tested = match read_header(alloc, bytes, Kind::Script, steps) {
         Ok(tested) => tested,

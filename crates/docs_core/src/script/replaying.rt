@@ -1,10 +1,12 @@
 //! Scripts from a reader to a writer.
 ghost use Rattle.std.specs.Prelude.{◌≡◌, ◌⊎◌, ℕ, List, true, false, IfErr, MatchResult, OnOk};
 ghost use Rattle.std.specs.Io.KnownBytes.{Appends};
+ghost use Rattle.cata_core.specs.declared.play_fault.PlayFault.TheVariants.{NoMemory};
+ghost use Rattle.docs_core.specs.Checks.{OrMemory};
 ghost use Rattle.docs_core.specs.Faults.{of_no_document};
 ghost use Rattle.docs_core.specs.Lines.{lines};
 ghost use Rattle.docs_core.specs.Replays.{IsPlayed, RefusesReplay, RefusesRun, Replays};
-ghost use Rattle.docs_core.specs.ReadsAs.{IsOfDocument};
+ghost use Rattle.docs_core.specs.ReadsAs.{IsOfDocument, no_memory};
 ghost use Rattle.docs_core.specs.ScriptReads.{ReadsAsScript, RefusesScript};
 ghost use Rattle.docs_core.specs.Sinks.{AppendsFront};
 ghost use Rattle.docs_core.specs.Sources.{IsReadFault, ReadsWhole};
@@ -38,7 +40,7 @@ pub fn replay<R: Source, W: Sink>(
     // Of the first stage that refuses: reading, the script with its run and its lines, or writing.
     ensures err { IfErr result (λ fault.
         (IsReadFault R.failed R.remaining reader.old reader.new fault × (writer.new ≡ writer.old))
-        ⊎ ((bytes : List ℕ) × ReadsWhole R.failed R.remaining reader.old reader.new bytes × RefusesReplay bytes fault × (writer.new ≡ writer.old))
+        ⊎ ((bytes : List ℕ) × ReadsWhole R.failed R.remaining reader.old reader.new bytes × OrMemory no_memory (RefusesReplay bytes) fault × (writer.new ≡ writer.old))
         ⊎ ((bytes text : List ℕ) × ReadsWhole R.failed R.remaining reader.old reader.new bytes × Replays bytes text
         × (fault ≡ of_no_document WriteFault) × (W.failed writer.new ≡ true) × AppendsFront (W.contents writer.old) (W.contents writer.new) text)) }
 {
@@ -52,7 +54,7 @@ fn read_and_play<R: Source>(alloc: Global, reader: &mut R) -> Result<Doc, DocFau
     ensures { MatchResult result
         (λ text. (bytes : List ℕ) × ReadsWhole R.failed R.remaining reader.old reader.new bytes × Replays bytes text)
         (λ fault. IsReadFault R.failed R.remaining reader.old reader.new fault
-        ⊎ ((bytes : List ℕ) × ReadsWhole R.failed R.remaining reader.old reader.new bytes × RefusesReplay bytes fault)) }
+        ⊎ ((bytes : List ℕ) × ReadsWhole R.failed R.remaining reader.old reader.new bytes × OrMemory no_memory (RefusesReplay bytes) fault)) }
 {
     let bytes = read_all(alloc, reader)?;
     play_script(alloc, bytes)
@@ -60,7 +62,7 @@ fn read_and_play<R: Source>(alloc: Global, reader: &mut R) -> Result<Doc, DocFau
 
 // The lines of a script. The bytes are given back before it runs.
 fn play_script(alloc: Global, bytes: Doc) -> Result<Doc, DocFault>
-    ensures { MatchResult result (Replays bytes) (RefusesReplay bytes) }
+    ensures { MatchResult result (Replays bytes) (OrMemory no_memory (RefusesReplay bytes)) }
 {
     let script = script_in(alloc, bytes)?;
     let answers = answers_of(alloc, &script)?;
@@ -69,13 +71,13 @@ fn play_script(alloc: Global, bytes: Doc) -> Result<Doc, DocFault>
 }
 
 fn script_in(alloc: Global, bytes: Doc) -> Result<Script, DocFault>
-    ensures { MatchResult result (ReadsAsScript bytes) (IsOfDocument 1 (RefusesScript bytes)) }
+    ensures { MatchResult result (ReadsAsScript bytes) (OrMemory no_memory (IsOfDocument 1 (RefusesScript bytes))) }
 {
     read_script(alloc, bytes.bytes())
 }
 
 fn answers_of(alloc: Global, script: &Script) -> Result<Answers, PlayFault>
-    ensures { MatchResult result (IsPlayed script.now) (RefusesRun script.now) }
+    ensures { MatchResult result (IsPlayed script.now) (OrMemory NoMemory (RefusesRun script.now)) }
 {
     play(alloc, script.sites(), script.steps())
 }

@@ -1,7 +1,7 @@
 //! The fields of a step, each by the call that reads it.
-ghost use Rattle.std.specs.Prelude.{◌≡◌, ◌⊎◌, option_map, MatchResult};
+ghost use Rattle.std.specs.Prelude.{◌≡◌, option_map, MatchResult};
 ghost use Rattle.std.specs.Str.{str_to_ascii_lowercase};
-ghost use Rattle.docs_core.specs.Checks.{AllPass, FirstFails};
+ghost use Rattle.docs_core.specs.Checks.{AllPass, FirstFails, OrMemory};
 ghost use Rattle.docs_core.specs.RowsSeen.{AreTextsOf, cell_of};
 ghost use Rattle.docs_core.specs.StepFields.{IsListRefusal, Lists, Makes, default_checks, step_fields};
 ghost use Rattle.docs_core.specs.Steps.{edit_step, filter_step, lookup_step};
@@ -25,7 +25,7 @@ use std::alloc::Global;
 pub fn read_step(alloc: Global, place: usize, row: StepRow<'_, '_>) -> Result<Step, DocCause>
     requires { HasTexts row }
     ensures { MatchResult result (λ step. AllPass (step_fields place (text_of row.entry)) × Makes (text_of row.entry) step)
-        (λ e. (e ≡ NoMemory) ⊎ FirstFails (step_fields place (text_of row.entry)) e) }
+        (OrMemory NoMemory (FirstFails (step_fields place (text_of row.entry)))) }
 {
     match row {
         StepRow::Edit { site, cell } => read_edit(alloc, place, site, cell),
@@ -70,7 +70,7 @@ fn read_edit(
     requires { AreTextsOf cell.texts }
     ensures { let text = edit_step site (cell_of cell.entry) in MatchResult result
         (λ step. AllPass (step_fields place text) × Makes text step)
-        (λ e. (e ≡ NoMemory) ⊎ FirstFails (step_fields place text) e) }
+        (OrMemory NoMemory (FirstFails (step_fields place text))) }
 {
     let CellEntry { id, lang, cell } = cell_entry(alloc, place, cell)?;
     Ok(Step::Edit {
@@ -89,7 +89,7 @@ fn read_filter(
 ) -> Result<Step, DocCause>
     ensures { let text = filter_step site id.now scheme field.now in MatchResult result
         (λ step. AllPass (step_fields place text) × Makes text step)
-        (λ e. (e ≡ NoMemory) ⊎ FirstFails (step_fields place text) e) }
+        (OrMemory NoMemory (FirstFails (step_fields place text))) }
 {
     let id = id_of(alloc, place, id)?;
     let list = list_of(alloc, place, scheme, field)?;
@@ -111,7 +111,7 @@ fn read_lookup(
 ) -> Result<Step, DocCause>
     ensures { let text = lookup_step site id.now field.now (option_map (λ s. s.now) default.entry) in MatchResult result
         (λ step. AllPass (step_fields place text) × Makes text step)
-        (λ e. (e ≡ NoMemory) ⊎ FirstFails (step_fields place text) e) }
+        (OrMemory NoMemory (FirstFails (step_fields place text))) }
 {
     let id = id_of(alloc, place, id)?;
     let list = list_of(alloc, place, Scheme::Basic, field)?;
@@ -132,7 +132,7 @@ fn list_of(
     field: &str,
 ) -> Result<PriorityList, DocCause>
     ensures { MatchResult result (Lists scheme field.now)
-        (λ e. (e ≡ NoMemory) ⊎ IsListRefusal place scheme field.now e) }
+        (OrMemory NoMemory (IsListRefusal place scheme field.now)) }
 {
     match PriorityList::parse(alloc, scheme, Malformed::Refused, field.as_bytes()) {
         Ok(list) => Ok(list),
@@ -148,7 +148,7 @@ fn list_of(
 fn default_of(alloc: Global, place: usize, default: Option<&str>) -> Result<Option<Lang>, DocCause>
     ensures { let text = option_map (λ s. s.now) default.entry in MatchResult result
         (λ lang. AllPass (default_checks place text) × (lang ≡ option_map str_to_ascii_lowercase text))
-        (λ e. (e ≡ NoMemory) ⊎ FirstFails (default_checks place text) e) }
+        (OrMemory NoMemory (FirstFails (default_checks place text))) }
 {
     match default {
         None => Ok(None),

@@ -1,6 +1,5 @@
 use Rattle.std.proofs.Common.{inl, inr, refl}
 use Rattle.std.proofs.lemmas.Result.{err_from_is_err_and}
-use Rattle.docs_core.specs.declared.fault.DocCause.TheVariants.{NoMemory}
 use Rattle.front_core.specs.Asks.{HasFilter}
 use Rattle.front_core.specs.Fields.{field_text}
 use Rattle.command_core.proofs.commands.filter.answer_of.Goals as goal
@@ -32,4 +31,4 @@ returns-in_err-answer g c =
     let is = c.in_ok-question.ensures in
     let fits : HasFilter c.args.asked.id.now (field_text c.args.asked.field) = (is.0, (c.in_ok-question.question.list, is.3)) in
     let p = err_from_is_err_and c.from_residual-in_err-answer.result c.from_residual-in_err-answer.ensures.1 in
-    rw (p.1, p.2) (fits, inr (c.in_ok-input.input, c.in_ok-input.ensures, (NoMemory, inl (inl refl), refl)))
+    rw (p.1, p.2) (fits, inr (c.in_ok-input.input, c.in_ok-input.ensures, inl refl))

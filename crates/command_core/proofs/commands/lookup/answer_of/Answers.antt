@@ -1,6 +1,5 @@
 use Rattle.std.proofs.Common.{Bor, List, ℕ, inl, inr, option_map, refl}
 use Rattle.std.proofs.lemmas.Result.{err_from_is_err_and}
-use Rattle.docs_core.specs.declared.fault.DocCause.TheVariants.{NoMemory}
 use Rattle.front_core.specs.Asks.{HasLookup}
 use Rattle.front_core.specs.Fields.{field_text}
 use Rattle.command_core.proofs.commands.lookup.answer_of.Goals as goal
@@ -38,4 +37,4 @@ returns-in_err-answer g c =
     let is = c.in_ok-question.ensures in
     let fits : HasLookup c.args.asked.id.now (field_text c.args.asked.field) default = (is.0, ((asked.default, is.2.1), (asked.list, is.2.0))) in
     let p = err_from_is_err_and c.from_residual-in_err-answer.result c.from_residual-in_err-answer.ensures.1 in
-    rw (p.1, p.2) (fits, inr (c.in_ok-input.input, c.in_ok-input.ensures, (NoMemory, inl (inl refl), refl)))
+    rw (p.1, p.2) (fits, inr (c.in_ok-input.input, c.in_ok-input.ensures, inl refl))

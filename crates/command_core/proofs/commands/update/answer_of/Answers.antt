@@ -1,4 +1,6 @@
-use Rattle.std.proofs.Common.{refl}
+use Rattle.std.proofs.Common.{inr, refl}
+use Rattle.std.proofs.lemmas.Result.{err_from_is_err_and}
+use Rattle.docs_core.proofs.LangMapLabelsLemmas.{else_by}
 use Rattle.command_core.proofs.commands.update.answer_of.Goals as goal
 
 pub returns : goal.returns
@@ -6,3 +8,8 @@ returns g c =
     let three = c.three_documents.result in
     rw c.document.ensures
     (c.in_ok-input.input, c.in_ok-input.ensures, (three.0.now, three.1.now, three.2.now, rw (← c.bytes.ensures) c.three_documents.ensures, c.in_ok-text.ensures, refl))
+
+pub returns-in_err-text : goal.returns-in_err-text
+returns-in_err-text g c =
+    let p = err_from_is_err_and c.from_residual-in_err-text.result c.from_residual-in_err-text.ensures.1 in
+    rw (p.1, p.2) (tt, inr (c.in_ok-input.input, c.in_ok-input.ensures, else_by c.in_err-text.ensures (λ h. (c.three_documents.result.0.now, c.three_documents.result.1.now, c.three_documents.result.2.now, rw (← c.bytes.ensures) c.three_documents.ensures, h))))

@@ -1,8 +1,8 @@
-use Rattle.std.proofs.Common.{◌≡◌, inl}
+use Rattle.std.proofs.Common.{◌≡◌, inl, inr}
 use Rattle.std.proofs.lemmas.Result.{err_from_is_err_and}
-use Rattle.docs_core.specs.SiteDocuments.{site_checks}
-use Rattle.docs_core.proofs.CallsLemmas.{no_memory, site_written}
+use Rattle.docs_core.proofs.CallsLemmas.{site_written}
 use Rattle.docs_core.proofs.ExchangeLemmas.{not_imported}
+use Rattle.docs_core.proofs.LangMapLabelsLemmas.{else_by}
 use Rattle.docs_core.proofs.call.language_maps.import_document.Goals as goal
 
 pub returns : goal.returns
@@ -13,10 +13,10 @@ returns c =
     let same : left ≡ record { name = site.name; cells = left.cells } = λ i. record { name = put.name i; cells = left.cells } in
     (site, c.in_ok-maps.maps, left.cells, c.in_ok-site.ensures, c.in_ok-maps.ensures, put.ok, site_written c.in_ok-doc.doc left _ same c.in_ok-doc.ensures.text c.in_ok-doc.ensures.reads)
 
-pub returns-in_err-doc : goal.returns-in_err-doc
-returns-in_err-doc c =
-    let p = err_from_is_err_and c.from_residual-in_err-doc.result c.from_residual-in_err-doc.ensures.1 in
-    rw p.1 (inl (no_memory site_checks c.args.site.now 1 p.0 p.2))
+pub returns-in_err-maps : goal.returns-in_err-maps
+returns-in_err-maps c =
+    let p = err_from_is_err_and c.from_residual-in_err-maps.result c.from_residual-in_err-maps.ensures.1 in
+    rw (p.1, p.2) (else_by c.in_err-maps.ensures (λ h. inr (inl (c.in_ok-site.site, c.in_ok-site.ensures, h))))
 
 pub returns-in_err-put_labels : goal.returns-in_err-put_labels
 returns-in_err-put_labels c =

@@ -4,8 +4,7 @@ use Rattle.json.specs.Reads.{token_of}
 use Rattle.json.specs.Token.{begin_array, begin_object}
 use Rattle.serde_json.specs.Data.{array, object}
 use Rattle.docs_core.proofs.LangMapLabelsLemmas.{else_by}
-use Rattle.docs_core.proofs.LangMapMembersLemmas.{scalar_row}
-use Rattle.docs_core.proofs.MembersLemmas.{array_read, no_array, no_object, no_scalar, nothing_read, object_read}
+use Rattle.docs_core.proofs.MembersLemmas.{array_read, no_array, no_object, no_scalar, nothing_read, object_read, scalar_read}
 use Rattle.docs_core.proofs.language_map.members.read_keys.Goals as goal
 
 pub returns-in_default-clause-read : goal.returns-in_default-clause-read
@@ -50,5 +49,5 @@ pub returns-else-not-is_scalar-clause-read : goal.returns-else-not-is_scalar-cla
 returns-else-not-is_scalar-clause-read c =
     let first = c.in-Some.ensures.value in
     let ts = c.next.new.self in
-    let read = scalar_row (token_of c.in-Some.token) ts (sym c.if-not-is_scalar.ensures) (rw first at c.requires) in
-    (read.0, rw first read.1, read.2)
+    let read = scalar_read (token_of c.in-Some.token) ts (sym c.if-not-is_scalar.ensures) (rw first at c.requires) in
+    (read.0, rw first read.1, read.3)
