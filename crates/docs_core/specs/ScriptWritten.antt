@@ -1,10 +1,11 @@
 -- Documents of scripts, written. Own rule: the members of an object stand in byte order of their names.
-use Rattle.std.specs.Prelude.{◌≡◌, ◌⊎◌, ℕ, List, [], ◌∷◌, codes, decimal, map, take, All, Some, slice_get}
+use Rattle.std.specs.Prelude.{◌≡◌, ℕ, List, [], ◌∷◌, codes, decimal, map, take, All, Some, slice_get}
 use Rattle.cata_core.specs.declared.step.Step.{Step}
 use Rattle.json.specs.Token.{begin_object, begin_array, key, number as number_token, string as string_token}
 use Rattle.json.specs.Written.{Written}
 use Rattle.serde_json.specs.Data.{Data, object, array, number, unsigned, string, no_members, member}
 use Rattle.serde_json.specs.View.{items_of}
+use Rattle.docs_core.specs.Checks.{OrMemory}
 use Rattle.docs_core.specs.Faults.{of_no_document}
 use Rattle.docs_core.specs.Steps.{StepText}
 use Rattle.docs_core.specs.StepsWritten.{IsRowOf, IsWritable, step_value}
@@ -23,7 +24,7 @@ pub record IsFirstUnwritable (steps : List Step) (place : ℕ) : Type 0 where
 
 -- why a script of these steps has no document: memory ran out, or its first step that none can have, whose row is meant
 abbrev pub RefusesWriting : List Step → DocCause → Type 0
-RefusesWriting steps cause = (cause ≡ NoMemory) ⊎ ((place : ℕ) × IsFirstUnwritable steps place × (cause ≡ Shape (spot.Row place)))
+RefusesWriting steps = OrMemory NoMemory (λ cause. (place : ℕ) × IsFirstUnwritable steps place × (cause ≡ Shape (spot.Row place)))
 
 -- a refusal that means no input document
 abbrev pub IsOfNone : (DocCause → Type 0) → DocFault → Type 0

@@ -1,5 +1,5 @@
 -- Which steps a document can have, and their JSON values, version 2. Own rule.
-use Rattle.std.specs.Prelude.{◌≡◌, ◌<◌, ◌^◌, ◌⊎◌, ℕ, List, codes, Option, None, Some}
+use Rattle.std.specs.Prelude.{◌≡◌, ◌<◌, ◌^◌, ℕ, List, codes, Option, None, Some}
 use Rattle.cata_core.specs.declared.step.Step.{Step}
 use Rattle.cata_core.specs.declared.step.Step.TheVariants.{Edit, Merge, AskFilter, AskLookup, AskCells, Tell, Post, Deliver}
 use Rattle.json.specs.Written.{Written}
@@ -7,7 +7,7 @@ use Rattle.lang_core.specs.Lang.{IsLang}
 use Rattle.nego_core.specs.declared.scheme.Scheme.{Scheme}
 use Rattle.nego_core.specs.declared.scheme.Scheme.TheVariants.{Basic, Extended}
 use Rattle.serde_json.specs.Data.{Data, null, array, number, unsigned, string, no_items, item}
-use Rattle.docs_core.specs.Checks.{AllPass}
+use Rattle.docs_core.specs.Checks.{AllPass, OrMemory}
 use Rattle.docs_core.specs.FieldWritten.{IsListed}
 use Rattle.docs_core.specs.StepFields.{Makes, step_fields}
 use Rattle.docs_core.specs.Steps.{StepText, edit_step, merge_step, filter_step, lookup_step, cells_step, tell_step, post_step, deliver_step}
@@ -36,7 +36,7 @@ IsWritable (Deliver post) = FitsMember post
 
 -- memory ran out, or the step at this place is not what it must be
 abbrev pub RefusesRow : ℕ → Type 0 → DocCause → Type 0
-RefusesRow place Holds cause = (cause ≡ NoMemory) ⊎ ((¬ Holds) × (cause ≡ Shape (spot.Row place)))
+RefusesRow place Holds = OrMemory NoMemory (λ cause. (¬ Holds) × (cause ≡ Shape (spot.Row place)))
 
 abbrev pub RefusesStep : ℕ → Step → DocCause → Type 0
 RefusesStep place step cause = RefusesRow place (IsWritable step) cause
