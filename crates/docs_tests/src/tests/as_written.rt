@@ -1,11 +1,13 @@
+//! Documents as they are written, and other spellings of them.
+
 use cell_core::CellFault;
 use docs_core::{
-    DocCause, DocFault, FieldFault, Spot, read_delta, read_site, write_delta, write_site,
+    Doc, DocCause, DocFault, FieldFault, Spot, read_delta, read_site, write_delta, write_site,
 };
 use std::alloc::Global;
-use std::test::Fail;
+use std::process::Abort;
 
-// A site with the greatest numbers, a deletion, and texts that are written with escapes.
+/// A site with the greatest numbers, a deletion, and texts that are written with escapes.
 const SITE: &str = concat!(
     r#"{"cells":[["m","@none",5,"a",0,null],"#,
     r#"["m","en",18446744073709551615,"b",4294967295,["\n\u0001\"","","x"]],"#,
@@ -20,77 +22,103 @@ const DELTA: &str = concat!(
     "\n"
 );
 
-fn is_written(alloc: Global, text: &str, written: &str) -> Result<bool, Fail> {
+fn rewritten(alloc: Global, text: &str) -> Result<Doc, DocFault> {
     let site = read_site(alloc, text.as_bytes())?;
-    let doc = write_site(alloc, &site)?;
-    Ok(doc.bytes() == written.as_bytes())
+    Ok(write_site(alloc, &site)?)
+}
+
+fn rewritten_delta(alloc: Global, text: &str) -> Result<Doc, DocFault> {
+    let delta = read_delta(alloc, text.as_bytes())?;
+    Ok(write_delta(alloc, &delta)?)
+}
+
+fn is_document(made: Result<Doc, DocFault>, wanted: &str) -> bool {
+    match made {
+        Ok(doc) => doc.bytes() == wanted.as_bytes(),
+        Err(_) => false,
+    }
+}
+
+fn assert_written(rt: &impl Abort, alloc: Global, text: &str, written: &str) {
+    assert!(rt; is_document(rewritten(alloc, text), written), "{text}");
+}
+
+fn assert_all_written(rt: &impl Abort, alloc: Global, texts: &[&str], written: &str) {
+    for text in texts {
+        assert_written(rt, alloc, text, written);
+    }
 }
 
 #[test]
-fn what_is_written_is_read(rt: HostRuntime) -> Result<(), Fail> {
-    assert!(rt; is_written(rt.alloc(), SITE, SITE)?);
-    assert!(rt; is_written(rt.alloc(), SITE.trim_end(), SITE)?);
-    assert!(rt; is_written(rt.alloc(), EMPTY, EMPTY)?);
-    let delta = read_delta(rt.alloc(), DELTA.as_bytes())?;
-    assert!(rt; write_delta(rt.alloc(), &delta)?.bytes() == DELTA.as_bytes());
-    Ok(())
+fn what_is_written_is_read(rt: HostRuntime) {
+    assert_written(&rt, rt.alloc(), SITE, SITE);
+    assert_written(&rt, rt.alloc(), SITE.trim_end(), SITE);
+    assert_written(&rt, rt.alloc(), EMPTY, EMPTY);
+    assert!(rt; is_document(rewritten_delta(rt.alloc(), DELTA), DELTA));
 }
 
-// Blanks and escapes are free, and so is the case of a language.
+/// Blanks and escapes are free, and so is the case of a language.
 #[test]
-fn other_spellings_are_read(rt: HostRuntime) -> Result<(), Fail> {
+fn other_spellings_are_read(rt: HostRuntime) {
     let text = concat!(
         " { \"cells\" : [ [\"\\u006d\",\"@none\",5,\"a\",0,null] ,\n",
         "[\"m\",\"EN\",18446744073709551615,\"b\",4294967295,[\"\\u000a\\u0001\\u0022\",\"\",\"x\"]],",
         "[\"n\",\"de\",7,\"a\",1,[\"y\"]]],\"k\\u0069nd\":\"site\",\t\"site\":\"paris\",\"version\":2}"
     );
-    assert!(rt; is_written(rt.alloc(), text, SITE)?);
-    Ok(())
+    assert_written(&rt, rt.alloc(), text, SITE);
 }
 
 #[test]
-fn members_in_another_order_are_read(rt: HostRuntime) -> Result<(), Fail> {
-    for text in [
+fn members_in_another_order_are_read(rt: HostRuntime) {
+    let texts = [
         r#"{"kind":"site","cells":[],"site":"0-z","version":2}"#,
         r#"{"cells":[],"kind":"site","version":2,"site":"0-z"}"#,
         r#"{"cells":[],"cells":[],"kind":"site","site":"0-z","version":2}"#,
         r#"{"cells":[],"kind":"site","site":"a","site":"0-z","version":2}"#,
         r#"{"cells":[["m","en",5,"a",0,["x"]]],"kind":"site","site":"0-z","version":2,"cells":[]}"#,
-    ] {
-        assert!(rt; is_written(rt.alloc(), text, EMPTY)?);
-    }
-    Ok(())
-}
-
-fn refusal(alloc: Global, rows: &str, rest: &str) -> Result<Option<DocFault>, Fail> {
-    let text = format!(in alloc; "{{\"cells\":[{rows}]{rest}")?;
-    Ok(read_site(alloc, text.as_bytes()).err())
-}
-
-fn of(cause: DocCause) -> Option<DocFault> {
-    Some(DocFault { document: 1, cause })
+    ];
+    assert_all_written(&rt, rt.alloc(), texts.as_slice(), EMPTY);
 }
 
 const REST: &str = r#","kind":"site","site":"paris","version":2}"#;
 
 const ROW: &str = r#"["m","en",5,"a",0,["x"]]"#;
 
-// What stands behind rows that pass is tested as ever.
+fn read(alloc: Global, rows: &str, rest: &str) -> Result<(), DocFault> {
+    let text = format!(in alloc; "{{\"cells\":[{rows}]{rest}")?;
+    read_site(alloc, text.as_bytes())?;
+    Ok(())
+}
+
+/// A site with these rows, and this behind them, is refused.
+fn assert_refused(rt: &impl Abort, alloc: Global, rows: &str, rest: &str, cause: DocCause) {
+    let fault = DocFault { document: 1, cause };
+    assert_eq!(rt; read(alloc, rows, rest), Err(fault), "{rows}{rest}");
+}
+
+const SHAPE: DocCause = DocCause::Shape {
+    spot: Spot::Document,
+};
+
+fn assert_rests_refused(rt: &impl Abort, alloc: Global, cases: &[(&str, DocCause)]) {
+    for (rest, cause) in cases {
+        assert_refused(rt, alloc, ROW, rest, *cause);
+    }
+}
+
+/// What stands behind rows that pass is tested as ever.
 #[test]
-fn what_follows_the_rows(rt: HostRuntime) -> Result<(), Fail> {
-    let shape = DocCause::Shape {
-        spot: Spot::Document,
-    };
-    for (rest, cause) in [
+fn what_follows_the_rows(rt: HostRuntime) {
+    let cases = [
         (
             r#","kind":"site","site":"paris","version":3}"#,
             DocCause::VersionUnknown,
         ),
-        (r#","kind":"site","site":"paris","version":1}"#, shape),
-        (r#","kind":"site","site":"paris","version":2.0}"#, shape),
-        (r#","kind":"site","site":"paris","version":2,"x":0}"#, shape),
-        (r#","kind":"site","site":"paris"}"#, shape),
-        (r#","kind":"delta","to":"paris","version":2}"#, shape),
+        (r#","kind":"site","site":"paris","version":1}"#, SHAPE),
+        (r#","kind":"site","site":"paris","version":2.0}"#, SHAPE),
+        (r#","kind":"site","site":"paris","version":2,"x":0}"#, SHAPE),
+        (r#","kind":"site","site":"paris"}"#, SHAPE),
+        (r#","kind":"delta","to":"paris","version":2}"#, SHAPE),
         (
             r#","kind":"site","site":"Paris","version":2}"#,
             DocCause::SiteName,
@@ -107,50 +135,64 @@ fn what_follows_the_rows(rt: HostRuntime) -> Result<(), Fail> {
             r#","kind":"site","site":"paris","version":2} 0"#,
             DocCause::NotJson,
         ),
-    ] {
-        assert_eq!(rt; refusal(rt.alloc(), ROW, rest)?, of(cause));
-    }
-    Ok(())
+    ];
+    assert_rests_refused(&rt, rt.alloc(), cases.as_slice());
 }
 
-// A row that does not pass is refused for its first test.
-#[test]
-fn a_row_that_does_not_pass(rt: HostRuntime) -> Result<(), Fail> {
-    let shape = DocCause::Shape { spot: Spot::Row(1) };
-    let cell = |fault| DocCause::Field {
-        row: 1,
-        fault: FieldFault::Cell(fault),
-    };
-    for (row, cause) in [
-        (
-            r#"["m","en",5,"a",0,["x"]]"#,
-            DocCause::CellOrder { row: 1 },
-        ),
-        (
-            r#"["m","EN",6,"a",0,["x"]]"#,
-            DocCause::CellOrder { row: 1 },
-        ),
-        (
-            r#"["m","de",6,"a",0,["x"]]"#,
-            DocCause::CellOrder { row: 1 },
-        ),
-        (r#"["n","en",5,"a",0,["x"],0]"#, shape),
-        (r#"["n","en",5,"a",0]"#, shape),
-        (r#"["n","en",-5,"a",0,["x"]]"#, shape),
-        (r#"["n","en",18446744073709551616,"a",0,["x"]]"#, shape),
-        (r#"["n","en",5,"a",4294967296,["x"]]"#, shape),
-        (r#"["n","en",5,7,0,["x"]]"#, shape),
-        (r#"["n","en",5,"a",0,["x",null]]"#, shape),
-        (r#"["n","en",5,"a",0,"x"]"#, shape),
-        (
-            r#"["n","en",5,"a",0,[]]"#,
-            cell(CellFault::LabelCount { count: 0 }),
-        ),
-        (r#"["","en",5,"a",0,[]]"#, cell(CellFault::IdRefused)),
-        (r#"["n","en",5,"A",0,[]]"#, cell(CellFault::SiteName)),
-    ] {
-        let rows = format!(in rt.alloc(); "{ROW},{row}")?;
-        assert_eq!(rt; refusal(rt.alloc(), &rows, REST)?, of(cause));
+const CELL_ORDER: DocCause = DocCause::CellOrder { row: 1 };
+
+const SHAPE_OF_ROW_1: DocCause = DocCause::Shape { spot: Spot::Row(1) };
+
+fn cell(fault: CellFault) -> DocCause {
+    let fault = FieldFault::Cell(fault);
+    DocCause::Field { row: 1, fault }
+}
+
+/// This row behind another is refused.
+fn assert_row_refused(rt: &impl Abort, alloc: Global, row: &str, cause: DocCause) {
+    let rows = format!(in alloc; "{ROW},{row}").expect(rt, "memory");
+    assert_refused(rt, alloc, &rows, REST, cause);
+}
+
+fn assert_rows_refused(rt: &impl Abort, alloc: Global, rows: &[&str], cause: &DocCause) {
+    for row in rows {
+        assert_row_refused(rt, alloc, row, *cause);
     }
-    Ok(())
+}
+
+#[test]
+fn rows_that_do_not_rise(rt: HostRuntime) {
+    let rows = [
+        r#"["m","en",5,"a",0,["x"]]"#,
+        r#"["m","EN",6,"a",0,["x"]]"#,
+        r#"["m","de",6,"a",0,["x"]]"#,
+    ];
+    assert_rows_refused(&rt, rt.alloc(), rows.as_slice(), &CELL_ORDER);
+}
+
+#[test]
+fn rows_of_another_shape(rt: HostRuntime) {
+    let rows = [
+        r#"["n","en",5,"a",0,["x"],0]"#,
+        r#"["n","en",5,"a",0]"#,
+        r#"["n","en",-5,"a",0,["x"]]"#,
+        r#"["n","en",18446744073709551616,"a",0,["x"]]"#,
+        r#"["n","en",5,"a",4294967296,["x"]]"#,
+        r#"["n","en",5,7,0,["x"]]"#,
+        r#"["n","en",5,"a",0,["x",null]]"#,
+        r#"["n","en",5,"a",0,"x"]"#,
+    ];
+    assert_rows_refused(&rt, rt.alloc(), rows.as_slice(), &SHAPE_OF_ROW_1);
+}
+
+/// A row that does not pass is refused for its first test.
+#[test]
+fn rows_with_a_refused_field(rt: HostRuntime) {
+    let alloc = rt.alloc();
+    let no_texts = cell(CellFault::LabelCount { count: 0 });
+    assert_row_refused(&rt, alloc, r#"["n","en",5,"a",0,[]]"#, no_texts);
+    let no_id = cell(CellFault::IdRefused);
+    assert_row_refused(&rt, alloc, r#"["","en",5,"a",0,[]]"#, no_id);
+    let no_name = cell(CellFault::SiteName);
+    assert_row_refused(&rt, alloc, r#"["n","en",5,"A",0,[]]"#, no_name);
 }

@@ -1,53 +1,76 @@
-use docs_core::{DocCause, DocFault, bundle_document};
+//! What a reader with priorities gets of a site.
+
+use docs_core::{Doc, DocCause, DocFault, bundle_document};
 use lang_core::Lang;
 use nego_core::PriorityList;
+use std::alloc::Global;
+use std::process::Abort;
 use std::test::Fail;
 
 const SITE: &[u8] =
     br#"{"cells":[["m","@none",1,"a",0,["x"]],["m","en",1,"a",1,["Hello"]],["m","fr",1,"a",2,["Bonjour"]],["n","de",1,"a",3,["Hallo"]],["o","en",1,"a",4,null]],"kind":"site","site":"a","version":2}"#;
 
-// What a reader with this field and this default gets is this, with a line feed, and whether there
-// is a label.
-fn is_bundle(
-    rt: &HostRuntime,
-    field: &str,
-    default: Option<&Lang>,
-    text: &str,
-    found: bool,
-) -> Result<bool, Fail> {
-    let list = PriorityList::from_accept(rt.alloc(), field.as_bytes())?;
-    let (doc, is_found) = bundle_document(rt.alloc(), SITE, &list, default)?;
-    let line = format!(in rt.alloc(); "{text}\n")?;
-    Ok(doc.bytes() == line.as_bytes() && is_found == found)
+fn lang(rt: &impl Abort, alloc: Global, tag: &str) -> Lang {
+    Lang::parse(alloc, tag.as_bytes()).expect(rt, "a language")
+}
+
+/// What a reader with this field and this default gets, and whether there is a label.
+fn bundled(alloc: Global, field: &str, default: Option<&Lang>) -> Result<(Doc, bool), Fail> {
+    let list = PriorityList::from_accept(alloc, field.as_bytes())?;
+    Ok(bundle_document(alloc, SITE, &list, default)?)
+}
+
+fn assert_bundle(rt: &impl Abort, bundle: (Doc, bool), text: &str, found: bool) {
+    let (doc, is_found) = bundle;
+    assert!(rt; doc.bytes() == text.as_bytes(), "{text}");
+    assert_eq!(rt; is_found, found);
 }
 
 #[test]
 fn each_message_has_the_label_that_is_looked_up(rt: HostRuntime) -> Result<(), Fail> {
-    assert!(rt; is_bundle(&rt, "fr, en;q=0.5", None, r#"{"m":{"fr":"Bonjour"}}"#, true)?);
+    let bundle = bundled(rt.alloc(), "fr, en;q=0.5", None)?;
+    assert_bundle(&rt, bundle, "{\"m\":{\"fr\":\"Bonjour\"}}\n", true);
+    Ok(())
+}
+
+/// The bundle of a reader with this field and this default has a label.
+fn assert_default(
+    rt: &impl Abort,
+    alloc: Global,
+    field: &str,
+    default: &str,
+    text: &str,
+) -> Result<(), Fail> {
+    let default = lang(rt, alloc, default);
+    let bundle = bundled(alloc, field, Some(&default))?;
+    assert_bundle(rt, bundle, text, true);
     Ok(())
 }
 
 #[test]
 fn a_default_serves_where_nothing_matches(rt: HostRuntime) -> Result<(), Fail> {
-    let de = Lang::parse(rt.alloc(), b"de".as_slice())?;
-    let text = r#"{"m":{"fr":"Bonjour"},"n":{"de":"Hallo"}}"#;
-    assert!(rt; is_bundle(&rt, "fr", Some(&de), text, true)?);
-    let none = Lang::parse(rt.alloc(), b"@none".as_slice())?;
-    assert!(rt; is_bundle(&rt, "ja", Some(&none), r#"{"m":{"@none":"x"}}"#, true)?);
-    Ok(())
+    let text = "{\"m\":{\"fr\":\"Bonjour\"},\"n\":{\"de\":\"Hallo\"}}\n";
+    assert_default(&rt, rt.alloc(), "fr", "de", text)?;
+    assert_default(
+        &rt,
+        rt.alloc(),
+        "ja",
+        "@none",
+        "{\"m\":{\"@none\":\"x\"}}\n",
+    )
 }
 
 #[test]
 fn the_empty_field_gives_the_default_alone(rt: HostRuntime) -> Result<(), Fail> {
-    let en = Lang::parse(rt.alloc(), b"en".as_slice())?;
-    assert!(rt; is_bundle(&rt, "", Some(&en), r#"{"m":{"en":"Hello"}}"#, true)?);
-    assert!(rt; is_bundle(&rt, "*", Some(&en), r#"{"m":{"en":"Hello"}}"#, true)?);
-    Ok(())
+    let text = "{\"m\":{\"en\":\"Hello\"}}\n";
+    assert_default(&rt, rt.alloc(), "", "en", text)?;
+    assert_default(&rt, rt.alloc(), "*", "en", text)
 }
 
 #[test]
 fn nothing_is_left_for_another_reader(rt: HostRuntime) -> Result<(), Fail> {
-    assert!(rt; is_bundle(&rt, "ja", None, "{}", false)?);
+    let bundle = bundled(rt.alloc(), "ja", None)?;
+    assert_bundle(&rt, bundle, "{}\n", false);
     Ok(())
 }
 

@@ -1,3 +1,5 @@
+//! Documents as bytes.
+
 use docs_core::Doc;
 use std::test::Fail;
 

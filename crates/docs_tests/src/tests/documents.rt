@@ -1,4 +1,6 @@
-use cata_core::{CataFault, PlayFault};
+//! Calls over documents, each with what it answers.
+
+use cata_core::CataFault;
 use cell_core::{Label, MessageId, SiteName};
 use docs_core::{
     Doc, DocCause, DocFault, delta_document, edit_document, read_delta, read_site, read_summary,
@@ -8,8 +10,11 @@ use docs_core::{
 use lang_core::Lang;
 use std::alloc::Global;
 use std::fmt::InlineText;
+use std::process::Abort;
 
 const EMPTY: &str = "{\"cells\":[],\"kind\":\"site\",\"site\":\"0000000001\",\"version\":2}\n";
+
+const EMPTY_AS_1: &str = r#"{"cells":[],"kind":"site","site":1,"version":1}"#;
 
 const EDITED: &str =
     "{\"cells\":[[\"m\",\"en\",5,\"0000000001\",0,[\"a\"]]],\"kind\":\"site\",\"site\":\"0000000001\",\"version\":2}\n";
@@ -17,12 +22,19 @@ const EDITED: &str =
 const DELETED: &str =
     "{\"cells\":[[\"m\",\"en\",5,\"0000000001\",1,null]],\"kind\":\"site\",\"site\":\"0000000001\",\"version\":2}\n";
 
+const DELETED_AS_1: &str =
+    r#"{"cells":[["m","en",5,1,1,null]],"kind":"site","site":1,"version":1}"#;
+
 const OTHER: &str = "{\"cells\":[],\"kind\":\"site\",\"site\":\"0000000002\",\"version\":2}\n";
 
 const TOLD: &str = "{\"kind\":\"summary\",\"owner\":\"0000000002\",\"stamps\":[],\"version\":2}\n";
 
 const DELTA: &str =
     "{\"cells\":[[\"m\",\"en\",5,\"0000000001\",0,[\"a\"]]],\"kind\":\"delta\",\"to\":\"0000000002\",\"version\":2}\n";
+
+/// The same without its last two bytes.
+const DELTA_CUT: &str =
+    "{\"cells\":[[\"m\",\"en\",5,\"0000000001\",0,[\"a\"]]],\"kind\":\"delta\",\"to\":\"0000000002\",\"version\":2";
 
 const TAKEN: &str =
     "{\"cells\":[[\"m\",\"en\",5,\"0000000001\",0,[\"a\"]]],\"kind\":\"site\",\"site\":\"0000000002\",\"version\":2}\n";
@@ -33,6 +45,8 @@ const FIRST_HELD: &str =
 
 const HELD: &str =
     "{\"cells\":[[\"m\",\"en\",7,\"0000000003\",0,null]],\"kind\":\"site\",\"site\":\"0000000002\",\"version\":2}\n";
+
+const HELD_AS_1: &str = r#"{"cells":[["m","en",7,3,0,null]],"kind":"site","site":2,"version":1}"#;
 
 const THIRD: &str =
     "{\"cells\":[[\"m\",\"en\",7,\"0000000003\",0,null]],\"kind\":\"site\",\"site\":\"0000000003\",\"version\":2}\n";
@@ -46,200 +60,90 @@ const TOLD_AS_1: &str = r#"{"kind":"summary","owner":2,"stamps":[],"version":1}"
 
 const DELTA_AS_1: &str = r#"{"cells":[["m","en",5,1,0,["a"]]],"kind":"delta","to":2,"version":1}"#;
 
+const EMPTY_DELTA_AS_1: &str = r#"{"cells":[],"kind":"delta","to":2,"version":1}"#;
+
 const IMPORTED: &str =
     "{\"cells\":[[\"m\",\"@none\",10,\"0000000001\",0,[\"c\"]],[\"m\",\"en\",10,\"0000000001\",1,[\"a\"]],[\"m\",\"fr\",10,\"0000000001\",2,[\"b\"]]],\"kind\":\"site\",\"site\":\"0000000001\",\"version\":2}\n";
 
 const IMPORTED_AS_1: &str =
     "{\"version\":1,\"site\":1,\"kind\":\"site\",\"cells\":[[\"m\",\"@none\",10,1,0,[\"c\"]],[\"m\",\"EN\",10,1,1,[\"a\"]],[\"m\",\"fr\",10,1,2,[\"b\"]]]}";
 
-fn is_text(answer: Result<Doc, DocFault>, text: &str) -> bool {
-    match answer {
-        Ok(doc) => doc.bytes() == text.as_bytes(),
-        Err(_) => false,
-    }
+const SUMMARY: &str =
+    "{\"kind\":\"summary\",\"owner\":\"0000000007\",\"stamps\":[[\"m\",\"en\",5,\"0000000000\",0],[\"m\",\"fr\",18446744073709551615,\"4294967295\",4294967295]],\"version\":2}\n";
+
+const SUMMARY_AS_1: &str =
+    r#"{"kind":"summary","owner":7,"stamps":[["m","EN",5,0,0],["m","fr",18446744073709551615,4294967295,4294967295]],"version":1}"#;
+
+/// A site whose clock is spent.
+const SPENT: &str =
+    "{\"cells\":[[\"m\",\"en\",18446744073709551615,\"b\",0,null]],\"kind\":\"site\",\"site\":\"a\",\"version\":2}";
+
+// Two sites that clash.
+const ONE: &str =
+    "{\"cells\":[[\"m\",\"en\",5,\"0000000001\",0,[\"one\"]]],\"kind\":\"site\",\"site\":\"0000000001\",\"version\":2}";
+
+const TWO: &str =
+    "{\"cells\":[[\"m\",\"en\",5,\"0000000001\",0,[\"two\"]]],\"kind\":\"site\",\"site\":\"0000000002\",\"version\":2}";
+
+const PARIS: &str =
+    "{\"cells\":[[\"m\",\"en\",5,\"paris\",0,[\"b\"]]],\"kind\":\"site\",\"site\":\"paris\",\"version\":2}";
+
+/// A call over the documents that it is given.
+#[derive(Clone, Copy)]
+enum Call {
+    /// Reads a site, and writes it.
+    Site(&'static str),
+    /// Reads a delta, and writes it.
+    Delta(&'static str),
+    /// Reads a summary, and writes it.
+    Summary(&'static str),
+    /// Puts a text for `m` in English, at a time.
+    Put(&'static str, u64, &'static str),
+    /// Deletes `m` in English, at a time.
+    Delete(&'static str, u64),
+    Status(&'static str),
+    SummaryOf(&'static str),
+    DeltaFor(&'static str, &'static str),
+    Take(&'static str, &'static str),
+    TakeTwice(&'static str, &'static str),
 }
 
-fn is_line(refused: Option<DocFault>, line: &str) -> bool {
-    match refused {
-        Some(fault) => InlineText::<80>::of(&fault).as_str() == line,
-        None => false,
-    }
-}
+/// A case: its name, a call, and the document or the line of the refusal that it answers.
+type Case = (&'static str, Call, &'static str);
 
-fn rewritten(alloc: Global, text: &str) -> Result<Doc, DocFault> {
+fn rewritten_site(alloc: Global, text: &str) -> Result<Doc, DocFault> {
     let site = read_site(alloc, text.as_bytes())?;
-    let doc = write_site(alloc, &site)?;
-    Ok(doc)
+    Ok(write_site(alloc, &site)?)
 }
 
-#[test]
-fn a_site_as_it_was_written(rt: HostRuntime) {
-    assert!(rt; is_text(rewritten(rt.alloc(), IMPORTED), IMPORTED));
-    assert!(rt; is_text(rewritten(rt.alloc(), DELETED), DELETED));
-}
-
-#[test]
-fn a_site_of_version_1(rt: HostRuntime) {
-    assert!(rt; is_text(rewritten(rt.alloc(), IMPORTED_AS_1), IMPORTED));
-}
-
-#[test]
-fn sites_of_the_greatest_and_the_least_number(rt: HostRuntime) {
-    assert!(rt;
-        is_text(
-            rewritten(
-                rt.alloc(),
-                "{\"cells\":[],\"kind\":\"site\",\"site\":4294967295,\"version\":1}"
-            ),
-            "{\"cells\":[],\"kind\":\"site\",\"site\":\"4294967295\",\"version\":2}\n"
-        )
-    );
-    assert!(rt;
-        is_text(
-            rewritten(
-                rt.alloc(),
-                "{\"cells\":[],\"kind\":\"site\",\"site\":0,\"version\":1}"
-            ),
-            "{\"cells\":[],\"kind\":\"site\",\"site\":\"0000000000\",\"version\":2}\n"
-        )
-    );
-}
-
-fn delta_rewritten(alloc: Global, text: &str) -> Result<Doc, DocFault> {
+fn rewritten_delta(alloc: Global, text: &str) -> Result<Doc, DocFault> {
     let delta = read_delta(alloc, text.as_bytes())?;
-    let doc = write_delta(alloc, &delta)?;
-    Ok(doc)
+    Ok(write_delta(alloc, &delta)?)
 }
 
-#[test]
-fn a_delta_as_it_was_written(rt: HostRuntime) {
-    assert!(rt; is_text(delta_rewritten(rt.alloc(), DELTA_AS_1), DELTA));
-    assert!(rt; is_text(delta_rewritten(rt.alloc(), DELTA), DELTA));
-}
-
-fn summary_rewritten(alloc: Global, text: &str) -> Result<Doc, DocFault> {
+fn rewritten_summary(alloc: Global, text: &str) -> Result<Doc, DocFault> {
     let summary = read_summary(alloc, text.as_bytes())?;
-    let doc = write_summary(alloc, &summary)?;
-    Ok(doc)
+    Ok(write_summary(alloc, &summary)?)
 }
 
-#[test]
-fn a_summary_as_it_was_written(rt: HostRuntime) {
-    let text =
-        "{\"kind\":\"summary\",\"owner\":\"0000000007\",\"stamps\":[[\"m\",\"en\",5,\"0000000000\",0],[\"m\",\"fr\",18446744073709551615,\"4294967295\",4294967295]],\"version\":2}\n";
-    let old =
-        r#"{"kind":"summary","owner":7,"stamps":[["m","EN",5,0,0],["m","fr",18446744073709551615,4294967295,4294967295]],"version":1}"#;
-    assert!(rt; is_text(summary_rewritten(rt.alloc(), old), text));
-    assert!(rt; is_text(summary_rewritten(rt.alloc(), text), text));
+fn label(alloc: Global, text: &str) -> Option<Label> {
+    let text = String::from_str(alloc, text).ok()?;
+    Label::from_texts(Vec::from_array(alloc, [text]).ok()?).ok()
 }
 
-fn edited(alloc: Global, site: &str, now: u64, text: Option<&str>) -> Result<Doc, DocFault> {
-    let Ok(id) = MessageId::new(alloc, "m") else {
-        return Ok(Doc::from(Vec::new(alloc)));
-    };
-    let Ok(lang) = Lang::parse(alloc, b"en") else {
-        return Ok(Doc::from(Vec::new(alloc)));
-    };
-    let Some(text) = text else {
-        return edit_document(alloc, site.as_bytes(), now, &id, &lang, None);
-    };
-    let mut texts = Vec::new(alloc);
-    texts.push(String::from_str(alloc, text)?)?;
-    let Ok(label) = Label::from_texts(texts) else {
-        return Ok(Doc::from(Vec::new(alloc)));
-    };
-    edit_document(alloc, site.as_bytes(), now, &id, &lang, Some(&label))
+/// The site after a put, or without a text a deletion, for `m` in English.
+fn edited(alloc: Global, site: &str, now: u64, label: Option<&Label>) -> Result<Doc, DocFault> {
+    match (MessageId::new(alloc, "m"), Lang::parse(alloc, b"en")) {
+        (Ok(id), Ok(lang)) => edit_document(alloc, site.as_bytes(), now, &id, &lang, label),
+        _ => Ok(Doc::from(Vec::new(alloc))),
+    }
 }
 
-#[test]
-fn a_put_and_a_deletion(rt: HostRuntime) {
-    assert!(rt; is_text(edited(rt.alloc(), EMPTY, 5, Some("a")), EDITED));
-    assert!(rt; is_text(edited(rt.alloc(), EDITED, 3, None), DELETED));
-}
-
-#[test]
-fn a_put_and_a_deletion_of_version_1(rt: HostRuntime) {
-    let empty = r#"{"cells":[],"kind":"site","site":1,"version":1}"#;
-    assert!(rt; is_text(edited(rt.alloc(), empty, 5, Some("a")), EDITED));
-    assert!(rt; is_text(edited(rt.alloc(), EDITED_AS_1, 3, None), DELETED));
-}
-
-#[test]
-fn a_spent_clock(rt: HostRuntime) {
-    let site =
-        "{\"cells\":[[\"m\",\"en\",18446744073709551615,\"b\",0,null]],\"kind\":\"site\",\"site\":\"a\",\"version\":2}";
-    assert!(rt;
-        is_line(
-            edited(rt.alloc(), site, 0, None).err(),
-            "refused 14: clock is spent"
-        )
-    );
-}
-
-#[test]
-fn status_lines(rt: HostRuntime) {
-    assert!(rt;
-        is_text(
-            status_document(rt.alloc(), EMPTY.as_bytes()),
-            "site 0000000001 cells 0 labels 0 last none\n"
-        )
-    );
-    assert!(rt;
-        is_text(
-            status_document(rt.alloc(), DELETED.as_bytes()),
-            "site 0000000001 cells 1 labels 0 last 5 0000000001 1\n"
-        )
-    );
-    let old = r#"{"cells":[["m","en",5,1,1,null]],"kind":"site","site":1,"version":1}"#;
-    assert!(rt;
-        is_text(
-            status_document(rt.alloc(), old.as_bytes()),
-            "site 0000000001 cells 1 labels 0 last 5 0000000001 1\n"
-        )
-    );
-}
-
-#[test]
-fn a_summary_and_a_delta(rt: HostRuntime) {
-    assert!(rt; is_text(summary_document(rt.alloc(), OTHER.as_bytes()), TOLD));
-    assert!(rt;
-        is_text(
-            delta_document(rt.alloc(), EDITED.as_bytes(), TOLD.as_bytes()),
-            DELTA
-        )
-    );
-}
-
-#[test]
-fn a_delta_over_versions(rt: HostRuntime) {
-    assert!(rt;
-        is_text(
-            delta_document(rt.alloc(), EDITED.as_bytes(), TOLD_AS_1.as_bytes()),
-            DELTA
-        )
-    );
-    assert!(rt;
-        is_text(
-            delta_document(rt.alloc(), EDITED_AS_1.as_bytes(), TOLD.as_bytes()),
-            DELTA
-        )
-    );
-}
-
-#[test]
-fn a_delta_taken_over_versions(rt: HostRuntime) {
-    assert!(rt;
-        is_text(
-            take_document(rt.alloc(), OTHER.as_bytes(), DELTA_AS_1.as_bytes()),
-            TAKEN
-        )
-    );
-    assert!(rt;
-        is_text(
-            take_document(rt.alloc(), OTHER_AS_1.as_bytes(), DELTA.as_bytes()),
-            TAKEN
-        )
-    );
+fn put(alloc: Global, site: &str, now: u64, text: &str) -> Result<Doc, DocFault> {
+    match label(alloc, text) {
+        Some(label) => edited(alloc, site, now, Some(&label)),
+        None => Ok(Doc::from(Vec::new(alloc))),
+    }
 }
 
 fn taken_twice(alloc: Global, site: &str, delta: &str) -> Result<Doc, DocFault> {
@@ -247,39 +151,167 @@ fn taken_twice(alloc: Global, site: &str, delta: &str) -> Result<Doc, DocFault> 
     take_document(alloc, once.bytes(), delta.as_bytes())
 }
 
-#[test]
-fn a_delta_taken_twice(rt: HostRuntime) {
-    assert!(rt;
-        is_text(
-            take_document(rt.alloc(), HELD.as_bytes(), DELTA.as_bytes()),
-            HELD
-        )
-    );
-    assert!(rt; is_text(taken_twice(rt.alloc(), HELD, DELTA), HELD));
-    assert!(rt;
-        is_text(
-            take_document(rt.alloc(), OTHER.as_bytes(), DELTA.as_bytes()),
-            TAKEN
-        )
-    );
-    assert!(rt; is_text(taken_twice(rt.alloc(), OTHER, DELTA), TAKEN));
+fn answer(alloc: Global, call: Call) -> Result<Doc, DocFault> {
+    match call {
+        Call::Site(text) => rewritten_site(alloc, text),
+        Call::Delta(text) => rewritten_delta(alloc, text),
+        Call::Summary(text) => rewritten_summary(alloc, text),
+        Call::Put(site, now, text) => put(alloc, site, now, text),
+        Call::Delete(site, now) => edited(alloc, site, now, None),
+        Call::Status(site) => status_document(alloc, site.as_bytes()),
+        Call::SummaryOf(site) => summary_document(alloc, site.as_bytes()),
+        Call::DeltaFor(site, told) => delta_document(alloc, site.as_bytes(), told.as_bytes()),
+        Call::Take(site, delta) => take_document(alloc, site.as_bytes(), delta.as_bytes()),
+        Call::TakeTwice(site, delta) => taken_twice(alloc, site, delta),
+    }
 }
 
+fn is_line(fault: DocFault, line: &str) -> bool {
+    InlineText::<80>::of(&fault).as_str() == line
+}
+
+fn answers(alloc: Global, call: Call, wanted: &str) -> bool {
+    match answer(alloc, call) {
+        Ok(doc) => doc.bytes() == wanted.as_bytes(),
+        Err(fault) => is_line(fault, wanted),
+    }
+}
+
+fn assert_answers(rt: &impl Abort, alloc: Global, cases: &[Case]) {
+    for (name, call, wanted) in cases {
+        assert!(rt; answers(alloc, *call, wanted), "{name}");
+    }
+}
+
+const WRITTEN: &[Case] = &[
+    ("a site of three labels", Call::Site(IMPORTED), IMPORTED),
+    ("a site of a deletion", Call::Site(DELETED), DELETED),
+    ("a site of version 1", Call::Site(IMPORTED_AS_1), IMPORTED),
+    (
+        "a site of the greatest number",
+        Call::Site("{\"cells\":[],\"kind\":\"site\",\"site\":4294967295,\"version\":1}"),
+        "{\"cells\":[],\"kind\":\"site\",\"site\":\"4294967295\",\"version\":2}\n",
+    ),
+    (
+        "a site of the least number",
+        Call::Site("{\"cells\":[],\"kind\":\"site\",\"site\":0,\"version\":1}"),
+        "{\"cells\":[],\"kind\":\"site\",\"site\":\"0000000000\",\"version\":2}\n",
+    ),
+    ("a delta of version 1", Call::Delta(DELTA_AS_1), DELTA),
+    ("a delta", Call::Delta(DELTA), DELTA),
+    (
+        "a summary of version 1",
+        Call::Summary(SUMMARY_AS_1),
+        SUMMARY,
+    ),
+    ("a summary", Call::Summary(SUMMARY), SUMMARY),
+];
+
 #[test]
-fn a_delta_for_another_site(rt: HostRuntime) {
-    assert!(rt;
-        is_line(
-            take_document(rt.alloc(), EMPTY.as_bytes(), DELTA.as_bytes()).err(),
-            "refused 15: delta is for site 0000000002"
-        )
-    );
-    let old = "{\"cells\":[],\"kind\":\"delta\",\"to\":2,\"version\":1}";
-    assert!(rt;
-        is_line(
-            take_document(rt.alloc(), EMPTY.as_bytes(), old.as_bytes()).err(),
-            "refused 15: delta is for site 0000000002"
-        )
-    );
+fn what_is_read_is_written(rt: HostRuntime) {
+    assert_answers(&rt, rt.alloc(), WRITTEN);
+}
+
+const EDITS: &[Case] = &[
+    ("a put", Call::Put(EMPTY, 5, "a"), EDITED),
+    ("a deletion", Call::Delete(EDITED, 3), DELETED),
+    ("a put of version 1", Call::Put(EMPTY_AS_1, 5, "a"), EDITED),
+    (
+        "a deletion of version 1",
+        Call::Delete(EDITED_AS_1, 3),
+        DELETED,
+    ),
+    (
+        "a spent clock",
+        Call::Put(SPENT, 0, "a"),
+        "refused 14: clock is spent",
+    ),
+];
+
+#[test]
+fn edits(rt: HostRuntime) {
+    assert_answers(&rt, rt.alloc(), EDITS);
+}
+
+const STATUS_LINES: &[Case] = &[
+    (
+        "no cell",
+        Call::Status(EMPTY),
+        "site 0000000001 cells 0 labels 0 last none\n",
+    ),
+    (
+        "a deletion",
+        Call::Status(DELETED),
+        "site 0000000001 cells 1 labels 0 last 5 0000000001 1\n",
+    ),
+    (
+        "a deletion of version 1",
+        Call::Status(DELETED_AS_1),
+        "site 0000000001 cells 1 labels 0 last 5 0000000001 1\n",
+    ),
+];
+
+#[test]
+fn status_lines(rt: HostRuntime) {
+    assert_answers(&rt, rt.alloc(), STATUS_LINES);
+}
+
+const EXCHANGES: &[Case] = &[
+    ("a summary of a site", Call::SummaryOf(OTHER), TOLD),
+    ("a delta for it", Call::DeltaFor(EDITED, TOLD), DELTA),
+    (
+        "a delta for a summary of version 1",
+        Call::DeltaFor(EDITED, TOLD_AS_1),
+        DELTA,
+    ),
+    (
+        "a delta of a site of version 1",
+        Call::DeltaFor(EDITED_AS_1, TOLD),
+        DELTA,
+    ),
+    (
+        "a delta of version 1 is taken",
+        Call::Take(OTHER, DELTA_AS_1),
+        TAKEN,
+    ),
+    (
+        "a site of version 1 takes a delta",
+        Call::Take(OTHER_AS_1, DELTA),
+        TAKEN,
+    ),
+    ("a late delta does no harm", Call::Take(HELD, DELTA), HELD),
+    (
+        "a late delta taken twice",
+        Call::TakeTwice(HELD, DELTA),
+        HELD,
+    ),
+    ("a delta is taken", Call::Take(OTHER, DELTA), TAKEN),
+    ("a delta taken twice", Call::TakeTwice(OTHER, DELTA), TAKEN),
+    (
+        "a delta for another site",
+        Call::Take(EMPTY, DELTA),
+        "refused 15: delta is for site 0000000002",
+    ),
+    (
+        "a delta of version 1 for another site",
+        Call::Take(EMPTY, EMPTY_DELTA_AS_1),
+        "refused 15: delta is for site 0000000002",
+    ),
+    (
+        "a delta cut short",
+        Call::Take(OTHER, DELTA_CUT),
+        "refused 19: not JSON of document 2",
+    ),
+    (
+        "a delta in place of a site",
+        Call::Take(DELTA, "{"),
+        "refused 20: shape of document 1",
+    ),
+];
+
+#[test]
+fn exchanges(rt: HostRuntime) {
+    assert_answers(&rt, rt.alloc(), EXCHANGES);
 }
 
 #[test]
@@ -295,25 +327,8 @@ fn a_delta_for_the_second_site_and_not_for_the_third(rt: HostRuntime) {
     );
 }
 
-#[test]
-fn the_second_document_refused(rt: HostRuntime) {
-    assert!(rt;
-        is_line(
-            take_document(
-                rt.alloc(),
-                OTHER.as_bytes(),
-                &DELTA.as_bytes()[..DELTA.len() - 2]
-            )
-            .err(),
-            "refused 19: not JSON of document 2"
-        )
-    );
-    assert!(rt;
-        is_line(
-            take_document(rt.alloc(), DELTA.as_bytes(), b"{").err(),
-            "refused 20: shape of document 1"
-        )
-    );
+fn synced(alloc: Global, first: &str, second: &str) -> Result<(Doc, Doc), DocFault> {
+    sync_documents(alloc, first.as_bytes(), second.as_bytes())
 }
 
 fn is_pair(answer: Result<(Doc, Doc), DocFault>, first: &str, second: &str) -> bool {
@@ -323,72 +338,65 @@ fn is_pair(answer: Result<(Doc, Doc), DocFault>, first: &str, second: &str) -> b
     }
 }
 
+fn is_refused(refused: Option<DocFault>, line: &str) -> bool {
+    match refused {
+        Some(fault) => InlineText::<80>::of(&fault).as_str() == line,
+        None => false,
+    }
+}
+
 #[test]
 fn a_clash_of_documents(rt: HostRuntime) {
-    let first =
-        "{\"cells\":[[\"m\",\"en\",5,\"0000000001\",0,[\"one\"]]],\"kind\":\"site\",\"site\":\"0000000001\",\"version\":2}";
-    let second =
-        "{\"cells\":[[\"m\",\"en\",5,\"0000000001\",0,[\"two\"]]],\"kind\":\"site\",\"site\":\"0000000002\",\"version\":2}";
-    assert!(rt;
-        is_line(
-            sync_documents(rt.alloc(), first.as_bytes(), second.as_bytes()).err(),
-            "refused 13: stamp 5 0000000001 0 used twice, cell 0"
-        )
-    );
+    let line = "refused 13: stamp 5 0000000001 0 used twice, cell 0";
+    assert!(rt; is_refused(synced(rt.alloc(), ONE, TWO).err(), line));
+}
+
+/// The sync of two sites that clashed, after a later put at the first.
+fn mended(alloc: Global) -> Result<(Doc, Doc), DocFault> {
+    let first = put(alloc, ONE, 6, "three")?;
+    sync_documents(alloc, first.bytes(), TWO.as_bytes())
 }
 
 #[test]
 fn a_clash_mended(rt: HostRuntime) {
-    let first =
-        "{\"cells\":[[\"m\",\"en\",5,\"0000000001\",0,[\"one\"]]],\"kind\":\"site\",\"site\":\"0000000001\",\"version\":2}";
-    let second =
-        "{\"cells\":[[\"m\",\"en\",5,\"0000000001\",0,[\"two\"]]],\"kind\":\"site\",\"site\":\"0000000002\",\"version\":2}";
-    let mended = edited(rt.alloc(), first, 6, Some("three")).expect(&rt, "a site");
-    let synced = sync_documents(rt.alloc(), mended.bytes(), second.as_bytes());
     assert!(rt;
         is_pair(
-            synced,
+            mended(rt.alloc()),
             "{\"cells\":[[\"m\",\"en\",6,\"0000000001\",0,[\"three\"]]],\"kind\":\"site\",\"site\":\"0000000001\",\"version\":2}\n",
             "{\"cells\":[[\"m\",\"en\",6,\"0000000001\",0,[\"three\"]]],\"kind\":\"site\",\"site\":\"0000000002\",\"version\":2}\n"
         )
     );
 }
 
-#[test]
-fn sync_over_versions(rt: HostRuntime) {
-    let second =
-        "{\"cells\":[[\"m\",\"en\",5,\"paris\",0,[\"b\"]]],\"kind\":\"site\",\"site\":\"paris\",\"version\":2}";
-    assert!(rt;
-        is_pair(
-            sync_documents(rt.alloc(), EDITED_AS_1.as_bytes(), second.as_bytes()),
+/// A case: its name, two sites, and what becomes of each.
+type Sync = (&'static str, [&'static str; 2], [&'static str; 2]);
+
+const SYNCS: &[Sync] = &[
+    (
+        "over versions",
+        [EDITED_AS_1, PARIS],
+        [
             "{\"cells\":[[\"m\",\"en\",5,\"paris\",0,[\"b\"]]],\"kind\":\"site\",\"site\":\"0000000001\",\"version\":2}\n",
-            "{\"cells\":[[\"m\",\"en\",5,\"paris\",0,[\"b\"]]],\"kind\":\"site\",\"site\":\"paris\",\"version\":2}\n"
-        )
-    );
+            "{\"cells\":[[\"m\",\"en\",5,\"paris\",0,[\"b\"]]],\"kind\":\"site\",\"site\":\"paris\",\"version\":2}\n",
+        ],
+    ),
+    ("a deletion after a put", [EDITED, HELD], [FIRST_HELD, HELD]),
+    ("a deletion alone", [OTHER, THIRD], [HELD, THIRD]),
+    (
+        "a deletion after a put of version 1",
+        [EDITED_AS_1, HELD_AS_1],
+        [FIRST_HELD, HELD],
+    ),
+];
+
+fn assert_syncs(rt: &impl Abort, alloc: Global, cases: &[Sync]) {
+    for (name, [own, other], [first, second]) in cases {
+        let answer = synced(alloc, own, other);
+        assert!(rt; is_pair(answer, first, second), "{name}");
+    }
 }
 
 #[test]
-fn sync_with_a_deletion(rt: HostRuntime) {
-    assert!(rt;
-        is_pair(
-            sync_documents(rt.alloc(), EDITED.as_bytes(), HELD.as_bytes()),
-            FIRST_HELD,
-            HELD
-        )
-    );
-    assert!(rt;
-        is_pair(
-            sync_documents(rt.alloc(), OTHER.as_bytes(), THIRD.as_bytes()),
-            HELD,
-            THIRD
-        )
-    );
-    let old = r#"{"cells":[["m","en",7,3,0,null]],"kind":"site","site":2,"version":1}"#;
-    assert!(rt;
-        is_pair(
-            sync_documents(rt.alloc(), EDITED_AS_1.as_bytes(), old.as_bytes()),
-            FIRST_HELD,
-            HELD
-        )
-    );
+fn syncs(rt: HostRuntime) {
+    assert_syncs(&rt, rt.alloc(), SYNCS);
 }

@@ -1,75 +1,74 @@
+//! Language maps: what is written of them, and which texts are refused.
+
 use cell_core::{CellFault, Label, MessageId};
 use docs_core::{DocCause, DocFault, FieldFault, LangMaps, Spot, read_langmaps, write_langmaps};
 use lang_core::{Lang, LangFault};
 use std::alloc::Global;
+use std::process::Abort;
 use std::test::Fail;
 
 // The first row is no message; languages stand in any order and case.
 const IMPORT: &str = r#"{"@context":{},"m":{"EN":"a","de":null,"fr":["b",null],"@none":"c"}}"#;
 
-const EXPORT: &[u8] = b"{\"m\":{\"@none\":\"c\",\"en\":\"a\",\"fr\":\"b\"}}\n";
+const EXPORT: &str = "{\"m\":{\"@none\":\"c\",\"en\":\"a\",\"fr\":\"b\"}}\n";
 
-fn refusal(rt: &HostRuntime, text: &str) -> Option<DocFault> {
-    read_langmaps(rt.alloc(), text.as_bytes()).err()
+/// Whether this is written of these labels.
+fn writes(alloc: Global, maps: &LangMaps, written: &str) -> bool {
+    match write_langmaps(alloc, maps) {
+        Ok(doc) => doc.bytes() == written.as_bytes(),
+        Err(_) => false,
+    }
 }
 
-// What is written of the labels that were read.
-fn is_written(rt: &HostRuntime, text: &str, written: &[u8]) -> Result<bool, Fail> {
-    let maps = read_langmaps(rt.alloc(), text.as_bytes())?;
-    let doc = write_langmaps(rt.alloc(), &maps)?;
-    Ok(doc.bytes() == written)
+/// Whether this is written of the labels that are read.
+fn is_written(alloc: Global, text: &str, written: &str) -> bool {
+    match read_langmaps(alloc, text.as_bytes()) {
+        Ok(maps) => writes(alloc, &maps, written),
+        Err(_) => false,
+    }
 }
 
-fn is_read(rt: &HostRuntime, text: &str) -> bool {
-    read_langmaps(rt.alloc(), text.as_bytes()).is_ok()
-}
-
-fn of_document(cause: DocCause) -> Option<DocFault> {
-    Some(DocFault { document: 1, cause })
-}
-
-fn language(row: usize, fault: LangFault) -> Option<DocFault> {
-    let fault = FieldFault::Language(fault);
-    of_document(DocCause::Field { row, fault })
-}
-
-fn cell(row: usize, fault: CellFault) -> Option<DocFault> {
-    let fault = FieldFault::Cell(fault);
-    of_document(DocCause::Field { row, fault })
-}
-
-fn shape(row: usize) -> Option<DocFault> {
-    let spot = Spot::Row(row);
-    of_document(DocCause::Shape { spot })
-}
-
-fn repeated(row: usize) -> Option<DocFault> {
-    of_document(DocCause::RepeatedTag { row })
+fn assert_written(rt: &impl Abort, alloc: Global, text: &str, written: &str) {
+    assert!(rt; is_written(alloc, text, written), "{text}");
 }
 
 #[test]
-fn what_is_imported_is_exported(rt: HostRuntime) -> Result<(), Fail> {
-    assert!(rt; is_written(&rt, IMPORT, EXPORT)?);
-    Ok(())
+fn what_is_imported_is_exported(rt: HostRuntime) {
+    assert_written(&rt, rt.alloc(), IMPORT, EXPORT);
 }
 
 #[test]
-fn what_is_exported_is_exported_again(rt: HostRuntime) -> Result<(), Fail> {
+fn what_is_exported_is_exported_again(rt: HostRuntime) {
     let text = r#"{"m":{"@none":"c","en":"a","fr":"b"}}"#;
-    assert!(rt; is_written(&rt, text, EXPORT)?);
-    Ok(())
+    assert_written(&rt, rt.alloc(), text, EXPORT);
+}
+
+#[test]
+fn several_texts_are_an_array(rt: HostRuntime) {
+    let text = r#"{"n":{"en":["a",null,"b"]},"m":{"de":["c"]}}"#;
+    let written = "{\"m\":{\"de\":\"c\"},\"n\":{\"en\":[\"a\",\"b\"]}}\n";
+    assert_written(&rt, rt.alloc(), text, written);
+}
+
+#[test]
+fn a_message_without_a_label_is_left_out(rt: HostRuntime) {
+    let text = r#"{"m":{"en":null,"de":[],"fr":[null]},"n":{}}"#;
+    assert_written(&rt, rt.alloc(), text, "{}\n");
+}
+
+#[test]
+fn the_last_of_two_equal_names_counts(rt: HostRuntime) {
+    let text = r#"{"m":1,"m":{"en":"a","e\u006e":"b"}}"#;
+    assert_written(&rt, rt.alloc(), text, "{\"m\":{\"en\":\"b\"}}\n");
 }
 
 fn label(alloc: Global, text: &str) -> Result<Label, Fail> {
-    let mut texts = Vec::new(alloc);
-    texts.push(String::from_str(alloc, text)?)?;
-    Ok(Label::from_texts(texts)?)
+    let text = String::from_str(alloc, text)?;
+    Ok(Label::from_texts(Vec::from_array(alloc, [text])?)?)
 }
 
-// What is written of pushed labels, which are those of the import.
-#[test]
-fn labels_are_pushed(rt: HostRuntime) -> Result<(), Fail> {
-    let alloc = rt.alloc();
+/// The labels of the import, pushed.
+fn pushed(alloc: Global) -> Result<LangMaps, Fail> {
     let mut maps = LangMaps::new(alloc);
     maps.push(
         MessageId::new(alloc, "m")?,
@@ -86,194 +85,223 @@ fn labels_are_pushed(rt: HostRuntime) -> Result<(), Fail> {
         Lang::parse(alloc, b"fr")?,
         label(alloc, "b")?,
     )?;
-    assert!(rt; write_langmaps(alloc, &maps)?.bytes() == EXPORT);
+    Ok(maps)
+}
+
+#[test]
+fn labels_are_pushed(rt: HostRuntime) -> Result<(), Fail> {
+    let maps = pushed(rt.alloc())?;
+    assert!(rt; writes(rt.alloc(), &maps, EXPORT));
     Ok(())
+}
+
+#[test]
+fn no_labels_are_an_empty_object(rt: HostRuntime) {
+    let maps = LangMaps::new(rt.alloc());
+    assert!(rt; maps.is_empty());
+    assert!(rt; writes(rt.alloc(), &maps, "{}\n"));
+}
+
+fn tag_at(maps: &LangMaps, place: usize) -> Option<&str> {
+    let (_, lang, _) = maps.nth(place)?;
+    Some(lang.as_str())
 }
 
 #[test]
 fn labels_stand_in_rising_order(rt: HostRuntime) -> Result<(), Fail> {
     let maps = read_langmaps(rt.alloc(), IMPORT.as_bytes())?;
     assert_eq!(rt; maps.len(), 3);
-    let first = maps.nth(0).map(|found| found.1.as_str());
-    assert_eq!(rt; first, Some("@none"));
-    let last = maps.nth(2).map(|found| found.1.as_str());
-    assert_eq!(rt; last, Some("fr"));
-    assert!(rt; maps.nth(3).is_none());
+    assert_eq!(rt; tag_at(&maps, 0), Some("@none"));
+    assert_eq!(rt; tag_at(&maps, 2), Some("fr"));
+    assert_eq!(rt; tag_at(&maps, 3), None);
     Ok(())
 }
 
-#[test]
-fn several_texts_are_an_array(rt: HostRuntime) -> Result<(), Fail> {
-    let text = r#"{"n":{"en":["a",null,"b"]},"m":{"de":["c"]}}"#;
-    let written = b"{\"m\":{\"de\":\"c\"},\"n\":{\"en\":[\"a\",\"b\"]}}\n";
-    assert!(rt; is_written(&rt, text, written.as_slice())?);
-    Ok(())
-}
-
-#[test]
-fn a_message_without_a_label_is_left_out(rt: HostRuntime) -> Result<(), Fail> {
-    let text = r#"{"m":{"en":null,"de":[],"fr":[null]},"n":{}}"#;
-    assert!(rt; is_written(&rt, text, b"{}\n".as_slice())?);
-    Ok(())
-}
-
-#[test]
-fn the_last_of_two_equal_names_counts(rt: HostRuntime) -> Result<(), Fail> {
-    let text = r#"{"m":1,"m":{"en":"a","e\u006e":"b"}}"#;
-    assert!(rt; is_written(&rt, text, b"{\"m\":{\"en\":\"b\"}}\n".as_slice())?);
-    Ok(())
-}
-
-#[test]
-fn no_labels_are_an_empty_object(rt: HostRuntime) -> Result<(), Fail> {
-    let maps = LangMaps::new(rt.alloc());
-    assert!(rt; maps.is_empty());
-    assert!(rt; write_langmaps(rt.alloc(), &maps)?.bytes() == b"{}\n".as_slice());
-    Ok(())
-}
-
-#[test]
-fn a_text_is_no_document(rt: HostRuntime) {
-    let spot = Spot::Document;
-    assert_eq!(rt; refusal(&rt, "[]"), of_document(DocCause::Shape { spot }));
-    assert_eq!(rt; refusal(&rt, "null"), of_document(DocCause::Shape { spot }));
-    assert_eq!(rt; refusal(&rt, "{"), of_document(DocCause::NotJson));
-    assert_eq!(rt; refusal(&rt, "{} {}"), of_document(DocCause::NotJson));
-}
-
-#[test]
-fn numbers_out_of_range_are_no_json(rt: HostRuntime) {
-    assert_eq!(rt;
-        refusal(&rt, r#"{"@x":1e400}"#),
-        of_document(DocCause::NotJson)
-    );
-    assert_eq!(rt;
-        refusal(&rt, r#"{"m":1e400}"#),
-        of_document(DocCause::NotJson)
-    );
-    assert_eq!(rt; refusal(&rt, r#"{"m":1e40}"#), shape(0));
-}
-
-#[test]
-fn bytes_are_no_text(rt: HostRuntime) {
-    let refused = read_langmaps(rt.alloc(), b"{\xff".as_slice()).err();
-    assert_eq!(rt; refused, of_document(DocCause::NotUtf8 { offset: 1 }));
-}
-
-#[test]
-fn names_are_message_ids(rt: HostRuntime) {
-    assert_eq!(rt; refusal(&rt, r#"{"":{}}"#), cell(0, CellFault::IdRefused));
-    assert_eq!(rt;
-        refusal(&rt, r#"{"a":{},"b\n":1}"#),
-        cell(1, CellFault::IdRefused)
-    );
-}
-
-#[test]
-fn keys_are_languages(rt: HostRuntime) {
-    assert_eq!(rt;
-        refusal(&rt, r#"{"m":{"":1}}"#),
-        language(0, LangFault::TagEmpty)
-    );
-    let offset = LangFault::TagSubtag { offset: 0 };
-    assert_eq!(rt; refusal(&rt, r#"{"m":{"@NONE":1}}"#), language(0, offset));
-    assert_eq!(rt;
-        refusal(&rt, r#"{"@a":1,"m":{"@type":1}}"#),
-        language(1, offset)
-    );
-    assert_eq!(rt;
-        refusal(&rt, r#"{"m":{"e":1}}"#),
-        language(0, LangFault::TagNotWellFormed)
-    );
-}
-
-#[test]
-fn a_language_comes_once(rt: HostRuntime) {
-    assert_eq!(rt; refusal(&rt, r#"{"m":{"EN":null,"en":null}}"#), repeated(0));
-    assert_eq!(rt;
-        refusal(&rt, r#"{"m":{"en":"a","de":"b","EN":"c"}}"#),
-        repeated(0)
-    );
-    let text = r#"{"@context":{},"m":{"EN":"a","de":null,"en":"d"}}"#;
-    assert_eq!(rt; refusal(&rt, text), repeated(1));
-}
-
-#[test]
-fn a_repeated_language_comes_before_its_shape(rt: HostRuntime) {
-    assert_eq!(rt; refusal(&rt, r#"{"m":{"EN":null,"en":1}}"#), repeated(0));
-    assert_eq!(rt; refusal(&rt, r#"{"m":{"EN":1,"en":null}}"#), shape(0));
-}
-
-#[test]
-fn values_are_labels(rt: HostRuntime) {
-    assert_eq!(rt; refusal(&rt, r#"{"m":{"en":{}}}"#), shape(0));
-    assert_eq!(rt; refusal(&rt, r#"{"m":{"en":["a",1]}}"#), shape(0));
-    assert_eq!(rt; refusal(&rt, r#"{"m":{"en":["a",["b"]]}}"#), shape(0));
-    assert_eq!(rt; refusal(&rt, r#"{"m":"a"}"#), shape(0));
-}
-
-#[test]
-fn rows_are_read_in_the_order_of_their_names(rt: HostRuntime) {
-    assert_eq!(rt;
-        refusal(&rt, r#"{"n":1,"m":{"e":1}}"#),
-        language(0, LangFault::TagNotWellFormed)
-    );
-}
-
-// Arrays and objects that stand inside one another, this many.
-fn nested(rt: &HostRuntime, depth: usize) -> Result<String, Fail> {
-    let mut text = String::from_str(rt.alloc(), r#"{"@x":"#)?;
-    for _ in 0..depth {
-        text.push('[')?;
+/// The walk meets just these languages, each with one text of the message `m`.
+fn assert_walk(rt: &impl Abort, maps: &LangMaps, tags: &[&str]) {
+    let mut left = tags;
+    for found in maps.iter() {
+        assert_eq!(rt; found.id.as_str(), "m");
+        assert_eq!(rt; found.label.texts().len(), 1);
+        assert_eq!(rt; left.first().copied(), Some(found.lang.as_str()));
+        left = left.get(1..).unwrap_or(&[]);
     }
-    for _ in 0..depth {
-        text.push(']')?;
-    }
-    text.push('}')?;
-    Ok(text)
-}
-
-#[test]
-fn values_nest_127_deep(rt: HostRuntime) -> Result<(), Fail> {
-    assert!(rt; is_read(&rt, nested(&rt, 126)?.as_str()));
-    let deeper = nested(&rt, 127)?;
-    assert_eq!(rt;
-        refusal(&rt, deeper.as_str()),
-        of_document(DocCause::NotJson)
-    );
-    Ok(())
-}
-
-// As many texts in one label.
-fn with_texts(rt: &HostRuntime, count: usize) -> Result<String, Fail> {
-    let mut text = String::from_str(rt.alloc(), r#"{"m":{"en":["a""#)?;
-    for _ in 1..count {
-        text.push_str(r#","a""#)?;
-    }
-    text.push_str("]}}")?;
-    Ok(text)
-}
-
-#[test]
-fn a_label_has_at_most_64_texts(rt: HostRuntime) -> Result<(), Fail> {
-    assert!(rt; is_read(&rt, with_texts(&rt, 64)?.as_str()));
-    let longer = with_texts(&rt, 65)?;
-    assert_eq!(rt;
-        refusal(&rt, longer.as_str()),
-        cell(0, CellFault::LabelCount { count: 65 })
-    );
-    Ok(())
+    assert!(rt; left.is_empty());
 }
 
 #[test]
 fn labels_are_gone_over(rt: HostRuntime) -> Result<(), Fail> {
     let maps = read_langmaps(rt.alloc(), IMPORT.as_bytes())?;
-    let mut languages = Vec::new(rt.alloc());
-    for found in maps.iter() {
-        assert_eq!(rt; found.id.as_str(), "m");
-        assert_eq!(rt; found.label.texts().len(), 1);
-        languages.push(found.lang.as_str())?;
-    }
-    assert!(rt; languages.as_slice() == ["@none", "en", "fr"].as_slice());
+    assert_walk(&rt, &maps, &["@none", "en", "fr"]);
+    Ok(())
+}
+
+fn assert_refused(rt: &impl Abort, alloc: Global, text: &str, cause: DocCause) {
+    let fault = DocFault { document: 1, cause };
+    assert_eq!(rt;
+        read_langmaps(alloc, text.as_bytes()).err(),
+        Some(fault),
+        "{text}"
+    );
+}
+
+const NO_DOCUMENT: DocCause = DocCause::Shape {
+    spot: Spot::Document,
+};
+
+const SHAPE_OF_ROW_0: DocCause = DocCause::Shape { spot: Spot::Row(0) };
+
+const REPEATED_IN_ROW_0: DocCause = DocCause::RepeatedTag { row: 0 };
+
+fn language(row: usize, fault: LangFault) -> DocCause {
+    let fault = FieldFault::Language(fault);
+    DocCause::Field { row, fault }
+}
+
+fn cell(row: usize, fault: CellFault) -> DocCause {
+    let fault = FieldFault::Cell(fault);
+    DocCause::Field { row, fault }
+}
+
+#[test]
+fn a_text_is_no_document(rt: HostRuntime) {
+    let alloc = rt.alloc();
+    assert_refused(&rt, alloc, "[]", NO_DOCUMENT);
+    assert_refused(&rt, alloc, "null", NO_DOCUMENT);
+    assert_refused(&rt, alloc, "{", DocCause::NotJson);
+    assert_refused(&rt, alloc, "{} {}", DocCause::NotJson);
+}
+
+#[test]
+fn numbers_out_of_range_are_no_json(rt: HostRuntime) {
+    let alloc = rt.alloc();
+    assert_refused(&rt, alloc, r#"{"@x":1e400}"#, DocCause::NotJson);
+    assert_refused(&rt, alloc, r#"{"m":1e400}"#, DocCause::NotJson);
+    assert_refused(&rt, alloc, r#"{"m":1e40}"#, SHAPE_OF_ROW_0);
+}
+
+#[test]
+fn bytes_are_no_text(rt: HostRuntime) {
+    let refused = read_langmaps(rt.alloc(), b"{\xff".as_slice()).err();
+    let cause = DocCause::NotUtf8 { offset: 1 };
+    assert_eq!(rt; refused, Some(DocFault { document: 1, cause }));
+}
+
+#[test]
+fn names_are_message_ids(rt: HostRuntime) {
+    let alloc = rt.alloc();
+    let refused = CellFault::IdRefused;
+    assert_refused(&rt, alloc, r#"{"":{}}"#, cell(0, refused));
+    assert_refused(&rt, alloc, r#"{"a":{},"b\n":1}"#, cell(1, refused));
+}
+
+#[test]
+fn keys_are_languages(rt: HostRuntime) {
+    let alloc = rt.alloc();
+    let empty = language(0, LangFault::TagEmpty);
+    assert_refused(&rt, alloc, r#"{"m":{"":1}}"#, empty);
+    let subtag = LangFault::TagSubtag { offset: 0 };
+    assert_refused(&rt, alloc, r#"{"m":{"@NONE":1}}"#, language(0, subtag));
+    assert_refused(
+        &rt,
+        alloc,
+        r#"{"@a":1,"m":{"@type":1}}"#,
+        language(1, subtag),
+    );
+    let ill_formed = language(0, LangFault::TagNotWellFormed);
+    assert_refused(&rt, alloc, r#"{"m":{"e":1}}"#, ill_formed);
+}
+
+#[test]
+fn a_language_comes_once(rt: HostRuntime) {
+    let alloc = rt.alloc();
+    assert_refused(
+        &rt,
+        alloc,
+        r#"{"m":{"EN":null,"en":null}}"#,
+        REPEATED_IN_ROW_0,
+    );
+    assert_refused(
+        &rt,
+        alloc,
+        r#"{"m":{"en":"a","de":"b","EN":"c"}}"#,
+        REPEATED_IN_ROW_0,
+    );
+    let text = r#"{"@context":{},"m":{"EN":"a","de":null,"en":"d"}}"#;
+    assert_refused(&rt, alloc, text, DocCause::RepeatedTag { row: 1 });
+}
+
+#[test]
+fn a_repeated_language_comes_before_its_shape(rt: HostRuntime) {
+    let alloc = rt.alloc();
+    assert_refused(&rt, alloc, r#"{"m":{"EN":null,"en":1}}"#, REPEATED_IN_ROW_0);
+    assert_refused(&rt, alloc, r#"{"m":{"EN":1,"en":null}}"#, SHAPE_OF_ROW_0);
+}
+
+#[test]
+fn values_are_labels(rt: HostRuntime) {
+    let alloc = rt.alloc();
+    assert_refused(&rt, alloc, r#"{"m":{"en":{}}}"#, SHAPE_OF_ROW_0);
+    assert_refused(&rt, alloc, r#"{"m":{"en":["a",1]}}"#, SHAPE_OF_ROW_0);
+    assert_refused(&rt, alloc, r#"{"m":{"en":["a",["b"]]}}"#, SHAPE_OF_ROW_0);
+    assert_refused(&rt, alloc, r#"{"m":"a"}"#, SHAPE_OF_ROW_0);
+}
+
+#[test]
+fn rows_are_read_in_the_order_of_their_names(rt: HostRuntime) {
+    let ill_formed = language(0, LangFault::TagNotWellFormed);
+    assert_refused(&rt, rt.alloc(), r#"{"n":1,"m":{"e":1}}"#, ill_formed);
+}
+
+/// The start, a text so many times, and the end.
+fn repeated(
+    alloc: Global,
+    start: &str,
+    text: &str,
+    times: usize,
+    end: &str,
+) -> Result<String, Fail> {
+    let middle = text.repeat(alloc, times)?;
+    Ok(format!(in alloc; "{start}{middle}{end}")?)
+}
+
+/// Arrays that stand inside one another, this many.
+fn nested(alloc: Global, depth: usize) -> Result<String, Fail> {
+    let open = repeated(alloc, r#"{"@x":"#, "[", depth, "")?;
+    repeated(alloc, &open, "]", depth, "}")
+}
+
+fn is_read(alloc: Global, text: &str) -> bool {
+    read_langmaps(alloc, text.as_bytes()).is_ok()
+}
+
+#[test]
+fn values_nest_127_deep(rt: HostRuntime) -> Result<(), Fail> {
+    assert!(rt; is_read(rt.alloc(), &nested(rt.alloc(), 126)?));
+    assert_refused(
+        &rt,
+        rt.alloc(),
+        &nested(rt.alloc(), 127)?,
+        DocCause::NotJson,
+    );
+    Ok(())
+}
+
+/// As many texts in one label.
+fn with_texts(alloc: Global, count: usize) -> Result<String, Fail> {
+    repeated(
+        alloc,
+        r#"{"m":{"en":["a""#,
+        r#","a""#,
+        count.saturating_sub(1),
+        "]}}",
+    )
+}
+
+#[test]
+fn a_label_has_at_most_64_texts(rt: HostRuntime) -> Result<(), Fail> {
+    assert!(rt; is_read(rt.alloc(), &with_texts(rt.alloc(), 64)?));
+    let refused = cell(0, CellFault::LabelCount { count: 65 });
+    assert_refused(&rt, rt.alloc(), &with_texts(rt.alloc(), 65)?, refused);
     Ok(())
 }

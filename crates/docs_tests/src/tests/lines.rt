@@ -1,13 +1,16 @@
+//! Scripts over streams: the lines that are written, and what ends a run.
+
 use cata_core::PlayFault;
 use cell_core::{MessageId, SiteName, Stamp};
 use docs_core::{
-    Ask, Doc, DocCause, DocFault, Input, Output, Spot, ask_document, read_script, replay,
+    Ask, Doc, DocCause, DocFault, Input, Output, Script, Spot, ask_document, read_script, replay,
 };
 use lang_core::Lang;
 use nego_core::{PriorityList, Scheme};
 use std::alloc::Global;
 use std::io;
 use std::io::{Read, Write};
+use std::process::Abort;
 use std::test::Fail;
 
 const TWO_SITES: &str =
@@ -31,7 +34,7 @@ const SITE: &str =
 const CLASH: &str =
     r#"{"kind":"script","sites":1,"steps":[["cells",0],["edit",0,["m","en",5,1,0,["a"]]],["edit",0,["m","en",5,1,0,["b"]]]],"version":1}"#;
 
-// Gives one byte a read, and fails at the read of the given number, counted from 1.
+/// Gives one byte a read, and fails at the read of the given number, counted from 1.
 #[derive(Drop)]
 struct Dripping<'t> {
     text: &'t [u8],
@@ -56,7 +59,7 @@ impl Read for Dripping<'_> {
     }
 }
 
-// Takes so many bytes, and then none.
+/// Takes so many bytes, and then none.
 #[derive(Drop)]
 struct Narrow {
     taken: Vec<u8>,
@@ -80,7 +83,7 @@ impl Write for Narrow {
     }
 }
 
-// What the script of a stream writes to a writer of so many bytes, and why it ends.
+/// What the script of a stream writes to a writer of so many bytes, and why it ends.
 fn run_over<R: Read + Drop>(alloc: Global, stream: R, width: usize) -> (Vec<u8>, Option<DocFault>) {
     let mut writer = Narrow {
         taken: Vec::new(alloc),
@@ -91,28 +94,39 @@ fn run_over<R: Read + Drop>(alloc: Global, stream: R, width: usize) -> (Vec<u8>,
     (writer.taken, end)
 }
 
-fn run(alloc: Global, script: &[u8], width: usize) -> (Vec<u8>, Option<DocFault>) {
-    run_over(alloc, script, width)
+/// The run writes these lines to a writer of so many bytes, and ends so.
+fn assert_run<R: Read + Drop>(
+    rt: &impl Abort,
+    alloc: Global,
+    stream: R,
+    width: usize,
+    lines: &[u8],
+    wanted: Option<DocFault>,
+) {
+    let (written, end) = run_over(alloc, stream, width);
+    assert_eq!(rt; end, wanted);
+    assert!(rt; written.as_slice() == lines);
 }
 
-fn writes(alloc: Global, script: &str, text: &str) -> bool {
-    let (written, end) = run(alloc, script.as_bytes(), 10_000);
-    end.is_none() && written.as_slice() == text.as_bytes()
+fn assert_writes(rt: &impl Abort, alloc: Global, script: &str, lines: &str) {
+    assert_run(rt, alloc, script.as_bytes(), 10_000, lines.as_bytes(), None);
 }
 
-fn refused(cause: DocCause) -> Option<DocFault> {
-    Some(DocFault { document: 0, cause })
+/// The run ends for this cause, with nothing written.
+fn assert_ends(rt: &impl Abort, alloc: Global, script: &str, cause: DocCause) {
+    let fault = Some(DocFault { document: 0, cause });
+    assert_run(rt, alloc, script.as_bytes(), 10_000, b"", fault);
 }
 
 #[test]
 fn two_sites(rt: HostRuntime) {
-    assert!(rt; writes(rt.alloc(), TWO_SITES, FIVE_LINES));
+    assert_writes(&rt, rt.alloc(), TWO_SITES, FIVE_LINES);
 }
 
 #[test]
 fn a_delta(rt: HostRuntime) {
     let lines = "cells 1\n[\"m\",\"en\",7,\"0000000002\",0,null]\n";
-    assert!(rt; writes(rt.alloc(), DELTA, lines));
+    assert_writes(&rt, rt.alloc(), DELTA, lines);
 }
 
 #[test]
@@ -122,47 +136,34 @@ fn late_repeated_and_reordered_deltas(rt: HostRuntime) {
         "cells 2\n[\"m\",\"en\",6,\"0000000001\",0,null]\n[\"m\",\"fr\",6,\"0000000001\",1,[\"b\"]]\n",
         "cells 0\n"
     );
-    assert!(rt; writes(rt.alloc(), LATE_DELTAS, lines));
+    assert_writes(&rt, rt.alloc(), LATE_DELTAS, lines);
 }
 
 #[test]
 fn lost_deltas(rt: HostRuntime) {
-    assert!(rt; writes(rt.alloc(), LOST_DELTAS, "cells 0\n"));
+    assert_writes(&rt, rt.alloc(), LOST_DELTAS, "cells 0\n");
 }
 
 #[test]
 fn steps_that_are_refused(rt: HostRuntime) {
     let no_site = r#"{"kind":"script","sites":2,"steps":[["merge",0,2]],"version":1}"#;
-    let (written, end) = run(rt.alloc(), no_site.as_bytes(), 10_000);
-    assert_eq!(rt;
-        end,
-        refused(DocCause::Step(PlayFault::NoSuchSite { step: 0 }))
-    );
-    assert_eq!(rt; written.len(), 0);
+    let cause = DocCause::Step(PlayFault::NoSuchSite { step: 0 });
+    assert_ends(&rt, rt.alloc(), no_site, cause);
     let no_post = r#"{"kind":"script","sites":1,"steps":[["cells",0],["post",0,1]],"version":2}"#;
-    let (written, end) = run(rt.alloc(), no_post.as_bytes(), 10_000);
-    assert_eq!(rt;
-        end,
-        refused(DocCause::Step(PlayFault::NoSuchPost { step: 1 }))
-    );
-    assert_eq!(rt; written.len(), 0);
+    let cause = DocCause::Step(PlayFault::NoSuchPost { step: 1 });
+    assert_ends(&rt, rt.alloc(), no_post, cause);
 }
 
 #[test]
 fn an_unknown_summary(rt: HostRuntime) {
     let script =
         r#"{"kind":"script","sites":2,"steps":[["tell",1],["edit",0,["m","en",5,1,0,["a"]]],["post",0,0],["edit",1,["m","en",7,2,0,null]],["deliver",0],["deliver",0],["cells",1],["post",0,1]],"version":1}"#;
-    let (written, end) = run(rt.alloc(), script.as_bytes(), 10_000);
-    assert_eq!(rt;
-        end,
-        refused(DocCause::Step(PlayFault::NoSuchPost { step: 7 }))
-    );
-    assert_eq!(rt; written.len(), 0);
+    let cause = DocCause::Step(PlayFault::NoSuchPost { step: 7 });
+    assert_ends(&rt, rt.alloc(), script, cause);
 }
 
 #[test]
 fn edits_that_clash(rt: HostRuntime) {
-    let (written, end) = run(rt.alloc(), CLASH.as_bytes(), 10_000);
     let step = PlayFault::StampReused {
         step: 2,
         place: 0,
@@ -172,88 +173,134 @@ fn edits_that_clash(rt: HostRuntime) {
             count: 0,
         },
     };
-    assert_eq!(rt; end, refused(DocCause::Step(step)));
-    assert_eq!(rt; written.len(), 0);
+    assert_ends(&rt, rt.alloc(), CLASH, DocCause::Step(step));
+}
+
+/// The script of two sites byte by byte, with a fault at the read of the given number.
+fn drip(fails_at: usize) -> Dripping<'static> {
+    Dripping {
+        text: TWO_SITES.as_bytes(),
+        reads: 0,
+        fails_at,
+    }
+}
+
+fn of_no_document(cause: DocCause) -> Option<DocFault> {
+    Some(DocFault { document: 0, cause })
 }
 
 #[test]
 fn one_byte_a_read(rt: HostRuntime) {
-    let dripping = Dripping {
-        text: TWO_SITES.as_bytes(),
-        reads: 0,
-        fails_at: 0,
-    };
-    let (written, end) = run_over(rt.alloc(), dripping, 10_000);
-    assert_eq!(rt; end, None);
-    assert!(rt; written.as_slice() == FIVE_LINES.as_bytes());
+    assert_run(
+        &rt,
+        rt.alloc(),
+        drip(0),
+        10_000,
+        FIVE_LINES.as_bytes(),
+        None,
+    );
 }
 
 #[test]
 fn second_read_fails(rt: HostRuntime) {
-    let dripping = Dripping {
-        text: TWO_SITES.as_bytes(),
-        reads: 0,
-        fails_at: 2,
-    };
-    let (written, end) = run_over(rt.alloc(), dripping, 10_000);
-    assert_eq!(rt; end, refused(DocCause::ReadFault));
-    assert_eq!(rt; written.len(), 0);
+    let fault = of_no_document(DocCause::ReadFault);
+    assert_run(&rt, rt.alloc(), drip(2), 10_000, b"", fault);
 }
 
-// A writer that stops at any of the bytes has taken those before it.
+const WRITE_FAULT: Option<DocFault> = Some(DocFault {
+    document: 0,
+    cause: DocCause::WriteFault,
+});
+
+/// A writer that stops at any of the bytes has taken those before it.
 #[test]
 fn writers_that_stop(rt: HostRuntime) {
-    for width in 0..FIVE_LINES.len() {
-        let (written, end) = run(rt.alloc(), TWO_SITES.as_bytes(), width);
-        assert_eq!(rt; end, refused(DocCause::WriteFault));
-        assert!(rt; FIVE_LINES.as_bytes().starts_with(written.as_slice()));
-        assert_eq!(rt; written.len(), width);
+    let lines = FIVE_LINES.as_bytes();
+    for width in 0..lines.len() {
+        assert_run(
+            &rt,
+            rt.alloc(),
+            TWO_SITES.as_bytes(),
+            width,
+            &lines[..width],
+            WRITE_FAULT,
+        );
     }
 }
 
 #[test]
 fn endless_blanks(rt: HostRuntime) {
-    let (written, end) = run_over(rt.alloc(), io::repeat(b' '), 10_000);
-    assert_eq!(rt; end, refused(DocCause::TooLarge));
-    assert_eq!(rt; written.len(), 0);
+    let fault = of_no_document(DocCause::TooLarge);
+    assert_run(&rt, rt.alloc(), io::repeat(b' '), 10_000, b"", fault);
 }
 
-// Just as many blanks as are read.
+/// Just as many blanks as are read.
 #[test]
 fn blanks_up_to_the_limit(rt: HostRuntime) {
-    let (written, end) = run_over(rt.alloc(), io::repeat(b' ').take(67_108_864), 10_000);
+    let blanks = io::repeat(b' ').take(67_108_864);
     let not_json = DocFault {
         document: 1,
         cause: DocCause::NotJson,
     };
-    assert_eq!(rt; end, Some(not_json));
-    assert_eq!(rt; written.len(), 0);
+    assert_run(&rt, rt.alloc(), blanks, 10_000, b"", Some(not_json));
 }
 
-fn shape(spot: Spot) -> Option<DocFault> {
-    Some(DocFault {
-        document: 1,
-        cause: DocCause::Shape { spot },
-    })
+fn assert_refused(rt: &impl Abort, script: Result<Script, DocFault>, cause: DocCause, case: &str) {
+    let fault = DocFault { document: 1, cause };
+    assert_eq!(rt; script.err(), Some(fault), "{case}");
+}
+
+const SHAPE: DocCause = DocCause::Shape {
+    spot: Spot::Document,
+};
+
+const SHAPE_OF_ROW_1: DocCause = DocCause::Shape { spot: Spot::Row(1) };
+
+/// What is read of a script with so many sites.
+fn script_over(alloc: Global, count: &str) -> Result<Script, DocFault> {
+    let text = format!(in alloc;
+        "{{\"kind\":\"script\",\"sites\":{count},\"steps\":[],\"version\":2}}"
+    )?;
+    read_script(alloc, text.as_bytes())
+}
+
+fn assert_counts_refused(rt: &impl Abort, alloc: Global, counts: &[&str]) {
+    for count in counts {
+        assert_refused(rt, script_over(alloc, count), SHAPE, count);
+    }
 }
 
 #[test]
-fn counts_of_sites(rt: HostRuntime) -> Result<(), Fail> {
-    for count in ["0", "1025", "-1", "1.0", "\"1\"", "null"] {
-        let text = format!(in rt.alloc();
-            "{{\"kind\":\"script\",\"sites\":{count},\"steps\":[],\"version\":2}}"
-        )?;
-        let fault = read_script(rt.alloc(), text.as_bytes()).err();
-        assert_eq!(rt; fault, shape(Spot::Document), "{count}");
-    }
+fn counts_of_sites(rt: HostRuntime) {
+    let counts = ["0", "1025", "-1", "1.0", "\"1\"", "null"];
+    assert_counts_refused(&rt, rt.alloc(), counts.as_slice());
+}
+
+#[test]
+fn the_most_sites(rt: HostRuntime) -> Result<(), Fail> {
     let most = r#"{"steps":[],"version":2,"sites":1024,"kind":"script"}"#;
     assert_eq!(rt; read_script(rt.alloc(), most.as_bytes())?.sites(), 1024);
     Ok(())
 }
 
+/// What is read of a script with this step in row 1.
+fn script_with(alloc: Global, step: &str, version: &str) -> Result<Script, DocFault> {
+    let text = format!(in alloc;
+        "{{\"kind\":\"script\",\"sites\":1,\"steps\":[[\"tell\",0],{step}],\"version\":{version}}}"
+    )?;
+    read_script(alloc, text.as_bytes())
+}
+
+fn assert_steps_refused(rt: &impl Abort, alloc: Global, steps: &[&str]) {
+    for step in steps {
+        let script = script_with(alloc, step, "1");
+        assert_refused(rt, script, SHAPE_OF_ROW_1, step);
+    }
+}
+
 #[test]
-fn steps_of_other_shapes(rt: HostRuntime) -> Result<(), Fail> {
-    for step in [
+fn steps_of_other_shapes(rt: HostRuntime) {
+    let steps = [
         "[]",
         "[\"cells\"]",
         "[\"cell\",0]",
@@ -264,105 +311,97 @@ fn steps_of_other_shapes(rt: HostRuntime) -> Result<(), Fail> {
         "[\"lookup\",0,\"m\",\"basic\",\"en\",null]",
         "[\"edit\",0,[\"m\",\"en\",5,1,0,[null]]]",
         "0",
-    ] {
-        let text = format!(in rt.alloc();
-            "{{\"kind\":\"script\",\"sites\":1,\"steps\":[[\"tell\",0],{step}],\"version\":1}}"
-        )?;
-        let fault = read_script(rt.alloc(), text.as_bytes()).err();
-        assert_eq!(rt; fault, shape(Spot::Row(1)), "{step}");
-    }
-    Ok(())
+    ];
+    assert_steps_refused(&rt, rt.alloc(), steps.as_slice());
 }
 
-// Whether a script is refused by this number for this step, which stands in row 1.
-fn refuses(alloc: Global, step: &str, number: u8) -> Result<bool, Fail> {
-    let text = format!(in alloc;
-        "{{\"kind\":\"script\",\"sites\":1,\"steps\":[[\"tell\",0],{step}],\"version\":2}}"
-    )?;
-    match read_script(alloc, text.as_bytes()) {
-        Err(fault) => Ok(fault.number() == number && fault.cause.row() == Some(1)),
-        Ok(_) => Ok(false),
+/// The script with this step is refused by this number for it.
+fn assert_refuses(rt: &impl Abort, alloc: Global, step: &str, number: u8) {
+    let found = number_and_row(script_with(alloc, step, "2").err());
+    assert_eq!(rt; found, Some((number, Some(1))), "{step}");
+}
+
+fn number_and_row(refused: Option<DocFault>) -> Option<(u8, Option<usize>)> {
+    match refused {
+        Some(fault) => Some((fault.number(), fault.cause.row())),
+        None => None,
     }
 }
 
 #[test]
-fn fields_of_filters(rt: HostRuntime) -> Result<(), Fail> {
-    assert!(rt; refuses(rt.alloc(), "[\"filter\",0,\"\",\"basic\",\"en;q=2\"]", 10)?);
-    assert!(rt; refuses(rt.alloc(), "[\"filter\",0,\"m\",\"basic\",\"en;q=2\"]", 9)?);
-    assert!(rt;
-        refuses(
-            rt.alloc(),
-            "[\"filter\",0,\"m\",\"extended\",\"en;q=1\"]",
-            9
-        )?
+fn fields_of_filters(rt: HostRuntime) {
+    let alloc = rt.alloc();
+    assert_refuses(&rt, alloc, "[\"filter\",0,\"\",\"basic\",\"en;q=2\"]", 10);
+    assert_refuses(&rt, alloc, "[\"filter\",0,\"m\",\"basic\",\"en;q=2\"]", 9);
+    assert_refuses(
+        &rt,
+        alloc,
+        "[\"filter\",0,\"m\",\"extended\",\"en;q=1\"]",
+        9,
     );
-    Ok(())
 }
 
 #[test]
-fn fields_of_lookups(rt: HostRuntime) -> Result<(), Fail> {
-    assert!(rt; refuses(rt.alloc(), "[\"lookup\",0,\"m\",\"de, e_\",\"\"]", 9)?);
-    assert!(rt; refuses(rt.alloc(), "[\"lookup\",0,\"m\",\"de\",\"\"]", 1)?);
-    assert!(rt; refuses(rt.alloc(), "[\"lookup\",0,\"m\",\"de\",\"e\"]", 4)?);
-    Ok(())
+fn fields_of_lookups(rt: HostRuntime) {
+    let alloc = rt.alloc();
+    assert_refuses(&rt, alloc, "[\"lookup\",0,\"m\",\"de, e_\",\"\"]", 9);
+    assert_refuses(&rt, alloc, "[\"lookup\",0,\"m\",\"de\",\"\"]", 1);
+    assert_refuses(&rt, alloc, "[\"lookup\",0,\"m\",\"de\",\"e\"]", 4);
 }
 
 #[test]
-fn fields_of_edits(rt: HostRuntime) -> Result<(), Fail> {
-    assert!(rt; refuses(rt.alloc(), "[\"edit\",0,[\"m\",\"e\",5,\"A\",0,[]]]", 4)?);
-    assert!(rt; refuses(rt.alloc(), "[\"edit\",0,[\"m\",\"en\",5,\"A\",0,[]]]", 27)?);
-    assert!(rt; refuses(rt.alloc(), "[\"edit\",0,[\"m\",\"en\",5,\"a\",0,[]]]", 12)?);
-    Ok(())
+fn fields_of_edits(rt: HostRuntime) {
+    let alloc = rt.alloc();
+    assert_refuses(&rt, alloc, "[\"edit\",0,[\"m\",\"e\",5,\"A\",0,[]]]", 4);
+    assert_refuses(&rt, alloc, "[\"edit\",0,[\"m\",\"en\",5,\"A\",0,[]]]", 27);
+    assert_refuses(&rt, alloc, "[\"edit\",0,[\"m\",\"en\",5,\"a\",0,[]]]", 12);
 }
 
 #[test]
 fn versions_of_scripts(rt: HostRuntime) {
     let third = r#"{"kind":"script","version":3}"#;
-    let unknown = DocFault {
-        document: 1,
-        cause: DocCause::VersionUnknown,
-    };
-    assert_eq!(rt;
-        read_script(rt.alloc(), third.as_bytes()).err(),
-        Some(unknown)
-    );
+    let read = read_script(rt.alloc(), third.as_bytes());
+    assert_refused(&rt, read, DocCause::VersionUnknown, third);
     let site = r#"{"kind":"site","sites":1,"steps":[],"version":3}"#;
-    assert_eq!(rt;
-        read_script(rt.alloc(), site.as_bytes()).err(),
-        shape(Spot::Document)
-    );
+    assert_refused(&rt, read_script(rt.alloc(), site.as_bytes()), SHAPE, site);
 }
 
+/// What the site answers of a message: the lines, and whether there is a label.
 fn asked(alloc: Global, id: &str, ask: &Ask) -> Result<(Doc, bool), Fail> {
     let id = MessageId::new(alloc, id)?;
-    let answer = ask_document(alloc, SITE.as_bytes(), &id, ask)?;
-    Ok(answer)
+    Ok(ask_document(alloc, SITE.as_bytes(), &id, ask)?)
+}
+
+fn filtered(alloc: Global, id: &str) -> Result<(Doc, bool), Fail> {
+    let list = PriorityList::from_accept(alloc, b"fr;q=0.5, en")?;
+    asked(alloc, id, &Ask::Filter(Scheme::Basic, list))
+}
+
+fn looked_up(alloc: Global, default: Option<Lang>) -> Result<(Doc, bool), Fail> {
+    let list = PriorityList::from_accept(alloc, b"de")?;
+    asked(alloc, "m", &Ask::Lookup(list, default))
+}
+
+fn assert_answered(rt: &impl Abort, answer: (Doc, bool), text: &str, found: bool) {
+    let (lines, is_found) = answer;
+    assert!(rt; lines.bytes() == text.as_bytes(), "{text}");
+    assert_eq!(rt; is_found, found);
 }
 
 #[test]
 fn filters(rt: HostRuntime) -> Result<(), Fail> {
-    let list = PriorityList::from_accept(rt.alloc(), b"fr;q=0.5, en".as_slice())?;
-    let ask = Ask::Filter(Scheme::Basic, list);
-    let (lines, found) = asked(rt.alloc(), "m", &ask)?;
-    let text = "filter 2\nen 1000 [\"Hello\"]\nfr 500 [\"Bonjour\"]\n";
-    assert!(rt; lines.bytes() == text.as_bytes());
-    assert!(rt; found);
-    let (lines, found) = asked(rt.alloc(), "z", &ask)?;
-    assert!(rt; lines.bytes() == b"filter 0\n".as_slice());
-    assert!(rt; !found);
+    let lines = "filter 2\nen 1000 [\"Hello\"]\nfr 500 [\"Bonjour\"]\n";
+    assert_answered(&rt, filtered(rt.alloc(), "m")?, lines, true);
+    assert_answered(&rt, filtered(rt.alloc(), "z")?, "filter 0\n", false);
     Ok(())
 }
 
 #[test]
 fn lookups(rt: HostRuntime) -> Result<(), Fail> {
-    let list = PriorityList::from_accept(rt.alloc(), b"de".as_slice())?;
-    let default = Lang::parse(rt.alloc(), b"fr".as_slice())?;
-    let (line, found) = asked(rt.alloc(), "m", &Ask::Lookup(list, Some(default)))?;
-    assert!(rt; line.bytes() == b"default fr [\"Bonjour\"]\n".as_slice());
-    assert!(rt; found);
-    let list = PriorityList::from_accept(rt.alloc(), b"de".as_slice())?;
-    let (line, found) = asked(rt.alloc(), "m", &Ask::Lookup(list, None))?;
-    assert!(rt; line.bytes() == b"nothing\n".as_slice());
-    assert!(rt; !found);
+    let alloc = rt.alloc();
+    let fr = Lang::parse(alloc, b"fr")?;
+    let answer = looked_up(alloc, Some(fr))?;
+    assert_answered(&rt, answer, "default fr [\"Bonjour\"]\n", true);
+    assert_answered(&rt, looked_up(alloc, None)?, "nothing\n", false);
     Ok(())
 }

@@ -1,3 +1,5 @@
+//! Reading a source to its end, and what stops it.
+
 use docs_core::{DocCause, DocFault, Input, MOST_BYTES, Source, read_all};
 use std::io;
 use std::io::Read;
@@ -8,7 +10,7 @@ const TOO_LARGE: DocFault = DocFault {
     cause: DocCause::TooLarge,
 };
 
-// Gives one byte a read, and fails at the read of the given number, counted from 1.
+/// Gives one byte a read, and fails at the read of the given number, counted from 1.
 #[derive(Drop)]
 struct Dripping<'t> {
     text: &'t [u8],
@@ -41,7 +43,7 @@ fn drip(text: &[u8], fails_at: usize) -> Dripping<'_> {
     }
 }
 
-// Fills what it is handed up to its end, and notes whether it was asked for too much.
+/// Fills what it is handed up to its end, and notes whether it was asked for too much.
 #[derive(Drop)]
 struct Meter {
     left: usize,

@@ -1,12 +1,15 @@
+//! Scripts as they are written, and steps that no document can have.
+
 use cata_core::Step;
 use cell_core::MessageId;
 use docs_core::{Doc, DocCause, DocFault, Script, Spot, read_script, write_script};
 use lang_core::Lang;
 use nego_core::{Malformed, PriorityList, Scheme};
 use std::alloc::Global;
+use std::process::Abort;
 use std::test::Fail;
 
-// Each kind of step.
+/// Each kind of step.
 const STEPS: &str =
     r#"{"kind":"script","sites":2,"steps":[["edit",0,["m","en",5,"paris",0,["one","two"]]],["edit",1,["m","@none",18446744073709551615,"rome",4294967295,null]],["merge",0,1],["filter",0,"m","basic","de-ch,en;q=0.5,*;q=0"],["filter",0,"m","extended","de-*-ch,*"],["lookup",0,"m","en-gb","fr"],["lookup",1,"m","",null],["lookup",1,"m","*","@none"],["cells",1],["tell",1],["post",0,0],["deliver",0]],"version":2}"#;
 
@@ -27,7 +30,7 @@ fn rewritten(alloc: Global, text: &str) -> Result<Doc, DocFault> {
     write_script(alloc, &script)
 }
 
-// Whether the document is this text and a line feed.
+/// Whether the document is this text and a line feed.
 fn is_line(answer: Result<Doc, DocFault>, text: &str) -> bool {
     match answer {
         Ok(doc) => match doc.bytes() {
@@ -38,34 +41,44 @@ fn is_line(answer: Result<Doc, DocFault>, text: &str) -> bool {
     }
 }
 
+/// What is read of this text is written so.
+fn assert_rewritten(rt: &impl Abort, alloc: Global, text: &str, wanted: &str) {
+    assert!(rt; is_line(rewritten(alloc, text), wanted), "{text}");
+}
+
 #[test]
 fn each_kind_of_step(rt: HostRuntime) {
-    assert!(rt; is_line(rewritten(rt.alloc(), STEPS), STEPS));
+    assert_rewritten(&rt, rt.alloc(), STEPS, STEPS);
 }
 
 #[test]
 fn weights_without_zeros_at_their_end(rt: HostRuntime) {
-    assert!(rt; is_line(rewritten(rt.alloc(), WEIGHTS), WEIGHTS_AGAIN));
-    assert!(rt; is_line(rewritten(rt.alloc(), WEIGHTS_AGAIN), WEIGHTS_AGAIN));
+    assert_rewritten(&rt, rt.alloc(), WEIGHTS, WEIGHTS_AGAIN);
+    assert_rewritten(&rt, rt.alloc(), WEIGHTS_AGAIN, WEIGHTS_AGAIN);
 }
 
 #[test]
 fn a_script_of_version_1(rt: HostRuntime) {
-    assert!(rt; is_line(rewritten(rt.alloc(), TWO_SITES), TWO_SITES_AGAIN));
+    assert_rewritten(&rt, rt.alloc(), TWO_SITES, TWO_SITES_AGAIN);
 }
 
 #[test]
 fn no_step(rt: HostRuntime) {
     let none = r#"{"kind":"script","sites":1024,"steps":[],"version":2}"#;
-    assert!(rt; is_line(rewritten(rt.alloc(), none), none));
+    assert_rewritten(&rt, rt.alloc(), none, none);
 }
 
-// Why a step behind another is refused.
-fn refusal(alloc: Global, step: Step) -> Result<Option<DocFault>, Fail> {
-    let mut steps = Vec::new(alloc);
-    steps.push(Step::Tell { site: 0 })?;
-    steps.push(step)?;
-    Ok(write_script(alloc, &Script::new(1, steps)).err())
+/// Why a step behind another is refused.
+fn refusal(alloc: Global, step: Step) -> Option<DocFault> {
+    let steps = Vec::from_array(alloc, [Step::Tell { site: 0 }, step]).ok()?;
+    write_script(alloc, &Script::new(1, steps)).err()
+}
+
+fn is_written(alloc: Global, step: Step) -> bool {
+    match Vec::from_array(alloc, [Step::Tell { site: 0 }, step]) {
+        Ok(steps) => write_script(alloc, &Script::new(1, steps)).is_ok(),
+        Err(_) => false,
+    }
 }
 
 const SECOND_ROW: DocFault = DocFault {
@@ -73,35 +86,28 @@ const SECOND_ROW: DocFault = DocFault {
     cause: DocCause::Shape { spot: Spot::Row(1) },
 };
 
+fn assert_refused(rt: &impl Abort, alloc: Global, step: Step) {
+    assert_eq!(rt; refusal(alloc, step), Some(SECOND_ROW));
+}
+
+const OVER: usize = 4_294_967_296;
+
 #[test]
-fn numbers_over_32_bits(rt: HostRuntime) -> Result<(), Fail> {
-    let alloc = rt.alloc();
+fn the_greatest_number(rt: HostRuntime) {
     let most = 4_294_967_295;
-    let over = 4_294_967_296;
-    assert_eq!(rt; refusal(alloc, Step::AskCells { site: most })?, None);
-    assert_eq!(rt;
-        refusal(alloc, Step::AskCells { site: over })?,
-        Some(SECOND_ROW)
-    );
-    assert_eq!(rt;
-        refusal(alloc, Step::Tell { site: over })?,
-        Some(SECOND_ROW)
-    );
-    assert_eq!(rt;
-        refusal(alloc, Step::Deliver { post: over })?,
-        Some(SECOND_ROW)
-    );
-    let merge = Step::Merge {
-        into: 0,
-        source: over,
-    };
-    assert_eq!(rt; refusal(alloc, merge)?, Some(SECOND_ROW));
-    let post = Step::Post {
-        site: over,
-        told: 0,
-    };
-    assert_eq!(rt; refusal(alloc, post)?, Some(SECOND_ROW));
-    Ok(())
+    assert!(rt; is_written(rt.alloc(), Step::AskCells { site: most }));
+}
+
+#[test]
+fn numbers_over_32_bits(rt: HostRuntime) {
+    let alloc = rt.alloc();
+    assert_refused(&rt, alloc, Step::AskCells { site: OVER });
+    assert_refused(&rt, alloc, Step::Tell { site: OVER });
+    assert_refused(&rt, alloc, Step::Deliver { post: OVER });
+    let (into, source) = (0, OVER);
+    assert_refused(&rt, alloc, Step::Merge { into, source });
+    let (site, told) = (OVER, 0);
+    assert_refused(&rt, alloc, Step::Post { site, told });
 }
 
 fn filter(alloc: Global, read: Scheme, asked: Scheme, field: &str) -> Result<Step, Fail> {
@@ -113,53 +119,51 @@ fn filter(alloc: Global, read: Scheme, asked: Scheme, field: &str) -> Result<Ste
     })
 }
 
-// A list that was read under one scheme is asked under the other.
+/// A list that was read under one scheme may be asked under the other.
 #[test]
 fn lists_of_the_other_scheme(rt: HostRuntime) -> Result<(), Fail> {
     let alloc = rt.alloc();
-    let basic = Scheme::Basic;
-    let extended = Scheme::Extended;
-    assert_eq!(rt;
-        refusal(alloc, filter(alloc, basic, extended, "de,en")?)?,
-        None
-    );
-    assert_eq!(rt;
-        refusal(alloc, filter(alloc, extended, basic, "de,en")?)?,
-        None
-    );
-    assert_eq!(rt;
-        refusal(alloc, filter(alloc, basic, extended, "de;q=0.5")?)?,
-        Some(SECOND_ROW)
-    );
-    assert_eq!(rt;
-        refusal(alloc, filter(alloc, extended, basic, "de-*")?)?,
-        Some(SECOND_ROW)
-    );
-    let lookup = Step::AskLookup {
+    let step = filter(alloc, Scheme::Basic, Scheme::Extended, "de,en")?;
+    assert!(rt; is_written(alloc, step));
+    let step = filter(alloc, Scheme::Extended, Scheme::Basic, "de,en")?;
+    assert!(rt; is_written(alloc, step));
+    Ok(())
+}
+
+#[test]
+fn lists_that_the_other_scheme_cannot_say(rt: HostRuntime) -> Result<(), Fail> {
+    let alloc = rt.alloc();
+    let step = filter(alloc, Scheme::Basic, Scheme::Extended, "de;q=0.5")?;
+    assert_refused(&rt, alloc, step);
+    let step = filter(alloc, Scheme::Extended, Scheme::Basic, "de-*")?;
+    assert_refused(&rt, alloc, step);
+    Ok(())
+}
+
+fn lookup(alloc: Global) -> Result<Step, Fail> {
+    Ok(Step::AskLookup {
         site: 0,
         id: MessageId::new(alloc, "m")?,
         list: PriorityList::from_ranges(alloc, b"*-de")?,
         default: Some(Lang::parse(alloc, b"de")?),
-    };
-    assert_eq!(rt; refusal(alloc, lookup)?, Some(SECOND_ROW));
+    })
+}
+
+#[test]
+fn a_lookup_by_an_extended_range(rt: HostRuntime) -> Result<(), Fail> {
+    let step = lookup(rt.alloc())?;
+    assert_refused(&rt, rt.alloc(), step);
     Ok(())
 }
 
-// The first step that no document can have is meant.
+/// The first step that no document can have is meant.
 #[test]
 fn the_first_of_two(rt: HostRuntime) -> Result<(), Fail> {
-    let alloc = rt.alloc();
-    let mut steps = Vec::new(alloc);
-    steps.push(Step::Tell { site: 0 })?;
-    steps.push(Step::Tell {
-        site: 4_294_967_296,
-    })?;
-    steps.push(Step::Deliver {
-        post: 4_294_967_296,
-    })?;
-    assert_eq!(rt;
-        write_script(alloc, &Script::new(1, steps)).err(),
-        Some(SECOND_ROW)
-    );
+    let first = Step::Tell { site: 0 };
+    let second = Step::Tell { site: OVER };
+    let third = Step::Deliver { post: OVER };
+    let steps = Vec::from_array(rt.alloc(), [first, second, third])?;
+    let refused = write_script(rt.alloc(), &Script::new(1, steps)).err();
+    assert_eq!(rt; refused, Some(SECOND_ROW));
     Ok(())
 }

@@ -1,39 +1,54 @@
+//! Scripts that are made of steps, and not read.
+
 use cata_core::{Edit, Step, play};
 use cell_core::{Cell, Label, MessageId, SiteName, Stamp};
-use docs_core::{Script, answer_lines};
+use docs_core::{Doc, Script, answer_lines};
 use lang_core::Lang;
 use std::alloc::Global;
 use std::test::Fail;
 
-fn edit(alloc: Global, site: usize) -> Result<Step, Fail> {
-    let mut texts = Vec::new(alloc);
-    texts.push(String::from_str(alloc, "a")?)?;
+fn label(alloc: Global, text: &str) -> Result<Label, Fail> {
+    let text = String::from_str(alloc, text)?;
+    Ok(Label::from_texts(Vec::from_array(alloc, [text])?)?)
+}
+
+fn cell(alloc: Global) -> Result<Cell, Fail> {
     let stamp = Stamp {
         time: 5,
         site: SiteName::new("paris")?,
         count: 0,
     };
-    let edit = Edit::new(
-        MessageId::new(alloc, "m")?,
-        Lang::parse(alloc, b"en")?,
-        Cell::new(stamp, Some(Label::from_texts(texts)?)),
-    );
-    Ok(Step::Edit { site, edit })
+    Ok(Cell::new(stamp, Some(label(alloc, "a")?)))
 }
 
-// A script that is made of steps runs as one that was read.
+fn edit(alloc: Global) -> Result<Edit, Fail> {
+    let id = MessageId::new(alloc, "m")?;
+    let lang = Lang::parse(alloc, b"en")?;
+    Ok(Edit::new(id, lang, cell(alloc)?))
+}
+
+/// An edit at the first of two sites, a merge into the second, and a question there.
+fn script(alloc: Global) -> Result<Script, Fail> {
+    let edit = edit(alloc)?;
+    let first = Step::Edit { site: 0, edit };
+    let second = Step::Merge { into: 1, source: 0 };
+    let third = Step::AskCells { site: 1 };
+    let steps = Vec::from_array(alloc, [first, second, third])?;
+    Ok(Script::new(2, steps))
+}
+
+fn lines(alloc: Global, script: &Script) -> Result<Doc, Fail> {
+    let answers = play(alloc, script.sites(), script.steps())?;
+    Ok(answer_lines(alloc, &answers)?)
+}
+
+/// A script that is made of steps runs as one that was read.
 #[test]
 fn a_script_of_steps(rt: HostRuntime) -> Result<(), Fail> {
-    let alloc = rt.alloc();
-    let mut steps = Vec::new(alloc);
-    steps.push(edit(alloc, 0)?)?;
-    steps.push(Step::Merge { into: 1, source: 0 })?;
-    steps.push(Step::AskCells { site: 1 })?;
-    let script = Script::new(2, steps);
+    let script = script(rt.alloc())?;
     assert_eq!(rt; script.sites(), 2);
     assert_eq!(rt; script.steps().len(), 3);
-    let answers = play(alloc, script.sites(), script.steps())?;
-    let lines = answer_lines(alloc, &answers)?;
+    let lines = lines(rt.alloc(), &script)?;
     assert!(rt; lines.bytes() == b"cells 1\n[\"m\",\"en\",5,\"paris\",0,[\"a\"]]\n".as_slice());
     Ok(())
 }

@@ -1,3 +1,5 @@
+//! Writing out, to sinks that fail or take little.
+
 use docs_core::{DocCause, DocFault, Output, Sink, write_out};
 use std::io;
 use std::io::Write;
@@ -10,7 +12,7 @@ const WRITE_FAULT: DocFault = DocFault {
     cause: DocCause::WriteFault,
 };
 
-// Takes at most `step` bytes a write while there is room, and then fails, or takes none.
+/// Takes at most `step` bytes a write while there is room, and then fails, or takes none.
 #[derive(Drop)]
 struct Narrow {
     taken: Vec<u8>,

@@ -1,3 +1,5 @@
+//! Questions to a site: the lines and the texts that answer them.
+
 use cata_core::Site;
 use front_core::{
     Answer, Field, FrontFault, LabelText, Outcome, filter_lines, lookup_line, lookup_text,
@@ -5,6 +7,7 @@ use front_core::{
 };
 use nego_core::{Malformed, Scheme};
 use std::alloc::Global;
+use std::process::Abort;
 use std::test::Fail;
 
 const SITE: &[u8] =
@@ -22,88 +25,138 @@ fn accept(text: &str) -> Field<'_> {
     }
 }
 
-fn is_answer(answer: &Answer, text: &str, outcome: Outcome) -> bool {
-    answer.text.bytes() == text.as_bytes() && answer.outcome == outcome
+fn is_answer(answer: Result<Answer, FrontFault>, text: &str, outcome: Outcome) -> bool {
+    match answer {
+        Ok(answer) => answer.text.bytes() == text.as_bytes() && answer.outcome == outcome,
+        Err(_) => false,
+    }
+}
+
+/// A lookup of `m` by this field, with `fr` as its default, has this line.
+fn assert_line(
+    rt: &impl Abort,
+    alloc: Global,
+    site: &Site,
+    field: &str,
+    line: &str,
+    outcome: Outcome,
+) {
+    let answer = lookup_line(alloc, site, b"m", accept(field), Some(b"fr"));
+    assert!(rt; is_answer(answer, line, outcome), "{field}");
 }
 
 #[test]
 fn a_line_of_a_lookup(rt: HostRuntime) -> Result<(), Fail> {
     let alloc = rt.alloc();
     let site = questions(alloc)?;
-    let fr = Some(b"fr".as_slice());
-    let answer = lookup_line(alloc, &site, b"m".as_slice(), accept("de, en;q=0.5"), fr)?;
-    assert!(rt; is_answer(&answer, "matched en [\"Hello\"]\n", Outcome::Found));
-    let answer = lookup_line(alloc, &site, b"m".as_slice(), accept("de"), fr)?;
-    assert!(rt;
-        is_answer(
-            &answer,
-            "default fr [\"Bonjour\",\"Salut\"]\n",
-            Outcome::Found
-        )
+    let matched = "matched en [\"Hello\"]\n";
+    assert_line(&rt, alloc, &site, "de, en;q=0.5", matched, Outcome::Found);
+    let default = "default fr [\"Bonjour\",\"Salut\"]\n";
+    assert_line(&rt, alloc, &site, "de", default, Outcome::Found);
+    assert_line(
+        &rt,
+        alloc,
+        &site,
+        "de, *;q=0",
+        "nothing\n",
+        Outcome::Nothing,
     );
-    let answer = lookup_line(alloc, &site, b"m".as_slice(), accept("de, *;q=0"), fr)?;
-    assert!(rt; is_answer(&answer, "nothing\n", Outcome::Nothing));
     Ok(())
+}
+
+/// A lookup of a message by a field.
+#[derive(Clone, Copy)]
+struct Question<'q> {
+    id: &'q str,
+    field: &'q str,
+    default: Option<&'q [u8]>,
+}
+
+/// At this place of what is looked up stands this.
+fn assert_text(
+    rt: &impl Abort,
+    alloc: Global,
+    site: &Site,
+    asked: Question<'_>,
+    place: usize,
+    wanted: LabelText<'_>,
+) {
+    let id = asked.id.as_bytes();
+    let found = lookup_text(alloc, site, id, accept(asked.field), asked.default, place);
+    assert_eq!(rt; found, Ok(wanted));
+}
+
+fn found(text: &str, count: usize) -> LabelText<'_> {
+    LabelText::Found { text, count }
 }
 
 #[test]
 fn a_text_of_a_lookup(rt: HostRuntime) -> Result<(), Fail> {
     let alloc = rt.alloc();
     let site = questions(alloc)?;
-    let id = b"m".as_slice();
-    let fr = accept("fr");
-    let first = lookup_text(alloc, &site, id, fr, None, 0)?;
-    assert_eq!(rt;
-        first,
-        LabelText::Found {
-            text: "Bonjour",
-            count: 2
-        }
-    );
-    let second = lookup_text(alloc, &site, id, fr, None, 1)?;
-    assert_eq!(rt;
-        second,
-        LabelText::Found {
-            text: "Salut",
-            count: 2
-        }
-    );
-    let third = lookup_text(alloc, &site, id, fr, None, 2)?;
-    assert_eq!(rt; third, LabelText::PastEnd { count: 2 });
-    let none = lookup_text(alloc, &site, id, accept("ja"), Some(b"@none".as_slice()), 0)?;
-    assert_eq!(rt;
-        none,
-        LabelText::Found {
-            text: "x",
-            count: 1
-        }
-    );
-    assert_eq!(rt;
-        lookup_text(alloc, &site, id, accept("ja"), None, 0)?,
-        LabelText::Nothing
-    );
-    assert_eq!(rt;
-        lookup_text(alloc, &site, b"z".as_slice(), fr, None, 0)?,
-        LabelText::Nothing
-    );
+    let asked = Question {
+        id: "m",
+        field: "fr",
+        default: None,
+    };
+    assert_text(&rt, alloc, &site, asked, 0, found("Bonjour", 2));
+    assert_text(&rt, alloc, &site, asked, 1, found("Salut", 2));
+    assert_text(&rt, alloc, &site, asked, 2, LabelText::PastEnd { count: 2 });
+    Ok(())
+}
+
+#[test]
+fn a_text_of_a_default(rt: HostRuntime) -> Result<(), Fail> {
+    let site = questions(rt.alloc())?;
+    let asked = Question {
+        id: "m",
+        field: "ja",
+        default: Some(b"@none"),
+    };
+    assert_text(&rt, rt.alloc(), &site, asked, 0, found("x", 1));
+    Ok(())
+}
+
+#[test]
+fn no_text_of_a_lookup(rt: HostRuntime) -> Result<(), Fail> {
+    let alloc = rt.alloc();
+    let site = questions(alloc)?;
+    let (id, default) = ("m", None);
+    let field = "ja";
+    let asked = Question { id, field, default };
+    assert_text(&rt, alloc, &site, asked, 0, LabelText::Nothing);
+    let (id, field) = ("z", "fr");
+    let asked = Question { id, field, default };
+    assert_text(&rt, alloc, &site, asked, 0, LabelText::Nothing);
+    Ok(())
+}
+
+/// A filter of a message by this field has these lines.
+fn assert_lines(
+    rt: &impl Abort,
+    alloc: Global,
+    id: &str,
+    field: Field<'_>,
+    lines: &str,
+    outcome: Outcome,
+) -> Result<(), Fail> {
+    let site = questions(alloc)?;
+    let answer = filter_lines(alloc, &site, id.as_bytes(), field);
+    assert!(rt; is_answer(answer, lines, outcome), "{lines}");
     Ok(())
 }
 
 #[test]
 fn lines_of_a_filter(rt: HostRuntime) -> Result<(), Fail> {
-    let alloc = rt.alloc();
-    let site = questions(alloc)?;
-    let answer = filter_lines(alloc, &site, b"m".as_slice(), accept("fr;q=0.5, en"))?;
     let lines = "filter 2\nen 1000 [\"Hello\"]\nfr 500 [\"Bonjour\",\"Salut\"]\n";
-    assert!(rt; is_answer(&answer, lines, Outcome::Found));
-    let answer = filter_lines(alloc, &site, b"z".as_slice(), accept("en"))?;
-    assert!(rt; is_answer(&answer, "filter 0\n", Outcome::Nothing));
+    let field = accept("fr;q=0.5, en");
+    assert_lines(&rt, rt.alloc(), "m", field, lines, Outcome::Found)?;
+    let none = "filter 0\n";
+    assert_lines(&rt, rt.alloc(), "z", accept("en"), none, Outcome::Nothing)?;
     let any = Field {
         scheme: Scheme::Extended,
         ..accept("*-*")
     };
-    let answer = filter_lines(alloc, &site, b"m".as_slice(), any)?;
     let lines = "filter 2\nen 1000 [\"Hello\"]\nfr 1000 [\"Bonjour\",\"Salut\"]\n";
-    assert!(rt; is_answer(&answer, lines, Outcome::Found));
-    Ok(())
+    assert_lines(&rt, rt.alloc(), "m", any, lines, Outcome::Found)
 }

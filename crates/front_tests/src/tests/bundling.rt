@@ -1,67 +1,79 @@
-use front_core::{Field, Outcome, bundle, open_site};
+//! Bundles for readers with priorities.
+
+use front_core::{Answer, Field, FrontFault, Outcome, bundle, open_site};
 use nego_core::{Malformed, Scheme};
 use std::alloc::Global;
-use std::test::Fail;
+use std::process::Abort;
 
 const SITE: &[u8] =
     br#"{"cells":[["m","@none",1,"a",0,["x"]],["m","en",1,"a",1,["Hello"]],["m","fr",1,"a",2,["Bonjour"]],["n","de",1,"a",3,["Hallo"]],["o","en",1,"a",4,null]],"kind":"site","site":"a","version":2}"#;
 
-// What a reader with this field and this default gets.
-fn is_bundle(
+fn accept(text: &str) -> Field<'_> {
+    Field {
+        scheme: Scheme::Basic,
+        malformed: Malformed::Refused,
+        text: text.as_bytes(),
+    }
+}
+
+fn bundled(alloc: Global, field: Field<'_>, default: Option<&[u8]>) -> Result<Answer, FrontFault> {
+    let site = open_site(alloc, SITE)?;
+    bundle(alloc, &site, field, default)
+}
+
+/// What a reader with this field and this default gets.
+fn assert_bundle(
+    rt: &impl Abort,
     alloc: Global,
-    field: (&str, Malformed),
+    field: Field<'_>,
     default: Option<&[u8]>,
     text: &str,
     outcome: Outcome,
-) -> Result<bool, Fail> {
-    let site = open_site(alloc, SITE)?;
-    let field = Field {
-        scheme: Scheme::Basic,
-        malformed: field.1,
-        text: field.0.as_bytes(),
+) {
+    let is = match bundled(alloc, field, default) {
+        Ok(answer) => answer.text.bytes() == text.as_bytes() && answer.outcome == outcome,
+        Err(_) => false,
     };
-    let answer = bundle(alloc, &site, field, default)?;
-    Ok(answer.text.bytes() == text.as_bytes() && answer.outcome == outcome)
+    assert!(rt; is, "{text}");
 }
 
 #[test]
-fn each_message_has_the_label_that_is_looked_up(rt: HostRuntime) -> Result<(), Fail> {
-    let field = ("fr, en;q=0.5", Malformed::Refused);
+fn each_message_has_the_label_that_is_looked_up(rt: HostRuntime) {
     let text = "{\"m\":{\"fr\":\"Bonjour\"}}\n";
-    let is = is_bundle(rt.alloc(), field, None, text, Outcome::Found)?;
-    assert!(rt; is);
-    Ok(())
+    let field = accept("fr, en;q=0.5");
+    assert_bundle(&rt, rt.alloc(), field, None, text, Outcome::Found);
 }
 
 #[test]
-fn a_default_serves_where_nothing_matches(rt: HostRuntime) -> Result<(), Fail> {
+fn a_default_serves_where_nothing_matches(rt: HostRuntime) {
     let alloc = rt.alloc();
-    let de = Some(b"de".as_slice());
     let text = "{\"m\":{\"fr\":\"Bonjour\"},\"n\":{\"de\":\"Hallo\"}}\n";
-    let is = is_bundle(alloc, ("fr", Malformed::Refused), de, text, Outcome::Found)?;
-    assert!(rt; is);
-    let none = Some(b"@none".as_slice());
+    assert_bundle(&rt, alloc, accept("fr"), Some(b"de"), text, Outcome::Found);
     let text = "{\"m\":{\"@none\":\"x\"}}\n";
-    let is = is_bundle(
+    assert_bundle(
+        &rt,
         alloc,
-        ("ja", Malformed::Refused),
-        none,
+        accept("ja"),
+        Some(b"@none"),
         text,
         Outcome::Found,
-    )?;
-    assert!(rt; is);
-    let en = Some(b"en".as_slice());
+    );
+    let lenient = Field {
+        malformed: Malformed::PassedOver,
+        ..accept("ja;q=1.001")
+    };
     let text = "{\"m\":{\"en\":\"Hello\"}}\n";
-    let lenient = ("ja;q=1.001", Malformed::PassedOver);
-    let is = is_bundle(alloc, lenient, en, text, Outcome::Found)?;
-    assert!(rt; is);
-    Ok(())
+    assert_bundle(&rt, alloc, lenient, Some(b"en"), text, Outcome::Found);
 }
 
 #[test]
-fn nothing_is_left(rt: HostRuntime) -> Result<(), Fail> {
-    let field = ("ja", Malformed::Refused);
-    let is = is_bundle(rt.alloc(), field, None, "{}\n", Outcome::Nothing)?;
-    assert!(rt; is);
-    Ok(())
+fn nothing_is_left(rt: HostRuntime) {
+    assert_bundle(
+        &rt,
+        rt.alloc(),
+        accept("ja"),
+        None,
+        "{}\n",
+        Outcome::Nothing,
+    );
 }

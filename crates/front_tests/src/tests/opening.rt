@@ -1,10 +1,25 @@
+//! Sites that are opened, and documents that are refused.
+
 use front_core::open_site;
+use std::alloc::Global;
+use std::process::Abort;
 use std::test::Fail;
 
-// What refuses the document: its number, place and row.
-fn refuses(rt: &HostRuntime, document: &[u8]) -> Option<(u8, Option<usize>, Option<usize>)> {
-    let fault = open_site(rt.alloc(), document).err()?;
+/// What refuses the document: its number, place and row.
+fn refusal(alloc: Global, document: &[u8]) -> Option<(u8, Option<usize>, Option<usize>)> {
+    let fault = open_site(alloc, document).err()?;
     Some((fault.number(), fault.offset(), fault.row()))
+}
+
+fn assert_refused(
+    rt: &impl Abort,
+    alloc: Global,
+    document: &[u8],
+    number: u8,
+    offset: Option<usize>,
+    row: Option<usize>,
+) {
+    assert_eq!(rt; refusal(alloc, document), Some((number, offset, row)));
 }
 
 #[test]
@@ -19,53 +34,39 @@ fn a_site(rt: HostRuntime) -> Result<(), Fail> {
 
 #[test]
 fn a_document_is_refused(rt: HostRuntime) {
-    assert_eq!(rt; refuses(&rt, b"{\xff"), Some((18, Some(1), None)));
-    assert_eq!(rt; refuses(&rt, b""), Some((19, None, None)));
-    assert_eq!(rt; refuses(&rt, b"{}"), Some((20, None, None)));
+    let alloc = rt.alloc();
+    assert_refused(&rt, alloc, b"{\xff", 18, Some(1), None);
+    assert_refused(&rt, alloc, b"", 19, None, None);
+    assert_refused(&rt, alloc, b"{}", 20, None, None);
     let unnamed = br#"{"cells":[],"kind":"site","site":"","version":2}"#;
-    assert_eq!(rt; refuses(&rt, unnamed), Some((27, None, None)));
+    assert_refused(&rt, alloc, unnamed, 27, None, None);
     let third = br#"{"cells":[],"kind":"site","site":"","version":3}"#;
-    assert_eq!(rt; refuses(&rt, third), Some((28, None, None)));
+    assert_refused(&rt, alloc, third, 28, None, None);
 }
 
-// The refusal of a site with this row after a good one.
-fn refuses_row(rt: &HostRuntime, row: &str) -> Option<(u8, Option<usize>, Option<usize>)> {
+/// The refusal of a site with this row after a good one.
+fn assert_row_refused(
+    rt: &impl Abort,
+    alloc: Global,
+    row: &str,
+    number: u8,
+    offset: Option<usize>,
+) {
     let start = r#"{"cells":[["m","de",5,"a",0,["x"]],"#;
     let end = r#"],"kind":"site","site":"a","version":2}"#;
-    let document = format!(in rt.alloc(); "{start}{row}{end}").ok()?;
-    refuses(rt, document.as_bytes())
+    let document = format!(in alloc; "{start}{row}{end}").expect(rt, "memory");
+    assert_refused(rt, alloc, document.as_bytes(), number, offset, Some(1));
 }
 
 #[test]
 fn a_row_is_refused(rt: HostRuntime) {
-    let row = Some(1);
-    assert_eq!(rt; refuses_row(&rt, r#"["m"]"#), Some((20, None, row)));
-    assert_eq!(rt;
-        refuses_row(&rt, r#"["@m","en",5,"a",1,["x"]]"#),
-        Some((10, None, row))
-    );
-    assert_eq!(rt;
-        refuses_row(&rt, r#"["m","",5,"a",1,["x"]]"#),
-        Some((1, None, row))
-    );
-    assert_eq!(rt;
-        refuses_row(&rt, r#"["m","en-ab_c",5,"a",1,["x"]]"#),
-        Some((3, Some(3), row))
-    );
-    assert_eq!(rt;
-        refuses_row(&rt, r#"["m","e",5,"a",1,["x"]]"#),
-        Some((4, None, row))
-    );
-    assert_eq!(rt;
-        refuses_row(&rt, r#"["m","en",5,"A",1,["x"]]"#),
-        Some((27, None, row))
-    );
-    assert_eq!(rt;
-        refuses_row(&rt, r#"["m","en",5,"a",1,[]]"#),
-        Some((12, None, row))
-    );
-    assert_eq!(rt;
-        refuses_row(&rt, r#"["m","de",5,"a",1,["x"]]"#),
-        Some((21, None, row))
-    );
+    let alloc = rt.alloc();
+    assert_row_refused(&rt, alloc, r#"["m"]"#, 20, None);
+    assert_row_refused(&rt, alloc, r#"["@m","en",5,"a",1,["x"]]"#, 10, None);
+    assert_row_refused(&rt, alloc, r#"["m","",5,"a",1,["x"]]"#, 1, None);
+    assert_row_refused(&rt, alloc, r#"["m","en-ab_c",5,"a",1,["x"]]"#, 3, Some(3));
+    assert_row_refused(&rt, alloc, r#"["m","e",5,"a",1,["x"]]"#, 4, None);
+    assert_row_refused(&rt, alloc, r#"["m","en",5,"A",1,["x"]]"#, 27, None);
+    assert_row_refused(&rt, alloc, r#"["m","en",5,"a",1,[]]"#, 12, None);
+    assert_row_refused(&rt, alloc, r#"["m","de",5,"a",1,["x"]]"#, 21, None);
 }

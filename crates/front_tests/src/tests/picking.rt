@@ -1,6 +1,9 @@
+//! Tags that are picked for a field.
+
 use front_core::{Field, Picked, pick};
 use nego_core::{Malformed, Scheme};
-use std::test::Fail;
+use std::alloc::Global;
+use std::process::Abort;
 
 const TAGS: &[u8] = b"en\nfr\n";
 
@@ -26,66 +29,86 @@ fn extended(text: &str) -> Field<'_> {
     }
 }
 
-#[test]
-fn the_best_tag(rt: HostRuntime) -> Result<(), Fail> {
-    let alloc = rt.alloc();
-    let tags = b"zh\nzh-Hant".as_slice();
-    let found = pick(alloc, accept("zh-Hant-CN"), None, tags)?;
-    assert_eq!(rt; found, Picked::Matched(b"zh-Hant".as_slice()));
-    let found = pick(alloc, accept("en;q=0.5, fr"), None, TAGS)?;
-    assert_eq!(rt; found, Picked::Matched(b"fr".as_slice()));
-    let found = pick(alloc, extended("de-*-DE"), None, b"de\nde-DE".as_slice())?;
-    assert_eq!(rt; found, Picked::Matched(b"de-DE".as_slice()));
-    let found = pick(alloc, lenient("en_US, fr"), None, TAGS)?;
-    assert_eq!(rt; found, Picked::Matched(b"fr".as_slice()));
-    Ok(())
+/// For the field, with this default, this is picked of the tags.
+fn assert_pick(
+    rt: &impl Abort,
+    alloc: Global,
+    field: Field<'_>,
+    default: Option<&[u8]>,
+    tags: &[u8],
+    wanted: Picked<'_>,
+) {
+    assert_eq!(rt; pick(alloc, field, default, tags), Ok(wanted));
 }
 
 #[test]
-fn no_tag(rt: HostRuntime) -> Result<(), Fail> {
+fn the_best_tag(rt: HostRuntime) {
     let alloc = rt.alloc();
-    for (field, tags) in [("en-GB", "fr"), ("", "en"), ("*", "en"), ("en;q=0", "en")] {
-        let found = pick(alloc, accept(field), None, tags.as_bytes())?;
-        assert_eq!(rt; found, Picked::Nothing, "{field}");
-    }
-    assert_eq!(rt;
-        pick(alloc, accept("en"), None, b"@none".as_slice())?,
-        Picked::Nothing
+    let (zh, fr, de) = (
+        accept("zh-Hant-CN"),
+        accept("en;q=0.5, fr"),
+        extended("de-*-DE"),
     );
-    assert_eq!(rt;
-        pick(alloc, accept("en"), Some(b"en".as_slice()), b"".as_slice())?,
-        Picked::Nothing
+    assert_pick(
+        &rt,
+        alloc,
+        zh,
+        None,
+        b"zh\nzh-Hant",
+        Picked::Matched(b"zh-Hant"),
     );
-    Ok(())
+    assert_pick(&rt, alloc, fr, None, TAGS, Picked::Matched(b"fr"));
+    assert_pick(
+        &rt,
+        alloc,
+        de,
+        None,
+        b"de\nde-DE",
+        Picked::Matched(b"de-DE"),
+    );
+    let fr = lenient("en_US, fr");
+    assert_pick(&rt, alloc, fr, None, TAGS, Picked::Matched(b"fr"));
 }
 
 #[test]
-fn the_default(rt: HostRuntime) -> Result<(), Fail> {
+fn no_tag(rt: HostRuntime) {
     let alloc = rt.alloc();
-    let en = Some(b"EN".as_slice());
-    let found = pick(alloc, accept("ja"), en, TAGS)?;
-    assert_eq!(rt; found, Picked::Default(b"en".as_slice()));
-    let found = pick(alloc, accept("fr"), en, TAGS)?;
-    assert_eq!(rt; found, Picked::Matched(b"fr".as_slice()));
-    let found = pick(alloc, accept("ja, *;q=0"), en, TAGS)?;
-    assert_eq!(rt; found, Picked::Nothing);
-    let found = pick(alloc, accept("ja"), Some(b"de".as_slice()), TAGS)?;
-    assert_eq!(rt; found, Picked::Nothing);
-    let found = pick(alloc, lenient("en_US"), en, TAGS)?;
-    assert_eq!(rt; found, Picked::Default(b"en".as_slice()));
-    let none = Some(b"@none".as_slice());
-    let found = pick(alloc, accept("ja"), none, b"en\n@none\n".as_slice())?;
-    assert_eq!(rt; found, Picked::Default(b"@none".as_slice()));
-    Ok(())
+    let en = accept("en");
+    assert_pick(&rt, alloc, accept("en-GB"), None, b"fr", Picked::Nothing);
+    assert_pick(&rt, alloc, accept(""), None, b"en", Picked::Nothing);
+    assert_pick(&rt, alloc, accept("*"), None, b"en", Picked::Nothing);
+    assert_pick(&rt, alloc, accept("en;q=0"), None, b"en", Picked::Nothing);
+    assert_pick(&rt, alloc, en, None, b"@none", Picked::Nothing);
+    assert_pick(&rt, alloc, en, Some(b"en"), b"", Picked::Nothing);
 }
 
 #[test]
-fn of_equal_tags_the_first_as_it_is_written(rt: HostRuntime) -> Result<(), Fail> {
+fn the_default(rt: HostRuntime) {
     let alloc = rt.alloc();
-    let tags = b"fr\nDE-ch\nde-CH\nde-ch\n".as_slice();
-    let found = pick(alloc, accept("de-CH"), None, tags)?;
-    assert_eq!(rt; found, Picked::Matched(b"DE-ch".as_slice()));
-    let found = pick(alloc, accept("ja"), Some(b"de-ch".as_slice()), tags)?;
-    assert_eq!(rt; found, Picked::Default(b"DE-ch".as_slice()));
-    Ok(())
+    let en: Option<&[u8]> = Some(b"EN");
+    let ja = accept("ja");
+    assert_pick(&rt, alloc, ja, en, TAGS, Picked::Default(b"en"));
+    assert_pick(&rt, alloc, accept("fr"), en, TAGS, Picked::Matched(b"fr"));
+    assert_pick(&rt, alloc, accept("ja, *;q=0"), en, TAGS, Picked::Nothing);
+    assert_pick(&rt, alloc, ja, Some(b"de"), TAGS, Picked::Nothing);
+    assert_pick(
+        &rt,
+        alloc,
+        lenient("en_US"),
+        en,
+        TAGS,
+        Picked::Default(b"en"),
+    );
+    let none = Picked::Default(b"@none");
+    assert_pick(&rt, alloc, ja, Some(b"@none"), b"en\n@none\n", none);
+}
+
+#[test]
+fn of_equal_tags_the_first_as_it_is_written(rt: HostRuntime) {
+    let alloc = rt.alloc();
+    let tags = b"fr\nDE-ch\nde-CH\nde-ch\n";
+    let first = Picked::Matched(b"DE-ch");
+    assert_pick(&rt, alloc, accept("de-CH"), None, tags, first);
+    let first = Picked::Default(b"DE-ch");
+    assert_pick(&rt, alloc, accept("ja"), Some(b"de-ch"), tags, first);
 }

@@ -1,3 +1,6 @@
+//! What is refused, in which order, and how it is told.
+
+use cata_core::Site;
 use cell_core::CellFault;
 use docs_core::{DocCause, DocFault, FieldFault, Spot};
 use front_core::{
@@ -6,7 +9,9 @@ use front_core::{
 };
 use lang_core::LangFault;
 use nego_core::{Malformed, NegoFault, Scheme};
+use std::alloc::Global;
 use std::fmt::InlineText;
+use std::process::Abort;
 use std::test::Fail;
 
 const SITE: &[u8] = br#"{"cells":[],"kind":"site","site":"a","version":2}"#;
@@ -22,110 +27,131 @@ fn accept(text: &[u8]) -> Field<'_> {
 }
 
 fn malformed() -> Field<'static> {
-    accept(b"fr;q=0.4,en;q=1.001".as_slice())
+    accept(b"fr;q=0.4,en;q=1.001")
+}
+
+const LANGUAGE: FrontFault = FrontFault::Language(LangFault::TagNotWellFormed);
+
+const FIELD: FrontFault = FrontFault::Field(MALFORMED);
+
+const ID: FrontFault = FrontFault::Id(CellFault::IdRefused);
+
+fn assert_refused<T: Drop>(rt: &impl Abort, answer: Result<T, FrontFault>, fault: FrontFault) {
+    assert_eq!(rt; answer.err(), Some(fault));
 }
 
 #[test]
 fn a_pick_in_order(rt: HostRuntime) {
     let alloc = rt.alloc();
     let tags = b"en\ne\n".as_slice();
-    let e = Some(b"e".as_slice());
-    let language = Some(FrontFault::Language(LangFault::TagNotWellFormed));
-    assert_eq!(rt; pick(alloc, malformed(), e, tags).err(), language);
-    let field = Some(FrontFault::Field(MALFORMED));
-    assert_eq!(rt; pick(alloc, malformed(), None, tags).err(), field);
-    let fr = accept(b"fr".as_slice());
-    assert_eq!(rt; pick(alloc, fr, None, tags).err(), language);
+    assert_refused(&rt, pick(alloc, malformed(), Some(b"e"), tags), LANGUAGE);
+    assert_refused(&rt, pick(alloc, malformed(), None, tags), FIELD);
+    assert_refused(&rt, pick(alloc, accept(b"fr"), None, tags), LANGUAGE);
 }
+
+const EMPTY: FrontFault = FrontFault::Language(LangFault::TagEmpty);
 
 #[test]
 fn a_line_without_bytes(rt: HostRuntime) {
-    let alloc = rt.alloc();
-    let empty = Some(FrontFault::Language(LangFault::TagEmpty));
-    let fr = accept(b"fr".as_slice());
+    let fr = accept(b"fr");
     for tags in ["\n", "en\n\n", "\nen", "en\n\nfr"] {
-        assert_eq!(rt;
-            pick(alloc, fr, None, tags.as_bytes()).err(),
-            empty,
-            "{tags}"
-        );
+        let picked = pick(rt.alloc(), fr, None, tags.as_bytes());
+        assert_eq!(rt; picked, Err(EMPTY), "{tags}");
     }
-    assert_eq!(rt;
-        pick(alloc, fr, Some(b"".as_slice()), b"en".as_slice()).err(),
-        empty
-    );
+    assert_refused(&rt, pick(rt.alloc(), fr, Some(b""), b"en"), EMPTY);
 }
 
 #[test]
 fn a_subtag_is_told_by_its_place(rt: HostRuntime) {
-    let fr = accept(b"fr".as_slice());
-    let fault = pick(rt.alloc(), fr, None, b"en\nde-ab_c".as_slice()).err();
-    assert_eq!(rt;
-        fault,
-        Some(FrontFault::Language(LangFault::TagSubtag { offset: 3 }))
-    );
+    let picked = pick(rt.alloc(), accept(b"fr"), None, b"en\nde-ab_c");
+    let fault = FrontFault::Language(LangFault::TagSubtag { offset: 3 });
+    assert_refused(&rt, picked, fault);
 }
 
 #[test]
 fn a_long_field(rt: HostRuntime) {
     let field = accept([b','; 65_536].as_slice());
-    let fault = Preferences::read(rt.alloc(), field, None).err();
-    assert_eq!(rt; fault, Some(FrontFault::Field(NegoFault::FieldTooLong)));
+    let read = Preferences::read(rt.alloc(), field, None);
+    assert_refused(&rt, read, FrontFault::Field(NegoFault::FieldTooLong));
 }
 
 #[test]
-fn a_question_in_order(rt: HostRuntime) -> Result<(), Fail> {
+fn an_id_before_all_else(rt: HostRuntime) {
+    let alloc = rt.alloc();
+    let lookup = Lookup::read(alloc, b"@m", malformed(), Some(b"e"));
+    assert_refused(&rt, lookup, ID);
+    assert_refused(&rt, Filter::read(alloc, b"@m", malformed()), ID);
+}
+
+/// A lookup of this message, with this default, by a malformed field.
+fn assert_lookup_refused(
+    rt: &impl Abort,
+    alloc: Global,
+    site: &Site,
+    id: &[u8],
+    default: Option<&[u8]>,
+    fault: &FrontFault,
+) {
+    assert_refused(
+        rt,
+        lookup_line(alloc, site, id, malformed(), default),
+        *fault,
+    );
+    assert_refused(
+        rt,
+        lookup_text(alloc, site, id, malformed(), default, 0),
+        *fault,
+    );
+}
+
+#[test]
+fn a_lookup_in_order(rt: HostRuntime) -> Result<(), Fail> {
     let alloc = rt.alloc();
     let site = open_site(alloc, SITE)?;
-    let id = Some(FrontFault::Id(CellFault::IdRefused));
-    let language = Some(FrontFault::Language(LangFault::TagNotWellFormed));
-    let field = Some(FrontFault::Field(MALFORMED));
-    let e = Some(b"e".as_slice());
-    let at = b"@m".as_slice();
-    let m = b"m".as_slice();
-    assert_eq!(rt; Lookup::read(alloc, at, malformed(), e).err(), id);
-    assert_eq!(rt; Filter::read(alloc, at, malformed()).err(), id);
-    assert_eq!(rt; lookup_line(alloc, &site, at, malformed(), e).err(), id);
-    assert_eq!(rt;
-        lookup_line(alloc, &site, m, malformed(), e).err(),
-        language
-    );
-    assert_eq!(rt;
-        lookup_line(alloc, &site, m, malformed(), None).err(),
-        field
-    );
-    assert_eq!(rt; lookup_text(alloc, &site, at, malformed(), e, 0).err(), id);
-    assert_eq!(rt;
-        lookup_text(alloc, &site, m, malformed(), None, 0).err(),
-        field
-    );
-    assert_eq!(rt; filter_lines(alloc, &site, at, malformed()).err(), id);
-    assert_eq!(rt; filter_lines(alloc, &site, m, malformed()).err(), field);
-    assert_eq!(rt; bundle(alloc, &site, malformed(), e).err(), language);
-    assert_eq!(rt; bundle(alloc, &site, malformed(), None).err(), field);
+    assert_lookup_refused(&rt, alloc, &site, b"@m", Some(b"e"), &ID);
+    assert_lookup_refused(&rt, alloc, &site, b"m", Some(b"e"), &LANGUAGE);
+    assert_lookup_refused(&rt, alloc, &site, b"m", None, &FIELD);
+    Ok(())
+}
+
+#[test]
+fn a_filter_in_order(rt: HostRuntime) -> Result<(), Fail> {
+    let alloc = rt.alloc();
+    let site = open_site(alloc, SITE)?;
+    assert_refused(&rt, filter_lines(alloc, &site, b"@m", malformed()), ID);
+    assert_refused(&rt, filter_lines(alloc, &site, b"m", malformed()), FIELD);
+    Ok(())
+}
+
+#[test]
+fn a_bundle_in_order(rt: HostRuntime) -> Result<(), Fail> {
+    let alloc = rt.alloc();
+    let site = open_site(alloc, SITE)?;
+    assert_refused(&rt, bundle(alloc, &site, malformed(), Some(b"e")), LANGUAGE);
+    assert_refused(&rt, bundle(alloc, &site, malformed(), None), FIELD);
     Ok(())
 }
 
 #[test]
 fn an_id_that_is_no_text(rt: HostRuntime) -> Result<(), Fail> {
-    let alloc = rt.alloc();
-    let site = open_site(alloc, SITE)?;
-    let fault = filter_lines(alloc, &site, b"m\xff".as_slice(), accept(b"fr".as_slice())).err();
-    assert_eq!(rt; fault, Some(FrontFault::Id(CellFault::IdRefused)));
+    let site = open_site(rt.alloc(), SITE)?;
+    let answer = filter_lines(rt.alloc(), &site, b"m\xff", accept(b"fr"));
+    assert_refused(&rt, answer, ID);
     Ok(())
 }
 
-fn tells(
+/// The number, the place, the row and the text of the fault.
+fn assert_tells(
+    rt: &impl Abort,
     fault: FrontFault,
     number: u8,
     offset: Option<usize>,
     row: Option<usize>,
     text: &str,
-) -> bool {
-    fault.number() == number
-        && fault.offset() == offset
-        && fault.row() == row
-        && InlineText::<80>::of(&fault).as_str() == text
+) {
+    assert_eq!(rt; fault.number(), number, "{text}");
+    assert_eq!(rt; (fault.offset(), fault.row()), (offset, row), "{text}");
+    assert_eq!(rt; InlineText::<80>::of(&fault).as_str(), text);
 }
 
 fn of_document(cause: DocCause) -> FrontFault {
@@ -135,47 +161,47 @@ fn of_document(cause: DocCause) -> FrontFault {
 #[test]
 fn of_words(rt: HostRuntime) {
     let id = FrontFault::from(CellFault::IdRefused);
-    assert!(rt; tells(id, 10, None, None, "message id"));
+    assert_tells(&rt, id, 10, None, None, "message id");
     let language = FrontFault::from(LangFault::TagEmpty);
-    assert!(rt; tells(language, 1, None, None, "tag is empty"));
+    assert_tells(&rt, language, 1, None, None, "tag is empty");
     let language = FrontFault::from(LangFault::TagSubtag { offset: 3 });
-    assert!(rt; tells(language, 3, Some(3), None, "subtag at 3"));
+    assert_tells(&rt, language, 3, Some(3), None, "subtag at 3");
     let language = FrontFault::from(LangFault::RangeSubtag { offset: 2 });
-    assert!(rt; tells(language, 7, Some(2), None, "range subtag at 2"));
+    assert_tells(&rt, language, 7, Some(2), None, "range subtag at 2");
     let field = FrontFault::from(NegoFault::FieldTooLong);
-    assert!(rt; tells(field, 8, None, None, "field is over 65535 bytes"));
+    assert_tells(&rt, field, 8, None, None, "field is over 65535 bytes");
     let field = FrontFault::from(MALFORMED);
-    assert!(rt; tells(field, 9, Some(9), None, "field element at 9"));
+    assert_tells(&rt, field, 9, Some(9), None, "field element at 9");
 }
 
 #[test]
 fn of_documents(rt: HostRuntime) {
     let fault = of_document(DocCause::NotUtf8 { offset: 7 });
-    assert!(rt; tells(fault, 18, Some(7), None, "not UTF-8 at 7"));
+    assert_tells(&rt, fault, 18, Some(7), None, "not UTF-8 at 7");
     let fault = of_document(DocCause::NotJson);
-    assert!(rt; tells(fault, 19, None, None, "not JSON"));
+    assert_tells(&rt, fault, 19, None, None, "not JSON");
     let fault = of_document(DocCause::Shape { spot: Spot::Row(2) });
-    assert!(rt; tells(fault, 20, None, Some(2), "shape"));
+    assert_tells(&rt, fault, 20, None, Some(2), "shape");
     let fault = of_document(DocCause::CellOrder { row: 4 });
-    assert!(rt; tells(fault, 21, None, Some(4), "cell order"));
+    assert_tells(&rt, fault, 21, None, Some(4), "cell order");
     let language = FieldFault::Language(LangFault::TagSubtag { offset: 3 });
     let fault = of_document(DocCause::Field {
         row: 5,
         fault: language,
     });
-    assert!(rt; tells(fault, 3, Some(3), Some(5), "subtag at 3"));
+    assert_tells(&rt, fault, 3, Some(3), Some(5), "subtag at 3");
     let field = FieldFault::Priorities(MALFORMED);
     let fault = of_document(DocCause::Field {
         row: 6,
         fault: field,
     });
-    assert!(rt; tells(fault, 9, Some(9), Some(6), "field element at 9"));
+    assert_tells(&rt, fault, 9, Some(9), Some(6), "field element at 9");
     let label = FieldFault::Cell(CellFault::LabelCount { count: 0 });
     let fault = of_document(DocCause::Field {
         row: 0,
         fault: label,
     });
-    assert!(rt; tells(fault, 12, None, Some(0), "label has 0 texts"));
+    assert_tells(&rt, fault, 12, None, Some(0), "label has 0 texts");
 }
 
 #[test]
@@ -188,6 +214,6 @@ fn out_of_memory_has_one_form(rt: HostRuntime) {
         FrontFault::from(std::alloc::AllocError),
     ] {
         assert_eq!(rt; fault, FrontFault::NoMemory);
-        assert!(rt; tells(fault, 26, None, None, "out of memory"));
+        assert_tells(&rt, fault, 26, None, None, "out of memory");
     }
 }

@@ -1,9 +1,12 @@
 //! Picks from the words of a command.
+
+use docs_core::Doc;
 use front_core::words::{Finding, find, pick, pick_scheme, pick_with};
 use front_core::{Field, FrontFault};
 use lang_core::LangFault;
 use nego_core::{Malformed, NegoFault, Scheme};
 use std::alloc::{AllocError, Global};
+use std::process::Abort;
 use std::test::Fail;
 
 fn words_of(alloc: Global, words: &[&str]) -> Result<Vec<String>, AllocError> {
@@ -14,16 +17,24 @@ fn words_of(alloc: Global, words: &[&str]) -> Result<Vec<String>, AllocError> {
     Ok(copies)
 }
 
+fn assert_line(rt: &impl Abort, picked: Result<Doc, FrontFault>, line: &str, case: &str) {
+    let is_line = match picked {
+        Ok(doc) => doc.bytes() == line.as_bytes(),
+        Err(_) => false,
+    };
+    assert!(rt; is_line, "{case}");
+}
+
 #[test]
 fn strictly(rt: HostRuntime) -> Result<(), Fail> {
     let alloc = rt.alloc();
     let tags = words_of(alloc, &["de", "de-DE", "@none"])?;
-    let line = pick(alloc, "de-CH;q=0.3", &tags)?;
-    assert!(rt; line.bytes() == b"matched de\n".as_slice());
-    let line = pick_scheme(alloc, Scheme::Extended, "de-*-DE", &tags)?;
-    assert!(rt; line.bytes() == b"matched de-de\n".as_slice());
-    let line = pick_scheme(alloc, Scheme::Basic, "fr", &tags)?;
-    assert!(rt; line.bytes() == b"nothing\n".as_slice());
+    let ranges = "de-CH;q=0.3";
+    assert_line(&rt, pick(alloc, ranges, &tags), "matched de\n", ranges);
+    let picked = pick_scheme(alloc, Scheme::Extended, "de-*-DE", &tags);
+    assert_line(&rt, picked, "matched de-de\n", "de-*-DE");
+    let picked = pick_scheme(alloc, Scheme::Basic, "fr", &tags);
+    assert_line(&rt, picked, "nothing\n", "fr");
     let fault = FrontFault::Field(NegoFault::FieldMalformed { offset: 0 });
     assert_eq!(rt; pick(alloc, "de-*-DE", &tags).err(), Some(fault));
     Ok(())
@@ -33,25 +44,28 @@ fn strictly(rt: HostRuntime) -> Result<(), Fail> {
 fn with_a_default(rt: HostRuntime) -> Result<(), Fail> {
     let alloc = rt.alloc();
     let tags = words_of(alloc, &["en", "fr"])?;
-    let rows = [
+    for (malformed, default, ranges, line) in [
         (Malformed::Refused, Some("en"), "ja", "default en\n"),
         (Malformed::Refused, Some("de"), "ja", "nothing\n"),
         (Malformed::Refused, Some("en"), "ja, *;q=0", "nothing\n"),
         (Malformed::Refused, None, "fr", "matched fr\n"),
         (Malformed::PassedOver, Some("en"), "en_US", "default en\n"),
         (Malformed::PassedOver, None, "en_US, fr", "matched fr\n"),
-    ];
-    for (malformed, default, ranges, wanted) in rows {
-        let line = pick_with(alloc, Scheme::Basic, malformed, default, ranges, &tags)?;
-        assert!(rt; line.bytes() == wanted.as_bytes(), "{ranges}");
+    ] {
+        let picked = pick_with(alloc, Scheme::Basic, malformed, default, ranges, &tags);
+        assert_line(&rt, picked, line, ranges);
     }
-    let basic = Scheme::Basic;
+    Ok(())
+}
+
+#[test]
+fn a_default_that_is_no_language(rt: HostRuntime) -> Result<(), Fail> {
+    let alloc = rt.alloc();
+    let tags = words_of(alloc, &["en", "fr"])?;
     let strict = Malformed::Refused;
-    let fault = pick_with(alloc, basic, strict, Some("e"), ";", &tags).err();
-    assert_eq!(rt;
-        fault,
-        Some(FrontFault::Language(LangFault::TagNotWellFormed))
-    );
+    let picked = pick_with(alloc, Scheme::Basic, strict, Some("e"), ";", &tags);
+    let fault = FrontFault::Language(LangFault::TagNotWellFormed);
+    assert_eq!(rt; picked.err(), Some(fault));
     Ok(())
 }
 
