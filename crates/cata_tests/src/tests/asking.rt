@@ -2,7 +2,7 @@
 
 use super::makers::{catalogue, default, id, list};
 use super::shown;
-use super::words::gives;
+use super::words::{gives, gives_in};
 use cata_core::{Catalogue, Labels};
 use nego_core::Scheme;
 use std::alloc::Global;
@@ -108,32 +108,31 @@ fn looked_up(alloc: Global, field: &str, tag: &str) -> Result<String, Fail> {
     found(alloc, &held, field, tag)
 }
 
-#[test]
-fn a_lookup_answers_the_default(rt: HostRuntime) -> Result<(), Fail> {
-    gives(looked_up(rt.alloc(), "de", "fr"), "default fr Bonjour")
-}
-
-#[test]
-fn a_lookup_finds_a_label(rt: HostRuntime) -> Result<(), Fail> {
-    gives(
-        looked_up(rt.alloc(), "de, en;q=0.5", "fr"),
+/// A case, a field, a default, and what is looked up.
+const LOOKUPS: &[(&str, &str, &str, &str)] = &[
+    (
+        "a lookup answers the default",
+        "de",
+        "fr",
+        "default fr Bonjour",
+    ),
+    (
+        "a lookup finds a label",
+        "de, en;q=0.5",
+        "fr",
         "matched en Hello",
-    )
-}
+    ),
+    ("a lookup refuses all", "de, *;q=0", "fr", "nothing"),
+    ("a deleted default is nothing", "de", "de", "nothing"),
+    ("a lookup without default is nothing", "de", "-", "nothing"),
+];
 
 #[test]
-fn a_lookup_refuses_all(rt: HostRuntime) -> Result<(), Fail> {
-    gives(looked_up(rt.alloc(), "de, *;q=0", "fr"), "nothing")
-}
-
-#[test]
-fn a_deleted_default_is_nothing(rt: HostRuntime) -> Result<(), Fail> {
-    gives(looked_up(rt.alloc(), "de", "de"), "nothing")
-}
-
-#[test]
-fn a_lookup_without_default_is_nothing(rt: HostRuntime) -> Result<(), Fail> {
-    gives(looked_up(rt.alloc(), "de", "-"), "nothing")
+fn lookups(rt: HostRuntime) -> Result<(), Fail> {
+    for (case, field, tag, wanted) in LOOKUPS {
+        gives_in(case, looked_up(rt.alloc(), field, tag), wanted)?;
+    }
+    Ok(())
 }
 
 #[test]

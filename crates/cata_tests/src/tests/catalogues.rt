@@ -2,7 +2,7 @@
 
 use super::makers::{catalogue, cell, edit, id, lang};
 use super::shown;
-use super::words::{Words, gives};
+use super::words::{Words, gives, gives_in};
 use cata_core::{CataFault, Catalogue};
 use std::alloc::Global;
 use std::test::Fail;
@@ -12,11 +12,57 @@ fn applied(alloc: Global, edits: &str) -> Result<String, Fail> {
     Ok(shown::cells(alloc, &catalogue(alloc, edits)?)?)
 }
 
+/// A case, edits, and what then stands in the catalogue.
+const APPLIED: &[(&str, &str, &str)] = &[
+    (
+        "a later deletion stays",
+        "m en 9 1 0 -; m en 5 2 0 x",
+        "m en 9 0000000001 0 -",
+    ),
+    (
+        "keys rise by id then language",
+        "n en 1 1 0 a; m fr 1 1 0 b; m @none 1 1 0 c; m de 1 1 0 -; M en 1 1 0 d",
+        "M en 1 0000000001 0 d; m @none 1 0000000001 0 c; m de 1 0000000001 0 -; m fr 1 0000000001 0 b; n en 1 0000000001 0 a",
+    ),
+];
+
+#[test]
+fn edits_are_applied(rt: HostRuntime) -> Result<(), Fail> {
+    for (case, edits, wanted) in APPLIED {
+        gives_in(case, applied(rt.alloc(), edits), wanted)?;
+    }
+    Ok(())
+}
+
 /// How one more edit ends, and what then stands there.
 fn applying(alloc: Global, held: &str, coming: &str) -> Result<String, Fail> {
     let mut own = catalogue(alloc, held)?;
     let coming = edit(alloc, coming)?;
     shown_end(alloc, own.apply(alloc, &coming), &own)
+}
+
+/// A case, what is held, one more edit, and how that ends.
+const APPLYING: &[(&str, &str, &str, &str)] = &[
+    (
+        "an equal cell is no clash",
+        "m en 4 1 0 x",
+        "m en 4 1 0 x",
+        "done: m en 4 0000000001 0 x",
+    ),
+    (
+        "a deletion clashes with a label",
+        "a en 1 1 0 x; b en 4 1 0 x",
+        "b en 4 1 0 -",
+        "13 stamp 4 0000000001 0 used twice, cell 1: a en 1 0000000001 0 x; b en 4 0000000001 0 x",
+    ),
+];
+
+#[test]
+fn one_more_edit(rt: HostRuntime) -> Result<(), Fail> {
+    for (case, held, coming, wanted) in APPLYING {
+        gives_in(case, applying(rt.alloc(), held, coming), wanted)?;
+    }
+    Ok(())
 }
 
 /// How a merge ends, and what then stands in the first.
@@ -34,23 +80,6 @@ fn shown_end(
     let outcome = shown::outcome(alloc, &ended)?;
     let cells = shown::cells(alloc, left)?;
     Ok(format!(in alloc; "{outcome}: {cells}")?)
-}
-
-#[test]
-fn a_later_deletion_stays(rt: HostRuntime) -> Result<(), Fail> {
-    gives(
-        applied(rt.alloc(), "m en 9 1 0 -; m en 5 2 0 x"),
-        "m en 9 0000000001 0 -",
-    )
-}
-
-#[test]
-fn keys_rise_by_id_then_language(rt: HostRuntime) -> Result<(), Fail> {
-    let edits = "n en 1 1 0 a; m fr 1 1 0 b; m @none 1 1 0 c; m de 1 1 0 -; M en 1 1 0 d";
-    gives(
-        applied(rt.alloc(), edits),
-        "M en 1 0000000001 0 d; m @none 1 0000000001 0 c; m de 1 0000000001 0 -; m fr 1 0000000001 0 b; n en 1 0000000001 0 a",
-    )
 }
 
 /// The message and language at a place.
@@ -108,36 +137,30 @@ fn cell_at(alloc: Global, held: &str, message: &str, tag: &str) -> Result<String
     }
 }
 
-#[test]
-fn a_cell_is_found_by_its_language(rt: HostRuntime) -> Result<(), Fail> {
-    gives(
-        cell_at(rt.alloc(), "m en 1 1 0 a; m fr 2 1 0 b", "m", "fr"),
+/// A case, what is held, a message, a language, and the cell.
+const CELLS: &[(&str, &str, &str, &str, &str)] = &[
+    (
+        "a cell is found by its language",
+        "m en 1 1 0 a; m fr 2 1 0 b",
+        "m",
+        "fr",
         "2 0000000001 0 b",
-    )
-}
-
-#[test]
-fn no_cell_is_found_in_another_language(rt: HostRuntime) -> Result<(), Fail> {
-    gives(
-        cell_at(rt.alloc(), "m en 1 1 0 a; n fr 2 1 0 b", "m", "fr"),
+    ),
+    (
+        "no cell is found in another language",
+        "m en 1 1 0 a; n fr 2 1 0 b",
+        "m",
+        "fr",
         "none",
-    )
-}
+    ),
+];
 
 #[test]
-fn an_equal_cell_is_no_clash(rt: HostRuntime) -> Result<(), Fail> {
-    gives(
-        applying(rt.alloc(), "m en 4 1 0 x", "m en 4 1 0 x"),
-        "done: m en 4 0000000001 0 x",
-    )
-}
-
-#[test]
-fn a_deletion_clashes_with_a_label(rt: HostRuntime) -> Result<(), Fail> {
-    gives(
-        applying(rt.alloc(), "a en 1 1 0 x; b en 4 1 0 x", "b en 4 1 0 -"),
-        "13 stamp 4 0000000001 0 used twice, cell 1: a en 1 0000000001 0 x; b en 4 0000000001 0 x",
-    )
+fn cells_by_message_and_language(rt: HostRuntime) -> Result<(), Fail> {
+    for (case, held, message, tag, wanted) in CELLS {
+        gives_in(case, cell_at(rt.alloc(), held, message, tag), wanted)?;
+    }
+    Ok(())
 }
 
 #[test]

@@ -2,7 +2,7 @@
 
 use super::makers::{catalogue, edit, id, list, name, site};
 use super::steps;
-use super::words::gives;
+use super::words::{gives, gives_in};
 use cata_core::{Catalogue, Delta, Entries};
 use nego_core::Scheme;
 use std::alloc::Global;
@@ -19,28 +19,34 @@ fn edits_compared(alloc: Global, one: &str, other: &str) -> Result<String, Fail>
     compared(alloc, one == other)
 }
 
-#[test]
-fn edits_of_one_cell_are_equal(rt: HostRuntime) -> Result<(), Fail> {
-    gives(
-        edits_compared(rt.alloc(), "m en 5 1 0 a", "m EN 5 1 0 a"),
+/// A case, two edits, and whether they are equal.
+const EDITS: &[(&str, &str, &str, &str)] = &[
+    (
+        "edits of one cell are equal",
+        "m en 5 1 0 a",
+        "m EN 5 1 0 a",
         "equal",
-    )
-}
+    ),
+    (
+        "edits of two stamps differ",
+        "m en 5 1 0 a",
+        "m en 5 1 1 a",
+        "not equal",
+    ),
+    (
+        "a deletion is no label",
+        "m en 5 1 0 a",
+        "m en 5 1 0 -",
+        "not equal",
+    ),
+];
 
 #[test]
-fn edits_of_two_stamps_differ(rt: HostRuntime) -> Result<(), Fail> {
-    gives(
-        edits_compared(rt.alloc(), "m en 5 1 0 a", "m en 5 1 1 a"),
-        "not equal",
-    )
-}
-
-#[test]
-fn a_deletion_is_no_label(rt: HostRuntime) -> Result<(), Fail> {
-    gives(
-        edits_compared(rt.alloc(), "m en 5 1 0 a", "m en 5 1 0 -"),
-        "not equal",
-    )
+fn edits(rt: HostRuntime) -> Result<(), Fail> {
+    for (case, one, other, wanted) in EDITS {
+        gives_in(case, edits_compared(rt.alloc(), one, other), wanted)?;
+    }
+    Ok(())
 }
 
 fn catalogues_compared(alloc: Global, one: &str, other: &str) -> Result<String, Fail> {
@@ -48,24 +54,28 @@ fn catalogues_compared(alloc: Global, one: &str, other: &str) -> Result<String, 
     compared(alloc, one == other)
 }
 
-#[test]
-fn the_same_edits_in_any_order_make_equal_catalogues(rt: HostRuntime) -> Result<(), Fail> {
-    gives(
-        catalogues_compared(
-            rt.alloc(),
-            "m en 5 1 0 a; m fr 4 1 0 b; m en 6 2 0 c",
-            "m en 6 2 0 c; m en 5 1 0 a; m fr 4 1 0 b; m en 5 1 0 a",
-        ),
+/// A case, the edits of two catalogues, and whether they are equal.
+const CATALOGUES: &[(&str, &str, &str, &str)] = &[
+    (
+        "the same edits in any order make equal catalogues",
+        "m en 5 1 0 a; m fr 4 1 0 b; m en 6 2 0 c",
+        "m en 6 2 0 c; m en 5 1 0 a; m fr 4 1 0 b; m en 5 1 0 a",
         "equal",
-    )
-}
+    ),
+    (
+        "a catalogue of fewer cells differs",
+        "m en 5 1 0 a",
+        "m en 5 1 0 a; n en 5 1 0 a",
+        "not equal",
+    ),
+];
 
 #[test]
-fn a_catalogue_of_fewer_cells_differs(rt: HostRuntime) -> Result<(), Fail> {
-    gives(
-        catalogues_compared(rt.alloc(), "m en 5 1 0 a", "m en 5 1 0 a; n en 5 1 0 a"),
-        "not equal",
-    )
+fn catalogues(rt: HostRuntime) -> Result<(), Fail> {
+    for (case, one, other, wanted) in CATALOGUES {
+        gives_in(case, catalogues_compared(rt.alloc(), one, other), wanted)?;
+    }
+    Ok(())
 }
 
 fn delta(alloc: Global, addressee: &str) -> Result<Delta, Fail> {
@@ -121,28 +131,34 @@ fn filters_compared(alloc: Global, one: &str, other: &str) -> Result<String, Fai
     compared(alloc, one == other)
 }
 
-#[test]
-fn answers_of_a_filter_go_by_weight_alone(rt: HostRuntime) -> Result<(), Fail> {
-    gives(
-        filters_compared(rt.alloc(), "en, fr;q=0.5", "fr;q=0.5, en, es"),
+/// A case, two fields, and whether they take the same.
+const FILTERS: &[(&str, &str, &str, &str)] = &[
+    (
+        "answers of a filter go by weight alone",
+        "en, fr;q=0.5",
+        "fr;q=0.5, en, es",
         "equal",
-    )
-}
+    ),
+    (
+        "answers of a filter differ by weights",
+        "en, fr;q=0.5",
+        "en, fr;q=0.6",
+        "not equal",
+    ),
+    (
+        "answers of a filter differ by languages",
+        "en, fr",
+        "en, de",
+        "not equal",
+    ),
+];
 
 #[test]
-fn answers_of_a_filter_differ_by_weights(rt: HostRuntime) -> Result<(), Fail> {
-    gives(
-        filters_compared(rt.alloc(), "en, fr;q=0.5", "en, fr;q=0.6"),
-        "not equal",
-    )
-}
-
-#[test]
-fn answers_of_a_filter_differ_by_languages(rt: HostRuntime) -> Result<(), Fail> {
-    gives(
-        filters_compared(rt.alloc(), "en, fr", "en, de"),
-        "not equal",
-    )
+fn answers_of_filters(rt: HostRuntime) -> Result<(), Fail> {
+    for (case, one, other, wanted) in FILTERS {
+        gives_in(case, filters_compared(rt.alloc(), one, other), wanted)?;
+    }
+    Ok(())
 }
 
 fn runs_compared(alloc: Global, one: &str, other: &str) -> Result<String, Fail> {
@@ -153,52 +169,40 @@ fn runs_compared(alloc: Global, one: &str, other: &str) -> Result<String, Fail> 
     compared(alloc, one == other)
 }
 
-#[test]
-fn runs_of_the_same_edits_answer_equally(rt: HostRuntime) -> Result<(), Fail> {
-    gives(
-        runs_compared(
-            rt.alloc(),
-            "edit 0 m en 5 1 0 a; edit 0 m fr 4 1 0 b; lookup 0 m - fr; filter 0 m basic *; cells 0",
-            "edit 1 m fr 4 1 0 b; edit 0 m en 5 1 0 a; merge 0 1; lookup 0 m - fr; filter 0 m basic *; cells 0",
-        ),
+/// A case, two runs, and whether their answers are equal.
+const RUNS: &[(&str, &str, &str, &str)] = &[
+    (
+        "runs of the same edits answer equally",
+        "edit 0 m en 5 1 0 a; edit 0 m fr 4 1 0 b; lookup 0 m - fr; filter 0 m basic *; cells 0",
+        "edit 1 m fr 4 1 0 b; edit 0 m en 5 1 0 a; merge 0 1; lookup 0 m - fr; filter 0 m basic *; cells 0",
         "equal",
-    )
-}
+    ),
+    (
+        "another label is another answer",
+        "edit 0 m en 5 1 0 a; lookup 0 m - en",
+        "edit 0 m en 5 1 0 b; lookup 0 m - en",
+        "not equal",
+    ),
+    (
+        "a default is no match",
+        "edit 0 m en 5 1 0 a; lookup 0 m en fr",
+        "edit 0 m en 5 1 0 a; lookup 0 m - en",
+        "not equal",
+    ),
+    (
+        "fewer answers differ",
+        "edit 0 m en 5 1 0 a; cells 0; cells 0",
+        "edit 0 m en 5 1 0 a; cells 0",
+        "not equal",
+    ),
+];
 
 #[test]
-fn another_label_is_another_answer(rt: HostRuntime) -> Result<(), Fail> {
-    gives(
-        runs_compared(
-            rt.alloc(),
-            "edit 0 m en 5 1 0 a; lookup 0 m - en",
-            "edit 0 m en 5 1 0 b; lookup 0 m - en",
-        ),
-        "not equal",
-    )
-}
-
-#[test]
-fn a_default_is_no_match(rt: HostRuntime) -> Result<(), Fail> {
-    gives(
-        runs_compared(
-            rt.alloc(),
-            "edit 0 m en 5 1 0 a; lookup 0 m en fr",
-            "edit 0 m en 5 1 0 a; lookup 0 m - en",
-        ),
-        "not equal",
-    )
-}
-
-#[test]
-fn fewer_answers_differ(rt: HostRuntime) -> Result<(), Fail> {
-    gives(
-        runs_compared(
-            rt.alloc(),
-            "edit 0 m en 5 1 0 a; cells 0; cells 0",
-            "edit 0 m en 5 1 0 a; cells 0",
-        ),
-        "not equal",
-    )
+fn answers_of_runs(rt: HostRuntime) -> Result<(), Fail> {
+    for (case, one, other, wanted) in RUNS {
+        gives_in(case, runs_compared(rt.alloc(), one, other), wanted)?;
+    }
+    Ok(())
 }
 
 #[test]

@@ -22,12 +22,18 @@ fn delete(alloc: Global, site: &mut Site, now: u64) -> Result<String, Fail> {
     told(alloc, site, &result)
 }
 
+/// The last stamp, and what the site holds.
+fn held(alloc: Global, site: &Site) -> Result<String, Fail> {
+    let last = shown::last(alloc, site.last())?;
+    let cells = shown::cells(alloc, site.catalogue())?;
+    Ok(format!(in alloc; "last {last}: {cells}")?)
+}
+
 /// How it ended, the last stamp, and what the site holds.
 fn told(alloc: Global, site: &Site, ended: &Result<Stamp, CataFault>) -> Result<String, Fail> {
     let outcome = shown::stamped(alloc, ended)?;
-    let last = shown::last(alloc, site.last())?;
-    let cells = shown::cells(alloc, site.catalogue())?;
-    Ok(format!(in alloc; "{outcome}, last {last}: {cells}")?)
+    let held = held(alloc, site)?;
+    Ok(format!(in alloc; "{outcome}, {held}")?)
 }
 
 fn last(alloc: Global, site: &Site) -> Result<String, Fail> {

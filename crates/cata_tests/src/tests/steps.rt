@@ -2,7 +2,7 @@
 
 use super::makers::{default, edit_of, id, list, scheme};
 use super::shown;
-use super::words::Words;
+use super::words::{Words, gives_in};
 use cata_core::{Answers, PlayFault, Step, play};
 use nego_core::Scheme;
 use std::alloc::Global;
@@ -98,4 +98,19 @@ pub fn played(alloc: Global, sites: u8, text: &str) -> Result<String, Fail> {
 
 fn shown_fault(alloc: Global, fault: PlayFault) -> Result<String, Fail> {
     Ok(shown::play_fault(alloc, &fault)?)
+}
+
+/// A case: a run over so many sites, and what it answers.
+pub struct Run {
+    pub case: &'static str,
+    pub sites: u8,
+    pub steps: &'static str,
+    pub gives: &'static str,
+}
+
+pub fn all_give(alloc: Global, runs: &[Run]) -> Result<(), Fail> {
+    for run in runs {
+        gives_in(run.case, played(alloc, run.sites, run.steps), run.gives)?;
+    }
+    Ok(())
 }

@@ -7,12 +7,18 @@ use cata_core::{Catalogue, Site, sync};
 use std::alloc::Global;
 use std::test::Fail;
 
+/// What stands at the two.
+fn both(alloc: Global, first: &Site, second: &Site) -> Result<String, Fail> {
+    let own = shown::cells(alloc, first.catalogue())?;
+    let other = shown::cells(alloc, second.catalogue())?;
+    Ok(format!(in alloc; "{own} | {other}")?)
+}
+
 /// How a sync ends, and what then stands at the two.
 fn synced(alloc: Global, first: &mut Site, second: &mut Site) -> Result<String, Fail> {
     let outcome = shown::outcome(alloc, &sync(alloc, first, second))?;
-    let own = shown::cells(alloc, first.catalogue())?;
-    let other = shown::cells(alloc, second.catalogue())?;
-    Ok(format!(in alloc; "{outcome}: {own} | {other}")?)
+    let both = both(alloc, first, second)?;
+    Ok(format!(in alloc; "{outcome}: {both}")?)
 }
 
 /// What stands at a site, and its last stamp.

@@ -38,10 +38,15 @@ impl<'a> Words<'a> {
 
 /// Whether a call gives what it should.
 pub fn gives(found: Result<String, Fail>, wanted: &str) -> Result<(), Fail> {
+    gives_in("it", found, wanted)
+}
+
+/// Whether a call gives what it should in the case of this name.
+pub fn gives_in(case: &str, found: Result<String, Fail>, wanted: &str) -> Result<(), Fail> {
     let found = found?;
     if found.as_str() == wanted {
         Ok(())
     } else {
-        Err(Fail::new(format_args!("it gives {found}")))
+        Err(Fail::new(format_args!("{case} gives {found}")))
     }
 }
