@@ -21,7 +21,7 @@ use Rattle.serde_json.specs.Data.{Data, Members, member}
 use Rattle.serde_json.specs.Find.{get_member}
 use Rattle.serde_json.proofs.Numbers.{number_of-decimal}
 use Rattle.docs_core.specs.Checks.{AllPass, Check, rows_checks}
-use Rattle.docs_core.specs.Drafts.{version_tokens}
+use Rattle.docs_core.specs.Envelope.{version_tokens}
 use Rattle.docs_core.specs.Kinds.{names_of}
 use Rattle.docs_core.specs.Headers.{HasJust, header_checks, rows_in, subject_data, version_of}
 use Rattle.docs_core.specs.ScriptReads.{ReadsAsScript, sites_check}

@@ -22,7 +22,7 @@ abbrev pub HeldStrings : Type 0
 HeldStrings = Option (Vec (String Global) Global)
 
 abbrev pub HeldKeys : Type 0
-HeldKeys = BTreeMap (String Global) HeldStrings
+HeldKeys = Vec (String Global × HeldStrings) Global
 
 abbrev pub HeldRows : Type 0
 HeldRows = BTreeMap (String Global) (Option HeldKeys)
@@ -38,7 +38,7 @@ abbrev pub keys_seen : List (String Global × HeldStrings) → Keys
 keys_seen = members_seen strings_seen
 
 abbrev pub keys_in_seen : Option HeldKeys → Option Keys
-keys_in_seen held = option_map (λ keys. keys_seen keys.entries) held
+keys_in_seen held = option_map (λ keys. keys_seen keys.items) held
 
 abbrev pub rows_seen : List (String Global × Option HeldKeys) → Rows
 rows_seen = members_seen keys_in_seen

@@ -6,9 +6,9 @@ pub mod Calls
 pub mod Checks
 pub mod Chosen
 pub mod Documents
-pub mod Drafts
 pub mod Entries
 pub mod EntriesSeen
+pub mod Envelope
 pub mod Exchange
 pub mod Exported
 pub mod Faults

@@ -2,7 +2,7 @@
 //! order of their members, read as they are written, and written.
 
 pub(crate) mod as_written;
-pub(crate) mod drafts;
+pub(crate) mod envelope;
 pub(crate) mod header;
 pub(crate) mod kind;
 pub(crate) mod reading;

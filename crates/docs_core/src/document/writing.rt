@@ -7,7 +7,7 @@ ghost use Rattle.docs_core.specs.Texts.{Adds, HoldsCells, HoldsStamps, value_tok
 ghost use Rattle.docs_core.specs.Valid.{AreKeptCells, AreKeptStamps, IsKeptStamp};
 
 use crate::doc::Doc;
-use crate::document::drafts::{close_delta, close_site, close_summary, open_cells, open_stamps};
+use crate::document::envelope::{close_delta, close_site, close_summary, open_cells, open_stamps};
 use crate::row::entries::write_entry;
 use crate::row::writing::{WrittenRow, write_stamp};
 use cata_core::{Catalogue, Delta, Site, Summary};

@@ -113,8 +113,8 @@ fn languages_of(
     keys: Keys,
 ) -> Result<BTreeMap<Lang, Option<Label>>, DocCause>
     ensures { MatchResult result
-        (λ found. AllPass (keys_checks row [] (keys_seen keys.entries)) × HoldsKeys (keys_seen keys.entries) found.entries)
-        (OrMemory NoMemory (FirstFails (keys_checks row [] (keys_seen keys.entries)))) }
+        (λ found. AllPass (keys_checks row [] (keys_seen keys.items)) × HoldsKeys (keys_seen keys.items) found.entries)
+        (OrMemory NoMemory (FirstFails (keys_checks row [] (keys_seen keys.items)))) }
 {
     let mut found = BTreeMap::new(alloc);
     'keys: for (key, strings) in keys {

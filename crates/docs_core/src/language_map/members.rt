@@ -147,7 +147,8 @@ fn read_keys(alloc: Global, reader: &mut Reader<'_>) -> Result<Option<Keys>, Doc
     };
     match token {
         Token::BeginObject => {
-            let keys = read_members(alloc, reader)?;
+            let members = read_members(alloc, reader)?;
+            let keys = keys_of(alloc, members)?;
             Ok(Some(keys))
         }
         Token::BeginArray => {
@@ -161,6 +162,17 @@ fn read_keys(alloc: Global, reader: &mut Reader<'_>) -> Result<Option<Keys>, Doc
             Ok(None)
         }
     }
+}
+
+// The members as a list.
+fn keys_of(alloc: Global, members: BTreeMap<String, Strings>) -> Result<Keys, AllocError>
+    ensures { IfOk result (λ keys. keys.items ≡ members.entries) }
+{
+    let mut keys = Vec::with_capacity(alloc, members.len())?;
+    'members: for member in members {
+        keys.push(member)?;
+    }
+    Ok(keys)
 }
 
 // Passes over the items of an array whose opening bracket was read.

@@ -14,7 +14,7 @@ ghost use Rattle.docs_core.specs.LangMapsWritten.{IsWriting, label_tokens, label
 ghost use Rattle.docs_core.specs.Texts.{Adds, text, value_tokens};
 
 use crate::doc::Doc;
-use crate::document::drafts::finish;
+use crate::document::envelope::finish;
 use crate::language_map::maps::LangMaps;
 use crate::row::writing::write_texts;
 use cell_core::{Label, MessageId};

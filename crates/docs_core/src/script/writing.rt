@@ -2,14 +2,14 @@
 ghost use Rattle.std.specs.Prelude.{◌≡◌, ◌∷◌, [], ℕ, List, IfErr, IfOk, IsUtf8, MatchResult, OnOk};
 ghost use Rattle.json.specs.Token.{end_array};
 ghost use Rattle.serde_json.specs.Data.{Data};
-ghost use Rattle.docs_core.specs.Drafts.{version_tokens};
+ghost use Rattle.docs_core.specs.Envelope.{version_tokens};
 ghost use Rattle.docs_core.specs.ScriptReads.{ReadsAsScript};
 ghost use Rattle.docs_core.specs.ScriptWritten.{HasRows, HoldsSteps, IsOfNone, RefusesWriting, script_value};
 ghost use Rattle.docs_core.specs.Scripts.{IsSiteCount};
 ghost use Rattle.docs_core.specs.Texts.{Adds, text};
 
 use crate::doc::Doc;
-use crate::document::drafts::finish;
+use crate::document::envelope::finish;
 use crate::fault::{DocCause, DocFault};
 use crate::script::scripts::Script;
 use crate::script::step_writing::write_step;
@@ -25,13 +25,13 @@ use std::alloc::{AllocError, Global};
 pub fn write_script(alloc: Global, script: &Script) -> Result<Doc, DocFault>
     ensures { MatchResult result (λ doc. ReadsAsScript doc script.now) (IsOfNone (RefusesWriting script.now.steps)) }
 {
-    match written_script(alloc, script) {
+    match script_document(alloc, script) {
         Ok(doc) => Ok(doc),
         Err(cause) => Err(DocFault::of_no_document(cause)),
     }
 }
 
-fn written_script(alloc: Global, script: &Script) -> Result<Doc, DocCause>
+fn script_document(alloc: Global, script: &Script) -> Result<Doc, DocCause>
     ensures ok { IfOk result (λ doc. ReadsAsScript doc script.now) }
     ensures err { IfErr result (RefusesWriting script.now.steps) }
 {

@@ -14,6 +14,6 @@ push_languages-requires c =
 
 pub returns-clause-ok : goal.returns-clause-ok
 returns-clause-ok c =
-    message_added c.args.maps.now c.push_languages.new.maps c.args.row (string_bytes c.args.name) (keys_in_seen c.args.keys) (keys_seen c.in-Some.keys.entries) c.in_ok-found.found.entries
+    message_added c.args.maps.now c.push_languages.new.maps c.args.row (string_bytes c.args.name) (keys_in_seen c.args.keys) (keys_seen c.in-Some.keys.items) c.in_ok-found.found.entries
     (ap keys_in_seen c.in-Some.is) c.in_ok-id.ensures.0 c.in_ok-found.ensures.0 c.in_ok-found.ensures.1
     (c.in_ok-push_languages.ensures ∙ ap (λ (id : List ℕ). c.args.maps.now ++ under id (live c.in_ok-found.found.entries)) c.in_ok-id.ensures.1)

@@ -1,4 +1,5 @@
 use Rattle.std.proofs.Common.{◌≡◌, List, String, Global, [], ◌++◌}
+use Rattle.std.specs.Vec.Iter.{into_iter_items}
 use Rattle.docs_core.specs.Checks.{AllPass}
 use Rattle.docs_core.specs.LangMapChecks.{keys_checks}
 use Rattle.docs_core.specs.LangMapRowsSeen.{HeldStrings, HoldsKeys, keys_seen}
@@ -7,4 +8,4 @@ use Rattle.docs_core.proofs.language_map.labels.languages_of.Given as goal
 -- the keys so far pass, and are held
 abbrev pub invariant-keys : goal.invariant-keys
 invariant-keys l =
-    (front : List (String Global × HeldStrings)) × (l.fn.keys.entries ≡ front ++ l.key-iterator) × AllPass (keys_checks l.row [] (keys_seen front)) × HoldsKeys (keys_seen front) l.found.entries
+    (front : List (String Global × HeldStrings)) × (l.fn.keys.items ≡ front ++ into_iter_items l.key-iterator) × AllPass (keys_checks l.row [] (keys_seen front)) × HoldsKeys (keys_seen front) l.found.entries

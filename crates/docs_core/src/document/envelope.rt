@@ -1,9 +1,9 @@
-//! A document that is being written: what stands in front of its rows, and behind them.
+//! What stands in a document in front of its rows, and behind them, as it is written.
 ghost use Rattle.std.specs.Prelude.{◌≡◌, ◌∷◌, [], ◌++◌, ℕ, List, IfOk, IsUtf8, OnOk, codes};
 ghost use Rattle.json.specs.Print.{print};
 ghost use Rattle.json.specs.Token.{begin_object, end_object, begin_array, end_array, key, number, string};
 ghost use Rattle.serde_json.specs.Data.{Data};
-ghost use Rattle.docs_core.specs.Drafts.{name_tokens, version_tokens};
+ghost use Rattle.docs_core.specs.Envelope.{name_tokens, version_tokens};
 ghost use Rattle.docs_core.specs.Texts.{Adds, HoldsCells, HoldsStamps, text};
 ghost use Rattle.docs_core.specs.Values.{delta_value, site_value, summary_value};
 

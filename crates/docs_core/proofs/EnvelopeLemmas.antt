@@ -10,7 +10,7 @@ use Rattle.json.specs.Written.{Written}
 use Rattle.serde_json.specs.Data.{Data}
 use Rattle.serde_json.specs.View.{items_of}
 use Rattle.serde_json.specs.Written.{items_outline}
-use Rattle.docs_core.specs.Drafts.{name_tokens, version_tokens}
+use Rattle.docs_core.specs.Envelope.{name_tokens, version_tokens}
 use Rattle.docs_core.specs.Texts.{HoldsCells, HoldsStamps, row_tokens, text, value_tokens}
 use Rattle.docs_core.specs.Values.{delta_value, site_value, summary_value}
 use Rattle.docs_core.proofs.TextsLemmas.{printed, rows_member}

@@ -5,7 +5,7 @@ use Rattle.docs_core.specs.ScriptWritten.{script_value}
 use Rattle.docs_core.specs.StepsWritten.{step_value}
 use Rattle.docs_core.specs.Texts.{text}
 use Rattle.docs_core.proofs.ScriptWrittenLemmas.{script_again}
-use Rattle.docs_core.proofs.script.writing.written_script.Goals as goal
+use Rattle.docs_core.proofs.script.writing.script_document.Goals as goal
 
 -- the rows are those of the steps, and the text is UTF-8
 pub returns-clause-ok : goal.returns-clause-ok

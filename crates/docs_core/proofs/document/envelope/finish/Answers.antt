@@ -1,8 +1,8 @@
 use Rattle.std.proofs.Common.{◌≡◌, ◌∙◌, [], ◌∷◌, ◌++◌, ap, append_assoc, subst, sym}
 use Rattle.std.specs.Prelude.{IsUtf8}
 use Rattle.json.specs.Print.{print}
-use Rattle.docs_core.proofs.DraftsLemmas.{utf8_line}
-use Rattle.docs_core.proofs.document.drafts.finish.Goals as goal
+use Rattle.docs_core.proofs.EnvelopeLemmas.{utf8_line}
+use Rattle.docs_core.proofs.document.envelope.finish.Goals as goal
 
 pub returns-clause-utf8 : goal.returns-clause-utf8
 returns-clause-utf8 c =
