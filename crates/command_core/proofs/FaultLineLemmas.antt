@@ -13,6 +13,6 @@ module _ {S : Type 0} (contents : S → Option (List ℕ)) (failed : S → Bool)
   printed line old new (Err e) ok front is = (front, λ fine. absurd (cc (is, fine)))
 
   -- it was the line of a fault
-  pub told : (number : ℕ) (output : Option (List ℕ)) (row : Option ℕ) (document : ℕ) (old new : S) (text : List ℕ) → failed old ≡ false → Shows output text → PrintsLine contents failed (fault_line number text row document) old new
+  pub reported : (number : ℕ) (output : Option (List ℕ)) (row : Option ℕ) (document : ℕ) (old new : S) (text : List ℕ) → failed old ≡ false → Shows output text → PrintsLine contents failed (fault_line number text row document) old new
       → PrintsFault contents failed number output row document old new
-  told number output row document old new text fine shows prints = rw fine (text, shows, prints)
+  reported number output row document old new text fine shows prints = rw fine (text, shows, prints)

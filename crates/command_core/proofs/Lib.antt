@@ -1,6 +1,6 @@
 pub mod ActsLemmas
 pub mod AppLemmas
 pub mod FaultLineLemmas
-pub mod GivenLemmas
+pub mod MatchesLemmas
 pub mod ProgramLemmas
 pub mod TaskLemmas

@@ -7,7 +7,7 @@ use Rattle.clap.specs.declared.error.Error.{Error}
 use Rattle.clap.specs.declared.error.kind.ErrorKind.TheVariants.{OutOfMemory}
 use Rattle.clap.specs.declared.parser.matches.ArgMatches.{ArgMatches}
 use Rattle.command_core.specs.Endings.{EndsForMemory}
-use Rattle.command_core.specs.Program.{Does, MatchesBy, TellsBy}
+use Rattle.command_core.specs.Program.{Does, MatchesBy, ReportsBy}
 use Rattle.command_core.specs.Words.{Schemes, lexicat_app}
 
 -- where memory ends before clap is asked
@@ -22,10 +22,10 @@ no_memory schemes are words (Err error) h = record {
 }
 
 -- where clap finds a fault, it is told, or memory ran out
-pub told : {R W F : Type 0} (remaining : R → Option (List ℕ)) (broken : R → Bool) (contents : W → Option (List ℕ)) (failed : W → Bool) (lines : F → Option (List ℕ)) (closed : F → Bool) (kinds : Kinds) (met : Option (Text × List Row)) (error : Error)
-    (r : R) (old new : W) (f f' : F) (status : ℕ) → HasKind kinds error → TellsBy contents failed lines closed (kind_of error) old new f f' status
+pub reported : {R W F : Type 0} (remaining : R → Option (List ℕ)) (broken : R → Bool) (contents : W → Option (List ℕ)) (failed : W → Bool) (lines : F → Option (List ℕ)) (closed : F → Bool) (kinds : Kinds) (met : Option (Text × List Row)) (error : Error)
+    (r : R) (old new : W) (f f' : F) (status : ℕ) → HasKind kinds error → ReportsBy contents failed lines closed (kind_of error) old new f f' status
     → Does remaining broken contents failed lines closed kinds met r r old new f f' status ⊎ ((r ≡ r) × EndsForMemory contents failed lines closed old new f f' status)
-told remaining broken contents failed lines closed kinds met error r old new f f' status has (inl memory) = inr (refl, memory)
-told remaining broken contents failed lines closed kinds met error r old new f f' status (inl memory) (inr tells) = absurd (tells.0 memory)
-told remaining broken contents failed lines closed [] met error r old new f f' status (inr among) (inr tells) = absurd among
-told remaining broken contents failed lines closed (k ∷ ks) met error r old new f f' status (inr among) (inr tells) = inl (refl, (kind_of error, among, tells.1))
+reported remaining broken contents failed lines closed kinds met error r old new f f' status has (inl memory) = inr (refl, memory)
+reported remaining broken contents failed lines closed kinds met error r old new f f' status (inl memory) (inr reports) = absurd (reports.0 memory)
+reported remaining broken contents failed lines closed [] met error r old new f f' status (inr among) (inr reports) = absurd among
+reported remaining broken contents failed lines closed (k ∷ ks) met error r old new f f' status (inr among) (inr reports) = inl (refl, (kind_of error, among, reports.1))

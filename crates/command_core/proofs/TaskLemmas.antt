@@ -2,7 +2,7 @@
 use Rattle.std.proofs.Common.{◌≡◌, ◌∙◌, ℕ, List, Option, None, Some, ap₂, option_map, subst}
 use Rattle.cata_core.proofs.Basics.{some_same}
 use Rattle.clap.specs.Words.{Row, Text}
-use Rattle.command_core.specs.Given.{GivesNow}
+use Rattle.command_core.specs.Matches.{GivesNow}
 use Rattle.command_core.specs.TaskWords.{GivesTask, TaskWords, task_words}
 
 pub gives_task : {S : Type 0} (name_of : S → Text) (rows_in : S → List Row) (met : Option S) (name : Text) (rows : List Row) (now : Option ℕ) (asked : Option TaskWords)

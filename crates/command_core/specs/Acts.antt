@@ -19,8 +19,8 @@ use Rattle.docs_core.specs.Updated as updated
 use Rattle.docs_core.specs.declared.fault.DocCause.TheVariants.{NoMemory}
 use Rattle.docs_core.specs.declared.fault.DocFault.{DocFault}
 use Rattle.lang_core.specs.Lang.{RefusesLang, SpellsLang}
-use Rattle.front_core.specs.Asks.{AreBundleMaps, HasFilter, HasLookup, IsFilterLines, IsLookupLine, RefusesFilter, RefusesLookup, is_found}
-use Rattle.front_core.specs.Preferring.{HasPreferences, RefusesPreferences}
+use Rattle.front_core.specs.Questions.{AreBundleMaps, HasFilter, HasLookup, IsFilterLines, IsLookupLine, RefusesFilter, RefusesLookup, is_found}
+use Rattle.front_core.specs.Preferences.{HasPreferences, RefusesPreferences}
 use Rattle.front_core.specs.declared.answer.Answer.{Answer}
 use Rattle.command_core.specs.AskWords.{BundleWords, FilterWords, LookupWords}
 use Rattle.command_core.specs.EditWords.{DeleteWords, PutWords}
@@ -30,7 +30,7 @@ use Rattle.command_core.specs.Picks.{BarsPick, IsPick}
 use Rattle.command_core.specs.Reading.{AnswersInput, RefusesInput}
 use Rattle.command_core.specs.TaskWords.{GivesTask, TaskWords}
 use Rattle.command_core.specs.TaskWords as task
-use Rattle.command_core.specs.Wording.{BarsNone, NoWords, RefusesKey, RefusesLabelWords}
+use Rattle.command_core.specs.Parsing.{BarsNone, NoWords, RefusesKey, RefusesLabelWords}
 use Rattle.command_core.specs.declared.refusal.Refusal.{Refusal}
 use Rattle.command_core.specs.declared.refusal.Refusal.TheVariants as refusal
 

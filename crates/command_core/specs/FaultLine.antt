@@ -1,4 +1,4 @@
--- The line that tells a refusal, and what a sink takes of it (own rule).
+-- The line that reports a refusal, and what a sink takes of it (own rule).
 use Rattle.std.specs.Prelude.{◌≡◌, ◌==◌, ◌≤◌, ℕ, Bool, false, List, ◌++◌, length, Option, None, Some, [], codes, decimal, if◌then◌else◌, IfSome, MatchBool}
 use Rattle.std.specs.Fmt.Cut.{IsTextOrCut}
 use Rattle.std.specs.Io.KnownBytes.{Appends}

@@ -1,13 +1,13 @@
 pub mod Acts
 pub mod AskWords
-pub mod Asked
 pub mod EditWords
 pub mod Endings
 pub mod FaultLine
 pub mod FieldWords
-pub mod Given
 pub mod Help
 pub mod Input
+pub mod Matches
+pub mod Parsing
 pub mod PickWords
 pub mod Picks
 pub mod Program
@@ -15,5 +15,5 @@ pub mod Reading
 pub mod Refusals
 pub mod Status
 pub mod TaskWords
-pub mod Wording
+pub mod Values
 pub mod Words

@@ -32,20 +32,20 @@ pub record MatchesBy (words : List Text) (result : Result ArgMatches Error) : Ty
 
 module _ {W F : Type 0} (contents : W → Option (List ℕ)) (failed : W → Bool) (lines : F → Option (List ℕ)) (closed : F → Bool) where
   -- help and the version are written out; any other fault in the words is told, and the output has nothing
-  abbrev pub Tells : ErrorKind → W → W → F → F → ℕ → Type 0
-  Tells kind old new f f' status = MatchBool (is_shown kind)
+  abbrev pub Reports : ErrorKind → W → W → F → F → ℕ → Type 0
+  Reports kind old new f f' status = MatchBool (is_shown kind)
       ((status ≡ 0) × ((text : List ℕ) × AppendsFront (contents old) (contents new) text) × (f' ≡ f))
       ((status ≡ 2) × (new ≡ old) × ((text : List ℕ) × AppendsFront (lines f) (lines f') text))
 
   -- the same, unless memory runs out
-  abbrev pub TellsBy : ErrorKind → W → W → F → F → ℕ → Type 0
-  TellsBy kind old new f f' status = EndsForMemory contents failed lines closed old new f f' status ⊎ ((kind ≢ OutOfMemory) × Tells kind old new f f' status)
+  abbrev pub ReportsBy : ErrorKind → W → W → F → F → ℕ → Type 0
+  ReportsBy kind old new f f' status = EndsForMemory contents failed lines closed old new f f' status ⊎ ((kind ≢ OutOfMemory) × Reports kind old new f f' status)
 
 module _ {R W F : Type 0} (remaining : R → Option (List ℕ)) (broken : R → Bool) (contents : W → Option (List ℕ)) (failed : W → Bool) (lines : F → Option (List ℕ)) (closed : F → Bool) where
   -- what is done at these words, by the kinds of fault that clap finds in them and the command that it meets
   abbrev pub Does : Kinds → Option (Text × List Row) → R → R → W → W → F → F → ℕ → Type 0
   Does [] met r r' w w' f f' status = ActsBy remaining broken contents failed lines closed met r r' w w' f f' status
-  Does (k ∷ ks) met r r' w w' f f' status = (r' ≡ r) × ((kind : ErrorKind) × IsAmong kind (k ∷ ks) × Tells contents failed lines closed kind w w' f f' status)
+  Does (k ∷ ks) met r r' w w' f f' status = (r' ≡ r) × ((kind : ErrorKind) × IsAmong kind (k ∷ ks) × Reports contents failed lines closed kind w w' f f' status)
 
   -- what is asked is done, unless memory runs out
   pub record RunsBy (words : List Text) (r r' : R) (w w' : W) (f f' : F) (status : ℕ) : Type 0 where

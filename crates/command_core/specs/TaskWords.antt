@@ -4,7 +4,7 @@ use Rattle.std.specs.Str.{bytes_eq}
 use Rattle.clap.specs.Words.{Row, Text, first_of}
 use Rattle.command_core.specs.AskWords.{BundleWords, FilterWords, LookupWords, bundle_words, filter_words, lookup_words}
 use Rattle.command_core.specs.EditWords.{DeleteWords, PutWords, delete_words, put_words}
-use Rattle.command_core.specs.Given.{GivesNow}
+use Rattle.command_core.specs.Matches.{GivesNow}
 use Rattle.command_core.specs.PickWords.{PickWords, pick_words}
 
 pub data TaskWords : Type 0 where

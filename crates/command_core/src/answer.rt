@@ -1,10 +1,10 @@
 //! What a command answers, and how it ends.
 ghost use Rattle.std.specs.Prelude.{◌≡◌, false, if◌then◌else◌, MatchResult};
-ghost use Rattle.front_core.specs.Asks.{is_found};
+ghost use Rattle.front_core.specs.Questions.{is_found};
 ghost use Rattle.command_core.specs.Endings.{EndsRefused, Writes};
 
 use crate::fault_line::refuse;
-use crate::printing::print;
+use crate::output::print;
 use crate::refusal::Refusal;
 use crate::status;
 use docs_core::{Doc, Sink};
@@ -52,7 +52,7 @@ impl Answer {
     }
 }
 
-/// Writes the answer or tells the refusal, and gives the status.
+/// Writes the answer or reports the refusal, and gives the status.
 pub(crate) fn finish<W: Sink, F: Sink>(answered: Answered, writer: &mut W, faults: &mut F) -> u8
     requires { W.failed writer.old ≡ false }
     ensures ends { MatchResult answered

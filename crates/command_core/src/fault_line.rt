@@ -1,4 +1,4 @@
-//! The line that tells a refusal, and the status that goes with it. The line takes no memory, it is
+//! The line that reports a refusal, and the status that goes with it. The line takes no memory, it is
 //! one write, and where its writer fails the rest of it is left out.
 ghost use Rattle.std.specs.Prelude.{◌≡◌, ◌+◌, ◌≤◌, ◌++◌, None, length};
 ghost use Rattle.arrayvec.specs.ArrayString.{array_string_len};
@@ -22,38 +22,38 @@ const TEXT_BYTES: usize = 160;
 /// Room for the text and for all that stands around it.
 const LINE_BYTES: usize = 320;
 
-/// Tells a refusal of the command's words, and gives its status. A text of more than 160 bytes is
+/// Reports a refusal of the command's words, and gives its status. A text of more than 160 bytes is
 /// cut and ends in dots.
 pub fn refuse_words<S: Sink, T: Display>(faults: &mut S, number: u8, text: &T) -> u8
     ensures status { result ≡ status_of number }
-    ensures told { PrintsFault S.contents S.failed number (T.output text.now) None 0 faults.old faults.new }
+    ensures reported { PrintsFault S.contents S.failed number (T.output text.now) None 0 faults.old faults.new }
 {
-    tell(faults, number, text, None, 0);
+    report(faults, number, text, None, 0);
     status::of_refusal(number)
 }
 
-/// Tells a refusal of a document or a stream, and gives its status.
+/// Reports a refusal of a document or a stream, and gives its status.
 pub fn refuse_document<S: Sink>(faults: &mut S, fault: DocFault) -> u8
     ensures status { result ≡ status_of (number_of fault.cause) }
-    ensures told { PrintsDocument S.contents S.failed fault faults.old faults.new }
+    ensures reported { PrintsDocument S.contents S.failed fault faults.old faults.new }
 {
     let cause = fault.cause;
-    tell(faults, cause.number(), &cause, cause.row(), fault.document);
+    report(faults, cause.number(), &cause, cause.row(), fault.document);
     status::of_refusal(cause.number())
 }
 
-/// Tells that memory ended, and gives the status.
+/// Reports that memory ended, and gives the status.
 pub fn refuse_for_memory<S: Sink>(faults: &mut S) -> u8
     ensures status { result ≡ 5 }
-    ensures told { PrintsDocument S.contents S.failed (of_no_document NoMemory) faults.old faults.new }
+    ensures reported { PrintsDocument S.contents S.failed (of_no_document NoMemory) faults.old faults.new }
 {
     refuse_document(faults, DocFault::of_no_document(DocCause::NoMemory))
 }
 
-/// Tells a refusal, and gives its status.
+/// Reports a refusal, and gives its status.
 pub(crate) fn refuse<S: Sink>(faults: &mut S, refusal: Refusal) -> u8
     ensures status { result ≡ status_of (refusals.number_of refusal) }
-    ensures told { PrintsRefusal S.contents S.failed refusal faults.old faults.new }
+    ensures reported { PrintsRefusal S.contents S.failed refusal faults.old faults.new }
 {
     match refusal {
         Refusal::Lang(fault) => refuse_words(faults, fault.number(), &fault),
@@ -64,7 +64,13 @@ pub(crate) fn refuse<S: Sink>(faults: &mut S, refusal: Refusal) -> u8
 }
 
 /// Writes the line at once, so that the line of another process can't come between.
-fn tell<S: Sink, T: Display>(faults: &mut S, number: u8, text: &T, row: Option<usize>, document: u8)
+fn report<S: Sink, T: Display>(
+    faults: &mut S,
+    number: u8,
+    text: &T,
+    row: Option<usize>,
+    document: u8,
+)
     ensures { PrintsFault S.contents S.failed number (T.output text.now) row document faults.old faults.new }
 {
     if !faults.failed() {

@@ -5,20 +5,20 @@
 //! [`refuse_document`], [`refuse_words`] and [`refuse_for_memory`] write the line of a refusal.
 #![tactic(auto)]
 
-mod acting;
 mod answer;
 mod arguments;
 mod commands;
+mod dispatch;
 mod fault_line;
-mod given;
 mod input;
-mod printing;
+mod matches;
+mod output;
+mod parsing;
+mod program;
 mod refusal;
-mod running;
 pub mod status;
 mod task;
-mod wording;
 
-pub use acting::act;
+pub use dispatch::act;
 pub use fault_line::{refuse_document, refuse_for_memory, refuse_words};
-pub use running::run;
+pub use program::run;

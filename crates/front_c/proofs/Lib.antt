@@ -1,4 +1,4 @@
-pub mod Askings
+pub mod AnswersLemmas
 pub mod HandleSteps
 pub mod Options
 pub mod Values

@@ -22,9 +22,9 @@ ghost use denote.RawPtr.{null_ptr};
 ghost use Rattle.front_c.specs.Answers.{TellsBundle, TellsFilter, TellsLookup, TellsLookupText, TellsOpened, TellsPick, TellsShared};
 ghost use Rattle.front_c.specs.Handles.{site_of};
 
-mod asking;
-mod loose;
+mod answers;
 mod question;
+mod raw_box;
 mod site_handle;
 mod status;
 mod telling;
@@ -32,9 +32,9 @@ mod telling;
 mod tests;
 mod told;
 
-use crate::asking::{tell_bundle, tell_filter, tell_lookup, tell_lookup_text, tell_pick};
-use crate::loose::Loose;
+use crate::answers::{tell_bundle, tell_filter, tell_lookup, tell_lookup_text, tell_pick};
 use crate::question::field_of;
+use crate::raw_box::RawBox;
 use crate::telling::{tell_refusal, tell_usage};
 use cata_core::Site;
 use front_core::{FrontFault, open_site};
@@ -72,7 +72,7 @@ pub extern "C" fn sw_pick(
 /// the new one is read, and kept where the document is refused (1 to 4, 10 to 12, 18 to 21, 27, 28)
 /// or memory ends (26).
 #[unsafe(no_mangle)]
-#[tactic(auto, using(crate::proofs::Askings::no_memory_to_open))]
+#[tactic(auto, using(crate::proofs::AnswersLemmas::no_memory_to_open))]
 pub extern "C" fn sw_site_open(
     alloc: Global,
     text: &[u8],
@@ -260,7 +260,7 @@ fn handle_of_share(alloc: Global, share: Arc<Site>) -> Option<SiteHandle>
     ensures { IfSome result (λ handle. site_of handle ≡ Some share.value) }
 {
     match Box::new(alloc, share) {
-        Ok(boxed) => Some(SiteHandle::of(Loose::of(boxed))),
+        Ok(boxed) => Some(SiteHandle::of(RawBox::of(boxed))),
         Err(_) => None,
     }
 }
@@ -268,7 +268,7 @@ fn handle_of_share(alloc: Global, share: Arc<Site>) -> Option<SiteHandle>
 /// Lets the share of a handle go, where it is open.
 fn close(alloc: Global, mut handle: SiteHandle) {
     if handle.is_open() {
-        drop(handle.into_loose(alloc).into_box());
+        drop(handle.into_raw_box(alloc).into_box());
     } else {
         handle.discard();
     }

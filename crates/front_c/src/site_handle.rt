@@ -5,7 +5,7 @@ ghost use Rattle.std_heap.specs.declared.Global.{Global as GlobalValue};
 ghost use denote.RawPtr.{null_ptr};
 ghost use Rattle.front_c.specs.Held.{Share, share_code, site_held};
 
-use crate::loose::Loose;
+use crate::raw_box::RawBox;
 use cata_core::Site;
 use std::alloc::Global;
 use std::marker::{Model, Send};
@@ -39,10 +39,10 @@ impl SiteHandle {
     ghost use Rattle.front_c.specs.Handles.{LendsSite};
 
     /// An open handle of this share.
-    pub(crate) fn of(share: Loose<Arc<Site>, Global>) -> SiteHandle
+    pub(crate) fn of(share: RawBox<Arc<Site>, Global>) -> SiteHandle
         ensures { result.value ≡ Some share.value }
     {
-        let Loose { at, alloc: _ } = share;
+        let RawBox { at, alloc: _ } = share;
         SiteHandle {
             at: at as *mut SiteBlock,
         }
@@ -72,12 +72,12 @@ impl SiteHandle {
     }
 
     /// The share of an open handle.
-    pub(crate) fn into_loose(self, alloc: Global) -> Loose<Arc<Site>, Global>
+    pub(crate) fn into_raw_box(self, alloc: Global) -> RawBox<Arc<Site>, Global>
         requires { IsSome self.value }
         ensures { self.value ≡ Some result.value }
     {
         let SiteHandle { at } = self;
-        Loose {
+        RawBox {
             at: at as *mut Arc<Site>,
             alloc,
         }

@@ -24,7 +24,7 @@ use Rattle.nego_core.specs.Field.{IsField, RefusesField}
 use Rattle.front_core.specs.Faults.{field_fault, language_fault}
 use Rattle.front_core.specs.Fields.{FieldText, ReadsAs, RefusesRanges, Text}
 use Rattle.front_core.specs.Picks.{Finds, IsPicked, IsPickLine, RefusesPick, pick_line}
-use Rattle.front_core.specs.Preferring.{IsDefault, RefusesDefault}
+use Rattle.front_core.specs.Preferences.{IsDefault, RefusesDefault}
 use Rattle.front_core.specs.Tags.{HasNoLang, RefusesTags, SpellLangs}
 use Rattle.front_core.proofs.PickLemmas.{one_lang}
 use Rattle.front_core.specs.declared.words.Finding.{Finding}

@@ -16,10 +16,10 @@ use Rattle.nego_core.specs.declared.lookup_places.Found.{Found}
 use Rattle.nego_core.specs.declared.lookup_places.Found.TheVariants as found
 use Rattle.front_core.specs.Fields.{FieldText, ReadsAs, Text}
 use Rattle.front_core.specs.Picks.{HasPlace, IsPickedTag, IsTagAt}
-use Rattle.front_core.specs.Preferring.{IsDefault}
+use Rattle.front_core.specs.Preferences.{IsDefault}
 use Rattle.front_core.specs.Tags.{SpellLangs}
-use Rattle.front_core.specs.declared.picking.Picked.{Picked}
-use Rattle.front_core.specs.declared.picking.Picked.TheVariants as picked
+use Rattle.front_core.specs.declared.tag_pick.Picked.{Picked}
+use Rattle.front_core.specs.declared.tag_pick.Picked.TheVariants as picked
 
 -- the language at the place that lookup tells is the one that is told of
 lang_at : (langs given : List (List ℕ)) (text : List ℕ) (place : ℕ) (lang : List ℕ) → given ≡ langs → least_place given text ≡ Some place → lang ≡ get_or langs place lang → lang ≡ text

@@ -1,8 +1,8 @@
-pub mod Asks
 pub mod Faults
 pub mod Fields
 pub mod Lines
-pub mod Opens
 pub mod Picks
-pub mod Preferring
+pub mod Preferences
+pub mod Questions
+pub mod Site
 pub mod Tags

@@ -10,11 +10,11 @@ use Rattle.nego_core.specs.declared.lookup_places.Found.{Found}
 use Rattle.nego_core.specs.declared.lookup_places.Found.TheVariants as found
 use Rattle.front_core.specs.Faults.{IsOf, language_fault}
 use Rattle.front_core.specs.Fields.{FieldText, ReadsAs, Text}
-use Rattle.front_core.specs.Preferring.{HasPreferences, IsDefault, RefusesPreferences}
+use Rattle.front_core.specs.Preferences.{HasPreferences, IsDefault, RefusesPreferences}
 use Rattle.front_core.specs.Tags.{RefusesTags, SpellLangs}
 use Rattle.front_core.specs.declared.fault.FrontFault.{FrontFault}
-use Rattle.front_core.specs.declared.picking.Picked.{Picked}
-use Rattle.front_core.specs.declared.picking.Picked.TheVariants as picked
+use Rattle.front_core.specs.declared.tag_pick.Picked.{Picked}
+use Rattle.front_core.specs.declared.tag_pick.Picked.TheVariants as picked
 use Rattle.front_core.specs.declared.words.Finding.{Finding}
 use Rattle.front_core.specs.declared.words.Finding.TheVariants.{Matched, Default, Nothing}
 

@@ -12,7 +12,7 @@ pub enum Outcome {
 }
 
 impl Outcome {
-    ghost use Rattle.front_core.specs.Asks.{is_found};
+    ghost use Rattle.front_core.specs.Questions.{is_found};
 
     pub(crate) fn of(found: bool) -> Outcome
         ensures { is_found result ≡ found }

@@ -21,7 +21,7 @@ pub struct Filter {
 
 impl Filter {
     ghost use Rattle.std.specs.Prelude.{IfOk};
-    ghost use Rattle.front_core.specs.Asks.{AnswersFilter, IsFilter, RefusesFilter};
+    ghost use Rattle.front_core.specs.Questions.{AnswersFilter, IsFilter, RefusesFilter};
     ghost use Rattle.front_core.specs.Fields.{field_text};
 
     /// The filter that these bytes ask for, under the scheme of the field.

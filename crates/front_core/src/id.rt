@@ -1,6 +1,6 @@
 //! Ids of messages, from bytes.
 ghost use Rattle.std.specs.Prelude.{◌≡◌, MatchResult};
-ghost use Rattle.front_core.specs.Asks.{IsId, RefusesIdText};
+ghost use Rattle.front_core.specs.Questions.{IsId, RefusesIdText};
 
 use cell_core::{CellFault, MessageId};
 use std::alloc::Global;

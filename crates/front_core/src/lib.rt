@@ -22,7 +22,6 @@
 #![tactic(auto)]
 
 mod answer;
-mod asking;
 mod fault;
 mod field;
 mod filter;
@@ -30,18 +29,19 @@ mod id;
 pub mod laws;
 mod lines;
 mod lookup;
-mod opening;
-mod picking;
 mod preferences;
+mod questions;
+mod site;
+mod tag_pick;
 mod tags;
 pub mod words;
 
 pub use answer::{Answer, LabelText, Outcome};
-pub use asking::{bundle, filter_lines, lookup_line, lookup_text};
 pub use fault::FrontFault;
 pub use field::Field;
 pub use filter::Filter;
 pub use lookup::Lookup;
-pub use opening::open_site;
-pub use picking::{Picked, pick};
 pub use preferences::Preferences;
+pub use questions::{bundle, filter_lines, lookup_line, lookup_text};
+pub use site::open_site;
+pub use tag_pick::{Picked, pick};

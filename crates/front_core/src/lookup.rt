@@ -2,7 +2,7 @@
 ghost use Rattle.std.specs.Prelude.{◌≡◌, option_map, slice_get};
 ghost use Rattle.cata_core.specs.LentAnswers.{reply_of};
 ghost use Rattle.docs_core.specs.Asks.{is_found as is_reply};
-ghost use Rattle.front_core.specs.Asks.{IsTextAt, is_found, texts_of};
+ghost use Rattle.front_core.specs.Questions.{IsTextAt, is_found, texts_of};
 
 use crate::answer::{Answer, LabelText, Outcome};
 use crate::fault::FrontFault;
@@ -23,7 +23,7 @@ pub struct Lookup {
 
 impl Lookup {
     ghost use Rattle.std.specs.Prelude.{IfOk, MatchResult};
-    ghost use Rattle.front_core.specs.Asks.{AnswersLookup, AnswersText, IsLookup, RefusesLookup};
+    ghost use Rattle.front_core.specs.Questions.{AnswersLookup, AnswersText, IsLookup, RefusesLookup};
     ghost use Rattle.front_core.specs.Fields.{field_text};
 
     /// The lookup that these bytes ask for.

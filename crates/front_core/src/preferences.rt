@@ -1,6 +1,6 @@
 //! What a reader prefers.
 ghost use Rattle.std.specs.Prelude.{MatchResult, option_map};
-ghost use Rattle.front_core.specs.Preferring.{IsDefault, RefusesDefault};
+ghost use Rattle.front_core.specs.Preferences.{IsDefault, RefusesDefault};
 
 use crate::answer::{Answer, Outcome};
 use crate::fault::FrontFault;
@@ -20,9 +20,9 @@ pub struct Preferences {
 
 impl Preferences {
     ghost use Rattle.std.specs.Prelude.{IfOk};
-    ghost use Rattle.front_core.specs.Asks.{AnswersBundle};
+    ghost use Rattle.front_core.specs.Questions.{AnswersBundle};
     ghost use Rattle.front_core.specs.Fields.{field_text};
-    ghost use Rattle.front_core.specs.Preferring.{ArePreferences, RefusesPreferences};
+    ghost use Rattle.front_core.specs.Preferences.{ArePreferences, RefusesPreferences};
 
     /// What a field and a default say.
     ///

@@ -89,7 +89,7 @@ pub fn find<S: AsStr>(
 {
     let asked = Preferences::read(alloc, field, default)?;
     let langs = read_words(alloc, tags)?;
-    Ok(looked_up(&asked, langs))
+    Ok(finding_of(&asked, langs))
 }
 
 /// The bytes of a word, where there is one.
@@ -103,7 +103,7 @@ pub fn bytes_of(word: Option<&str>) -> Option<&[u8]>
 }
 
 /// What lookup finds among the languages.
-fn looked_up(asked: &Preferences, mut langs: Vec<Lang>) -> Finding
+fn finding_of(asked: &Preferences, mut langs: Vec<Lang>) -> Finding
     ensures { Finds asked.now.list langs.items asked.now.default result }
 {
     match lookup(&asked.list, langs.as_slice(), asked.default.as_ref()) {

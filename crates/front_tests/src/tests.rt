@@ -1,7 +1,7 @@
 //! Examples from the standards and from real clients, and what no contract says.
-mod asking;
 mod bundling;
-mod opening;
-mod picking;
+mod questions;
 mod refusals;
+mod site;
+mod tag_pick;
 mod words;

@@ -1,7 +1,7 @@
 //! The command `bundle`.
 ghost use Rattle.std.specs.Prelude.{◌≡◌, false, option_map, IfOk, MatchResult};
 ghost use Rattle.clap.specs.Words.{found_of, rows_of};
-ghost use Rattle.command_core.specs.Asked.{bundle_asked};
+ghost use Rattle.command_core.specs.Values.{bundle_values};
 ghost use Rattle.command_core.specs.Acts.{FitsBundle, BarsBundle, IsBundle, RefusesOnly};
 ghost use Rattle.command_core.specs.AskWords.{bundle_words};
 ghost use Rattle.command_core.specs.Reading.{AnswersInput, RefusesInput};
@@ -9,7 +9,7 @@ ghost use Rattle.command_core.specs.Words.{IsCommand, bundle_app};
 
 use crate::answer::{Answer, Answered};
 use crate::arguments;
-use crate::given::{bytes_given, field_of};
+use crate::matches::{bytes_given, field_of};
 use clap::{ArgMatches, Command};
 use docs_core::{Source, read_all, read_site};
 use front_core::{Field, Preferences};
@@ -32,28 +32,28 @@ pub(crate) fn command<'a>(alloc: Global, schemes: &'a [&'a str]) -> Result<Comma
 
 /// What the words of `bundle` ask.
 #[derive(Clone, Copy)]
-pub(crate) struct Asked<'a> {
+pub(crate) struct Values<'a> {
     field: Field<'a>,
     default: Option<&'a [u8]>,
 }
 
-/// What is asked, where no word is missing.
-pub(crate) fn asked_of<'a>(given: &ArgMatches<'a>) -> Option<Asked<'a>>
-    ensures { option_map bundle_asked result ≡ bundle_words (rows_of (found_of given.now)) }
+/// The values, where no word is missing.
+pub(crate) fn values_of<'a>(matches: &ArgMatches<'a>) -> Option<Values<'a>>
+    ensures { option_map bundle_values result ≡ bundle_words (rows_of (found_of matches.now)) }
 {
-    let field = field_of(given, "field")?;
-    let default = bytes_given(given, "default");
-    Some(Asked { field, default })
+    let field = field_of(matches, "field")?;
+    let default = bytes_given(matches, "default");
+    Some(Values { field, default })
 }
 
 /// The labels that one reader gets of the site of the input, as language maps.
-pub(crate) fn answer_of<R: Source>(alloc: Global, asked: Asked<'_>, reader: &mut R) -> Answered
+pub(crate) fn answer_of<R: Source>(alloc: Global, values: Values<'_>, reader: &mut R) -> Answered
     requires { R.failed reader.old ≡ false }
-    ensures { let words = bundle_asked asked.entry in MatchResult result
+    ensures { let words = bundle_values values.entry in MatchResult result
         (λ answer. AnswersInput R.remaining R.failed (IsBundle words) reader.old reader.new answer.text answer.status)
         (RefusesInput R.remaining R.failed (FitsBundle words) (BarsBundle words) RefusesOnly reader.old reader.new) }
 {
-    let question = Preferences::read(alloc, asked.field, asked.default)?;
+    let question = Preferences::read(alloc, values.field, values.default)?;
     let input = read_all(alloc, reader)?;
     let site = read_site(alloc, input.bytes())?;
     let answer = question.bundle(alloc, &site)?;

@@ -6,7 +6,7 @@ ghost use Rattle.command_core.specs.Words.{IsCommand, missing_app};
 
 use crate::answer::{Answer, Answered};
 use crate::arguments;
-use crate::wording::read_lang;
+use crate::parsing::read_lang;
 use clap::Command;
 use docs_core::{Source, missing_document, read_all};
 use std::alloc::{AllocError, Global};

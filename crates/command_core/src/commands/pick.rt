@@ -3,11 +3,11 @@ ghost use Rattle.std.specs.Prelude.{◌≡◌, false, option_map, IfOk, MatchRes
 ghost use Rattle.clap.specs.Words.{found_of, rows_of};
 ghost use Rattle.command_core.specs.Words.{IsCommand, pick_app};
 ghost use Rattle.command_core.specs.PickWords.{pick_words};
-ghost use Rattle.command_core.specs.Asked.{pick_asked};
+ghost use Rattle.command_core.specs.Values.{pick_values};
 ghost use Rattle.command_core.specs.Picks.{FailsPick, IsPick};
 
 use crate::answer::Answer;
-use crate::given::{bytes_given, field_of, texts_of};
+use crate::matches::{bytes_given, field_of, texts_of};
 use crate::{arguments, status};
 use clap::{ArgMatches, Command};
 use front_core::words::{Finding, find, line_of};
@@ -30,20 +30,20 @@ pub(crate) fn command<'a>(alloc: Global, schemes: &'a [&'a str]) -> Result<Comma
 
 /// What the words of a `pick` ask.
 #[derive(Clone, Copy)]
-pub(crate) struct Asked<'m, 'a> {
+pub(crate) struct Values<'m, 'a> {
     field: Field<'a>,
     default: Option<&'a [u8]>,
     tags: &'m [&'a str],
 }
 
-/// What is asked, where no word is missing.
-pub(crate) fn asked_of<'m, 'a>(given: &'m ArgMatches<'a>) -> Option<Asked<'m, 'a>>
-    ensures { option_map pick_asked result ≡ pick_words (rows_of (found_of given.now)) }
+/// The values, where no word is missing.
+pub(crate) fn values_of<'m, 'a>(matches: &'m ArgMatches<'a>) -> Option<Values<'m, 'a>>
+    ensures { option_map pick_values result ≡ pick_words (rows_of (found_of matches.now)) }
 {
-    let field = field_of(given, "ranges")?;
-    let tags = texts_of(given, "tags")?;
-    let default = bytes_given(given, "default");
-    Some(Asked {
+    let field = field_of(matches, "ranges")?;
+    let tags = texts_of(matches, "tags")?;
+    let default = bytes_given(matches, "default");
+    Some(Values {
         field,
         default,
         tags,
@@ -51,12 +51,12 @@ pub(crate) fn asked_of<'m, 'a>(given: &'m ArgMatches<'a>) -> Option<Asked<'m, 'a
 }
 
 /// The pick line.
-pub(crate) fn answer_of(alloc: Global, asked: Asked<'_, '_>) -> Result<Answer, FrontFault>
-    ensures { let words = pick_asked asked.entry in MatchResult result
+pub(crate) fn answer_of(alloc: Global, values: Values<'_, '_>) -> Result<Answer, FrontFault>
+    ensures { let words = pick_values values.entry in MatchResult result
         (λ answer. IsPick words answer.text answer.status)
         (FailsPick words) }
 {
-    let found = find(alloc, asked.field, asked.default, asked.tags)?;
+    let found = find(alloc, values.field, values.default, values.tags)?;
     let text = line_of(alloc, &found)?;
     let status = match &found {
         Finding::Matched(_) | Finding::Default(_) => status::ANSWERED,

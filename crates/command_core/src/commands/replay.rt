@@ -21,7 +21,7 @@ pub(crate) fn command<'a>(alloc: Global) -> Command<'a>
         )
 }
 
-/// Replays the script, or tells the refusal.
+/// Replays the script, or reports the refusal.
 pub(crate) fn act<R: Source, W: Sink, F: Sink>(
     alloc: Global,
     reader: &mut R,

@@ -3,7 +3,7 @@ ghost use Rattle.std.specs.Prelude.{◌≡◌, false, IfOk, MatchResult};
 ghost use Rattle.command_core.specs.Acts.{IsSummary, RefusesOnly};
 ghost use Rattle.command_core.specs.Reading.{AnswersInput, RefusesInput};
 ghost use Rattle.command_core.specs.Words.{IsCommand, summary_app};
-ghost use Rattle.command_core.specs.Wording.{NoWords, BarsNone};
+ghost use Rattle.command_core.specs.Parsing.{NoWords, BarsNone};
 
 use crate::answer::{Answer, Answered};
 use clap::Command;

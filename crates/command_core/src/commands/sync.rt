@@ -4,11 +4,11 @@ ghost use Rattle.command_core.specs.Acts.{IsSync, RefusesSync, Treats};
 ghost use Rattle.command_core.specs.Reading.{AnswersInput, RefusesInput};
 ghost use Rattle.command_core.specs.TaskWords.{Sync};
 ghost use Rattle.command_core.specs.Words.{IsCommand, sync_app};
-ghost use Rattle.command_core.specs.Wording.{NoWords, BarsNone};
+ghost use Rattle.command_core.specs.Parsing.{NoWords, BarsNone};
 
 use crate::fault_line::refuse;
 use crate::input::two_documents;
-use crate::printing::print_both;
+use crate::output::print_both;
 use crate::refusal::Refusal;
 use clap::Command;
 use docs_core::{Doc, Sink, Source, read_all, sync_documents};
@@ -25,7 +25,7 @@ pub(crate) fn command<'a>(alloc: Global) -> Command<'a>
         )
 }
 
-/// Prints both sites, or tells the refusal.
+/// Prints both sites, or reports the refusal.
 pub(crate) fn act<R: Source, W: Sink, F: Sink>(
     alloc: Global,
     reader: &mut R,

@@ -1,9 +1,9 @@
 use Rattle.std.proofs.Common.{rules}
-use Rattle.front_core.specs.Asks.{IsFilterLines, RefusesFilterLines}
+use Rattle.front_core.specs.Questions.{IsFilterLines, RefusesFilterLines}
 use Rattle.front_core.specs.Fields.{field_text}
 use Rattle.front_c.specs.Answers.{TellsAnswer}
 use Rattle.front_c.specs.Handles.{site_of}
-use Rattle.front_c.proofs.Askings.{is_asked}
+use Rattle.front_c.proofs.AnswersLemmas.{is_asked}
 use Rattle.front_c.proofs.sw_site_filter.Goals as goal
 
 pub returns-clause-answer : goal.returns-clause-answer

@@ -1,7 +1,7 @@
 use Rattle.std.proofs.Common.{Bor, List, ℕ, inl, inr, option_map, refl}
 use Rattle.std.proofs.lemmas.Result.{err_from_is_err_and}
 use Rattle.front_core.specs.Fields.{field_text}
-use Rattle.front_core.specs.Preferring.{HasPreferences}
+use Rattle.front_core.specs.Preferences.{HasPreferences}
 use Rattle.command_core.proofs.commands.bundle.answer_of.Goals as goal
 
 pub returns : goal.returns
@@ -14,27 +14,27 @@ returns g c =
 
 pub returns-in_err-input : goal.returns-in_err-input
 returns-in_err-input g c =
-    let default = option_map {T = Bor (List ℕ)} {U = List ℕ} (λ s. s.now) c.args.asked.default in
+    let default = option_map {T = Bor (List ℕ)} {U = List ℕ} (λ s. s.now) c.args.values.default in
     let asked = c.in_ok-question.question in
     let is = c.in_ok-question.ensures in
-    let fits : HasPreferences (field_text c.args.asked.field) default = ((asked.default, is.1), (asked.list, is.0)) in
+    let fits : HasPreferences (field_text c.args.values.field) default = ((asked.default, is.1), (asked.list, is.0)) in
     let p = err_from_is_err_and c.from_residual-in_err-input.result c.from_residual-in_err-input.ensures.1 in
     rw (p.1, p.2) (fits, inl c.in_err-input.ensures)
 
 pub returns-in_err-site : goal.returns-in_err-site
 returns-in_err-site g c =
-    let default = option_map {T = Bor (List ℕ)} {U = List ℕ} (λ s. s.now) c.args.asked.default in
+    let default = option_map {T = Bor (List ℕ)} {U = List ℕ} (λ s. s.now) c.args.values.default in
     let asked = c.in_ok-question.question in
     let is = c.in_ok-question.ensures in
-    let fits : HasPreferences (field_text c.args.asked.field) default = ((asked.default, is.1), (asked.list, is.0)) in
+    let fits : HasPreferences (field_text c.args.values.field) default = ((asked.default, is.1), (asked.list, is.0)) in
     let p = err_from_is_err_and c.from_residual-in_err-site.result c.from_residual-in_err-site.ensures.1 in
     rw (p.1, p.2) (fits, inr (c.in_ok-input.input, c.in_ok-input.ensures, rw (← c.bytes.ensures) c.in_err-site.ensures))
 
 pub returns-in_err-answer : goal.returns-in_err-answer
 returns-in_err-answer g c =
-    let default = option_map {T = Bor (List ℕ)} {U = List ℕ} (λ s. s.now) c.args.asked.default in
+    let default = option_map {T = Bor (List ℕ)} {U = List ℕ} (λ s. s.now) c.args.values.default in
     let asked = c.in_ok-question.question in
     let is = c.in_ok-question.ensures in
-    let fits : HasPreferences (field_text c.args.asked.field) default = ((asked.default, is.1), (asked.list, is.0)) in
+    let fits : HasPreferences (field_text c.args.values.field) default = ((asked.default, is.1), (asked.list, is.0)) in
     let p = err_from_is_err_and c.from_residual-in_err-answer.result c.from_residual-in_err-answer.ensures.1 in
     rw (p.1, p.2) (fits, inr (c.in_ok-input.input, c.in_ok-input.ensures, inl refl))

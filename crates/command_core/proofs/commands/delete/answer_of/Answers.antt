@@ -5,7 +5,7 @@ use Rattle.command_core.proofs.commands.delete.answer_of.Goals as goal
 pub returns : goal.returns
 returns g c =
     let key = c.in_ok-key.ensures in
-    let edited = subst (λ (i : List ℕ). IsEdited c.bytes.result.now c.args.asked.now (i, c.in_ok-key.key.lang) None c.in_ok-text.text) key.1 c.in_ok-text.ensures in
+    let edited = subst (λ (i : List ℕ). IsEdited c.bytes.result.now c.args.values.now (i, c.in_ok-key.key.lang) None c.in_ok-text.text) key.1 c.in_ok-text.ensures in
     rw c.document.ensures (
       c.in_ok-site.site,
       c.in_ok-site.ensures,

@@ -1,0 +1,13 @@
+use Rattle.command_core.specs.Values.{task_values}
+use Rattle.command_core.proofs.ActsLemmas.{treated}
+use Rattle.command_core.proofs.dispatch.perform.Goals as goal
+
+pub returns-in-Sync : goal.returns-in-Sync
+returns-in-Sync g c = rw c.in-Sync.is c.act.ensures
+
+pub returns-in_default : goal.returns-in_default
+returns-in_default g c =
+    record {
+      acts = treated g.R.Source.remaining g.R.Source.failed g.W.Sink.contents g.W.Sink.failed g.F.Sink.contents g.F.Sink.failed (task_values c.args.task)
+          c.args.reader.now c.answer.new.reader c.args.writer.now c.finish.new.writer c.args.faults.now c.finish.new.faults c.finish.result c.answer.result c.answer.ensures c.finish.ensures.ends;
+    }

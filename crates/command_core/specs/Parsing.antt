@@ -1,0 +1,39 @@
+-- The product's reading of a command's words (own rules).
+use Rattle.std.specs.Prelude.{◌≡◌, List}
+use Rattle.clap.specs.Words.{Text}
+use Rattle.cell_core.specs.Labels.{IsLabel}
+use Rattle.cell_core.specs.MessageIds.{IsMessageId}
+use Rattle.cell_core.specs.Refusals.{RefusesId, RefusesTexts}
+use Rattle.cell_core.specs.declared.fault.CellFault.{CellFault}
+use Rattle.cell_core.specs.declared.fault.CellFault.TheVariants as cell
+use Rattle.lang_core.specs.Lang.{SpellsLang, RefusesLang}
+use Rattle.lang_core.specs.declared.fault.LangFault.{LangFault}
+use Rattle.command_core.specs.declared.refusal.Refusal.{Refusal}
+use Rattle.command_core.specs.declared.refusal.Refusal.TheVariants as refusal
+use Rattle.command_core.specs.declared.parsing.Key.{Key}
+
+-- a command without words that the product reads
+abbrev pub NoWords : Type 0
+NoWords = Unit {0}
+
+abbrev pub BarsNone : Refusal → Type 0
+BarsNone _ = ⊥
+
+-- the words name this id and this language
+abbrev pub IsKey : Text → Text → Key → Type 0
+IsKey id lang key = IsMessageId id × (key.id ≡ id) × SpellsLang lang key.lang
+
+-- why the words name no key: the id first, then the language
+abbrev pub RefusesKey : Text → Text → Refusal → Type 0
+RefusesKey id lang (refusal.Cell fault) = RefusesId id fault
+RefusesKey id lang (refusal.Lang fault) = IsMessageId id × RefusesLang lang fault
+RefusesKey id lang _ = ⊥
+
+-- the texts are this label
+abbrev pub IsLabelOf : List Text → List Text → Type 0
+IsLabelOf texts label = IsLabel texts × (label ≡ texts)
+
+-- why the texts are no label; they are copied first, so memory may end before
+abbrev pub RefusesLabelWords : List Text → CellFault → Type 0
+RefusesLabelWords texts cell.NoMemory = Unit {0}
+RefusesLabelWords texts fault = RefusesTexts texts fault

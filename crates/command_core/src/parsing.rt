@@ -1,0 +1,51 @@
+//! The product's reading of words.
+ghost use Rattle.std.specs.Prelude.{◌≡◌, map, IfOk, MatchResult};
+ghost use Rattle.cell_core.specs.Labels.{texts_of};
+ghost use Rattle.lang_core.specs.Lang.{SpellsLang, RefusesLang};
+ghost use Rattle.command_core.specs.Parsing.{IsKey, RefusesKey, IsLabelOf, RefusesLabelWords};
+
+use crate::refusal::Refusal;
+use cell_core::{CellFault, Label, MessageId};
+use lang_core::{Lang, LangFault};
+use std::alloc::{AllocError, Global};
+
+/// What names a cell of a site.
+#[derive(Drop)]
+pub(crate) struct Key {
+    pub id: MessageId,
+    pub lang: Lang,
+}
+
+/// The key of these words: the id is read before the language.
+pub(crate) fn read_key(alloc: Global, id: &str, lang: &str) -> Result<Key, Refusal>
+    ensures { MatchResult result (IsKey id.now lang.now) (RefusesKey id.now lang.now) }
+{
+    let id = MessageId::new(alloc, id)?;
+    let lang = read_lang(alloc, lang)?;
+    Ok(Key { id, lang })
+}
+
+/// The language of this word.
+pub(crate) fn read_lang(alloc: Global, word: &str) -> Result<Lang, LangFault>
+    ensures { MatchResult result (SpellsLang word.now) (RefusesLang word.now) }
+{
+    Lang::parse(alloc, word.as_bytes())
+}
+
+/// The label of these texts.
+pub(crate) fn read_label(alloc: Global, texts: &[&str]) -> Result<Label, CellFault>
+    ensures { MatchResult result (IsLabelOf (map (λ s. s.now) texts.now)) (RefusesLabelWords (map (λ s. s.now) texts.now)) }
+{
+    Label::from_texts(owned(alloc, texts)?)
+}
+
+/// The texts in memory of their own.
+fn owned(alloc: Global, texts: &[&str]) -> Result<Vec<String>, AllocError>
+    ensures { IfOk result (λ copies. texts_of copies.items ≡ map (λ s. s.now) texts.now) }
+{
+    let mut copies = Vec::with_capacity(alloc, texts.len())?;
+    for text in texts {
+        copies.push(String::from_str(alloc, text)?)?;
+    }
+    Ok(copies)
+}

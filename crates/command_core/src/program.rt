@@ -1,0 +1,89 @@
+//! The whole program, over any streams.
+ghost use Rattle.std.specs.Prelude.{◌≡◌, false, codes, map, string_bytes, IfOk, IfSome};
+ghost use Rattle.clap.specs.Words.{kind_of, fault_of, subcommand_of, subcommand_rows_of, FailsBy};
+ghost use Rattle.command_core.specs.Help.{words_meant};
+ghost use Rattle.command_core.specs.Program.{MatchesBy, RunsBy, ReportsBy};
+
+use crate::commands::lexicat;
+use crate::dispatch::act;
+use crate::fault_line::refuse_for_memory;
+use crate::status;
+use clap::error::ErrorKind;
+use clap::{ArgMatches, Error};
+use docs_core::{Sink, Source, write_out};
+use std::alloc::Global;
+use std::convert::AsStr;
+
+/// The words of `--scheme`.
+static SCHEMES: [&str; 2] = ["basic", "extended"];
+
+/// Runs the program on the words after its name, and gives its status. `help` is `--help`, and
+/// `help COMMAND` is `COMMAND --help`.
+pub fn run<R: Source, W: Sink, F: Sink>(
+    alloc: Global,
+    words: &[String],
+    reader: &mut R,
+    writer: &mut W,
+    faults: &mut F,
+) -> u8
+    requires reads { R.failed reader.old ≡ false }
+    requires writes { W.failed writer.old ≡ false }
+    requires reports { F.failed faults.old ≡ false }
+    ensures runs { RunsBy R.remaining R.failed W.contents W.failed F.contents F.failed (words_meant (map string_bytes words.now)) reader.old reader.new writer.old writer.new faults.old faults.new result }
+{
+    match words {
+        [help] if help.as_str() == "help" => {
+            answer_words(alloc, &["--help"], reader, writer, faults)
+        }
+        [help, command] if help.as_str() == "help" => {
+            answer_words(alloc, &[command.as_str(), "--help"], reader, writer, faults)
+        }
+        _ => answer_words(alloc, words, reader, writer, faults),
+    }
+}
+
+/// Does what clap reads in the words.
+fn answer_words<S: AsStr, R: Source, W: Sink, F: Sink>(
+    alloc: Global,
+    words: &[S],
+    reader: &mut R,
+    writer: &mut W,
+    faults: &mut F,
+) -> u8
+    requires reads { R.failed reader.old ≡ false }
+    requires writes { W.failed writer.old ≡ false }
+    requires reports { F.failed faults.old ≡ false }
+    ensures runs { RunsBy R.remaining R.failed W.contents W.failed F.contents F.failed (map S.text words.now) reader.old reader.new writer.old writer.new faults.old faults.new result }
+{
+    match matches_of(alloc, words) {
+        Ok(matches) => act(alloc, &matches, reader, writer, faults),
+        Err(error) => report(alloc, &error, writer, faults),
+    }
+}
+
+fn matches_of<S: AsStr>(alloc: Global, words: &[S]) -> Result<ArgMatches<'_>, Error>
+    ensures { MatchesBy (map S.text words.now) result }
+{
+    lexicat(alloc, SCHEMES.as_slice())?.try_get_matches_from(words)
+}
+
+/// Writes the help, the version or the usage.
+fn report<W: Sink, F: Sink>(alloc: Global, error: &Error, writer: &mut W, faults: &mut F) -> u8
+    requires writes { W.failed writer.old ≡ false }
+    requires reports { F.failed faults.old ≡ false }
+    ensures reports { ReportsBy W.contents W.failed F.contents F.failed (kind_of error.now) writer.old writer.new faults.old faults.new result }
+{
+    if error.kind() == ErrorKind::OutOfMemory {
+        return refuse_for_memory(faults);
+    }
+    let Ok(text) = error.to_string(alloc) else {
+        return refuse_for_memory(faults);
+    };
+    if error.use_stderr() {
+        let _ = write_out(faults, text.as_bytes());
+        status::USAGE
+    } else {
+        let _ = write_out(writer, text.as_bytes());
+        status::ANSWERED
+    }
+}
