@@ -32,6 +32,7 @@ pub fn import_document(
     let mut site = site_at(alloc, 1, site)?;
     let maps = langmaps_of_document(alloc, 2, langmaps)?;
     put_labels(alloc, &mut site, now, &maps)?;
+    drop(maps);
     let doc = write_site(alloc, &site)?;
     Ok(doc)
 }

@@ -68,9 +68,10 @@ pub fn sync_documents(alloc: Global, first: &[u8], second: &[u8]) -> Result<(Doc
     let mut first = site_at(alloc, 1, first)?;
     let mut second = site_at(alloc, 2, second)?;
     sync(alloc, &mut first, &mut second)?;
-    let first = write_site(alloc, &first)?;
-    let second = write_site(alloc, &second)?;
-    Ok((first, second))
+    let first_doc = write_site(alloc, &first)?;
+    drop(first);
+    let second_doc = write_site(alloc, &second)?;
+    Ok((first_doc, second_doc))
 }
 
 /// The document of the site's summary: the stamps of its cells, deletions among them.
@@ -81,6 +82,7 @@ pub fn summary_document(alloc: Global, site: &[u8]) -> Result<Doc, DocFault>
 {
     let site = site_at(alloc, 1, site)?;
     let summary = site.summary(alloc)?;
+    drop(site);
     let doc = write_summary(alloc, &summary)?;
     Ok(doc)
 }
@@ -95,6 +97,7 @@ pub fn delta_document(alloc: Global, site: &[u8], summary: &[u8]) -> Result<Doc,
     let site = site_at(alloc, 1, site)?;
     let summary = summary_at(alloc, 2, summary)?;
     let delta = site.delta_for(alloc, &summary)?;
+    drop(site);
     let doc = write_delta(alloc, &delta)?;
     Ok(doc)
 }
@@ -110,6 +113,7 @@ pub fn take_document(alloc: Global, site: &[u8], delta: &[u8]) -> Result<Doc, Do
     let mut site = site_at(alloc, 1, site)?;
     let delta = delta_at(alloc, 2, delta)?;
     site.take(alloc, &delta)?;
+    drop(delta);
     let doc = write_site(alloc, &site)?;
     Ok(doc)
 }

@@ -48,6 +48,7 @@ pub fn update_document(
     let old = langmaps_of_document(alloc, 2, old)?;
     let new = langmaps_of_document(alloc, 3, new)?;
     update(alloc, &mut site, now, &old, &new)?;
+    drop((old, new));
     let doc = write_site(alloc, &site)?;
     Ok(doc)
 }

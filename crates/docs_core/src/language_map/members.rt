@@ -210,11 +210,11 @@ fn strings_of(alloc: Global, value: &Value<'_>) -> Result<Strings, AllocError>
     }
 }
 
-// The text alone.
+// The text alone, with room for no other: so the label that is made of it holds it in place.
 fn one_string(alloc: Global, text: &str) -> Result<Vec<String>, AllocError>
     ensures { IfOk result (λ strings. map string_bytes strings.items ≡ text.now ∷ []) }
 {
-    let mut strings = Vec::new(alloc);
+    let mut strings = Vec::with_capacity(alloc, 1)?;
     strings.push(String::from_str(alloc, text)?)?;
     Ok(strings)
 }

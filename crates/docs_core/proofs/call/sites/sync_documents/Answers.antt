@@ -8,8 +8,8 @@ use Rattle.docs_core.proofs.call.sites.sync_documents.Goals as goal
 pub returns : goal.returns
 returns c =
     let synced = c.in_ok-sync.ensures in
-    let first = site_written c.in_ok-first-2.first _ _ synced.first c.in_ok-first-2.ensures.text c.in_ok-first-2.ensures.reads in
-    let second = site_written c.in_ok-second-2.second _ _ synced.second c.in_ok-second-2.ensures.text c.in_ok-second-2.ensures.reads in
+    let first = site_written c.in_ok-first_doc.first_doc _ _ synced.first c.in_ok-first_doc.ensures.text c.in_ok-first_doc.ensures.reads in
+    let second = site_written c.in_ok-second_doc.second_doc _ _ synced.second c.in_ok-second_doc.ensures.text c.in_ok-second_doc.ensures.reads in
     (c.in_ok-first.first, c.in_ok-second.second, c.in_ok-first.ensures, c.in_ok-second.ensures, synced.agree, first, second)
 
 pub returns-in_err-second : goal.returns-in_err-second
