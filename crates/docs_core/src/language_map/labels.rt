@@ -30,7 +30,7 @@ pub(crate) fn labels_of(alloc: Global, rows: Rows) -> Result<LangMaps, DocCause>
         (λ maps. AllPass (rows_checks 0 (rows_seen rows.entries)) × IsPermutation (rows_labels (rows_seen rows.entries)) maps × IsMap key_cmp maps)
         (OrMemory NoMemory (FirstFails (rows_checks 0 (rows_seen rows.entries)))) }
 {
-    let mut maps = LangMaps::new(alloc);
+    let mut maps = LangMaps::with_capacity(alloc, rows.len())?;
     let mut row = 0;
     'rows: for (name, keys) in rows {
         add_row(alloc, &mut maps, row, name, keys)?;

@@ -1,5 +1,5 @@
 //! Language maps of messages (JSON-LD 1.1, section 9.8) as a list of labels.
-ghost use Rattle.std.specs.Prelude.{◌≡◌, ◌==◌, ◌++◌, ◌∷◌, [], OnOk, OnErr, length, slice_get, option_map};
+ghost use Rattle.std.specs.Prelude.{◌≡◌, ◌==◌, ◌++◌, ◌∷◌, [], IfOk, OnOk, OnErr, length, slice_get, option_map};
 ghost use Rattle.std.specs.Slice.Iter.{iter_rest};
 ghost use Rattle.cell_core.specs.Maps.{IsMap};
 ghost use Rattle.cata_core.specs.Entries.{key_cmp};
@@ -52,6 +52,14 @@ impl LangMaps {
         LangMaps {
             labels: Vec::new(alloc),
         }
+    }
+
+    // No label yet, with room for this many.
+    pub(crate) fn with_capacity(alloc: Global, count: usize) -> Result<LangMaps, AllocError>
+        ensures { IfOk result (λ maps. maps ≡ []) }
+    {
+        let labels = Vec::with_capacity(alloc, count)?;
+        Ok(LangMaps { labels })
     }
 
     /// How many labels there are.

@@ -15,7 +15,7 @@ rows-init c =
     let left = c.into_iter-name-iterator.result in
     let gives = c.into_iter-name-iterator.ensures.into_iter_gives in
     let rising = subst (λ (es : List (String Global × Option HeldKeys)). IsStrictlySortedBy string_cmp (keys_of es)) (sym gives.0) gives.5 in
-    ([], sym gives.0, refl, tt, subst (λ (labels : List Labelled). HoldsRows [] labels left) (sym c.new-maps.ensures) (HoldsRows-none left rising))
+    ([], sym gives.0, refl, tt, subst (λ (labels : List Labelled). HoldsRows [] labels left) (sym c.in_ok-maps.ensures) (HoldsRows-none left rising))
 
 pub add_row-requires-clause-lesser : goal.add_row-requires-clause-lesser
 add_row-requires-clause-lesser c =
@@ -29,7 +29,7 @@ returns-in_err-add_row c =
     let left = c.next.new.self in
     let e = c.in_err-add_row.field-0.0 in
     let all = ap rows_seen (inv.1 ∙ ap (λ t. front ++ t) c.in-Some.ensures.steps) ∙ rows_seen_behind front ((c.in-Some.name, c.in-Some.keys) ∷ left) in
-    let p = err_from_is_err_and c.from_residual.result c.from_residual.ensures.1 in
+    let p = err_from_is_err_and c.from_residual-in_err-add_row.result c.from_residual-in_err-add_row.ensures.1 in
     rw (p.1, p.2)
     (else_by c.in_err-add_row.ensures.err (λ fails. subst (λ (rs : Rows). FirstFails (rows_checks 0 rs) e) (sym all)
     (rows_fail (rows_seen front) (string_bytes c.in-Some.name, keys_in_seen c.in-Some.keys) (rows_seen left) c.rows.row e (inv.2 ∙ same_length front) inv.3 fails)))
