@@ -14,7 +14,8 @@ pub enum Outcome {
 impl Outcome {
     ghost use Rattle.front_core.specs.Questions.{is_found};
 
-    pub(crate) fn of(found: bool) -> Outcome
+    /// Of whether anything is found.
+    pub fn of(found: bool) -> Outcome
         ensures { is_found result ≡ found }
     {
         if found {
@@ -30,6 +31,15 @@ impl Outcome {
 pub struct Answer {
     pub text: Doc,
     pub outcome: Outcome,
+}
+
+impl Answer {
+    /// The answer of this text.
+    pub fn new(text: Doc, outcome: Outcome) -> Answer
+        ensures { result ≡ record { text = text; outcome = outcome } }
+    {
+        Answer { text, outcome }
+    }
 }
 
 /// What stands at a place of the label that a lookup finds.

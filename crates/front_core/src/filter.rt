@@ -50,9 +50,6 @@ impl Filter {
             .catalogue()
             .ask_filter(alloc, &self.id, &self.list, self.scheme)?;
         let text = docs_core::filter_lines(alloc, &entries)?;
-        Ok(Answer {
-            text,
-            outcome: Outcome::of(entries.len() != 0),
-        })
+        Ok(Answer::new(text, Outcome::of(entries.len() != 0)))
     }
 }

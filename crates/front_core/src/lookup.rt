@@ -52,10 +52,7 @@ impl Lookup {
     {
         let reply = self.reply(site);
         let text = reply_line(alloc, &reply)?;
-        Ok(Answer {
-            text,
-            outcome: outcome_of(&reply),
-        })
+        Ok(Answer::new(text, outcome_of(&reply)))
     }
 
     /// The text at a place, counted from 0, of the label that is found. It takes no memory.

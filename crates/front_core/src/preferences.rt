@@ -47,16 +47,9 @@ impl Preferences {
     pub fn bundle(&self, alloc: Global, site: &Site) -> Result<Answer, AllocError>
         ensures { IfOk result (AnswersBundle site.now.cells self.now) }
     {
-        let (text, is_found) = write_bundle(
-            alloc,
-            site.catalogue(),
-            &self.list,
-            self.default.as_ref(),
-        )?;
-        Ok(Answer {
-            text,
-            outcome: Outcome::of(is_found),
-        })
+        let Preferences { list, default } = self;
+        let (text, found) = write_bundle(alloc, site.catalogue(), list, default.as_ref())?;
+        Ok(Answer::new(text, Outcome::of(found)))
     }
 }
 

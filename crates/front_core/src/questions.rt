@@ -24,8 +24,7 @@ pub fn lookup_line(
         (RefusesLookupLine id.now (field_text field.entry) (option_map (λ s. s.now) default.entry)) }
 {
     let asked = Lookup::read(alloc, id, field, default)?;
-    let answer = asked.line(alloc, site)?;
-    Ok(answer)
+    Ok(asked.line(alloc, site)?)
 }
 
 /// The text at a place, counted from 0, of the label that a reader gets: [`Lookup::text`]. Refused
@@ -55,8 +54,7 @@ pub fn filter_lines(
     ensures { MatchResult result (IsFilterLines site.now.cells id.now (field_text field.entry)) (RefusesFilterLines id.now (field_text field.entry)) }
 {
     let asked = Filter::read(alloc, id, field)?;
-    let answer = asked.lines(alloc, site)?;
-    Ok(answer)
+    Ok(asked.lines(alloc, site)?)
 }
 
 /// The language maps of all labels that a reader gets: [`Preferences::bundle`]. Refused as
@@ -71,6 +69,5 @@ pub fn bundle(
         (RefusesBundle (field_text field.entry) (option_map (λ s. s.now) default.entry)) }
 {
     let asked = Preferences::read(alloc, field, default)?;
-    let answer = asked.bundle(alloc, site)?;
-    Ok(answer)
+    Ok(asked.bundle(alloc, site)?)
 }

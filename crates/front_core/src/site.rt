@@ -13,6 +13,5 @@ use std::alloc::Global;
 pub fn open_site(alloc: Global, text: &[u8]) -> Result<Site, FrontFault>
     ensures { MatchResult result (ReadsAsSite text.now) (RefusesOpening text.now) }
 {
-    let site = read_site(alloc, text)?;
-    Ok(site)
+    Ok(read_site(alloc, text)?)
 }
