@@ -10,22 +10,22 @@ use Rattle.docs_core.specs.Sinks.{AppendsFront}
 use Rattle.docs_core.specs.Sources.{IsReadFault, ReadsWhole}
 use Rattle.docs_core.specs.declared.fault.DocCause.TheVariants.{WriteFault}
 use Rattle.docs_core.specs.declared.fault.DocFault.{DocFault}
-use Rattle.command_core.specs.Acts.{Answers, Refuses, Treats}
+use Rattle.command_core.specs.Acts.{Performs, Treats}
 use Rattle.command_core.specs.Endings.{EndsRefused, Writes}
 use Rattle.command_core.specs.Refusals.{PrintsDocument}
-use Rattle.command_core.specs.Status.{status_of}
+use Rattle.command_core.specs.Status.{answer_status, status_of}
 use Rattle.command_core.specs.TaskWords.{TaskWords, Replay}
-use Rattle.command_core.specs.declared.answer.Answer.{Answer}
+use Rattle.front_core.specs.declared.answer.Answer.{Answer}
 use Rattle.command_core.specs.declared.refusal.Refusal.{Refusal}
 use Rattle.command_core.specs.declared.refusal.Refusal.TheVariants.{Document}
 
 module _ {R W F : Type 0} (remaining : R → Option (List ℕ)) (broken : R → Bool) (contents : W → Option (List ℕ)) (failed : W → Bool) (lines : F → Option (List ℕ)) (closed : F → Bool) where
   -- the answer is written, or nothing
   pub treated : (task : TaskWords) (r r' : R) (w w' : W) (f f' : F) (status : ℕ) (answered : Result Answer Refusal)
-      → MatchResult answered (λ a. Answers remaining broken task r r' a.text a.status) (Refuses remaining broken task r r')
-      → MatchResult answered (λ a. Writes contents failed lines closed a.text a.status w w' f f' status) (λ e. EndsRefused contents failed lines closed e w w' f f' status)
+      → Performs remaining broken task r r' answered
+      → MatchResult answered (λ a. Writes contents failed lines closed a.text (answer_status a.outcome) w w' f f' status) (λ e. EndsRefused contents failed lines closed e w w' f f' status)
       → Treats remaining broken contents failed lines closed task r r' w w' f f' status
-  treated task r r' w w' f f' status (Ok a) h e = inl (a.text, a.status, h, e)
+  treated task r r' w w' f f' status (Ok a) h e = inl (a.text, answer_status a.outcome, h, e)
   treated task r r' w w' f f' status (Err refused) h e = inr (refused, h, e)
 
   -- `replay` wrote its lines

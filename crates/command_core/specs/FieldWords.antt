@@ -25,3 +25,12 @@ field_of id rows = option_map (λ text. record {
   malformed = malformed_of (first_of (codes "lenient") rows);
   text = text;
 }) (first_of id rows)
+
+-- what a reader prefers: the ranges of a field, and a default where there is one
+pub record PreferenceWords : Type 0 where
+  pub field : FieldText
+  pub default : Option Text
+
+-- these, or none where the field is missing
+abbrev pub preference_words : Text → List Row → Option PreferenceWords
+preference_words id rows = option_map (λ field. record { field = field; default = first_of (codes "default") rows }) (field_of id rows)

@@ -1,5 +1,6 @@
 pub mod Acts
 pub mod AskWords
+pub mod Documents
 pub mod EditWords
 pub mod Endings
 pub mod FaultLine
@@ -8,7 +9,6 @@ pub mod Help
 pub mod Input
 pub mod Matches
 pub mod Parsing
-pub mod PickWords
 pub mod Picks
 pub mod Program
 pub mod Reading

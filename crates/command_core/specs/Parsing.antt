@@ -1,5 +1,5 @@
 -- The product's reading of a command's words (own rules).
-use Rattle.std.specs.Prelude.{◌≡◌, List}
+use Rattle.std.specs.Prelude.{◌≡◌, List, Option, None, Some}
 use Rattle.clap.specs.Words.{Text}
 use Rattle.cell_core.specs.Labels.{IsLabel}
 use Rattle.cell_core.specs.MessageIds.{IsMessageId}
@@ -29,11 +29,13 @@ RefusesKey id lang (refusal.Cell fault) = RefusesId id fault
 RefusesKey id lang (refusal.Lang fault) = IsMessageId id × RefusesLang lang fault
 RefusesKey id lang _ = ⊥
 
--- the texts are this label
-abbrev pub IsLabelOf : List Text → List Text → Type 0
-IsLabelOf texts label = IsLabel texts × (label ≡ texts)
+-- the texts are this label, or there are none
+abbrev pub IsLabelOf : Option (List Text) → Option (List Text) → Type 0
+IsLabelOf None label = label ≡ None
+IsLabelOf (Some texts) label = IsLabel texts × (label ≡ Some texts)
 
 -- why the texts are no label; they are copied first, so memory may end before
-abbrev pub RefusesLabelWords : List Text → CellFault → Type 0
-RefusesLabelWords texts cell.NoMemory = Unit {0}
-RefusesLabelWords texts fault = RefusesTexts texts fault
+abbrev pub RefusesLabelWords : Option (List Text) → CellFault → Type 0
+RefusesLabelWords None fault = ⊥
+RefusesLabelWords (Some texts) cell.NoMemory = Unit {0}
+RefusesLabelWords (Some texts) fault = RefusesTexts texts fault

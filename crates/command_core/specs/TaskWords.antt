@@ -2,27 +2,22 @@
 use Rattle.std.specs.Prelude.{◌≡◌, ℕ, List, Option, None, Some, codes, option_map, if◌then◌else◌, MatchOption}
 use Rattle.std.specs.Str.{bytes_eq}
 use Rattle.clap.specs.Words.{Row, Text, first_of}
-use Rattle.command_core.specs.AskWords.{BundleWords, FilterWords, LookupWords, bundle_words, filter_words, lookup_words}
-use Rattle.command_core.specs.EditWords.{DeleteWords, PutWords, delete_words, put_words}
+use Rattle.command_core.specs.AskWords.{FilterWords, LookupWords, PickWords, filter_words, lookup_words, pick_words}
+use Rattle.command_core.specs.EditWords.{EditWords, delete_words, put_words}
+use Rattle.command_core.specs.FieldWords.{PreferenceWords, preference_words}
 use Rattle.command_core.specs.Matches.{GivesNow}
-use Rattle.command_core.specs.PickWords.{PickWords, pick_words}
+use Rattle.command_core.specs.declared.documents.DocumentTask.{DocumentTask}
+use Rattle.command_core.specs.declared.documents.DocumentTask.TheVariants as document
 
 pub data TaskWords : Type 0 where
   Pick : (words : PickWords) → TaskWords
   New : (name : Text) → TaskWords
-  Put : (words : PutWords) → TaskWords
-  Delete : (words : DeleteWords) → TaskWords
-  Status : TaskWords
-  Import : (now : ℕ) → TaskWords
-  Update : (now : ℕ) → TaskWords
-  Export : TaskWords
+  Edit : (words : EditWords) → TaskWords
+  Document : (task : DocumentTask) → TaskWords
   Missing : (word : Text) → TaskWords
   Filter : (words : FilterWords) → TaskWords
   Lookup : (words : LookupWords) → TaskWords
-  Bundle : (words : BundleWords) → TaskWords
-  Summary : TaskWords
-  Delta : TaskWords
-  Take : TaskWords
+  Bundle : (words : PreferenceWords) → TaskWords
   Sync : TaskWords
   Replay : TaskWords
 
@@ -31,19 +26,19 @@ abbrev pub task_words : Text → Option ℕ → List Row → Option TaskWords
 task_words name now rows =
     if bytes_eq name (codes "pick") then option_map Pick (pick_words rows)
     else (if bytes_eq name (codes "new") then option_map New (first_of (codes "site") rows)
-    else (if bytes_eq name (codes "put") then option_map Put (put_words now rows)
-    else (if bytes_eq name (codes "delete") then option_map Delete (delete_words now rows)
-    else (if bytes_eq name (codes "status") then Some Status
-    else (if bytes_eq name (codes "import") then option_map Import now
-    else (if bytes_eq name (codes "update") then option_map Update now
-    else (if bytes_eq name (codes "export") then Some Export
+    else (if bytes_eq name (codes "put") then option_map Edit (put_words now rows)
+    else (if bytes_eq name (codes "delete") then option_map Edit (delete_words now rows)
+    else (if bytes_eq name (codes "status") then Some (Document document.Status)
+    else (if bytes_eq name (codes "import") then option_map (λ n. Document (document.Import n)) now
+    else (if bytes_eq name (codes "update") then option_map (λ n. Document (document.Update n)) now
+    else (if bytes_eq name (codes "export") then Some (Document document.Export)
     else (if bytes_eq name (codes "missing") then option_map Missing (first_of (codes "lang") rows)
     else (if bytes_eq name (codes "filter") then option_map Filter (filter_words rows)
     else (if bytes_eq name (codes "lookup") then option_map Lookup (lookup_words rows)
-    else (if bytes_eq name (codes "bundle") then option_map Bundle (bundle_words rows)
-    else (if bytes_eq name (codes "summary") then Some Summary
-    else (if bytes_eq name (codes "delta") then Some Delta
-    else (if bytes_eq name (codes "take") then Some Take
+    else (if bytes_eq name (codes "bundle") then option_map Bundle (preference_words (codes "field") rows)
+    else (if bytes_eq name (codes "summary") then Some (Document document.Summary)
+    else (if bytes_eq name (codes "delta") then Some (Document document.Delta)
+    else (if bytes_eq name (codes "take") then Some (Document document.Take)
     else (if bytes_eq name (codes "sync") then Some Sync
     else (if bytes_eq name (codes "replay") then Some Replay
     else None))))))))))))))))

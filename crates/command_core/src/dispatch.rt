@@ -2,10 +2,12 @@
 ghost use Rattle.std.specs.Prelude.{◌≡◌, false};
 ghost use Rattle.clap.specs.Words.{subcommand_rows_of};
 ghost use Rattle.command_core.specs.Acts.{ActsBy, Treats};
+ghost use Rattle.command_core.specs.TaskWords.{Replay};
 ghost use Rattle.command_core.specs.Values.{task_values};
 
 use crate::answer::finish;
-use crate::commands::{replay, sync};
+use crate::fault_line::refuse_document;
+use crate::sites::sync;
 use crate::status;
 use crate::task::{Task, answer, read};
 use clap::ArgMatches;
@@ -45,8 +47,25 @@ fn perform<R: Source, W: Sink, F: Sink>(
     ensures acts { Treats R.remaining R.failed W.contents W.failed F.contents F.failed (task_values task.entry) reader.old reader.new writer.old writer.new faults.old faults.new result }
 {
     match task {
-        Task::Sync => sync::act(alloc, reader, writer, faults),
-        Task::Replay => replay::act(alloc, reader, writer, faults),
+        Task::Sync => sync(alloc, reader, writer, faults),
+        Task::Replay => replay(alloc, reader, writer, faults),
         task => finish(answer(alloc, task, reader), writer, faults),
+    }
+}
+
+/// Replays the script of the input, or reports the refusal.
+fn replay<R: Source, W: Sink, F: Sink>(
+    alloc: Global,
+    reader: &mut R,
+    writer: &mut W,
+    faults: &mut F,
+) -> u8
+    requires reads { R.failed reader.old ≡ false }
+    requires writes { W.failed writer.old ≡ false }
+    ensures acts { Treats R.remaining R.failed W.contents W.failed F.contents F.failed Replay reader.old reader.new writer.old writer.new faults.old faults.new result }
+{
+    match docs_core::replay(alloc, reader, writer) {
+        Ok(()) => status::ANSWERED,
+        Err(fault) => refuse_document(faults, fault),
     }
 }

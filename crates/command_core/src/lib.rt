@@ -9,13 +9,17 @@ mod answer;
 mod arguments;
 mod commands;
 mod dispatch;
+mod documents;
+mod edits;
 mod fault_line;
 mod input;
 mod matches;
 mod output;
 mod parsing;
 mod program;
+mod questions;
 mod refusal;
+mod sites;
 pub mod status;
 mod task;
 

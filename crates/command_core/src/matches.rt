@@ -5,6 +5,7 @@ ghost use Rattle.clap.specs.Words.{all_of, first_of, found_of, rows_of};
 ghost use Rattle.front_core.specs.Fields.{field_text};
 ghost use Rattle.command_core.specs.FieldWords as spec;
 ghost use Rattle.command_core.specs.Matches.{GivesNow};
+ghost use Rattle.command_core.specs.Values.{preference_values};
 
 use clap::ArgMatches;
 use front_core::Field;
@@ -45,6 +46,22 @@ pub(crate) fn field_of<'a>(matches: &ArgMatches<'a>, id: &str) -> Option<Field<'
         malformed,
         text: text.as_bytes(),
     })
+}
+
+/// What a reader prefers: a field, and a default where there is one.
+#[derive(Clone, Copy)]
+pub(crate) struct PreferenceValues<'a> {
+    pub field: Field<'a>,
+    pub default: Option<&'a [u8]>,
+}
+
+/// The preferences whose field is this argument.
+pub(crate) fn preferences_of<'a>(matches: &ArgMatches<'a>, id: &str) -> Option<PreferenceValues<'a>>
+    ensures { option_map preference_values result ≡ spec.preference_words id.now (rows_of (found_of matches.now)) }
+{
+    let field = field_of(matches, id)?;
+    let default = bytes_given(matches, "default");
+    Some(PreferenceValues { field, default })
 }
 
 /// The bytes of an argument's first text.

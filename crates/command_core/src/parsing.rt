@@ -1,5 +1,5 @@
 //! The product's reading of words.
-ghost use Rattle.std.specs.Prelude.{◌≡◌, map, IfOk, MatchResult};
+ghost use Rattle.std.specs.Prelude.{◌≡◌, map, option_map, IfOk, MatchResult};
 ghost use Rattle.cell_core.specs.Labels.{texts_of};
 ghost use Rattle.lang_core.specs.Lang.{SpellsLang, RefusesLang};
 ghost use Rattle.command_core.specs.Parsing.{IsKey, RefusesKey, IsLabelOf, RefusesLabelWords};
@@ -32,11 +32,15 @@ pub(crate) fn read_lang(alloc: Global, word: &str) -> Result<Lang, LangFault>
     Lang::parse(alloc, word.as_bytes())
 }
 
-/// The label of these texts.
-pub(crate) fn read_label(alloc: Global, texts: &[&str]) -> Result<Label, CellFault>
-    ensures { MatchResult result (IsLabelOf (map (λ s. s.now) texts.now)) (RefusesLabelWords (map (λ s. s.now) texts.now)) }
+/// The label of these texts, where there are any.
+pub(crate) fn read_label(alloc: Global, texts: Option<&[&str]>) -> Result<Option<Label>, CellFault>
+    ensures { let words = option_map (λ s. map (λ v. v.now) s.now) texts.entry in
+        MatchResult result (IsLabelOf words) (RefusesLabelWords words) }
 {
-    Label::from_texts(owned(alloc, texts)?)
+    match texts {
+        None => Ok(None),
+        Some(texts) => Ok(Some(Label::from_texts(owned(alloc, texts)?)?)),
+    }
 }
 
 /// The texts in memory of their own.

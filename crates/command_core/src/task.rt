@@ -1,38 +1,34 @@
-//! What the words ask, and what answers it: one variant for each command.
-ghost use Rattle.std.specs.Prelude.{◌≡◌, false, option_map, MatchResult};
+//! What the words ask, and what answers it.
+ghost use Rattle.std.specs.Prelude.{◌≡◌, false, map, option_map};
 ghost use Rattle.clap.specs.Words.{found_of, rows_of, subcommand_rows_of};
-ghost use Rattle.command_core.specs.Acts.{Answers, HasOneText, Refuses};
+ghost use Rattle.command_core.specs.Acts.{HasOneText, Performs};
+ghost use Rattle.command_core.specs.EditWords.{edit_words};
+ghost use Rattle.command_core.specs.TaskWords.{Edit, GivesTask, task_words};
 ghost use Rattle.command_core.specs.Values.{task_values};
-ghost use Rattle.command_core.specs.TaskWords.{GivesTask, task_words};
 
 use crate::answer::Answered;
-use crate::commands::{
-    bundle, delete, delta, export, filter, import, lookup, missing, new, pick, put, status,
-    summary, take, update,
+use crate::documents::DocumentTask;
+use crate::edits::EditValues;
+use crate::matches::{
+    PreferenceValues, bytes_given, field_of, now_of, preferences_of, text_of, texts_of,
 };
-use crate::matches::{now_of, text_of};
+use crate::{documents, edits, questions, sites};
 use clap::ArgMatches;
 use docs_core::Source;
+use front_core::Field;
 use std::alloc::Global;
 
 /// A command of the program, with what its words ask.
 #[derive(Clone, Copy)]
 pub(crate) enum Task<'m, 'a> {
-    Pick(pick::Values<'m, 'a>),
+    Pick(PreferenceValues<'a>, &'m [&'a str]),
     New(&'a str),
-    Put(put::Values<'m, 'a>),
-    Delete(delete::Values<'a>),
-    Status,
-    Import(u64),
-    Update(u64),
-    Export,
+    Edit(EditValues<'m, 'a>),
+    Document(DocumentTask),
     Missing(&'a str),
-    Filter(filter::Values<'a>),
-    Lookup(lookup::Values<'a>),
-    Bundle(bundle::Values<'a>),
-    Summary,
-    Delta,
-    Take,
+    Filter(&'a [u8], Field<'a>),
+    Lookup(&'a [u8], PreferenceValues<'a>),
+    Bundle(PreferenceValues<'a>),
     Sync,
     Replay,
 }
@@ -51,55 +47,68 @@ fn task_of<'m, 'a>(
     now: Option<u64>,
     matches: &'m ArgMatches<'a>,
 ) -> Option<Task<'m, 'a>>
-    ensures { option_map task_values result
-        ≡ task_words name.now now (rows_of (found_of matches.now)) }
+    ensures { option_map task_values result ≡ task_words name.now now (rows_of (found_of matches.now)) }
 {
     match name {
-        "pick" => Some(Task::Pick(pick::values_of(matches)?)),
+        "pick" => Some(Task::Pick(
+            preferences_of(matches, "ranges")?,
+            texts_of(matches, "tags")?,
+        )),
         "new" => Some(Task::New(text_of(matches, "site")?)),
-        "put" => Some(Task::Put(put::values_of(now, matches)?)),
-        "delete" => Some(Task::Delete(delete::values_of(now, matches)?)),
-        "status" => Some(Task::Status),
-        "import" => Some(Task::Import(now?)),
-        "update" => Some(Task::Update(now?)),
-        "export" => Some(Task::Export),
+        "put" => edit_of(now, Some(texts_of(matches, "texts")?), matches),
+        "delete" => edit_of(now, None, matches),
+        "status" => Some(Task::Document(DocumentTask::Status)),
+        "import" => Some(Task::Document(DocumentTask::Import(now?))),
+        "update" => Some(Task::Document(DocumentTask::Update(now?))),
+        "export" => Some(Task::Document(DocumentTask::Export)),
         "missing" => Some(Task::Missing(text_of(matches, "lang")?)),
-        "filter" => Some(Task::Filter(filter::values_of(matches)?)),
-        "lookup" => Some(Task::Lookup(lookup::values_of(matches)?)),
-        "bundle" => Some(Task::Bundle(bundle::values_of(matches)?)),
-        "summary" => Some(Task::Summary),
-        "delta" => Some(Task::Delta),
-        "take" => Some(Task::Take),
+        "filter" => Some(Task::Filter(bytes_given(matches, "id")?, field_of(matches, "field")?)),
+        "lookup" => Some(Task::Lookup(
+            bytes_given(matches, "id")?,
+            preferences_of(matches, "field")?,
+        )),
+        "bundle" => Some(Task::Bundle(preferences_of(matches, "field")?)),
+        "summary" => Some(Task::Document(DocumentTask::Summary)),
+        "delta" => Some(Task::Document(DocumentTask::Delta)),
+        "take" => Some(Task::Document(DocumentTask::Take)),
         "sync" => Some(Task::Sync),
         "replay" => Some(Task::Replay),
         _ => None,
     }
 }
 
+/// The edit that the words ask, with these texts.
+fn edit_of<'m, 'a>(
+    now: Option<u64>,
+    texts: Option<&'m [&'a str]>,
+    matches: &ArgMatches<'a>,
+) -> Option<Task<'m, 'a>>
+    ensures { option_map task_values result
+        ≡ option_map Edit (edit_words now (option_map (λ s. map (λ v. v.now) s.now) texts.entry) (rows_of (found_of matches.now))) }
+{
+    Some(Task::Edit(EditValues {
+        now: now?,
+        id: text_of(matches, "id")?,
+        lang: text_of(matches, "lang")?,
+        texts,
+    }))
+}
+
 /// What answers a task whose answer is one text, or why it is refused.
 pub(crate) fn answer<R: Source>(alloc: Global, task: Task<'_, '_>, reader: &mut R) -> Answered
     requires reads { R.failed reader.old ≡ false }
     requires one { HasOneText (task_values task) }
-    ensures { let words = task_values task.entry in MatchResult result
-        (λ answer. Answers R.remaining R.failed words reader.old reader.new answer.text answer.status)
-        (Refuses R.remaining R.failed words reader.old reader.new) }
+    ensures { Performs R.remaining R.failed (task_values task.entry) reader.old reader.new result }
 {
     match task {
-        Task::Pick(values) => Ok(pick::answer_of(alloc, values)?),
-        Task::New(name) => new::answer_of(alloc, name),
-        Task::Put(values) => put::answer_of(alloc, values, reader),
-        Task::Delete(values) => delete::answer_of(alloc, values, reader),
-        Task::Status => status::answer_of(alloc, reader),
-        Task::Import(now) => import::answer_of(alloc, now, reader),
-        Task::Update(now) => update::answer_of(alloc, now, reader),
-        Task::Export => export::answer_of(alloc, reader),
-        Task::Missing(word) => missing::answer_of(alloc, word, reader),
-        Task::Filter(values) => filter::answer_of(alloc, values, reader),
-        Task::Lookup(values) => lookup::answer_of(alloc, values, reader),
-        Task::Bundle(values) => bundle::answer_of(alloc, values, reader),
-        Task::Summary => summary::answer_of(alloc, reader),
-        Task::Delta => delta::answer_of(alloc, reader),
-        Task::Take => take::answer_of(alloc, reader),
+        Task::Pick(preferences, tags) => Ok(questions::pick(alloc, preferences, tags)?),
+        Task::New(name) => sites::new_site(alloc, name),
+        Task::Edit(values) => edits::answer_of(alloc, values, reader),
+        Task::Document(task) => documents::answer_of(alloc, task, reader),
+        Task::Missing(word) => questions::missing(alloc, word, reader),
+        Task::Filter(id, field) => questions::filter(alloc, id, field, reader),
+        Task::Lookup(id, preferences) => questions::lookup(alloc, id, preferences, reader),
+        Task::Bundle(preferences) => questions::bundle(alloc, preferences, reader),
         Task::Sync | Task::Replay => unreachable!(),
     }
 }

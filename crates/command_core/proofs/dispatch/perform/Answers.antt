@@ -3,7 +3,7 @@ use Rattle.command_core.proofs.ActsLemmas.{treated}
 use Rattle.command_core.proofs.dispatch.perform.Goals as goal
 
 pub returns-in-Sync : goal.returns-in-Sync
-returns-in-Sync g c = rw c.in-Sync.is c.act.ensures
+returns-in-Sync g c = rw c.in-Sync.is c.sync.ensures
 
 pub returns-in_default : goal.returns-in_default
 returns-in_default g c =

@@ -1,6 +1,0 @@
-use Rattle.std.proofs.Common.{◌++◌, inl}
-use Rattle.command_core.proofs.commands.sync.act.Goals as goal
-
-pub returns-in-Ok : goal.returns-in-Ok
-returns-in-Ok g c =
-    record { acts = inl (c.in-Ok.first ++ c.in-Ok.second, 0, c.in-Ok.ensures, c.print_both.ensures.written) }

@@ -1,0 +1,57 @@
+//! The commands that read documents and nothing of their words but the moment.
+ghost use Rattle.std.specs.Prelude.{◌≡◌, false, MatchResult};
+ghost use Rattle.docs_core.specs.Checks.{OrMemory};
+ghost use Rattle.docs_core.specs.ReadsAs.{no_memory};
+ghost use Rattle.command_core.specs.Acts.{Performs};
+ghost use Rattle.command_core.specs.Documents.{IsDocument, RefusesDocuments};
+ghost use Rattle.command_core.specs.TaskWords.{Document};
+
+use crate::answer::Answered;
+use crate::input::two_documents;
+use docs_core::{
+    Doc, DocFault, Source, delta_document, export_document, import_document, read_all,
+    status_document, summary_document, take_document, update_document,
+};
+use front_core::{Answer, Outcome};
+use std::alloc::Global;
+
+/// A command that reads documents, with its moment where it edits.
+#[derive(Clone, Copy)]
+pub(crate) enum DocumentTask {
+    Status,
+    Import(u64),
+    Update(u64),
+    Export,
+    Summary,
+    Delta,
+    Take,
+}
+
+/// What answers the documents of the input.
+pub(crate) fn answer_of<R: Source>(alloc: Global, task: DocumentTask, reader: &mut R) -> Answered
+    requires { R.failed reader.old ≡ false }
+    ensures { Performs R.remaining R.failed (Document task) reader.old reader.new result }
+{
+    let input = read_all(alloc, reader)?;
+    let text = document_of(alloc, task, input.bytes())?;
+    Ok(Answer::new(text, Outcome::Found))
+}
+
+/// What answers the documents of these bytes.
+fn document_of(alloc: Global, task: DocumentTask, input: &[u8]) -> Result<Doc, DocFault>
+    ensures { MatchResult result (IsDocument task input.now) (OrMemory no_memory (RefusesDocuments task input.now)) }
+{
+    let (first, second) = two_documents(input);
+    match task {
+        DocumentTask::Status => status_document(alloc, input),
+        DocumentTask::Import(now) => import_document(alloc, first, now, second),
+        DocumentTask::Update(now) => {
+            let (old, new) = two_documents(second);
+            update_document(alloc, first, now, old, new)
+        }
+        DocumentTask::Export => export_document(alloc, input),
+        DocumentTask::Summary => summary_document(alloc, input),
+        DocumentTask::Delta => delta_document(alloc, first, second),
+        DocumentTask::Take => take_document(alloc, first, second),
+    }
+}

@@ -1,0 +1,110 @@
+//! The commands that answer questions: `pick`, `missing`, `filter`, `lookup` and `bundle`.
+ghost use Rattle.std.specs.Prelude.{◌≡◌, false, map, MatchResult};
+ghost use Rattle.front_core.specs.Fields.{field_text};
+ghost use Rattle.command_core.specs.Acts.{Performs};
+ghost use Rattle.command_core.specs.AskWords.{PickWords};
+ghost use Rattle.command_core.specs.Picks.{FailsPick, IsPick, pick_outcome};
+ghost use Rattle.command_core.specs.Reading.{ReadsSite, FailsSite};
+ghost use Rattle.command_core.specs.Status.{answer_status};
+ghost use Rattle.command_core.specs.TaskWords.{Bundle, Filter as FilterTask, Lookup as LookupTask, Missing};
+ghost use Rattle.command_core.specs.Values.{preference_values};
+
+use crate::answer::Answered;
+use crate::matches::PreferenceValues;
+use crate::parsing::read_lang;
+use cata_core::Site;
+use docs_core::{DocFault, Source, missing_document, read_all, read_site};
+use front_core::words::{Finding, find, line_of};
+use front_core::{Answer, Field, Filter, FrontFault, Lookup, Outcome, Preferences};
+use std::alloc::Global;
+
+/// The pick line.
+pub(crate) fn pick(
+    alloc: Global,
+    preferences: PreferenceValues<'_>,
+    tags: &[&str],
+) -> Result<Answer, FrontFault>
+    ensures { let words : PickWords = record { preferences = preference_values preferences.entry; tags = map (λ s. s.now) tags.now } in
+        MatchResult result (λ answer. IsPick words answer.text (answer_status answer.outcome)) (FailsPick words) }
+{
+    let found = find(alloc, preferences.field, preferences.default, tags)?;
+    let text = line_of(alloc, &found)?;
+    Ok(Answer::new(text, outcome_of(&found)))
+}
+
+/// Whether a pick finds anything.
+fn outcome_of(found: &Finding) -> Outcome
+    ensures { result ≡ pick_outcome found.now }
+{
+    match found {
+        Finding::Matched(_) | Finding::Default(_) => Outcome::Found,
+        Finding::Nothing => Outcome::Nothing,
+    }
+}
+
+/// The messages of the site of the input that have no label of the language.
+pub(crate) fn missing<R: Source>(alloc: Global, word: &str, reader: &mut R) -> Answered
+    requires { R.failed reader.old ≡ false }
+    ensures { Performs R.remaining R.failed (Missing word.now) reader.old reader.new result }
+{
+    let lang = read_lang(alloc, word)?;
+    let site = read_all(alloc, reader)?;
+    let (text, is_found) = missing_document(alloc, site.bytes(), &lang)?;
+    Ok(Answer::new(text, Outcome::of(is_found)))
+}
+
+/// The lines of the filter over the site of the input.
+pub(crate) fn filter<R: Source>(
+    alloc: Global,
+    id: &[u8],
+    field: Field<'_>,
+    reader: &mut R,
+) -> Answered
+    requires { R.failed reader.old ≡ false }
+    ensures { Performs R.remaining R.failed (FilterTask (record { id = id.now; field = field_text field.entry })) reader.old reader.new result }
+{
+    let question = Filter::read(alloc, id, field)?;
+    let site = read_input(alloc, reader)?;
+    let answer = question.lines(alloc, &site)?;
+    Ok(answer)
+}
+
+/// The line of the lookup over the site of the input.
+pub(crate) fn lookup<R: Source>(
+    alloc: Global,
+    id: &[u8],
+    preferences: PreferenceValues<'_>,
+    reader: &mut R,
+) -> Answered
+    requires { R.failed reader.old ≡ false }
+    ensures { Performs R.remaining R.failed (LookupTask (record { id = id.now; preferences = preference_values preferences.entry })) reader.old reader.new result }
+{
+    let question = Lookup::read(alloc, id, preferences.field, preferences.default)?;
+    let site = read_input(alloc, reader)?;
+    let answer = question.line(alloc, &site)?;
+    Ok(answer)
+}
+
+/// The labels that one reader gets of the site of the input, as language maps.
+pub(crate) fn bundle<R: Source>(
+    alloc: Global,
+    preferences: PreferenceValues<'_>,
+    reader: &mut R,
+) -> Answered
+    requires { R.failed reader.old ≡ false }
+    ensures { Performs R.remaining R.failed (Bundle (preference_values preferences.entry)) reader.old reader.new result }
+{
+    let question = Preferences::read(alloc, preferences.field, preferences.default)?;
+    let site = read_input(alloc, reader)?;
+    let answer = question.bundle(alloc, &site)?;
+    Ok(answer)
+}
+
+/// The site of the input.
+fn read_input<R: Source>(alloc: Global, reader: &mut R) -> Result<Site, DocFault>
+    requires { R.failed reader.old ≡ false }
+    ensures { MatchResult result (ReadsSite R.remaining R.failed reader.old reader.new) (FailsSite R.remaining R.failed reader.old reader.new) }
+{
+    let input = read_all(alloc, reader)?;
+    read_site(alloc, input.bytes())
+}

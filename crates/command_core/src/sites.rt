@@ -1,0 +1,56 @@
+//! The commands `new` and `sync`.
+ghost use Rattle.std.specs.Prelude.{◌≡◌, ◌++◌, false, MatchResult};
+ghost use Rattle.command_core.specs.Acts.{BarsNew, IsNew, IsSync, RefusesSync, Treats};
+ghost use Rattle.command_core.specs.Parsing.{NoWords, BarsNone};
+ghost use Rattle.command_core.specs.Reading.{AnswersInput, RefusesInput};
+ghost use Rattle.command_core.specs.Status.{answer_status};
+ghost use Rattle.command_core.specs.TaskWords.{Sync};
+
+use crate::answer::Answered;
+use crate::fault_line::refuse;
+use crate::input::two_documents;
+use crate::output::print_both;
+use crate::refusal::Refusal;
+use cata_core::Site;
+use cell_core::SiteName;
+use docs_core::{Doc, Sink, Source, read_all, sync_documents, write_site};
+use front_core::{Answer, Outcome};
+use std::alloc::Global;
+
+/// The document of the empty site of this name.
+pub(crate) fn new_site(alloc: Global, name: &str) -> Answered
+    ensures { MatchResult result (λ answer. IsNew name.now answer.text (answer_status answer.outcome)) (BarsNew name.now) }
+{
+    let name = SiteName::new(name)?;
+    let text = write_site(alloc, &Site::new(alloc, name))?;
+    Ok(Answer::new(text, Outcome::Found))
+}
+
+/// Prints both sites of the input after their sync, or reports the refusal.
+pub(crate) fn sync<R: Source, W: Sink, F: Sink>(
+    alloc: Global,
+    reader: &mut R,
+    writer: &mut W,
+    faults: &mut F,
+) -> u8
+    requires reads { R.failed reader.old ≡ false }
+    requires writes { W.failed writer.old ≡ false }
+    ensures acts { Treats R.remaining R.failed W.contents W.failed F.contents F.failed Sync reader.old reader.new writer.old writer.new faults.old faults.new result }
+{
+    match synced(alloc, reader) {
+        Ok((first, second)) => print_both(&first, &second, writer, faults),
+        Err(refusal) => refuse(faults, refusal),
+    }
+}
+
+fn synced<R: Source>(alloc: Global, reader: &mut R) -> Result<(Doc, Doc), Refusal>
+    requires { R.failed reader.old ≡ false }
+    ensures { MatchResult result
+        (λ texts. AnswersInput R.remaining R.failed IsSync reader.old reader.new (texts.0 ++ texts.1) 0)
+        (RefusesInput R.remaining R.failed NoWords BarsNone RefusesSync reader.old reader.new) }
+{
+    let input = read_all(alloc, reader)?;
+    let (first, second) = two_documents(input.bytes());
+    let texts = sync_documents(alloc, first, second)?;
+    Ok(texts)
+}
