@@ -41,17 +41,26 @@ pub(crate) fn answer_of<R: Source>(alloc: Global, task: DocumentTask, reader: &m
 fn document_of(alloc: Global, task: DocumentTask, input: &[u8]) -> Result<Doc, DocFault>
     ensures { MatchResult result (IsDocument task input.now) (OrMemory no_memory (RefusesDocuments task input.now)) }
 {
-    let (first, second) = two_documents(input);
     match task {
         DocumentTask::Status => status_document(alloc, input),
-        DocumentTask::Import(now) => import_document(alloc, first, now, second),
+        DocumentTask::Import(now) => {
+            let (site, maps) = two_documents(input);
+            import_document(alloc, site, now, maps)
+        }
         DocumentTask::Update(now) => {
-            let (old, new) = two_documents(second);
-            update_document(alloc, first, now, old, new)
+            let (site, maps) = two_documents(input);
+            let (old, new) = two_documents(maps);
+            update_document(alloc, site, now, old, new)
         }
         DocumentTask::Export => export_document(alloc, input),
         DocumentTask::Summary => summary_document(alloc, input),
-        DocumentTask::Delta => delta_document(alloc, first, second),
-        DocumentTask::Take => take_document(alloc, first, second),
+        DocumentTask::Delta => {
+            let (site, summary) = two_documents(input);
+            delta_document(alloc, site, summary)
+        }
+        DocumentTask::Take => {
+            let (site, delta) = two_documents(input);
+            take_document(alloc, site, delta)
+        }
     }
 }
