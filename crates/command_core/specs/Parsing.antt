@@ -7,7 +7,6 @@ use Rattle.cell_core.specs.Refusals.{RefusesId, RefusesTexts}
 use Rattle.cell_core.specs.declared.fault.CellFault.{CellFault}
 use Rattle.cell_core.specs.declared.fault.CellFault.TheVariants as cell
 use Rattle.lang_core.specs.Lang.{SpellsLang, RefusesLang}
-use Rattle.lang_core.specs.declared.fault.LangFault.{LangFault}
 use Rattle.command_core.specs.declared.refusal.Refusal.{Refusal}
 use Rattle.command_core.specs.declared.refusal.Refusal.TheVariants as refusal
 use Rattle.command_core.specs.declared.parsing.Key.{Key}
