@@ -7,11 +7,11 @@ use Rattle.docs_core.specs.ReadsAs.{ReadsAsSite, no_memory}
 use Rattle.docs_core.specs.Sources.{ReadsWhole}
 use Rattle.docs_core.specs.declared.fault.DocFault.{DocFault}
 use Rattle.command_core.specs.Documents.{RefusesOnly}
-use Rattle.command_core.specs.Reading.{FailsSite, ReadsSite}
+use Rattle.command_core.specs.Reading.{FailsInput, ReadsSite}
 
 module _ {R : Type 0} (remaining : R → Option (List ℕ)) (broken : R → Bool) where
   pub site_read : (read : Result SiteState DocFault) (old new : R) (input : List ℕ) → ReadsWhole broken remaining old new input
       → MatchResult read (ReadsAsSite input) (OrMemory no_memory (RefusesOnly input))
-      → MatchResult read (ReadsSite remaining broken old new) (FailsSite remaining broken old new)
+      → MatchResult read (ReadsSite remaining broken old new) (FailsInput remaining broken RefusesOnly old new)
   site_read (Ok site) old new input whole h = (input, whole, h)
   site_read (Err fault) old new input whole h = inr (input, whole, h)

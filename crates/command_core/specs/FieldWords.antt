@@ -1,4 +1,4 @@
--- How the words of a command say that a field is read (own rule).
+-- How the words of a command say that a field is read, and what they prefer (own rules).
 use Rattle.std.specs.Prelude.{List, Option, None, Some, codes, option_map, if◌then◌else◌}
 use Rattle.std.specs.Str.{bytes_eq}
 use Rattle.clap.specs.Words.{Row, Text, first_of}

@@ -5,7 +5,6 @@ use Rattle.docs_core.specs.Checks.{OrMemory}
 use Rattle.docs_core.specs.ReadsAs.{ReadsAsSite, no_memory}
 use Rattle.docs_core.specs.Sources.{IsReadFault, ReadsWhole}
 use Rattle.docs_core.specs.declared.fault.DocFault.{DocFault}
-use Rattle.command_core.specs.Documents.{RefusesOnly}
 use Rattle.command_core.specs.declared.refusal.Refusal.{Refusal}
 use Rattle.command_core.specs.declared.refusal.Refusal.TheVariants.{Document}
 
@@ -14,15 +13,15 @@ module _ {R : Type 0} (remaining : R → Option (List ℕ)) (broken : R → Bool
   abbrev pub AnswersInput : (List ℕ → List ℕ → ℕ → Type 0) → R → R → List ℕ → ℕ → Type 0
   AnswersInput answers old new text answered = (input : List ℕ) × ReadsWhole broken remaining old new input × answers input text answered
 
-  -- why a command is refused: by its words, and then nothing was read; or else for the reading, or for what was read, where memory may run out too
+  -- why the input is refused: for the reading, or for what was read, where memory may run out too
+  abbrev pub FailsInput : (List ℕ → DocFault → Type 0) → R → R → DocFault → Type 0
+  FailsInput refuses old new fault = IsReadFault broken remaining old new fault ⊎ ((input : List ℕ) × ReadsWhole broken remaining old new input × OrMemory no_memory (refuses input) fault)
+
+  -- why a command is refused: by its words, and then nothing was read; or else for its input
   abbrev pub RefusesInput : Type 0 → (Refusal → Type 0) → (List ℕ → DocFault → Type 0) → R → R → Refusal → Type 0
-  RefusesInput fits bars refuses old new (Document fault) = fits × (IsReadFault broken remaining old new fault ⊎ ((input : List ℕ) × ReadsWhole broken remaining old new input × OrMemory no_memory (refuses input) fault))
+  RefusesInput fits bars refuses old new (Document fault) = fits × FailsInput refuses old new fault
   RefusesInput fits bars refuses old new refusal = bars refusal × (new ≡ old)
 
   -- the whole input was read, and is this site
   abbrev pub ReadsSite : R → R → SiteState → Type 0
   ReadsSite old new site = (input : List ℕ) × ReadsWhole broken remaining old new input × ReadsAsSite input site
-
-  -- why it is not: for the reading, or for what was read
-  abbrev pub FailsSite : R → R → DocFault → Type 0
-  FailsSite old new fault = IsReadFault broken remaining old new fault ⊎ ((input : List ℕ) × ReadsWhole broken remaining old new input × OrMemory no_memory (RefusesOnly input) fault)

@@ -13,6 +13,7 @@ pub(crate) fn two_documents(input: &[u8]) -> (&[u8], &[u8])
     }
 }
 
+/// The place of the first LF.
 fn first_line_feed(input: &[u8]) -> Option<usize>
     ensures { result ≡ position (λ byte. byte == 10) input.now }
 {

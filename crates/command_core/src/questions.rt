@@ -3,8 +3,9 @@ ghost use Rattle.std.specs.Prelude.{◌≡◌, false, map, MatchResult};
 ghost use Rattle.front_core.specs.Fields.{field_text};
 ghost use Rattle.command_core.specs.Acts.{Performs};
 ghost use Rattle.command_core.specs.AskWords.{PickWords};
+ghost use Rattle.command_core.specs.Documents.{RefusesOnly};
 ghost use Rattle.command_core.specs.Picks.{FailsPick, IsPick, pick_outcome};
-ghost use Rattle.command_core.specs.Reading.{ReadsSite, FailsSite};
+ghost use Rattle.command_core.specs.Reading.{FailsInput, ReadsSite};
 ghost use Rattle.command_core.specs.Status.{answer_status};
 ghost use Rattle.command_core.specs.TaskWords.{Bundle, Filter as FilterTask, Lookup as LookupTask, Missing};
 ghost use Rattle.command_core.specs.Values.{preference_values};
@@ -103,7 +104,7 @@ pub(crate) fn bundle<R: Source>(
 /// The site of the input.
 fn read_input<R: Source>(alloc: Global, reader: &mut R) -> Result<Site, DocFault>
     requires { R.failed reader.old ≡ false }
-    ensures { MatchResult result (ReadsSite R.remaining R.failed reader.old reader.new) (FailsSite R.remaining R.failed reader.old reader.new) }
+    ensures { MatchResult result (ReadsSite R.remaining R.failed reader.old reader.new) (FailsInput R.remaining R.failed RefusesOnly reader.old reader.new) }
 {
     let input = read_all(alloc, reader)?;
     read_site(alloc, input.bytes())

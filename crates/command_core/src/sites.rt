@@ -43,6 +43,7 @@ pub(crate) fn sync<R: Source, W: Sink, F: Sink>(
     }
 }
 
+/// Both sites of the input after their sync.
 fn synced<R: Source>(alloc: Global, reader: &mut R) -> Result<(Doc, Doc), Refusal>
     requires { R.failed reader.old ≡ false }
     ensures { MatchResult result

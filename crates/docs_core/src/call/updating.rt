@@ -48,7 +48,8 @@ pub fn update_document(
     let old = langmaps_of_document(alloc, 2, old)?;
     let new = langmaps_of_document(alloc, 3, new)?;
     update(alloc, &mut site, now, &old, &new)?;
-    drop((old, new));
+    drop(old);
+    drop(new);
     let doc = write_site(alloc, &site)?;
     Ok(doc)
 }

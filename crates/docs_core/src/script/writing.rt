@@ -31,6 +31,7 @@ pub fn write_script(alloc: Global, script: &Script) -> Result<Doc, DocFault>
     }
 }
 
+// The document of a script, or the refusal of its first step that no document can have.
 fn script_document(alloc: Global, script: &Script) -> Result<Doc, DocCause>
     ensures ok { IfOk result (λ doc. ReadsAsScript doc script.now) }
     ensures err { IfErr result (RefusesWriting script.now.steps) }
