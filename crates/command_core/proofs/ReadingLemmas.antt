@@ -1,5 +1,5 @@
 -- From the site that is read of an input to what a command reads.
-use Rattle.std.proofs.Common.{ℕ, List, Bool, Option, Result, Ok, Err, inr}
+use Rattle.std.proofs.Common.{ℕ, List, Bool, Option, Result, Ok, Err, inl, inr, refl}
 use Rattle.std.specs.Prelude.{MatchResult}
 use Rattle.cata_core.specs.Sites.{SiteState}
 use Rattle.docs_core.specs.Checks.{OrMemory}
@@ -15,3 +15,7 @@ module _ {R : Type 0} (remaining : R → Option (List ℕ)) (broken : R → Bool
       → MatchResult read (ReadsSite remaining broken old new) (FailsInput remaining broken RefusesOnly old new)
   site_read (Ok site) old new input whole h = (input, whole, h)
   site_read (Err fault) old new input whole h = inr (input, whole, h)
+
+  -- memory ended after the site was read
+  pub memory_ended : (site : SiteState) (old new : R) → ReadsSite remaining broken old new site → FailsInput remaining broken RefusesOnly old new no_memory
+  memory_ended site old new h = inr (h.0, h.1, inl refl)

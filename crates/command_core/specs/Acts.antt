@@ -5,21 +5,22 @@ use Rattle.cata_core.specs.Entries.{Entries}
 use Rattle.cata_core.specs.Sites.{SiteState}
 use Rattle.cell_core.specs.Labels.{IsLabel}
 use Rattle.cell_core.specs.MessageIds.{IsMessageId}
-use Rattle.cell_core.specs.Refusals.{RefusesId, RefusesName}
+use Rattle.cell_core.specs.Refusals.{RefusesName}
 use Rattle.cell_core.specs.SiteNames.{IsSiteName}
-use Rattle.docs_core.specs.Faults as doc
 use Rattle.docs_core.specs.Calls as call
 use Rattle.docs_core.specs.Documents.{site_text}
 use Rattle.docs_core.specs.ReadsAs.{ReadsAsSite}
 use Rattle.docs_core.specs.Fields.{IsSpelled}
 use Rattle.docs_core.specs.Missing as missing
 use Rattle.docs_core.specs.Replays.{RefusesReplay, Replays}
-use Rattle.docs_core.specs.declared.fault.DocCause.TheVariants.{NoMemory}
 use Rattle.docs_core.specs.declared.fault.DocFault.{DocFault}
 use Rattle.lang_core.specs.Lang.{RefusesLang, SpellsLang}
 use Rattle.front_core.specs.Questions.{AreBundleMaps, HasFilter, HasLookup, IsFilterLines, IsLookupLine, RefusesFilter, RefusesLookup}
 use Rattle.front_core.specs.Preferences.{HasPreferences, RefusesPreferences}
+use Rattle.front_core.specs.Faults.{IsOf, cell_fault, language_fault}
 use Rattle.front_core.specs.declared.answer.Answer.{Answer}
+use Rattle.front_core.specs.declared.fault.FrontFault.{FrontFault}
+use Rattle.front_core.specs.declared.fault.FrontFault.TheVariants.{NoMemory}
 use Rattle.command_core.specs.AskWords.{FilterWords, LookupWords}
 use Rattle.command_core.specs.Documents.{IsDocument, RefusesDocuments, RefusesOnly}
 use Rattle.command_core.specs.EditWords.{EditWords}
@@ -33,8 +34,6 @@ use Rattle.command_core.specs.TaskWords.{GivesTask, TaskWords}
 use Rattle.command_core.specs.TaskWords as task
 use Rattle.command_core.specs.Parsing.{BarsNone, NoWords, RefusesKey, RefusesLabelWords}
 use Rattle.command_core.specs.declared.documents.DocumentTask.{DocumentTask}
-use Rattle.command_core.specs.declared.refusal.Refusal.{Refusal}
-use Rattle.command_core.specs.declared.refusal.Refusal.TheVariants as refusal
 
 -- ---- `new`
 
@@ -42,10 +41,8 @@ use Rattle.command_core.specs.declared.refusal.Refusal.TheVariants as refusal
 abbrev pub IsNew : Text → List ℕ → ℕ → Type 0
 IsNew name text answered = IsSiteName name × (text ≡ site_text (record { name = name; cells = [] })) × (answered ≡ 0)
 
-abbrev pub BarsNew : Text → Refusal → Type 0
-BarsNew name (refusal.Cell fault) = RefusesName name fault
-BarsNew name (refusal.Document fault) = IsSiteName name × (fault ≡ doc.of_no_document NoMemory)
-BarsNew name _ = ⊥
+abbrev pub BarsNew : Text → FrontFault → Type 0
+BarsNew name fault = IsOf cell_fault (RefusesName name) fault ⊎ (IsSiteName name × (fault ≡ NoMemory))
 
 -- ---- `put` and `delete`
 
@@ -58,9 +55,8 @@ abbrev pub FitsEdit : EditWords → Type 0
 FitsEdit words = IsMessageId words.id × IsSpelled words.lang × FitTexts words.texts
 
 -- the id, the language and then the texts
-abbrev pub BarsEdit : EditWords → Refusal → Type 0
-BarsEdit words (refusal.Cell fault) = RefusesId words.id fault ⊎ (IsMessageId words.id × IsSpelled words.lang × RefusesLabelWords words.texts fault)
-BarsEdit words refused = RefusesKey words.id words.lang refused
+abbrev pub BarsEdit : EditWords → FrontFault → Type 0
+BarsEdit words fault = RefusesKey words.id words.lang fault ⊎ (IsMessageId words.id × IsSpelled words.lang × IsOf cell_fault (RefusesLabelWords words.texts) fault)
 
 abbrev pub IsEdit : EditWords → List ℕ → List ℕ → ℕ → Type 0
 IsEdit words input text answered = (lang : List ℕ) × FitsEdit words × SpellsLang words.lang lang × call.IsEdited input words.now (words.id, lang) words.texts text × (answered ≡ 0)
@@ -89,9 +85,8 @@ AnswersSite Is input text answered = (site : SiteState) × (answer : Answer) × 
 abbrev pub FitsFilter : FilterWords → Type 0
 FitsFilter words = HasFilter words.id words.field
 
-abbrev pub BarsFilter : FilterWords → Refusal → Type 0
-BarsFilter words (refusal.Question fault) = RefusesFilter words.id words.field fault
-BarsFilter words _ = ⊥
+abbrev pub BarsFilter : FilterWords → FrontFault → Type 0
+BarsFilter words = RefusesFilter words.id words.field
 
 abbrev pub IsFilter : FilterWords → List ℕ → List ℕ → ℕ → Type 0
 IsFilter words = AnswersSite (λ cells. IsFilterLines cells words.id words.field)
@@ -99,9 +94,8 @@ IsFilter words = AnswersSite (λ cells. IsFilterLines cells words.id words.field
 abbrev pub FitsLookup : LookupWords → Type 0
 FitsLookup words = HasLookup words.id words.preferences.field words.preferences.default
 
-abbrev pub BarsLookup : LookupWords → Refusal → Type 0
-BarsLookup words (refusal.Question fault) = RefusesLookup words.id words.preferences.field words.preferences.default fault
-BarsLookup words _ = ⊥
+abbrev pub BarsLookup : LookupWords → FrontFault → Type 0
+BarsLookup words = RefusesLookup words.id words.preferences.field words.preferences.default
 
 abbrev pub IsLookup : LookupWords → List ℕ → List ℕ → ℕ → Type 0
 IsLookup words = AnswersSite (λ cells. IsLookupLine cells words.id words.preferences.field words.preferences.default)
@@ -111,9 +105,8 @@ IsLookup words = AnswersSite (λ cells. IsLookupLine cells words.id words.prefer
 abbrev pub FitsBundle : PreferenceWords → Type 0
 FitsBundle words = HasPreferences words.field words.default
 
-abbrev pub BarsBundle : PreferenceWords → Refusal → Type 0
-BarsBundle words (refusal.Question fault) = RefusesPreferences words.field words.default fault
-BarsBundle words _ = ⊥
+abbrev pub BarsBundle : PreferenceWords → FrontFault → Type 0
+BarsBundle words = RefusesPreferences words.field words.default
 
 abbrev pub IsBundle : PreferenceWords → List ℕ → List ℕ → ℕ → Type 0
 IsBundle words = AnswersSite (λ cells. AreBundleMaps cells words.field words.default)
@@ -121,9 +114,8 @@ IsBundle words = AnswersSite (λ cells. AreBundleMaps cells words.field words.de
 abbrev pub FitsMissing : Text → Type 0
 FitsMissing word = IsSpelled word
 
-abbrev pub BarsMissing : Text → Refusal → Type 0
-BarsMissing word (refusal.Lang fault) = RefusesLang word fault
-BarsMissing word _ = ⊥
+abbrev pub BarsMissing : Text → FrontFault → Type 0
+BarsMissing word = IsOf language_fault (RefusesLang word)
 
 abbrev pub IsMissing : Text → List ℕ → List ℕ → ℕ → Type 0
 IsMissing word input text answered = (lang : List ℕ) × (found : Bool) × SpellsLang word lang × missing.IsMissing input lang text found × (answered ≡ (if found then 0 else 1))
@@ -157,7 +149,7 @@ module _ {R : Type 0} (remaining : R → Option (List ℕ)) (broken : R → Bool
   Answers task.Replay old new text answered = AnswersInput remaining broken IsReplay old new text answered
 
   -- why it is refused
-  abbrev pub Refuses : TaskWords → R → R → Refusal → Type 0
+  abbrev pub Refuses : TaskWords → R → R → FrontFault → Type 0
   Refuses (task.Pick words) old new refused = (new ≡ old) × BarsPick words refused
   Refuses (task.New name) old new refused = (new ≡ old) × BarsNew name refused
   Refuses (task.Edit words) old new refused = RefusesInput remaining broken (FitsEdit words) (BarsEdit words) (RefusesEdit words) old new refused
@@ -170,7 +162,7 @@ module _ {R : Type 0} (remaining : R → Option (List ℕ)) (broken : R → Bool
   Refuses task.Replay old new refused = RefusesInput remaining broken NoWords BarsNone RefusesReplay old new refused
 
   -- it is answered by a text and the status of its outcome, or refused
-  abbrev pub Performs : TaskWords → R → R → Result Answer Refusal → Type 0
+  abbrev pub Performs : TaskWords → R → R → Result Answer FrontFault → Type 0
   Performs asked old new answered = MatchResult answered (λ answer. Answers asked old new answer.text (answer_status answer.outcome)) (Refuses asked old new)
 
 module _ {R W F : Type 0} (remaining : R → Option (List ℕ)) (broken : R → Bool) (contents : W → Option (List ℕ)) (failed : W → Bool) (lines : F → Option (List ℕ)) (closed : F → Bool) where
@@ -178,7 +170,7 @@ module _ {R W F : Type 0} (remaining : R → Option (List ℕ)) (broken : R → 
   abbrev pub Treats : TaskWords → R → R → W → W → F → F → ℕ → Type 0
   Treats asked r r' w w' f f' status =
       ((text : List ℕ) × (answered : ℕ) × Answers remaining broken asked r r' text answered × Writes contents failed lines closed text answered w w' f f' status)
-      ⊎ ((refused : Refusal) × Refuses remaining broken asked r r' refused × EndsRefused contents failed lines closed refused w w' f f' status)
+      ⊎ ((refused : FrontFault) × Refuses remaining broken asked r r' refused × EndsRefused contents failed lines closed refused w w' f f' status)
 
   -- a usage fault: nothing was read, written or told
   abbrev pub IsMisused : R → R → W → W → F → F → ℕ → Type 0

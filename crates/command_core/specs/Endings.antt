@@ -3,23 +3,28 @@ use Rattle.std.specs.Prelude.{◌≡◌, ◌⊎◌, ℕ, Bool, true, false, List
 use Rattle.std.specs.Io.KnownBytes.{Appends}
 use Rattle.docs_core.specs.Faults.{of_no_document}
 use Rattle.docs_core.specs.Sinks.{AppendsFront}
-use Rattle.docs_core.specs.declared.fault.DocCause.TheVariants.{NoMemory, WriteFault}
-use Rattle.command_core.specs.Refusals.{PrintsDocument, PrintsRefusal, number_of}
+use Rattle.docs_core.specs.declared.fault.DocCause.TheVariants.{WriteFault}
+use Rattle.front_core.specs.Faults.{number_of}
+use Rattle.front_core.specs.declared.fault.FrontFault.{FrontFault}
+use Rattle.front_core.specs.declared.fault.FrontFault.TheVariants.{Document, NoMemory}
+use Rattle.command_core.specs.FaultLine.{PrintsRefusal}
 use Rattle.command_core.specs.Status.{status_of}
-use Rattle.command_core.specs.declared.refusal.Refusal.{Refusal}
-use Rattle.command_core.specs.declared.refusal.Refusal.TheVariants.{Document}
+
+-- a write failed
+abbrev pub write_fault : FrontFault
+write_fault = Document (of_no_document WriteFault)
 
 module _ {W F : Type 0} (contents : W → Option (List ℕ)) (failed : W → Bool) (lines : F → Option (List ℕ)) (closed : F → Bool) where
   -- the whole text was written and nothing told, or a front of it with a fault of the sink, which was told
   abbrev pub Writes : List ℕ → ℕ → W → W → F → F → ℕ → Type 0
   Writes text answered old new faults faults' status =
       ((status ≡ answered) × Appends (contents old) (contents new) text × (failed new ≡ false) × (faults' ≡ faults))
-      ⊎ ((status ≡ 4) × AppendsFront (contents old) (contents new) text × (failed new ≡ true) × PrintsDocument lines closed (of_no_document WriteFault) faults faults')
+      ⊎ ((status ≡ 4) × AppendsFront (contents old) (contents new) text × (failed new ≡ true) × PrintsRefusal lines closed write_fault faults faults')
 
   -- nothing was written, and the refusal was told
-  abbrev pub EndsRefused : Refusal → W → W → F → F → ℕ → Type 0
-  EndsRefused refused old new faults faults' status = (status ≡ status_of (number_of refused)) × (new ≡ old) × PrintsRefusal lines closed refused faults faults'
+  abbrev pub EndsRefused : FrontFault → W → W → F → F → ℕ → Type 0
+  EndsRefused fault old new faults faults' status = (status ≡ status_of (number_of fault)) × (new ≡ old) × PrintsRefusal lines closed fault faults faults'
 
   -- the same where memory ran out
   abbrev pub EndsForMemory : W → W → F → F → ℕ → Type 0
-  EndsForMemory = EndsRefused (Document (of_no_document NoMemory))
+  EndsForMemory = EndsRefused NoMemory

@@ -3,6 +3,8 @@ use Rattle.std.specs.Prelude.{◌≡◌, ◌==◌, ◌≤◌, ℕ, Bool, false, 
 use Rattle.std.specs.Fmt.Cut.{IsTextOrCut}
 use Rattle.std.specs.Io.KnownBytes.{Appends}
 use Rattle.docs_core.specs.Sinks.{AppendsFront}
+use Rattle.front_core.specs.Faults.{document_of, number_of, row_of}
+use Rattle.front_core.specs.declared.fault.FrontFault.{FrontFault}
 
 -- a word and a number behind it, where there is one
 abbrev pub counted : List ℕ → Option ℕ → List ℕ
@@ -30,3 +32,7 @@ module _ {S : Type 0} (contents : S → Option (List ℕ)) (failed : S → Bool)
   abbrev pub PrintsFault : ℕ → Option (List ℕ) → Option ℕ → ℕ → S → S → Type 0
   PrintsFault number output row document old new = MatchBool (failed old) (new ≡ old)
       ((text : List ℕ) × Shows output text × PrintsLine (fault_line number text row document) old new)
+
+  -- the line of a refusal, with the row and the document that it means
+  abbrev pub PrintsRefusal : FrontFault → S → S → Type 0
+  PrintsRefusal fault = PrintsFault (number_of fault) None (row_of fault) (document_of fault)

@@ -12,7 +12,6 @@ pub mod Parsing
 pub mod Picks
 pub mod Program
 pub mod Reading
-pub mod Refusals
 pub mod Status
 pub mod TaskWords
 pub mod Values

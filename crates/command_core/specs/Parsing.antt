@@ -1,5 +1,5 @@
 -- The product's reading of a command's words (own rules).
-use Rattle.std.specs.Prelude.{◌≡◌, List, Option, None, Some}
+use Rattle.std.specs.Prelude.{◌≡◌, ◌⊎◌, List, Option, None, Some}
 use Rattle.clap.specs.Words.{Text}
 use Rattle.cell_core.specs.Labels.{IsLabel}
 use Rattle.cell_core.specs.MessageIds.{IsMessageId}
@@ -7,15 +7,15 @@ use Rattle.cell_core.specs.Refusals.{RefusesId, RefusesTexts}
 use Rattle.cell_core.specs.declared.fault.CellFault.{CellFault}
 use Rattle.cell_core.specs.declared.fault.CellFault.TheVariants as cell
 use Rattle.lang_core.specs.Lang.{SpellsLang, RefusesLang}
-use Rattle.command_core.specs.declared.refusal.Refusal.{Refusal}
-use Rattle.command_core.specs.declared.refusal.Refusal.TheVariants as refusal
+use Rattle.front_core.specs.Faults.{IsOf, cell_fault, language_fault}
+use Rattle.front_core.specs.declared.fault.FrontFault.{FrontFault}
 use Rattle.command_core.specs.declared.parsing.Key.{Key}
 
 -- a command without words that the product reads
 abbrev pub NoWords : Type 0
 NoWords = Unit {0}
 
-abbrev pub BarsNone : Refusal → Type 0
+abbrev pub BarsNone : FrontFault → Type 0
 BarsNone _ = ⊥
 
 -- the words name this id and this language
@@ -23,10 +23,8 @@ abbrev pub IsKey : Text → Text → Key → Type 0
 IsKey id lang key = IsMessageId id × (key.id ≡ id) × SpellsLang lang key.lang
 
 -- why the words name no key: the id first, then the language
-abbrev pub RefusesKey : Text → Text → Refusal → Type 0
-RefusesKey id lang (refusal.Cell fault) = RefusesId id fault
-RefusesKey id lang (refusal.Lang fault) = IsMessageId id × RefusesLang lang fault
-RefusesKey id lang _ = ⊥
+abbrev pub RefusesKey : Text → Text → FrontFault → Type 0
+RefusesKey id lang fault = IsOf cell_fault (RefusesId id) fault ⊎ (IsMessageId id × IsOf language_fault (RefusesLang lang) fault)
 
 -- the texts are this label, or there are none
 abbrev pub IsLabelOf : Option (List Text) → Option (List Text) → Type 0

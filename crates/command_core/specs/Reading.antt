@@ -5,8 +5,8 @@ use Rattle.docs_core.specs.Checks.{OrMemory}
 use Rattle.docs_core.specs.ReadsAs.{ReadsAsSite, no_memory}
 use Rattle.docs_core.specs.Sources.{IsReadFault, ReadsWhole}
 use Rattle.docs_core.specs.declared.fault.DocFault.{DocFault}
-use Rattle.command_core.specs.declared.refusal.Refusal.{Refusal}
-use Rattle.command_core.specs.declared.refusal.Refusal.TheVariants.{Document}
+use Rattle.front_core.specs.Faults.{IsOf, document_fault}
+use Rattle.front_core.specs.declared.fault.FrontFault.{FrontFault}
 
 module _ {R : Type 0} (remaining : R → Option (List ℕ)) (broken : R → Bool) where
   -- the whole input was read, and this text with this status answers it
@@ -18,9 +18,8 @@ module _ {R : Type 0} (remaining : R → Option (List ℕ)) (broken : R → Bool
   FailsInput refuses old new fault = IsReadFault broken remaining old new fault ⊎ ((input : List ℕ) × ReadsWhole broken remaining old new input × OrMemory no_memory (refuses input) fault)
 
   -- why a command is refused: by its words, and then nothing was read; or else for its input
-  abbrev pub RefusesInput : Type 0 → (Refusal → Type 0) → (List ℕ → DocFault → Type 0) → R → R → Refusal → Type 0
-  RefusesInput fits bars refuses old new (Document fault) = fits × FailsInput refuses old new fault
-  RefusesInput fits bars refuses old new refusal = bars refusal × (new ≡ old)
+  abbrev pub RefusesInput : Type 0 → (FrontFault → Type 0) → (List ℕ → DocFault → Type 0) → R → R → FrontFault → Type 0
+  RefusesInput fits bars refuses old new fault = (bars fault × (new ≡ old)) ⊎ (fits × IsOf document_fault (FailsInput refuses old new) fault)
 
   -- the whole input was read, and is this site
   abbrev pub ReadsSite : R → R → SiteState → Type 0

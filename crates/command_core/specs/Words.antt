@@ -46,14 +46,18 @@ pick_app schemes = with_rule (with_rule (with_rule (with_rule (with_rule (new_ap
 abbrev pub now_rule : Rule
 now_rule = record (new_rule (codes "now")) { long = Some (codes "now"); value_names = 1; required = true; parser = Some (Unsigned 0 18446744073709551615) }
 
+-- an option that must be given, with a value
+abbrev pub required_rule : Text → Rule
+required_rule name = record (new_rule name) { long = Some name; value_names = 1; required = true }
+
 abbrev pub site_rule : Rule
-site_rule = record (new_rule (codes "site")) { long = Some (codes "site"); value_names = 1; required = true }
+site_rule = required_rule (codes "site")
 
 abbrev pub id_rule : Rule
-id_rule = record (new_rule (codes "id")) { long = Some (codes "id"); value_names = 1; required = true }
+id_rule = required_rule (codes "id")
 
 abbrev pub lang_rule : Rule
-lang_rule = record (new_rule (codes "lang")) { long = Some (codes "lang"); value_names = 1; required = true }
+lang_rule = required_rule (codes "lang")
 
 -- `new --site NAME`
 abbrev pub new_site_app : App

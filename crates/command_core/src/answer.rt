@@ -5,20 +5,19 @@ ghost use Rattle.command_core.specs.Status.{answer_status};
 
 use crate::fault_line::refuse;
 use crate::output::print;
-use crate::refusal::Refusal;
 use crate::status;
 use docs_core::Sink;
-use front_core::Answer;
+use front_core::{Answer, FrontFault};
 
 /// What a command answers, or why it is refused.
-pub(crate) type Answered = Result<Answer, Refusal>;
+pub(crate) type Answered = Result<Answer, FrontFault>;
 
 /// Writes the answer or reports the refusal, and gives the status.
 pub(crate) fn finish<W: Sink, F: Sink>(answered: Answered, writer: &mut W, faults: &mut F) -> u8
     requires { W.failed writer.old ≡ false }
     ensures ends { MatchResult answered
         (λ answer. Writes W.contents W.failed F.contents F.failed answer.text (answer_status answer.outcome) writer.old writer.new faults.old faults.new result)
-        (λ refusal. EndsRefused W.contents W.failed F.contents F.failed refusal writer.old writer.new faults.old faults.new result) }
+        (λ fault. EndsRefused W.contents W.failed F.contents F.failed fault writer.old writer.new faults.old faults.new result) }
 {
     match answered {
         Ok(answer) => print(
@@ -27,6 +26,6 @@ pub(crate) fn finish<W: Sink, F: Sink>(answered: Answered, writer: &mut W, fault
             writer,
             faults,
         ),
-        Err(refusal) => refuse(faults, refusal),
+        Err(fault) => refuse(faults, fault),
     }
 }

@@ -1,5 +1,5 @@
 //! The arguments of the commands, each with its rule.
-ghost use Rattle.command_core.specs.Words.{IsArgument, default_rule, field_rule, id_rule, lang_rule, lenient_rule, now_rule, scheme_rule, site_rule, words_rule};
+ghost use Rattle.command_core.specs.Words.{IsArgument, default_rule, field_rule, id_rule, lang_rule, lenient_rule, now_rule, required_rule, scheme_rule, site_rule, words_rule};
 
 use clap::{Arg, ArgAction, value_parser};
 use std::alloc::Global;
@@ -43,33 +43,31 @@ pub(crate) fn now<'a>(alloc: Global) -> Arg<'a>
 pub(crate) fn site<'a>(alloc: Global) -> Arg<'a>
     ensures { IsArgument site_rule result }
 {
-    Arg::new(alloc, "site")
-        .long("site")
-        .value_name("NAME")
-        .help("The site's name: 1 to 16 of a to z, 0 to 9 and \"-\"")
-        .required(true)
+    required(
+        alloc,
+        "site",
+        "NAME",
+        "The site's name: 1 to 16 of a to z, 0 to 9 and \"-\"",
+    )
 }
 
 /// `--id`, the id of a message.
 pub(crate) fn id<'a>(alloc: Global) -> Arg<'a>
     ensures { IsArgument id_rule result }
 {
-    Arg::new(alloc, "id")
-        .long("id")
-        .value_name("ID")
-        .help("The message: 1 to 128 bytes, with no control character and no \"@\" first")
-        .required(true)
+    required(
+        alloc,
+        "id",
+        "ID",
+        "The message: 1 to 128 bytes, with no control character and no \"@\" first",
+    )
 }
 
 /// `--lang`, the language of a label.
 pub(crate) fn lang<'a>(alloc: Global) -> Arg<'a>
     ensures { IsArgument lang_rule result }
 {
-    Arg::new(alloc, "lang")
-        .long("lang")
-        .value_name("LANG")
-        .help("A language tag, or @none")
-        .required(true)
+    required(alloc, "lang", "LANG", "A language tag, or @none")
 }
 
 /// `--default`, the language that a lookup or a pick falls back to.
@@ -104,4 +102,15 @@ pub(crate) fn words<'a>(alloc: Global, name: &'a str, value: &'a str, help: &'a 
         .required(true)
         .num_args(1..)
         .action(ArgAction::Append)
+}
+
+/// An option that must be given, with a value.
+fn required<'a>(alloc: Global, name: &'a str, value: &'a str, help: &'a str) -> Arg<'a>
+    ensures { IsArgument (required_rule name.entry.now) result }
+{
+    Arg::new(alloc, name)
+        .long(name)
+        .value_name(value)
+        .help(help)
+        .required(true)
 }

@@ -6,12 +6,13 @@ ghost use Rattle.command_core.specs.TaskWords.{Replay};
 ghost use Rattle.command_core.specs.Values.{task_values};
 
 use crate::answer::finish;
-use crate::fault_line::refuse_document;
+use crate::fault_line::refuse;
 use crate::sites::sync;
 use crate::status;
 use crate::task::{Task, answer, read};
 use clap::ArgMatches;
 use docs_core::{Sink, Source};
+use front_core::FrontFault;
 use std::alloc::Global;
 
 /// Does what the matches say, and gives the status. Matches without a command of the program, or
@@ -66,6 +67,6 @@ fn replay<R: Source, W: Sink, F: Sink>(
 {
     match docs_core::replay(alloc, reader, writer) {
         Ok(()) => status::ANSWERED,
-        Err(fault) => refuse_document(faults, fault),
+        Err(fault) => refuse(faults, FrontFault::from(fault)),
     }
 }

@@ -1,18 +1,16 @@
 //! The line that reports a refusal, and the status that goes with it. The line takes no memory, it is
 //! one write, and where its writer fails the rest of it is left out.
-ghost use Rattle.std.specs.Prelude.{◌≡◌, ◌+◌, ◌≤◌, ◌++◌, None, length};
+ghost use Rattle.std.specs.Prelude.{◌≡◌, ◌+◌, ◌≤◌, ◌++◌, length};
 ghost use Rattle.arrayvec.specs.ArrayString.{array_string_len};
-ghost use Rattle.docs_core.specs.Faults.{number_of, of_no_document};
-ghost use Rattle.docs_core.specs.declared.fault.DocCause.TheVariants.{NoMemory};
-ghost use Rattle.command_core.specs.FaultLine.{PrintsFault, counted, document_meant, fault_line};
-ghost use Rattle.command_core.specs.Refusals.{PrintsDocument, PrintsRefusal};
-ghost use Rattle.command_core.specs.Refusals as refusals;
+ghost use Rattle.front_core.specs.Faults.{number_of};
+ghost use Rattle.front_core.specs.declared.fault.FrontFault.TheVariants.{NoMemory};
+ghost use Rattle.command_core.specs.FaultLine.{PrintsFault, PrintsRefusal, counted, document_meant, fault_line};
 ghost use Rattle.command_core.specs.Status.{status_of};
 
-use crate::refusal::Refusal;
 use crate::status;
 use arrayvec::ArrayString;
-use docs_core::{DocCause, DocFault, Sink, write_out};
+use docs_core::{Sink, write_out};
+use front_core::FrontFault;
 use itoa::Buffer;
 use std::fmt::{Display, InlineText};
 
@@ -22,45 +20,23 @@ const TEXT_BYTES: usize = 160;
 /// Room for the text and for all that stands around it.
 const LINE_BYTES: usize = 320;
 
-/// Reports a refusal of the command's words, and gives its status. A text of more than 160 bytes is
-/// cut and ends in dots.
-pub fn refuse_words<S: Sink, T: Display>(faults: &mut S, number: u8, text: &T) -> u8
-    ensures status { result ≡ status_of number }
-    ensures reported { PrintsFault S.contents S.failed number (T.output text.now) None 0 faults.old faults.new }
+/// Reports a refusal, and gives its status: `refused N: TEXT`, then ` in row R` and ` of document D`
+/// where they are meant. A text of more than 160 bytes would be cut and end in dots.
+pub fn refuse<S: Sink>(faults: &mut S, fault: FrontFault) -> u8
+    ensures status { result ≡ status_of (number_of fault) }
+    ensures reported { PrintsRefusal S.contents S.failed fault faults.old faults.new }
 {
-    report(faults, number, text, None, 0);
+    let number = fault.number();
+    report(faults, number, &fault, fault.row(), fault.document());
     status::of_refusal(number)
-}
-
-/// Reports a refusal of a document or a stream, and gives its status.
-pub fn refuse_document<S: Sink>(faults: &mut S, fault: DocFault) -> u8
-    ensures status { result ≡ status_of (number_of fault.cause) }
-    ensures reported { PrintsDocument S.contents S.failed fault faults.old faults.new }
-{
-    let cause = fault.cause;
-    report(faults, cause.number(), &cause, cause.row(), fault.document);
-    status::of_refusal(cause.number())
 }
 
 /// Reports that memory ended, and gives the status.
 pub fn refuse_for_memory<S: Sink>(faults: &mut S) -> u8
     ensures status { result ≡ 5 }
-    ensures reported { PrintsDocument S.contents S.failed (of_no_document NoMemory) faults.old faults.new }
+    ensures reported { PrintsRefusal S.contents S.failed NoMemory faults.old faults.new }
 {
-    refuse_document(faults, DocFault::of_no_document(DocCause::NoMemory))
-}
-
-/// Reports a refusal, and gives its status.
-pub(crate) fn refuse<S: Sink>(faults: &mut S, refusal: Refusal) -> u8
-    ensures status { result ≡ status_of (refusals.number_of refusal) }
-    ensures reported { PrintsRefusal S.contents S.failed refusal faults.old faults.new }
-{
-    match refusal {
-        Refusal::Lang(fault) => refuse_words(faults, fault.number(), &fault),
-        Refusal::Question(fault) => refuse_words(faults, fault.number(), &fault),
-        Refusal::Cell(fault) => refuse_words(faults, fault.number(), &fault),
-        Refusal::Document(fault) => refuse_document(faults, fault),
-    }
+    refuse(faults, FrontFault::NoMemory)
 }
 
 /// Writes the line at once, so that the line of another process can't come between.

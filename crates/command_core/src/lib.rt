@@ -2,7 +2,7 @@
 //! [`Source`](docs_core::Source) to read and two [`Sink`](docs_core::Sink)s to write, and gives the
 //! status. [`act`] is all of it that follows clap. Nothing else is read or written.
 //!
-//! [`refuse_document`], [`refuse_words`] and [`refuse_for_memory`] write the line of a refusal.
+//! [`refuse`] and [`refuse_for_memory`] write the line of a refusal.
 #![tactic(auto)]
 
 mod answer;
@@ -18,11 +18,10 @@ mod output;
 mod parsing;
 mod program;
 mod questions;
-mod refusal;
 mod sites;
 pub mod status;
 mod task;
 
 pub use dispatch::act;
-pub use fault_line::{refuse_document, refuse_for_memory, refuse_words};
+pub use fault_line::{refuse, refuse_for_memory};
 pub use program::run;

@@ -6,9 +6,10 @@ ghost use Rattle.docs_core.specs.declared.fault.DocCause.TheVariants.{WriteFault
 ghost use Rattle.docs_core.specs.Sinks.{AppendsFront};
 ghost use Rattle.command_core.specs.Endings.{Writes};
 
-use crate::fault_line::refuse_document;
+use crate::fault_line::refuse;
 use crate::status;
 use docs_core::{Doc, DocFault, Sink, write_out};
+use front_core::FrontFault;
 
 /// Writes the whole text and gives the status, or that of the fault of the output.
 pub(crate) fn print<W: Sink, F: Sink>(text: &Doc, status: u8, writer: &mut W, faults: &mut F) -> u8
@@ -17,7 +18,7 @@ pub(crate) fn print<W: Sink, F: Sink>(text: &Doc, status: u8, writer: &mut W, fa
 {
     match write_out(writer, text.bytes()) {
         Ok(()) => status,
-        Err(fault) => refuse_document(faults, fault),
+        Err(fault) => refuse(faults, FrontFault::from(fault)),
     }
 }
 
@@ -33,7 +34,7 @@ pub(crate) fn print_both<W: Sink, F: Sink>(
 {
     match write_both(first, second, writer) {
         Ok(()) => status::ANSWERED,
-        Err(fault) => refuse_document(faults, fault),
+        Err(fault) => refuse(faults, FrontFault::from(fault)),
     }
 }
 

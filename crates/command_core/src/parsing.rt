@@ -4,8 +4,8 @@ ghost use Rattle.cell_core.specs.Labels.{texts_of};
 ghost use Rattle.lang_core.specs.Lang.{SpellsLang, RefusesLang};
 ghost use Rattle.command_core.specs.Parsing.{IsKey, RefusesKey, IsLabelOf, RefusesLabelWords};
 
-use crate::refusal::Refusal;
 use cell_core::{CellFault, Label, MessageId};
+use front_core::FrontFault;
 use lang_core::{Lang, LangFault};
 use std::alloc::{AllocError, Global};
 
@@ -17,7 +17,7 @@ pub(crate) struct Key {
 }
 
 /// The key of these words: the id is read before the language.
-pub(crate) fn read_key(alloc: Global, id: &str, lang: &str) -> Result<Key, Refusal>
+pub(crate) fn read_key(alloc: Global, id: &str, lang: &str) -> Result<Key, FrontFault>
     ensures { MatchResult result (IsKey id.now lang.now) (RefusesKey id.now lang.now) }
 {
     let id = MessageId::new(alloc, id)?;

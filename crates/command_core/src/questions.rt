@@ -1,12 +1,9 @@
-//! The commands that answer questions: `pick`, `missing`, `filter`, `lookup` and `bundle`.
-ghost use Rattle.std.specs.Prelude.{◌≡◌, false, map, MatchResult};
+//! The commands that ask a site: `missing`, `filter`, `lookup` and `bundle`.
+ghost use Rattle.std.specs.Prelude.{◌≡◌, false, MatchResult};
 ghost use Rattle.front_core.specs.Fields.{field_text};
 ghost use Rattle.command_core.specs.Acts.{Performs};
-ghost use Rattle.command_core.specs.AskWords.{PickWords};
 ghost use Rattle.command_core.specs.Documents.{RefusesOnly};
-ghost use Rattle.command_core.specs.Picks.{FailsPick, IsPick, pick_outcome};
 ghost use Rattle.command_core.specs.Reading.{FailsInput, ReadsSite};
-ghost use Rattle.command_core.specs.Status.{answer_status};
 ghost use Rattle.command_core.specs.TaskWords.{Bundle, Filter as FilterTask, Lookup as LookupTask, Missing};
 ghost use Rattle.command_core.specs.Values.{preference_values};
 
@@ -15,33 +12,8 @@ use crate::matches::PreferenceValues;
 use crate::parsing::read_lang;
 use cata_core::Site;
 use docs_core::{DocFault, Source, missing_document, read_all, read_site};
-use front_core::words::{Finding, find, line_of};
-use front_core::{Answer, Field, Filter, FrontFault, Lookup, Outcome, Preferences};
+use front_core::{Answer, Field, Filter, Lookup, Outcome, Preferences};
 use std::alloc::Global;
-
-/// The pick line.
-pub(crate) fn pick(
-    alloc: Global,
-    preferences: PreferenceValues<'_>,
-    tags: &[&str],
-) -> Result<Answer, FrontFault>
-    ensures { let words : PickWords = record { preferences = preference_values preferences.entry; tags = map (λ s. s.now) tags.now } in
-        MatchResult result (λ answer. IsPick words answer.text (answer_status answer.outcome)) (FailsPick words) }
-{
-    let found = find(alloc, preferences.field, preferences.default, tags)?;
-    let text = line_of(alloc, &found)?;
-    Ok(Answer::new(text, outcome_of(&found)))
-}
-
-/// Whether a pick finds anything.
-fn outcome_of(found: &Finding) -> Outcome
-    ensures { result ≡ pick_outcome found.now }
-{
-    match found {
-        Finding::Matched(_) | Finding::Default(_) => Outcome::Found,
-        Finding::Nothing => Outcome::Nothing,
-    }
-}
 
 /// The messages of the site of the input that have no label of the language.
 pub(crate) fn missing<R: Source>(alloc: Global, word: &str, reader: &mut R) -> Answered

@@ -10,11 +10,10 @@ use crate::answer::Answered;
 use crate::fault_line::refuse;
 use crate::input::two_documents;
 use crate::output::print_both;
-use crate::refusal::Refusal;
 use cata_core::Site;
 use cell_core::SiteName;
 use docs_core::{Doc, Sink, Source, read_all, sync_documents, write_site};
-use front_core::{Answer, Outcome};
+use front_core::{Answer, FrontFault, Outcome};
 use std::alloc::Global;
 
 /// The document of the empty site of this name.
@@ -39,12 +38,12 @@ pub(crate) fn sync<R: Source, W: Sink, F: Sink>(
 {
     match synced(alloc, reader) {
         Ok((first, second)) => print_both(&first, &second, writer, faults),
-        Err(refusal) => refuse(faults, refusal),
+        Err(fault) => refuse(faults, fault),
     }
 }
 
 /// Both sites of the input after their sync.
-fn synced<R: Source>(alloc: Global, reader: &mut R) -> Result<(Doc, Doc), Refusal>
+fn synced<R: Source>(alloc: Global, reader: &mut R) -> Result<(Doc, Doc), FrontFault>
     requires { R.failed reader.old ≡ false }
     ensures { MatchResult result
         (λ texts. AnswersInput R.remaining R.failed IsSync reader.old reader.new (texts.0 ++ texts.1) 0)

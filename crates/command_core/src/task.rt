@@ -16,6 +16,7 @@ use crate::{documents, edits, questions, sites};
 use clap::ArgMatches;
 use docs_core::Source;
 use front_core::Field;
+use front_core::words::pick_answer;
 use std::alloc::Global;
 
 /// A command of the program, with what its words ask.
@@ -101,7 +102,9 @@ pub(crate) fn answer<R: Source>(alloc: Global, task: Task<'_, '_>, reader: &mut 
     ensures { Performs R.remaining R.failed (task_values task.entry) reader.old reader.new result }
 {
     match task {
-        Task::Pick(preferences, tags) => Ok(questions::pick(alloc, preferences, tags)?),
+        Task::Pick(preferences, tags) => {
+            pick_answer(alloc, preferences.field, preferences.default, tags)
+        }
         Task::New(name) => sites::new_site(alloc, name),
         Task::Edit(values) => edits::answer_of(alloc, values, reader),
         Task::Document(task) => documents::answer_of(alloc, task, reader),

@@ -16,10 +16,10 @@ use Rattle.docs_core.specs.declared.fault.DocFault.{DocFault}
 use Rattle.docs_core.specs.declared.fault.FieldFault.{FieldFault}
 use Rattle.docs_core.specs.declared.fault.FieldFault.TheVariants as row
 use Rattle.front_core.specs.declared.fault.FrontFault.{FrontFault}
-use Rattle.front_core.specs.declared.fault.FrontFault.TheVariants.{Id, Language, Field, Document, NoMemory}
+use Rattle.front_core.specs.declared.fault.FrontFault.TheVariants.{Cell, Language, Field, Document, NoMemory}
 
 abbrev pub number_of : FrontFault → ℕ
-number_of (Id fault) = cell_number fault
+number_of (Cell fault) = cell_number fault
 number_of (Language fault) = lang_number fault
 number_of (Field fault) = nego_number fault
 number_of (Document fault) = doc.number_of fault.cause
@@ -50,7 +50,7 @@ cause_offset _ = None
 
 -- the place in the text that is refused, from 0: of refusals 3, 7, 9 and 18 alone
 abbrev pub offset_of : FrontFault → Option ℕ
-offset_of (Id fault) = None
+offset_of (Cell fault) = None
 offset_of (Language fault) = lang_offset fault
 offset_of (Field fault) = nego_offset fault
 offset_of (Document fault) = cause_offset fault.cause
@@ -61,6 +61,11 @@ abbrev pub row_of : FrontFault → Option ℕ
 row_of (Document fault) = doc.row_of fault.cause
 row_of _ = None
 
+-- the input document that is refused, from 1; 0 means none
+abbrev pub document_of : FrontFault → ℕ
+document_of (Document fault) = fault.document
+document_of _ = 0
+
 abbrev pub language_fault : LangFault → FrontFault
 language_fault lang.NoMemory = NoMemory
 language_fault fault = Language fault
@@ -69,9 +74,9 @@ abbrev pub field_fault : NegoFault → FrontFault
 field_fault nego.NoMemory = NoMemory
 field_fault fault = Field fault
 
-abbrev pub id_fault : CellFault → FrontFault
-id_fault cell.NoMemory = NoMemory
-id_fault fault = Id fault
+abbrev pub cell_fault : CellFault → FrontFault
+cell_fault cell.NoMemory = NoMemory
+cell_fault fault = Cell fault
 
 -- the refusal of a document for a cause
 abbrev pub cause_fault : DocFault → DocCause → FrontFault

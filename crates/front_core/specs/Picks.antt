@@ -12,6 +12,9 @@ use Rattle.front_core.specs.Faults.{IsOf, language_fault}
 use Rattle.front_core.specs.Fields.{FieldText, ReadsAs, Text}
 use Rattle.front_core.specs.Preferences.{HasPreferences, IsDefault, RefusesPreferences}
 use Rattle.front_core.specs.Tags.{RefusesTags, SpellLangs}
+use Rattle.front_core.specs.declared.answer.Answer.{Answer}
+use Rattle.front_core.specs.declared.answer.Outcome.{Outcome}
+use Rattle.front_core.specs.declared.answer.Outcome.TheVariants as outcome
 use Rattle.front_core.specs.declared.fault.FrontFault.{FrontFault}
 use Rattle.front_core.specs.declared.tag_pick.Picked.{Picked}
 use Rattle.front_core.specs.declared.tag_pick.Picked.TheVariants as picked
@@ -63,6 +66,16 @@ pick_line (Matched lang) = codes "matched " ++ lang ++ codes "\n"
 pick_line (Default lang) = codes "default " ++ lang ++ codes "\n"
 pick_line Nothing = codes "nothing\n"
 
--- the line that tells what is picked
+-- whether a tag is found, or the default
+abbrev pub pick_outcome : Finding → Outcome
+pick_outcome (Matched lang) = outcome.Found
+pick_outcome (Default lang) = outcome.Found
+pick_outcome Nothing = outcome.Nothing
+
+-- the line that tells what is picked, and whether anything is
+abbrev pub AnswersPick : FieldText → Option Text → List Text → Answer → Type 0
+AnswersPick field word tags answer = (found : Finding) × IsPicked field word tags found × (answer.text ≡ pick_line found) × (answer.outcome ≡ pick_outcome found)
+
+-- the line alone
 abbrev pub IsPickLine : FieldText → Option Text → List Text → List ℕ → Type 0
 IsPickLine field word tags line = (found : Finding) × IsPicked field word tags found × (line ≡ pick_line found)

@@ -13,7 +13,7 @@ use Rattle.docs_core.specs.LangMapTexts.{AreWritten}
 use Rattle.docs_core.specs.LangMaps.{Labelled}
 use Rattle.docs_core.specs.LooksUp.{answered}
 use Rattle.docs_core.specs.declared.call.asking.Ask.TheVariants as ask
-use Rattle.front_core.specs.Faults.{IsOf, field_fault, id_fault}
+use Rattle.front_core.specs.Faults.{IsOf, cell_fault, field_fault}
 use Rattle.front_core.specs.Fields.{FieldText, HasList, ReadsAs, RefusesRanges, Text}
 use Rattle.front_core.specs.Preferences.{ArePreferences, HasPreferences, RefusesPreferences}
 use Rattle.front_core.specs.declared.answer.Answer.{Answer}
@@ -44,7 +44,7 @@ RefusesIdText id cell.NoMemory = IsId id
 RefusesIdText id _ = ⊥
 
 abbrev pub RefusesId : Text → FrontFault → Type 0
-RefusesId id = IsOf id_fault (RefusesIdText id)
+RefusesId id = IsOf cell_fault (RefusesIdText id)
 
 -- ---- what is asked
 

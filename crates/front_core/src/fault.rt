@@ -1,4 +1,4 @@
-//! Why a question is refused.
+//! Why a question or a command is refused.
 ghost use Rattle.std.specs.Prelude.{◌≡◌};
 ghost use Rattle.front_core.specs.Faults.{cause_offset, lang_offset, nego_offset, row_offset};
 
@@ -9,19 +9,20 @@ use nego_core::NegoFault;
 use std::alloc::{AllocError, AllocFailed};
 use thiserror::Error;
 
-/// Why a question is refused. Out of memory is always `NoMemory`, never a cause of another kind.
+/// Why a question or a command is refused. Out of memory is always `NoMemory`, never a cause of
+/// another kind.
 #[derive(Clone, Copy, Debug, PartialEq, Eq, Error)]
 pub enum FrontFault {
-    /// The bytes are no message id, or not UTF-8: 10.
+    /// A text is no message id (10), no label (11, 12) or no site name (27).
     #[error("{0}")]
-    Id(CellFault),
-    /// The default or a tag is no language: 1 to 4.
+    Cell(CellFault),
+    /// A text is no language: 1 to 4.
     #[error("{0}")]
     Language(LangFault),
     /// The field is no priority list: 8, 9.
     #[error("{0}")]
     Field(NegoFault),
-    /// The document is no site: 1 to 4, 10 to 12, 18 to 21, 27, 28.
+    /// A document or a stream is refused: 1 to 4, 8 to 25, 27, 28.
     #[error("{cause}", cause = .0.cause)]
     Document(DocFault),
     /// 26.
@@ -30,14 +31,14 @@ pub enum FrontFault {
 }
 
 impl FrontFault {
-    ghost use Rattle.front_core.specs.Faults.{number_of, offset_of, row_of};
+    ghost use Rattle.front_core.specs.Faults.{document_of, number_of, offset_of, row_of};
 
     /// The number of the refusal.
     pub fn number(&self) -> u8
         ensures { result ≡ number_of self.now }
     {
         match self {
-            FrontFault::Id(fault) => fault.number(),
+            FrontFault::Cell(fault) => fault.number(),
             FrontFault::Language(fault) => fault.number(),
             FrontFault::Field(fault) => fault.number(),
             FrontFault::Document(fault) => fault.number(),
@@ -54,7 +55,7 @@ impl FrontFault {
             FrontFault::Language(fault) => lang_offset(*fault),
             FrontFault::Field(fault) => nego_offset(*fault),
             FrontFault::Document(fault) => cause_offset(fault.cause),
-            FrontFault::Id(_) | FrontFault::NoMemory => None,
+            FrontFault::Cell(_) | FrontFault::NoMemory => None,
         }
     }
 
@@ -65,6 +66,16 @@ impl FrontFault {
         match self {
             FrontFault::Document(fault) => fault.cause.row(),
             _ => None,
+        }
+    }
+
+    /// The input document that is refused, counted from 1; 0 where none is meant.
+    pub fn document(&self) -> u8
+        ensures { result ≡ document_of self.now }
+    {
+        match self {
+            FrontFault::Document(fault) => fault.document,
+            _ => 0,
         }
     }
 }
@@ -108,14 +119,14 @@ fn cause_offset(cause: DocCause) -> Option<usize>
 }
 
 impl From<CellFault> for FrontFault {
-    ghost use Rattle.front_core.specs.Faults.{id_fault};
+    ghost use Rattle.front_core.specs.Faults.{cell_fault};
 
-    ghost from_gives = { λ refused fault. fault ≡ id_fault refused };
+    ghost from_gives = { λ refused fault. fault ≡ cell_fault refused };
 
     fn from(refused: CellFault) -> FrontFault {
         match refused {
             CellFault::NoMemory => FrontFault::NoMemory,
-            refused => FrontFault::Id(refused),
+            refused => FrontFault::Cell(refused),
         }
     }
 }

@@ -1,8 +1,9 @@
 //! Picking a language from the words of a command (RFC 4647 section 3.4).
 ghost use Rattle.std.specs.Prelude.{◌≡◌, map, option_map, string_bytes, IfOk, MatchResult, None};
 ghost use Rattle.front_core.specs.Fields.{FieldText, field_text};
-ghost use Rattle.front_core.specs.Picks.{Finds, IsPicked, IsPickLine, RefusesPick, pick_line};
+ghost use Rattle.front_core.specs.Picks.{AnswersPick, Finds, IsPicked, IsPickLine, RefusesPick, pick_line, pick_outcome};
 
+use crate::answer::{Answer, Outcome};
 use crate::fault::FrontFault;
 use crate::field::Field;
 use crate::preferences::Preferences;
@@ -12,17 +13,6 @@ use lang_core::Lang;
 use nego_core::{Found, Malformed, Scheme, lookup};
 use std::alloc::{AllocError, Global};
 use std::convert::AsStr;
-
-/// What a pick finds.
-#[derive(Drop)]
-pub enum Finding {
-    /// The tag that lookup finds.
-    Matched(Lang),
-    /// The default, where lookup finds none of the tags.
-    Default(Lang),
-    /// No tag, and no default that may be answered.
-    Nothing,
-}
 
 /// The pick line of RANGES, read as an Accept-Language field (RFC 9110 section 12.5.4), over the
 /// tags: `pick_scheme` at the basic scheme.
@@ -72,13 +62,48 @@ pub fn pick_with(
         malformed,
         text: ranges.as_bytes(),
     };
-    let found = find(alloc, field, bytes_of(default), tags)?;
-    let line = line_of(alloc, &found)?;
-    Ok(line)
+    let answer = pick_answer(alloc, field, bytes_of(default), tags)?;
+    Ok(answer.text)
 }
 
-/// What a field finds among the tags. Refused as [`pick_with`] is.
-pub fn find<S: AsStr>(
+/// The pick line of a field over the tags, and whether a tag is picked. Refused as [`pick_with`] is.
+pub fn pick_answer<S: AsStr>(
+    alloc: Global,
+    field: Field<'_>,
+    default: Option<&[u8]>,
+    tags: &[S],
+) -> Result<Answer, FrontFault>
+    ensures { MatchResult result (AnswersPick (field_text field.entry) (option_map (λ s. s.now) default.entry) (map S.text tags.now))
+        (RefusesPick (field_text field.entry) (option_map (λ s. s.now) default.entry) (map S.text tags.now)) }
+{
+    let found = find(alloc, field, default, tags)?;
+    let text = line_of(alloc, &found)?;
+    Ok(Answer::new(text, outcome_of(&found)))
+}
+
+/// The bytes of a word, where there is one.
+pub fn bytes_of(word: Option<&str>) -> Option<&[u8]>
+    ensures { option_map (λ s. s.now) result ≡ option_map (λ s. s.now) word.entry }
+{
+    match word {
+        None => None,
+        Some(word) => Some(word.as_bytes()),
+    }
+}
+
+/// What a pick finds.
+#[derive(Drop)]
+pub(crate) enum Finding {
+    /// The tag that lookup finds.
+    Matched(Lang),
+    /// The default, where lookup finds none of the tags.
+    Default(Lang),
+    /// No tag, and no default that may be answered.
+    Nothing,
+}
+
+/// What a field finds among the tags.
+fn find<S: AsStr>(
     alloc: Global,
     field: Field<'_>,
     default: Option<&[u8]>,
@@ -90,16 +115,6 @@ pub fn find<S: AsStr>(
     let asked = Preferences::read(alloc, field, default)?;
     let langs = read_words(alloc, tags)?;
     Ok(finding_of(&asked, langs))
-}
-
-/// The bytes of a word, where there is one.
-pub fn bytes_of(word: Option<&str>) -> Option<&[u8]>
-    ensures { option_map (λ s. s.now) result ≡ option_map (λ s. s.now) word.entry }
-{
-    match word {
-        None => None,
-        Some(word) => Some(word.as_bytes()),
-    }
 }
 
 /// What lookup finds among the languages.
@@ -114,7 +129,7 @@ fn finding_of(asked: &Preferences, mut langs: Vec<Lang>) -> Finding
 }
 
 /// The pick line.
-pub fn line_of(alloc: Global, found: &Finding) -> Result<Doc, AllocError>
+fn line_of(alloc: Global, found: &Finding) -> Result<Doc, AllocError>
     ensures { IfOk result (λ line. line ≡ pick_line found.now) }
 {
     let line = match found {
@@ -123,4 +138,14 @@ pub fn line_of(alloc: Global, found: &Finding) -> Result<Doc, AllocError>
         Finding::Nothing => String::from_str(alloc, "nothing\n")?,
     };
     Ok(Doc::from(line))
+}
+
+/// Whether a tag is found, or the default.
+fn outcome_of(found: &Finding) -> Outcome
+    ensures { result ≡ pick_outcome found.now }
+{
+    match found {
+        Finding::Matched(_) | Finding::Default(_) => Outcome::Found,
+        Finding::Nothing => Outcome::Nothing,
+    }
 }

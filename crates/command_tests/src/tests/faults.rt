@@ -2,7 +2,7 @@
 use super::harness::Page;
 use cata_core::PlayFault;
 use cell_core::{SiteName, Stamp};
-use command_core::{refuse_document, refuse_words};
+use command_core::refuse;
 use docs_core::{DocCause, DocFault, Output};
 use front_core::FrontFault;
 use lang_core::LangFault;
@@ -47,7 +47,7 @@ fn question_faults(rt: HostRuntime) -> Result<(), Fail> {
     for (fault, number, line) in rows {
         let mut page = Page::new(rt.alloc());
         assert_eq!(rt; fault.number(), number);
-        let status = refuse_words(&mut Output::new(&mut page), number, &fault);
+        let status = refuse(&mut Output::new(&mut page), fault);
         assert_eq!(rt; status, if number == 26 { 5 } else { 3 });
         assert!(rt; page.bytes.as_slice() == line.as_bytes(), "{line}");
         assert_eq!(rt; page.writes, 1, "{line}");
@@ -55,9 +55,9 @@ fn question_faults(rt: HostRuntime) -> Result<(), Fail> {
     Ok(())
 }
 
-/// The longest line is one write, and a text that no line can hold is cut.
+/// The longest line is one write, and none of its text is cut.
 #[test]
-fn long_lines(rt: HostRuntime) -> Result<(), Fail> {
+fn the_longest_line(rt: HostRuntime) -> Result<(), Fail> {
     let alloc = rt.alloc();
     let mut page = Page::new(alloc);
     let stamp = Stamp {
@@ -71,7 +71,7 @@ fn long_lines(rt: HostRuntime) -> Result<(), Fail> {
         stamp,
     };
     assert_eq!(rt;
-        refuse_document(&mut Output::new(&mut page), DocFault::from(fault)),
+        refuse(&mut Output::new(&mut page), DocFault::from(fault).into()),
         3
     );
     assert!(rt;
@@ -79,11 +79,6 @@ fn long_lines(rt: HostRuntime) -> Result<(), Fail> {
             == b"refused 13: stamp 18446744073709551615 0123456789abcdef 4294967295 used twice, cell 340282366920938463463374607431768211455, step 18446744073709551615\n".as_slice()
     );
     assert_eq!(rt; page.writes, 1);
-    let mut page = Page::new(alloc);
-    let text = "a".repeat(alloc, 161)?;
-    let line = format!(in alloc; "refused 9: {}...\n", "a".repeat(alloc, 157)?)?;
-    assert_eq!(rt; refuse_words(&mut Output::new(&mut page), 9, &text), 3);
-    assert!(rt; page.bytes.as_slice() == line.as_bytes());
     Ok(())
 }
 
@@ -111,7 +106,7 @@ fn document_faults(rt: HostRuntime) -> Result<(), Fail> {
     for (document, cause, status, line) in rows {
         let mut page = Page::new(alloc);
         let fault = DocFault { document, cause };
-        assert_eq!(rt; refuse_document(&mut Output::new(&mut page), fault), status);
+        assert_eq!(rt; refuse(&mut Output::new(&mut page), fault.into()), status);
         assert!(rt; page.bytes.as_slice() == line.as_bytes(), "{line}");
         assert_eq!(rt; page.writes, 1, "{line}");
     }

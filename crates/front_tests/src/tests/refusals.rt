@@ -34,7 +34,7 @@ const LANGUAGE: FrontFault = FrontFault::Language(LangFault::TagNotWellFormed);
 
 const FIELD: FrontFault = FrontFault::Field(MALFORMED);
 
-const ID: FrontFault = FrontFault::Id(CellFault::IdRefused);
+const ID: FrontFault = FrontFault::Cell(CellFault::IdRefused);
 
 fn assert_refused<T: Drop>(rt: &impl Abort, answer: Result<T, FrontFault>, fault: FrontFault) {
     assert_eq!(rt; answer.err(), Some(fault));

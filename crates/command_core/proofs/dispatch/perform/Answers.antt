@@ -5,6 +5,9 @@ use Rattle.command_core.proofs.dispatch.perform.Goals as goal
 pub returns-in-Sync : goal.returns-in-Sync
 returns-in-Sync g c = rw c.in-Sync.is c.sync.ensures
 
+pub returns-in-Replay : goal.returns-in-Replay
+returns-in-Replay g c = rw c.in-Replay.is c.replay.ensures
+
 pub returns-in_default : goal.returns-in_default
 returns-in_default g c =
     record {

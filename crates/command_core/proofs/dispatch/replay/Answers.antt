@@ -9,6 +9,6 @@ returns-in-Ok g c =
 pub returns-in-Err : goal.returns-in-Err
 returns-in-Err g c =
     record {
-      acts = not_replayed g.R.Source.remaining g.R.Source.failed g.W.Sink.contents g.W.Sink.failed g.F.Sink.contents g.F.Sink.failed c.in-Err.fault c.args.reader.now c.replay.new.reader c.args.writer.now c.replay.new.writer c.args.faults.now c.refuse_document.new.faults c.refuse_document.result
-          c.refuse_document.ensures.status c.refuse_document.ensures.reported c.in-Err.ensures.err;
+      acts = not_replayed g.R.Source.remaining g.R.Source.failed g.W.Sink.contents g.W.Sink.failed g.F.Sink.contents g.F.Sink.failed c.in-Err.fault c.args.reader.now c.replay.new.reader c.args.writer.now c.replay.new.writer c.args.faults.now c.refuse.new.faults c.refuse.result
+          (rw (← c.from.ensures) c.refuse.ensures.status) (rw (← c.from.ensures) c.refuse.ensures.reported) c.in-Err.ensures.err;
     }

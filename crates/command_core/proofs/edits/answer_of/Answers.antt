@@ -1,4 +1,5 @@
-use Rattle.std.proofs.Common.{◌∙◌, ℕ, List, Option, option_map, refl, subst}
+use Rattle.std.proofs.Common.{◌∙◌, ℕ, List, Option, inl, inr, option_map, refl, subst}
+use Rattle.std.proofs.lemmas.Result.{err_from_is_err_and}
 use Rattle.docs_core.specs.Calls.{IsEdited}
 use Rattle.command_core.specs.Values.{edit_values}
 use Rattle.command_core.proofs.EditsLemmas.{label_fits}
@@ -16,3 +17,10 @@ returns g c =
       c.in_ok-site.ensures,
       (c.in_ok-key.key.lang, (key.0, (c.in_ok-key.key.lang, key.2), label.0), key.2, rw (← c.bytes.ensures) edited, refl),
     )
+
+pub returns-in_err-site : goal.returns-in_err-site
+returns-in_err-site g c =
+    let key = c.in_ok-key.ensures in
+    let label = label_fits (edit_values c.args.values).texts c.in_ok-label.label c.in_ok-label.ensures in
+    let p = err_from_is_err_and c.from_residual-in_err-site.result c.from_residual-in_err-site.ensures.1 in
+    rw p.1 (inr ((key.0, (c.in_ok-key.key.lang, key.2), label.0), (_, inl c.in_err-site.ensures, p.2)))

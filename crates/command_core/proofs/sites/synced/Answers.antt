@@ -13,4 +13,4 @@ returns g c = (
 pub returns-in_err-texts : goal.returns-in_err-texts
 returns-in_err-texts g c =
     let p = err_from_is_err_and c.from_residual-in_err-texts.result c.from_residual-in_err-texts.ensures.1 in
-    rw (p.1, p.2) (tt, inr (c.in_ok-input.input, c.in_ok-input.ensures, else_by c.in_err-texts.ensures (λ h. (c.two_documents.result.0.now, c.two_documents.result.1.now, rw (← c.bytes.ensures) c.two_documents.ensures, h))))
+    rw p.1 (inr (tt, (_, inr (c.in_ok-input.input, c.in_ok-input.ensures, else_by c.in_err-texts.ensures (λ h. (c.two_documents.result.0.now, c.two_documents.result.1.now, rw (← c.bytes.ensures) c.two_documents.ensures, h))), p.2)))
