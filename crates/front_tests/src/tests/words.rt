@@ -1,8 +1,8 @@
 //! Picks from the words of a command.
 
 use docs_core::Doc;
-use front_core::words::{Finding, find, pick, pick_scheme, pick_with};
-use front_core::{Field, FrontFault};
+use front_core::words::{pick, pick_answer, pick_scheme, pick_with};
+use front_core::{Field, FrontFault, Outcome};
 use lang_core::LangFault;
 use nego_core::{Malformed, NegoFault, Scheme};
 use std::alloc::{AllocError, Global};
@@ -86,8 +86,8 @@ fn lent_words(rt: HostRuntime) -> Result<(), Fail> {
         text: b"fr-CA".as_slice(),
     };
     let tags = ["en", "FR"];
-    let found = find(rt.alloc(), field, None, tags.as_slice())?;
-    let is_french = matches!(&found, Finding::Matched(lang) if lang.as_str() == "fr");
-    assert!(rt; is_french);
+    let answer = pick_answer(rt.alloc(), field, None, tags.as_slice())?;
+    assert!(rt; answer.text.bytes() == b"matched fr\n".as_slice());
+    assert_eq!(rt; answer.outcome, Outcome::Found);
     Ok(())
 }
