@@ -30,9 +30,9 @@ demo: build/lexicat
 	build/lexicat pick zh-Hant-CN-x-private1-private2 zh-Hant en
 	PATH="$$PWD/build:$$PATH" examples/newsroom/story
 
-# The program that the compiler has to refuse; every proof from nothing, the tests and the programs;
-# the edits that the prover has to refuse, many in one check; then what the docs show. The last line
-# counts them all.
+# The program that the compiler has to refuse; every proof, from nothing where this machine has not
+# passed the same crate before, the tests and the programs; the edits that the prover has to refuse,
+# one of each function and many in one check; then what the docs show. The last line counts them all.
 test:
 	RT='$(RT)' scripts/gate
 

@@ -1,5 +1,5 @@
 -- What each command does (own rules). The answers and refusals of documents are those of the document calls.
-use Rattle.std.specs.Prelude.{◌≡◌, ◌⊎◌, ◌++◌, ℕ, Bool, List, [], Option, None, Some, Result, if◌then◌else◌, MatchOption, MatchResult}
+use Rattle.std.specs.Prelude.{◌≡◌, ◌⊎◌, ◌++◌, ℕ, Bool, List, [], Option, None, Some, Result, MatchOption, MatchResult}
 use Rattle.clap.specs.Words.{Row, Text}
 use Rattle.cata_core.specs.Entries.{Entries}
 use Rattle.cata_core.specs.Sites.{SiteState}
@@ -15,51 +15,55 @@ use Rattle.docs_core.specs.Missing as missing
 use Rattle.docs_core.specs.Replays.{RefusesReplay, Replays}
 use Rattle.docs_core.specs.declared.fault.DocFault.{DocFault}
 use Rattle.lang_core.specs.Lang.{RefusesLang, SpellsLang}
+use Rattle.front_core.specs.Picks.{AnswersPick, RefusesPick}
 use Rattle.front_core.specs.Questions.{AreBundleMaps, HasFilter, HasLookup, IsFilterLines, IsLookupLine, RefusesFilter, RefusesLookup}
 use Rattle.front_core.specs.Preferences.{HasPreferences, RefusesPreferences}
 use Rattle.front_core.specs.Faults.{IsOf, cell_fault, language_fault}
 use Rattle.front_core.specs.declared.answer.Answer.{Answer}
 use Rattle.front_core.specs.declared.fault.FrontFault.{FrontFault}
 use Rattle.front_core.specs.declared.fault.FrontFault.TheVariants.{NoMemory}
-use Rattle.command_core.specs.AskWords.{FilterWords, LookupWords}
+use Rattle.command_core.specs.AskWords.{FilterWords, LookupWords, PickWords}
 use Rattle.command_core.specs.Documents.{IsDocument, RefusesDocuments, RefusesOnly}
 use Rattle.command_core.specs.EditWords.{EditWords}
 use Rattle.command_core.specs.Endings.{EndsRefused, Writes}
 use Rattle.command_core.specs.FieldWords.{PreferenceWords}
 use Rattle.command_core.specs.Input.{AreDocuments}
-use Rattle.command_core.specs.Picks.{BarsPick, IsPick}
 use Rattle.command_core.specs.Reading.{AnswersInput, RefusesInput}
-use Rattle.command_core.specs.Status.{answer_status}
+use Rattle.command_core.specs.Status.{answer_status, found_status}
 use Rattle.command_core.specs.TaskWords.{GivesTask, TaskWords}
 use Rattle.command_core.specs.TaskWords as task
-use Rattle.command_core.specs.Parsing.{BarsNone, NoWords, RefusesKey, RefusesLabelWords}
+use Rattle.command_core.specs.Parsing.{RefusesNothing, NoWords, RefusesKey, RefusesLabelWords}
 use Rattle.command_core.specs.declared.documents.DocumentTask.{DocumentTask}
 
--- ---- `new`
+-- ---- `pick` and `new`
+
+-- the pick line
+abbrev pub IsPick : PickWords → List ℕ → ℕ → Type 0
+IsPick words text answered = (answer : Answer) × AnswersPick words.preferences.field words.preferences.default words.tags answer × (text ≡ answer.text) × (answered ≡ answer_status answer.outcome)
 
 -- the document of the empty site of this name
 abbrev pub IsNew : Text → List ℕ → ℕ → Type 0
 IsNew name text answered = IsSiteName name × (text ≡ site_text (record { name = name; cells = [] })) × (answered ≡ 0)
 
-abbrev pub BarsNew : Text → FrontFault → Type 0
-BarsNew name fault = IsOf cell_fault (RefusesName name) fault ⊎ (IsSiteName name × (fault ≡ NoMemory))
+abbrev pub RefusesNew : Text → FrontFault → Type 0
+RefusesNew name fault = IsOf cell_fault (RefusesName name) fault ⊎ (IsSiteName name × (fault ≡ NoMemory))
 
 -- ---- `put` and `delete`
 
 -- the texts are a label, or there are none
-abbrev pub FitTexts : Option (List Text) → Type 0
-FitTexts None = Unit {0}
-FitTexts (Some texts) = IsLabel texts
+abbrev pub IsLabelOrNone : Option (List Text) → Type 0
+IsLabelOrNone None = Unit {0}
+IsLabelOrNone (Some texts) = IsLabel texts
 
-abbrev pub FitsEdit : EditWords → Type 0
-FitsEdit words = IsMessageId words.id × IsSpelled words.lang × FitTexts words.texts
+abbrev pub HasEdit : EditWords → Type 0
+HasEdit words = IsMessageId words.id × IsSpelled words.lang × IsLabelOrNone words.texts
 
 -- the id, the language and then the texts
-abbrev pub BarsEdit : EditWords → FrontFault → Type 0
-BarsEdit words fault = RefusesKey words.id words.lang fault ⊎ (IsMessageId words.id × IsSpelled words.lang × IsOf cell_fault (RefusesLabelWords words.texts) fault)
+abbrev pub RefusesEditWords : EditWords → FrontFault → Type 0
+RefusesEditWords words fault = RefusesKey words.id words.lang fault ⊎ (IsMessageId words.id × IsSpelled words.lang × IsOf cell_fault (RefusesLabelWords words.texts) fault)
 
 abbrev pub IsEdit : EditWords → List ℕ → List ℕ → ℕ → Type 0
-IsEdit words input text answered = (lang : List ℕ) × FitsEdit words × SpellsLang words.lang lang × call.IsEdited input words.now (words.id, lang) words.texts text × (answered ≡ 0)
+IsEdit words input text answered = (lang : List ℕ) × HasEdit words × SpellsLang words.lang lang × call.IsEdited input words.now (words.id, lang) words.texts text × (answered ≡ 0)
 
 abbrev pub RefusesEdit : EditWords → List ℕ → DocFault → Type 0
 RefusesEdit words input fault = call.RefusesEditing input words.now fault
@@ -82,43 +86,19 @@ RefusesSync input fault = (first second : List ℕ) × AreDocuments input first 
 abbrev pub AnswersSite : (Entries → Answer → Type 0) → List ℕ → List ℕ → ℕ → Type 0
 AnswersSite Is input text answered = (site : SiteState) × (answer : Answer) × ReadsAsSite input site × Is site.cells answer × (text ≡ answer.text) × (answered ≡ answer_status answer.outcome)
 
-abbrev pub FitsFilter : FilterWords → Type 0
-FitsFilter words = HasFilter words.id words.field
-
-abbrev pub BarsFilter : FilterWords → FrontFault → Type 0
-BarsFilter words = RefusesFilter words.id words.field
-
 abbrev pub IsFilter : FilterWords → List ℕ → List ℕ → ℕ → Type 0
 IsFilter words = AnswersSite (λ cells. IsFilterLines cells words.id words.field)
-
-abbrev pub FitsLookup : LookupWords → Type 0
-FitsLookup words = HasLookup words.id words.preferences.field words.preferences.default
-
-abbrev pub BarsLookup : LookupWords → FrontFault → Type 0
-BarsLookup words = RefusesLookup words.id words.preferences.field words.preferences.default
 
 abbrev pub IsLookup : LookupWords → List ℕ → List ℕ → ℕ → Type 0
 IsLookup words = AnswersSite (λ cells. IsLookupLine cells words.id words.preferences.field words.preferences.default)
 
 -- ---- `bundle` and `missing`
 
-abbrev pub FitsBundle : PreferenceWords → Type 0
-FitsBundle words = HasPreferences words.field words.default
-
-abbrev pub BarsBundle : PreferenceWords → FrontFault → Type 0
-BarsBundle words = RefusesPreferences words.field words.default
-
 abbrev pub IsBundle : PreferenceWords → List ℕ → List ℕ → ℕ → Type 0
 IsBundle words = AnswersSite (λ cells. AreBundleMaps cells words.field words.default)
 
-abbrev pub FitsMissing : Text → Type 0
-FitsMissing word = IsSpelled word
-
-abbrev pub BarsMissing : Text → FrontFault → Type 0
-BarsMissing word = IsOf language_fault (RefusesLang word)
-
 abbrev pub IsMissing : Text → List ℕ → List ℕ → ℕ → Type 0
-IsMissing word input text answered = (lang : List ℕ) × (found : Bool) × SpellsLang word lang × missing.IsMissing input lang text found × (answered ≡ (if found then 0 else 1))
+IsMissing word input text answered = (lang : List ℕ) × (found : Bool) × SpellsLang word lang × missing.IsMissing input lang text found × (answered ≡ found_status found)
 
 -- ---- `replay`
 
@@ -150,16 +130,16 @@ module _ {R : Type 0} (remaining : R → Option (List ℕ)) (broken : R → Bool
 
   -- why it is refused
   abbrev pub Refuses : TaskWords → R → R → FrontFault → Type 0
-  Refuses (task.Pick words) old new refused = (new ≡ old) × BarsPick words refused
-  Refuses (task.New name) old new refused = (new ≡ old) × BarsNew name refused
-  Refuses (task.Edit words) old new refused = RefusesInput remaining broken (FitsEdit words) (BarsEdit words) (RefusesEdit words) old new refused
-  Refuses (task.Document task) old new refused = RefusesInput remaining broken NoWords BarsNone (RefusesDocuments task) old new refused
-  Refuses (task.Missing word) old new refused = RefusesInput remaining broken (FitsMissing word) (BarsMissing word) RefusesOnly old new refused
-  Refuses (task.Filter words) old new refused = RefusesInput remaining broken (FitsFilter words) (BarsFilter words) RefusesOnly old new refused
-  Refuses (task.Lookup words) old new refused = RefusesInput remaining broken (FitsLookup words) (BarsLookup words) RefusesOnly old new refused
-  Refuses (task.Bundle words) old new refused = RefusesInput remaining broken (FitsBundle words) (BarsBundle words) RefusesOnly old new refused
-  Refuses task.Sync old new refused = RefusesInput remaining broken NoWords BarsNone RefusesSync old new refused
-  Refuses task.Replay old new refused = RefusesInput remaining broken NoWords BarsNone RefusesReplay old new refused
+  Refuses (task.Pick words) old new refused = (new ≡ old) × RefusesPick words.preferences.field words.preferences.default words.tags refused
+  Refuses (task.New name) old new refused = (new ≡ old) × RefusesNew name refused
+  Refuses (task.Edit words) old new refused = RefusesInput remaining broken (HasEdit words) (RefusesEditWords words) (RefusesEdit words) old new refused
+  Refuses (task.Document task) old new refused = RefusesInput remaining broken NoWords RefusesNothing (RefusesDocuments task) old new refused
+  Refuses (task.Missing word) old new refused = RefusesInput remaining broken (IsSpelled word) (IsOf language_fault (RefusesLang word)) RefusesOnly old new refused
+  Refuses (task.Filter words) old new refused = RefusesInput remaining broken (HasFilter words.id words.field) (RefusesFilter words.id words.field) RefusesOnly old new refused
+  Refuses (task.Lookup words) old new refused = RefusesInput remaining broken (HasLookup words.id words.preferences.field words.preferences.default) (RefusesLookup words.id words.preferences.field words.preferences.default) RefusesOnly old new refused
+  Refuses (task.Bundle words) old new refused = RefusesInput remaining broken (HasPreferences words.field words.default) (RefusesPreferences words.field words.default) RefusesOnly old new refused
+  Refuses task.Sync old new refused = RefusesInput remaining broken NoWords RefusesNothing RefusesSync old new refused
+  Refuses task.Replay old new refused = RefusesInput remaining broken NoWords RefusesNothing RefusesReplay old new refused
 
   -- it is answered by a text and the status of its outcome, or refused
   abbrev pub Performs : TaskWords → R → R → Result Answer FrontFault → Type 0

@@ -9,7 +9,6 @@ pub mod Help
 pub mod Input
 pub mod Matches
 pub mod Parsing
-pub mod Picks
 pub mod Program
 pub mod Reading
 pub mod Status

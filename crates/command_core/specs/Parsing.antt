@@ -15,8 +15,8 @@ use Rattle.command_core.specs.declared.parsing.Key.{Key}
 abbrev pub NoWords : Type 0
 NoWords = Unit {0}
 
-abbrev pub BarsNone : FrontFault → Type 0
-BarsNone _ = ⊥
+abbrev pub RefusesNothing : FrontFault → Type 0
+RefusesNothing _ = ⊥
 
 -- the words name this id and this language
 abbrev pub IsKey : Text → Text → Key → Type 0

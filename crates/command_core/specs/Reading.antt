@@ -19,7 +19,7 @@ module _ {R : Type 0} (remaining : R → Option (List ℕ)) (broken : R → Bool
 
   -- why a command is refused: by its words, and then nothing was read; or else for its input
   abbrev pub RefusesInput : Type 0 → (FrontFault → Type 0) → (List ℕ → DocFault → Type 0) → R → R → FrontFault → Type 0
-  RefusesInput fits bars refuses old new fault = (bars fault × (new ≡ old)) ⊎ (fits × IsOf document_fault (FailsInput refuses old new) fault)
+  RefusesInput words refuses_words refuses old new fault = (refuses_words fault × (new ≡ old)) ⊎ (words × IsOf document_fault (FailsInput refuses old new) fault)
 
   -- the whole input was read, and is this site
   abbrev pub ReadsSite : R → R → SiteState → Type 0

@@ -1,5 +1,5 @@
 -- What the program ends with (own rule).
-use Rattle.std.specs.Prelude.{ℕ, ◌==◌, ◌||◌, if◌then◌else◌}
+use Rattle.std.specs.Prelude.{ℕ, Bool, ◌==◌, ◌||◌, if◌then◌else◌}
 use Rattle.front_core.specs.Questions.{is_found}
 use Rattle.front_core.specs.declared.answer.Outcome.{Outcome}
 
@@ -7,6 +7,9 @@ use Rattle.front_core.specs.declared.answer.Outcome.{Outcome}
 abbrev pub status_of : ℕ → ℕ
 status_of number = if (number == 24) || (number == 25) then 4 else (if number == 26 then 5 else 3)
 
--- the status of an answer: 1 where it tells of nothing
+-- the status of an answer: 1 where nothing was found
+abbrev pub found_status : Bool → ℕ
+found_status found = if found then 0 else 1
+
 abbrev pub answer_status : Outcome → ℕ
-answer_status outcome = if is_found outcome then 0 else 1
+answer_status outcome = found_status (is_found outcome)

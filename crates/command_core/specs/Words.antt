@@ -38,9 +38,13 @@ field_rule name = record (new_rule name) { value_names = 1; required = true }
 abbrev pub words_rule : Text → Rule
 words_rule name = record (new_rule name) { value_names = 1; required = true; range = Some (record { start_inclusive = 1; end_inclusive = 18446744073709551615 }); action = Some Append }
 
+-- what a reader prefers: `[--scheme SCHEME] [--lenient] [--default LANG]` and the ranges, by this name
+abbrev pub preferences_app : App → Schemes → Text → App
+preferences_app app schemes name = with_rule (with_rule (with_rule (with_rule app (scheme_rule schemes)) lenient_rule) default_rule) (field_rule name)
+
 -- `pick [--scheme SCHEME] [--lenient] [--default LANG] RANGES TAG..`
 abbrev pub pick_app : Schemes → App
-pick_app schemes = with_rule (with_rule (with_rule (with_rule (with_rule (new_app (codes "pick")) (scheme_rule schemes)) lenient_rule) default_rule) (field_rule (codes "ranges"))) (words_rule (codes "tags"))
+pick_app schemes = with_rule (preferences_app (new_app (codes "pick")) schemes (codes "ranges")) (words_rule (codes "tags"))
 
 -- `--now N`, a number of 64 bits
 abbrev pub now_rule : Rule
@@ -87,11 +91,11 @@ filter_app schemes = with_rule (with_rule (with_rule (with_rule (new_app (codes 
 
 -- `lookup --id ID [--scheme SCHEME] [--lenient] [--default LANG] FIELD`
 abbrev pub lookup_app : Schemes → App
-lookup_app schemes = with_rule (with_rule (with_rule (with_rule (with_rule (new_app (codes "lookup")) id_rule) (scheme_rule schemes)) lenient_rule) default_rule) (field_rule (codes "field"))
+lookup_app schemes = preferences_app (with_rule (new_app (codes "lookup")) id_rule) schemes (codes "field")
 
 -- `bundle [--scheme SCHEME] [--lenient] [--default LANG] FIELD`
 abbrev pub bundle_app : Schemes → App
-bundle_app schemes = with_rule (with_rule (with_rule (with_rule (new_app (codes "bundle")) (scheme_rule schemes)) lenient_rule) default_rule) (field_rule (codes "field"))
+bundle_app schemes = preferences_app (new_app (codes "bundle")) schemes (codes "field")
 
 -- `missing --lang LANG`
 abbrev pub missing_app : App

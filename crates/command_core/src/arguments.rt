@@ -1,8 +1,11 @@
 //! The arguments of the commands, each with its rule.
-ghost use Rattle.command_core.specs.Words.{IsArgument, default_rule, field_rule, id_rule, lang_rule, lenient_rule, now_rule, required_rule, scheme_rule, site_rule, words_rule};
+ghost use Rattle.std.specs.Prelude.{◌≡◌, false, IfOk};
+ghost use Rattle.clap.specs.Words.{app_of};
+ghost use Rattle.clap.specs.declared.builder.command.Command.TheViews.{out-Command};
+ghost use Rattle.command_core.specs.Words.{IsArgument, IsCommand, default_rule, field_rule, id_rule, lang_rule, lenient_rule, now_rule, preferences_app, required_rule, scheme_rule, site_rule, words_rule};
 
-use clap::{Arg, ArgAction, value_parser};
-use std::alloc::Global;
+use clap::{Arg, ArgAction, Command, value_parser};
+use std::alloc::{AllocError, Global};
 
 /// `--scheme`, one of the words of the schemes.
 pub(crate) fn scheme<'a>(alloc: Global, schemes: &'a [&'a str]) -> Arg<'a>
@@ -70,8 +73,27 @@ pub(crate) fn lang<'a>(alloc: Global) -> Arg<'a>
     required(alloc, "lang", "LANG", "A language tag, or @none")
 }
 
+/// The command with what a reader prefers: how the ranges are read, the default, and the ranges by
+/// this name.
+pub(crate) fn with_preferences<'a>(
+    alloc: Global,
+    command: Command<'a>,
+    schemes: &'a [&'a str],
+    name: &'a str,
+    value: &'a str,
+) -> Result<Command<'a>, AllocError>
+    requires { (out-Command command.entry).has_globals ≡ false }
+    ensures { IfOk result (IsCommand (preferences_app (app_of command.entry) schemes.entry name.entry.now)) }
+{
+    command
+        .arg(scheme(alloc, schemes))?
+        .arg(lenient(alloc))?
+        .arg(default(alloc))?
+        .arg(field(alloc, name, value))
+}
+
 /// `--default`, the language that a lookup or a pick falls back to.
-pub(crate) fn default<'a>(alloc: Global) -> Arg<'a>
+fn default<'a>(alloc: Global) -> Arg<'a>
     ensures { IsArgument default_rule result }
 {
     Arg::new(alloc, "default")

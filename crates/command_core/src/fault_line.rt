@@ -1,9 +1,11 @@
 //! The line that reports a refusal, and the status that goes with it. The line takes no memory, it is
 //! one write, and where its writer fails the rest of it is left out.
-ghost use Rattle.std.specs.Prelude.{◌≡◌, ◌+◌, ◌≤◌, ◌++◌, length};
+ghost use Rattle.std.specs.Prelude.{◌≡◌, ◌+◌, ◌≤◌, ◌++◌, false, length};
+ghost use Rattle.std_io.specs.IoError.{error_kind};
 ghost use Rattle.arrayvec.specs.ArrayString.{array_string_len};
 ghost use Rattle.front_core.specs.Faults.{number_of};
 ghost use Rattle.front_core.specs.declared.fault.FrontFault.TheVariants.{NoMemory};
+ghost use Rattle.command_core.specs.Endings.{LacksWords};
 ghost use Rattle.command_core.specs.FaultLine.{PrintsFault, PrintsRefusal, counted, document_meant, fault_line};
 ghost use Rattle.command_core.specs.Status.{status_of};
 
@@ -13,6 +15,7 @@ use docs_core::{Sink, write_out};
 use front_core::FrontFault;
 use itoa::Buffer;
 use std::fmt::{Display, InlineText};
+use std::io;
 
 /// How many bytes of its text a line has at most. No text of a refusal has more.
 const TEXT_BYTES: usize = 160;
@@ -31,8 +34,21 @@ pub fn refuse<S: Sink>(faults: &mut S, fault: FrontFault) -> u8
     status::of_refusal(number)
 }
 
+/// Tells why the words of a process can't be had, and gives the status: there is no memory for them,
+/// or one is not UTF-8, which is a usage fault.
+pub fn refuse_words<S: Sink>(error: &io::Error, faults: &mut S) -> u8
+    requires { S.failed faults.old ≡ false }
+    ensures { LacksWords S.contents S.failed (error_kind error.now) faults.old faults.new result }
+{
+    if error.kind() == io::ErrorKind::OutOfMemory {
+        return refuse_for_memory(faults);
+    }
+    let _ = write_out(faults, b"error: a word is not UTF-8\n");
+    status::USAGE
+}
+
 /// Reports that memory ended, and gives the status.
-pub fn refuse_for_memory<S: Sink>(faults: &mut S) -> u8
+pub(crate) fn refuse_for_memory<S: Sink>(faults: &mut S) -> u8
     ensures status { result ≡ 5 }
     ensures reported { PrintsRefusal S.contents S.failed NoMemory faults.old faults.new }
 {

@@ -2,7 +2,7 @@
 //! [`Source`](docs_core::Source) to read and two [`Sink`](docs_core::Sink)s to write, and gives the
 //! status. [`act`] is all of it that follows clap. Nothing else is read or written.
 //!
-//! [`refuse`] and [`refuse_for_memory`] write the line of a refusal.
+//! [`refuse`] writes the line of a refusal, and [`refuse_words`] why a process has no words.
 #![tactic(auto)]
 
 mod answer;
@@ -23,5 +23,5 @@ pub mod status;
 mod task;
 
 pub use dispatch::act;
-pub use fault_line::{refuse, refuse_for_memory};
+pub use fault_line::{refuse, refuse_words};
 pub use program::run;

@@ -1,7 +1,7 @@
 //! The commands `new` and `sync`.
 ghost use Rattle.std.specs.Prelude.{◌≡◌, ◌++◌, false, MatchResult};
-ghost use Rattle.command_core.specs.Acts.{BarsNew, IsNew, IsSync, RefusesSync, Treats};
-ghost use Rattle.command_core.specs.Parsing.{NoWords, BarsNone};
+ghost use Rattle.command_core.specs.Acts.{RefusesNew, IsNew, IsSync, RefusesSync, Treats};
+ghost use Rattle.command_core.specs.Parsing.{NoWords, RefusesNothing};
 ghost use Rattle.command_core.specs.Reading.{AnswersInput, RefusesInput};
 ghost use Rattle.command_core.specs.Status.{answer_status};
 ghost use Rattle.command_core.specs.TaskWords.{Sync};
@@ -18,7 +18,7 @@ use std::alloc::Global;
 
 /// The document of the empty site of this name.
 pub(crate) fn new_site(alloc: Global, name: &str) -> Answered
-    ensures { MatchResult result (λ answer. IsNew name.now answer.text (answer_status answer.outcome)) (BarsNew name.now) }
+    ensures { MatchResult result (λ answer. IsNew name.now answer.text (answer_status answer.outcome)) (RefusesNew name.now) }
 {
     let name = SiteName::new(name)?;
     let text = write_site(alloc, &Site::new(alloc, name))?;
@@ -47,7 +47,7 @@ fn synced<R: Source>(alloc: Global, reader: &mut R) -> Result<(Doc, Doc), FrontF
     requires { R.failed reader.old ≡ false }
     ensures { MatchResult result
         (λ texts. AnswersInput R.remaining R.failed IsSync reader.old reader.new (texts.0 ++ texts.1) 0)
-        (RefusesInput R.remaining R.failed NoWords BarsNone RefusesSync reader.old reader.new) }
+        (RefusesInput R.remaining R.failed NoWords RefusesNothing RefusesSync reader.old reader.new) }
 {
     let input = read_all(alloc, reader)?;
     let (first, second) = two_documents(input.bytes());

@@ -2,7 +2,6 @@
 
 mod documents;
 mod faults;
-mod growths;
 mod harness;
 mod help;
 mod matches;

@@ -10,13 +10,10 @@ use std::alloc::{AllocError, Global};
 pub(crate) fn command<'a>(alloc: Global, schemes: &'a [&'a str]) -> Result<Command<'a>, AllocError>
     ensures { IfOk result (IsCommand (bundle_app schemes.entry)) }
 {
-    Command::new(alloc, "bundle")
+    let command = Command::new(alloc, "bundle")
         .about("Prints for each message the one label that a reader gets, as language maps")
         .after_help(
             "Reads a site document. Of each message it is the label that lookup answers; a message for which lookup answers nothing is left out.\nExample: lexicat bundle --default en \"fr-CA, de;q=0.5\" < three.json",
-        )
-        .arg(arguments::scheme(alloc, schemes))?
-        .arg(arguments::lenient(alloc))?
-        .arg(arguments::default(alloc))?
-        .arg(arguments::field(alloc, "field", "FIELD"))
+        );
+    arguments::with_preferences(alloc, command, schemes, "field", "FIELD")
 }

@@ -10,14 +10,11 @@ use std::alloc::{AllocError, Global};
 pub(crate) fn command<'a>(alloc: Global, schemes: &'a [&'a str]) -> Result<Command<'a>, AllocError>
     ensures { IfOk result (IsCommand (lookup_app schemes.entry)) }
 {
-    Command::new(alloc, "lookup")
+    let command = Command::new(alloc, "lookup")
         .about("Prints the one label of a message that fits best, or the default's, or nothing")
         .after_help(
             "Reads a site document.\nExample: lexicat lookup --id greeting --default en \"da, fr;q=0.5\" < three.json",
         )
-        .arg(arguments::id(alloc))?
-        .arg(arguments::scheme(alloc, schemes))?
-        .arg(arguments::lenient(alloc))?
-        .arg(arguments::default(alloc))?
-        .arg(arguments::field(alloc, "field", "FIELD"))
+        .arg(arguments::id(alloc))?;
+    arguments::with_preferences(alloc, command, schemes, "field", "FIELD")
 }

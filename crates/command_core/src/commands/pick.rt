@@ -10,12 +10,13 @@ use std::alloc::{AllocError, Global};
 pub(crate) fn command<'a>(alloc: Global, schemes: &'a [&'a str]) -> Result<Command<'a>, AllocError>
     ensures { IfOk result (IsCommand (pick_app schemes.entry)) }
 {
-    Command::new(alloc, "pick")
+    let command = Command::new(alloc, "pick")
         .about("Prints the first language that fits the ranges, or the default, or nothing")
-        .after_help("Example: lexicat pick \"da, en-GB;q=0.8, en;q=0.7\" en fr")
-        .arg(arguments::scheme(alloc, schemes))?
-        .arg(arguments::lenient(alloc))?
-        .arg(arguments::default(alloc))?
-        .arg(arguments::field(alloc, "ranges", "RANGES"))?
-        .arg(arguments::words(alloc, "tags", "TAG", "The languages to pick from"))
+        .after_help("Example: lexicat pick \"da, en-GB;q=0.8, en;q=0.7\" en fr");
+    arguments::with_preferences(alloc, command, schemes, "ranges", "RANGES")?.arg(arguments::words(
+        alloc,
+        "tags",
+        "TAG",
+        "The languages to pick from",
+    ))
 }

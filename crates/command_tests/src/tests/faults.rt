@@ -1,12 +1,13 @@
 //! The numbers, the texts and the lines of refusals.
 use super::harness::Page;
-use cata_core::PlayFault;
-use cell_core::{SiteName, Stamp};
-use command_core::refuse;
-use docs_core::{DocCause, DocFault, Output};
+use cata_core::{CataFault, PlayFault};
+use cell_core::{CellFault, SiteName, Stamp};
+use command_core::{refuse, refuse_words};
+use docs_core::{DocCause, DocFault, FieldFault, Output, Spot};
 use front_core::FrontFault;
 use lang_core::LangFault;
 use nego_core::NegoFault;
+use std::io;
 use std::test::Fail;
 
 #[test]
@@ -42,6 +43,21 @@ fn question_faults(rt: HostRuntime) -> Result<(), Fail> {
             9,
             "refused 9: field element at 65534\n",
         ),
+        (
+            FrontFault::Cell(CellFault::IdRefused),
+            10,
+            "refused 10: message id\n",
+        ),
+        (
+            FrontFault::Cell(CellFault::TextTooLong { index: 0 }),
+            11,
+            "refused 11: text 0 is over 65535 bytes\n",
+        ),
+        (
+            FrontFault::Cell(CellFault::SiteName),
+            27,
+            "refused 27: site name\n",
+        ),
         (FrontFault::NoMemory, 26, "refused 26: out of memory\n"),
     ];
     for (fault, number, line) in rows {
@@ -65,15 +81,12 @@ fn the_longest_line(rt: HostRuntime) -> Result<(), Fail> {
         site: SiteName::new("0123456789abcdef")?,
         count: u32::MAX,
     };
-    let fault = PlayFault::StampReused {
+    let fault = FrontFault::from(DocFault::from(PlayFault::StampReused {
         step: usize::MAX,
         place: u128::MAX,
         stamp,
-    };
-    assert_eq!(rt;
-        refuse(&mut Output::new(&mut page), DocFault::from(fault).into()),
-        3
-    );
+    }));
+    assert_eq!(rt; refuse(&mut Output::new(&mut page), fault), 3);
     assert!(rt;
         page.bytes.as_slice()
             == b"refused 13: stamp 18446744073709551615 0123456789abcdef 4294967295 used twice, cell 340282366920938463463374607431768211455, step 18446744073709551615\n".as_slice()
@@ -111,4 +124,141 @@ fn document_faults(rt: HostRuntime) -> Result<(), Fail> {
         assert_eq!(rt; page.writes, 1, "{line}");
     }
     Ok(())
+}
+
+fn field(row: usize, fault: CellFault) -> DocCause {
+    DocCause::Field {
+        row,
+        fault: FieldFault::Cell(fault),
+    }
+}
+
+/// The row and the document that are meant stand behind the text.
+#[test]
+fn document_and_row(rt: HostRuntime) -> Result<(), Fail> {
+    let rows = [
+        (
+            1,
+            DocCause::CellOrder { row: 1 },
+            "refused 21: cell order in row 1 of document 1\n",
+        ),
+        (
+            1,
+            DocCause::NotUtf8 { offset: 1 },
+            "refused 18: not UTF-8 at 1 of document 1\n",
+        ),
+        (2, DocCause::NotJson, "refused 19: not JSON of document 2\n"),
+        (
+            1,
+            DocCause::SiteName,
+            "refused 27: site name of document 1\n",
+        ),
+        (
+            1,
+            DocCause::VersionUnknown,
+            "refused 28: version unknown of document 1\n",
+        ),
+        (
+            1,
+            DocCause::Shape {
+                spot: Spot::Document,
+            },
+            "refused 20: shape of document 1\n",
+        ),
+        (
+            1,
+            DocCause::Shape { spot: Spot::Row(0) },
+            "refused 20: shape in row 0 of document 1\n",
+        ),
+        (
+            1,
+            field(0, CellFault::LabelCount { count: 0 }),
+            "refused 12: label has 0 texts in row 0 of document 1\n",
+        ),
+        (
+            2,
+            DocCause::RepeatedTag { row: 1 },
+            "refused 22: language repeated in row 1 of document 2\n",
+        ),
+        (
+            1,
+            field(0, CellFault::SiteName),
+            "refused 27: site name in row 0 of document 1\n",
+        ),
+    ];
+    for (document, cause, line) in rows {
+        let mut page = Page::new(rt.alloc());
+        let fault = FrontFault::from(DocFault { document, cause });
+        assert_eq!(rt; refuse(&mut Output::new(&mut page), fault), 3);
+        assert!(rt; page.bytes.as_slice() == line.as_bytes(), "{line}");
+    }
+    Ok(())
+}
+
+/// What a site or a script refuses means no document.
+#[test]
+fn sites_and_scripts(rt: HostRuntime) -> Result<(), Fail> {
+    let stamp = Stamp {
+        time: 5,
+        site: SiteName::new("0000000001")?,
+        count: 0,
+    };
+    let addressee = SiteName::new("0000000002")?;
+    let rows = [
+        (
+            DocCause::Site(CataFault::StampReused { place: 0, stamp }),
+            "refused 13: stamp 5 0000000001 0 used twice, cell 0\n",
+        ),
+        (
+            DocCause::Step(PlayFault::StampReused {
+                step: 4,
+                place: 0,
+                stamp,
+            }),
+            "refused 13: stamp 5 0000000001 0 used twice, cell 0, step 4\n",
+        ),
+        (
+            DocCause::Site(CataFault::ClockSpent),
+            "refused 14: clock is spent\n",
+        ),
+        (
+            DocCause::Site(CataFault::NotForMe { addressee }),
+            "refused 15: delta is for site 0000000002\n",
+        ),
+        (
+            DocCause::Step(PlayFault::NoSuchSite { step: 3 }),
+            "refused 16: step 3 names no site\n",
+        ),
+        (
+            DocCause::Step(PlayFault::NoSuchPost { step: 7 }),
+            "refused 17: step 7 names no post\n",
+        ),
+    ];
+    for (cause, line) in rows {
+        let mut page = Page::new(rt.alloc());
+        let fault = FrontFault::from(DocFault { document: 0, cause });
+        assert_eq!(rt; refuse(&mut Output::new(&mut page), fault), 3);
+        assert!(rt; page.bytes.as_slice() == line.as_bytes(), "{line}");
+    }
+    Ok(())
+}
+
+/// Why a process has no words: one is not UTF-8, or memory ran out.
+#[test]
+fn words_of_the_process(rt: HostRuntime) {
+    let rows = [
+        (
+            io::ErrorKind::InvalidData,
+            2,
+            "error: a word is not UTF-8\n",
+        ),
+        (io::ErrorKind::OutOfMemory, 5, "refused 26: out of memory\n"),
+    ];
+    for (kind, status, line) in rows {
+        let mut page = Page::new(rt.alloc());
+        let error = io::Error::from(kind);
+        let ended = refuse_words(&error, &mut Output::new(&mut page));
+        assert_eq!(rt; ended, status);
+        assert!(rt; page.bytes.as_slice() == line.as_bytes(), "{line}");
+    }
 }

@@ -1,5 +1,5 @@
-//! Writers that fail, and memory that ends.
-use super::harness::{Page, run_into, run_words};
+//! Writers that fail.
+use super::harness::{Page, run_into};
 use std::test::Fail;
 
 #[test]
@@ -30,38 +30,6 @@ fn failing_faults(rt: HostRuntime) -> Result<(), Fail> {
         let ran = run_into(alloc, words, Page::new(alloc), Page::full(alloc))?;
         assert_eq!(rt; ran.status, status);
         assert!(rt; ran.output.as_slice() == output.as_bytes());
-    }
-    Ok(())
-}
-
-/// Where a growth is refused, the answer is that of ample memory, or status 5 with nothing written
-/// to the output.
-#[test]
-fn refused_growths(rt: HostRuntime) -> Result<(), Fail> {
-    let alloc = rt.alloc();
-    let rows: [(&[&str], u8, &str); 3] = [
-        (
-            &["pick", "en-GB;q=0.5, fr", "en", "fr-CA"],
-            0,
-            "matched en\n",
-        ),
-        (
-            &["pick", "--scheme", "extended", "de-*-DE", "fr"],
-            1,
-            "nothing\n",
-        ),
-        (&["pick", "en", "e"], 3, ""),
-    ];
-    for (words, status, output) in rows {
-        let Ok(ran) = run_words(alloc, words) else {
-            continue;
-        };
-        if ran.status == 5 {
-            assert!(rt; ran.output.is_empty());
-        } else {
-            assert_eq!(rt; ran.status, status);
-            assert!(rt; ran.output.as_slice() == output.as_bytes());
-        }
     }
     Ok(())
 }

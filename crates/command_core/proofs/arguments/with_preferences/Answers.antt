@@ -1,13 +1,13 @@
-use Rattle.std.proofs.Common.{rules, codes}
+use Rattle.std.proofs.Common.{refl}
 use Rattle.std.proofs.lemmas.Result.{IfOk-weaker}
-use Rattle.clap.specs.Words.{new_app}
+use Rattle.clap.specs.Words.{app_of}
 use Rattle.command_core.specs.Words.{IsCommand}
 use Rattle.command_core.proofs.AppLemmas.{added}
-use Rattle.command_core.proofs.commands.bundle.command.Goals as goal
+use Rattle.command_core.proofs.arguments.with_preferences.Goals as goal
 
 pub returns : goal.returns
 returns c =
-    let start : IsCommand (new_app (codes "bundle")) c.after_help.result = (search rules, search rules) in
+    let start : IsCommand (app_of c.args.command) c.args.command = (refl, c.requires) in
     let has_scheme = added _ _ _ _ _ start c.in_ok-arg.ensures c.scheme.ensures in
     let has_lenient = added _ _ _ _ _ has_scheme c.in_ok-arg-2.ensures c.lenient.ensures in
     let has_default = added _ _ _ _ _ has_lenient c.in_ok-arg-3.ensures c.default.ensures in
