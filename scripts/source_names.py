@@ -14,8 +14,9 @@ def read(path):
 
 
 def bare(name):
-    """A type without its path and its parameters: `cell_core::Keyed<K, J>` is `Keyed`."""
-    name = re.sub(r"<.*", "", name.strip().lstrip("&"))
+    """A type without its path, its parameters and what it is borrowed for: `cell_core::Keyed<K, J>`
+    is `Keyed`, and so is `&'a Keyed<K, J>`."""
+    name = re.sub(r"^&('\w+ )?|<.*", "", name.strip())
     return name.split("::")[-1].strip()
 
 

@@ -36,7 +36,7 @@ pub fn refuse<S: Sink>(faults: &mut S, fault: FrontFault) -> u8
 
 /// Tells why the words of a process can't be had, and gives the status: there is no memory for them,
 /// or one is not UTF-8, which is a usage fault.
-pub fn refuse_words<S: Sink>(error: &io::Error, faults: &mut S) -> u8
+pub fn refuse_words<S: Sink>(faults: &mut S, error: &io::Error) -> u8
     requires { S.failed faults.old ≡ false }
     ensures { LacksWords S.contents S.failed (error_kind error.now) faults.old faults.new result }
 {

@@ -82,6 +82,7 @@ impl SiteHandle {
             alloc,
         }
     }
+
     /// Lets a handle go that is not open.
     pub(crate) fn discard(self)
         requires { self.value ≡ None }

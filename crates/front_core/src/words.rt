@@ -66,7 +66,8 @@ pub fn pick_with(
     Ok(answer.text)
 }
 
-/// The pick line of a field over the tags, and whether a tag is picked. Refused as [`pick_with`] is.
+/// The pick line of a field over the tags, and whether it names a tag or the default. Refused as
+/// [`pick_with`] is.
 pub fn pick_answer<S: AsStr>(
     alloc: Global,
     field: Field<'_>,

@@ -17,7 +17,7 @@ fn main(rt: HostRuntime) -> ExitCode {
             &mut Output::new(rt.stdout()),
             &mut faults,
         ),
-        Err(error) => refuse_words(&error, &mut faults),
+        Err(error) => refuse_words(&mut faults, &error),
     };
     ExitCode::from(status)
 }

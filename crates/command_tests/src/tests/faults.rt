@@ -257,8 +257,7 @@ fn words_of_the_process(rt: HostRuntime) {
     for (kind, status, line) in rows {
         let mut page = Page::new(rt.alloc());
         let error = io::Error::from(kind);
-        let ended = refuse_words(&error, &mut Output::new(&mut page));
-        assert_eq!(rt; ended, status);
+        assert_eq!(rt; refuse_words(&mut Output::new(&mut page), &error), status);
         assert!(rt; page.bytes.as_slice() == line.as_bytes(), "{line}");
     }
 }
