@@ -82,7 +82,7 @@ pub(crate) fn with_preferences<'a>(
     name: &'a str,
     value: &'a str,
 ) -> Result<Command<'a>, AllocError>
-    requires { (out-Command command.entry).has_globals ≡ false }
+    requires { (out-Command command).has_globals ≡ false }
     ensures { IfOk result (IsCommand (preferences_app (app_of command.entry) schemes.entry name.entry.now)) }
 {
     command
