@@ -3,8 +3,8 @@
 use super::makers::{catalogue, default, id, list};
 use super::shown;
 use super::words::{gives, gives_in};
-use cata_core::{Catalogue, Labels};
-use nego_core::Scheme;
+use cata_core::{Catalogue, Entries, Labels, LentEntries, Reply};
+use nego_core::{PriorityList, Scheme};
 use std::alloc::Global;
 use std::test::Fail;
 
@@ -44,11 +44,19 @@ fn an_unknown_message_has_no_labels(rt: HostRuntime) -> Result<(), Fail> {
 }
 
 /// What a list takes of a message, copied.
+fn taken(
+    alloc: Global,
+    message: &str,
+    scheme: Scheme,
+    list: &PriorityList,
+) -> Result<Entries, Fail> {
+    let (held, id) = (greetings(alloc)?, id(alloc, message)?);
+    let lent = held.ask_filter(alloc, &id, list, scheme)?;
+    Ok(lent.copy(alloc)?)
+}
+
 fn filtered(alloc: Global, message: &str, scheme: Scheme, field: &str) -> Result<String, Fail> {
-    let catalogue = greetings(alloc)?;
-    let list = list(alloc, scheme, field)?;
-    let lent = catalogue.ask_filter(alloc, &id(alloc, message)?, &list, scheme)?;
-    let entries = lent.copy(alloc)?;
+    let entries = taken(alloc, message, scheme, &list(alloc, scheme, field)?)?;
     Ok(shown::entries(alloc, &entries)?)
 }
 
@@ -77,10 +85,13 @@ fn a_filter_by_extended_ranges(rt: HostRuntime) -> Result<(), Fail> {
 }
 
 /// The language and weight at a place of what a list takes of a message, as it is lent.
-fn lent_at(alloc: Global, field: &str, place: usize) -> Result<String, Fail> {
-    let catalogue = greetings(alloc)?;
-    let list = list(alloc, Scheme::Basic, field)?;
-    let lent = catalogue.ask_filter(alloc, &id(alloc, "m")?, &list, Scheme::Basic)?;
+fn lent_at(alloc: Global, list: &PriorityList, place: usize) -> Result<String, Fail> {
+    let (held, id) = (greetings(alloc)?, id(alloc, "m")?);
+    let lent = held.ask_filter(alloc, &id, list, Scheme::Basic)?;
+    entry_at(alloc, &lent, place)
+}
+
+fn entry_at(alloc: Global, lent: &LentEntries, place: usize) -> Result<String, Fail> {
     match lent.nth(place) {
         Some((lang, _, weight)) => {
             Ok(format!(in alloc; "{} {weight} of {}", lang.as_str(), lent.len())?)
@@ -91,16 +102,25 @@ fn lent_at(alloc: Global, field: &str, place: usize) -> Result<String, Fail> {
 
 #[test]
 fn lent_entries_are_counted_from_0(rt: HostRuntime) -> Result<(), Fail> {
-    gives(lent_at(rt.alloc(), "fr;q=0.5, en", 1), "fr 500 of 2")
+    let list = list(rt.alloc(), Scheme::Basic, "fr;q=0.5, en")?;
+    gives(lent_at(rt.alloc(), &list, 1), "fr 500 of 2")
 }
 
 /// What a list looks up in a message, copied.
 fn found(alloc: Global, held: &Catalogue, field: &str, tag: &str) -> Result<String, Fail> {
     let list = list(alloc, Scheme::Basic, field)?;
-    let default = default(alloc, tag)?;
-    let lent = held.ask_lookup(&id(alloc, "m")?, &list, default.as_ref());
-    let reply = lent.copy(alloc)?;
+    let reply = reply_of(alloc, held, &list, tag)?;
     Ok(shown::reply(alloc, &reply)?)
+}
+
+fn reply_of(
+    alloc: Global,
+    held: &Catalogue,
+    list: &PriorityList,
+    tag: &str,
+) -> Result<Reply, Fail> {
+    let (id, default) = (id(alloc, "m")?, default(alloc, tag)?);
+    Ok(held.ask_lookup(&id, list, default.as_ref()).copy(alloc)?)
 }
 
 fn looked_up(alloc: Global, field: &str, tag: &str) -> Result<String, Fail> {

@@ -4,6 +4,7 @@ use super::makers::{catalogue, cell, edit, id, lang};
 use super::shown;
 use super::words::{Words, gives, gives_in};
 use cata_core::{CataFault, Catalogue};
+use cell_core::Cell;
 use std::alloc::Global;
 use std::test::Fail;
 
@@ -83,36 +84,27 @@ fn shown_end(
 }
 
 /// The message and language at a place.
-fn key_at(alloc: Global, held: &str, place: u128) -> Result<String, Fail> {
-    let catalogue = catalogue(alloc, held)?;
-    match catalogue.nth(place) {
+fn key_at(alloc: Global, held: &Catalogue, place: u128) -> Result<String, Fail> {
+    match held.nth(place) {
         Some((id, lang, _)) => Ok(format!(in alloc; "{} {}", id.as_str(), lang.as_str())?),
         None => Ok("none".to_string(alloc)?),
     }
 }
 
-#[test]
-fn the_first_place_is_without_language(rt: HostRuntime) -> Result<(), Fail> {
-    gives(
-        key_at(rt.alloc(), "n en 1 1 0 a; m fr 1 1 0 b; m @none 1 1 0 c", 0),
-        "m @none",
-    )
-}
+/// A case, a place, and the message and language there.
+const PLACES: &[(&str, u128, &str)] = &[
+    ("the first place is without language", 0, "m @none"),
+    ("places go on over messages", 2, "n en"),
+    ("no key stands behind the last", 3, "none"),
+];
 
 #[test]
-fn places_go_on_over_messages(rt: HostRuntime) -> Result<(), Fail> {
-    gives(
-        key_at(rt.alloc(), "n en 1 1 0 a; m fr 1 1 0 b; m @none 1 1 0 c", 2),
-        "n en",
-    )
-}
-
-#[test]
-fn no_key_stands_behind_the_last(rt: HostRuntime) -> Result<(), Fail> {
-    gives(
-        key_at(rt.alloc(), "n en 1 1 0 a; m fr 1 1 0 b; m @none 1 1 0 c", 3),
-        "none",
-    )
+fn keys_by_place(rt: HostRuntime) -> Result<(), Fail> {
+    let held = catalogue(rt.alloc(), "n en 1 1 0 a; m fr 1 1 0 b; m @none 1 1 0 c")?;
+    for (case, place, wanted) in PLACES {
+        gives_in(case, key_at(rt.alloc(), &held, *place), wanted)?;
+    }
+    Ok(())
 }
 
 fn lengths(alloc: Global, held: &str) -> Result<String, Fail> {
@@ -129,9 +121,13 @@ fn lengths_count_cells_and_messages(rt: HostRuntime) -> Result<(), Fail> {
 }
 
 /// The cell of a message in a language.
-fn cell_at(alloc: Global, held: &str, message: &str, tag: &str) -> Result<String, Fail> {
-    let catalogue = catalogue(alloc, held)?;
-    match catalogue.cell(&id(alloc, message)?, &lang(alloc, tag)?) {
+fn cell_at(alloc: Global, held: &Catalogue, message: &str, tag: &str) -> Result<String, Fail> {
+    let (id, lang) = (id(alloc, message)?, lang(alloc, tag)?);
+    shown_cell(alloc, held.cell(&id, &lang))
+}
+
+fn shown_cell(alloc: Global, cell: Option<&Cell>) -> Result<String, Fail> {
+    match cell {
         Some(cell) => Ok(shown::cell(alloc, cell)?),
         None => Ok("none".to_string(alloc)?),
     }
@@ -158,7 +154,8 @@ const CELLS: &[(&str, &str, &str, &str, &str)] = &[
 #[test]
 fn cells_by_message_and_language(rt: HostRuntime) -> Result<(), Fail> {
     for (case, held, message, tag, wanted) in CELLS {
-        gives_in(case, cell_at(rt.alloc(), held, message, tag), wanted)?;
+        let held = catalogue(rt.alloc(), held)?;
+        gives_in(case, cell_at(rt.alloc(), &held, message, tag), wanted)?;
     }
     Ok(())
 }
@@ -179,9 +176,10 @@ fn the_least_clash_is_told(rt: HostRuntime) -> Result<(), Fail> {
 
 /// A catalogue of one edit that is put behind all others.
 fn pushed(alloc: Global) -> Result<Catalogue, Fail> {
-    let mut catalogue = Catalogue::new(alloc);
+    let (id, lang) = (id(alloc, "m")?, lang(alloc, "en")?);
     let cell = cell(alloc, &mut Words::new("5 1 0 a"))?;
-    catalogue.push(alloc, id(alloc, "m")?, lang(alloc, "en")?, cell)?;
+    let mut catalogue = Catalogue::new(alloc);
+    catalogue.push(alloc, id, lang, cell)?;
     Ok(catalogue)
 }
 

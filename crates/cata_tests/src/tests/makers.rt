@@ -1,7 +1,7 @@
 //! Makes what the tests speak of from texts.
 
 use super::words::Words;
-use cata_core::{Catalogue, Edit, Site};
+use cata_core::{CataFault, Catalogue, Edit, Site};
 use cell_core::{Cell, Label, MessageId, SiteName, Stamp};
 use lang_core::Lang;
 use nego_core::{PriorityList, Scheme};
@@ -63,9 +63,14 @@ pub fn edit(alloc: Global, text: &str) -> Result<Edit, Fail> {
 pub fn catalogue(alloc: Global, text: &str) -> Result<Catalogue, Fail> {
     let mut catalogue = Catalogue::new(alloc);
     for edit_text in text.split("; ") {
-        catalogue.apply(alloc, &edit(alloc, edit_text)?)?;
+        apply(alloc, &mut catalogue, edit_text)?;
     }
     Ok(catalogue)
+}
+
+fn apply(alloc: Global, catalogue: &mut Catalogue, text: &str) -> Result<(), Fail> {
+    let edit = edit(alloc, text)?;
+    Ok(catalogue.apply(alloc, &edit)?)
 }
 
 /// A site that holds edits.
@@ -76,6 +81,17 @@ pub fn site(alloc: Global, word: &str, text: &str) -> Result<Site, Fail> {
 /// A site that holds nothing.
 pub fn empty_site(alloc: Global, word: &str) -> Result<Site, Fail> {
     Ok(Site::new(alloc, name(word)?))
+}
+
+/// Puts a text for `m` in English.
+pub fn put(
+    alloc: Global,
+    site: &mut Site,
+    now: u64,
+    text: &str,
+) -> Result<Result<Stamp, CataFault>, Fail> {
+    let (id, lang, label) = (id(alloc, "m")?, lang(alloc, "en")?, label(alloc, text)?);
+    Ok(site.put(alloc, now, &id, &lang, &label))
 }
 
 pub fn scheme(word: &str) -> Scheme {

@@ -1,6 +1,6 @@
 //! Two sites made equal.
 
-use super::makers::{empty_site, id, label, lang, site};
+use super::makers::{empty_site, put, site};
 use super::shown;
 use super::words::gives;
 use cata_core::{Catalogue, Site, sync};
@@ -44,8 +44,7 @@ fn resolved(alloc: Global) -> Result<(Site, Site), Fail> {
     let mut first = site(alloc, "1", "m en 5 1 0 one")?;
     let mut second = site(alloc, "2", "m en 5 1 0 two")?;
     let _ = sync(alloc, &mut first, &mut second);
-    let (id, lang, label) = (id(alloc, "m")?, lang(alloc, "en")?, label(alloc, "three")?);
-    first.put(alloc, 6, &id, &lang, &label)?;
+    put(alloc, &mut first, 6, "three")??;
     Ok((first, second))
 }
 

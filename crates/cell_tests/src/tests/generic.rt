@@ -22,9 +22,10 @@ fn later(rt: &impl Abort) -> Cell {
     deleted(stamp(rt, 6, "b", 0))
 }
 
-/// The join of two catalogues of one cell.
-fn both(rt: &impl Abort, alloc: Global, own: Catalogue, other: Catalogue) -> Catalogue {
-    joined(rt, alloc, own, &other)
+/// The join of the early cell of "m" in English with the later cell of a message in a language.
+fn join_with_later(rt: &impl Abort, alloc: Global, message: &str, tag: &str) -> Catalogue {
+    let own = one(rt, alloc, "m", "en", early(rt, alloc));
+    joined(rt, alloc, own, &one(rt, alloc, message, tag, later(rt)))
 }
 
 /// The time of the cell of a message in a language.
@@ -34,15 +35,14 @@ fn time_of(map: &Catalogue, message: &MessageId, tag: &Lang) -> Option<u64> {
 }
 
 fn assert_time(rt: &impl Abort, alloc: Global, map: &Catalogue, name: &str, tag: &str, time: u64) {
-    let (message, tag) = (id(rt, alloc, name), lang(rt, alloc, tag));
-    assert_eq!(rt; time_of(map, &message, &tag), Some(time));
+    let found = time_of(map, &id(rt, alloc, name), &lang(rt, alloc, tag));
+    assert_eq!(rt; found, Some(time));
 }
 
 #[test]
 fn joins_languages_of_a_message(rt: HostRuntime) {
     let alloc = rt.alloc();
-    let en = one(&rt, alloc, "m", "en", early(&rt, alloc));
-    let map = both(&rt, alloc, en, one(&rt, alloc, "m", "fr", later(&rt)));
+    let map = join_with_later(&rt, alloc, "m", "fr");
     assert_eq!(rt; map.len(), 1);
     assert_time(&rt, alloc, &map, "m", "en", 5);
     assert_time(&rt, alloc, &map, "m", "fr", 6);
@@ -51,32 +51,29 @@ fn joins_languages_of_a_message(rt: HostRuntime) {
 #[test]
 fn joins_cells_two_deep(rt: HostRuntime) {
     let alloc = rt.alloc();
-    let en = one(&rt, alloc, "m", "en", early(&rt, alloc));
-    let map = both(&rt, alloc, en, one(&rt, alloc, "m", "en", later(&rt)));
+    let map = join_with_later(&rt, alloc, "m", "en");
     assert_time(&rt, alloc, &map, "m", "en", 6);
 }
 
 #[test]
 fn joins_messages(rt: HostRuntime) {
     let alloc = rt.alloc();
-    let m = one(&rt, alloc, "m", "en", early(&rt, alloc));
-    let map = both(&rt, alloc, m, one(&rt, alloc, "n", "en", later(&rt)));
+    let map = join_with_later(&rt, alloc, "n", "en");
     assert_time(&rt, alloc, &map, "m", "en", 5);
     assert_time(&rt, alloc, &map, "n", "en", 6);
 }
 
-/// Whether two catalogues agree that have a cell at the same place.
-fn agree(rt: &impl Abort, alloc: Global, own: Cell, other: Cell) -> bool {
-    let map = one(rt, alloc, "m", "en", own);
+/// Whether the catalogue of the early cell agrees with that of another at the same place.
+fn early_agrees(rt: &impl Abort, alloc: Global, other: Cell) -> bool {
+    let map = one(rt, alloc, "m", "en", early(rt, alloc));
     map.agrees(&one(rt, alloc, "m", "en", other))
 }
 
 #[test]
 fn clashes_two_deep(rt: HostRuntime) {
-    let alloc = rt.alloc();
     let clash = deleted(stamp(&rt, 5, "a", 0));
-    assert!(rt; !agree(&rt, alloc, early(&rt, alloc), clash));
-    assert!(rt; agree(&rt, alloc, early(&rt, alloc), later(&rt)));
+    assert!(rt; !early_agrees(&rt, rt.alloc(), clash));
+    assert!(rt; early_agrees(&rt, rt.alloc(), later(&rt)));
 }
 
 #[test]
@@ -89,10 +86,15 @@ fn stamped(rt: &impl Abort, alloc: Global, time: u64) -> Keyed<MessageId, Stamp>
     only(rt, alloc, id(rt, alloc, "m"), stamp(rt, time, "a", 0))
 }
 
+/// The stamp of the message "m".
+fn stamp_of(rt: &impl Abort, alloc: Global, map: &Keyed<MessageId, Stamp>) -> Option<Stamp> {
+    map.get(&id(rt, alloc, "m")).copied()
+}
+
 #[test]
 fn joins_stamps_by_message(rt: HostRuntime) {
     let alloc = rt.alloc();
     let map = joined(&rt, alloc, stamped(&rt, alloc, 6), &stamped(&rt, alloc, 5));
-    let found = map.get(&id(&rt, alloc, "m")).copied();
+    let found = stamp_of(&rt, alloc, &map);
     assert_eq!(rt; found, Some(stamp(&rt, 6, "a", 0)));
 }

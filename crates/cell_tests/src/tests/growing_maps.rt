@@ -46,13 +46,23 @@ fn every(rt: &impl Abort, alloc: Global, first: u64, step: u64, count: u64, time
     map
 }
 
-/// The walk meets just the keys from the first one on in steps, and finds each.
-fn assert_every(rt: &impl Abort, map: &Numbers, first: u64, step: u64, count: u64) {
+/// The map counts so many entries, and so many are met by its walk.
+fn assert_counted(rt: &impl Abort, map: &Numbers, count: u64) {
     assert_eq!(rt; map.len() as u64, count);
     assert_eq!(rt; map.iter().count() as u64, count);
-    for ((key, value), place) in map.iter().zip(0..count) {
-        assert_eq!(rt; *key, nth_key(first, step, place));
-        assert_eq!(rt; map.get(key), Some(value));
+}
+
+/// An entry that the walk meets is of this key, by which the map finds the same.
+fn assert_entry(rt: &impl Abort, map: &Numbers, met: (&Number, &Stamp), key: Number) {
+    assert_eq!(rt; *met.0, key);
+    assert_eq!(rt; map.get(met.0), Some(met.1));
+}
+
+/// The walk meets just the keys from the first one on in steps, and finds each.
+fn assert_every(rt: &impl Abort, map: &Numbers, first: u64, step: u64, count: u64) {
+    assert_counted(rt, map, count);
+    for (met, place) in map.iter().zip(0..count) {
+        assert_entry(rt, map, met, nth_key(first, step, place));
     }
 }
 
@@ -60,15 +70,23 @@ fn time_of(map: &Numbers, value: u64) -> Option<u64> {
     map.get(&Number { value }).map(|stamp| stamp.time)
 }
 
+fn assert_time(rt: &impl Abort, map: &Numbers, value: u64, time: Option<u64>) {
+    assert_eq!(rt; time_of(map, value), time, "key {value}");
+}
+
 fn key_at(map: &Numbers, place: usize) -> Option<u64> {
     map.nth(place).map(|entry| entry.0.value)
+}
+
+fn assert_key_at(rt: &impl Abort, map: &Numbers, place: usize, value: Option<u64>) {
+    assert_eq!(rt; key_at(map, place), value, "place {place}");
 }
 
 #[test]
 fn rising_keys(rt: HostRuntime) {
     let map = every(&rt, rt.alloc(), 0, 1, 1000, 1);
     assert_every(&rt, &map, 0, 1, 1000);
-    assert_eq!(rt; time_of(&map, 1000), None);
+    assert_time(&rt, &map, 1000, None);
 }
 
 #[test]
@@ -81,10 +99,10 @@ fn falling_keys(rt: HostRuntime) {
 #[test]
 fn places_over_chunks(rt: HostRuntime) {
     let map = every(&rt, rt.alloc(), 7, 3, 1000, 1);
-    assert_eq!(rt; key_at(&map, 0), Some(7));
-    assert_eq!(rt; key_at(&map, 500), Some(1507));
-    assert_eq!(rt; key_at(&map, 999), Some(3004));
-    assert_eq!(rt; key_at(&map, 1000), None);
+    assert_key_at(&rt, &map, 0, Some(7));
+    assert_key_at(&rt, &map, 500, Some(1507));
+    assert_key_at(&rt, &map, 999, Some(3004));
+    assert_key_at(&rt, &map, 1000, None);
 }
 
 #[test]
@@ -96,8 +114,8 @@ fn mixed_keys(rt: HostRuntime) {
         put(&rt, &mut map, Number { value }, stamp(place));
     }
     assert_every(&rt, &map, 0, 1, 1000);
-    assert_eq!(rt; time_of(&map, 0), Some(1000));
-    assert_eq!(rt; time_of(&map, 617), Some(1001));
+    assert_time(&rt, &map, 0, Some(1000));
+    assert_time(&rt, &map, 617, Some(1001));
 }
 
 /// Gives a held key this time.
@@ -113,9 +131,9 @@ fn changed_in_place(rt: HostRuntime) {
     change(&mut map, 700, 9);
     change(&mut map, 701, 9);
     assert_every(&rt, &map, 0, 2, 500);
-    assert_eq!(rt; time_of(&map, 698), Some(1));
-    assert_eq!(rt; time_of(&map, 700), Some(9));
-    assert_eq!(rt; time_of(&map, 702), Some(1));
+    assert_time(&rt, &map, 698, Some(1));
+    assert_time(&rt, &map, 700, Some(9));
+    assert_time(&rt, &map, 702, Some(1));
 }
 
 /// The even keys at time 1 are joined with the multiples of three at time 2.
@@ -125,7 +143,16 @@ fn assert_joined_at(rt: &impl Abort, map: &Numbers, value: u64) {
         (0, _) => Some(1),
         _ => None,
     };
-    assert_eq!(rt; time_of(map, value), time, "key {value}");
+    assert_time(rt, map, value, time);
+}
+
+/// The even keys below 1800 are joined with the multiples of three.
+fn assert_interleaved(rt: &impl Abort, map: &Numbers) {
+    // Of each six in a row, two are in neither.
+    assert_eq!(rt; map.len(), 1200);
+    for value in 0..1800 {
+        assert_joined_at(rt, map, value);
+    }
 }
 
 /// The join of two maps.
@@ -137,12 +164,7 @@ fn both(rt: &impl Abort, alloc: Global, own: Numbers, other: Numbers) -> Numbers
 fn interleaved_joins(rt: HostRuntime) {
     let even = every(&rt, rt.alloc(), 0, 2, 900, 1);
     let thirds = every(&rt, rt.alloc(), 0, 3, 600, 2);
-    let map = both(&rt, rt.alloc(), even, thirds);
-    // Of each six in a row, two are in neither.
-    assert_eq!(rt; map.len(), 1200);
-    for value in 0..1800 {
-        assert_joined_at(&rt, &map, value);
-    }
+    assert_interleaved(&rt, &both(&rt, rt.alloc(), even, thirds));
 }
 
 #[test]
@@ -186,21 +208,26 @@ fn few_keys_into_many(rt: HostRuntime) {
     let few = every(&rt, rt.alloc(), 1, 500, 4, 2);
     let map = both(&rt, rt.alloc(), many, few);
     assert_eq!(rt; map.len(), 1004);
-    assert_eq!(rt; time_of(&map, 1), Some(2));
-    assert_eq!(rt; time_of(&map, 1501), Some(2));
-    assert_eq!(rt; time_of(&map, 500), Some(1));
-    assert_eq!(rt; time_of(&map, 503), None);
+    assert_time(&rt, &map, 1, Some(2));
+    assert_time(&rt, &map, 1501, Some(2));
+    assert_time(&rt, &map, 500, Some(1));
+    assert_time(&rt, &map, 503, None);
+}
+
+/// A label or a deletion, at the same stamp.
+fn cell(rt: &impl Abort, alloc: Global, has_label: bool) -> Cell {
+    if has_label {
+        labelled(rt, alloc, stamp(1), "a")
+    } else {
+        deleted(stamp(1))
+    }
 }
 
 /// Three hundred deletions, of which one key may have a label at the same stamp.
 fn cells(rt: &impl Abort, alloc: Global, labelled_key: u64) -> Keyed<Number, Cell> {
     let mut map = Keyed::new(alloc);
     for value in 0..300 {
-        let cell = if value == labelled_key {
-            labelled(rt, alloc, stamp(1), "a")
-        } else {
-            deleted(stamp(1))
-        };
+        let cell = cell(rt, alloc, value == labelled_key);
         put(rt, &mut map, Number { value }, cell);
     }
     map

@@ -83,28 +83,43 @@ fn joins_no_items(rt: HostRuntime) {
     assert!(rt; join_of(&rt, rt.alloc(), &none).is_none());
 }
 
-/// A cell at the time that two sites have in common.
-fn nine(rt: &impl Abort, alloc: Global) -> Cell {
-    labelled(rt, alloc, stamp(rt, 5, "0000000009", 0), "x")
+fn nine_stamp(rt: &impl Abort) -> Stamp {
+    stamp(rt, 5, "0000000009", 0)
 }
 
-/// The same at the other site, whose name is greater.
+/// A cell at the time that two sites have in common.
+fn nine(rt: &impl Abort, alloc: Global) -> Cell {
+    labelled(rt, alloc, nine_stamp(rt), "x")
+}
+
+/// A deletion at the same time and site.
+fn deleted_nine(rt: &impl Abort) -> Cell {
+    deleted(nine_stamp(rt))
+}
+
+/// A cell at that time at the other site, whose name is greater.
 fn ten(rt: &impl Abort, alloc: Global) -> Cell {
     labelled(rt, alloc, stamp(rt, 5, "0000000010", 0), "y")
+}
+
+/// The cell is that of the greater name.
+fn assert_ten(rt: &impl Abort, alloc: Global, cell: &Cell) {
+    assert!(rt; *cell == ten(rt, alloc));
+    assert!(rt; *cell != nine(rt, alloc));
 }
 
 #[test]
 fn keeps_the_later_cell(rt: HostRuntime) {
     let alloc = rt.alloc();
     let join = joined(&rt, alloc, nine(&rt, alloc), &ten(&rt, alloc));
-    assert!(rt; join == ten(&rt, alloc));
+    assert_ten(&rt, alloc, &join);
 }
 
 #[test]
 fn keeps_its_own_later_cell(rt: HostRuntime) {
     let alloc = rt.alloc();
     let join = joined(&rt, alloc, ten(&rt, alloc), &nine(&rt, alloc));
-    assert!(rt; join == ten(&rt, alloc) && join != nine(&rt, alloc));
+    assert_ten(&rt, alloc, &join);
 }
 
 #[test]
@@ -113,12 +128,15 @@ fn copies_are_equal(rt: HostRuntime) {
     assert!(rt; copy(&rt, rt.alloc(), &cell) == cell);
 }
 
+fn assert_parts(rt: &impl Abort, cell: &Cell, has_label: bool) {
+    assert_eq!(rt; cell.stamp(), nine_stamp(rt));
+    assert_eq!(rt; cell.label().is_some(), has_label);
+}
+
 #[test]
 fn shows_its_parts(rt: HostRuntime) {
-    let stamp = stamp(&rt, 5, "a", 0);
-    let cell = labelled(&rt, rt.alloc(), stamp, "x");
-    assert!(rt; cell.stamp() == stamp && cell.label().is_some());
-    assert!(rt; deleted(stamp).label().is_none());
+    assert_parts(&rt, &nine(&rt, rt.alloc()), true);
+    assert_parts(&rt, &deleted_nine(&rt), false);
 }
 
 /// Three cells of which only the first and the last clash.
@@ -129,10 +147,9 @@ fn clashing(rt: &impl Abort, alloc: Global) -> Vec<Cell> {
     Vec::from_array(alloc, [first, second, third]).expect(rt, "memory for the cells")
 }
 
-#[test]
-fn agrees_pair_by_pair(rt: HostRuntime) {
-    let cells = clashing(&rt, rt.alloc());
-    assert!(rt; !agree_all(&cells));
+/// Of the three cells only the first and the last clash.
+fn assert_ends_clash(rt: &impl Abort, cells: &[Cell]) {
+    assert!(rt; !agree_all(cells));
     assert_eq!(rt; cells.len(), 3);
     assert!(rt; agree_all(&cells[..2]));
     assert!(rt; agree_all(&cells[1..]));
@@ -140,8 +157,18 @@ fn agrees_pair_by_pair(rt: HostRuntime) {
 }
 
 #[test]
+fn agrees_pair_by_pair(rt: HostRuntime) {
+    assert_ends_clash(&rt, &clashing(&rt, rt.alloc()));
+}
+
+#[test]
 fn a_deletion_clashes_with_a_label(rt: HostRuntime) {
-    let stamp = stamp(&rt, 5, "a", 0);
-    let cell = labelled(&rt, rt.alloc(), stamp, "x");
-    assert!(rt; !cell.agrees(&deleted(stamp)) && deleted(stamp).agrees(&deleted(stamp)));
+    let cell = nine(&rt, rt.alloc());
+    assert!(rt; !cell.agrees(&deleted_nine(&rt)));
+}
+
+#[test]
+fn deletions_of_one_stamp_agree(rt: HostRuntime) {
+    let cell = deleted_nine(&rt);
+    assert!(rt; cell.agrees(&deleted_nine(&rt)));
 }

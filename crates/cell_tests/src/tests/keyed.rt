@@ -21,13 +21,23 @@ fn two(rt: &impl Abort, alloc: Global) -> Keyed<Lang, Cell> {
     map
 }
 
+/// The walk meets as many entries as the map counts.
+fn assert_counted(rt: &impl Abort, map: &Keyed<Lang, Cell>) {
+    assert_eq!(rt; map.len(), map.iter().count());
+}
+
+fn assert_same_entry(rt: &impl Abort, mine: (&Lang, &Cell), theirs: (&Lang, &Cell)) {
+    assert!(rt; mine.0 == theirs.0);
+    assert!(rt; mine.1 == theirs.1);
+}
+
 /// The two have the same languages with the same cells.
 fn assert_same(rt: &impl Abort, a: &Keyed<Lang, Cell>, b: &Keyed<Lang, Cell>) {
     assert_eq!(rt; a.len(), b.len());
-    assert_eq!(rt; a.iter().count(), a.len());
-    assert_eq!(rt; b.iter().count(), b.len());
+    assert_counted(rt, a);
+    assert_counted(rt, b);
     for (mine, theirs) in a.iter().zip(b.iter()) {
-        assert!(rt; mine.0 == theirs.0 && mine.1 == theirs.1);
+        assert_same_entry(rt, mine, theirs);
     }
 }
 
@@ -56,19 +66,29 @@ fn copies_are_equal(rt: HostRuntime) {
     assert_copied(&rt, rt.alloc(), &two(&rt, rt.alloc()));
 }
 
+/// A copy of the language is equal to it.
+fn assert_key_copied(rt: &impl Abort, alloc: Global, key: &Lang) {
+    assert!(rt; key_copy(rt, alloc, key) == *key);
+}
+
 #[test]
 fn copies_languages(rt: HostRuntime) {
-    let en = lang(&rt, rt.alloc(), "en");
-    assert!(rt; key_copy(&rt, rt.alloc(), &en) == en);
-    assert!(rt; key_copy(&rt, rt.alloc(), &Lang::none()) == Lang::none());
+    assert_key_copied(&rt, rt.alloc(), &lang(&rt, rt.alloc(), "en"));
+    assert_key_copied(&rt, rt.alloc(), &Lang::none());
+}
+
+/// Whether the maps of these languages and texts agree.
+fn agree(rt: &impl Abort, alloc: Global, own: (&str, &str), other: (&str, &str)) -> bool {
+    let own = one(rt, alloc, own.0, own.1);
+    own.agrees(&one(rt, alloc, other.0, other.1))
 }
 
 #[test]
 fn agrees_at_common_keys(rt: HostRuntime) {
-    let a = one(&rt, rt.alloc(), "en", "a");
-    let b = one(&rt, rt.alloc(), "en", "b");
-    let fr = one(&rt, rt.alloc(), "fr", "b");
-    assert!(rt; !a.agrees(&b) && a.agrees(&fr) && fr.agrees(&b));
+    let alloc = rt.alloc();
+    assert!(rt; !agree(&rt, alloc, ("en", "a"), ("en", "b")));
+    assert!(rt; agree(&rt, alloc, ("en", "a"), ("fr", "b")));
+    assert!(rt; agree(&rt, alloc, ("fr", "b"), ("en", "b")));
 }
 
 /// The language that is found by this text.
@@ -76,25 +96,31 @@ fn found_by<'a>(map: &'a Keyed<Lang, Cell>, text: &str) -> Option<&'a str> {
     map.get_by(text).map(|(key, _)| key.as_str())
 }
 
+fn assert_found(rt: &impl Abort, map: &Keyed<Lang, Cell>, text: &str, found: Option<&str>) {
+    assert_eq!(rt; found_by(map, text), found, "{text}");
+}
+
 #[test]
 fn finds_languages_by_text(rt: HostRuntime) {
     let map = two(&rt, rt.alloc());
-    assert_eq!(rt; found_by(&map, "en"), Some("en"));
-    assert_eq!(rt; found_by(&map, "fr"), Some("fr"));
-    assert_eq!(rt; found_by(&map, "EN"), None);
-    assert_eq!(rt; found_by(&map, "e n"), None);
-    assert_eq!(rt; found_by(&Keyed::new(rt.alloc()), "en"), None);
+    assert_found(&rt, &map, "en", Some("en"));
+    assert_found(&rt, &map, "fr", Some("fr"));
+    assert_found(&rt, &map, "EN", None);
+    assert_found(&rt, &map, "e n", None);
+    assert_found(&rt, &Keyed::new(rt.alloc()), "en", None);
+}
+
+/// The language and the time of the cell that are found by this key.
+fn entry_of<'a>(map: &'a Keyed<Lang, Cell>, key: &Lang) -> Option<(&'a str, u64)> {
+    map.get_by(key)
+        .map(|(key, cell)| (key.as_str(), cell.stamp().time))
 }
 
 #[test]
 fn finds_entries_by_key(rt: HostRuntime) {
     let map = two(&rt, rt.alloc());
-    let en = lang(&rt, rt.alloc(), "en");
-    let found = map.get_by(&en);
-    assert_eq!(rt;
-        found.map(|(key, cell)| (key.as_str(), cell.stamp().time)),
-        Some(("en", 7))
-    );
+    let found = entry_of(&map, &lang(&rt, rt.alloc(), "en"));
+    assert_eq!(rt; found, Some(("en", 7)));
 }
 
 /// The time of the language's cell.
@@ -102,13 +128,17 @@ fn time_of(map: &Keyed<Lang, Cell>, key: &Lang) -> Option<u64> {
     map.get(key).map(|cell| cell.stamp().time)
 }
 
+fn assert_time(rt: &impl Abort, map: &Keyed<Lang, Cell>, key: &Lang, time: Option<u64>) {
+    assert_eq!(rt; time_of(map, key), time);
+}
+
 #[test]
 fn puts_a_held_key(rt: HostRuntime) {
     let mut map = two(&rt, rt.alloc());
     let late = deleted(stamp(&rt, 9, "a", 0));
     put(&rt, &mut map, lang(&rt, rt.alloc(), "en"), late);
-    assert_eq!(rt; time_of(&map, &lang(&rt, rt.alloc(), "en")), Some(9));
-    assert_eq!(rt; time_of(&map, &lang(&rt, rt.alloc(), "fr")), Some(6));
+    assert_time(&rt, &map, &lang(&rt, rt.alloc(), "en"), Some(9));
+    assert_time(&rt, &map, &lang(&rt, rt.alloc(), "fr"), Some(6));
     assert_eq!(rt; map.len(), 2);
 }
 
@@ -123,55 +153,74 @@ fn delete(rt: &impl Abort, map: &mut Keyed<Lang, Cell>, key: &Lang, time: u64) -
     }
 }
 
+/// A deletion at time 9 reaches the language's cell, or there is none.
+fn assert_deleted(rt: &impl Abort, map: &mut Keyed<Lang, Cell>, key: &Lang, is_held: bool) {
+    assert_eq!(rt; delete(rt, map, key, 9), is_held);
+    assert_time(rt, map, key, if is_held { Some(9) } else { None });
+}
+
 #[test]
 fn changes_in_place(rt: HostRuntime) {
     let mut map = two(&rt, rt.alloc());
-    let fr = lang(&rt, rt.alloc(), "fr");
-    assert!(rt; delete(&rt, &mut map, &fr, 9));
-    assert_eq!(rt; time_of(&map, &fr), Some(9));
-    assert!(rt; !delete(&rt, &mut map, &Lang::none(), 9));
-    assert_eq!(rt; time_of(&map, &Lang::none()), None);
+    assert_deleted(&rt, &mut map, &lang(&rt, rt.alloc(), "fr"), true);
+    assert_deleted(&rt, &mut map, &Lang::none(), false);
 }
 
 fn tag_at(map: &Keyed<Lang, Cell>, place: usize) -> Option<&str> {
     map.nth(place).map(|entry| entry.0.as_str())
 }
 
+fn assert_tag_at(rt: &impl Abort, map: &Keyed<Lang, Cell>, place: usize, tag: Option<&str>) {
+    assert_eq!(rt; tag_at(map, place), tag, "place {place}");
+}
+
 #[test]
 fn stands_in_order_of_keys(rt: HostRuntime) {
     let mut map = two(&rt, rt.alloc());
     put(&rt, &mut map, Lang::none(), deleted(stamp(&rt, 1, "a", 0)));
-    assert_eq!(rt; tag_at(&map, 0), Some("@none"));
-    assert_eq!(rt; tag_at(&map, 1), Some("en"));
-    assert_eq!(rt; tag_at(&map, 2), Some("fr"));
-    assert_eq!(rt; tag_at(&map, 3), None);
+    assert_tag_at(&rt, &map, 0, Some("@none"));
+    assert_tag_at(&rt, &map, 1, Some("en"));
+    assert_tag_at(&rt, &map, 2, Some("fr"));
+    assert_tag_at(&rt, &map, 3, None);
 }
 
 fn last_tag(map: &Keyed<Lang, Cell>) -> Option<&str> {
     map.last().map(|entry| entry.0.as_str())
 }
 
+fn assert_last(rt: &impl Abort, map: &Keyed<Lang, Cell>, tag: Option<&str>) {
+    assert_eq!(rt; last_tag(map), tag);
+}
+
 #[test]
 fn the_last_has_the_greatest_key(rt: HostRuntime) {
     let mut map = two(&rt, rt.alloc());
-    assert_eq!(rt; last_tag(&map), Some("fr"));
+    assert_last(&rt, &map, Some("fr"));
     let cell = deleted(stamp(&rt, 1, "a", 0));
     put(&rt, &mut map, lang(&rt, rt.alloc(), "sr-Latn"), cell);
-    assert_eq!(rt; last_tag(&map), Some("sr-latn"));
+    assert_last(&rt, &map, Some("sr-latn"));
 }
 
 #[test]
 fn an_empty_map_has_no_last(rt: HostRuntime) {
-    let map: Keyed<Lang, Cell> = Keyed::new(rt.alloc());
-    assert_eq!(rt; last_tag(&map), None);
+    assert_last(&rt, &Keyed::new(rt.alloc()), None);
 }
 
 #[test]
-fn maps_are_equal_as_their_entries_are(rt: HostRuntime) {
+fn maps_of_equal_entries_are_equal(rt: HostRuntime) {
     let map = two(&rt, rt.alloc());
     let join = joined(&rt, rt.alloc(), one(&rt, rt.alloc(), "en", "a"), &map);
     assert!(rt; join == map);
-    assert!(rt; map != one(&rt, rt.alloc(), "en", "a"));
-    assert!(rt; one(&rt, rt.alloc(), "en", "b") != one(&rt, rt.alloc(), "en", "a"));
-    assert!(rt; one(&rt, rt.alloc(), "fr", "a") != one(&rt, rt.alloc(), "en", "a"));
+}
+
+/// The map differs from that of the label "a" in English.
+fn assert_other(rt: &impl Abort, alloc: Global, map: &Keyed<Lang, Cell>) {
+    assert!(rt; *map != one(rt, alloc, "en", "a"));
+}
+
+#[test]
+fn maps_of_other_entries_differ(rt: HostRuntime) {
+    assert_other(&rt, rt.alloc(), &two(&rt, rt.alloc()));
+    assert_other(&rt, rt.alloc(), &one(&rt, rt.alloc(), "en", "b"));
+    assert_other(&rt, rt.alloc(), &one(&rt, rt.alloc(), "fr", "a"));
 }

@@ -21,16 +21,29 @@ fn repeated(rt: &impl Abort, alloc: Global, times: usize) -> String {
     "a".repeat(alloc, times).expect(rt, "memory")
 }
 
+fn assert_fault(rt: &impl Abort, made: Result<Label, CellFault>, fault: CellFault) {
+    assert_eq!(rt; made.err(), Some(fault));
+}
+
 fn assert_refused(rt: &impl Abort, alloc: Global, texts: Vec<String>, fault: CellFault) {
-    assert_eq!(rt; Label::new(alloc, &texts).err(), Some(fault));
-    assert_eq!(rt; Label::from_texts(texts).err(), Some(fault));
+    assert_fault(rt, Label::new(alloc, &texts), fault);
+    assert_fault(rt, Label::from_texts(texts), fault);
+}
+
+fn assert_texts(rt: &impl Abort, label: &Label, texts: &[String]) {
+    assert!(rt; label.texts() == texts);
+}
+
+fn assert_equal(rt: &impl Abort, label: &Label, other: &Label) {
+    assert!(rt; label == other);
 }
 
 fn assert_kept(rt: &impl Abort, alloc: Global, texts: Vec<String>) {
     let label = Label::new(alloc, &texts).expect(rt, "a label");
-    assert!(rt; label.texts() == texts.as_slice());
-    assert!(rt; label.copy(alloc).expect(rt, "memory") == label);
-    assert!(rt; Label::from_texts(texts).expect(rt, "a label") == label);
+    assert_texts(rt, &label, &texts);
+    assert_equal(rt, &label.copy(alloc).expect(rt, "memory"), &label);
+    let from_texts = Label::from_texts(texts).expect(rt, "a label");
+    assert_equal(rt, &from_texts, &label);
 }
 
 /// Two texts.

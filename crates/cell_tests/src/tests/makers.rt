@@ -3,6 +3,7 @@
 use cell_core::{Cell, Join, Key, Keyed, Label, MessageId, SiteName, Stamp, agree_all, join_all};
 use lang_core::Lang;
 use std::alloc::Global;
+use std::fmt::Display;
 use std::process::Abort;
 
 pub fn name(rt: &impl Abort, text: &str) -> SiteName {
@@ -65,6 +66,11 @@ pub fn joined<J: Join>(rt: &impl Abort, alloc: Global, mut own: J, other: &J) ->
 pub fn join_of<J: Join>(rt: &impl Abort, alloc: Global, items: &[J]) -> Option<J> {
     assert!(rt; agree_all(items));
     join_all(alloc, items).expect(rt, "memory for the join")
+}
+
+/// The text that shows the value.
+pub fn shown<T: Display>(rt: &impl Abort, alloc: Global, value: &T) -> String {
+    format!(in alloc; "{value}").expect(rt, "memory for the text")
 }
 
 pub fn key_copy<K: Key>(rt: &impl Abort, alloc: Global, key: &K) -> K {

@@ -1,23 +1,39 @@
 //! Which texts are message ids.
 
-use super::makers::{id, key_copy};
+use super::makers::{id, key_copy, shown};
 use cell_core::{CellFault, MessageId};
 use std::alloc::Global;
 use std::process::Abort;
 
-fn assert_refused(rt: &impl Abort, alloc: Global, text: &str) {
-    let read = MessageId::new(alloc, text);
+/// What comes of an own text.
+fn from_own_text(rt: &impl Abort, alloc: Global, text: &str) -> Result<MessageId, CellFault> {
+    MessageId::from_text(String::from_str(alloc, text).expect(rt, "memory"))
+}
+
+fn assert_fault(rt: &impl Abort, read: Result<MessageId, CellFault>, text: &str) {
     assert!(rt; matches!(read, Err(CellFault::IdRefused)), "{text}");
-    let text = String::from_str(alloc, text).expect(rt, "memory");
-    assert!(rt; matches!(MessageId::from_text(text), Err(CellFault::IdRefused)));
+}
+
+fn assert_refused(rt: &impl Abort, alloc: Global, text: &str) {
+    assert_fault(rt, MessageId::new(alloc, text), text);
+    assert_fault(rt, from_own_text(rt, alloc, text), text);
+}
+
+fn assert_equal(rt: &impl Abort, id: &MessageId, other: &MessageId) {
+    assert_eq!(rt; id, other);
 }
 
 fn assert_read(rt: &impl Abort, alloc: Global, text: &str) {
     let read = id(rt, alloc, text);
     assert_eq!(rt; read.as_str(), text);
-    assert!(rt; key_copy(rt, alloc, &read) == read);
-    let text = String::from_str(alloc, text).expect(rt, "memory");
-    assert_eq!(rt; MessageId::from_text(text), Ok(read));
+    assert_equal(rt, &key_copy(rt, alloc, &read), &read);
+    let from_own_text = from_own_text(rt, alloc, text);
+    assert_equal(rt, &from_own_text.expect(rt, "a message id"), &read);
+}
+
+fn assert_below(rt: &impl Abort, alloc: Global, low: &str, high: &str) {
+    let (low, high) = (id(rt, alloc, low), id(rt, alloc, high));
+    assert!(rt; low < high, "{low} {high}");
 }
 
 fn repeated(rt: &impl Abort, alloc: Global, text: &str, times: usize) -> String {
@@ -54,12 +70,12 @@ fn counts_bytes(rt: HostRuntime) {
 #[test]
 fn orders_by_bytes(rt: HostRuntime) {
     let alloc = rt.alloc();
-    assert!(rt; id(&rt, alloc, "a") < id(&rt, alloc, "aa"));
-    assert!(rt; id(&rt, alloc, "Z") < id(&rt, alloc, "a"));
+    assert_below(&rt, alloc, "a", "aa");
+    assert_below(&rt, alloc, "Z", "a");
 }
 
 #[test]
 fn shows_the_text(rt: HostRuntime) {
-    let shown = format!(in rt.alloc(); "{}", id(&rt, rt.alloc(), "m"));
-    assert_eq!(rt; shown.expect(&rt, "memory").as_str(), "m");
+    let shown = shown(&rt, rt.alloc(), &id(&rt, rt.alloc(), "m"));
+    assert_eq!(rt; shown.as_str(), "m");
 }

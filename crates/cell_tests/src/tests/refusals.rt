@@ -1,13 +1,13 @@
 //! The texts and the numbers of refusals.
 
+use super::makers::shown;
 use cell_core::CellFault;
 use std::alloc::Global;
 use std::process::Abort;
 
 fn assert_shown(rt: &impl Abort, alloc: Global, fault: CellFault, number: u8, text: &str) {
     assert_eq!(rt; fault.number(), number);
-    let shown = format!(in alloc; "{fault}").expect(rt, "memory");
-    assert_eq!(rt; shown.as_str(), text);
+    assert_eq!(rt; shown(rt, alloc, &fault).as_str(), text);
 }
 
 #[test]

@@ -78,12 +78,16 @@ fn delete_and_status(rt: HostRuntime) -> Result<(), Fail> {
 }
 
 #[test]
-fn import_and_export(rt: HostRuntime) -> Result<(), Fail> {
-    let alloc = rt.alloc();
-    let input = both(alloc, EMPTY_ONE, MAPS)?;
-    let ran = run_on(alloc, &["import", "--now", "10"], input.as_str())?;
-    assert!(rt; is_answered(&ran, 0, line(alloc, IMPORTED)?.as_str()));
-    let ran = run_on(alloc, &["export"], IMPORTED)?;
+fn import(rt: HostRuntime) -> Result<(), Fail> {
+    let input = both(rt.alloc(), EMPTY_ONE, MAPS)?;
+    let ran = run_on(rt.alloc(), &["import", "--now", "10"], input.as_str())?;
+    assert!(rt; is_answered(&ran, 0, line(rt.alloc(), IMPORTED)?.as_str()));
+    Ok(())
+}
+
+#[test]
+fn export(rt: HostRuntime) -> Result<(), Fail> {
+    let ran = run_on(rt.alloc(), &["export"], IMPORTED)?;
     assert!(rt;
         is_answered(
             &ran,
@@ -95,25 +99,33 @@ fn import_and_export(rt: HostRuntime) -> Result<(), Fail> {
 }
 
 #[test]
-fn summary_and_delta(rt: HostRuntime) -> Result<(), Fail> {
-    let alloc = rt.alloc();
-    let ran = run_on(alloc, &["summary"], EMPTY_TWO)?;
-    assert!(rt; is_answered(&ran, 0, line(alloc, SUMMARY_TWO)?.as_str()));
-    let input = both(alloc, ONE, SUMMARY_TWO)?;
-    let ran = run_on(alloc, &["delta"], input.as_str())?;
-    assert!(rt; is_answered(&ran, 0, line(alloc, DELTA)?.as_str()));
+fn summary(rt: HostRuntime) -> Result<(), Fail> {
+    let ran = run_on(rt.alloc(), &["summary"], EMPTY_TWO)?;
+    assert!(rt; is_answered(&ran, 0, line(rt.alloc(), SUMMARY_TWO)?.as_str()));
     Ok(())
 }
 
-/// A delta that comes late, and again.
+#[test]
+fn delta(rt: HostRuntime) -> Result<(), Fail> {
+    let input = both(rt.alloc(), ONE, SUMMARY_TWO)?;
+    let ran = run_on(rt.alloc(), &["delta"], input.as_str())?;
+    assert!(rt; is_answered(&ran, 0, line(rt.alloc(), DELTA)?.as_str()));
+    Ok(())
+}
+
+/// A later deletion stays.
+#[test]
+fn take_of_a_late_delta(rt: HostRuntime) -> Result<(), Fail> {
+    let input = both(rt.alloc(), TWO, DELTA)?;
+    let ran = run_on(rt.alloc(), &["take"], input.as_str())?;
+    assert!(rt; is_answered(&ran, 0, line(rt.alloc(), TWO)?.as_str()));
+    Ok(())
+}
+
 #[test]
 fn take(rt: HostRuntime) -> Result<(), Fail> {
-    let alloc = rt.alloc();
-    let input = both(alloc, TWO, DELTA)?;
-    let ran = run_on(alloc, &["take"], input.as_str())?;
-    assert!(rt; is_answered(&ran, 0, line(alloc, TWO)?.as_str()));
-    let input = both(alloc, EMPTY_TWO, DELTA)?;
-    let ran = run_on(alloc, &["take"], input.as_str())?;
+    let input = both(rt.alloc(), EMPTY_TWO, DELTA)?;
+    let ran = run_on(rt.alloc(), &["take"], input.as_str())?;
     assert!(rt;
         is_answered(
             &ran,

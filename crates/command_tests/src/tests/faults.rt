@@ -7,11 +7,21 @@ use docs_core::{DocCause, DocFault, FieldFault, Output, Spot};
 use front_core::FrontFault;
 use lang_core::LangFault;
 use nego_core::NegoFault;
+use std::alloc::Global;
 use std::io;
+use std::process::Abort;
 use std::test::Fail;
 
+/// The refusal is this line, in one write, and gives this status.
+fn assert_told(rt: &impl Abort, alloc: Global, fault: FrontFault, status: u8, line: &str) {
+    let mut page = Page::new(alloc);
+    assert_eq!(rt; refuse(&mut Output::new(&mut page), fault), status);
+    assert!(rt; page.bytes.as_slice() == line.as_bytes(), "{line}");
+    assert_eq!(rt; page.writes, 1, "{line}");
+}
+
 #[test]
-fn question_faults(rt: HostRuntime) -> Result<(), Fail> {
+fn question_faults(rt: HostRuntime) {
     let rows = [
         (
             FrontFault::Language(LangFault::TagEmpty),
@@ -61,21 +71,15 @@ fn question_faults(rt: HostRuntime) -> Result<(), Fail> {
         (FrontFault::NoMemory, 26, "refused 26: out of memory\n"),
     ];
     for (fault, number, line) in rows {
-        let mut page = Page::new(rt.alloc());
         assert_eq!(rt; fault.number(), number);
-        let status = refuse(&mut Output::new(&mut page), fault);
-        assert_eq!(rt; status, if number == 26 { 5 } else { 3 });
-        assert!(rt; page.bytes.as_slice() == line.as_bytes(), "{line}");
-        assert_eq!(rt; page.writes, 1, "{line}");
+        let status = if number == 26 { 5 } else { 3 };
+        assert_told(&rt, rt.alloc(), fault, status, line);
     }
-    Ok(())
 }
 
 /// The longest line is one write, and none of its text is cut.
 #[test]
 fn the_longest_line(rt: HostRuntime) -> Result<(), Fail> {
-    let alloc = rt.alloc();
-    let mut page = Page::new(alloc);
     let stamp = Stamp {
         time: u64::MAX,
         site: SiteName::new("0123456789abcdef")?,
@@ -86,19 +90,19 @@ fn the_longest_line(rt: HostRuntime) -> Result<(), Fail> {
         place: u128::MAX,
         stamp,
     }));
-    assert_eq!(rt; refuse(&mut Output::new(&mut page), fault), 3);
-    assert!(rt;
-        page.bytes.as_slice()
-            == b"refused 13: stamp 18446744073709551615 0123456789abcdef 4294967295 used twice, cell 340282366920938463463374607431768211455, step 18446744073709551615\n".as_slice()
+    assert_told(
+        &rt,
+        rt.alloc(),
+        fault,
+        3,
+        "refused 13: stamp 18446744073709551615 0123456789abcdef 4294967295 used twice, cell 340282366920938463463374607431768211455, step 18446744073709551615\n",
     );
-    assert_eq!(rt; page.writes, 1);
     Ok(())
 }
 
 /// A refusal of a document is told as the fault itself says it, with LF.
 #[test]
-fn document_faults(rt: HostRuntime) -> Result<(), Fail> {
-    let alloc = rt.alloc();
+fn document_faults(rt: HostRuntime) {
     let rows = [
         (
             0,
@@ -117,13 +121,9 @@ fn document_faults(rt: HostRuntime) -> Result<(), Fail> {
         ),
     ];
     for (document, cause, status, line) in rows {
-        let mut page = Page::new(alloc);
-        let fault = DocFault { document, cause };
-        assert_eq!(rt; refuse(&mut Output::new(&mut page), fault.into()), status);
-        assert!(rt; page.bytes.as_slice() == line.as_bytes(), "{line}");
-        assert_eq!(rt; page.writes, 1, "{line}");
+        let fault = FrontFault::from(DocFault { document, cause });
+        assert_told(&rt, rt.alloc(), fault, status, line);
     }
-    Ok(())
 }
 
 fn field(row: usize, fault: CellFault) -> DocCause {
@@ -135,7 +135,7 @@ fn field(row: usize, fault: CellFault) -> DocCause {
 
 /// The row and the document that are meant stand behind the text.
 #[test]
-fn document_and_row(rt: HostRuntime) -> Result<(), Fail> {
+fn document_and_row(rt: HostRuntime) {
     let rows = [
         (
             1,
@@ -187,12 +187,9 @@ fn document_and_row(rt: HostRuntime) -> Result<(), Fail> {
         ),
     ];
     for (document, cause, line) in rows {
-        let mut page = Page::new(rt.alloc());
         let fault = FrontFault::from(DocFault { document, cause });
-        assert_eq!(rt; refuse(&mut Output::new(&mut page), fault), 3);
-        assert!(rt; page.bytes.as_slice() == line.as_bytes(), "{line}");
+        assert_told(&rt, rt.alloc(), fault, 3, line);
     }
-    Ok(())
 }
 
 /// What a site or a script refuses means no document.
@@ -235,10 +232,8 @@ fn sites_and_scripts(rt: HostRuntime) -> Result<(), Fail> {
         ),
     ];
     for (cause, line) in rows {
-        let mut page = Page::new(rt.alloc());
         let fault = FrontFault::from(DocFault { document: 0, cause });
-        assert_eq!(rt; refuse(&mut Output::new(&mut page), fault), 3);
-        assert!(rt; page.bytes.as_slice() == line.as_bytes(), "{line}");
+        assert_told(&rt, rt.alloc(), fault, 3, line);
     }
     Ok(())
 }

@@ -4,6 +4,8 @@ use docs_core::{Input, Output};
 use std::alloc::{AllocError, Global};
 use std::io;
 use std::io::{Read, Write};
+use std::process::Abort;
+use std::test::Fail;
 
 /// A writer that keeps what it took, takes no more than it has room for, and counts its writes.
 #[derive(Drop)]
@@ -209,4 +211,23 @@ pub fn is_answered(ran: &Ran, status: u8, output: &str) -> bool {
 /// Whether a run was refused with just this line, having written no output.
 pub fn is_refused(ran: &Ran, status: u8, line: &str) -> bool {
     ran.status == status && ran.told.as_slice() == line.as_bytes() && ran.output.is_empty()
+}
+
+/// These words are refused with just this line, before anything is read.
+pub fn assert_refused(
+    rt: &(impl Abort + AllocGlobal),
+    words: &[&str],
+    line: &str,
+) -> Result<(), Fail> {
+    let ran = run_words(rt.alloc(), words)?;
+    assert!(rt; is_refused(&ran, 3, line) && !ran.is_read, "{words:?}");
+    Ok(())
+}
+
+/// The words of each row are refused with its line, before anything is read.
+pub fn all_refused(rt: &(impl Abort + AllocGlobal), rows: &[(&[&str], &str)]) -> Result<(), Fail> {
+    for (words, line) in rows {
+        assert_refused(rt, words, line)?;
+    }
+    Ok(())
 }

@@ -1,52 +1,69 @@
 //! Matches that are not those of the program.
 use super::harness::{Page, Tape};
-use clap::{Arg, Command};
+use clap::{Arg, ArgMatches, Command};
 use command_core::act;
 use docs_core::{Input, Output};
 use std::alloc::Global;
 use std::test::Fail;
 
-/// Matches of a command line with this one command, which has this one argument, if any.
-fn status_on(alloc: Global, words: &[&str], id: Option<&str>) -> Result<u8, Fail> {
+/// A program with a command `put`, which has this one argument, if any.
+fn program<'a>(alloc: Global, id: Option<&'a str>) -> Result<Command<'a>, Fail> {
     let mut command = Command::new(alloc, "put");
     if let Some(id) = id {
         command = command.arg(Arg::new(alloc, id))?;
     }
-    let program = Command::new(alloc, "other")
-        .no_binary_name(true)
-        .subcommand(command)?
-        .subcommand(Command::new(alloc, "pick"))?
-        .subcommand(Command::new(alloc, "other"))?;
-    let Ok(matches) = program.try_get_matches_from(words) else {
-        return Ok(99);
-    };
+    Ok(
+        Command::new(alloc, "other")
+            .no_binary_name(true)
+            .subcommand(command)?
+            .subcommand(Command::new(alloc, "pick"))?
+            .subcommand(Command::new(alloc, "other"))?,
+    )
+}
+
+/// The status of these matches, or 98 where something was written.
+fn status_of(alloc: Global, matches: &ArgMatches<'_>) -> u8 {
     let mut reader = Tape::failing("", 0, 0);
     let mut writer = Page::new(alloc);
     let mut faults = Page::new(alloc);
     let status = act(
         alloc,
-        &matches,
+        matches,
         &mut Input::new(&mut reader),
         &mut Output::new(&mut writer),
         &mut Output::new(&mut faults),
     );
     if writer.bytes.is_empty() && faults.bytes.is_empty() {
-        Ok(status)
+        status
     } else {
-        Ok(98)
+        98
     }
 }
 
-/// Without a command, with another one, and without a required word: a usage fault, and nothing is
-/// written.
+/// The status of these words under that program, or 99 where they are none of its words.
+fn status_on(alloc: Global, words: &[&str], id: Option<&str>) -> Result<u8, Fail> {
+    match program(alloc, id)?.try_get_matches_from(words) {
+        Ok(matches) => Ok(status_of(alloc, &matches)),
+        Err(_) => Ok(99),
+    }
+}
+
+/// Words, and the argument of `put`: without a command, with another one, and without a required
+/// word.
+const WORDS: &[(&[&str], Option<&str>)] = &[
+    (&[], None),
+    (&["other"], None),
+    (&["put"], None),
+    (&["put", "5"], Some("now")),
+    (&["put", "five"], Some("now")),
+    (&["pick"], None),
+];
+
+/// A usage fault, and nothing is written.
 #[test]
 fn usage(rt: HostRuntime) -> Result<(), Fail> {
-    let alloc = rt.alloc();
-    assert_eq!(rt; status_on(alloc, &[], None)?, 2);
-    assert_eq!(rt; status_on(alloc, &["other"], None)?, 2);
-    assert_eq!(rt; status_on(alloc, &["put"], None)?, 2);
-    assert_eq!(rt; status_on(alloc, &["put", "5"], Some("now"))?, 2);
-    assert_eq!(rt; status_on(alloc, &["put", "five"], Some("now"))?, 2);
-    assert_eq!(rt; status_on(alloc, &["pick"], None)?, 2);
+    for (words, id) in WORDS {
+        assert_eq!(rt; status_on(rt.alloc(), words, *id)?, 2, "{words:?}");
+    }
     Ok(())
 }

@@ -1,5 +1,6 @@
 //! The labels of one reader, work for a translator, and what an editor changed.
-use super::harness::{is_answered, is_refused, run_on, run_words};
+use super::harness::{Ran, is_answered, is_refused, run_on, run_words};
+use std::alloc::{AllocError, Global};
 use std::test::Fail;
 
 /// Labels of two messages, and a third message whose label is deleted.
@@ -12,176 +13,208 @@ const EMPTY: &str = r#"{"cells":[],"kind":"site","site":"paris","version":2}"#;
 const EDITED: &str =
     r#"{"cells":[["m","en",5,"paris",0,["Hello"]],["m","fr",5,"paris",1,["Salut"]],["n","de",5,"paris",2,null]],"kind":"site","site":"paris","version":2}"#;
 
+const BUNDLES: &[(&[&str], u8, &str)] = &[
+    (&["bundle", "fr, en;q=0.5"], 0, r#"{"m":{"fr":"Bonjour"}}"#),
+    (
+        &["bundle", "--default", "de", "fr"],
+        0,
+        r#"{"m":{"fr":"Bonjour"},"n":{"de":"Hallo"}}"#,
+    ),
+    (
+        &["bundle", "--default", "@none", "ja"],
+        0,
+        r#"{"m":{"@none":"x"}}"#,
+    ),
+    (&["bundle", "ja"], 1, "{}"),
+    (
+        &["bundle", "--lenient", "--default", "en", "ja;q=1.001"],
+        0,
+        r#"{"m":{"en":"Hello"}}"#,
+    ),
+    (
+        &["bundle", "--default", "EN", "*"],
+        0,
+        r#"{"m":{"en":"Hello"}}"#,
+    ),
+    (&["bundle", ""], 1, "{}"),
+    (
+        &["bundle", "--scheme", "extended", "de-*-CH"],
+        0,
+        r#"{"n":{"de":"Hallo"}}"#,
+    ),
+];
+
 #[test]
 fn bundles(rt: HostRuntime) -> Result<(), Fail> {
-    let rows: [(&[&str], u8, &str); 8] = [
-        (&["bundle", "fr, en;q=0.5"], 0, r#"{"m":{"fr":"Bonjour"}}"#),
-        (
-            &["bundle", "--default", "de", "fr"],
-            0,
-            r#"{"m":{"fr":"Bonjour"},"n":{"de":"Hallo"}}"#,
-        ),
-        (
-            &["bundle", "--default", "@none", "ja"],
-            0,
-            r#"{"m":{"@none":"x"}}"#,
-        ),
-        (&["bundle", "ja"], 1, "{}"),
-        (
-            &["bundle", "--lenient", "--default", "en", "ja;q=1.001"],
-            0,
-            r#"{"m":{"en":"Hello"}}"#,
-        ),
-        (
-            &["bundle", "--default", "EN", "*"],
-            0,
-            r#"{"m":{"en":"Hello"}}"#,
-        ),
-        (&["bundle", ""], 1, "{}"),
-        (
-            &["bundle", "--scheme", "extended", "de-*-CH"],
-            0,
-            r#"{"n":{"de":"Hallo"}}"#,
-        ),
-    ];
-    for (words, status, text) in rows {
+    for (words, status, text) in BUNDLES {
         let ran = run_on(rt.alloc(), words, SITE)?;
         let line = format!(in rt.alloc(); "{text}\n")?;
-        assert!(rt; is_answered(&ran, status, line.as_str()), "{words:?}");
+        assert!(rt; is_answered(&ran, *status, line.as_str()), "{words:?}");
     }
     let ran = run_on(rt.alloc(), &["bundle", "--default", "en", "en"], EMPTY)?;
     assert!(rt; is_answered(&ran, 1, "{}\n"));
     Ok(())
 }
 
+const MISSING: &[(&str, &str, u8, &str)] = &[
+    (
+        "de",
+        SITE,
+        0,
+        r#"{"m":{"@none":"x","en":"Hello","fr":"Bonjour"}}"#,
+    ),
+    ("EN", SITE, 0, r#"{"n":{"de":"Hallo"}}"#),
+    ("@none", SITE, 0, r#"{"n":{"de":"Hallo"}}"#),
+    (
+        "fr-ca",
+        SITE,
+        0,
+        r#"{"m":{"@none":"x","en":"Hello","fr":"Bonjour"},"n":{"de":"Hallo"}}"#,
+    ),
+    ("de", EDITED, 0, r#"{"m":{"en":"Hello","fr":"Salut"}}"#),
+    ("fr", EDITED, 1, "{}"),
+    ("en", EMPTY, 1, "{}"),
+];
+
 #[test]
 fn missing(rt: HostRuntime) -> Result<(), Fail> {
-    let rows = [
-        (
-            "de",
-            SITE,
-            0,
-            r#"{"m":{"@none":"x","en":"Hello","fr":"Bonjour"}}"#,
-        ),
-        ("EN", SITE, 0, r#"{"n":{"de":"Hallo"}}"#),
-        ("@none", SITE, 0, r#"{"n":{"de":"Hallo"}}"#),
-        (
-            "fr-ca",
-            SITE,
-            0,
-            r#"{"m":{"@none":"x","en":"Hello","fr":"Bonjour"},"n":{"de":"Hallo"}}"#,
-        ),
-        ("de", EDITED, 0, r#"{"m":{"en":"Hello","fr":"Salut"}}"#),
-        ("fr", EDITED, 1, "{}"),
-        ("en", EMPTY, 1, "{}"),
-    ];
-    for (lang, input, status, text) in rows {
+    for (lang, input, status, text) in MISSING {
         let ran = run_on(rt.alloc(), &["missing", "--lang", lang], input)?;
         let line = format!(in rt.alloc(); "{text}\n")?;
-        assert!(rt; is_answered(&ran, status, line.as_str()), "{lang}");
+        assert!(rt; is_answered(&ran, *status, line.as_str()), "{lang}");
     }
     Ok(())
 }
 
-/// The edits that are made to [`EDITED`], by its cells behind them.
+/// The cells of [`EDITED`].
+const EN: &str = r#"["m","en",5,"paris",0,["Hello"]]"#;
+
+const FR: &str = r#"["m","fr",5,"paris",1,["Salut"]]"#;
+
+const DE: &str = r#"["n","de",5,"paris",2,null]"#;
+
+/// Old language maps, new ones, and the cells of [`EDITED`] once it is updated by them.
+const UPDATES: &[(&str, &str, &[&str])] = &[
+    (
+        r#"{"m":{"en":"Hello","fr":"Salut"}}"#,
+        r#"{"m":{"en":"Hello","fr":"Bonjour"}}"#,
+        &[EN, r#"["m","fr",6,"paris",0,["Bonjour"]]"#, DE],
+    ),
+    (
+        r#"{"m":{"en":"Helo"}}"#,
+        r#"{"m":{"en":"Helo","ja":"x"}}"#,
+        &[EN, FR, r#"["m","ja",6,"paris",0,["x"]]"#, DE],
+    ),
+    (
+        r#"{"m":{"en":"Hello","fr":"Salut"}}"#,
+        r#"{"m":{"en":"Hello"}}"#,
+        &[EN, r#"["m","fr",6,"paris",0,null]"#, DE],
+    ),
+    (r#"{"n":{"de":"Hallo"}}"#, "{}", &[EN, FR, DE]),
+    (
+        r#"{"m":{"en":"Helo"}}"#,
+        "{}",
+        &[r#"["m","en",6,"paris",0,null]"#, FR, DE],
+    ),
+    (
+        "{}",
+        r#"{"m":{"EN":"Hello"},"n":{"de":["a","b"]}}"#,
+        &[EN, FR, r#"["n","de",6,"paris",0,["a","b"]]"#],
+    ),
+    (
+        r#"{"m":{"en":"Helo"}}"#,
+        r#"{"m":{"en":"Hello"}}"#,
+        &[EN, FR, DE],
+    ),
+    (
+        r#"{"m":{"fr":"Salut","en":"x"}}"#,
+        r#"{"m":{"fr":null,"en":"y"}}"#,
+        &[
+            r#"["m","en",6,"paris",0,["y"]]"#,
+            r#"["m","fr",6,"paris",1,null]"#,
+            DE,
+        ],
+    ),
+    // The new ones may stand on several lines.
+    (
+        "{}",
+        "{\n  \"m\": {\n    \"ja\": \"x\"\n  }\n}",
+        &[EN, FR, r#"["m","ja",6,"paris",0,["x"]]"#, DE],
+    ),
+];
+
+/// The site of these cells, as it is written.
+fn site_of(alloc: Global, cells: &[&str]) -> Result<String, AllocError> {
+    let cells = cells.join(alloc, ",")?;
+    format!(in alloc;
+        "{{\"cells\":[{cells}],\"kind\":\"site\",\"site\":\"paris\",\"version\":2}}\n"
+    )
+}
+
+/// An update of [`EDITED`] by what stands behind it.
+fn updated(alloc: Global, old: &str, new: &str) -> Result<Ran, AllocError> {
+    let input = format!(in alloc; "{EDITED}\n{old}\n{new}")?;
+    run_on(alloc, &["update", "--now", "6"], input.as_str())
+}
+
 #[test]
 fn updates(rt: HostRuntime) -> Result<(), Fail> {
-    let alloc = rt.alloc();
-    let en = r#"["m","en",5,"paris",0,["Hello"]]"#;
-    let fr = r#"["m","fr",5,"paris",1,["Salut"]]"#;
-    let de = r#"["n","de",5,"paris",2,null]"#;
-    let rows = [
-        (
-            r#"{"m":{"en":"Hello","fr":"Salut"}}"#,
-            r#"{"m":{"en":"Hello","fr":"Bonjour"}}"#,
-            format!(in alloc; r#"{en},["m","fr",6,"paris",0,["Bonjour"]],{de}"#)?,
-        ),
-        (
-            r#"{"m":{"en":"Helo"}}"#,
-            r#"{"m":{"en":"Helo","ja":"x"}}"#,
-            format!(in alloc; r#"{en},{fr},["m","ja",6,"paris",0,["x"]],{de}"#)?,
-        ),
-        (
-            r#"{"m":{"en":"Hello","fr":"Salut"}}"#,
-            r#"{"m":{"en":"Hello"}}"#,
-            format!(in alloc; r#"{en},["m","fr",6,"paris",0,null],{de}"#)?,
-        ),
-        (
-            r#"{"n":{"de":"Hallo"}}"#,
-            "{}",
-            format!(in alloc; "{en},{fr},{de}")?,
-        ),
-        (
-            r#"{"m":{"en":"Helo"}}"#,
-            "{}",
-            format!(in alloc; r#"["m","en",6,"paris",0,null],{fr},{de}"#)?,
-        ),
-        (
-            "{}",
-            r#"{"m":{"EN":"Hello"},"n":{"de":["a","b"]}}"#,
-            format!(in alloc; r#"{en},{fr},["n","de",6,"paris",0,["a","b"]]"#)?,
-        ),
-        (
-            r#"{"m":{"en":"Helo"}}"#,
-            r#"{"m":{"en":"Hello"}}"#,
-            format!(in alloc; "{en},{fr},{de}")?,
-        ),
-        (
-            r#"{"m":{"fr":"Salut","en":"x"}}"#,
-            r#"{"m":{"fr":null,"en":"y"}}"#,
-            format!(in alloc; r#"["m","en",6,"paris",0,["y"]],["m","fr",6,"paris",1,null],{de}"#)?,
-        ),
-        // The new ones may stand on several lines.
-        (
-            "{}",
-            "{\n  \"m\": {\n    \"ja\": \"x\"\n  }\n}",
-            format!(in alloc; r#"{en},{fr},["m","ja",6,"paris",0,["x"]],{de}"#)?,
-        ),
-    ];
-    for (old, new, cells) in rows {
-        let input = format!(in alloc; "{EDITED}\n{old}\n{new}\n")?;
-        let ran = run_on(alloc, &["update", "--now", "6"], input.as_str())?;
-        let line = format!(in alloc;
-            r#"{{"cells":[{cells}],"kind":"site","site":"paris","version":2}}"#
-        )?;
-        let line = format!(in alloc; "{line}\n")?;
-        assert!(rt; is_answered(&ran, 0, line.as_str()), "{old} {new}");
+    for (old, new, cells) in UPDATES {
+        let ran = updated(rt.alloc(), old, new)?;
+        let site = site_of(rt.alloc(), cells)?;
+        assert!(rt; is_answered(&ran, 0, site.as_str()), "{old} {new}");
+    }
+    Ok(())
+}
+
+/// Old language maps, new ones, and why they are refused.
+const REFUSED: &[(&str, &str, &str)] = &[
+    (
+        r#"{"m":{"e":"x"}}"#,
+        "{}",
+        "refused 4: tag is not well-formed in row 0 of document 2\n",
+    ),
+    (
+        r#"{"m":{"e":"x"}}"#,
+        "[]",
+        "refused 4: tag is not well-formed in row 0 of document 2\n",
+    ),
+    ("{}", "[]", "refused 20: shape of document 3\n"),
+    ("{}", "", "refused 19: not JSON of document 3\n"),
+];
+
+#[test]
+fn refused_updates(rt: HostRuntime) -> Result<(), Fail> {
+    for (old, new, line) in REFUSED {
+        let ran = updated(rt.alloc(), old, new)?;
+        assert!(rt; is_refused(&ran, 3, line), "{old} {new}");
+    }
+    Ok(())
+}
+
+/// Fewer documents than an update takes: the site alone, and the site with the old labels.
+const TOO_FEW: &[(&str, &str)] = &[
+    ("", "refused 19: not JSON of document 2\n"),
+    ("\n{}", "refused 19: not JSON of document 3\n"),
+];
+
+#[test]
+fn too_few_documents(rt: HostRuntime) -> Result<(), Fail> {
+    for (behind, line) in TOO_FEW {
+        let input = format!(in rt.alloc(); "{EDITED}{behind}")?;
+        let ran = run_on(rt.alloc(), &["update", "--now", "6"], input.as_str())?;
+        assert!(rt; is_refused(&ran, 3, line), "{line}");
     }
     Ok(())
 }
 
 #[test]
-fn refused(rt: HostRuntime) -> Result<(), Fail> {
-    let alloc = rt.alloc();
-    let rows = [
-        (
-            r#"{"m":{"e":"x"}}"#,
-            "{}",
-            "refused 4: tag is not well-formed in row 0 of document 2\n",
-        ),
-        (
-            r#"{"m":{"e":"x"}}"#,
-            "[]",
-            "refused 4: tag is not well-formed in row 0 of document 2\n",
-        ),
-        ("{}", "[]", "refused 20: shape of document 3\n"),
-        ("{}", "", "refused 19: not JSON of document 3\n"),
-    ];
-    for (old, new, line) in rows {
-        let input = format!(in alloc; "{EDITED}\n{old}\n{new}")?;
-        let ran = run_on(alloc, &["update", "--now", "6"], input.as_str())?;
-        assert!(rt; is_refused(&ran, 3, line), "{old} {new}");
-    }
-    let ran = run_on(alloc, &["update", "--now", "6"], EDITED)?;
-    assert!(rt; is_refused(&ran, 3, "refused 19: not JSON of document 2\n"));
-    let input = format!(in alloc; "{EDITED}\n{{}}")?;
-    let ran = run_on(alloc, &["update", "--now", "6"], input.as_str())?;
-    assert!(rt; is_refused(&ran, 3, "refused 19: not JSON of document 3\n"));
+fn no_site(rt: HostRuntime) -> Result<(), Fail> {
     for words in [
         ["bundle", "en", "--default=en"],
         ["missing", "--lang", "en"],
     ] {
-        let ran = run_on(alloc, words.as_slice(), "{}")?;
+        let ran = run_on(rt.alloc(), words.as_slice(), "{}")?;
         assert!(rt;
             is_refused(&ran, 3, "refused 20: shape of document 1\n"),
             "{words:?}"
@@ -206,28 +239,29 @@ fn spent_clocks(rt: HostRuntime) -> Result<(), Fail> {
     Ok(())
 }
 
+const WORDS_FIRST: &[(&[&str], u8, &str)] = &[
+    (
+        &["bundle", "--default", "e", "en;q=2"],
+        3,
+        "refused 4: tag is not well-formed\n",
+    ),
+    (
+        &["bundle", "--default", "en", "ja;q=1.001"],
+        3,
+        "refused 9: field element at 0\n",
+    ),
+    (&["bundle", "en"], 4, "refused 24: read fault\n"),
+    (&["missing", "--lang", "en-"], 3, "refused 3: subtag at 3\n"),
+    (&["missing", "--lang", "en"], 4, "refused 24: read fault\n"),
+    (&["update", "--now", "6"], 4, "refused 24: read fault\n"),
+];
+
 /// The words come before the input, whose every read fails here: the default, then the field.
 #[test]
 fn words_first(rt: HostRuntime) -> Result<(), Fail> {
-    let rows: [(&[&str], u8, &str); 6] = [
-        (
-            &["bundle", "--default", "e", "en;q=2"],
-            3,
-            "refused 4: tag is not well-formed\n",
-        ),
-        (
-            &["bundle", "--default", "en", "ja;q=1.001"],
-            3,
-            "refused 9: field element at 0\n",
-        ),
-        (&["bundle", "en"], 4, "refused 24: read fault\n"),
-        (&["missing", "--lang", "en-"], 3, "refused 3: subtag at 3\n"),
-        (&["missing", "--lang", "en"], 4, "refused 24: read fault\n"),
-        (&["update", "--now", "6"], 4, "refused 24: read fault\n"),
-    ];
-    for (words, status, line) in rows {
+    for (words, status, line) in WORDS_FIRST {
         let ran = run_words(rt.alloc(), words)?;
-        assert!(rt; is_refused(&ran, status, line), "{words:?}");
+        assert!(rt; is_refused(&ran, *status, line), "{words:?}");
     }
     Ok(())
 }

@@ -6,15 +6,22 @@ use std::test::Fail;
 
 /// Each pick's place with its weight.
 fn shown(rt: &(impl Abort + AllocGlobal), picks: &Picks) -> Result<String, Fail> {
+    assert_places(rt, picks);
     let mut text = String::new(rt.alloc());
-    for (place, pick) in picks.iter().enumerate() {
-        assert!(rt; picks.nth(place) == Some(*pick));
+    for pick in picks.iter() {
         let shown = format!(in rt.alloc(); " {};{}", pick.place, pick.weight)?;
         text.push_str(shown.as_str())?;
     }
-    assert!(rt; picks.nth(picks.len()) == None);
-    assert!(rt; picks.is_empty() == text.is_empty());
     Ok(text)
+}
+
+/// Each pick is found at its place, and no other is.
+fn assert_places(rt: &impl Abort, picks: &Picks) {
+    for (place, pick) in picks.iter().enumerate() {
+        assert!(rt; picks.nth(place) == Some(*pick));
+    }
+    assert!(rt; picks.nth(picks.len()) == None);
+    assert!(rt; picks.is_empty() == (picks.len() == 0));
 }
 
 /// Checks what is picked among languages, handed in or lent.
@@ -67,24 +74,24 @@ fn filtered(rt: HostRuntime) -> Result<(), Fail> {
     rows(&rt, Scheme::Extended, EXTENDED)
 }
 
+/// What is picked of English and French.
+fn picked(rt: &(impl Abort + AllocGlobal), field: &str) -> Result<Picks, Fail> {
+    let langs = langs(rt, "en fr")?;
+    let list = list_of(rt, field)?;
+    Ok(filter(rt.alloc(), &list, Scheme::Basic, &langs)?)
+}
+
 #[test]
-fn compared_and_shown(rt: HostRuntime) -> Result<(), Fail> {
-    let langs = langs(&rt, "en fr")?;
-    let found = filter(
-        rt.alloc(),
-        &list_of(&rt, "fr;q=0.5")?,
-        Scheme::Basic,
-        &langs,
-    )?;
-    let same = filter(
-        rt.alloc(),
-        &list_of(&rt, "de, fr;q=0.5")?,
-        Scheme::Basic,
-        &langs,
-    )?;
-    let other = filter(rt.alloc(), &list_of(&rt, "fr")?, Scheme::Basic, &langs)?;
-    assert!(rt; found == same && found != other);
-    let shown = format!(in rt.alloc(); "{found:?}")?;
+fn compared(rt: HostRuntime) -> Result<(), Fail> {
+    let found = picked(&rt, "fr;q=0.5")?;
+    assert!(rt; found == picked(&rt, "de, fr;q=0.5")?);
+    assert!(rt; found != picked(&rt, "fr")?);
+    Ok(())
+}
+
+#[test]
+fn shown_for_debugging(rt: HostRuntime) -> Result<(), Fail> {
+    let shown = format!(in rt.alloc(); "{:?}", picked(&rt, "fr;q=0.5")?)?;
     assert!(rt;
         shown.as_str() == "[Pick { place: 1, weight: 500 }]",
         "{shown}"
