@@ -1,10 +1,10 @@
 -- The command line is one whose matches and faults clap states.
-use Rattle.std.proofs.Common.{◌≡◌, ◌∙◌, ◌||◌, Bool, true, ap, ap₂, refl}
-use Rattle.clap.specs.Words.{AddsArg, AddsSubcommand, App, Rule, Text, app_of, is_simple, is_simple_and_free, with_rule, with_subcommand}
+use Rattle.std.proofs.Common.{◌≡◌, ◌∙◌, ◌||◌, Bool, true, ap₂, refl}
+use Rattle.clap.specs.Words.{AddsArg, AddsSubcommand, App, Rule, app_of, is_simple, is_simple_and_free, with_rule, with_subcommand}
 use Rattle.clap.specs.declared.builder.arg.Arg.{Arg}
 use Rattle.clap.specs.declared.builder.command.Command.{Command}
 use Rattle.clap.proofs.OnLiterals.{clap_on_literals}
-use Rattle.command_core.specs.Words.{IsArgument, IsCommand, Schemes, lexicat_app, preferences_app}
+use Rattle.command_core.specs.Words.{IsArgument, IsCommand, Schemes, lexicat_app}
 
 pub lexicat_simple : (schemes : Schemes) → is_simple (lexicat_app schemes) ≡ true
 unfolding clap_on_literals
@@ -18,10 +18,6 @@ lexicat_free schemes = refl
 pub added : (app : App) (rule : Rule) (old new : Command) (arg : Arg) → IsCommand app old → AddsArg old arg new → IsArgument rule arg → IsCommand (with_rule app rule) new
 added app rule old new arg has adds is =
     (adds.shape is.1 ∙ ap₂ with_rule has.0 is.0, adds.globals ∙ ap₂ (λ (a b : Bool). a || b) has.1 is.1)
-
--- what a reader prefers is added to this command line
-pub preferred : (app : App) (schemes : Schemes) (name : Text) (old new : Command) → app_of old ≡ app → IsCommand (preferences_app (app_of old) schemes name) new → IsCommand (preferences_app app schemes name) new
-preferred app schemes name old new is has = (has.0 ∙ ap (λ (it : App). preferences_app it schemes name) is, has.1)
 
 abbrev sub : App → App → App
 sub app command = with_subcommand app command.top

@@ -21,6 +21,18 @@ pub data TaskWords : Type 0 where
   Sync : TaskWords
   Replay : TaskWords
 
+-- the command of this name at this moment, or none: it reads more of its words than the moment, or that is missing
+abbrev pub document_words : Text → Option ℕ → Option DocumentTask
+document_words name now =
+    if bytes_eq name (codes "status") then Some document.Status
+    else (if bytes_eq name (codes "import") then option_map document.Import now
+    else (if bytes_eq name (codes "update") then option_map document.Update now
+    else (if bytes_eq name (codes "export") then Some document.Export
+    else (if bytes_eq name (codes "summary") then Some document.Summary
+    else (if bytes_eq name (codes "delta") then Some document.Delta
+    else (if bytes_eq name (codes "take") then Some document.Take
+    else None))))))
+
 -- what the command of this name asks at this moment, or none: it is no command of the program, or a word is missing
 abbrev pub task_words : Text → Option ℕ → List Row → Option TaskWords
 task_words name now rows =
@@ -28,20 +40,13 @@ task_words name now rows =
     else (if bytes_eq name (codes "new") then option_map New (first_of (codes "site") rows)
     else (if bytes_eq name (codes "put") then option_map Edit (put_words now rows)
     else (if bytes_eq name (codes "delete") then option_map Edit (delete_words now rows)
-    else (if bytes_eq name (codes "status") then Some (Document document.Status)
-    else (if bytes_eq name (codes "import") then option_map (λ n. Document (document.Import n)) now
-    else (if bytes_eq name (codes "update") then option_map (λ n. Document (document.Update n)) now
-    else (if bytes_eq name (codes "export") then Some (Document document.Export)
     else (if bytes_eq name (codes "missing") then option_map Missing (first_of (codes "lang") rows)
     else (if bytes_eq name (codes "filter") then option_map Filter (filter_words rows)
     else (if bytes_eq name (codes "lookup") then option_map Lookup (lookup_words rows)
     else (if bytes_eq name (codes "bundle") then option_map Bundle (preference_words (codes "field") rows)
-    else (if bytes_eq name (codes "summary") then Some (Document document.Summary)
-    else (if bytes_eq name (codes "delta") then Some (Document document.Delta)
-    else (if bytes_eq name (codes "take") then Some (Document document.Take)
     else (if bytes_eq name (codes "sync") then Some Sync
     else (if bytes_eq name (codes "replay") then Some Replay
-    else None))))))))))))))))
+    else option_map Document (document_words name now))))))))))
 
 -- what the subcommand that was met asks, at the moment that its words give
 abbrev pub GivesTask : Option (Text × List Row) → Option TaskWords → Type 0

@@ -127,9 +127,21 @@ bare_app = record (new_app (codes "lexicat")) { top = record (new_app (codes "le
 abbrev under : App → App → App
 under app command = with_subcommand app command.top
 
+-- with `pick`, and with what is done at a site
+abbrev pub sites_app : App → Schemes → App
+sites_app app schemes = under (under (under (under (under app (pick_app schemes)) new_site_app) put_app) delete_app) status_app
+
+-- with what reads or writes many labels
+abbrev pub labels_app : App → App
+labels_app app = under (under (under (under app import_app) update_app) export_app) missing_app
+
+-- with what a reader asks of a site
+abbrev pub questions_app : App → Schemes → App
+questions_app app schemes = under (under (under app (filter_app schemes)) (lookup_app schemes)) (bundle_app schemes)
+
+-- with what two sites exchange, and with a replay of what they did
+abbrev pub exchange_app : App → App
+exchange_app app = under (under (under (under (under app summary_app) delta_app) take_app) sync_app) replay_app
+
 abbrev pub lexicat_app : Schemes → App
-lexicat_app schemes =
-    let sites = under (under (under (under (under bare_app (pick_app schemes)) new_site_app) put_app) delete_app) status_app in
-    let labels = under (under (under (under sites import_app) update_app) export_app) missing_app in
-    let questions = under (under (under labels (filter_app schemes)) (lookup_app schemes)) (bundle_app schemes) in
-    under (under (under (under (under questions summary_app) delta_app) take_app) sync_app) replay_app
+lexicat_app schemes = exchange_app (questions_app (labels_app (sites_app bare_app schemes)) schemes)

@@ -1,26 +1,17 @@
-//! The command line: the program with its subcommands, each of which stands in a file of its own.
+//! The command line: the program with its subcommands, a file for each group of them.
 ghost use Rattle.std.specs.Prelude.{◌≡◌, IfOk};
-ghost use Rattle.clap.specs.Words.{app_of};
-ghost use Rattle.command_core.specs.Words.{bare_app, lexicat_app};
+ghost use Rattle.clap.specs.Words.{app_of, new_app};
+ghost use Rattle.command_core.specs.Words.{IsCommand, bare_app, lexicat_app};
 
-pub(crate) mod bundle;
-pub(crate) mod delete;
-pub(crate) mod delta;
-pub(crate) mod export;
-pub(crate) mod filter;
-pub(crate) mod import;
-pub(crate) mod lookup;
-pub(crate) mod missing;
-pub(crate) mod new;
-pub(crate) mod pick;
-pub(crate) mod put;
-pub(crate) mod replay;
-pub(crate) mod status;
-pub(crate) mod summary;
-pub(crate) mod sync;
-pub(crate) mod take;
-pub(crate) mod update;
+mod exchange;
+mod labels;
+mod questions;
+mod sites;
 
+use crate::commands::exchange::with_exchange;
+use crate::commands::labels::with_labels;
+use crate::commands::questions::with_questions;
+use crate::commands::sites::with_sites;
 use clap::Command;
 use std::alloc::{AllocError, Global};
 
@@ -31,24 +22,10 @@ const VERSION: &str = "0.2.0";
 pub(crate) fn lexicat<'a>(alloc: Global, schemes: &'a [&'a str]) -> Result<Command<'a>, AllocError>
     ensures { IfOk result (λ c. app_of c ≡ lexicat_app schemes.entry) }
 {
-    bare(alloc)?
-        .subcommand(pick::command(alloc, schemes)?)?
-        .subcommand(new::command(alloc)?)?
-        .subcommand(put::command(alloc)?)?
-        .subcommand(delete::command(alloc)?)?
-        .subcommand(status::command(alloc))?
-        .subcommand(import::command(alloc)?)?
-        .subcommand(update::command(alloc)?)?
-        .subcommand(export::command(alloc))?
-        .subcommand(missing::command(alloc)?)?
-        .subcommand(filter::command(alloc, schemes)?)?
-        .subcommand(lookup::command(alloc, schemes)?)?
-        .subcommand(bundle::command(alloc, schemes)?)?
-        .subcommand(summary::command(alloc))?
-        .subcommand(delta::command(alloc))?
-        .subcommand(take::command(alloc))?
-        .subcommand(sync::command(alloc))?
-        .subcommand(replay::command(alloc))
+    let sites = with_sites(alloc, bare(alloc)?, schemes)?;
+    let labels = with_labels(alloc, sites)?;
+    let questions = with_questions(alloc, labels, schemes)?;
+    with_exchange(alloc, questions)
 }
 
 /// The program without its commands.
@@ -67,4 +44,18 @@ fn bare<'a>(alloc: Global) -> Result<Command<'a>, AllocError>
         .subcommand_required(true)
         .disable_help_subcommand(true)
         .bin_name("lexicat")
+}
+
+/// A command without arguments, with what the help says of it, also behind its arguments.
+pub(crate) fn described<'a>(
+    alloc: Global,
+    name: &'a str,
+    about: &'a str,
+    after_help: &'a str,
+) -> Command<'a>
+    ensures { IsCommand (new_app name.entry.now) result }
+{
+    Command::new(alloc, name)
+        .about(about)
+        .after_help(after_help)
 }

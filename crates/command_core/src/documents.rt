@@ -4,7 +4,7 @@ ghost use Rattle.docs_core.specs.Checks.{OrMemory};
 ghost use Rattle.docs_core.specs.ReadsAs.{no_memory};
 ghost use Rattle.command_core.specs.Acts.{Performs};
 ghost use Rattle.command_core.specs.Documents.{IsDocument, RefusesDocuments};
-ghost use Rattle.command_core.specs.TaskWords.{Document};
+ghost use Rattle.command_core.specs.TaskWords.{Document, document_words};
 
 use crate::answer::Answered;
 use crate::input::two_documents;
@@ -25,6 +25,22 @@ pub(crate) enum DocumentTask {
     Summary,
     Delta,
     Take,
+}
+
+/// The command of this name, at this moment, where it reads documents and nothing else of its words.
+pub(crate) fn task_of(name: &str, now: Option<u64>) -> Option<DocumentTask>
+    ensures { result ≡ document_words name.now now }
+{
+    match name {
+        "status" => Some(DocumentTask::Status),
+        "import" => Some(DocumentTask::Import(now?)),
+        "update" => Some(DocumentTask::Update(now?)),
+        "export" => Some(DocumentTask::Export),
+        "summary" => Some(DocumentTask::Summary),
+        "delta" => Some(DocumentTask::Delta),
+        "take" => Some(DocumentTask::Take),
+        _ => None,
+    }
 }
 
 /// What answers the documents of the input.

@@ -60,12 +60,12 @@ pub(crate) fn preferences_of<'a>(matches: &ArgMatches<'a>, id: &str) -> Option<P
     ensures { option_map preference_values result ≡ spec.preference_words id.now (rows_of (found_of matches.now)) }
 {
     let field = field_of(matches, id)?;
-    let default = bytes_given(matches, "default");
+    let default = text_bytes(matches, "default");
     Some(PreferenceValues { field, default })
 }
 
 /// The bytes of an argument's first text.
-pub(crate) fn bytes_given<'a>(matches: &ArgMatches<'a>, id: &str) -> Option<&'a [u8]>
+pub(crate) fn text_bytes<'a>(matches: &ArgMatches<'a>, id: &str) -> Option<&'a [u8]>
     ensures { option_map (λ s. s.now) result ≡ first_of id.now (rows_of (found_of matches.now)) }
 {
     bytes_of(text_of(matches, id))

@@ -10,7 +10,7 @@ use crate::answer::Answered;
 use crate::documents::DocumentTask;
 use crate::edits::EditValues;
 use crate::matches::{
-    PreferenceValues, bytes_given, field_of, now_of, preferences_of, text_of, texts_of,
+    PreferenceValues, field_of, now_of, preferences_of, text_bytes, text_of, texts_of,
 };
 use crate::{documents, edits, questions, sites};
 use clap::ArgMatches;
@@ -58,23 +58,16 @@ fn task_of<'m, 'a>(
         "new" => Some(Task::New(text_of(matches, "site")?)),
         "put" => edit_of(now, Some(texts_of(matches, "texts")?), matches),
         "delete" => edit_of(now, None, matches),
-        "status" => Some(Task::Document(DocumentTask::Status)),
-        "import" => Some(Task::Document(DocumentTask::Import(now?))),
-        "update" => Some(Task::Document(DocumentTask::Update(now?))),
-        "export" => Some(Task::Document(DocumentTask::Export)),
         "missing" => Some(Task::Missing(text_of(matches, "lang")?)),
-        "filter" => Some(Task::Filter(bytes_given(matches, "id")?, field_of(matches, "field")?)),
+        "filter" => Some(Task::Filter(text_bytes(matches, "id")?, field_of(matches, "field")?)),
         "lookup" => Some(Task::Lookup(
-            bytes_given(matches, "id")?,
+            text_bytes(matches, "id")?,
             preferences_of(matches, "field")?,
         )),
         "bundle" => Some(Task::Bundle(preferences_of(matches, "field")?)),
-        "summary" => Some(Task::Document(DocumentTask::Summary)),
-        "delta" => Some(Task::Document(DocumentTask::Delta)),
-        "take" => Some(Task::Document(DocumentTask::Take)),
         "sync" => Some(Task::Sync),
         "replay" => Some(Task::Replay),
-        _ => None,
+        _ => Some(Task::Document(documents::task_of(name, now)?)),
     }
 }
 

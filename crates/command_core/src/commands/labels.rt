@@ -1,0 +1,67 @@
+//! The commands that hand in or out many labels.
+ghost use Rattle.std.specs.Prelude.{◌≡◌, IfOk};
+ghost use Rattle.clap.specs.Words.{app_of};
+ghost use Rattle.command_core.specs.Words.{IsCommand, import_app, labels_app, missing_app, update_app};
+
+use crate::arguments;
+use crate::commands::described;
+use clap::Command;
+use std::alloc::{AllocError, Global};
+
+/// The program with these commands.
+pub(crate) fn with_labels<'a>(
+    alloc: Global,
+    program: Command<'a>,
+) -> Result<Command<'a>, AllocError>
+    ensures { IfOk result (λ c. app_of c ≡ labels_app (app_of program.entry)) }
+{
+    program
+        .subcommand(import(alloc)?)?
+        .subcommand(update(alloc)?)?
+        .subcommand(described(
+            alloc,
+            "export",
+            "Prints the labels of a site as language maps",
+            "Reads a site document.\nExample: lexicat export < three.json",
+        ))?
+        .subcommand(missing(alloc)?)
+}
+
+/// `import --now N`
+fn import<'a>(alloc: Global) -> Result<Command<'a>, AllocError>
+    ensures { IfOk result (IsCommand import_app) }
+{
+    described(
+        alloc,
+        "import",
+        "Puts the labels of language maps into a site, each with a new stamp",
+        "Reads a site document, then language maps, and prints the new site.\nDocument 1 of the input ends at the first LF, and all behind it is document 2.\nExample: (cat one.json; echo '{\"greeting\":{\"fr\":\"Bonjour\"}}') | lexicat import --now 7 > three.json",
+    )
+    .arg(arguments::now(alloc))
+}
+
+/// `update --now N`
+fn update<'a>(alloc: Global) -> Result<Command<'a>, AllocError>
+    ensures { IfOk result (IsCommand update_app) }
+{
+    described(
+        alloc,
+        "update",
+        "Hands in what an editor changed in language maps, and nothing else",
+        "Reads a site document, then language maps as they were before the editor worked on them, then as they are now, and prints the new site. A label that the new ones leave out is deleted. Of an id that is written twice only the last counts.\nDocuments 1 and 2 of the input end at the first and the second LF, and all behind is document 3.\nExample: (cat three.json; echo '{\"greeting\":{\"fr\":\"Bonjour\"}}'; echo '{\"greeting\":{\"fr\":\"Salut\"}}') | lexicat update --now 8 > four.json",
+    )
+    .arg(arguments::now(alloc))
+}
+
+/// `missing --lang LANG`
+fn missing<'a>(alloc: Global) -> Result<Command<'a>, AllocError>
+    ensures { IfOk result (IsCommand missing_app) }
+{
+    described(
+        alloc,
+        "missing",
+        "Prints the messages that have labels but none of just this language, as language maps",
+        "Reads a site document. A deleted label is missing too, and fr-ca is not fr. A translator adds the members that are missing; update hands them in.\nExample: lexicat missing --lang de < three.json",
+    )
+    .arg(arguments::lang(alloc))
+}

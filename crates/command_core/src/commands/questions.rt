@@ -1,0 +1,66 @@
+//! The commands that ask a site for a reader.
+ghost use Rattle.std.specs.Prelude.{◌≡◌, IfOk};
+ghost use Rattle.clap.specs.Words.{app_of};
+ghost use Rattle.command_core.specs.Words.{IsCommand, bundle_app, filter_app, lookup_app, questions_app};
+
+use crate::arguments;
+use crate::commands::described;
+use clap::Command;
+use std::alloc::{AllocError, Global};
+
+/// The program with these commands.
+pub(crate) fn with_questions<'a>(
+    alloc: Global,
+    program: Command<'a>,
+    schemes: &'a [&'a str],
+) -> Result<Command<'a>, AllocError>
+    ensures { IfOk result (λ c. app_of c ≡ questions_app (app_of program.entry) schemes.entry) }
+{
+    program
+        .subcommand(filter(alloc, schemes)?)?
+        .subcommand(lookup(alloc, schemes)?)?
+        .subcommand(bundle(alloc, schemes)?)
+}
+
+/// `filter --id ID [--scheme SCHEME] [--lenient] FIELD`
+fn filter<'a>(alloc: Global, schemes: &'a [&'a str]) -> Result<Command<'a>, AllocError>
+    ensures { IfOk result (IsCommand (filter_app schemes.entry)) }
+{
+    described(
+        alloc,
+        "filter",
+        "Prints the labels of a message whose languages fit, best first",
+        "Reads a site document.\nExample: lexicat filter --id greeting \"fr;q=0.5, en\" < three.json",
+    )
+    .arg(arguments::id(alloc))?
+    .arg(arguments::scheme(alloc, schemes))?
+    .arg(arguments::lenient(alloc))?
+    .arg(arguments::field(alloc, "field", "FIELD"))
+}
+
+/// `lookup --id ID [--scheme SCHEME] [--lenient] [--default LANG] FIELD`
+fn lookup<'a>(alloc: Global, schemes: &'a [&'a str]) -> Result<Command<'a>, AllocError>
+    ensures { IfOk result (IsCommand (lookup_app schemes.entry)) }
+{
+    let command = described(
+        alloc,
+        "lookup",
+        "Prints the one label of a message that fits best, or the default's, or nothing",
+        "Reads a site document.\nExample: lexicat lookup --id greeting --default en \"da, fr;q=0.5\" < three.json",
+    )
+    .arg(arguments::id(alloc))?;
+    arguments::with_preferences(alloc, command, schemes, "field", "FIELD")
+}
+
+/// `bundle [--scheme SCHEME] [--lenient] [--default LANG] FIELD`
+fn bundle<'a>(alloc: Global, schemes: &'a [&'a str]) -> Result<Command<'a>, AllocError>
+    ensures { IfOk result (IsCommand (bundle_app schemes.entry)) }
+{
+    let command = described(
+        alloc,
+        "bundle",
+        "Prints for each message the one label that a reader gets, as language maps",
+        "Reads a site document. Of each message it is the label that lookup answers; a message for which lookup answers nothing is left out.\nExample: lexicat bundle --default en \"fr-CA, de;q=0.5\" < three.json",
+    );
+    arguments::with_preferences(alloc, command, schemes, "field", "FIELD")
+}
