@@ -1,10 +1,11 @@
 -- The command line is one whose matches and faults clap states.
-use Rattle.std.proofs.Common.{◌≡◌, ◌∙◌, ◌||◌, Bool, true, ap₂, refl}
+use Rattle.std.proofs.Common.{◌≡◌, ◌∙◌, ◌||◌, Bool, Result, IfOk, true, ap₂, refl}
+use Rattle.std.proofs.lemmas.Result.{IfOk-weaker}
 use Rattle.clap.specs.Words.{AddsArg, AddsSubcommand, App, Rule, app_of, is_simple, is_simple_and_free, with_rule, with_subcommand}
 use Rattle.clap.specs.declared.builder.arg.Arg.{Arg}
 use Rattle.clap.specs.declared.builder.command.Command.{Command}
 use Rattle.clap.proofs.OnLiterals.{clap_on_literals}
-use Rattle.command_core.specs.Words.{IsArgument, IsCommand, Schemes, lexicat_app}
+use Rattle.command_core.specs.Words.{IsArgument, IsCommand, Joins, Schemes, lexicat_app}
 
 pub lexicat_simple : (schemes : Schemes) → is_simple (lexicat_app schemes) ≡ true
 unfolding clap_on_literals
@@ -23,5 +24,9 @@ abbrev sub : App → App → App
 sub app command = with_subcommand app command.top
 
 -- one more subcommand
-pub joined : (app under : App) (old command new : Command) → app_of old ≡ app → AddsSubcommand old command new → IsCommand under command → app_of new ≡ with_subcommand app under.top
-joined app under old command new is adds under_is = adds.shape under_is.1 ∙ ap₂ sub is under_is.0
+pub joined : (old command new : Command) → AddsSubcommand old command new → (app under : App) → app_of old ≡ app → IsCommand under command → app_of new ≡ with_subcommand app under.top
+joined old command new adds app under is under_is = adds.shape under_is.1 ∙ ap₂ sub is under_is.0
+
+-- the same of what they came to
+pub with_command : {E : Type 0} (app under : App) (program command result : Result Command E) → IfOk program (λ old. app_of old ≡ app) → IfOk command (IsCommand under) → IfOk result (Joins program command) → IfOk result (λ new. app_of new ≡ with_subcommand app under.top)
+with_command app under program command result is under_is joins = IfOk-weaker result _ _ (λ r h. h app under is under_is) joins

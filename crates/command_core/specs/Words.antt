@@ -1,5 +1,5 @@
 -- The command line: what a parse reads of the command and of its subcommands.
-use Rattle.std.specs.Prelude.{◌≡◌, ℕ, List, Some, false, true, codes}
+use Rattle.std.specs.Prelude.{◌≡◌, ℕ, List, Result, Some, false, true, codes, IfOk}
 use Rattle.std.specs.Borrow.{Bor}
 use Rattle.clap.specs.Words.{App, Rule, Text, app_of, new_app, new_rule, rule_of, with_rule, with_subcommand}
 use Rattle.clap.specs.declared.builder.arg.Arg.{Arg}
@@ -15,6 +15,10 @@ IsArgument rule arg = (rule_of arg ≡ rule) × (arg.global ≡ false)
 -- a command with these arguments, and none that its subcommands share
 abbrev pub IsCommand : App → Command → Type 0
 IsCommand app command = (app_of command ≡ app) × ((out-Command command).has_globals ≡ false)
+
+-- what a program and a command came to, and the program with that command under it
+abbrev pub Joins : {E : Type 0} → Result Command E → Result Command E → Command → Type 0
+Joins program command joined = (app under : App) → IfOk program (λ old. app_of old ≡ app) → IfOk command (IsCommand under) → app_of joined ≡ with_subcommand app under.top
 
 -- the words that a scheme may be, where they lie in memory
 abbrev pub Schemes : Type 0

@@ -1,7 +1,7 @@
 //! The command line: the program with its subcommands, a file for each group of them.
 ghost use Rattle.std.specs.Prelude.{◌≡◌, IfOk};
 ghost use Rattle.clap.specs.Words.{app_of, new_app};
-ghost use Rattle.command_core.specs.Words.{IsCommand, bare_app, lexicat_app};
+ghost use Rattle.command_core.specs.Words.{IsCommand, Joins, bare_app, lexicat_app};
 
 mod exchange;
 mod labels;
@@ -44,6 +44,16 @@ fn bare<'a>(alloc: Global) -> Result<Command<'a>, AllocError>
         .subcommand_required(true)
         .disable_help_subcommand(true)
         .bin_name("lexicat")
+}
+
+/// The program with one more command, where there was memory for both.
+pub(crate) fn with_command<'a>(
+    program: Result<Command<'a>, AllocError>,
+    command: Result<Command<'a>, AllocError>,
+) -> Result<Command<'a>, AllocError>
+    ensures { IfOk result (Joins program.entry command.entry) }
+{
+    program?.subcommand(command?)
 }
 
 /// A command without arguments, with what the help says of it, also behind its arguments.

@@ -4,7 +4,7 @@ ghost use Rattle.clap.specs.Words.{app_of};
 ghost use Rattle.command_core.specs.Words.{IsCommand, import_app, labels_app, missing_app, update_app};
 
 use crate::arguments;
-use crate::commands::described;
+use crate::commands::{described, with_command};
 use clap::Command;
 use std::alloc::{AllocError, Global};
 
@@ -15,16 +15,16 @@ pub(crate) fn with_labels<'a>(
 ) -> Result<Command<'a>, AllocError>
     ensures { IfOk result (λ c. app_of c ≡ labels_app (app_of program.entry)) }
 {
-    program
-        .subcommand(import(alloc)?)?
-        .subcommand(update(alloc)?)?
-        .subcommand(described(
-            alloc,
-            "export",
-            "Prints the labels of a site as language maps",
-            "Reads a site document.\nExample: lexicat export < three.json",
-        ))?
-        .subcommand(missing(alloc)?)
+    let program = with_command(Ok(program), import(alloc));
+    let program = with_command(program, update(alloc));
+    let export = described(
+        alloc,
+        "export",
+        "Prints the labels of a site as language maps",
+        "Reads a site document.\nExample: lexicat export < three.json",
+    );
+    let program = with_command(program, Ok(export));
+    with_command(program, missing(alloc))
 }
 
 /// `import --now N`

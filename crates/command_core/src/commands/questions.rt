@@ -4,7 +4,7 @@ ghost use Rattle.clap.specs.Words.{app_of};
 ghost use Rattle.command_core.specs.Words.{IsCommand, bundle_app, filter_app, lookup_app, questions_app};
 
 use crate::arguments;
-use crate::commands::described;
+use crate::commands::{described, with_command};
 use clap::Command;
 use std::alloc::{AllocError, Global};
 
@@ -16,10 +16,9 @@ pub(crate) fn with_questions<'a>(
 ) -> Result<Command<'a>, AllocError>
     ensures { IfOk result (λ c. app_of c ≡ questions_app (app_of program.entry) schemes.entry) }
 {
-    program
-        .subcommand(filter(alloc, schemes)?)?
-        .subcommand(lookup(alloc, schemes)?)?
-        .subcommand(bundle(alloc, schemes)?)
+    let program = with_command(Ok(program), filter(alloc, schemes));
+    let program = with_command(program, lookup(alloc, schemes));
+    with_command(program, bundle(alloc, schemes))
 }
 
 /// `filter --id ID [--scheme SCHEME] [--lenient] FIELD`

@@ -4,7 +4,7 @@ ghost use Rattle.clap.specs.Words.{app_of};
 ghost use Rattle.command_core.specs.Words.{IsCommand, delete_app, new_site_app, pick_app, put_app, sites_app};
 
 use crate::arguments;
-use crate::commands::described;
+use crate::commands::{described, with_command};
 use clap::Command;
 use std::alloc::{AllocError, Global};
 
@@ -16,17 +16,17 @@ pub(crate) fn with_sites<'a>(
 ) -> Result<Command<'a>, AllocError>
     ensures { IfOk result (λ c. app_of c ≡ sites_app (app_of program.entry) schemes.entry) }
 {
-    program
-        .subcommand(pick(alloc, schemes)?)?
-        .subcommand(new(alloc)?)?
-        .subcommand(put(alloc)?)?
-        .subcommand(delete(alloc)?)?
-        .subcommand(described(
-            alloc,
-            "status",
-            "Prints how many cells and labels a site has, and its last stamp",
-            "Reads a site document.\nExample: lexicat status < two.json",
-        ))
+    let program = with_command(Ok(program), pick(alloc, schemes));
+    let program = with_command(program, new(alloc));
+    let program = with_command(program, put(alloc));
+    let program = with_command(program, delete(alloc));
+    let status = described(
+        alloc,
+        "status",
+        "Prints how many cells and labels a site has, and its last stamp",
+        "Reads a site document.\nExample: lexicat status < two.json",
+    );
+    with_command(program, Ok(status))
 }
 
 /// `pick [--scheme SCHEME] [--lenient] [--default LANG] RANGES TAG..`

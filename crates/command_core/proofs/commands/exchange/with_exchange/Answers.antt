@@ -1,12 +1,11 @@
-use Rattle.std.proofs.Common.{refl}
-use Rattle.std.proofs.lemmas.Result.{IfOk-weaker}
-use Rattle.command_core.proofs.AppLemmas.{joined}
+use Rattle.std.proofs.Common.{Ok, refl}
+use Rattle.command_core.proofs.AppLemmas.{with_command}
 use Rattle.command_core.proofs.commands.exchange.with_exchange.Goals as goal
 
 pub returns : goal.returns
 returns c =
-    let with_summary = joined _ _ _ _ _ refl c.in_ok-subcommand.ensures c.described.ensures in
-    let with_delta = joined _ _ _ _ _ with_summary c.in_ok-subcommand-2.ensures c.described-2.ensures in
-    let with_take = joined _ _ _ _ _ with_delta c.in_ok-subcommand-3.ensures c.described-3.ensures in
-    let with_sync = joined _ _ _ _ _ with_take c.in_ok-subcommand-4.ensures c.described-4.ensures in
-    IfOk-weaker c.subcommand-5.result _ _ (λ r h. joined _ _ _ _ _ with_sync h c.described-5.ensures) c.subcommand-5.ensures
+    let with_summary = with_command _ _ (Ok c.args.program) (Ok c.described-summary.result) c.with_command-program.result refl c.described-summary.ensures c.with_command-program.ensures in
+    let with_delta = with_command _ _ c.with_command-program.result (Ok c.described-delta.result) c.with_command-program-2.result with_summary c.described-delta.ensures c.with_command-program-2.ensures in
+    let with_take = with_command _ _ c.with_command-program-2.result (Ok c.described-take.result) c.with_command-program-3.result with_delta c.described-take.ensures c.with_command-program-3.ensures in
+    let with_sync = with_command _ _ c.with_command-program-3.result (Ok c.described-sync.result) c.with_command-program-4.result with_take c.described-sync.ensures c.with_command-program-4.ensures in
+    with_command _ _ c.with_command-program-4.result (Ok c.described-replay.result) c.with_command.result with_sync c.described-replay.ensures c.with_command.ensures

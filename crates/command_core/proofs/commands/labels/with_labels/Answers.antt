@@ -1,11 +1,10 @@
-use Rattle.std.proofs.Common.{refl}
-use Rattle.std.proofs.lemmas.Result.{IfOk-weaker}
-use Rattle.command_core.proofs.AppLemmas.{joined}
+use Rattle.std.proofs.Common.{Ok, refl}
+use Rattle.command_core.proofs.AppLemmas.{with_command}
 use Rattle.command_core.proofs.commands.labels.with_labels.Goals as goal
 
 pub returns : goal.returns
 returns c =
-    let with_import = joined _ _ _ _ _ refl c.in_ok-subcommand.ensures c.in_ok-import.ensures in
-    let with_update = joined _ _ _ _ _ with_import c.in_ok-subcommand-2.ensures c.in_ok-update.ensures in
-    let with_export = joined _ _ _ _ _ with_update c.in_ok-subcommand-3.ensures c.described.ensures in
-    IfOk-weaker c.subcommand-4.result _ _ (λ r h. joined _ _ _ _ _ with_export h c.in_ok-missing.ensures) c.subcommand-4.ensures
+    let with_import = with_command _ _ (Ok c.args.program) c.import.result c.with_command-program.result refl c.import.ensures c.with_command-program.ensures in
+    let with_update = with_command _ _ c.with_command-program.result c.update.result c.with_command-program-2.result with_import c.update.ensures c.with_command-program-2.ensures in
+    let with_export = with_command _ _ c.with_command-program-2.result (Ok c.described-export.result) c.with_command-program-3.result with_update c.described-export.ensures c.with_command-program-3.ensures in
+    with_command _ _ c.with_command-program-3.result c.missing.result c.with_command.result with_export c.missing.ensures c.with_command.ensures

@@ -1,10 +1,9 @@
-use Rattle.std.proofs.Common.{refl}
-use Rattle.std.proofs.lemmas.Result.{IfOk-weaker}
-use Rattle.command_core.proofs.AppLemmas.{joined}
+use Rattle.std.proofs.Common.{Ok, refl}
+use Rattle.command_core.proofs.AppLemmas.{with_command}
 use Rattle.command_core.proofs.commands.questions.with_questions.Goals as goal
 
 pub returns : goal.returns
 returns c =
-    let with_filter = joined _ _ _ _ _ refl c.in_ok-subcommand.ensures c.in_ok-filter.ensures in
-    let with_lookup = joined _ _ _ _ _ with_filter c.in_ok-subcommand-2.ensures c.in_ok-lookup.ensures in
-    IfOk-weaker c.subcommand-3.result _ _ (λ r h. joined _ _ _ _ _ with_lookup h c.in_ok-bundle.ensures) c.subcommand-3.ensures
+    let with_filter = with_command _ _ (Ok c.args.program) c.filter.result c.with_command-program.result refl c.filter.ensures c.with_command-program.ensures in
+    let with_lookup = with_command _ _ c.with_command-program.result c.lookup.result c.with_command-program-2.result with_filter c.lookup.ensures c.with_command-program-2.ensures in
+    with_command _ _ c.with_command-program-2.result c.bundle.result c.with_command.result with_lookup c.bundle.ensures c.with_command.ensures

@@ -1,12 +1,11 @@
-use Rattle.std.proofs.Common.{refl}
-use Rattle.std.proofs.lemmas.Result.{IfOk-weaker}
-use Rattle.command_core.proofs.AppLemmas.{joined}
+use Rattle.std.proofs.Common.{Ok, refl}
+use Rattle.command_core.proofs.AppLemmas.{with_command}
 use Rattle.command_core.proofs.commands.sites.with_sites.Goals as goal
 
 pub returns : goal.returns
 returns c =
-    let with_pick = joined _ _ _ _ _ refl c.in_ok-subcommand.ensures c.in_ok-pick.ensures in
-    let with_new = joined _ _ _ _ _ with_pick c.in_ok-subcommand-2.ensures c.in_ok-new.ensures in
-    let with_put = joined _ _ _ _ _ with_new c.in_ok-subcommand-3.ensures c.in_ok-put.ensures in
-    let with_delete = joined _ _ _ _ _ with_put c.in_ok-subcommand-4.ensures c.in_ok-delete.ensures in
-    IfOk-weaker c.subcommand-5.result _ _ (λ r h. joined _ _ _ _ _ with_delete h c.described.ensures) c.subcommand-5.ensures
+    let with_pick = with_command _ _ (Ok c.args.program) c.pick.result c.with_command-program.result refl c.pick.ensures c.with_command-program.ensures in
+    let with_new = with_command _ _ c.with_command-program.result c.new.result c.with_command-program-2.result with_pick c.new.ensures c.with_command-program-2.ensures in
+    let with_put = with_command _ _ c.with_command-program-2.result c.put.result c.with_command-program-3.result with_new c.put.ensures c.with_command-program-3.ensures in
+    let with_delete = with_command _ _ c.with_command-program-3.result c.delete.result c.with_command-program-4.result with_put c.delete.ensures c.with_command-program-4.ensures in
+    with_command _ _ c.with_command-program-4.result (Ok c.described-status.result) c.with_command.result with_delete c.described-status.ensures c.with_command.ensures
