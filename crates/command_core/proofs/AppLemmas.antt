@@ -1,7 +1,7 @@
 -- The command line is one whose matches and faults clap states.
-use Rattle.std.proofs.Common.{◌≡◌, ◌∙◌, ◌||◌, Bool, Result, IfOk, true, ap₂, refl}
+use Rattle.std.proofs.Common.{◌≡◌, ◌∙◌, ◌||◌, Bool, Result, Ok, Err, IfOk, true, ap₂, refl}
 use Rattle.std.proofs.lemmas.Result.{IfOk-weaker}
-use Rattle.clap.specs.Words.{AddsArg, AddsSubcommand, App, Rule, app_of, is_simple, is_simple_and_free, with_rule, with_subcommand}
+use Rattle.clap.specs.Words.{AddsArg, App, Rule, app_of, is_simple, is_simple_and_free, with_rule, with_subcommand}
 use Rattle.clap.specs.declared.builder.arg.Arg.{Arg}
 use Rattle.clap.specs.declared.builder.command.Command.{Command}
 use Rattle.clap.proofs.OnLiterals.{clap_on_literals}
@@ -24,9 +24,11 @@ abbrev sub : App → App → App
 sub app command = with_subcommand app command.top
 
 -- one more subcommand
-pub joined : (old command new : Command) → AddsSubcommand old command new → (app under : App) → app_of old ≡ app → IsCommand under command → app_of new ≡ with_subcommand app under.top
-joined old command new adds app under is under_is = adds.shape under_is.1 ∙ ap₂ sub is under_is.0
+joined : {E : Type 0} (app under : App) (program command : Result Command E) (new : Command) → IfOk program (λ old. app_of old ≡ app) → IfOk command (IsCommand under) → Joins program command new → app_of new ≡ with_subcommand app under.top
+joined app under (Ok old) (Ok command) new is under_is adds = adds.shape under_is.1 ∙ ap₂ sub is under_is.0
+joined app under (Ok old) (Err e) new is under_is adds = absurd adds
+joined app under (Err e) command new is under_is adds = absurd adds
 
 -- the same of what they came to
 pub with_command : {E : Type 0} (app under : App) (program command result : Result Command E) → IfOk program (λ old. app_of old ≡ app) → IfOk command (IsCommand under) → IfOk result (Joins program command) → IfOk result (λ new. app_of new ≡ with_subcommand app under.top)
-with_command app under program command result is under_is joins = IfOk-weaker result _ _ (λ r h. h app under is under_is) joins
+with_command app under program command result is under_is joins = IfOk-weaker result _ _ (λ r h. joined app under program command r is under_is h) joins

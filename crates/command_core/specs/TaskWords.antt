@@ -21,7 +21,7 @@ pub data TaskWords : Type 0 where
   Sync : TaskWords
   Replay : TaskWords
 
--- the command of this name at this moment, or none: it reads more of its words than the moment, or that is missing
+-- what the command of this name asks, where it reads documents and of its words the moment alone; none for another name, or without that moment
 abbrev pub document_words : Text → Option ℕ → Option DocumentTask
 document_words name now =
     if bytes_eq name (codes "status") then Some document.Status

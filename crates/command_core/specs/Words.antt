@@ -1,7 +1,7 @@
 -- The command line: what a parse reads of the command and of its subcommands.
-use Rattle.std.specs.Prelude.{◌≡◌, ℕ, List, Result, Some, false, true, codes, IfOk}
+use Rattle.std.specs.Prelude.{◌≡◌, ℕ, List, Result, Some, false, true, codes, MatchResult}
 use Rattle.std.specs.Borrow.{Bor}
-use Rattle.clap.specs.Words.{App, Rule, Text, app_of, new_app, new_rule, rule_of, with_rule, with_subcommand}
+use Rattle.clap.specs.Words.{AddsSubcommand, App, Rule, Text, app_of, new_app, new_rule, rule_of, with_rule, with_subcommand}
 use Rattle.clap.specs.declared.builder.arg.Arg.{Arg}
 use Rattle.clap.specs.declared.builder.command.Command.{Command}
 use Rattle.clap.specs.declared.builder.command.Command.TheViews.{out-Command}
@@ -16,9 +16,9 @@ IsArgument rule arg = (rule_of arg ≡ rule) × (arg.global ≡ false)
 abbrev pub IsCommand : App → Command → Type 0
 IsCommand app command = (app_of command ≡ app) × ((out-Command command).has_globals ≡ false)
 
--- what a program and a command came to, and the program with that command under it
+-- the program and the command are there, and this is that program with that command under it
 abbrev pub Joins : {E : Type 0} → Result Command E → Result Command E → Command → Type 0
-Joins program command joined = (app under : App) → IfOk program (λ old. app_of old ≡ app) → IfOk command (IsCommand under) → app_of joined ≡ with_subcommand app under.top
+Joins program command joined = MatchResult program (λ old. MatchResult command (λ under. AddsSubcommand old under joined) (λ _. ⊥)) (λ _. ⊥)
 
 -- the words that a scheme may be, where they lie in memory
 abbrev pub Schemes : Type 0
@@ -71,13 +71,17 @@ lang_rule = required_rule (codes "lang")
 abbrev pub new_site_app : App
 new_site_app = with_rule (new_app (codes "new")) site_rule
 
+-- an edit of one label: `--now N --id ID --lang LANG`
+abbrev pub edit_app : App → App
+edit_app app = with_rule (with_rule (with_rule app now_rule) id_rule) lang_rule
+
 -- `put --now N --id ID --lang LANG TEXT..`
 abbrev pub put_app : App
-put_app = with_rule (with_rule (with_rule (with_rule (new_app (codes "put")) now_rule) id_rule) lang_rule) (words_rule (codes "texts"))
+put_app = with_rule (edit_app (new_app (codes "put"))) (words_rule (codes "texts"))
 
 -- `delete --now N --id ID --lang LANG`
 abbrev pub delete_app : App
-delete_app = with_rule (with_rule (with_rule (new_app (codes "delete")) now_rule) id_rule) lang_rule
+delete_app = edit_app (new_app (codes "delete"))
 
 abbrev pub status_app : App
 status_app = new_app (codes "status")

@@ -2,7 +2,7 @@
 ghost use Rattle.std.specs.Prelude.{◌≡◌, false, IfOk};
 ghost use Rattle.clap.specs.Words.{app_of};
 ghost use Rattle.clap.specs.declared.builder.command.Command.TheViews.{out-Command};
-ghost use Rattle.command_core.specs.Words.{IsArgument, IsCommand, default_rule, field_rule, id_rule, lang_rule, lenient_rule, now_rule, preferences_app, required_rule, scheme_rule, site_rule, words_rule};
+ghost use Rattle.command_core.specs.Words.{IsArgument, IsCommand, default_rule, edit_app, field_rule, id_rule, lang_rule, lenient_rule, now_rule, preferences_app, required_rule, scheme_rule, site_rule, words_rule};
 
 use clap::{Arg, ArgAction, Command, value_parser};
 use std::alloc::{AllocError, Global};
@@ -90,6 +90,14 @@ pub(crate) fn with_preferences<'a>(
         .arg(lenient(alloc))?
         .arg(default(alloc))?
         .arg(field(alloc, name, value))
+}
+
+/// The command with what an edit of one label needs: its moment, and the label's id and language.
+pub(crate) fn with_edit<'a>(alloc: Global, command: Command<'a>) -> Result<Command<'a>, AllocError>
+    requires { (out-Command command).has_globals ≡ false }
+    ensures { IfOk result (IsCommand (edit_app (app_of command.entry))) }
+{
+    command.arg(now(alloc))?.arg(id(alloc))?.arg(lang(alloc))
 }
 
 /// `--default`, the language that a lookup or a pick falls back to.

@@ -46,7 +46,7 @@ fn bare<'a>(alloc: Global) -> Result<Command<'a>, AllocError>
         .bin_name("lexicat")
 }
 
-/// The program with one more command, where there was memory for both.
+/// The program with one more command under it, where there was memory for both.
 pub(crate) fn with_command<'a>(
     program: Result<Command<'a>, AllocError>,
     command: Result<Command<'a>, AllocError>,
@@ -56,7 +56,8 @@ pub(crate) fn with_command<'a>(
     program?.subcommand(command?)
 }
 
-/// A command without arguments, with what the help says of it, also behind its arguments.
+/// A command of this name without arguments: what the program's help says of it, and what its own
+/// help ends with.
 pub(crate) fn described<'a>(
     alloc: Global,
     name: &'a str,

@@ -1,4 +1,4 @@
-//! The commands that hand in or out many labels.
+//! The commands by which editors and translators take language maps from a site and hand them in.
 ghost use Rattle.std.specs.Prelude.{◌≡◌, IfOk};
 ghost use Rattle.clap.specs.Words.{app_of};
 ghost use Rattle.command_core.specs.Words.{IsCommand, import_app, labels_app, missing_app, update_app};

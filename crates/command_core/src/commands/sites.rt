@@ -64,29 +64,29 @@ fn new<'a>(alloc: Global) -> Result<Command<'a>, AllocError>
 fn put<'a>(alloc: Global) -> Result<Command<'a>, AllocError>
     ensures { IfOk result (IsCommand put_app) }
 {
-    described(
+    let command = described(
         alloc,
         "put",
         "Puts a label into a site, with a new stamp",
         "Reads a site document and prints the new one. A TEXT that begins with \"-\" stands behind --.\nExample: lexicat put --now 5 --id greeting --lang en Hello < paris.json > one.json",
-    )
-    .arg(arguments::now(alloc))?
-    .arg(arguments::id(alloc))?
-    .arg(arguments::lang(alloc))?
-    .arg(arguments::words(alloc, "texts", "TEXT", "The texts of the label, 1 to 64"))
+    );
+    arguments::with_edit(alloc, command)?.arg(arguments::words(
+        alloc,
+        "texts",
+        "TEXT",
+        "The texts of the label, 1 to 64",
+    ))
 }
 
 /// `delete --now N --id ID --lang LANG`
 fn delete<'a>(alloc: Global) -> Result<Command<'a>, AllocError>
     ensures { IfOk result (IsCommand delete_app) }
 {
-    described(
+    let command = described(
         alloc,
         "delete",
         "Deletes a label of a site, with a new stamp",
         "Reads a site document and prints the new one. The deletion is kept, so that no older label comes back.\nExample: lexicat delete --now 6 --id greeting --lang en < one.json > two.json",
-    )
-    .arg(arguments::now(alloc))?
-    .arg(arguments::id(alloc))?
-    .arg(arguments::lang(alloc))
+    );
+    arguments::with_edit(alloc, command)
 }
