@@ -71,9 +71,6 @@ pub record IsAgreed {K : Type 0} (cmp : K → K → Ordering) (own other left : 
   pub agrees : (j : ℕ) → j < front → AgreesAt cmp own other j
 
 module _ {K : Type 0} (cmp : K → K → Ordering) (own other : List (K × Cell)) where
-  pub agreed_none : IsAgreed cmp own other own 0
-  agreed_none = record { rest = refl; within = omega arith; agrees = λ j lt. absurd (omega (arith, lt)) }
-
   here : (xs left : List (K × Cell)) (n j : ℕ) → drop n own ≡ xs ++ left → j < length xs → slice_get own (n + j) ≡ slice_get xs j
   here xs left n j is lt = slice_get-drop own n j ∙ ap (λ ys. slice_get ys j) is ∙ slice_get-front xs left j lt
 

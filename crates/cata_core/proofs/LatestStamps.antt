@@ -34,9 +34,6 @@ pub latest_with_none : (a : Option Stamp) → joined_if_both joined_stamps a Non
 latest_with_none None = refl
 latest_with_none (Some s) = refl
 
-pub latest_end : (latest all : Option Stamp) (es : Entries) → es ≡ [] → joined_if_both joined_stamps latest (latest_of es) ≡ all → latest ≡ all
-latest_end latest all es none h = sym (latest_with_none latest) ∙ ap (λ xs. joined_if_both joined_stamps latest (latest_of xs)) (sym none) ∙ h
-
 -- ---- a stamp above all
 
 -- above the greater of two is above both
@@ -93,9 +90,6 @@ record IsLatestIn (cells : Entries) (s : Stamp) : Type 0 where
   held : In cells entry
   stamp_is : entry.1.stamp ≡ s
   latest : (e : Entry) → In cells e → stamp_cmp s e.1.stamp ≢ Less
-
-none_of_one : (a s : Stamp) → joined_if_both joined_stamps (Some a) None ≡ Some s → a ≡ s
-none_of_one a s h = some_same a s h
 
 latest_in : (es : Entries) (s : Stamp) → latest_of es ≡ Some s → IsLatestIn es s
 latest_in [] s h = absurd (cc)

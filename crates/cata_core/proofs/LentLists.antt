@@ -6,11 +6,10 @@ use Rattle.std.specs.Borrow.{Bor}
 use Rattle.std.proofs.lemmas.List.{take_more}
 use Rattle.std.proofs.lemmas.List.Elements.{filter_map-append}
 use Rattle.std.proofs.lemmas.Option.{get_or_from_slice_get}
-use Rattle.nego_core.specs.Filtering.{texts_of}
 use Rattle.nego_core.specs.declared.filtering.Pick.{Pick}
-use Rattle.cata_core.specs.Live.{Labelled, languages}
+use Rattle.cata_core.specs.Live.{Labelled}
 use Rattle.cata_core.specs.Asking.{with_weight, picked}
-use Rattle.cata_core.specs.LentEntries.{weighed_of, labelled_of}
+use Rattle.cata_core.specs.LentEntries.{weighed_of}
 
 abbrev Lent : Type 0
 Lent = Bor (List ℕ) × Bor (List (List ℕ)) × ℕ
@@ -35,21 +34,3 @@ picked_more labels picks i pick lt here =
 
 pub weighed_push : (xs : List Lent) (x : Lent) → weighed_of (xs ++ x ∷ []) ≡ weighed_of xs ++ value_of x ∷ []
 weighed_push xs x = weighed-append xs (x ∷ [])
-
--- the languages of lent pairs
-pub lent_push : (langs : List (Bor (List ℕ))) (l : Bor (List ℕ)) → texts_of (langs ++ l ∷ []) ≡ texts_of langs ++ l.now ∷ []
-lent_push [] l = refl
-lent_push (x ∷ langs) l = ap (λ xs. x.now ∷ xs) (lent_push langs l)
-
-pub languages_push : (pairs : List (Bor (List ℕ) × Bor (List (List ℕ)))) (p : Bor (List ℕ) × Bor (List (List ℕ))) → languages (labelled_of (pairs ++ p ∷ [])) ≡ languages (labelled_of pairs) ++ p.0.now ∷ []
-languages_push [] p = refl
-languages_push (x ∷ pairs) p = ap (λ xs. x.0.now ∷ xs) (languages_push pairs p)
-
-pub labelled_push : (pairs : List (Bor (List ℕ) × Bor (List (List ℕ)))) (p : Bor (List ℕ) × Bor (List (List ℕ))) → labelled_of (pairs ++ p ∷ []) ≡ labelled_of pairs ++ (p.0.now, p.1.now) ∷ []
-labelled_push [] p = refl
-labelled_push (x ∷ pairs) p = ap (λ xs. (x.0.now, x.1.now) ∷ xs) (labelled_push pairs p)
-
--- one more language, where the list has it
-pub languages_more : (pairs : List (Bor (List ℕ) × Bor (List (List ℕ)))) (i : ℕ) (p : Bor (List ℕ) × Bor (List (List ℕ))) → i < length pairs → p ≡ get_or pairs i p → languages (labelled_of (take i pairs)) ++ p.0.now ∷ [] ≡ languages (labelled_of (take (i + 1) pairs))
-languages_more pairs i p lt is =
-    sym (languages_push (take i pairs) p) ∙ ap (λ (x : Bor (List ℕ) × Bor (List (List ℕ))). languages (labelled_of (take i pairs ++ x ∷ []))) is ∙ ap (λ xs. languages (labelled_of xs)) (sym (take_more pairs i p lt))

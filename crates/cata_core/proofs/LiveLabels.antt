@@ -71,10 +71,6 @@ find-live_of q (e ∷ es) sorted =
           ]
     ] refl
 
--- the first cell that is left, by its label
-pub live_cons : (es rest : List (List ℕ × Cell)) (k : List ℕ) (c : Cell) (label : Option (List (List ℕ))) → es ≡ (k, c) ∷ rest → c.label ≡ label → live_of es ≡ cons_option (option_map (λ l. (k, l)) label) (live_of rest)
-live_cons es rest k c label is has = ap live_of is ∙ ap (λ (o : Option (List (List ℕ))). cons_option (option_map (λ l. (k, l)) o) (live_of rest)) has
-
 -- a label, by what a search of the cells gave
 pub with_label : (q : List ℕ) (es : List (List ℕ × Cell)) (k : List ℕ) (c : Cell) (label : Option (List (List ℕ))) → IsMap text_cmp es → Some (k, c) ≡ with_key q (find text_cmp q es) → c.label ≡ label
     → with_key k label ≡ with_key q (find text_cmp q (live_of es))

@@ -118,8 +118,3 @@ first_fault sites steps fault h = elim (first_from sites nothing_held 0 steps fa
         fault_of = subst (λ m. IsFaultOf sites (held_after nothing_held r.before) m r.step fault) same r.fault_of;
       })
 ]
-
--- want of memory may come at any step
-pub memory_fault : (sites : ℕ) (w : Held) (n : ℕ) (steps : List Step) → FaultFrom sites w n steps NoMemory
-memory_fault sites w n [] = refl
-memory_fault sites w n (step ∷ steps) = inl tt

@@ -1,5 +1,5 @@
 -- Walks that gather the cells that a summary lacks.
-use Rattle.std.proofs.Common.{◌≡◌, ◌≢◌, true, false, cond, [], ◌∷◌, ◌++◌, refl, sym, ap, ◌∙◌, subst, append_assoc}
+use Rattle.std.proofs.Common.{◌≡◌, ◌≢◌, true, false, cond, [], ◌∷◌, ◌++◌, sym, ap, ◌∙◌, subst, append_assoc}
 use Rattle.std.specs.declared.cmp.Ordering.TheVariants.{Less, Greater}
 use Rattle.std.specs.Ordering.{is_lt}
 use Rattle.std.specs.FinMap.Entries.{find, is_sorted, below_all}
@@ -8,7 +8,7 @@ use Rattle.cell_core.specs.Maps.{IsMap}
 use Rattle.cata_core.specs.Entries.{EntryKey, key_cmp, Entries, IsAboveAll}
 use Rattle.cata_core.specs.Deltas.{Stamps, is_missing, delta_of}
 use Rattle.cata_core.specs.Seeking.{IsBehind}
-use Rattle.cata_core.proofs.Basics.{first_part, second_part, less_than, append_nil}
+use Rattle.cata_core.proofs.Basics.{first_part, second_part, less_than}
 use Rattle.cata_core.proofs.Filtered.{filter-IsMap}
 use Rattle.cata_core.proofs.Behind.{front_below}
 use Rattle.cata_core.proofs.SummaryLists.{less_from, not_greater}
@@ -25,9 +25,6 @@ pub record AreMissingSoFar (all left missing : Entries) (summary rest : Stamps) 
   pub sorted : IsMap key_cmp left
   pub rest_sorted : IsMap key_cmp rest
   pub same : (q : EntryKey) → IsFromFirst q left → find key_cmp q rest ≡ find key_cmp q summary
-
-pub missing_first : (all : Entries) (summary : Stamps) → IsMap key_cmp all → IsMap key_cmp summary → AreMissingSoFar all all [] summary summary
-missing_first all summary m n = record { cells = refl; map = m; sorted = m; rest_sorted = n; same = λ q h. refl }
 
 module _ (all left missing : Entries) (summary rest more : Stamps) (k : EntryKey) (c : Cell) (h : AreMissingSoFar all ((k, c) ∷ left) missing summary rest) (s : IsBehind k rest more) where
   later : (q : EntryKey) → IsFromFirst q left → key_cmp k q ≡ Less
@@ -68,6 +65,3 @@ module _ (all left missing : Entries) (summary rest more : Stamps) (k : EntryKey
     rest_sorted = s.sorted;
     same = rest_same;
   }
-
-pub missing_all : (all missing : Entries) (summary rest : Stamps) → AreMissingSoFar all [] missing summary rest → missing ≡ delta_of all summary
-missing_all all missing summary rest h = sym (append_nil missing) ∙ h.cells

@@ -39,10 +39,6 @@ pub either_way : {A E P Q G : Type 0} (r : Result A E) → OnOk r P → OnErr r 
 either_way (Ok x) p q f g = f p
 either_way (Err e) p q f g = g q
 
-pub either_way_two : {A E P P2 Q G : Type 0} (r : Result A E) → OnOk r P → OnOk r P2 → OnErr r Q → (P → P2 → G) → (Q → G) → G
-either_way_two (Ok x) p p2 q f g = f p p2
-either_way_two (Err e) p p2 q f g = g q
-
 -- the inner map with the cell
 pub inner_with : (m : Nested) → IsCatalogue m → (k l : List ℕ) (c : Cell) (inner : List (List ℕ × Cell)) → inner ≡ inner_of (find text_cmp k m) → IsInner text_cmp (put text_cmp l c inner)
 inner_with m n k l c inner is = subst (λ es. IsInner text_cmp (put text_cmp l c es)) (sym is) (inner_put text_cmp text_cmp nat_list_cmp_total nat_list_cmp_total m n k l c)

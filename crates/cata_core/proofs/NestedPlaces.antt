@@ -26,18 +26,6 @@ pub record IsCounted (m left : Nested) (total : ℕ) : Type 0 where
   pub cells : total + length (flat left) ≡ length (flat m)
   pub small : total + length left * 18446744073709551615 ≤ length m * 18446744073709551615
 
-pub counted_first : (m : Nested) → IsCounted m m 0
-counted_first m = record { cells = omega arith; small = omega arith }
-
-pub counted_next : (m left : Nested) (id : List ℕ) (inner : Inner) (total : ℕ) → IsCounted m ((id, inner) ∷ left) total → length inner < 18446744073709551616 → IsCounted m left (total + length inner)
-counted_next m left id inner total h lt = record {
-  cells = omega (arith, h.cells, length-flat-cons id inner left);
-  small = omega (arith, h.small, lt);
-}
-
-pub counted_small : (m left : Nested) (id : List ℕ) (inner : Inner) (total : ℕ) → IsCounted m ((id, inner) ∷ left) total → length inner < 18446744073709551616 → length m < 18446744073709551616 → total + length inner < 340282366920938463463374607431768211456
-counted_small m left id inner total h lt fits = omega (arith, h.small, lt, fits)
-
 -- ---- the place of a key
 
 module _ {K L J : Type 0} (P : K → K → Ordering) (Q : L → L → Ordering) (tp : IsTotalOrder P) where

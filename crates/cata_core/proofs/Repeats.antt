@@ -1,4 +1,4 @@
--- A sync that ended for want of memory can be repeated.
+-- A sync that ended for lack of memory can be repeated.
 use Rattle.std.proofs.Common.{◌≡◌, ◌⊎◌, inl, inr, sym, ◌∙◌, subst}
 use Rattle.cell_core.specs.Joins.{IsBelow}
 use Rattle.cata_core.specs.Entries.{Entries, Agree, joined, Between, catalogue_laws}

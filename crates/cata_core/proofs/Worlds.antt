@@ -7,10 +7,10 @@ use Rattle.std.proofs.lemmas.Grind.{get_or-set_at}
 use Rattle.std.proofs.lemmas.List.{get_or-set_other, get_or_default}
 use Rattle.std.proofs.lemmas.List.Elements.{All-nil, All-cons, All-push, All-get_or}
 use Rattle.cata_core.specs.declared.step.Step.{Step}
-use Rattle.cata_core.specs.declared.step.Step.TheVariants.{Edit, Merge, Tell, Deliver, Post}
+use Rattle.cata_core.specs.declared.step.Step.TheVariants.{Merge, Tell, Deliver, Post}
 use Rattle.cata_core.specs.declared.play_fault.PlayFault.{PlayFault}
 use Rattle.cata_core.specs.declared.play_fault.PlayFault.TheVariants.{NoSuchSite, NoSuchPost, StampReused, NoMemory}
-use Rattle.cata_core.specs.Entries.{key_cmp, Entry, Entries, Agree, joined, catalogue_laws}
+use Rattle.cata_core.specs.Entries.{key_cmp, Entries, Agree, joined, catalogue_laws}
 use Rattle.cata_core.specs.Clashes.{IsFirstClash}
 use Rattle.cata_core.specs.Deltas.{summary_of, delta_of}
 use Rattle.cata_core.specs.Held.{ToldStamps, PostedCells, Held, joins, held_step, cells_in, cells_delivered, delta_to}
@@ -146,11 +146,6 @@ module _ (sites : List Entries) (told : List ToldStamps) (posts : List PostedCel
 pub addressed : (n : ℕ) (posts : List PostedCells) (k : ℕ) (p : PostedCells) → All (λ q. q.addressee < n) posts → k < length posts → p ≡ get_or posts k p → p.addressee < n
 addressed n posts k p h lt e = subst (λ q. q.addressee < n) (sym e) (All-get_or (λ q. q.addressee < n) posts k p lt h)
 
--- what holds, holds on success
-pub holds : {T E P : Type 0} (r : Result T E) → P → OnOk r P
-holds (Ok x) p = p
-holds (Err e) p = tt
-
 pub named_one : (n s : ℕ) → s < n → All (λ q. q < n) (s ∷ [])
 named_one n s lt = All-cons (λ q. q < n) s [] lt (All-nil (λ q. q < n))
 
@@ -161,15 +156,6 @@ named_two n s t lt less = All-cons (λ q. q < n) s (t ∷ []) lt (named_one n t 
 pub both_hold : {T E P Q R : Type 0} (r : Result T E) → (P → Q → R) → OnOk r P → OnOk r Q → OnOk r R
 both_hold (Ok x) f p q = f p q
 both_hold (Err e) f p q = tt
-
--- an edit that is joined
-pub edited_held : (xs : List Entries) (told : List ToldStamps) (posts : List PostedCells) (site : ℕ) (edit : Entry) (own incoming new : Entries) → site < length xs → own ≡ get_or xs site own → incoming ≡ edit ∷ [] → new ≡ joined own incoming
-    → record { of_site = at_sites (slice_set xs site new); told = told; posts = posts } ≡ held_step (record { of_site = at_sites xs; told = told; posts = posts }) (Edit site edit)
-edited_held xs told posts site edit own incoming new lt here is e = λ i. record {
-  of_site = joined_set xs site new ((edit ∷ [])) lt (e ∙ (λ j. joined (at_site xs site own lt here j) (is j))) i;
-  told = sym (append_nil told) i;
-  posts = sym (append_nil posts) i;
-}
 
 -- a post to who told
 pub posted_addressed : (n : ℕ) (told : List ToldStamps) (posts : List PostedCells) (k : ℕ) (t : ToldStamps) (cells : Entries) → All (λ q. q.teller < n) told → All (λ q. q.addressee < n) posts → k < length told → t ≡ get_or told k t
@@ -183,7 +169,3 @@ told_step of told posts site t is = λ i. record { of_site = of; told = told ++ 
 
 pub told_addressed : (n : ℕ) (told : List ToldStamps) (t : ToldStamps) → All (λ q. q.teller < n) told → t.teller < n → All (λ q. q.teller < n) (told ++ t ∷ [])
 told_addressed n told t h lt = All-push (λ q. q.teller < n) told t h lt
-
--- a refusal for want of memory may be at any step
-pub memory : (sites : ℕ) (w : Held) (n : ℕ) (step : Step) (fault : PlayFault) → fault ≡ NoMemory → IsFaultOf sites w n step fault
-memory sites w n step fault e = subst (IsFaultOf sites w n step) (sym e) tt

@@ -15,7 +15,8 @@ use Rattle.cata_core.specs.Held.{held}
 abbrev pub cells_answer : Entries → Answer
 cells_answer cells = Cells cells
 
--- what is answered to a step where the sites have these cells: one answer to a question, and else none
+-- what is answered to a step where the sites have these cells: one answer to a question, and else
+-- none
 abbrev pub IsAnswered : (ℕ → Entries) → Step → List Answer → Type 0
 IsAnswered cells (AskFilter site id scheme list) answers = (entries : Weighed) × (answers ≡ Filter entries ∷ []) × IsFilterAnswer (cells site) id scheme list entries
 IsAnswered cells (AskLookup site id list default) answers = (reply : Reply) × (answers ≡ Lookup reply ∷ []) × IsLookupAnswer (cells site) id list default reply

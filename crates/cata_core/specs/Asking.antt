@@ -33,7 +33,8 @@ pub record IsFilteredOf (labels : Labelled) (scheme : Scheme) (items : List Item
   pub filtered : IsFiltered scheme items (languages labels) picks
   pub answer_is : answer ≡ picked labels picks
 
--- RFC 4647 section 3.4: the language found with its label, or the default with its label where that is live (own rule)
+-- RFC 4647 section 3.4: the language found with its label, or the default with its label where that
+-- is live (project rule)
 abbrev pub IsLookedUpOf : Labelled → List Item → Option (List ℕ) → Reply → Type 0
 IsLookedUpOf labels items default (Matched lang label) = IsLookedUp items (is_live labels) (Some (pieces lang)) × (find text_cmp lang labels ≡ Some label)
 IsLookedUpOf labels items default (Default lang label) = IsLookedUp items (is_live labels) None × HasOpenDefault items (is_live labels) default × (default ≡ Some lang) × (find text_cmp lang labels ≡ Some label)

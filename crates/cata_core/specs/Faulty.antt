@@ -49,7 +49,8 @@ pub record IsSound (sites : ℕ) (w : Held) (step : Step) : Type 0 where
   pub posts_there : NamesPosts w step
   pub agrees : AgreesWith w.of_site (cells_in w step)
 
--- why the step with this number is faulty, the first reason that applies; want of memory may always be
+-- why the step with this number is faulty, the first reason that applies; out of memory may always
+-- be
 abbrev pub IsFaultOf : ℕ → Held → ℕ → Step → PlayFault → Type 0
 IsFaultOf sites w n step (NoSuchSite at) = (at ≡ n) × ¬ (NamesSites sites step)
 IsFaultOf sites w n step (NoSuchPost at) = (at ≡ n) × (NamesSites sites step × ¬ (NamesPosts w step))

@@ -1,4 +1,4 @@
--- The latest stamp of a catalogue (own rule).
+-- The latest stamp of a catalogue (project rule).
 use Rattle.std.specs.Prelude.{◌≡◌, ◌≢◌, [], ◌∷◌, Option, Some, None, Contains, MatchOption}
 use Rattle.std.specs.declared.cmp.Ordering.TheVariants.{Less}
 use Rattle.cell_core.specs.declared.stamp.Stamp.{Stamp}

@@ -1,5 +1,6 @@
--- Catalogues, sites, deltas and summaries of numbered sites, as documents of version 1 have them, and what they become (own rules).
-use Rattle.std.specs.Prelude.{◌≡◌, ℕ, ◌<◌, ◌^◌, List, Some, map}
+-- Catalogues, sites, deltas and summaries of numbered sites, as documents of version 1 have them,
+-- and what they become (project rules).
+use Rattle.std.specs.Prelude.{◌≡◌, ℕ, List, Some, map}
 use Rattle.std.specs.FinMap.Entries.{find}
 use Rattle.cell_core.specs.Maps.{IsMap, AgreeMaps, joined_maps}
 use Rattle.cell_core.specs.SiteNames.{padded_name}
@@ -39,11 +40,6 @@ migrated_entries es = map migrated_entry es
 abbrev pub OldStamps : Type 0
 OldStamps = List (EntryKey × OldStamp)
 
--- the keys rise, and the stamps have sites and counts of 32 bits
-pub record AreOldStamps (stamps : OldStamps) : Type 0 where
-  pub map : IsMap key_cmp stamps
-  pub stamps_fit : (k : EntryKey) (s : OldStamp) → find key_cmp k stamps ≡ Some s → IsOldStamp s
-
 abbrev pub migrated_stamps : OldStamps → Stamps
 migrated_stamps stamps = map (λ s. (s.0, migrated_stamp s.1)) stamps
 
@@ -63,19 +59,6 @@ pub record OldDelta : Type 0 where
 pub record OldSummary : Type 0 where
   pub owner : ℕ
   pub stamps : OldStamps
-
--- their numbers have 32 bits
-pub record IsOldSite (s : OldSite) : Type 0 where
-  pub number_fits : s.number < 2 ^ 32
-  pub cells : IsOldMap s.cells
-
-pub record IsOldDelta (d : OldDelta) : Type 0 where
-  pub addressee_fits : d.addressee < 2 ^ 32
-  pub cells : IsOldMap d.cells
-
-pub record IsOldSummary (s : OldSummary) : Type 0 where
-  pub owner_fits : s.owner < 2 ^ 32
-  pub stamps : AreOldStamps s.stamps
 
 abbrev pub migrated_site : OldSite → SiteState
 migrated_site s = record { name = padded_name s.number; cells = migrated_entries s.cells }

@@ -1,13 +1,14 @@
--- Steps whose edits have stamps of numbered sites, as documents of version 1 have them, and what they become (own rules).
-use Rattle.std.specs.Prelude.{ℕ, List, Option, All, map, ⊤}
+-- Steps whose edits have stamps of numbered sites, as documents of version 1 have them, and what
+-- they become (project rules).
+use Rattle.std.specs.Prelude.{ℕ, List, Option, map}
 use Rattle.nego_core.specs.Item.{Item}
 use Rattle.nego_core.specs.declared.scheme.Scheme.{Scheme}
-use Rattle.cell_core.specs.Migration.{IsOldStamp}
 use Rattle.cata_core.specs.declared.step.Step.{Step}
 use Rattle.cata_core.specs.declared.step.Step.TheVariants.{Edit, Merge, AskFilter, AskLookup, AskCells, Tell, Post, Deliver}
 use Rattle.cata_core.specs.Migration.{OldEntry, migrated_entry}
 
--- the steps of a run; places of sites and numbers of told summaries and posts are alike in both versions
+-- the steps of a run; places of sites and numbers of told summaries and posts are alike in both
+-- versions
 pub data OldStep : Type 0 where
   OldEdit : (site : ℕ) (edit : OldEntry) → OldStep
   OldMerge : (into source : ℕ) → OldStep
@@ -18,15 +19,8 @@ pub data OldStep : Type 0 where
   OldPost : (site told : ℕ) → OldStep
   OldDeliver : (post : ℕ) → OldStep
 
--- the stamp of an edit has a site and a count of 32 bits
-abbrev pub IsOldStep : OldStep → Type 0
-IsOldStep (OldEdit site edit) = IsOldStamp edit.1.stamp
-IsOldStep _ = ⊤
-
-abbrev pub AreOldSteps : List OldStep → Type 0
-AreOldSteps steps = All IsOldStep steps
-
--- the same with the padded names of the sites in the stamps; what a step names by place or number stays
+-- the same with the padded names of the sites in the stamps; what a step names by place or number
+-- stays
 abbrev pub migrated_step : OldStep → Step
 migrated_step (OldEdit site edit) = Edit site (migrated_entry edit)
 migrated_step (OldMerge into source) = Merge into source

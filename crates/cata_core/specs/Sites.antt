@@ -1,4 +1,4 @@
--- Sites, and what each refusal of a site means (own rules).
+-- Sites, and what each refusal of a site means (project rules).
 use Rattle.std.specs.Prelude.{◌≡◌, ◌≢◌, ℕ, List}
 use Rattle.cell_core.specs.Stamps.{NoNext}
 use Rattle.cata_core.specs.declared.cata_fault.CataFault.{CataFault}
@@ -13,7 +13,7 @@ pub record SiteState : Type 0 where
   pub name : List ℕ
   pub cells : Entries
 
--- an edit is refused where the site has no next stamp, else for want of memory alone
+-- an edit is refused where the site has no next stamp, else for lack of memory alone
 abbrev pub RefusesEdit : SiteState → ℕ → CataFault → Type 0
 RefusesEdit site now ClockSpent = NoNext (latest_of site.cells) now site.name
 RefusesEdit site now NoMemory = ¬ (NoNext (latest_of site.cells) now site.name)

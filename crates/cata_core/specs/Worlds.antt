@@ -18,7 +18,8 @@ at_sites catalogues = λ site. slice_index_or catalogues site []
 abbrev pub held_in : World → Held
 held_in world = record { of_site = at_sites world.sites.items; told = world.told.items; posts = world.posts.items }
 
--- the sites are few enough to be named by number, and who told, and whom is posted to, are sites that there are
+-- the sites are few enough to be named by number, and who told, and whom is posted to, are sites
+-- that there are
 pub record IsRunning (sites : ℕ) (w : Held) : Type 0 where
   pub few : sites ≤ 1024
   pub told : All (λ t. t.teller < sites) w.told

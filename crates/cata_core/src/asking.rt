@@ -73,7 +73,7 @@ impl Catalogue {
     /// The live label of a message that the list looks up (RFC 4647, section 3.4), or that of the
     /// default, or nothing.
     ///
-    /// It takes no memory. A default counts as held only where it has a live label.
+    /// It takes no memory. A default is available only where it has a live label.
     pub fn ask_lookup<'a>(
         &'a self,
         id: &MessageId,

@@ -10,18 +10,18 @@ use thiserror::Error;
 /// Why a catalogue or a site refuses a call.
 #[derive(Clone, Copy, Debug, PartialEq, Eq, Error)]
 pub enum CataFault {
-    /// At a key the cell that came in has the stamp of the held one and another label. The place is
-    /// that of the key in the catalogue that takes, from 0, and the stamp the one that stands
-    /// there.
+    /// 13: at a key the incoming cell has the same stamp as the stored one, and another label. The
+    /// place is that of the key in the receiving catalogue, from 0, and the stamp is the stored
+    /// cell's.
     #[error("stamp {} {} {} used twice, cell {place}", .stamp.time, .stamp.site.as_str(), .stamp.count)]
     StampReused { place: u128, stamp: Stamp },
-    /// The site can have no stamp above the last one.
+    /// 14: the site can have no stamp greater than the last one.
     #[error("clock is spent")]
     ClockSpent,
-    /// The delta is for another site.
+    /// 15: the delta is for another site.
     #[error("delta is for site {}", .addressee.as_str())]
     NotForMe { addressee: SiteName },
-    /// An allocation was refused.
+    /// 26: an allocation was refused.
     #[error("out of memory")]
     NoMemory,
 }

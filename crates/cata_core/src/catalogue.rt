@@ -31,8 +31,8 @@ const SEARCHES: u128 = 64;
 /// Cells by message and language, in rising order of the bytes of the id, then of the bytes of the
 /// language.
 ///
-/// At each key stands the cell of the greatest stamp that came in: a last-writer-wins register
-/// (INRIA RR-7506, 3.2.1). A deletion is a cell without a label, and is kept.
+/// Each key has the cell of the greatest stamp that came in: a last-writer-wins register (INRIA
+/// RR-7506, 3.2.1). A deletion is a cell without a label, and is kept.
 #[derive(Drop)]
 pub struct Catalogue {
     map: Keyed<MessageId, Keyed<Lang, Cell>>,
@@ -85,6 +85,7 @@ impl Catalogue {
         ensures len { result ≡ length self.now }
         ensures sorted { IsMap key_cmp self.now }
     {
+        // By a pattern, so that an edit finds a line of its own.
         let Catalogue { len, .. } = self;
         *len
     }
@@ -124,10 +125,11 @@ impl Catalogue {
         })
     }
 
-    /// Joins the one cell of an edit. An edit that is not newer than the held cell takes no memory.
+    /// Joins the one cell of an edit. An edit that is not newer than the stored cell takes no
+    /// memory.
     ///
-    /// Refused, and then unchanged, by [`CataFault::StampReused`] (13) where the held cell has the
-    /// same stamp and another label, and by [`CataFault::NoMemory`] (26).
+    /// Refused, and then unchanged, by [`CataFault::StampReused`] (13) where the stored cell has
+    /// the same stamp and another label, and by [`CataFault::NoMemory`] (26).
     pub fn apply(&mut self, alloc: Global, edit: &Edit) -> Result<(), CataFault>
         ensures ok { OnOk result (self.new ≡ joined self.old (edit.now ∷ [])) }
         ensures agree { OnOk result (Agree self.old (edit.now ∷ [])) }
@@ -211,8 +213,8 @@ impl Catalogue {
         }
     }
 
-    /// How many cells the join with the other has, where the other is so small that to search for
-    /// its cells is less than to walk over the own messages.
+    /// How many cells the join with the other has, where the other is so small that searching for
+    /// its cells is cheaper than a walk over all messages of this one.
     fn joined_len(&self, other: &Catalogue) -> Option<u128>
         ensures { IfSome result (λ len. len ≡ length (joined self.now other.now)) }
     {
@@ -222,7 +224,7 @@ impl Catalogue {
         self.len.checked_add(self.count_absent(other))
     }
 
-    /// How many cells of the other have keys that are not held.
+    /// How many cells of the other have keys that this one lacks.
     fn count_absent(&self, other: &Catalogue) -> u128
         ensures { result ≡ count_absent self.now other.now }
     {
@@ -237,7 +239,7 @@ impl Catalogue {
         count
     }
 
-    /// Whether the key is greater than all that are there, as [`Catalogue::push`] asks.
+    /// Whether the key is greater than all others, as [`Catalogue::push`] requires.
     pub fn is_above_all(&self, id: &MessageId, lang: &Lang) -> bool
         ensures { IsTrue result ↔ IsAboveAll (id.now, lang.now) self.now }
     {
@@ -247,8 +249,7 @@ impl Catalogue {
         }
     }
 
-    /// Puts a cell behind all that are there; its key has to be greater than theirs
-    /// ([`Catalogue::is_above_all`]).
+    /// Appends a cell; its key has to be greater than all others ([`Catalogue::is_above_all`]).
     ///
     /// What is passed in is not copied. When memory runs out (26) it is dropped, and the catalogue
     /// is unchanged.
@@ -269,7 +270,7 @@ impl Catalogue {
         Ok(())
     }
 
-    /// Puts copies behind all cells that are there.
+    /// Appends copies of the key and the cell.
     pub(crate) fn push_copy(
         &mut self,
         alloc: Global,

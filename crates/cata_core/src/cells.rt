@@ -5,7 +5,7 @@ ghost use Rattle.std.specs.Iterator.{YieldsFirstBy, item_count};
 use cell_core::{Cell, Iter, Keyed, MessageId};
 use lang_core::Lang;
 
-/// Lends the cells of a message, each with the message and its language, in rising order of
+/// Iterates over the cells of a message, each with the message and its language, in rising order of
 /// language.
 #[derive(Debug, Drop)]
 struct MessageCells<'a> {
@@ -28,7 +28,8 @@ impl<'a> Iterator for MessageCells<'a> {
     }
 }
 
-/// Lends the cells of a catalogue, each with its message and language, in rising order of key.
+/// Iterates over the cells of a catalogue, each with its message and language, in rising order of
+/// key.
 #[derive(Debug, Drop)]
 pub struct Cells<'a> {
     current: Option<MessageCells<'a>>,

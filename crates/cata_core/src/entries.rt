@@ -12,7 +12,7 @@ use std::alloc::{AllocError, Global};
 use std::marker::Model;
 use std::slice;
 
-/// The answer of a filter, lent from the catalogue: languages with their labels and weights, in
+/// The answer of a filter, borrowed from the catalogue: languages with their labels and weights, in
 /// order.
 #[derive(Debug, Drop)]
 pub struct LentEntries<'a> {

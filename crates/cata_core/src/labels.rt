@@ -7,8 +7,8 @@ ghost use Rattle.cata_core.specs.LiveLeft.{live_left};
 use cell_core::{Cell, Iter, Keyed, Label};
 use lang_core::Lang;
 
-/// Lends the languages of a message whose cell has a label, each with its label, in rising order of
-/// their bytes.
+/// Iterates over the languages of a message whose cell has a label, each with its label, in rising
+/// order of their bytes.
 #[derive(Debug, Drop)]
 pub struct Labels<'a> {
     cells: Option<Iter<'a, Lang, Cell>>,
@@ -20,6 +20,7 @@ impl<'a> Labels<'a> {
     ghost use Rattle.cata_core.specs.Live.{live_of};
     ghost use Rattle.cata_core.specs.LiveLeft.{labels_left};
 
+    /// The live labels of these cells.
     pub(crate) fn new(cells: Option<&'a Keyed<Lang, Cell>>) -> Labels<'a>
         ensures { labels_left result ≡ live_of (inner_of (option_copied cells.entry)) }
     {

@@ -74,9 +74,9 @@ pub fn catalogue_of_both()
         → (IsSettled (xs ++ ys) ↔ Agree (catalogue_of xs) (catalogue_of ys)) × (IsSettled (xs ++ ys) → catalogue_of (xs ++ ys) ≡ joined (catalogue_of xs) (catalogue_of ys)) }
 {}
 
-/// An own edit, by `Site::put` or `Site::delete`, joins its one cell, since its stamp is above all
-/// that is held. So what is said of joins and of the catalogue of edits holds of sites that are
-/// edited and joined by hand.
+/// An own edit, by `Site::put` or `Site::delete`, joins its one cell, since its stamp is greater
+/// than all of the site. So what is said of joins and of the catalogue of edits is true of sites
+/// that are edited and joined by hand.
 pub fn an_own_edit_is_joined()
     ensures agree { (cells : Entries) (key : EntryKey) (cell : Cell) → IsMap key_cmp cells → IsAbove (latest_of cells) cell.stamp → Agree cells ((key, cell) ∷ []) }
     ensures join { (cells : Entries) (key : EntryKey) (cell : Cell) → IsMap key_cmp cells → IsAbove (latest_of cells) cell.stamp
@@ -87,8 +87,8 @@ pub fn an_own_edit_is_joined()
         → IsSettled (edits ++ (key, cell) ∷ []) × (put key_cmp key cell (catalogue_of edits) ≡ catalogue_of (edits ++ (key, cell) ∷ [])) }
 {}
 
-/// The latest stamp that is held is the latest that was ever taken in, and that of a join the later
-/// of both.
+/// The latest stamp of a site's cells is the latest that was ever taken in, and that of a join the
+/// later of both.
 pub fn the_latest_held_is_the_latest_taken()
     ensures edits { (edits : List Entry) → IsLatest edits (latest_of (catalogue_of edits)) }
     ensures join { (a b : Entries) → Agree a b → latest_of (joined a b) ≡ joined_if_both joined_stamps (latest_of a) (latest_of b) }
@@ -203,7 +203,7 @@ pub fn summaries_only_rise()
     ensures { (p q : List Step) (site : ℕ) → IsBelowStamps (summary_of (catalogue_of (taken p site))) (summary_of (catalogue_of (taken (p ++ q) site))) }
 {}
 
-/// With consistent edits a site holds the catalogue of what it took, whatever was delivered, and
+/// With consistent edits a site has the catalogue of what it took, whatever was delivered, and
 /// when. Without deliveries, where no step is faulty, it does so whether or not the edits are
 /// consistent, and what it took is settled.
 pub fn held_is_what_was_taken()
@@ -212,8 +212,8 @@ pub fn held_is_what_was_taken()
         → (site : ℕ) → IsSettled (taken steps site) × (held steps site ≡ catalogue_of (taken steps site)) }
 {}
 
-/// A delivery, however late, leaves what a merge with the sender would leave, as the sender stood
-/// when it posted: the taker holds the join of both, and each other site what it held. It does so
+/// A delivery, however late, leaves what a merge with the sender would leave, as the sender was
+/// when it posted: the taker has the join of both, and each other site what it had. It does so
 /// whether or not edits clash.
 pub fn a_delivery_acts_as_a_merge()
     ensures taker { (a b c : List Step) (s t : ℕ) → let v = held_after nothing_held a in let before = a ++ Tell t ∷ b in let w = held_after nothing_held before in
@@ -238,8 +238,8 @@ pub fn delivered_sites_converge()
         → (site : ℕ) → site < sites → catalogue_of (taken steps site) ≡ catalogue_of (edits_of steps) }
 {}
 
-/// A delivery brings the delta of what the sender held when it posted, against what the addressee
-/// held when it told.
+/// A delivery brings the delta of what the sender had when it posted, against what the addressee
+/// had when it told.
 pub fn deliveries_bring_deltas()
     ensures { (a b c : List Step) (s t : ℕ) → let v = held_after nothing_held a in let w = held_after nothing_held (a ++ Tell t ∷ b) in
         cells_in (held_after nothing_held (a ++ Tell t ∷ b ++ Post s (length v.told) ∷ c)) (Deliver (length w.posts))
@@ -293,7 +293,7 @@ pub fn a_part_answers_as_the_whole()
 // ---- that premises are needed
 
 /// Edits that are not settled may have the same members and different catalogues, and a best edit
-/// that stands in none.
+/// that is in none.
 pub fn settled_is_needed()
     ensures catalogues { (xs : List Entry) × (ys : List Entry) × SameMembers xs ys × (catalogue_of xs ≢ catalogue_of ys) }
     ensures best { (xs : List Entry) × (key : EntryKey) × (cell : Cell) × IsBest xs key cell × (find key_cmp key (catalogue_of xs) ≢ Some cell) }

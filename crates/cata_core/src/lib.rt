@@ -18,7 +18,7 @@
 //! ```
 //!
 //! Refusals are a [`CataFault`], or of a run a [`PlayFault`] with its step. The laws of catalogues,
-//! deltas and runs stand in [`laws`].
+//! deltas and runs are in [`laws`].
 #![tactic(auto)]
 
 mod answer;

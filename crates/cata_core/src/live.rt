@@ -25,6 +25,7 @@ impl<'a> Live<'a> {
     ghost use Rattle.cata_core.specs.LentAnswers.{reply_of};
     ghost use Rattle.cata_core.specs.LiveIn.{live_in};
 
+    /// The live labels of these cells.
     pub(crate) fn new(cells: Option<&'a Keyed<Lang, Cell>>) -> Live<'a>
         ensures { live_in result ≡ live_of (inner_of (option_copied cells.entry)) }
     {

@@ -13,7 +13,7 @@ use lang_core::Lang;
 use nego_core::PriorityList;
 use std::marker::Model;
 
-/// A message with its live labels, lent from the catalogue.
+/// A message with its live labels, borrowed from the catalogue.
 #[derive(Debug, Drop)]
 pub struct Message<'a> {
     id: &'a MessageId,
@@ -65,7 +65,7 @@ impl<'a> Message<'a> {
     /// nothing: what [`Catalogue::ask_lookup`](crate::Catalogue::ask_lookup) answers for its id,
     /// without a search for it.
     ///
-    /// It takes no memory. A default counts as held only where it has a live label.
+    /// It takes no memory. A default is available only where it has a live label.
     pub fn lookup(&self, list: &PriorityList, default: Option<&Lang>) -> LentReply<'a>
         ensures { IsLookedUpOf self.now.1 list.now (option_map (λ l. l.now) default.entry) (reply_of result) }
     {
@@ -73,7 +73,8 @@ impl<'a> Message<'a> {
     }
 }
 
-/// Lends the messages of a catalogue that have a live label, in rising order of the ids' bytes.
+/// Iterates over the messages of a catalogue that have a live label, in rising order of the ids'
+/// bytes.
 #[derive(Debug, Drop)]
 pub struct Messages<'a> {
     messages: Iter<'a, MessageId, Keyed<Lang, Cell>>,
@@ -82,6 +83,7 @@ pub struct Messages<'a> {
 impl<'a> Messages<'a> {
     ghost use Rattle.cata_core.specs.MessagesLeft.{live_messages, messages_left};
 
+    /// The messages of these cells.
     pub(crate) fn new(map: &'a Keyed<MessageId, Keyed<Lang, Cell>>) -> Messages<'a>
         ensures { messages_left result ≡ live_messages map.now }
     {

@@ -1,4 +1,4 @@
-//! Where the cells of a map of maps stand, and how many there are.
+//! The places of the cells of a map of maps, and their number.
 
 ghost use Rattle.std.specs.Prelude.{◌≡◌, ◌-◌, length, slice_get};
 ghost use Rattle.std.specs.Option.{option_map};

@@ -10,25 +10,25 @@ use thiserror::Error;
 /// Why a run is refused: by its first faulty step, or since memory ran out.
 #[derive(Clone, Copy, Debug, PartialEq, Eq, Error)]
 pub enum PlayFault {
-    /// One stamp of one key would have two labels; the place is that of the key in the site that
-    /// takes.
+    /// 13: one stamp of one key would have two labels; the place is that of the key in the
+    /// receiving site.
     #[error("stamp {} {} {} used twice, cell {place}, step {step}", .stamp.time, .stamp.site.as_str(), .stamp.count)]
     StampReused {
         step: usize,
         place: u128,
         stamp: Stamp,
     },
-    /// The step names a site that is not there.
+    /// 16: the step names a site that is not there.
     #[error("step {step} names no site")]
     NoSuchSite {
         step: usize,
     },
-    /// The step names a summary that was not told, or a post that was not made.
+    /// 17: the step names a summary that was not told, or a post that was not made.
     #[error("step {step} names no post")]
     NoSuchPost {
         step: usize,
     },
-    /// An allocation was refused.
+    /// 26: an allocation was refused.
     #[error("out of memory")]
     NoMemory,
 }

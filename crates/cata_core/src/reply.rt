@@ -7,7 +7,7 @@ use cell_core::Label;
 use lang_core::Lang;
 use std::alloc::{AllocError, Global};
 
-/// The answer of a lookup, lent from the catalogue.
+/// The answer of a lookup, borrowed from the catalogue.
 #[derive(Debug, Drop)]
 pub enum LentReply<'a> {
     /// The language found, with its label.
@@ -37,7 +37,7 @@ impl Reply {
         self.lent().copy(alloc)
     }
 
-    /// The answer, lent.
+    /// The answer, borrowed.
     fn lent(&self) -> LentReply<'_>
         ensures { reply_of result ≡ self.now }
     {

@@ -20,7 +20,7 @@ use std::alloc::Global;
 
 /// The answers of a run over at most 1,024 sites, which begin empty.
 ///
-/// The steps are treated in order, so 26 may come before a fault that stands later.
+/// The steps are processed in order, so 26 may come before a fault of a later step.
 pub fn play(alloc: Global, sites: usize, steps: &[Step]) -> Result<Answers, PlayFault>
     requires { sites ≤ 1024 }
     // No answer is given where a step is faulty.

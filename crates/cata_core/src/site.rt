@@ -1,4 +1,4 @@
-//! Sites: catalogues with a name, which edit, tell and take.
+//! Sites: catalogues with a name, which make edits, and summaries and deltas for one another.
 
 ghost use Rattle.std.specs.Prelude.{◌≡◌, [], ◌∷◌, OnOk, OnErr, IfOk, IfErr, IsOk, MatchResult, Some, None};
 ghost use Rattle.std.specs.FinMap.Entries.{put};
@@ -106,12 +106,13 @@ impl Site {
         ensures value { result ≡ latest_of self.now.cells }
         ensures latest { IsLatest self.now.cells result }
     {
+        // By a pattern, so that an edit finds a line of its own.
         let Site { latest, .. } = self;
         *latest
     }
 
-    /// Gives the key this label, and answers the stamp of the edit, which is above all that the
-    /// site holds.
+    /// Gives the key this label, and answers the stamp of the edit, which is greater than all
+    /// stamps of the site.
     ///
     /// Refused, and then unchanged, by [`CataFault::ClockSpent`] (14) where there is no such stamp
     /// with a time of at least `now`, and by [`CataFault::NoMemory`] (26).
@@ -135,8 +136,8 @@ impl Site {
         }
     }
 
-    /// Deletes the label of the key, which need not be held, and answers the stamp of the edit. The
-    /// cell stays, without a label, so that no older label comes back.
+    /// Deletes the label of the key, if there is one, and answers the stamp of the edit. The cell
+    /// stays, without a label, so that no older label comes back.
     ///
     /// Refused as [`Site::put`] is.
     pub fn delete(
@@ -159,7 +160,7 @@ impl Site {
     }
 
     /// Joins the one cell of an edit, whose stamp may name any site. An edit that is not newer than
-    /// the held cell takes no memory.
+    /// the stored cell takes no memory.
     ///
     /// Refused, and then unchanged, by [`CataFault::StampReused`] (13) as [`Catalogue::apply`] is,
     /// and by [`CataFault::NoMemory`] (26).
@@ -270,7 +271,7 @@ impl Site {
         result
     }
 
-    /// The least stamp above all that the site holds, with a time of at least `now`.
+    /// The least stamp that is greater than all of the site, with a time of at least `now`.
     fn next_stamp(&self, now: u64) -> Result<Stamp, CataFault>
         ensures { MatchResult result (IsNext (latest_of self.now.cells) now self.now.name)
             (λ fault. (fault ≡ CataFault.ClockSpent) × RefusesEdit self.now now fault) }
@@ -281,7 +282,7 @@ impl Site {
         }
     }
 
-    /// Gives the key a copy of the label with the stamp, which is above all that the site holds.
+    /// Gives the key a copy of the label with the stamp, which is greater than all of the site.
     fn write_label(
         &mut self,
         alloc: Global,
@@ -298,7 +299,7 @@ impl Site {
         self.write(alloc, id, lang, Cell::new(*stamp, Some(label)))
     }
 
-    /// Gives the key no label with the stamp, which is above all that the site holds.
+    /// Gives the key no label with the stamp, which is greater than all of the site.
     fn write_none(
         &mut self,
         alloc: Global,
@@ -313,7 +314,7 @@ impl Site {
         self.write(alloc, id, lang, Cell::new(*stamp, None))
     }
 
-    /// Gives the key the cell, whose stamp is above all that the site holds.
+    /// Gives the key the cell, whose stamp is greater than all of the site.
     fn write(
         &mut self,
         alloc: Global,

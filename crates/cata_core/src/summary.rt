@@ -129,7 +129,7 @@ impl Summary {
         SummaryEntries::new(&self.entries)
     }
 
-    /// Whether the key is greater than all that are there, as [`Summary::push`] asks.
+    /// Whether the key is greater than all others, as [`Summary::push`] requires.
     pub fn is_above_all(&self, id: &MessageId, lang: &Lang) -> bool
         ensures { IsTrue result ↔ IsAboveAll (id.now, lang.now) self.now.stamps }
     {
@@ -139,8 +139,7 @@ impl Summary {
         }
     }
 
-    /// Puts a key behind all that are there; it has to be greater than they are
-    /// ([`Summary::is_above_all`]).
+    /// Appends a key; it has to be greater than all others ([`Summary::is_above_all`]).
     ///
     /// When memory runs out (26) the summary is unchanged, and what was passed in is dropped.
     pub fn push(&mut self, id: MessageId, lang: Lang, stamp: Stamp) -> Result<(), AllocError>

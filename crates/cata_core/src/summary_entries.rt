@@ -6,7 +6,7 @@ use crate::summary::SummaryEntry;
 use cell_core::{MessageId, Stamp};
 use lang_core::Lang;
 
-/// Lends the keys of a summary, each with its stamp, in rising order of key.
+/// Iterates over the keys of a summary, each with its stamp, in rising order of key.
 #[derive(Debug, Drop)]
 pub struct SummaryEntries<'a> {
     entries: &'a [SummaryEntry],
@@ -17,6 +17,7 @@ impl<'a> SummaryEntries<'a> {
     ghost use Rattle.cata_core.specs.Summary.{stamps_of};
     ghost use Rattle.cata_core.specs.StampsLeft.{stamps_left};
 
+    /// The entries of this slice.
     pub(crate) fn new(entries: &'a [SummaryEntry]) -> SummaryEntries<'a>
         ensures { stamps_left result ≡ stamps_of entries.now }
     {

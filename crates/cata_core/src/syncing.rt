@@ -9,12 +9,12 @@ use crate::cata_fault::CataFault;
 use crate::site::Site;
 use std::alloc::Global;
 
-/// Gives both sites the join of their catalogues, so that they hold equal ones.
+/// Gives both sites the join of their catalogues, so that both have equal ones.
 ///
 /// Refused, and then both unchanged, by [`CataFault::StampReused`] (13) with the place in the first
 /// site. After [`CataFault::NoMemory`] (26) each key of each site has its old cell, or none as
-/// before, or that of the join; the second site is untouched, or the first holds the whole join;
-/// and a repeat gives the join.
+/// before, or that of the join; the second site is unchanged, or the first has the whole join; and
+/// a repeat gives the join.
 pub fn sync(alloc: Global, first: &mut Site, second: &mut Site) -> Result<(), CataFault>
     ensures first { OnOk result (first.new ≡ record { name = first.old.name; cells = joined first.old.cells second.old.cells }) }
     ensures second { OnOk result (second.new ≡ record { name = second.old.name; cells = joined first.old.cells second.old.cells }) }

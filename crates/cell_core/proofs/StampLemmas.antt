@@ -8,7 +8,7 @@ use Rattle.std.specs.declared.cmp.Ordering.{Ordering}
 use Rattle.std.specs.declared.cmp.Ordering.TheVariants.{Less, Equal, Greater}
 use Rattle.std.proofs.lemmas.Cmp.{ranked}
 use Rattle.cell_core.specs.declared.stamp.Stamp.{Stamp}
-use Rattle.cell_core.specs.Stamps.{stamp_cmp, IsNew, IsNext, NoNext}
+use Rattle.cell_core.specs.Stamps.{stamp_cmp, IsNew, IsNext}
 
 abbrev sites : Stamp → Stamp → Ordering
 sites a b = slice_cmp nat_cmp a.site b.site
@@ -133,9 +133,6 @@ module _ (last : Stamp) (now : ℕ) (site : List ℕ) where
       next_is (Some last) now site s
       (record { of_site = refl; not_before = omega arith; time_fits = fits; count_fits = omega arith; above = before_in_time last s (omega arith) })
       (λ u new. up_to_time (last.time + 1) u.time u.count (omega (arith, passes_time full u new)))
-
-  pub no_next : 2 ^ 64 ≤ last.time + 1 → IsFull → NoNext (Some last) now site
-  no_next spent full = λ u new. absurd (omega (arith, passes_time full u new, new.time_fits))
 
 pub less_from : (r : Ordering) → is_lt r ≡ true → r ≡ Less
 less_from Less h = refl

@@ -1,4 +1,5 @@
--- What agrees and joins: states with a least value above two that agree (INRIA RR-7506, 2.2 and 2.3), and the values on the way there (own rule).
+-- What agrees and joins: states with a least value above two that agree (INRIA RR-7506, 2.2 and
+-- 2.3), and the values on the way there (project rule).
 use Rattle.std.specs.Prelude.{◌≡◌, ◌<◌, List, [], Option, All, length}
 use Rattle.std.specs.Option.{MatchOption}
 
@@ -6,7 +7,8 @@ use Rattle.std.specs.Option.{MatchOption}
 abbrev pub IsBelow : {J : Type 0} → (J → J → Type 0) → (J → J → J) → J → J → Type 0
 IsBelow agree joined a b = agree a b × (joined a b ≡ b)
 
--- the laws of the join, for values that agree pairwise; `between a x b` says that x is on the way from a to its join with b
+-- the laws of the join, for values that agree pairwise; `between a x b` says that x is on the way
+-- from a to its join with b
 pub record JoinLaws {J : Type 0} (agree : J → J → Type 0) (joined : J → J → J) (between : J → J → J → Type 0) : Type 0 where
   -- 1. A value and its join with another are both between the two.
   pub between_first : (a b : J) → agree a b → between a a b
@@ -24,7 +26,8 @@ pub record JoinLaws {J : Type 0} (agree : J → J → Type 0) (joined : J → J 
   pub above_first : (a b : J) → agree a b → IsBelow agree joined a (joined a b)
   pub above_second : (a b : J) → agree a b → IsBelow agree joined b (joined a b)
   pub least : (a b u : J) → agree a b → IsBelow agree joined a u → IsBelow agree joined b u → IsBelow agree joined (joined a b) u
-  -- 6. What is between two values is above the first, agrees with the second, and joins with it to their join.
+  -- 6. What is between two values is above the first, agrees with the second, and joins with it to
+  -- their join.
   pub between_above : (a x b : J) → agree a b → between a x b → IsBelow agree joined a x
   pub between_agrees : (a x b : J) → agree a b → between a x b → agree x b
   pub between_joins : (a x b : J) → agree a b → between a x b → joined x b ≡ joined a b

@@ -1,4 +1,5 @@
--- The later of two keeps the laws of the join, where equal marks of values that agree are on equal values.
+-- The later of two keeps the laws of the join, where equal marks of values that agree are on equal
+-- values.
 use Rattle.std.specs.Prelude.{◌≡◌, Bool, true, false, cond, refl}
 use Rattle.std.proofs.Common.{sym, ap, ◌∙◌, subst, inl, inr, true≢false}
 use Rattle.std.specs.declared.cmp.Ordering.{Ordering}

@@ -23,7 +23,8 @@ joined_if_both joined None b = b
 joined_if_both joined (Some x) None = Some x
 joined_if_both joined (Some x) (Some y) = Some (joined x y)
 
--- one that only the first has stays, one that only the third has may be there, and one that both have lies between
+-- one that only the first has stays, one that only the third has may be there, and one that both
+-- have lies between
 abbrev pub BetweenIfBoth : {J : Type 0} → (J → J → J → Type 0) → Option J → Option J → Option J → Type 0
 BetweenIfBoth between None None b = Unit {0}
 BetweenIfBoth between None (Some x) b = b ≡ Some x
@@ -142,10 +143,6 @@ tied Less e = absurd (true≢false (sym e))
 tied Equal e = refl
 tied Greater e = absurd (true≢false (sym e))
 
--- the map that has one entry
-abbrev pub only_at : {K J : Type 0} → K → J → List (K × J)
-only_at key value = (key, value) ∷ []
-
 module _ {K J : Type 0} (cmp : K → K → Ordering) where
   -- the keys strictly rise, so that no key comes twice
   abbrev pub IsMap : List (K × J) → Type 0
@@ -175,7 +172,8 @@ module _ {K J : Type 0} (cmp : K → K → Ordering) where
     pub map : IsMap zs
     pub at : (q : K) → find cmp q zs ≡ joined_if_both joined (find cmp q xs) (find cmp q ys)
 
-  -- a map on the way from the first to its join with the last: it has the first's keys and some of the last's
+  -- a map on the way from the first to its join with the last: it has the first's keys and some of
+  -- the last's
   pub record BetweenAtKeys (between : J → J → J → Type 0) (xs zs ys : List (K × J)) : Type 0 where
     pub first : IsMap xs
     pub middle : IsMap zs
@@ -184,10 +182,6 @@ module _ {K J : Type 0} (cmp : K → K → Ordering) where
 
   abbrev pub BetweenMaps : (J → J → J → Type 0) → List (K × J) → List (K × J) → List (K × J) → Type 0
   BetweenMaps between xs zs ys = (zs ≡ xs) ⊎ BetweenAtKeys between xs zs ys
-
-  -- what agrees with a map is one
-  pub first-IsMap : {agree : J → J → Type 0} (xs ys : List (K × J)) → AgreeMaps agree xs ys → IsMap ys → IsMap xs
-  first-IsMap {agree} xs ys h map = elim h as (λ _. IsMap xs) [ inl e ↦ subst IsMap (sym e) map | inr r ↦ r.first ]
 
   module _ (total : IsTotalOrder cmp) where
     -- what the joined entries have at a key

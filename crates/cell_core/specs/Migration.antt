@@ -1,4 +1,5 @@
--- Stamps and cells of numbered sites, as documents of version 1 have them, and what they become (own rules).
+-- Stamps and cells of numbered sites, as documents of version 1 have them, and what they become
+-- (project rules).
 use Rattle.std.specs.Prelude.{◌≡◌, ℕ, ◌<◌, ◌^◌, List, Option}
 use Rattle.std.specs.Ordering.{nat_cmp}
 use Rattle.std.specs.declared.cmp.Ordering.{Ordering}

@@ -1,4 +1,4 @@
--- The numbers of the refusals (own rule).
+-- The numbers of the refusals (project rule).
 use Rattle.std.specs.Prelude.{ℕ}
 use Rattle.cell_core.specs.declared.fault.CellFault.{CellFault}
 use Rattle.cell_core.specs.declared.fault.CellFault.TheVariants.{IdRefused, TextTooLong, LabelCount, ClockSpent, NoMemory, SiteName}

@@ -11,7 +11,7 @@ abbrev pub RefusesName : List ℕ → CellFault → Type 0
 RefusesName text SiteName = ¬ (IsSiteName text)
 RefusesName text _ = ⊥
 
--- want of memory comes last
+-- out of memory comes last
 abbrev pub RefusesId : List ℕ → CellFault → Type 0
 RefusesId text IdRefused = ¬ (IsMessageId text)
 RefusesId text NoMemory = IsMessageId text
@@ -23,7 +23,7 @@ RefusesTexts texts (LabelCount count) = (count ≡ length texts) × ¬ (IsLabelC
 RefusesTexts texts (TextTooLong index) = IsLabelCount (length texts) × (position is_too_long texts ≡ Some index)
 RefusesTexts texts _ = ⊥
 
--- the same, and want of memory last
+-- the same, and out of memory last
 abbrev pub RefusesLabel : List (List ℕ) → CellFault → Type 0
 RefusesLabel texts NoMemory = IsLabel texts
 RefusesLabel texts fault = RefusesTexts texts fault

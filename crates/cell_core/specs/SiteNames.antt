@@ -1,4 +1,5 @@
--- The names of sites, how one is kept in sixteen bytes, and the names of numbered sites (own rules).
+-- The names of sites, how one is kept in sixteen bytes, and the names of numbered sites (project
+-- rules).
 use Rattle.std.specs.Prelude.{◌≡◌, ℕ, ◌<◌, ◌≤◌, ◌-◌, Bool, ◌||◌, ◌&&◌, ◌==◌, nat_le, List, ◌++◌, length, replicate, All, IsTrue}
 use Rattle.std.specs.List.{before_first}
 use Rattle.std.specs.Fmt.{decimal}

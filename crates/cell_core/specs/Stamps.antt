@@ -1,4 +1,4 @@
--- The order of stamps, and the next stamp of a site (own rules).
+-- The order of stamps, and the next stamp of a site (project rules).
 use Rattle.std.specs.Prelude.{◌≡◌, ◌≢◌, ℕ, ◌<◌, ◌≤◌, ◌^◌, List, Option, Some, None}
 use Rattle.std.specs.Ordering.{nat_cmp, ordering_then}
 use Rattle.std.specs.Cmp.Lexicographic.{slice_cmp}

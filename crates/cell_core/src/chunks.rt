@@ -24,7 +24,7 @@ pub(crate) struct Chunks<K, J> {
     pub(crate) count: usize,
 }
 
-/// The chunk where the key that is sought stands, or would go.
+/// The index of the chunk that has the key, or would receive it.
 pub(crate) fn chunk_for<K: Key, J, Q: Query<K>>(chunks: &[Vec<(K, J)>], query: Q) -> usize
     requires chunked { IsChunked K.cmp chunks.now }
     requires some { 0 < length chunks.now }
@@ -135,7 +135,7 @@ pub(crate) fn put_pair<K: Key, J: Drop>(
     }
 }
 
-/// Whether the key would go behind all that are there.
+/// Whether the key is greater than all that are there.
 fn is_above_all<K: Key, J>(chunks: &[Vec<(K, J)>], key: &K) -> bool
     requires { IsChunked K.cmp chunks.now }
     ensures above { IsTrue result → IsGap K.cmp key.now (all_of chunks.now) (length (all_of chunks.now)) }
@@ -147,7 +147,7 @@ fn is_above_all<K: Key, J>(chunks: &[Vec<(K, J)>], key: &K) -> bool
     }
 }
 
-/// Puts a key that is above all behind them; a full last chunk stays whole.
+/// Appends a key that is greater than all others; a full last chunk stays whole.
 fn append<K: Key, J: Drop>(chunks: &mut Chunks<K, J>, key: K, value: J) -> Result<(), (K, J)>
     requires kept { IsKept K.cmp chunks.old }
     requires above { IsGap K.cmp key (entries_of chunks.old) (length (entries_of chunks.old)) }
@@ -167,7 +167,7 @@ fn append<K: Key, J: Drop>(chunks: &mut Chunks<K, J>, key: K, value: J) -> Resul
     }
 }
 
-/// Puts an item behind all others, in a new chunk where the last one is full.
+/// Appends an item, in a new chunk where the last one is full.
 fn push_last<T: Drop>(chunks: &mut Vec<Vec<T>>, item: T) -> Result<(), T>
     requires { AllFilled chunks.old.items }
     ensures filled { AllFilled chunks.new.items }
@@ -181,7 +181,7 @@ fn push_last<T: Drop>(chunks: &mut Vec<Vec<T>>, item: T) -> Result<(), T>
     push_in(&mut chunks[len - 1], item)
 }
 
-/// Puts an item behind the others of a chunk.
+/// Appends an item to a chunk.
 fn push_in<T: Drop>(chunk: &mut Vec<T>, item: T) -> Result<(), T>
     ensures grows { vec_len chunk.old ≤ vec_len chunk.new }
     ensures ok { OnOk result (chunk.new.items ≡ chunk.old.items ++ item ∷ []) }
@@ -209,7 +209,7 @@ fn make_room<T: Drop>(items: &mut Vec<T>) -> Result<(), AllocError>
     items.reserve_exact(items.len() / 4 + 1)
 }
 
-/// Puts an item behind all others, in a chunk of its own.
+/// Appends an item, in a chunk of its own.
 fn push_chunk<T: Drop>(chunks: &mut Vec<Vec<T>>, item: T) -> Result<(), T>
     requires { AllFilled chunks.old.items }
     ensures filled { AllFilled chunks.new.items }

@@ -9,22 +9,22 @@ use thiserror::Error;
 /// Why a site name, a message id, a label or a stamp is refused.
 #[derive(Clone, Copy, Debug, PartialEq, Eq, Error)]
 pub enum CellFault {
-    /// The text is no message id.
+    /// 10: the text is no message id.
     #[error("message id")]
     IdRefused,
-    /// The first text that is over 65,535 bytes, counted from 0.
+    /// 11: the first text that is over 65,535 bytes, counted from 0.
     #[error("text {index} is over 65535 bytes")]
     TextTooLong { index: usize },
-    /// A label has not 1 to 64 texts.
+    /// 12: a label has not 1 to 64 texts.
     #[error("label has {count} texts")]
     LabelCount { count: usize },
-    /// The site can have no stamp above the last one.
+    /// 14: the site can have no stamp greater than the last one.
     #[error("clock is spent")]
     ClockSpent,
-    /// An allocation was refused.
+    /// 26: an allocation was refused.
     #[error("out of memory")]
     NoMemory,
-    /// The text is no site name.
+    /// 27: the text is no site name.
     #[error("site name")]
     SiteName,
 }

@@ -61,7 +61,7 @@ fn add_missing<K: Key, J: Drop>(
     Ok(())
 }
 
-/// Moves the pairs of the tail and the new pairs behind the pairs that are there, in order.
+/// Appends the pairs of the tail and the new pairs to the pairs that are there, in order.
 fn interleave<K: Key, J: Drop>(
     pairs: &mut Vec<(K, J)>,
     mut tail: IntoIter<(K, J), Global>,

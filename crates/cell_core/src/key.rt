@@ -29,15 +29,15 @@ impl Key for Lang {
     }
 }
 
-/// What a map is searched by: a key, or what stands for one, as a text for the language that is
-/// written so.
+/// What a map is searched by: a key, or what represents one, as a text represents the language that
+/// is written so.
 ///
-/// It compares with keys as the key does that it stands for, whether or not there is such a key.
+/// It compares with keys as the key that it represents, whether or not the map has that key.
 pub trait Query<K: Key>: Copy {
-    /// The key that it stands for.
+    /// The key that it represents.
     ghost sought: { Self → K };
 
-    /// How the key that it stands for is ordered to this one.
+    /// How the key that it represents is ordered to this one.
     fn compare(&self, key: &K) -> Ordering
         ensures { result ≡ K.cmp (sought self.now) key.now };
 }

@@ -22,18 +22,18 @@ use std::alloc::{AllocError, Global};
 use std::fmt;
 use std::marker::Model;
 
-/// A finite map from keys to values, whose entries stand in strictly rising order of the keys.
+/// A finite map from keys to values, whose entries are in strictly rising order of the keys.
 ///
 /// Maps of values that join, join key by key; see [`Join`]. Two maps agree where their values agree
-/// at each key that both hold, and their join has at a key of one alone that one's value, and at a
-/// key of both the two values joined. A [`Join::join`] that runs out of memory leaves each key with
-/// its old value, or without one as before, with the join's value, or with one that stands between
-/// them; a repeated join then gives the whole join.
+/// at each key that both have, and their join has at a key of one alone that one's value, and at a
+/// key of both the two values joined. After a [`Join::join`] that runs out of memory each key has
+/// its old value, or none as before, or the join's value, or one between them; a repeated join then
+/// gives the whole join.
 ///
-/// `get`, `get_by` and `put` search in about log2(n) steps, `nth` in time for the entries in front.
-/// A `put` of a new key moves at most some sixty entries, and a key above all others goes behind
-/// them. A join takes time for the other map and for those parts of this one where the other's keys
-/// fall.
+/// `get`, `get_by` and `put` search in about log2(n) steps; `nth` walks over the chunks before its
+/// entry. A `put` of a new key moves at most some sixty entries, and a key greater than all others
+/// is appended. A join takes time for the other map and for those parts of this one where the
+/// other's keys fall.
 ///
 /// ```text
 /// let mut map = Keyed::new(alloc);
@@ -72,7 +72,7 @@ impl<K: Key, J> Keyed<K, J> {
         }
     }
 
-    /// How many keys are held.
+    /// How many keys there are.
     pub fn len(&self) -> usize
         ensures len { result ≡ length self.now }
         ensures map { IsMap K.cmp self.now }
@@ -80,7 +80,7 @@ impl<K: Key, J> Keyed<K, J> {
         self.chunks.count
     }
 
-    /// Whether no key is held.
+    /// Whether there is no key.
     pub fn is_empty(&self) -> bool
         ensures empty { IsTrue result ↔ (self.now ≡ []) }
     {
@@ -98,7 +98,7 @@ impl<K: Key, J> Keyed<K, J> {
         }
     }
 
-    /// The entry with the greatest key; none where no key is held.
+    /// The entry with the greatest key; none where the map is empty.
     pub fn last(&self) -> Option<(&K, &J)>
         ensures entry { option_map (λ e. (e.0.now, e.1.now)) result ≡ slice_get self.now (length self.now - 1) }
         ensures map { IsMap K.cmp self.now }
@@ -109,7 +109,7 @@ impl<K: Key, J> Keyed<K, J> {
         }
     }
 
-    /// The value of the key, if it is held.
+    /// The value of the key, if the map has it.
     pub fn get(&self, key: &K) -> Option<&J>
         ensures value { option_copied result ≡ find K.cmp key.now self.now }
         ensures map { IsMap K.cmp self.now }
@@ -120,8 +120,8 @@ impl<K: Key, J> Keyed<K, J> {
         }
     }
 
-    /// The entry of the key that the query stands for, if it is held: so a language is found by its
-    /// text, without memory for a key.
+    /// The entry of the key that the query represents, if the map has it: so a language is found by
+    /// its text, without memory for a key.
     pub fn get_by<Q: Query<K>>(&self, query: Q) -> Option<(&K, &J)>
         ensures entry { option_map (λ e. (e.0.now, e.1.now)) result ≡ with_key (Q.sought query) (find K.cmp (Q.sought query) self.now) }
         ensures map { IsMap K.cmp self.now }
@@ -140,8 +140,8 @@ impl<K: Key, J> Keyed<K, J> {
         }
     }
 
-    /// The value of the key, if it is held, to be changed: whatever is written through it, the map
-    /// is then the old one with that value at that key.
+    /// The value of the key, if the map has it, to be changed: whatever is written through it, the
+    /// map is then the old one with that value at that key.
     ///
     /// The greatest key, and one above it, are looked for first.
     pub fn get_mut(&mut self, key: &K) -> Option<&mut J>
@@ -159,10 +159,10 @@ impl<K: Key, J> Keyed<K, J> {
         }
     }
 
-    /// Gives the key the value, whether it was held or is new.
+    /// Gives the key the value, whether the key is new or not.
     ///
-    /// A held key takes no memory, and its `put` always succeeds. Where there is no memory for a
-    /// new key, that very pair comes back, and the map is as it was.
+    /// For a key that the map has it takes no memory, and always succeeds. Where there is no memory
+    /// for a new key, that very pair comes back, and the map is as it was.
     pub fn put(&mut self, key: K, value: J) -> Result<(), (K, J)>
     where
         J: Drop,

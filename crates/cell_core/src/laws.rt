@@ -11,7 +11,7 @@ ghost use Rattle.cell_core.specs.Migration.{OldStamp, IsOldStamp, OldCell, old_s
 
 use crate::stamp::Stamp;
 
-/// Names that are filled up behind with zero bytes to 16 are in the order of the names.
+/// Names padded with zero bytes to 16 are in the order of the names.
 pub fn filled_names_keep_order()
     ensures { (x y : List ℕ) → IsSiteName x → IsSiteName y
         → slice_cmp nat_cmp (filled x) (filled y) ≡ slice_cmp nat_cmp x y }

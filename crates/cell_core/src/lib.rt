@@ -1,9 +1,26 @@
 //! Site names, stamps, message ids, labels and cells, and how they join.
 //!
-//! A cell is a last-writer-wins register (INRIA RR-7506, 3.2.1): of two cells the one with the
-//! greater stamp is kept. What joins keeps the laws of a join semilattice (RR-7506, 2.2 and 2.3),
-//! so that replicas converge: they stand on the trait [`Join`], and each implementation proves
-//! them.
+//! These are state-based CRDTs (CvRDTs, INRIA RR-7506, 2.2 and 2.3): replicas exchange their whole
+//! values and join them, and since joins keep the laws of a join semilattice, replicas converge.
+//!
+//! - [`Join`] is the trait of values that join. Its laws belong to it, and each implementation
+//!   proves them. [`join_all`] joins a list, and [`agree_all`] says whether it may.
+//! - [`Cell`] is a last-writer-wins register (RR-7506, 3.2.1): a [`Stamp`] with a [`Label`], or
+//!   with none for a deletion. Of two cells the join keeps the one with the greater stamp.
+//! - [`Keyed`] is a map that joins key by key. A [`Query`] finds an entry without a [`Key`].
+//! - [`MessageId`] and [`SiteName`] are checked texts, and [`CellFault`] says why one is refused.
+//!
+//! ```text
+//! let paris = SiteName::new("paris")?;
+//! let first = Stamp::next(None, 5, paris)?                 5 paris 0
+//! let second = Stamp::next(Some(first), 3, paris)?         5 paris 1
+//! let mut mine = Cell::new(first, Some(hello));
+//! let theirs = Cell::new(second, None);
+//! mine.agrees(&theirs)                                     true: their stamps differ
+//! mine.join(alloc, &theirs)?                               mine is the deletion, of stamp second
+//! ```
+//!
+//! The laws of names, stamps and cells are in [`laws`].
 #![tactic(auto)]
 
 mod cell;

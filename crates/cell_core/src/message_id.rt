@@ -153,14 +153,14 @@ fn is_message_id(bytes: &[u8]) -> bool
     }
 }
 
-/// Whether each byte may stand in an id.
+/// Whether each byte is allowed in an id.
 fn are_id_bytes(bytes: &[u8]) -> bool
     ensures { IsTrue result ↔ All (λ b. IsTrue (is_id_byte b)) bytes.now }
 {
     bytes.iter().all(|&b| is_id_byte(b))
 }
 
-/// Whether the byte may stand in an id.
+/// Whether the byte is allowed in an id.
 #[tactic(auto, unfolding(crate::specs::MessageIds::is_id_byte))]
 fn is_id_byte(b: u8) -> bool
     ensures { result ≡ is_id_byte b }

@@ -12,7 +12,7 @@ use crate::key::{Key, Query};
 use std::alloc::{AllocError, Global};
 use std::cmp::Ordering;
 
-/// Where the key that is sought stands, or else where it would go.
+/// The place of the key that is sought, or the place where it would go.
 pub(crate) fn bisect<K: Key, J, Q: Query<K>>(pairs: &[(K, J)], query: Q) -> Result<usize, usize>
     requires { IsMap K.cmp pairs.now }
     ensures found { IfOk result (IsPlace K.cmp (Q.sought query) pairs.now) }
@@ -125,7 +125,7 @@ pub(crate) fn join_common<K: Key, J: Join>(
     Ok(missing)
 }
 
-/// Puts an item behind the others; the first one makes room for as many as there may be.
+/// Appends an item; the first one makes room for as many as there may be.
 fn push_in_room<T: Drop>(items: &mut Vec<T>, item: T, most: usize) -> Result<(), AllocError>
     ensures { OnOk result (items.new.items ≡ items.old.items ++ item ∷ []) }
 {

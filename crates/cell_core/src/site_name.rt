@@ -23,8 +23,8 @@ const DIGITS: usize = 10;
 /// Names are ordered by their bytes, a proper prefix below the longer name.
 #[derive(Clone, Copy)]
 pub struct SiteName {
-    // The text, filled up behind with zero bytes. No name has a byte as low, so the arrays are in
-    // the order of the texts.
+    // The text, padded with zero bytes. No name has a byte as low, so the arrays are in the order
+    // of the texts.
     bytes: [u8; MOST_BYTES],
 }
 
@@ -139,14 +139,14 @@ impl Ord for SiteName {
     }
 }
 
-/// Whether each byte may stand in a name.
+/// Whether each byte is allowed in a name.
 fn are_site_bytes(bytes: &[u8]) -> bool
     ensures { IsTrue result ↔ All (λ b. IsTrue (is_site_byte b)) bytes.now }
 {
     bytes.iter().all(|&b| is_site_byte(b))
 }
 
-/// Whether the byte may stand in a name.
+/// Whether the byte is allowed in a name.
 #[tactic(auto, unfolding(crate::specs::SiteNames::is_site_byte))]
 fn is_site_byte(b: u8) -> bool
     ensures { result ≡ is_site_byte b }
@@ -154,7 +154,7 @@ fn is_site_byte(b: u8) -> bool
     b.is_ascii_lowercase() || b.is_ascii_digit() || b == b'-'
 }
 
-/// The text, filled up behind with zero bytes.
+/// The text, padded with zero bytes.
 fn fill(text: &[u8]) -> [u8; MOST_BYTES]
     requires { length text.now ≤ 16 }
     ensures { result ≡ filled text.now }
@@ -164,7 +164,7 @@ fn fill(text: &[u8]) -> [u8; MOST_BYTES]
     bytes
 }
 
-/// How many bytes stand in front of the zero bytes.
+/// How many bytes come before the zero bytes.
 fn unfilled_len(bytes: &[u8; MOST_BYTES]) -> usize
     ensures text { result ≡ length (unfilled bytes.now) }
     ensures bound { result ≤ 16 }

@@ -1,4 +1,5 @@
--- What each command does (own rules). The answers and refusals of documents are those of the document calls.
+-- What each command does (project rules). The answers and refusals of documents are those of the
+-- document calls.
 use Rattle.std.specs.Prelude.{◌≡◌, ◌⊎◌, ◌++◌, ℕ, Bool, List, [], Option, None, Some, Result, MatchOption, MatchResult}
 use Rattle.clap.specs.Words.{Row, Text}
 use Rattle.cata_core.specs.Entries.{Entries}

@@ -1,4 +1,4 @@
--- What the words of `pick`, `filter` and `lookup` ask (own rules).
+-- What the words of `pick`, `filter` and `lookup` ask (project rules).
 use Rattle.std.specs.Prelude.{List, Option, codes, option_and_then, option_map}
 use Rattle.clap.specs.Words.{Row, Text, all_of, first_of}
 use Rattle.front_core.specs.Fields.{FieldText}

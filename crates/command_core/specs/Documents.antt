@@ -1,4 +1,5 @@
--- What the commands of documents alone answer, and why they refuse them: as the document calls do (own rules).
+-- What the commands of documents alone answer, and why they refuse them: as the document calls do
+-- (project rules).
 use Rattle.std.specs.Prelude.{ℕ, List}
 use Rattle.docs_core.specs.Calls as call
 use Rattle.docs_core.specs.Exchange as exchange

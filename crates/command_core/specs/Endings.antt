@@ -16,13 +16,15 @@ use Rattle.command_core.specs.Status.{status_of}
 abbrev pub write_fault : FrontFault
 write_fault = Document (of_no_document WriteFault)
 
--- why the words of a process can't be had: the sink was told that memory ran out, or else that a word is no UTF-8, which is a usage fault
+-- why the words of a process can't be had: the sink was told that memory ran out, or else that a
+-- word is no UTF-8, which is a usage fault
 abbrev pub LacksWords : {F : Type 0} → (F → Option (List ℕ)) → (F → Bool) → ErrorKind → F → F → ℕ → Type 0
 LacksWords lines closed OutOfMemory faults faults' status = (status ≡ 5) × PrintsRefusal lines closed NoMemory faults faults'
 LacksWords lines closed _ faults faults' status = (status ≡ 2) × PrintsLine lines closed (codes "error: a word is not UTF-8\n") faults faults'
 
 module _ {W F : Type 0} (contents : W → Option (List ℕ)) (failed : W → Bool) (lines : F → Option (List ℕ)) (closed : F → Bool) where
-  -- the whole text was written and nothing told, or a front of it with a fault of the sink, which was told
+  -- the whole text was written and nothing told, or a front of it with a fault of the sink, which
+  -- was told
   abbrev pub Writes : List ℕ → ℕ → W → W → F → F → ℕ → Type 0
   Writes text answered old new faults faults' status =
       ((status ≡ answered) × Appends (contents old) (contents new) text × (failed new ≡ false) × (faults' ≡ faults))

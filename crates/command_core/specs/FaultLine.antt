@@ -1,4 +1,4 @@
--- The line that reports a refusal, and what a sink takes of it (own rule).
+-- The line that reports a refusal, and what a sink takes of it (project rule).
 use Rattle.std.specs.Prelude.{◌≡◌, ◌==◌, ◌≤◌, ℕ, Bool, false, List, ◌++◌, length, Option, None, Some, [], codes, decimal, if◌then◌else◌, IfSome, MatchBool}
 use Rattle.std.specs.Fmt.Cut.{IsTextOrCut}
 use Rattle.std.specs.Io.KnownBytes.{Appends}
@@ -19,7 +19,8 @@ document_meant document = if document == 0 then None else Some document
 abbrev pub fault_line : ℕ → List ℕ → Option ℕ → ℕ → List ℕ
 fault_line number text row document = codes "refused " ++ decimal number ++ codes ": " ++ text ++ counted (codes " in row ") row ++ counted (codes " of document ") (document_meant document) ++ codes "\n"
 
--- what a line shows of a value, in at most 160 bytes: its text, or something that ends in dots where it is longer; anything, where the value's type does not say its text
+-- what a line shows of a value, in at most 160 bytes: its text, or something that ends in dots
+-- where it is longer; anything, where the value's type does not say its text
 abbrev pub Shows : Option (List ℕ) → List ℕ → Type 0
 Shows output text = (length text ≤ 160) × IfSome output (λ bytes. IsTextOrCut 160 bytes text)
 

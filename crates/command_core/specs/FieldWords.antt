@@ -1,4 +1,4 @@
--- How the words of a command say that a field is read, and what they prefer (own rules).
+-- How the words of a command say that a field is read, and what they prefer (project rules).
 use Rattle.std.specs.Prelude.{List, Option, None, Some, codes, option_map, if◌then◌else◌}
 use Rattle.std.specs.Str.{bytes_eq}
 use Rattle.clap.specs.Words.{Row, Text, first_of}
@@ -13,7 +13,8 @@ abbrev pub scheme_of : Option Text → Scheme
 scheme_of None = Basic
 scheme_of (Some word) = if bytes_eq word (codes "extended") then Extended else Basic
 
--- what becomes of malformed elements: `--lenient` has the text "true" where it is given, and else "false"
+-- what becomes of malformed elements: `--lenient` has the text "true" where it is given, and else
+-- "false"
 abbrev pub malformed_of : Option Text → Malformed
 malformed_of None = Refused
 malformed_of (Some word) = if bytes_eq word (codes "true") then PassedOver else Refused

@@ -1,7 +1,8 @@
--- The documents of an input (own rule).
+-- The documents of an input (project rule).
 use Rattle.std.specs.Prelude.{◌≡◌, ◌==◌, ◌+◌, ℕ, List, [], take, drop, position, MatchOption}
 
--- what stands in front of the first LF, and what stands behind it; without an LF the whole, and nothing
+-- what stands in front of the first LF, and what stands behind it; without an LF the whole, and
+-- nothing
 abbrev pub AreDocuments : List ℕ → List ℕ → List ℕ → Type 0
 AreDocuments input first second = MatchOption (position (λ byte. byte == 10) input)
     ((first ≡ input) × (second ≡ []))

@@ -1,4 +1,4 @@
--- The product's reading of a command's words (own rules).
+-- The product's reading of a command's words (project rules).
 use Rattle.std.specs.Prelude.{◌≡◌, ◌⊎◌, List, Option, None, Some}
 use Rattle.clap.specs.Words.{Text}
 use Rattle.cell_core.specs.Labels.{IsLabel}

@@ -1,4 +1,4 @@
--- What the program does with its words (own rules).
+-- What the program does with its words (project rules).
 use Rattle.std.specs.Prelude.{◌≡◌, ◌≢◌, ◌⊎◌, ℕ, Bool, true, false, List, [], ◌∷◌, Option, codes, map, IfOk, MatchBool, Result}
 use Rattle.clap.specs.Words.{App, Row, Text, fault_of, subcommand_of, subcommand_rows_of, FailsBy}
 use Rattle.clap.specs.Kinds.{Kinds, IsAmong}
@@ -23,7 +23,8 @@ pub record IsProgram (app : App) : Type 0 where
   pub scheme_words : map (λ s. s.now) schemes.now ≡ codes "basic" ∷ codes "extended" ∷ []
   pub app_is : app ≡ lexicat_app schemes
 
--- what clap makes of the words: at a command of the program, the matches that it has on them, or a fault of the kinds that it finds in them
+-- what clap makes of the words: at a command of the program, the matches that it has on them, or a
+-- fault of the kinds that it finds in them
 pub record MatchesBy (words : List Text) (result : Result ArgMatches Error) : Type 0 where
   pub app : App
   pub app_ok : IsProgram app
@@ -31,7 +32,8 @@ pub record MatchesBy (words : List Text) (result : Result ArgMatches Error) : Ty
   pub fails : FailsBy (fault_of app words) result
 
 module _ {W F : Type 0} (contents : W → Option (List ℕ)) (failed : W → Bool) (lines : F → Option (List ℕ)) (closed : F → Bool) where
-  -- help and the version are written out; any other fault in the words is told, and the output has nothing
+  -- help and the version are written out; any other fault in the words is told, and the output has
+  -- nothing
   abbrev pub Reports : ErrorKind → W → W → F → F → ℕ → Type 0
   Reports kind old new f f' status = MatchBool (is_shown kind)
       ((status ≡ 0) × ((text : List ℕ) × AppendsFront (contents old) (contents new) text) × (f' ≡ f))
@@ -42,7 +44,8 @@ module _ {W F : Type 0} (contents : W → Option (List ℕ)) (failed : W → Boo
   ReportsBy kind old new f f' status = EndsForMemory contents failed lines closed old new f f' status ⊎ ((kind ≢ OutOfMemory) × Reports kind old new f f' status)
 
 module _ {R W F : Type 0} (remaining : R → Option (List ℕ)) (broken : R → Bool) (contents : W → Option (List ℕ)) (failed : W → Bool) (lines : F → Option (List ℕ)) (closed : F → Bool) where
-  -- what is done at these words, by the kinds of fault that clap finds in them and the command that it meets
+  -- what is done at these words, by the kinds of fault that clap finds in them and the command that
+  -- it meets
   abbrev pub Does : Kinds → Option (Text × List Row) → R → R → W → W → F → F → ℕ → Type 0
   Does [] met r r' w w' f f' status = ActsBy remaining broken contents failed lines closed met r r' w w' f f' status
   Does (k ∷ ks) met r r' w w' f f' status = (r' ≡ r) × ((kind : ErrorKind) × IsAmong kind (k ∷ ks) × Reports contents failed lines closed kind w w' f f' status)

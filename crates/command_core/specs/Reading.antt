@@ -1,4 +1,5 @@
--- What a command does with its input: its words are read first, then the whole input, and what that holds is answered or refused (own rules).
+-- What a command does with its input: its words are read first, then the whole input, and what that
+-- holds is answered or refused (project rules).
 use Rattle.std.specs.Prelude.{◌≡◌, ◌⊎◌, ℕ, Bool, List, Option}
 use Rattle.cata_core.specs.Sites.{SiteState}
 use Rattle.docs_core.specs.Checks.{OrMemory}

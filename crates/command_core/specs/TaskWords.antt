@@ -1,4 +1,4 @@
--- What the words of each command ask (own rules).
+-- What the words of each command ask (project rules).
 use Rattle.std.specs.Prelude.{◌≡◌, ℕ, List, Option, None, Some, codes, option_map, if◌then◌else◌, MatchOption}
 use Rattle.std.specs.Str.{bytes_eq}
 use Rattle.clap.specs.Words.{Row, Text, first_of}
@@ -21,7 +21,8 @@ pub data TaskWords : Type 0 where
   Sync : TaskWords
   Replay : TaskWords
 
--- what the command of this name asks, where it reads documents and of its words the moment alone; none for another name, or without that moment
+-- what the command of this name asks, where it reads documents and of its words the moment alone;
+-- none for another name, or without that moment
 abbrev pub document_words : Text → Option ℕ → Option DocumentTask
 document_words name now =
     if bytes_eq name (codes "status") then Some document.Status
@@ -33,7 +34,8 @@ document_words name now =
     else (if bytes_eq name (codes "take") then Some document.Take
     else None))))))
 
--- what the command of this name asks at this moment, or none: it is no command of the program, or a word is missing
+-- what the command of this name asks at this moment, or none: it is no command of the program, or a
+-- word is missing
 abbrev pub task_words : Text → Option ℕ → List Row → Option TaskWords
 task_words name now rows =
     if bytes_eq name (codes "pick") then option_map Pick (pick_words rows)

@@ -42,7 +42,8 @@ field_rule name = record (new_rule name) { value_names = 1; required = true }
 abbrev pub words_rule : Text → Rule
 words_rule name = record (new_rule name) { value_names = 1; required = true; range = Some (record { start_inclusive = 1; end_inclusive = 18446744073709551615 }); action = Some Append }
 
--- what a reader prefers: `[--scheme SCHEME] [--lenient] [--default LANG]` and the ranges, by this name
+-- what a reader prefers: `[--scheme SCHEME] [--lenient] [--default LANG]` and the ranges, by this
+-- name
 abbrev pub preferences_app : App → Schemes → Text → App
 preferences_app app schemes name = with_rule (with_rule (with_rule (with_rule app (scheme_rule schemes)) lenient_rule) default_rule) (field_rule name)
 

@@ -7,7 +7,7 @@ ghost use Rattle.command_core.specs.Words.{IsArgument, IsCommand, default_rule, 
 use clap::{Arg, ArgAction, Command, value_parser};
 use std::alloc::{AllocError, Global};
 
-/// `--scheme`, one of the words of the schemes.
+/// `--scheme`, the name of one of the schemes.
 pub(crate) fn scheme<'a>(alloc: Global, schemes: &'a [&'a str]) -> Arg<'a>
     ensures { IsArgument (scheme_rule schemes.entry) result }
 {
@@ -25,7 +25,7 @@ pub(crate) fn lenient<'a>(alloc: Global) -> Arg<'a>
     Arg::new(alloc, "lenient")
         .long("lenient")
         .help(
-            "Pass over malformed elements of the ranges, also one that would refuse a language, as de;q=0.0000",
+            "Skip malformed elements of the ranges, also one that would refuse a language, as de;q=0.0000",
         )
         .action(ArgAction::SetTrue)
 }
@@ -108,7 +108,7 @@ fn default<'a>(alloc: Global) -> Arg<'a>
         .long("default")
         .value_name("LANG")
         .help(
-            "The language to answer where nothing fits, if it is there and the ranges do not refuse it",
+            "The language to answer where nothing fits, if it is available and the ranges do not refuse it",
         )
 }
 
@@ -122,7 +122,7 @@ pub(crate) fn field<'a>(alloc: Global, name: &'a str, value: &'a str) -> Arg<'a>
         .required(true)
 }
 
-/// One word or more, by this name.
+/// One argument or more, by this name.
 pub(crate) fn words<'a>(alloc: Global, name: &'a str, value: &'a str, help: &'a str) -> Arg<'a>
     ensures { IsArgument (words_rule name.entry.now) result }
 {

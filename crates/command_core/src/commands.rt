@@ -15,7 +15,7 @@ use crate::commands::sites::with_sites;
 use clap::Command;
 use std::alloc::{AllocError, Global};
 
-/// The version that `--version` tells.
+/// The version that `--version` prints.
 const VERSION: &str = "0.2.0";
 
 /// The program and all its commands, in the order in which the help shows them.

@@ -1,4 +1,4 @@
-//! What follows clap: the task that the words set.
+//! What follows clap: the task of the arguments is done.
 ghost use Rattle.std.specs.Prelude.{◌≡◌, false};
 ghost use Rattle.clap.specs.Words.{subcommand_rows_of};
 ghost use Rattle.command_core.specs.Acts.{ActsBy, Treats};
@@ -16,7 +16,7 @@ use front_core::FrontFault;
 use std::alloc::Global;
 
 /// Does what the matches say, and gives the status. Matches without a command of the program, or
-/// without a word that the command needs, are a usage fault.
+/// without an argument that the command needs, are a usage fault.
 pub fn act<R: Source, W: Sink, F: Sink>(
     alloc: Global,
     matches: &ArgMatches<'_>,

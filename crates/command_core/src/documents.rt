@@ -1,4 +1,4 @@
-//! The commands that read documents and nothing of their words but the moment.
+//! The commands whose only argument is `--now`, if any: all else comes in documents.
 ghost use Rattle.std.specs.Prelude.{◌≡◌, false, MatchResult};
 ghost use Rattle.docs_core.specs.Checks.{OrMemory};
 ghost use Rattle.docs_core.specs.ReadsAs.{no_memory};
@@ -27,7 +27,8 @@ pub(crate) enum DocumentTask {
     Take,
 }
 
-/// The command of this name, at this moment, where it reads documents and nothing else of its words.
+/// The task of the command of this name, at this moment, where its only argument is `--now`, if
+/// any.
 pub(crate) fn task_of(name: &str, now: Option<u64>) -> Option<DocumentTask>
     ensures { result ≡ document_words name.now now }
 {

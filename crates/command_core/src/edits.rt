@@ -10,12 +10,16 @@ use docs_core::{Source, edit_document, read_all};
 use front_core::{Answer, Outcome};
 use std::alloc::Global;
 
-/// What the words of an edit ask: it puts a label, or without texts deletes it.
+/// The values of an edit: it puts a label, or without texts deletes it.
 #[derive(Clone, Copy)]
 pub(crate) struct EditValues<'m, 'a> {
+    /// The moment, `--now`.
     pub now: u64,
+    /// The message, `--id`.
     pub id: &'a str,
+    /// The language, `--lang`.
     pub lang: &'a str,
+    /// The texts of the label; none for a deletion.
     pub texts: Option<&'m [&'a str]>,
 }
 

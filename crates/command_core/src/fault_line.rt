@@ -20,11 +20,11 @@ use std::io;
 /// How many bytes of its text a line has at most. No text of a refusal has more.
 const TEXT_BYTES: usize = 160;
 
-/// Room for the text and for all that stands around it.
+/// Room for the text and for all that surrounds it.
 const LINE_BYTES: usize = 320;
 
-/// Reports a refusal, and gives its status: `refused N: TEXT`, then ` in row R` and ` of document D`
-/// where they are meant. A text of more than 160 bytes would be cut and end in dots.
+/// Reports a refusal, and gives its status: `refused N: TEXT`, then ` in row R` and ` of document
+/// D` where they are named. A text of more than 160 bytes would be cut and end in dots.
 pub fn refuse<S: Sink>(faults: &mut S, fault: FrontFault) -> u8
     ensures status { result ≡ status_of (number_of fault) }
     ensures reported { PrintsRefusal S.contents S.failed fault faults.old faults.new }
@@ -34,8 +34,8 @@ pub fn refuse<S: Sink>(faults: &mut S, fault: FrontFault) -> u8
     status::of_refusal(number)
 }
 
-/// Tells why the words of a process can't be had, and gives the status: there is no memory for them,
-/// or one is not UTF-8, which is a usage fault.
+/// Reports why the arguments of a process can't be read, and gives the status: there is no memory
+/// for them, or one is not UTF-8, which is a usage fault.
 pub fn refuse_words<S: Sink>(faults: &mut S, error: &io::Error) -> u8
     requires { S.failed faults.old ≡ false }
     ensures { LacksWords S.contents S.failed (error_kind error.now) faults.old faults.new result }
@@ -72,6 +72,7 @@ fn report<S: Sink, T: Display>(
     }
 }
 
+/// The line of a refusal, with its line feed.
 fn line_of(number: u8, text: &str, row: Option<usize>, document: u8) -> ArrayString<LINE_BYTES>
     requires { length text.now ≤ 160 }
     ensures { result.bytes ≡ fault_line number text.now row document }
@@ -98,7 +99,7 @@ fn push_number(line: &mut ArrayString<LINE_BYTES>, word: &str, number: Option<us
     }
 }
 
-/// The document that is meant, where it is one.
+/// The document that is named, where it is one.
 fn document_meant(document: u8) -> Option<usize>
     ensures { result ≡ document_meant document }
 {

@@ -2,8 +2,8 @@
 ghost use Rattle.std.specs.Prelude.{◌≡◌, ◌==◌, position};
 ghost use Rattle.command_core.specs.Input.{AreDocuments};
 
-/// Document 1 is what stands in front of the first LF, and document 2 what stands behind it;
-/// without an LF all is document 1, and document 2 is empty.
+/// Document 1 is what comes before the first LF, and document 2 what comes after it; without an LF
+/// all is document 1, and document 2 is empty.
 pub(crate) fn two_documents(input: &[u8]) -> (&[u8], &[u8])
     ensures { AreDocuments input.now result.0.now result.1.now }
 {

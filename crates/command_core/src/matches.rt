@@ -51,7 +51,9 @@ pub(crate) fn field_of<'a>(matches: &ArgMatches<'a>, id: &str) -> Option<Field<'
 /// What a reader prefers: a field, and a default where there is one.
 #[derive(Clone, Copy)]
 pub(crate) struct PreferenceValues<'a> {
+    /// The ranges, and how they are read.
     pub field: Field<'a>,
+    /// The language of `--default`.
     pub default: Option<&'a [u8]>,
 }
 
@@ -71,7 +73,7 @@ pub(crate) fn text_bytes<'a>(matches: &ArgMatches<'a>, id: &str) -> Option<&'a [
     bytes_of(text_of(matches, id))
 }
 
-/// The scheme of a word; where there is none, the basic one.
+/// The scheme of an argument; where there is none, the basic one.
 fn scheme_of(word: Option<&str>) -> Scheme
     ensures { result ≡ spec.scheme_of (option_copied word.entry) }
 {
@@ -81,8 +83,8 @@ fn scheme_of(word: Option<&str>) -> Scheme
     }
 }
 
-/// What becomes of malformed elements: clap gives the flag `--lenient` the text "true" where it
-/// stands, and else "false".
+/// What becomes of malformed elements: clap gives the flag `--lenient` the text "true" where it is
+/// present, and else "false".
 fn malformed_of(word: Option<&str>) -> Malformed
     ensures { result ≡ spec.malformed_of (option_copied word.entry) }
 {

@@ -22,7 +22,7 @@ pub(crate) fn print<W: Sink, F: Sink>(text: &Doc, status: u8, writer: &mut W, fa
     }
 }
 
-/// The same of two texts, the one behind the other, with status 0.
+/// Writes both texts in order; the status is 0.
 pub(crate) fn print_both<W: Sink, F: Sink>(
     first: &Doc,
     second: &Doc,
@@ -38,6 +38,7 @@ pub(crate) fn print_both<W: Sink, F: Sink>(
     }
 }
 
+/// Writes both texts in order.
 fn write_both<W: Sink>(first: &Doc, second: &Doc, writer: &mut W) -> Result<(), DocFault>
     requires { W.failed writer.old ≡ false }
     ensures ok { OnOk result (Appends (W.contents writer.old) (W.contents writer.new) (first.now ++ second.now)) }

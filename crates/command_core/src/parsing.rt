@@ -1,4 +1,4 @@
-//! The product's reading of words.
+//! The product's reading of arguments.
 ghost use Rattle.std.specs.Prelude.{◌≡◌, map, option_map, IfOk, MatchResult};
 ghost use Rattle.cell_core.specs.Labels.{texts_of};
 ghost use Rattle.lang_core.specs.Lang.{SpellsLang, RefusesLang};
@@ -12,11 +12,13 @@ use std::alloc::{AllocError, Global};
 /// What names a cell of a site.
 #[derive(Drop)]
 pub(crate) struct Key {
+    /// The message.
     pub id: MessageId,
+    /// The language.
     pub lang: Lang,
 }
 
-/// The key of these words: the id is read before the language.
+/// The key of these arguments: the id is read before the language.
 pub(crate) fn read_key(alloc: Global, id: &str, lang: &str) -> Result<Key, FrontFault>
     ensures { MatchResult result (IsKey id.now lang.now) (RefusesKey id.now lang.now) }
 {
@@ -25,7 +27,7 @@ pub(crate) fn read_key(alloc: Global, id: &str, lang: &str) -> Result<Key, Front
     Ok(Key { id, lang })
 }
 
-/// The language of this word.
+/// The language of this argument.
 pub(crate) fn read_lang(alloc: Global, word: &str) -> Result<Lang, LangFault>
     ensures { MatchResult result (SpellsLang word.now) (RefusesLang word.now) }
 {

@@ -14,10 +14,10 @@ use docs_core::{Sink, Source, write_out};
 use std::alloc::Global;
 use std::convert::AsStr;
 
-/// The words of `--scheme`.
+/// The names of the schemes that `--scheme` takes.
 static SCHEMES: [&str; 2] = ["basic", "extended"];
 
-/// Runs the program on the words after its name, and gives its status. `help` is `--help`, and
+/// Runs the program on the arguments after its name, and gives its status. `help` is `--help`, and
 /// `help COMMAND` is `COMMAND --help`.
 pub fn run<R: Source, W: Sink, F: Sink>(
     alloc: Global,
@@ -42,7 +42,7 @@ pub fn run<R: Source, W: Sink, F: Sink>(
     }
 }
 
-/// Does what clap reads in the words.
+/// Does what clap reads in the arguments.
 fn answer_words<S: AsStr, R: Source, W: Sink, F: Sink>(
     alloc: Global,
     words: &[S],
@@ -61,6 +61,7 @@ fn answer_words<S: AsStr, R: Source, W: Sink, F: Sink>(
     }
 }
 
+/// What clap reads in the arguments.
 fn matches_of<S: AsStr>(alloc: Global, words: &[S]) -> Result<ArgMatches<'_>, Error>
     ensures { MatchesBy (map S.text words.now) result }
 {

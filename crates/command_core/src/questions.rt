@@ -1,4 +1,4 @@
-//! The commands that ask a site: `missing`, `filter`, `lookup` and `bundle`.
+//! The commands that question a site: `missing`, `filter`, `lookup` and `bundle`.
 ghost use Rattle.std.specs.Prelude.{◌≡◌, false, MatchResult};
 ghost use Rattle.front_core.specs.Fields.{field_text};
 ghost use Rattle.command_core.specs.Acts.{Performs};

@@ -1,4 +1,4 @@
-//! What the program ends with.
+//! The statuses that the program ends with.
 ghost use Rattle.std.specs.Prelude.{◌≡◌};
 ghost use Rattle.command_core.specs.Status.{answer_status, status_of};
 
@@ -13,7 +13,7 @@ pub const NOTHING: u8 = 1;
 /// Usage error.
 pub const USAGE: u8 = 2;
 
-/// The command is refused for what stands in its words or its input.
+/// The command is refused for its arguments or its input.
 pub const REFUSED: u8 = 3;
 
 /// A stream failed.
@@ -33,7 +33,7 @@ pub fn of_refusal(number: u8) -> u8
     }
 }
 
-/// The status of an answer that tells of this.
+/// The status of an answer with this outcome.
 pub(crate) fn of_outcome(outcome: Outcome) -> u8
     ensures { result ≡ answer_status outcome }
 {

@@ -1,4 +1,4 @@
-//! What the words ask, and what answers it.
+//! The task that the arguments name, and its answer.
 ghost use Rattle.std.specs.Prelude.{◌≡◌, false, map, option_map};
 ghost use Rattle.clap.specs.Words.{found_of, rows_of, subcommand_rows_of};
 ghost use Rattle.command_core.specs.Acts.{HasOneText, Performs};
@@ -19,7 +19,7 @@ use front_core::Field;
 use front_core::words::pick_answer;
 use std::alloc::Global;
 
-/// A command of the program, with what its words ask.
+/// A command of the program, with the values of its arguments.
 #[derive(Clone, Copy)]
 pub(crate) enum Task<'m, 'a> {
     Pick(PreferenceValues<'a>, &'m [&'a str]),
@@ -34,7 +34,7 @@ pub(crate) enum Task<'m, 'a> {
     Replay,
 }
 
-/// What clap's matches ask, where they name a command of the program and no word is missing.
+/// The task of clap's matches, where they name a command of the program and no argument is missing.
 pub(crate) fn read<'m, 'a>(matches: &'m ArgMatches<'a>) -> Option<Task<'m, 'a>>
     ensures { GivesTask (subcommand_rows_of matches.now) (option_map task_values result) }
 {
@@ -42,7 +42,7 @@ pub(crate) fn read<'m, 'a>(matches: &'m ArgMatches<'a>) -> Option<Task<'m, 'a>>
     task_of(name, now_of(arguments), arguments)
 }
 
-/// What the command of this name asks, at this moment.
+/// The task of the command of this name, at this moment.
 fn task_of<'m, 'a>(
     name: &str,
     now: Option<u64>,
@@ -71,7 +71,7 @@ fn task_of<'m, 'a>(
     }
 }
 
-/// The edit that the words ask, with these texts.
+/// The edit of the arguments, with these texts.
 fn edit_of<'m, 'a>(
     now: Option<u64>,
     texts: Option<&'m [&'a str]>,

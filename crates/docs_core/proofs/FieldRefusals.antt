@@ -1,4 +1,4 @@
--- No field is both taken and refused, and it is refused for one cause, want of memory apart.
+-- No field is both taken and refused, and it is refused for one cause, out of memory apart.
 use Rattle.std.proofs.Common.{◌≡◌, ◌≢◌, ◌∙◌, ◌+◌, ◌≤◌, ◌<◌, ℕ, List, [], ◌∷◌, ◌++◌, Bool, true, false, length, sym, ap, subst, refl, inl, inr, arith, get_or}
 use Rattle.std.proofs.lemmas.Bool.Decides.{nat_tests}
 use Rattle.std.proofs.lemmas.List.Quantifiers.{position-Some}

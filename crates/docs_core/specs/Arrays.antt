@@ -7,7 +7,8 @@ use Rattle.serde_json.specs.Read.{converted, of_items}
 use Rattle.docs_core.specs.Checks.{AllPass, Check, FirstFails, rows_checks}
 use Rattle.docs_core.specs.declared.fault.DocCause.{DocCause}
 
--- behind its opening bracket `old` is an array of these items, which nest at most this deep, and then `new`
+-- behind its opening bracket `old` is an array of these items, which nest at most this deep, and
+-- then `new`
 abbrev pub ReadsItems : ℕ → List Token → Items → List Token → Type 0
 ReadsItems depth old ds new = converted of_items (items (value depth) (length old) old) ≡ Some (ds, new)
 

@@ -17,7 +17,7 @@ use Rattle.docs_core.specs.ReadsAs.{IsDeltaText, IsOfDocument, IsSiteText, IsSum
 use Rattle.docs_core.specs.Status.{status_line}
 use Rattle.docs_core.specs.declared.fault.DocFault.{DocFault}
 
--- it is the refusal of a site's call, want of memory apart
+-- it is the refusal of a site's call, out of memory apart
 abbrev pub IsOfSite : (CataFault → Type 0) → DocFault → Type 0
 IsOfSite Refuses fault = (cause : CataFault) × (cause ≢ NoMemory) × Refuses cause × (fault ≡ of_no_document (of_site cause))
 

@@ -29,9 +29,10 @@ abbrev pub rows_checks : (List Data → Data → List Check) → List Data → L
 rows_checks checks before [] = []
 rows_checks checks before (d ∷ ds) = checks before d ++ rows_checks checks (before ++ d ∷ []) ds
 
--- ---- want of memory
+-- ---- out of memory
 
--- what this relation refuses for, or this fault, which is want of memory: memory may run out before any refusal is known, and that says nothing of what is read
+-- what this relation refuses for, or this fault, which is out of memory: memory may run out before
+-- any refusal is known, and that says nothing of what is read
 abbrev pub OrMemory : {F : Type 0} → F → (F → Type 0) → F → Type 0
 OrMemory memory Refuses fault = (fault ≡ memory) ⊎ Refuses fault
 

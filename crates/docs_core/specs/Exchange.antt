@@ -1,4 +1,4 @@
--- What import and export answer, and which refusals (JSON-LD 1.1, section 9.8; own rules).
+-- What import and export answer, and which refusals (JSON-LD 1.1, section 9.8; project rules).
 use Rattle.std.specs.Prelude.{◌≡◌, ◌⊎◌, ℕ, List}
 use Rattle.cata_core.specs.Entries.{Entries}
 use Rattle.cata_core.specs.Sites.{SiteState}

@@ -54,12 +54,12 @@ row_of _ = None
 abbrev pub of_no_document : DocCause → DocFault
 of_no_document cause = record { document = 0; cause = cause }
 
--- a refusal of an input document by its reader; want of memory means none
+-- a refusal of an input document by its reader; out of memory means none
 abbrev pub of_document : ℕ → DocCause → DocFault
 of_document document NoMemory = of_no_document NoMemory
 of_document document cause = record { document = document; cause = cause }
 
--- the refusal of a site's call; want of memory has one form
+-- the refusal of a site's call; out of memory has one form
 abbrev pub of_site : CataFault → DocCause
 of_site cata.NoMemory = NoMemory
 of_site fault = Site fault

@@ -89,7 +89,7 @@ IsBehind (Some last) key = key_cmp last key ≡ Less
 abbrev pub order_check : ℕ → Option EntryKey → EntryKey → Check
 order_check k last key = check (IsBehind last key) (CellOrder k)
 
--- the refusal of a field of row k; want of memory has no row
+-- the refusal of a field of row k; out of memory has no row
 abbrev pub cell_cause : ℕ → CellFault → DocCause
 cell_cause k cell.NoMemory = NoMemory
 cell_cause k fault = Field k (Cell fault)

@@ -8,7 +8,8 @@ use Rattle.docs_core.specs.Made.{Change, Makes, SpendsClock}
 abbrev pub puts_of : List Labelled → List Change
 puts_of labels = map (λ e. (e.0, Some e.1)) labels
 
--- each label is put at this time with the next stamp of this site after the greatest then held; no other cell changes
+-- each label is put at this time with the next stamp of this site after the greatest then held; no
+-- other cell changes
 abbrev pub Imports : ℕ → List ℕ → List Labelled → Entries → Entries → Type 0
 Imports now name labels old new = Makes now name (puts_of labels) old new
 

@@ -1,4 +1,5 @@
--- The lines of answers. Own rule: a line ends with one line feed, and a label stands as its compact JSON array.
+-- The lines of answers. Own rule: a line ends with one line feed, and a label stands as its compact
+-- JSON array.
 use Rattle.std.specs.Prelude.{ℕ, List, ◌∷◌, [], ◌++◌, codes, decimal, length, flat_map}
 use Rattle.serde_json.specs.Written.{compact_text}
 use Rattle.cata_core.specs.Asking.{Weighed}

@@ -14,7 +14,8 @@ Change = EntryKey × Option (List (List ℕ))
 abbrev pub with_change : Change → Stamp → Entries → Entries
 with_change e stamp cells = put key_cmp e.0 (record { stamp = stamp; label = e.1 }) cells
 
--- each change is made at this time with the next stamp of this site after the greatest then held; no other cell changes
+-- each change is made at this time with the next stamp of this site after the greatest then held;
+-- no other cell changes
 abbrev pub Makes : ℕ → List ℕ → List Change → Entries → Entries → Type 0
 Makes now name [] old new = new ≡ old
 Makes now name (e ∷ es) old new = (stamp : Stamp) × IsNext (latest_of old) now name stamp × Makes now name es (with_change e stamp old) new

@@ -14,14 +14,16 @@ use Rattle.docs_core.specs.ScriptReads.{ReadsAsScript, RefusesScript}
 use Rattle.docs_core.specs.Scripts.{ScriptState}
 use Rattle.docs_core.specs.declared.fault.DocFault.{DocFault}
 
--- no step is faulty, and these are the answers: by what the sites hold, and where no two edits clash, or nothing is delivered, the expected ones
+-- no step is faulty, and these are the answers: by what the sites hold, and where no two edits
+-- clash, or nothing is delivered, the expected ones
 pub record IsPlayed (script : ScriptState) (answers : List Answer) : Type 0 where
   pub sound : NoneFaulty script.sites script.steps
   pub held : AreHeldAnswers script.steps answers
   pub consistent : IsConsistent (edits_of script.steps) → AreAnswers script.steps answers
   pub undelivered : NoDelivers script.steps → AreAnswers script.steps answers
 
--- why the run is refused, want of memory apart: its first faulty step, which where no two edits clash is no clash
+-- why the run is refused, out of memory apart: its first faulty step, which where no two edits
+-- clash is no clash
 pub record RefusesRun (script : ScriptState) (fault : PlayFault) : Type 0 where
   pub apart : fault ≢ NoMemory
   pub first : IsFirstFault script.sites script.steps fault

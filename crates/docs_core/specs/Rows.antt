@@ -33,7 +33,8 @@ texts_in (d ∷ ds) = option_and_then (λ text. option_map (λ texts. text ∷ t
 
 -- ---- parts of rows
 
--- a site by its number in version 1, where number n stands for its padded name, and by its name in version 2
+-- a site by its number in version 1, where number n stands for its padded name, and by its name in
+-- version 2
 abbrev pub site_in : Version → Data → Option (List ℕ)
 site_in One d = option_map padded_name (u32_in d)
 site_in Two d = as_str d

@@ -1,4 +1,5 @@
--- Documents of scripts, written. Own rule: the members of an object stand in byte order of their names.
+-- Documents of scripts, written. Own rule: the members of an object stand in byte order of their
+-- names.
 use Rattle.std.specs.Prelude.{◌≡◌, ℕ, List, [], ◌∷◌, codes, decimal, map, take, All, Some, slice_get}
 use Rattle.cata_core.specs.declared.step.Step.{Step}
 use Rattle.json.specs.Token.{begin_object, begin_array, key, number as number_token, string as string_token}
@@ -22,7 +23,8 @@ pub record IsFirstUnwritable (steps : List Step) (place : ℕ) : Type 0 where
   pub before : All IsWritable (take place steps)
   pub refused : ¬ IsWritable step
 
--- why a script of these steps has no document: memory ran out, or its first step that none can have, whose row is meant
+-- why a script of these steps has no document: memory ran out, or its first step that none can
+-- have, whose row is meant
 abbrev pub RefusesWriting : List Step → DocCause → Type 0
 RefusesWriting steps = OrMemory NoMemory (λ cause. (place : ℕ) × IsFirstUnwritable steps place × (cause ≡ Shape (spot.Row place)))
 

@@ -50,7 +50,8 @@ pub record ReadsWhole {S : Type 0} (failed : S → Bool) (remaining : S → Opti
   pub fits : length bytes ≤ 67108864
   pub unfailed : failed new ≡ false
 
--- the source was not read to its end: the fault says why, with 24 alone the source has failed, and it gave at most one byte past the limit, with 23 just that byte
+-- the source was not read to its end: the fault says why, with 24 alone the source has failed, and
+-- it gave at most one byte past the limit, with 23 just that byte
 pub record IsReadFault {S : Type 0} (failed : S → Bool) (remaining : S → Option (List ℕ)) (old new : S) (fault : DocFault) : Type 0 where
   pub refused : IsReadRefusal fault
   pub failing : failed new ≡ is_read_cause fault.cause

@@ -17,7 +17,9 @@ use Rattle.docs_core.specs.declared.fault.DocFault.{DocFault}
 abbrev pub Texts : Type 0
 Texts = Option (List (List ℕ))
 
--- what is done at a key whose label is `held` on the site: nothing where the editor left it as it was, or where the site has the new one already; else it gets the new one, and is deleted where that is none
+-- what is done at a key whose label is `held` on the site: nothing where the editor left it as it
+-- was, or where the site has the new one already; else it gets the new one, and is deleted where
+-- that is none
 abbrev pub IsChangeAt : Texts → Texts → Texts → Option Texts → Type 0
 IsChangeAt old new held change = (((old ≡ new) ⊎ (held ≡ new)) × (change ≡ None)) ⊎ ((old ≢ new) × (held ≢ new) × (change ≡ Some new))
 
@@ -41,7 +43,8 @@ IsUpdated bytes now old new doc =
     × Updates now site.name before after site.cells cells
     × IsSiteText (record { name = site.name; cells = cells }) doc
 
--- the site is refused, then the old language maps, then the new ones, then a change for which there is no next stamp
+-- the site is refused, then the old language maps, then the new ones, then a change for which there
+-- is no next stamp
 abbrev pub RefusesUpdate : List ℕ → ℕ → List ℕ → List ℕ → DocFault → Type 0
 RefusesUpdate bytes now old new fault =
     IsOfDocument 1 (RefusesSite bytes) fault

@@ -1,4 +1,5 @@
--- What every catalogue and summary in memory keeps: its ids, languages, names and labels are some, and its numbers fit. Own rule.
+-- What every catalogue and summary in memory keeps: its ids, languages, names and labels are some,
+-- and its numbers fit. Own rule.
 use Rattle.std.specs.Prelude.{◌<◌, ◌^◌, All}
 use Rattle.cell_core.specs.Maps.{IsMap}
 use Rattle.cell_core.specs.MessageIds.{IsMessageId}

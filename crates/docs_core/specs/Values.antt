@@ -1,4 +1,5 @@
--- The JSON values of the documents, version 2. Own rule: the members of an object stand in byte order of their names.
+-- The JSON values of the documents, version 2. Own rule: the members of an object stand in byte
+-- order of their names.
 use Rattle.std.specs.Prelude.{ℕ, List, map, codes, Option, None, Some}
 use Rattle.serde_json.specs.Data.{Data, null, object, array, number, unsigned, string, no_items, item, no_members, member}
 use Rattle.serde_json.specs.View.{items_of}

@@ -55,13 +55,13 @@ impl FieldFault {
 /// another cause.
 #[derive(Clone, Copy, Debug, PartialEq, Eq, Error)]
 pub enum DocCause {
-    /// The bytes are not UTF-8 (RFC 3629); the longest front that is has `offset` bytes.
+    /// The bytes are not UTF-8 (RFC 3629); the longest valid prefix has `offset` bytes.
     #[error("not UTF-8 at {offset}")]
     NotUtf8 { offset: usize },
     /// The text is no JSON (RFC 8259) that `serde_json` reads.
     #[error("not JSON")]
     NotJson,
-    /// A value does not have the shape that is asked for.
+    /// A value does not have the shape that its place requires.
     #[error("shape")]
     Shape { spot: Spot },
     /// A field of a row breaks a rule.
@@ -91,7 +91,7 @@ pub enum DocCause {
     /// The version is neither 1 nor 2.
     #[error("version unknown")]
     VersionUnknown,
-    /// The site refuses the call: a stamp used twice, a spent clock, or another site's delta.
+    /// The site refuses the call: a stamp used twice, an exhausted clock, or another site's delta.
     #[error(transparent)]
     Site(CataFault),
     /// A step of a script is refused.
@@ -124,7 +124,7 @@ impl DocCause {
         }
     }
 
-    /// The row that is meant, counted from 0, or none.
+    /// The row that is named, counted from 0, or none.
     pub fn row(&self) -> Option<usize>
         ensures { result ≡ row_of self.now }
     {
@@ -160,8 +160,8 @@ impl<T: Drop> From<AllocFailed<T>> for DocCause {
     }
 }
 
-/// A refusal, with the input document that it means, counted from 1. Faults of streams and out of
-/// memory mean none, which is 0.
+/// A refusal, with the input document that it names, counted from 1. Faults of streams and out of
+/// memory name none, which is 0.
 ///
 /// Its text is the whole line that a user reads, as `refused 21: cell order in row 1 of document
 /// 1`.
@@ -177,14 +177,14 @@ pub struct DocFault {
 impl DocFault {
     ghost use Rattle.docs_core.specs.Faults.{number_of, of_document, of_no_document};
 
-    /// A refusal that means no input document.
+    /// A refusal that names no input document.
     pub fn of_no_document(cause: DocCause) -> DocFault
         ensures { result ≡ of_no_document cause }
     {
         DocFault { document: 0, cause }
     }
 
-    /// The refusal of this input document by its reader; out of memory means none.
+    /// The refusal of this input document by its reader; out of memory names none.
     pub fn of_document(document: u8, cause: DocCause) -> DocFault
         ensures { result ≡ of_document document cause }
     {
@@ -250,7 +250,7 @@ impl From<PlayFault> for DocFault {
     }
 }
 
-// Behind a refusal's text: its row, where it means one.
+// The row after a refusal's text, where it names one.
 #[derive(Clone, Copy)]
 struct InRow(Option<usize>);
 
@@ -263,7 +263,7 @@ impl fmt::Display for InRow {
     }
 }
 
-// The end of a refusal's line: the input document that it means, where it means one.
+// The end of a refusal's line: the input document, where it names one.
 #[derive(Clone, Copy)]
 struct OfDocument(u8);
 

@@ -118,7 +118,7 @@ pub fn one_list_of_changes()
     ensures one { (old new : List Labelled) (cells : Entries) (x y : List Change) → AreChanges old new cells x → AreChanges old new cells y → x ≡ y }
 {}
 
-/// Where the old and the new labels are equal an update changes nothing, whatever the site holds.
+/// Where the old and the new labels are equal an update changes nothing, whatever the site has.
 pub fn equal_labels_change_nothing()
     ensures cells { (now : ℕ) (name : List ℕ) (labels : List Labelled) (cells updated : Entries) → Updates now name labels labels cells updated → updated ≡ cells }
     ensures document { (bytes old new doc : List ℕ) (now : ℕ) (site : SiteState) (labels : List Labelled)

@@ -5,10 +5,10 @@
 //!   [`write_langmaps`] write one.
 //! - [`edit_document`], [`import_document`], [`update_document`], [`export_document`],
 //!   [`bundle_document`], [`missing_document`], [`sync_documents`], [`summary_document`],
-//!   [`delta_document`], [`take_document`], [`ask_document`] and [`status_document`] treat whole
+//!   [`delta_document`], [`take_document`], [`ask_document`] and [`status_document`] work on whole
 //!   documents, from bytes to bytes.
-//! - [`filter_lines`], [`reply_line`], [`status_line`] and [`write_bundle`] write what a site that
-//!   is held in memory answers, without its document.
+//! - [`filter_lines`], [`reply_line`], [`status_line`] and [`write_bundle`] write the answers of a
+//!   site in memory, without its document.
 //! - [`replay`] runs the script of a [`Source`] and writes the lines of its answers to a [`Sink`];
 //!   [`read_all`] and [`write_out`] are its two ends. [`Input`] and [`Output`] make a source and a
 //!   sink of `std`'s `Read` and `Write`.
@@ -16,8 +16,8 @@
 //! A refusal is a [`DocFault`], whose number and text are the product's.
 //!
 //! A document is read from its text a row at a time, so that beside the text and what is made of it
-//! only one row is held, and it is written a token at a time into one buffer. The public modules
-//! are laws: [`laws`], [`lang_map_laws`] and [`migration`].
+//! only one row is in memory, and it is written a token at a time into one buffer. The public
+//! modules are laws: [`laws`], [`lang_map_laws`] and [`migration`].
 #![tactic(auto)]
 
 mod call;

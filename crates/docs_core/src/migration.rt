@@ -47,7 +47,7 @@ pub fn a_script_reads_as_migrated()
         → (old : OldScript) × IsOldScriptDocument d old × (script ≡ migrated_script old) }
 {}
 
-/// What a reader answers on a text of version 1 is the migrated value of what the text holds.
+/// The answer of a reader on a text of version 1 is the migrated value of the data in the text.
 pub fn a_text_reads_as_migrated()
     ensures site { (bytes : List ℕ) (d : Data) (site : SiteState) → AreJson bytes d → version_of d ≡ One → ReadsAsSite bytes site
         → (old : OldSite) × IsOldSiteDocument d old × (site ≡ migrated_site old) }

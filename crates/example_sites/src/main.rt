@@ -35,6 +35,7 @@ fn answer(alloc: Global, site: &Site, field: &[u8]) -> anyhow::Result<String> {
     Ok(line_of(alloc, &reply)?)
 }
 
+/// The line of an answer.
 fn line_of(alloc: Global, reply: &LentReply<'_>) -> Result<String, AllocError> {
     match reply {
         LentReply::Matched(lang, label) => {

@@ -1,4 +1,4 @@
--- What the calls answer C (own rules).
+-- What the calls answer C (project rules).
 use Rattle.std.specs.Prelude.{◌≡◌, ◌⊎◌, ℕ, ℤ, List, Option, Some, MatchOption}
 use Rattle.cata_core.specs.Sites.{SiteState}
 use Rattle.docs_core.specs.ReadsAs.{ReadsAsSite}
@@ -72,13 +72,15 @@ abbrev pub TellsBundle : Option SiteState → ℕ → Text → Text → Ends
 TellsBundle site flags field default =
     TellsAsked site flags field (λ s read. AreBundleMaps s.cells read (default_of default)) (λ read. RefusesBundle read (default_of default)) TellsAnswer
 
--- the handle holds the site of the document, or is as it was where the document is refused or memory ended
+-- the handle holds the site of the document, or is as it was where the document is refused or
+-- memory ended
 abbrev pub TellsOpened : Text → Option SiteState → Option SiteState → Told → ℤ → Type 0
 TellsOpened text old new told status =
     ((site : SiteState) × ReadsAsSite text site × (new ≡ Some site) × (status ≡ found) × (told ≡ answered 0 0))
     ⊎ ((fault : FrontFault) × RefusesOpening text fault × (new ≡ old) × (status ≡ status_of_refusal fault) × (told ≡ refused fault))
 
--- the other handle is of the same site, or is as it was where there is none to share or memory ended
+-- the other handle is of the same site, or is as it was where there is none to share or memory
+-- ended
 abbrev pub TellsShared : Option SiteState → Option SiteState → Option SiteState → ℤ → Type 0
 TellsShared site old new status =
     MatchOption site ((new ≡ old) × (status ≡ usage))

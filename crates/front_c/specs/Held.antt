@@ -22,7 +22,8 @@ Share = share_row.Denot
 abbrev pub share_code : Coded (Option Share)
 share_code = coded_option share_row.coded
 
--- an open handle owns its share of a site, and the right to free its block; one that is not open is the null pointer, and owns nothing
+-- an open handle owns its share of a site, and the right to free its block; one that is not open is
+-- the null pointer, and owns nothing
 abbrev pub site_held : Ptr → Global → Option Share → Fml
 site_held at alloc None = feq Ptr at null_ptr
 site_held at alloc (Some share) = box_owns (ghosts.dealloc_token alloc) share_row at share

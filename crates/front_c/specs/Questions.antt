@@ -1,4 +1,4 @@
--- What a question of C asks (own rules).
+-- What a question of C asks (project rules).
 use Rattle.std.specs.Prelude.{◌==◌, ◌∷◌, [], ℕ, List, Option, None, Some, if◌then◌else◌}
 use Rattle.nego_core.specs.declared.field.Malformed.{Malformed}
 use Rattle.nego_core.specs.declared.field.Malformed.TheVariants.{Refused, PassedOver}
@@ -10,7 +10,8 @@ use Rattle.front_core.specs.Fields.{FieldText}
 abbrev pub field : Scheme → Malformed → List ℕ → FieldText
 field scheme malformed text = record { scheme = scheme; malformed = malformed; text = text }
 
--- how a field is read under these flags: 1 is the extended scheme, 2 passes malformed elements over, 3 is both
+-- how a field is read under these flags: 1 is the extended scheme, 2 passes malformed elements
+-- over, 3 is both
 abbrev pub field_of : ℕ → List ℕ → Option FieldText
 field_of flags text =
     if flags == 0 then Some (field Basic Refused text)

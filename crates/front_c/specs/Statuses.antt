@@ -1,4 +1,4 @@
--- The statuses of a call, which are the command's (own rule).
+-- The statuses of a call, which are the command's (project rule).
 use Rattle.std.specs.Prelude.{ℤ, pos}
 use Rattle.front_core.specs.declared.fault.FrontFault.{FrontFault}
 use Rattle.front_core.specs.declared.fault.FrontFault.TheVariants as fault

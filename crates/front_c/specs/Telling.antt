@@ -1,4 +1,4 @@
--- How an answer or a refusal is told to C (own rules).
+-- How an answer or a refusal is told to C (project rules).
 use Rattle.std.specs.Prelude.{◌≡◌, ◌≤◌, ◌<◌, ◌++◌, ◌⊎◌, ℕ, ℤ, List, Option, None, Some, drop, length}
 use Rattle.front_core.specs.Faults.{number_of, offset_of, row_of}
 use Rattle.front_core.specs.declared.fault.FrontFault.{FrontFault}
@@ -17,7 +17,8 @@ answered len count = record { len = len; offset = 0; row = 0; count = count; num
 abbrev pub refused : FrontFault → Told
 refused fault = record { len = 0; offset = or_zero (offset_of fault); row = or_zero (row_of fault); count = 0; number = number_of fault }
 
--- the text stands at the front of the buffer, and the rest of it is as it was; or there is no room, and all of it is
+-- the text stands at the front of the buffer, and the rest of it is as it was; or there is no room,
+-- and all of it is
 abbrev pub IsPutInto : List ℕ → List ℕ → List ℕ → Type 0
 IsPutInto text old new = ((length text ≤ length old) × (new ≡ text ++ drop (length text) old)) ⊎ ((length old < length text) × (new ≡ old))
 

@@ -1,4 +1,4 @@
-//! Questions, asked and told.
+//! Questions from C, answered.
 ghost use Rattle.std.specs.Prelude.{◌≡◌};
 ghost use Rattle.front_core.specs.Questions.{AreBundleMaps, IsFilterLines, IsLookupLine, IsLookupText, RefusesBundle, RefusesFilterLines, RefusesLookup, RefusesLookupLine};
 ghost use Rattle.front_core.specs.Fields.{field_text};
@@ -14,7 +14,7 @@ use cata_core::Site;
 use front_core::{Field, bundle, filter_lines, lookup_line, lookup_text, pick};
 use std::alloc::Global;
 
-/// Tells the tag that a field picks.
+/// Reports the tag that a field picks.
 pub(crate) fn tell_pick(
     alloc: Global,
     field: Field<'_>,
@@ -32,7 +32,7 @@ pub(crate) fn tell_pick(
     }
 }
 
-/// Tells the line of the label that a field looks up.
+/// Reports the line of the label that a field looks up.
 pub(crate) fn tell_lookup(
     alloc: Global,
     site: &Site,
@@ -51,7 +51,7 @@ pub(crate) fn tell_lookup(
     }
 }
 
-/// Tells the text at a place of the label that a field looks up.
+/// Reports the text at a place of the label that a field looks up.
 pub(crate) fn tell_lookup_text(
     alloc: Global,
     site: &Site,
@@ -71,7 +71,7 @@ pub(crate) fn tell_lookup_text(
     }
 }
 
-/// Tells the lines of the labels that a field takes.
+/// Reports the lines of the labels whose languages fit a field.
 pub(crate) fn tell_filter(
     alloc: Global,
     site: &Site,
@@ -89,7 +89,7 @@ pub(crate) fn tell_filter(
     }
 }
 
-/// Tells the language maps of the labels that a field looks up.
+/// Reports the language maps of the labels that a field looks up.
 pub(crate) fn tell_bundle(
     alloc: Global,
     site: &Site,

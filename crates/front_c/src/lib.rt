@@ -1,20 +1,21 @@
-//! The library for C: what a front end asks which language or label its reader gets, over
-//! `front_core`. Each export is one call of `silkwaram.h`.
+//! The library for C: the questions of `front_core`, which language or label a reader gets. Each
+//! export is one call of `silkwaram.h`.
 //!
 //! - [`sw_pick`] picks a tag for a field.
 //! - [`sw_site_open`] reads a site into a handle, [`sw_site_share`] makes one more handle of it,
 //!   and [`sw_site_free`] lets it go.
-//! - [`sw_site_lookup`], [`sw_site_text`], [`sw_site_filter`] and [`sw_site_bundle`] ask a site.
+//! - [`sw_site_lookup`], [`sw_site_text`], [`sw_site_filter`] and [`sw_site_bundle`] put questions
+//!   to a site.
 //! - [`sw_version`] is the version.
 //!
-//! Each of them answers a status, that of the command for the same question, and says the rest in a
-//! [`Told`], which is written whatever the status. An answer stands at the front of the buffer;
-//! where the buffer is too small nothing is written to it, and the status and the length told are
-//! as with room.
+//! Each of them returns a status, that of the command for the same question, and reports the rest
+//! in a [`Told`], which is written whatever the status. An answer is written to the buffer from its
+//! first byte; where the buffer is too small nothing is written to it, and the status and the
+//! reported length are as with room.
 //!
 //! The flags of a question are 1, by which its field is a list of extended ranges (RFC 4647 section
-//! 2.2), and 2, by which malformed elements of the field are passed over. A question with any other
-//! flag, or to a handle that is not open, is status 2.
+//! 2.2), and 2, by which malformed elements of the field are skipped. A question with any other
+//! flag, or to a handle that is not open, has status 2.
 #![tactic(auto)]
 
 ghost use Rattle.std.specs.Prelude.{◌≡◌, None, Some, IfSome};
@@ -45,11 +46,11 @@ use std::sync::Arc;
 pub use told::Told;
 
 /// Picks a tag for a field: what lookup (RFC 4647 section 3.4) finds among the tags, as it was
-/// handed in; else the default, where it is not empty, is among the tags and is not refused by the
-/// field. The tags stand one on a line.
+/// passed in; else the default, where it is not empty, is among the tags and is not refused by the
+/// field. There is one tag on a line.
 ///
-/// The count told is 1 where it is the default. Refused are the default first (1 to 4), then the
-/// field (8, 9), then the tags in their order (1 to 4; a line without bytes is 1).
+/// The reported count is 1 where it is the default. Refused are the default first (1 to 4), then
+/// the field (8, 9), then the tags in their order (1 to 4; a line without bytes is 1).
 #[unsafe(no_mangle)]
 pub extern "C" fn sw_pick(
     alloc: Global,
@@ -93,8 +94,8 @@ pub extern "C" fn sw_site_open(
     status::FOUND
 }
 
-/// Asks a site for the label of a message that a field looks up (RFC 4647 section 3.4), or that of
-/// the default, and answers the line of the command `lookup`.
+/// Looks up the label of a message for a field (RFC 4647 section 3.4), or that of the default, and
+/// answers the line of the command `lookup`.
 ///
 /// Refused are the id (10), the default (1 to 4), then the field (8, 9).
 #[unsafe(no_mangle)]
@@ -121,10 +122,9 @@ pub extern "C" fn sw_site_lookup(
     tell_lookup(alloc, held, id, field, default, out, told)
 }
 
-/// Asks a site for the text at a place, from 0, of the label that [`sw_site_lookup`] finds, and
-/// answers it as it is.
+/// Answers, as it is, the text at a place, from 0, of the label that [`sw_site_lookup`] finds.
 ///
-/// The count told is how many texts the label has. A place past them is nothing, and so is a
+/// The reported count is how many texts the label has. A place past them is nothing, and so is a
 /// lookup that finds no label. Refusals are those of [`sw_site_lookup`].
 #[unsafe(no_mangle)]
 pub extern "C" fn sw_site_text(
@@ -151,8 +151,8 @@ pub extern "C" fn sw_site_text(
     tell_lookup_text(alloc, held, id, field, default, place, out, told)
 }
 
-/// Asks a site for the labels of a message whose languages a field takes (RFC 4647, sections 3.3.1
-/// and 3.3.2), and answers the lines of the command `filter`.
+/// Finds the labels of a message whose languages fit a field (RFC 4647, sections 3.3.1 and 3.3.2),
+/// and answers the lines of the command `filter`.
 ///
 /// Refused are the id (10), then the field (8, 9).
 #[unsafe(no_mangle)]
@@ -178,8 +178,8 @@ pub extern "C" fn sw_site_filter(
     tell_filter(alloc, held, id, field, out, told)
 }
 
-/// Asks a site for the one label of each message that a field looks up, or that of the default, and
-/// answers the language maps of the command `bundle`.
+/// Looks up the one label of each message for a field, or that of the default, and answers the
+/// language maps of the command `bundle`.
 ///
 /// Refused are the default (1 to 4), then the field (8, 9).
 #[unsafe(no_mangle)]
@@ -281,6 +281,7 @@ pub fn crosses(handle: SiteHandle) -> SiteHandle
     crossed(handle)
 }
 
+/// The value, whose type may go to another thread.
 fn crossed<T: Send>(value: T) -> T
     ensures { result ≡ value }
 {

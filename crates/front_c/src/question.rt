@@ -1,4 +1,4 @@
-//! What a question of C asks.
+//! The parts of a question that C asks.
 ghost use Rattle.std.specs.Prelude.{◌≡◌, option_map};
 ghost use Rattle.front_core.specs.Fields.{field_text};
 ghost use Rattle.front_c.specs.Questions.{default_of, field_of};
@@ -7,7 +7,7 @@ use front_core::Field;
 use nego_core::{Malformed, Scheme};
 
 /// How a field is read under these flags, or none where one of them is unknown: 1 is the extended
-/// scheme, 2 passes malformed elements over.
+/// scheme, 2 skips malformed elements.
 pub(crate) fn field_of(flags: u32, text: &[u8]) -> Option<Field<'_>>
     ensures { option_map field_text result ≡ field_of flags text.now }
 {

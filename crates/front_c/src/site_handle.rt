@@ -1,4 +1,4 @@
-//! Sites as C holds them.
+//! Handles of sites, as C has them.
 ghost use Rattle.std.specs.Prelude.{◌≡◌, Option, Some, None, IsSome, is_some};
 ghost use Rattle.std.specs.Borrow.{sem};
 ghost use Rattle.std_heap.specs.declared.Global.{Global as GlobalValue};
@@ -21,7 +21,8 @@ pub struct SiteBlock {
 /// A share of a site that C owns, or none: a handle that is not open is of zeros, and an open one
 /// is the pointer to its share. It may go to another thread.
 ///
-/// It is no value to be dropped, so that no share is lost on the way.
+/// It is no value to be dropped, so a body that just drops one does not compile. That a body which
+/// takes one apart frees its share is in no clause: it is tried by valgrind, and not proved.
 #[repr(C)]
 pub struct SiteHandle {
     at: *mut SiteBlock,
@@ -62,7 +63,7 @@ impl SiteHandle {
         !self.at.is_null()
     }
 
-    /// The share of an open handle, lent.
+    /// The share of an open handle, borrowed.
     pub(crate) fn site(&mut self) -> &mut Arc<Site>
         requires { IsSome self.old.value }
         ensures* writes_back { sem 𝓛 (LendsSite self.entry result) }

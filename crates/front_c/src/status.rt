@@ -1,4 +1,4 @@
-//! What a call answers C with: the statuses of the command.
+//! The statuses of calls: those of the command.
 ghost use Rattle.std.specs.Prelude.{◌≡◌};
 ghost use Rattle.front_c.specs.Statuses.{status_of_outcome, status_of_refusal};
 
@@ -13,7 +13,7 @@ pub(crate) const NOTHING: i32 = 1;
 /// A flag that is none, or a handle that is not open.
 pub(crate) const USAGE: i32 = 2;
 
-/// The call is refused for what it was handed.
+/// The call is refused for one of its arguments.
 pub(crate) const REFUSED: i32 = 3;
 
 /// Memory ran out.

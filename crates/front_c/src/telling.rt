@@ -1,4 +1,4 @@
-//! Answers and refusals, told to C.
+//! Answers and refusals, reported to C.
 ghost use Rattle.std.specs.Prelude.{◌≡◌, ◌≤◌, ◌++◌, length, drop};
 ghost use Rattle.front_c.specs.Answers.{TellsAnswer, TellsLabelText, TellsPicked};
 ghost use Rattle.front_c.specs.Statuses.{nothing, status_of_refusal, usage};
@@ -8,7 +8,7 @@ use crate::status;
 use crate::told::Told;
 use front_core::{Answer, FrontFault, LabelText, Picked};
 
-/// Tells the tag that a pick finds; 1 is counted where it is the default.
+/// Reports the tag that a pick finds; the count is 1 where it is the default.
 pub(crate) fn tell_picked(picked: Picked<'_>, out: &mut [u8], told: &mut Told) -> i32
     ensures { TellsPicked picked.entry out.old out.new told.new result }
 {
@@ -19,7 +19,7 @@ pub(crate) fn tell_picked(picked: Picked<'_>, out: &mut [u8], told: &mut Told) -
     }
 }
 
-/// Tells the text that answers a question.
+/// Reports the text that answers a question.
 pub(crate) fn tell_answer(answer: &Answer, out: &mut [u8], told: &mut Told) -> i32
     ensures { TellsAnswer answer.now out.old out.new told.new result }
 {
@@ -27,7 +27,7 @@ pub(crate) fn tell_answer(answer: &Answer, out: &mut [u8], told: &mut Told) -> i
     tell_text(answer.text.bytes(), 0, status, out, told)
 }
 
-/// Tells a text of a label; the label's texts are counted.
+/// Reports a text of a label; the count is that of the label's texts.
 pub(crate) fn tell_label_text(text: LabelText<'_>, out: &mut [u8], told: &mut Told) -> i32
     ensures { TellsLabelText text.entry out.old out.new told.new result }
 {
@@ -40,7 +40,7 @@ pub(crate) fn tell_label_text(text: LabelText<'_>, out: &mut [u8], told: &mut To
     }
 }
 
-/// Tells that a question cannot be asked: a flag is unknown, or the handle is not open.
+/// Reports that there is no question: a flag is unknown, or the handle is not open.
 pub(crate) fn tell_usage(told: &mut Told) -> i32
     ensures { (result ≡ usage) × (told.new ≡ answered 0 0) }
 {
@@ -48,7 +48,7 @@ pub(crate) fn tell_usage(told: &mut Told) -> i32
     status::USAGE
 }
 
-/// Tells a refusal.
+/// Reports a refusal.
 pub(crate) fn tell_refusal(fault: &FrontFault, told: &mut Told) -> i32
     ensures { (result ≡ status_of_refusal fault.now) × (told.new ≡ refused fault.now) }
 {
@@ -56,6 +56,7 @@ pub(crate) fn tell_refusal(fault: &FrontFault, told: &mut Told) -> i32
     status::of_refusal(fault)
 }
 
+/// Reports that nothing was found.
 fn tell_nothing(count: usize, told: &mut Told) -> i32
     ensures { (result ≡ nothing) × (told.new ≡ answered 0 count) }
 {
@@ -63,6 +64,7 @@ fn tell_nothing(count: usize, told: &mut Told) -> i32
     status::NOTHING
 }
 
+/// Reports a text, with a count and a status.
 fn tell_text(text: &[u8], count: usize, status: i32, out: &mut [u8], told: &mut Told) -> i32
     ensures { TellsText text.now count status out.old out.new told.new result }
 {
@@ -71,7 +73,7 @@ fn tell_text(text: &[u8], count: usize, status: i32, out: &mut [u8], told: &mut 
     status
 }
 
-/// Puts a text to the front of the buffer, where there is room for all of it.
+/// Writes a text to the start of the buffer, where there is room for all of it.
 fn put_into(text: &[u8], out: &mut [u8])
     ensures { IsPutInto text.now out.old out.new }
 {
@@ -80,6 +82,7 @@ fn put_into(text: &[u8], out: &mut [u8])
     }
 }
 
+/// Copies a text to the start of the buffer, which has room for it.
 fn copy_to_front(text: &[u8], out: &mut [u8])
     requires { length text.now ≤ length out.old }
     ensures { out.new ≡ text.now ++ drop (length text.now) out.old }

@@ -1,10 +1,10 @@
-//! What a call says beside its status.
+//! What a call reports beside its status.
 ghost use Rattle.std.specs.Prelude.{◌≡◌};
 ghost use Rattle.front_c.specs.Telling.{answered, refused};
 
 use front_core::FrontFault;
 
-/// What a call says beside its status. A member that means nothing in a call is 0.
+/// What a call reports beside its status. A member that means nothing in a call is 0.
 #[repr(C)]
 #[derive(Clone, Copy, Debug, PartialEq, Eq)]
 pub struct Told {
@@ -21,7 +21,7 @@ pub struct Told {
 }
 
 impl Told {
-    /// What is told of an answer of this length.
+    /// The report of an answer of this length.
     pub(crate) fn answered(len: usize, count: usize) -> Told
         ensures { result ≡ answered len count }
     {
@@ -34,7 +34,7 @@ impl Told {
         }
     }
 
-    /// What is told of a refusal.
+    /// The report of a refusal.
     pub(crate) fn refused(fault: &FrontFault) -> Told
         ensures { result ≡ refused fault.now }
     {

@@ -78,7 +78,7 @@ one_picked field word tags a b f g =
 pub one_pick_line : (field : FieldText) (word : Option Text) (tags : List Text) (a b : List ℕ) → IsPickLine field word tags a → IsPickLine field word tags b → a ≡ b
 one_pick_line field word tags a b f g = f.2 ∙ ap pick_line (one_picked field word tags f.0 g.0 f.1 g.1) ∙ sym g.2
 
--- a text that is a tag is refused for want of memory alone
+-- a text that is a tag is refused for lack of memory alone
 tag_refused : (text : List ℕ) (fault : LangFault) → RefusesTag text fault → IsTag text → fault ≡ lang.NoMemory
 tag_refused text lang.TagEmpty h t = let none : 0 < 0 = subst (λ (x : List ℕ). 0 < length x) h t.0.0 in absurd (omega arith)
 tag_refused text lang.TagTooLong h t = let fits = t.0.1 in absurd (omega arith)
@@ -128,7 +128,7 @@ field_memory field list nego.FieldTooLong h reads = let fits = reads.0 in let lo
 field_memory field list (nego.FieldMalformed offset) h reads = absurd (malformed_refused field.scheme field.malformed field.text offset list h reads.1)
 field_memory field list nego.NoMemory h reads = refl
 
--- what can be picked from is refused for want of memory alone
+-- what can be picked from is refused for lack of memory alone
 pub no_line : (field : FieldText) (word : Option Text) (tags : List Text) (line : List ℕ) (fault : FrontFault) → RefusesPick field word tags fault → fault ≢ NoMemory → ¬ IsPickLine field word tags line
 no_line field word tags line fault (inl (inl h)) not p = not (h.2 ∙ ap language_fault (default_refused word p.1.default h.0 h.1 p.1.default_ok))
 no_line field word tags line fault (inl (inr h)) not p = not (h.1.2 ∙ ap field_fault (field_memory field p.1.list h.1.0 h.1.1 p.1.list_ok))

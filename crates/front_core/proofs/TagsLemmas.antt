@@ -1,6 +1,6 @@
 -- Tags, read one after another.
 use Rattle.std.proofs.Common.{◌≡◌, ◌∙◌, ◌<◌, ◌+◌, ℕ, List, [], ◌∷◌, ◌++◌, ap, map, length, take, drop, get_or, sym, suc}
-use Rattle.std.proofs.lemmas.List.{append_assoc, append-nil, map-append, take_more, take-append-drop}
+use Rattle.std.proofs.lemmas.List.{append_assoc, map-append, take_more, take-append-drop}
 use Rattle.std.proofs.Math.Seq.{drop-cons}
 use Rattle.lang_core.specs.Lang.{SpellsLang, RefusesLang}
 use Rattle.lang_core.specs.declared.fault.LangFault.{LangFault}
@@ -31,29 +31,12 @@ pub record IsReadTo (words left langs : List Text) : Type 0 where
   pub whole : words ≡ before ++ left
   pub spelled : SpellLangs before langs
 
-pub read_start : (words left : List Text) → left ≡ words → IsReadTo words left []
-read_start words left e = record { before = []; whole = sym e; spelled = tt }
-
 pub read_on : (words left rest langs more : List Text) (word lang : Text) → left ≡ word ∷ rest → more ≡ langs ++ lang ∷ [] → IsReadTo words left langs → SpellsLang word lang → IsReadTo words rest more
 read_on words left rest langs more word lang e is h one = record {
   before = h.before ++ word ∷ [];
   whole = h.whole ∙ ap (λ l. h.before ++ l) e ∙ sym (append_assoc h.before (word ∷ []) rest);
   spelled = rw is (SpellLangs-snoc _ _ _ _ h.spelled one);
 }
-
-pub read_refused : (words left rest langs : List Text) (word : Text) (fault : LangFault) → left ≡ word ∷ rest → IsReadTo words left langs → RefusesLang word fault → RefusesTags words fault
-read_refused words left rest langs word fault e h not = tags_refused words fault (record {
-  before = h.before;
-  word = word;
-  after = rest;
-  langs = langs;
-  whole = h.whole ∙ ap (λ l. h.before ++ l) e;
-  before_ok = h.spelled;
-  word_not = not;
-})
-
-pub read_end : (words left langs : List Text) → left ≡ [] → IsReadTo words left langs → SpellLangs words langs
-read_end words left langs e h = rw (h.whole ∙ ap (λ l. h.before ++ l) e ∙ append-nil h.before) h.spelled
 
 -- one more word of a slice spells one more language
 pub more_langs : {X : Type 0} (text : X → Text) (xs : List X) (i : ℕ) (x : X) (langs more : List (List ℕ)) (lang : List ℕ) → i < length xs

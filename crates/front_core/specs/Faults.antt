@@ -1,4 +1,5 @@
--- The refusals of this crate: each is one of the crates below, and want of memory has one form (own rule).
+-- The refusals of this crate: each is one of the crates below, and out of memory has one form
+-- (project rule).
 use Rattle.std.specs.Prelude.{◌≡◌, ℕ, Option, None, Some}
 use Rattle.lang_core.specs.Fault.{number_of as lang_number}
 use Rattle.lang_core.specs.declared.fault.LangFault.{LangFault}

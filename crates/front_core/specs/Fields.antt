@@ -19,7 +19,9 @@ pub record FieldText : Type 0 where
 abbrev pub field_text : Field → FieldText
 field_text field = record { scheme = field.scheme; malformed = field.malformed; text = field.text.now }
 
--- the list that it is read as: an Accept-Language field (RFC 9110 section 12.5.4), or extended ranges without weights (RFC 4647 section 2.2), whose malformed elements refuse it or are passed over
+-- the list that it is read as: an Accept-Language field (RFC 9110 section 12.5.4), or extended
+-- ranges without weights (RFC 4647 section 2.2), whose malformed elements refuse it or are passed
+-- over
 abbrev pub ReadsAs : FieldText → List Item → Type 0
 ReadsAs field list = (length field.text ≤ 65535) × IsField field.scheme field.malformed field.text list
 

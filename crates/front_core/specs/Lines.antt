@@ -10,7 +10,8 @@ without_empty_last [] = []
 without_empty_last ([] ∷ []) = []
 without_empty_last (piece ∷ pieces) = piece ∷ without_empty_last pieces
 
--- the pieces between line feeds (10); a line feed ends the last line too, and may be missing there, so no bytes are no lines (own rule)
+-- the pieces between line feeds (10); a line feed ends the last line too, and may be missing there,
+-- so no bytes are no lines (project rule)
 abbrev pub lines_of : Text → List Text
 lines_of text = without_empty_last (pieces_by 10 text)
 

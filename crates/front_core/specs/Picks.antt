@@ -21,7 +21,8 @@ use Rattle.front_core.specs.declared.tag_pick.Picked.TheVariants as picked
 use Rattle.front_core.specs.declared.words.Finding.{Finding}
 use Rattle.front_core.specs.declared.words.Finding.TheVariants.{Matched, Default, Nothing}
 
--- RFC 4647 section 3.4: what lookup finds over languages, by its text, or the default where it finds none
+-- RFC 4647 section 3.4: what lookup finds over languages, by its text, or the default where it
+-- finds none
 abbrev pub Finds : List Item → List (List ℕ) → Option (List ℕ) → Finding → Type 0
 Finds list langs default (Matched lang) = IsLookedUp list (is_among langs) (Some (pieces lang))
 Finds list langs default (Default lang) = IsLookedUp list (is_among langs) None × (default ≡ Some lang) × IsOpenDefault list (is_among langs) lang
@@ -60,7 +61,7 @@ IsTagAt _ _ _ = ⊥
 abbrev pub RefusesPick : FieldText → Option Text → List Text → FrontFault → Type 0
 RefusesPick field word tags fault = RefusesPreferences field word fault ⊎ (HasPreferences field word × IsOf language_fault (RefusesTags tags) fault)
 
--- the pick line (own rule)
+-- the pick line (project rule)
 abbrev pub pick_line : Finding → List ℕ
 pick_line (Matched lang) = codes "matched " ++ lang ++ codes "\n"
 pick_line (Default lang) = codes "default " ++ lang ++ codes "\n"

@@ -3,7 +3,7 @@ ghost use Rattle.std.specs.Prelude.{◌≡◌};
 
 use docs_core::Doc;
 
-/// Whether an answer tells of anything.
+/// Whether an answer has found anything.
 #[derive(Clone, Copy, Debug, PartialEq, Eq)]
 pub enum Outcome {
     Found,
@@ -14,7 +14,7 @@ pub enum Outcome {
 impl Outcome {
     ghost use Rattle.front_core.specs.Questions.{is_found};
 
-    /// Of whether anything is found.
+    /// `Found` if `found`, else `Nothing`.
     pub fn of(found: bool) -> Outcome
         ensures { is_found result ≡ found }
     {
@@ -29,7 +29,9 @@ impl Outcome {
 /// What answers a question: lines or language maps, as the command prints them.
 #[derive(Drop)]
 pub struct Answer {
+    /// The bytes to print, with their line feed.
     pub text: Doc,
+    /// Whether anything was found.
     pub outcome: Outcome,
 }
 
@@ -42,12 +44,12 @@ impl Answer {
     }
 }
 
-/// What stands at a place of the label that a lookup finds.
+/// The text at a place of the label that a lookup finds.
 #[derive(Clone, Copy, Debug, PartialEq, Eq)]
 pub enum LabelText<'a> {
     /// The text at the place, and how many texts the label has.
     Found { text: &'a str, count: usize },
-    /// The label has `count` texts, so that none stands at the place.
+    /// The label has `count` texts, and none at the place.
     PastEnd { count: usize },
     /// Lookup finds no label.
     Nothing,

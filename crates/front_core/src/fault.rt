@@ -59,7 +59,7 @@ impl FrontFault {
         }
     }
 
-    /// The row of the document that is refused, counted from 0, where one is meant.
+    /// The row of the document that is refused, counted from 0, where one is named.
     pub fn row(&self) -> Option<usize>
         ensures { result ≡ row_of self.now }
     {
@@ -69,7 +69,7 @@ impl FrontFault {
         }
     }
 
-    /// The input document that is refused, counted from 1; 0 where none is meant.
+    /// The input document that is refused, counted from 1; 0 where none is named.
     pub fn document(&self) -> u8
         ensures { result ≡ document_of self.now }
     {
@@ -80,6 +80,7 @@ impl FrontFault {
     }
 }
 
+/// The offset of a fault of a tag or a range.
 fn lang_offset(fault: LangFault) -> Option<usize>
     ensures { result ≡ lang_offset fault }
 {
@@ -89,6 +90,7 @@ fn lang_offset(fault: LangFault) -> Option<usize>
     }
 }
 
+/// The offset of a fault of a field.
 fn nego_offset(fault: NegoFault) -> Option<usize>
     ensures { result ≡ nego_offset fault }
 {
@@ -98,6 +100,7 @@ fn nego_offset(fault: NegoFault) -> Option<usize>
     }
 }
 
+/// The offset of a fault in the field of a row.
 fn row_offset(fault: FieldFault) -> Option<usize>
     ensures { result ≡ row_offset fault }
 {
@@ -108,6 +111,7 @@ fn row_offset(fault: FieldFault) -> Option<usize>
     }
 }
 
+/// The offset of a document's refusal.
 fn cause_offset(cause: DocCause) -> Option<usize>
     ensures { result ≡ cause_offset cause }
 {

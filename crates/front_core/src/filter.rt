@@ -13,9 +13,11 @@ use std::alloc::{AllocError, Global};
 /// Which labels of a message the ranges of a field take (RFC 4647, section 3.3).
 #[derive(Drop)]
 pub struct Filter {
+    /// The message.
     pub id: MessageId,
     /// Basic filtering (section 3.3.1) or extended (section 3.3.2).
     pub scheme: Scheme,
+    /// The ranges, with their weights.
     pub list: PriorityList,
 }
 
@@ -24,10 +26,10 @@ impl Filter {
     ghost use Rattle.front_core.specs.Questions.{AnswersFilter, IsFilter, RefusesFilter};
     ghost use Rattle.front_core.specs.Fields.{field_text};
 
-    /// The filter that these bytes ask for, under the scheme of the field.
+    /// Reads a filter from these bytes, under the scheme of the field.
     ///
     /// Refused are the id first (10), then the field (8, and 9 where a malformed element refuses
-    /// it). Out of memory (26) may come before a refusal that stands later.
+    /// it). Out of memory (26) may come before a later refusal.
     pub fn read(alloc: Global, id: &[u8], field: Field<'_>) -> Result<Filter, FrontFault>
         ensures { MatchResult result (IsFilter id.now (field_text field.entry)) (RefusesFilter id.now (field_text field.entry)) }
     {
@@ -40,7 +42,7 @@ impl Filter {
         })
     }
 
-    /// The lines of the labels that are taken, best first: `filter N`, then N lines `LANGUAGE
+    /// The lines of the labels whose languages fit, best first: `filter N`, then N lines `LANGUAGE
     /// WEIGHT LABEL`, with the weight in thousandths; a label is the compact JSON array of its
     /// texts.
     pub fn lines(&self, alloc: Global, site: &Site) -> Result<Answer, AllocError>

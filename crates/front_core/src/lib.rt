@@ -1,14 +1,13 @@
-//! What a front end asks: which language, or which label of a site, a reader gets.
+//! Questions of a front end: which language, or which label of a site, a reader gets.
 //!
-//! - [`pick`] finds a tag for a [`Field`] among tags that stand one on a line (RFC 4647, section
-//!   3.4).
+//! - [`pick`] finds a tag for a [`Field`] among tags, one on a line (RFC 4647, section 3.4).
 //! - [`open_site`] reads a site once; [`lookup_line`], [`lookup_text`], [`filter_lines`] and
-//!   [`bundle`] ask it again and again.
+//!   [`bundle`] answer questions from it.
 //! - [`Preferences`], [`Lookup`] and [`Filter`] are such questions read before there is a site.
-//! - [`words`] picks from the words of a command.
+//! - [`words`] picks among the arguments of a command.
 //!
-//! All that is asked comes in as bytes. A refusal is a [`FrontFault`], with its number, and its
-//! place where it has one.
+//! Ids, fields and languages come in as bytes. A refusal is a [`FrontFault`], with its number, and
+//! its place where it has one.
 //!
 //! ```text
 //! let field = Field { scheme: Scheme::Basic, malformed: Malformed::PassedOver, text: b"da, en;q=0.8" };
@@ -18,7 +17,7 @@
 //!                                                     LabelText::Found { text: "Hello", count: 1 }
 //! ```
 //!
-//! The laws of a pick stand in [`laws`].
+//! The laws of a pick are in [`laws`].
 #![tactic(auto)]
 
 mod answer;

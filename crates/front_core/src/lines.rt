@@ -2,7 +2,8 @@
 ghost use Rattle.std.specs.Prelude.{◌≡◌, ◌==◌, ◌∷◌, [], position, IfNone, IfSome};
 ghost use Rattle.front_core.specs.Lines.{lines_of};
 
-/// Lends the lines of a text. A line feed ends each line, and may be missing after the last.
+/// Iterates over the lines of a text. A line feed ends each line, and may be missing after the
+/// last.
 #[derive(Drop)]
 pub(crate) struct Lines<'a> {
     rest: &'a [u8],
@@ -11,6 +12,7 @@ pub(crate) struct Lines<'a> {
 impl<'a> Lines<'a> {
     ghost use Rattle.front_core.specs.Lines.{lines_left};
 
+    /// The lines of this text.
     pub(crate) fn new(text: &'a [u8]) -> Lines<'a>
         ensures { lines_left result ≡ lines_of text.now }
     {
@@ -42,7 +44,7 @@ fn line_feed_at(text: &[u8]) -> Option<usize>
     text.iter().position(|byte| *byte == b'\n')
 }
 
-/// The first line, and what stands after its line feed.
+/// The first line, and the text after its line feed.
 #[tactic(auto, using(crate::proofs::LinesLemmas::cuts))]
 fn cut_line(text: &[u8]) -> Option<(&[u8], &[u8])>
     ensures none { IfNone result (lines_of text.now ≡ []) }

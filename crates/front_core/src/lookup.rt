@@ -17,7 +17,9 @@ use std::alloc::{AllocError, Global};
 /// Which label of a message a reader gets (RFC 4647, section 3.4).
 #[derive(Drop)]
 pub struct Lookup {
+    /// The message.
     pub id: MessageId,
+    /// The ranges and the default of the reader.
     pub preferences: Preferences,
 }
 
@@ -26,11 +28,10 @@ impl Lookup {
     ghost use Rattle.front_core.specs.Questions.{AnswersLookup, AnswersText, IsLookup, RefusesLookup};
     ghost use Rattle.front_core.specs.Fields.{field_text};
 
-    /// The lookup that these bytes ask for.
+    /// Reads a lookup from these bytes.
     ///
     /// Refused are the id first (10), then the default (1 to 4), then the field (8, and 9 where a
-    /// malformed element refuses it). Out of memory (26) may come before a refusal that stands
-    /// later.
+    /// malformed element refuses it). Out of memory (26) may come before a later refusal.
     pub fn read(
         alloc: Global,
         id: &[u8],
@@ -68,6 +69,7 @@ impl Lookup {
     ghost use Rattle.cata_core.specs.Asking.{IsLookupAnswer};
     ghost use Rattle.cata_core.specs.LentAnswers.{reply_of};
 
+    /// The answer of the site's catalogue.
     fn reply<'a>(&self, site: &'a Site) -> LentReply<'a>
         ensures { IsLookupAnswer site.now.cells self.now.id self.now.preferences.list self.now.preferences.default (reply_of result) }
     {
@@ -77,12 +79,14 @@ impl Lookup {
     }
 }
 
+/// Whether the answer has a label.
 fn outcome_of(reply: &LentReply<'_>) -> Outcome
     ensures { is_found result ≡ is_reply (reply_of reply.now) }
 {
     Outcome::of(!matches!(reply, LentReply::Nothing))
 }
 
+/// The text at a place of the label.
 fn text_at(label: &Label, place: usize) -> LabelText<'_>
     ensures { IsTextAt place (Some label.now) result }
 {

@@ -14,7 +14,9 @@ use std::alloc::{AllocError, Global};
 /// What a reader prefers: ranges, and a default for where none of them fits.
 #[derive(Drop)]
 pub struct Preferences {
+    /// The ranges, with their weights.
     pub list: PriorityList,
+    /// The language to fall back to, where there is one.
     pub default: Option<Lang>,
 }
 
@@ -24,10 +26,10 @@ impl Preferences {
     ghost use Rattle.front_core.specs.Fields.{field_text};
     ghost use Rattle.front_core.specs.Preferences.{ArePreferences, RefusesPreferences};
 
-    /// What a field and a default say.
+    /// Reads preferences from a field and a default.
     ///
     /// Refused are the default first (1 to 4), then the field (8, and 9 where a malformed element
-    /// refuses it). Out of memory (26) may come before a refusal that stands later.
+    /// refuses it). Out of memory (26) may come before a later refusal.
     pub fn read(
         alloc: Global,
         field: Field<'_>,

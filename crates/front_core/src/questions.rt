@@ -1,4 +1,4 @@
-//! Questions to an open site, asked and answered at once.
+//! Questions to an open site, read and answered at once.
 ghost use Rattle.std.specs.Prelude.{MatchResult, option_map};
 ghost use Rattle.front_core.specs.Questions.{AreBundleMaps, IsFilterLines, IsLookupLine, IsLookupText, RefusesBundle, RefusesFilterLines, RefusesLookup, RefusesLookupLine};
 ghost use Rattle.front_core.specs.Fields.{field_text};
@@ -44,7 +44,8 @@ pub fn lookup_text<'a>(
     Ok(asked.text(site, place))
 }
 
-/// The lines of the labels that a field takes: [`Filter::lines`]. Refused as [`Filter::read`] is.
+/// The lines of the labels whose languages fit a field: [`Filter::lines`]. Refused as
+/// [`Filter::read`] is.
 pub fn filter_lines(
     alloc: Global,
     site: &Site,

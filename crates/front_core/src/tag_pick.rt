@@ -1,4 +1,4 @@
-//! Picking one of the tags that stand one on a line.
+//! Picking one of several tags, one on a line.
 ghost use Rattle.std.specs.Prelude.{◌≡◌, ◌<◌, length, option_map, slice_get, MatchResult, Some};
 ghost use Rattle.front_core.specs.Fields.{field_text};
 ghost use Rattle.front_core.specs.Lines.{lines_of};
@@ -12,7 +12,7 @@ use crate::tags::read_lines;
 use nego_core::{Found, lookup};
 use std::alloc::Global;
 
-/// What is picked: a tag, as it was handed in.
+/// What is picked: a tag, as it was passed in.
 #[derive(Clone, Copy, Debug, PartialEq, Eq)]
 pub enum Picked<'a> {
     /// The first of the tags that spell the language that lookup finds.
@@ -23,7 +23,7 @@ pub enum Picked<'a> {
     Nothing,
 }
 
-/// What lookup (RFC 4647, section 3.4) finds for a field among tags that stand one on a line; else
+/// The tag that lookup (RFC 4647, section 3.4) finds for a field among tags, one on a line; else
 /// the default, where it is among the tags and the field does not refuse it.
 ///
 /// A line feed ends each line, and may be missing after the last: no bytes are no tags. Tags are
@@ -31,7 +31,7 @@ pub enum Picked<'a> {
 ///
 /// Refused are the default first (1 to 4), then the field (8, and 9 where a malformed element
 /// refuses it), then each tag in order (1 to 4; a line without bytes is 1). Out of memory (26) may
-/// come before a refusal that stands later.
+/// come before a later refusal.
 pub fn pick<'a>(
     alloc: Global,
     field: Field<'_>,

@@ -19,7 +19,7 @@ pub(crate) fn read_lines(alloc: Global, tags: &[u8]) -> Result<Vec<Lang>, LangFa
     Ok(langs)
 }
 
-/// The languages of words, in order. The first word that is none is refused (1 to 4).
+/// The languages of arguments, in order. The first argument that is none is refused (1 to 4).
 pub(crate) fn read_words<S: AsStr>(alloc: Global, tags: &[S]) -> Result<Vec<Lang>, LangFault>
     ensures { MatchResult result (λ langs. SpellLangs (map S.text tags.now) langs.items) (RefusesTags (map S.text tags.now)) }
 {

@@ -1,4 +1,4 @@
-//! Picking a language from the words of a command (RFC 4647 section 3.4).
+//! Picking a language among the arguments of a command (RFC 4647 section 3.4).
 ghost use Rattle.std.specs.Prelude.{◌≡◌, map, option_map, string_bytes, IfOk, MatchResult, None};
 ghost use Rattle.front_core.specs.Fields.{FieldText, field_text};
 ghost use Rattle.front_core.specs.Picks.{AnswersPick, Finds, IsPicked, IsPickLine, RefusesPick, pick_line, pick_outcome};
@@ -43,8 +43,7 @@ pub fn pick_scheme(
 /// but it may be the default.
 ///
 /// Refused are the default first (1 to 4), then RANGES (8, and 9 where a malformed element refuses
-/// them), then each tag in order (1 to 4). Out of memory (26) may come before a refusal that stands
-/// later.
+/// them), then each tag in order (1 to 4). Out of memory (26) may come before a later refusal.
 pub fn pick_with(
     alloc: Global,
     scheme: Scheme,
@@ -82,7 +81,7 @@ pub fn pick_answer<S: AsStr>(
     Ok(Answer::new(text, outcome_of(&found)))
 }
 
-/// The bytes of a word, where there is one.
+/// The bytes of an argument, where there is one.
 pub fn bytes_of(word: Option<&str>) -> Option<&[u8]>
     ensures { option_map (λ s. s.now) result ≡ option_map (λ s. s.now) word.entry }
 {

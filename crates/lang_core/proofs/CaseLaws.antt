@@ -1,12 +1,12 @@
 -- Case does not matter.
 use Rattle.std.proofs.Common.{ℕ, ◌≡◌, ◌<◌, ◌==◌, List, [], ◌∷◌, Bool, refl, sym, arith}
-use Rattle.std.specs.Prelude.{◌||◌, ◌&&◌, map, suc}
+use Rattle.std.specs.Prelude.{◌&&◌, map, suc}
 use Rattle.std.specs.List.{list_all}
 use Rattle.std.specs.Char.{to_ascii_lowercase, is_ascii_alphabetic, is_ascii_alphanumeric}
 use Rattle.std.specs.Str.{str_to_ascii_lowercase, IsAscii}
 use Rattle.std.proofs.lemmas.Bool.Decides.{nat_tests}
 use Rattle.std.proofs.lemmas.Str.Ascii.{IsAscii-nil, IsAscii-cons}
-use Rattle.lang_core.specs.Grammar.{is_letter, is_digit, is_alphanum, is_star, is_x}
+use Rattle.lang_core.specs.Grammar.{is_letter, is_digit, is_alphanum, is_star}
 
 -- the pieces in lower case
 abbrev pub lowered : List (List ℕ) → List (List ℕ)
@@ -17,9 +17,6 @@ lower_hyphen b = grind (arith, nat_tests)
 
 lower_star : (b : ℕ) → (to_ascii_lowercase b == 42) ≡ (b == 42)
 lower_star b = grind (arith, nat_tests)
-
-lower_x : (b : ℕ) → (to_ascii_lowercase b == 120) ≡ ((b == 120) || (b == 88))
-lower_x b = grind (arith, nat_tests)
 
 lower_letter : (b : ℕ) → is_letter (to_ascii_lowercase b) ≡ is_ascii_alphabetic b
 lower_letter b = grind (arith, nat_tests)
@@ -51,10 +48,6 @@ unfolding is_star
 star-lower [] = refl
 star-lower (b ∷ []) = lower_star b
 star-lower (b ∷ c ∷ s) = refl
-
-pub x-lower : (b : ℕ) → is_x (str_to_ascii_lowercase (b ∷ [])) ≡ ((b == 120) || (b == 88))
-unfolding is_x
-x-lower b = lower_x b
 
 lower_small : (b : ℕ) → to_ascii_lowercase b < 128 → b < 128
 lower_small b h = grind (arith, nat_tests)

@@ -67,7 +67,3 @@ pub basic_none : (place : ℕ) (s : List ℕ) → is_private_piece s ≡ false �
 unfolding is_private_piece
 basic_none zero s h = sym (is_false (is_run is_letter 1 8 s) (λ e. let r = run_of is_letter 1 8 s e in let run : is_run is_alphanum 1 8 s ≡ true = sized is_alphanum s (let n = r.long in omega arith) r.short (all_of is_letter s (λ b x. or_left (is_letter b) (is_digit b) x) r.all) in cc))
 basic_none (suc place) s h = sym h
-
-pub basic_later : (place : ℕ) (s : List ℕ) → 0 < place → is_private_piece s ≡ true → true ≡ basic_piece place s
-basic_later zero s n h = absurd (omega arith)
-basic_later (suc place) s n h = sym h

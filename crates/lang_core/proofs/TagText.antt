@@ -5,23 +5,11 @@ use Rattle.std.specs.Str.{IsAscii}
 use Rattle.std.proofs.lemmas.Bool.Decides.{nat_tests}
 use Rattle.std.proofs.lemmas.List.Splits.{slice_split-cons_yes, slice_split-cons_no}
 use Rattle.std.proofs.lemmas.Str.Ascii.{IsAscii-nil, IsAscii-cons}
-use Rattle.lang_core.specs.Text.{pieces_by, pieces, IsSized}
+use Rattle.lang_core.specs.Text.{pieces_by, pieces}
 use Rattle.lang_core.specs.Grammar.{are_allowed, tag_piece, is_alphanum, is_private_piece}
-use Rattle.lang_core.specs.Tag.{RefusesTag, RefusesTagFirst, HasSubtags}
-use Rattle.lang_core.specs.declared.fault.LangFault.{LangFault}
-use Rattle.lang_core.specs.declared.fault.LangFault.TheVariants.{TagEmpty, TagTooLong, TagSubtag, TagNotWellFormed, RangeEmpty, RangeTooLong, RangeSubtag, NoMemory}
+use Rattle.lang_core.specs.Tag.{HasSubtags}
 use Rattle.lang_core.proofs.Basics.{cases_bool, each_true, both}
 use Rattle.lang_core.proofs.Classes.{run_of}
-
-pub refuses : (text : List ℕ) (fault : LangFault) → IsSized text → RefusesTagFirst text fault → RefusesTag text fault
-refuses text TagEmpty s r = absurd r
-refuses text TagTooLong s r = absurd r
-refuses text (TagSubtag offset) s r = (s, r)
-refuses text TagNotWellFormed s r = (s, r.0, r.1)
-refuses text RangeEmpty s r = r
-refuses text RangeTooLong s r = r
-refuses text (RangeSubtag offset) s r = r
-refuses text NoMemory s r = absurd r
 
 alphanum_ascii : (b : ℕ) → is_alphanum b ≡ true → b < 128
 alphanum_ascii b h = grind (arith, nat_tests)

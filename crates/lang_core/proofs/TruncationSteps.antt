@@ -19,11 +19,6 @@ size_without : (s : List ℕ) (more : List (List ℕ)) → length (without_last 
 size_without s [] = refl
 size_without s (t ∷ more) = ap suc (size_without t more)
 
-without_push : (front : List (List ℕ)) (last : List ℕ) → without_last (front ++ last ∷ []) ≡ front
-without_push [] last = refl
-without_push (s ∷ []) last = refl
-without_push (s ∷ t ∷ more) last = ap (λ (x : List (List ℕ)). s ∷ x) (without_push (t ∷ more) last)
-
 -- ---- the singles that stand last
 
 and_true : (b : Bool) → b && true ≡ b

@@ -1,11 +1,11 @@
 -- A walk from piece to piece.
-use Rattle.std.proofs.Common.{ℕ, ◌≡◌, ◌≤◌, ◌+◌, List, [], ◌∷◌, ◌++◌, Bool, true, false, length, sum_by, refl, sym, ◌∙◌, ap, subst, arith, length-append, append_assoc, append-nil}
+use Rattle.std.proofs.Common.{ℕ, ◌≡◌, ◌≤◌, ◌+◌, List, [], ◌∷◌, ◌++◌, Bool, true, length, sum_by, refl, sym, ◌∙◌, ap, subst, arith, length-append, append_assoc, append-nil}
 use Rattle.std.specs.Str.{str_to_ascii_lowercase}
 use Rattle.std.specs.Char.{to_ascii_lowercase}
 use Rattle.std.proofs.lemmas.List.{length-map}
 use Rattle.std.proofs.lemmas.List.Sums.{sum_by-append}
 use Rattle.lang_core.specs.Text.{pieces, subtags}
-use Rattle.lang_core.specs.Grammar.{are_allowed, IsFirstRefused}
+use Rattle.lang_core.specs.Grammar.{are_allowed}
 use Rattle.lang_core.proofs.Basics.{each_true, both}
 use Rattle.lang_core.proofs.CaseLaws.{lowered}
 use Rattle.lang_core.proofs.PiecesLaws.{size_pieces, size_cons, length_le_size, pieces-lower}
@@ -55,18 +55,6 @@ walk_fits allowed text piece left place offset w =
     let p = w.place_is in
     let o = w.offset_is in
     (omega arith, omega arith)
-
--- the walk stops at the first subtag that is refused
-pub walk_refused : (allowed : ℕ → List ℕ → Bool) (text : List ℕ) (piece : List ℕ) (left : List (List ℕ)) (place offset : ℕ) → IsWalked allowed text (piece ∷ left) place offset → allowed place (str_to_ascii_lowercase piece) ≡ false → IsFirstRefused allowed (subtags text) offset
-walk_refused allowed text piece left place offset w h = record {
-  before = w.before;
-  piece = str_to_ascii_lowercase piece;
-  after = lowered left;
-  whole = w.whole;
-  before_ok = w.before_ok;
-  refused = subst (λ (k : ℕ). allowed k (str_to_ascii_lowercase piece) ≡ false) w.place_is h;
-  begins = w.offset_is;
-}
 
 -- where nothing is left each subtag was allowed
 pub walk_end : (allowed : ℕ → List ℕ → Bool) (text : List ℕ) (place offset : ℕ) → IsWalked allowed text [] place offset → are_allowed allowed 0 (subtags text) ≡ true

@@ -19,7 +19,8 @@ IsBeforeHyphen front text = (rest : List ℕ) × (text ≡ front ++ 45 ∷ rest)
 abbrev pub BasicInBytes : List ℕ → List ℕ → Type 0
 BasicInBytes range tag = (range ≡ 42 ∷ []) ⊎ ((range ≡ tag) ⊎ IsBeforeHyphen range tag)
 
--- The subtags that are wanted stand among those that are given, in order. A given one may be passed over where it has more than one character.
+-- The subtags that are wanted stand among those that are given, in order. A given one may be passed
+-- over where it has more than one character.
 abbrev pub Embeds : List (List ℕ) → List (List ℕ) → Type 0
 Embeds [] given = Unit {0}
 Embeds (w ∷ wanted) [] = ⊥

@@ -8,7 +8,8 @@ use Rattle.lang_core.specs.declared.fault.LangFault.TheVariants.{TagEmpty, TagTo
 abbrev pub HasSubtags : List ℕ → Type 0
 HasSubtags text = IsTrue (are_allowed tag_piece 0 (pieces text))
 
--- a text in lower case is a tag: the three things that are asked of it, in the order of the refusals
+-- a text in lower case is a tag: the three things that are asked of it, in the order of the
+-- refusals
 abbrev pub IsTag : List ℕ → Type 0
 IsTag text = IsSized text × HasSubtags text × WellFormed (pieces text)
 

@@ -109,8 +109,8 @@ impl Lang {
         }
     }
 
-    /// An equal language, by as many allocations as it was parsed with. A copy of `@none` is never
-    /// refused.
+    /// An equal language, by the same number of allocations as its parsing. A copy of `@none` is
+    /// never refused.
     pub fn copy(&self, alloc: Global) -> Result<Lang, AllocError>
         ensures equal { IfOk result (λ lang. lang ≡ self.now) }
         ensures none { self.now ≡ none_text → IsOk result }

@@ -19,8 +19,8 @@ pub fn basic_test_is_basic()
     ensures { (range tag : List (List ℕ)) → IsTrue (is_basic_match range tag) ↔ Basic range tag }
 {}
 
-/// Basic matching of subtags is that of texts: the range is "*", equals the tag, or is what stands
-/// before a hyphen of it (RFC 4647 section 3.3.1).
+/// Basic matching of subtags is that of texts: the range is "*", equals the tag, or is the part of
+/// the tag before one of its hyphens (RFC 4647 section 3.3.1).
 pub fn basic_in_bytes()
     ensures { (range tag : List ℕ) → Basic (pieces range) (pieces tag) ↔ BasicInBytes range tag }
 {}
@@ -46,7 +46,7 @@ pub fn truncation_by_steps()
         → (shortened range ≡ []) ⊎ BasicRange (shortened range) }
 {}
 
-/// The first subtag that may not stand where it does begins at one offset.
+/// The first subtag that is not allowed at its place begins at one offset.
 pub fn one_refused_offset()
     ensures { (allowed : ℕ → List ℕ → Bool) (list : List (List ℕ)) (a b : ℕ)
         → IsFirstRefused allowed list a → IsFirstRefused allowed list b → a ≡ b }

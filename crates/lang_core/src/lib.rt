@@ -5,9 +5,9 @@
 //! - Ranges match tags by basic and by extended filtering, and give the texts that lookup tries.
 //! - [`LangFault`] says why a text is refused, and where.
 //!
-//! Texts are kept in lower case, at most 255 bytes. A parser finds every other refusal before it
-//! asks for memory; all calls but parsers and copies take none, and these take none for the text of
-//! a tag or a range of at most 16 bytes.
+//! Texts are stored in lower case and have at most 255 bytes. A parser finds every other fault
+//! before it allocates. Only parsers and copies allocate, and not for the text of a tag or a range
+//! of at most 16 bytes, which is stored inline.
 //!
 //! ```text
 //! let tag = Tag::parse(alloc, b"de-Latn-DE")?;

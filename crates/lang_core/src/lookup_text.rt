@@ -51,7 +51,7 @@ impl LookupText {
         }
     }
 
-    /// The same for an equal range, by as many allocations as it was made with.
+    /// The same for an equal range, by the same number of allocations.
     pub(crate) fn copy(&self, alloc: Global) -> Result<LookupText, AllocError>
         ensures { IfOk result (λ copy. (own : List ℕ)
             → kept_text own copy ≡ kept_text own self.now) }

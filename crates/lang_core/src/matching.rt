@@ -110,7 +110,7 @@ fn pairs(wanted: Pieces, mut given: Pieces) -> bool
     true
 }
 
-/// Takes pieces up to and with the one that is wanted, and passes over no single character.
+/// Takes pieces up to and including the wanted one, and skips no piece of one character.
 fn finds(given: &mut Pieces, wanted: &[u8]) -> bool
     requires { is_star wanted.now ≡ false }
     ensures { (rest : List (List ℕ)) → greedy (wanted.now ∷ rest) (pieces_left given.old)

@@ -3,7 +3,7 @@ ghost use Rattle.std.specs.Prelude.{◌≡◌, ◌==◌, ◌∷◌, [], ◌<◌,
 ghost use Rattle.std.specs.Iterator.{YieldsFirstBy, item_count};
 ghost use Rattle.lang_core.specs.Text.{pieces_by};
 
-/// What stands between the subtags of a tag or a range.
+/// The separator of the subtags of a tag or a range.
 pub(crate) const HYPHEN: u8 = b'-';
 
 /// The pieces of a text between its separators, in order. A text with n separators has n + 1
@@ -52,6 +52,7 @@ impl<'a> Iterator for Pieces<'a> {
     }
 }
 
+/// The place of the first separator.
 pub(crate) fn separator_at(text: &[u8], separator: u8) -> Option<usize>
     ensures { result ≡ position (λ b. b == separator) text.now }
 {

@@ -163,9 +163,9 @@ impl Range {
         matches_basic_text(self.as_str().as_bytes(), text.as_bytes())
     }
 
-    /// Extended filtering (RFC 4647 section 3.3.2): the first subtags match, and the others of the
-    /// range but "*" stand among the others of the tag in this order, with no single letter or
-    /// digit passed over. `de-*-DE` matches `de-Latn-DE` and not `de-x-DE`.
+    /// Extended filtering (RFC 4647 section 3.3.2): the first subtags match, and the range's other
+    /// subtags except "*" are among the tag's other subtags in this order, with no single letter or
+    /// digit skipped. `de-*-DE` matches `de-Latn-DE` and not `de-x-DE`.
     pub fn matches_extended(&self, tag: &Tag) -> bool
         ensures { IsTrue result ↔ Extended (pieces self.now) (pieces tag.now) }
     {
@@ -186,7 +186,7 @@ impl Range {
         Truncations::new(self.lookup_text())
     }
 
-    /// An equal range, by as many allocations as it was parsed with.
+    /// An equal range, by the same number of allocations as its parsing.
     pub fn copy(&self, alloc: Global) -> Result<Range, AllocError>
         ensures { IfOk result (λ range. range ≡ self.now) }
     {

@@ -32,6 +32,7 @@ pub(crate) fn extended_fault(text: &[u8]) -> Option<usize>
     RangeSyntax::Extended.first_refused(text)
 }
 
+/// Whether the piece is "*".
 #[tactic(auto, unfolding(crate::specs::Grammar::is_star))]
 pub(crate) fn is_star(piece: &[u8]) -> bool
     ensures { result ≡ is_star piece.now }
@@ -42,7 +43,7 @@ pub(crate) fn is_star(piece: &[u8]) -> bool
     }
 }
 
-/// Which subtags may stand at which place of a range, but for a lone "*" in a basic one.
+/// Which subtags each place of a range may have, except for the lone "*" of a basic range.
 #[derive(Clone, Copy)]
 enum RangeSyntax {
     Basic,
@@ -52,6 +53,7 @@ enum RangeSyntax {
 impl RangeSyntax {
     ghost use Rattle.lang_core.specs.RangeSyntax.{allowed_by};
 
+    /// Whether a range may have the piece at the place.
     fn allows(self, place: usize, piece: &[u8]) -> bool
         ensures { result ≡ allowed_by self place (str_to_ascii_lowercase piece.now) }
     {
@@ -81,6 +83,7 @@ impl RangeSyntax {
     }
 }
 
+/// Whether a basic range of several pieces may have the piece at the place.
 fn is_basic_piece(place: usize, piece: &[u8]) -> bool
     ensures { result ≡ basic_piece place (str_to_ascii_lowercase piece.now) }
 {

@@ -21,6 +21,7 @@ pub(crate) enum Stage {
 }
 
 impl Stage {
+    /// The stage after one more subtag, or none where the subtag may not come next.
     pub(crate) fn next(self, subtag: &Subtag) -> Option<Stage>
         ensures { result ≡ next_stage self subtag.now }
     {
@@ -50,6 +51,7 @@ impl Stage {
     }
 }
 
+/// The stage after the first subtag: a language, or the "x" of a private use tag.
 fn after_nothing(subtag: &Subtag) -> Option<Stage>
     ensures { result ≡ start_stage subtag.now }
 {
@@ -62,6 +64,7 @@ fn after_nothing(subtag: &Subtag) -> Option<Stage>
     }
 }
 
+/// The stage after a subtag that follows the language or an extlang.
 fn after_language(extlangs_left: u8, subtag: &Subtag) -> Option<Stage>
     ensures { result ≡ language_stage extlangs_left subtag.now }
 {
@@ -76,6 +79,7 @@ fn after_language(extlangs_left: u8, subtag: &Subtag) -> Option<Stage>
     }
 }
 
+/// The stage after a subtag that may be a region.
 fn after_script(subtag: &Subtag) -> Option<Stage>
     ensures { result ≡ region_stage subtag.now }
 {
@@ -86,6 +90,7 @@ fn after_script(subtag: &Subtag) -> Option<Stage>
     }
 }
 
+/// The stage after a subtag that may be a variant.
 fn after_region(subtag: &Subtag) -> Option<Stage>
     ensures { result ≡ variant_stage subtag.now }
 {
@@ -96,6 +101,7 @@ fn after_region(subtag: &Subtag) -> Option<Stage>
     }
 }
 
+/// The stage after a subtag that may be a singleton, which begins an extension.
 fn before_extension(subtag: &Subtag) -> Option<Stage>
     ensures { result ≡ extension_stage subtag.now }
 {
@@ -106,6 +112,7 @@ fn before_extension(subtag: &Subtag) -> Option<Stage>
     }
 }
 
+/// The stage after a subtag that has to be an "x".
 fn before_private(subtag: &Subtag) -> Option<Stage>
     ensures { result ≡ private_stage subtag.now }
 {
@@ -116,6 +123,7 @@ fn before_private(subtag: &Subtag) -> Option<Stage>
     }
 }
 
+/// The stage after the first subtag of an extension.
 fn after_singleton(subtag: &Subtag) -> Option<Stage>
     ensures { result ≡ next_stage Singleton subtag.now }
 {
@@ -126,6 +134,7 @@ fn after_singleton(subtag: &Subtag) -> Option<Stage>
     }
 }
 
+/// The stage after one more subtag of an extension, or the subtag after all of them.
 fn after_extension(subtag: &Subtag) -> Option<Stage>
     ensures { result ≡ next_stage Extension subtag.now }
 {
@@ -136,6 +145,7 @@ fn after_extension(subtag: &Subtag) -> Option<Stage>
     }
 }
 
+/// The stage after a subtag of the private use part.
 fn after_x(subtag: &Subtag) -> Option<Stage>
     ensures { result ≡ next_stage Private subtag.now }
 {

@@ -75,24 +75,28 @@ impl<'a> Subtag<'a> {
         })
     }
 
+    /// Whether its length is in this range.
     fn has_len(&self, low: usize, high: usize) -> bool
         ensures { result ≡ nat_le low (length self.now) && nat_le (length self.now) high }
     {
         low <= self.text.len() && self.text.len() <= high
     }
 
+    /// Whether it is of letters alone, and its length in this range.
     fn is_letters(&self, low: usize, high: usize) -> bool
         ensures { result ≡ is_run is_letter low high self.now }
     {
         self.has_len(low, high) && self.has_letters_only
     }
 
+    /// Whether it is of digits alone, and its length in this range.
     fn is_digits(&self, low: usize, high: usize) -> bool
         ensures { result ≡ is_run is_digit low high self.now }
     {
         self.has_len(low, high) && self.has_digits_only
     }
 
+    /// Whether its length is in this range; it is of letters and digits in any case.
     fn is_alphanums(&self, low: usize, high: usize) -> bool
         ensures { result ≡ is_run is_alphanum low high self.now }
     {
@@ -108,6 +112,7 @@ impl<'a> Subtag<'a> {
         self.is_letters(1, 8)
     }
 
+    /// 2*3ALPHA, a language that extlangs may follow.
     #[tactic(auto, unfolding(crate::specs::Grammar::is_short_language))]
     pub(crate) fn is_short_language(&self) -> bool
         ensures { result ≡ is_short_language self.now }
@@ -115,6 +120,7 @@ impl<'a> Subtag<'a> {
         self.is_letters(2, 3)
     }
 
+    /// 4ALPHA / 5*8ALPHA, a language that no extlang may follow.
     #[tactic(auto, unfolding(crate::specs::Grammar::is_long_language))]
     pub(crate) fn is_long_language(&self) -> bool
         ensures { result ≡ is_long_language self.now }
@@ -122,6 +128,7 @@ impl<'a> Subtag<'a> {
         self.is_letters(4, 8)
     }
 
+    /// 3ALPHA
     #[tactic(auto, unfolding(crate::specs::Grammar::is_extlang))]
     pub(crate) fn is_extlang(&self) -> bool
         ensures { result ≡ is_extlang self.now }
@@ -129,6 +136,7 @@ impl<'a> Subtag<'a> {
         self.is_letters(3, 3)
     }
 
+    /// 4ALPHA
     #[tactic(auto, unfolding(crate::specs::Grammar::is_script))]
     pub(crate) fn is_script(&self) -> bool
         ensures { result ≡ is_script self.now }
@@ -136,6 +144,7 @@ impl<'a> Subtag<'a> {
         self.is_letters(4, 4)
     }
 
+    /// 2ALPHA / 3DIGIT
     #[tactic(auto, unfolding(crate::specs::Grammar::is_region))]
     pub(crate) fn is_region(&self) -> bool
         ensures { result ≡ is_region self.now }
@@ -143,6 +152,7 @@ impl<'a> Subtag<'a> {
         self.is_letters(2, 2) || self.is_digits(3, 3)
     }
 
+    /// 5*8alphanum / (DIGIT 3alphanum)
     #[tactic(auto, unfolding(crate::specs::Grammar::is_variant))]
     pub(crate) fn is_variant(&self) -> bool
         ensures { result ≡ is_variant self.now }
@@ -150,6 +160,7 @@ impl<'a> Subtag<'a> {
         self.is_alphanums(5, 8) || (self.is_alphanums(4, 4) && self.begins_with_digit())
     }
 
+    /// Whether its first byte is a digit.
     fn begins_with_digit(&self) -> bool
         ensures { result ≡ list_any is_digit (take 1 self.now) }
     {
@@ -159,6 +170,7 @@ impl<'a> Subtag<'a> {
         }
     }
 
+    /// "x" in any case, which begins the private use part.
     #[tactic(auto, unfolding(crate::specs::Grammar::is_x))]
     pub(crate) fn is_x(&self) -> bool
         ensures { result ≡ is_x self.now }
@@ -169,6 +181,7 @@ impl<'a> Subtag<'a> {
         }
     }
 
+    /// One letter or digit other than "x".
     #[tactic(auto, unfolding(crate::specs::Grammar::is_singleton))]
     pub(crate) fn is_singleton(&self) -> bool
         ensures { result ≡ is_singleton self.now }
@@ -176,6 +189,7 @@ impl<'a> Subtag<'a> {
         self.is_alphanums(1, 1) && !self.is_x()
     }
 
+    /// 2*8alphanum
     #[tactic(auto, unfolding(crate::specs::Grammar::is_extension_piece))]
     pub(crate) fn is_extension_piece(&self) -> bool
         ensures { result ≡ is_extension_piece self.now }
@@ -183,6 +197,7 @@ impl<'a> Subtag<'a> {
         self.is_alphanums(2, 8)
     }
 
+    /// 1*8alphanum
     #[tactic(auto, unfolding(crate::specs::Grammar::is_private_piece))]
     pub(crate) fn is_private_piece(&self) -> bool
         ensures { result ≡ is_private_piece self.now }
@@ -191,6 +206,7 @@ impl<'a> Subtag<'a> {
     }
 }
 
+/// What the byte adds to the sum of a text.
 fn class_of(byte: u8) -> u8
     ensures class { result ≡ class_of byte }
     ensures small { result ≤ 16 }

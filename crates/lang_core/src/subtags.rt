@@ -15,6 +15,7 @@ pub struct Subtags<'a> {
 impl<'a> Subtags<'a> {
     ghost use Rattle.lang_core.specs.Subtags.{subtags_left};
 
+    /// The subtags of this text.
     pub(crate) fn new(text: &'a str) -> Subtags<'a>
         ensures { subtags_left result ≡ pieces text.now }
     {

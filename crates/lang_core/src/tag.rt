@@ -23,8 +23,8 @@ use std::marker::Model;
 
 /// A well-formed language tag of 1 to 255 bytes, in lower case (RFC 5646 section 2.1).
 ///
-/// Well-formed is the grammar alone: no registry is asked, and variants and singletons may be
-/// repeated. Tags are compared by the bytes of their texts.
+/// Well-formed means by the grammar alone: no registry is consulted, and variants and singletons
+/// may be repeated. Tags are compared by the bytes of their texts.
 #[derive(Debug, Drop)]
 pub struct Tag {
     text: LowerText,
@@ -43,7 +43,7 @@ impl Model for Tag {
 }
 
 impl Tag {
-    /// The tag that the bytes spell in any case, kept in lower case.
+    /// The tag that the bytes spell in any case, stored in lower case.
     ///
     /// Refused are, in this order, an empty text, one over 255 bytes, the first subtag that is not
     /// 1 to 8 letters or digits, and subtags that make no tag. Only then a tag of more than 16
@@ -85,7 +85,7 @@ impl Tag {
         Subtags::new(self.text.as_str())
     }
 
-    /// An equal tag, by as many allocations as it was parsed with.
+    /// An equal tag, by the same number of allocations as its parsing.
     pub fn copy(&self, alloc: Global) -> Result<Tag, AllocError>
         ensures { IfOk result (λ tag. tag ≡ self.now) }
     {

@@ -37,6 +37,7 @@ impl LowerText {
         Ok(LowerText::Long(lower_long(alloc, bytes)?))
     }
 
+    /// The text.
     pub(crate) fn as_str(&self) -> &str
         ensures { result.now ≡ lower_bytes self.now }
     {
@@ -46,13 +47,14 @@ impl LowerText {
         }
     }
 
+    /// The bytes of the text.
     pub(crate) fn as_bytes(&self) -> &[u8]
         ensures { result.now ≡ lower_bytes self.now }
     {
         self.as_str().as_bytes()
     }
 
-    /// An equal text, by as many allocations as it was made with.
+    /// An equal text, by the same number of allocations.
     pub(crate) fn copy(&self, alloc: Global) -> Result<LowerText, AllocError>
         ensures { IfOk result (λ text. lower_bytes text ≡ lower_bytes self.now) }
     {

@@ -18,6 +18,7 @@ pub struct Truncations<'a> {
 impl<'a> Truncations<'a> {
     ghost use Rattle.lang_core.specs.Truncations.{truncations_left};
 
+    /// The truncations of this text, itself first.
     pub(crate) fn new(text: &'a str) -> Truncations<'a>
         ensures { truncations_left result ≡ candidates (pieces text.now) }
     {
@@ -41,6 +42,7 @@ impl<'a> Iterator for Truncations<'a> {
     }
 }
 
+/// The place of the last hyphen.
 fn last_hyphen(text: &str) -> Option<usize>
     ensures { MatchOption result
         ((k : ℕ) → k < length text.now → slice_index text.now k ≢ 45)

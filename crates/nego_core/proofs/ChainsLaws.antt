@@ -10,7 +10,7 @@ use Rattle.lang_core.specs.Text.{pieces}
 use Rattle.lang_core.specs.Grammar.{is_star}
 use Rattle.lang_core.specs.Matching.{Embeds, Extended, without_stars, specificity}
 use Rattle.nego_core.proofs.Basics.{false_true, contains_first, contains_later, contains_cases, same_at}
-use Rattle.nego_core.proofs.MostSpecificLaws.{best_same, better_joins, Before, none_before, passed, newest, passed_to, all_before}
+use Rattle.nego_core.proofs.MostSpecificLaws.{best_same, better_joins, Before, passed, newest, passed_to, all_before}
 use Rattle.nego_core.specs.Deciding.{IsBest, better_of, is_above}
 use Rattle.nego_core.specs.declared.deciding.MostSpecific.{MostSpecific}
 use Rattle.nego_core.specs.Item.{Item}
@@ -70,9 +70,6 @@ pub may_stand : (s : List ℕ) (left all : List (List ℕ)) (chain : ℕ) → Ar
 may_stand s left all chain h e f = inr (s, h s (contains_first s left), sym (star_test s) ∙ e, sym f)
 
 -- ---- the numbers of the chains
-
-pub no_numbers : (items : List Item) → AreNumbers items 0 []
-no_numbers items = record { as_many = refl; within = λ k low. absurd (omega arith); may = λ k i low s. absurd (omega arith) }
 
 pub push_number : (items : List Item) (n : ℕ) (i : Item) (numbers : List ℕ) (number : ℕ) → AreNumbers items n numbers → slice_get items n ≡ Some i → MayStandIn (pieces i.range) number → number < 1025 → AreNumbers items (n + 1) (numbers ++ number ∷ [])
 push_number items n i numbers number a s m small =
@@ -151,14 +148,6 @@ FitsIn Fits numbers chain k i = StandsIn numbers chain k × Fits i
 pub record IsAskedTo (Fits : Item → Type 0) (items : List Item) (numbers : List ℕ) (chain place : ℕ) (best : Option MostSpecific) : Type 0 where
   pub so_far : IsBest (Before (FitsIn Fits numbers chain) place) items best
   pub stands : place < length items → StandsIn numbers chain place
-
-pub asked_from : (Fits : Item → Type 0) (items : List Item) (numbers : List ℕ) (chains : Chains) (chain place : ℕ) → AreLinked items numbers chains → chain < 1025 → place ≡ get_or chains.first.items chain 0 → IsAskedTo Fits items numbers chain place None
-asked_from Fits items numbers chains chain place h small e =
-    let next : IsNextIn numbers chain 0 place = subst (λ (n : ℕ). IsNextIn numbers chain 0 n) (sym e) (h.links_ok.first_is chain small) in
-    record {
-      so_far = passed_to (FitsIn Fits numbers chain) items 0 place None (omega arith) (λ k i le lt f. next.none_between k le lt f.0) (none_before (FitsIn Fits numbers chain) items);
-      stands = λ low. next.stands (let m = h.numbers_ok.as_many in omega arith);
-    }
 
 next_of : (items : List Item) (numbers : List ℕ) (chains : Chains) (chain place : ℕ) → AreLinked items numbers chains → place < length items → StandsIn numbers chain place → IsNextIn numbers chain (place + 1) (get_or chains.next.items place 0)
 next_of items numbers chains chain place h low s = subst (λ (n : ℕ). IsNextIn numbers n (place + 1) (get_or chains.next.items place 0)) s (h.links_ok.next_is place (omega arith) (let m = h.numbers_ok.as_many in omega arith))

@@ -5,16 +5,15 @@ use Rattle.std.proofs.lemmas.Bool.{cases_lt, cases_order, cases_Bool}
 use Rattle.std.proofs.lemmas.Option.{slice_get_within}
 use Rattle.lang_core.specs.Text.{pieces, joined}
 use Rattle.lang_core.specs.Lang.{tag_of}
-use Rattle.lang_core.specs.Matching.{Basic, specificity}
+use Rattle.lang_core.specs.Matching.{Basic}
 use Rattle.std.specs.Str.{bytes_eq}
 use Rattle.std.proofs.lemmas.Slice.Eq.{bytes_eq-Decides}
 use Rattle.nego_core.proofs.Basics.{same_at, stands_at}
 use Rattle.nego_core.proofs.Prefixes.{IsTextFront, joined-pieces, star_pieces, front_of_text, text_of_front, front_within, front_is_take, take_is_front}
 use Rattle.nego_core.proofs.MostSpecificLaws.{best_same, better_joins}
-use Rattle.nego_core.specs.Index.{IsFirstWith}
 use Rattle.nego_core.specs.Item.{Item}
 use Rattle.nego_core.specs.Basics.{IsTheOne}
-use Rattle.nego_core.specs.Deciding.{better_of, IsBestOf, IsBest, NoneFits, Matches, IsMostSpecific, IsDeciding, IsDecidedBy, IsDecidingWeight, DecidesLang, IsAny, MatchesNamed}
+use Rattle.nego_core.specs.Deciding.{better_of, IsBestOf, IsBest, Matches, IsMostSpecific, IsDeciding, IsDecidedBy, IsDecidingWeight, DecidesLang, IsAny, MatchesNamed}
 use Rattle.nego_core.specs.declared.deciding.MostSpecific.{MostSpecific}
 use Rattle.nego_core.specs.declared.deciding.Decision.{Decision}
 use Rattle.nego_core.specs.declared.scheme.Scheme.{Scheme}
@@ -51,14 +50,6 @@ most_specific Fits items best h = record {
   first = λ k other low s f. (let m = h.first k other low s f in let n = h.specificity_is in omega arith);
 }
 
-pub the_best : (scheme : Scheme) (items : List Item) (tag : List (List ℕ)) (best : MostSpecific) → IsBest (λ _ i. Matches scheme (pieces i.range) tag) items (Some best) → IsTheOne (Some best.place) (IsDeciding scheme items tag)
-the_best scheme items tag best h =
-    let d = most_specific (λ i. Matches scheme (pieces i.range) tag) items best h in
-    (d, λ q f. one_place scheme items tag best.place q d f)
-
-pub no_best : (scheme : Scheme) (items : List Item) (tag : List (List ℕ)) → IsBest (λ _ i. Matches scheme (pieces i.range) tag) items None → IsTheOne None (IsDeciding scheme items tag)
-no_best scheme items tag h = λ p d. h p d.item d.stands d.fits
-
 -- ---- its weight
 
 pub stands_within : (Fits : Item → Type 0) (items : List Item) (place : ℕ) → IsMostSpecific Fits items place → place < length items
@@ -69,9 +60,6 @@ weight_is Fits items place j d e = ap (λ (x : Item). x.weight) (same_at items p
 
 pub decided_by : (scheme : Scheme) (items : List Item) (tag : List (List ℕ)) (place : ℕ) (j : Item) → IsDeciding scheme items tag place → j ≡ get_or items place j → IsDecidedBy scheme items tag place j.weight
 decided_by scheme items tag place j d e = (d, weight_is (λ i. Matches scheme (pieces i.range) tag) items place j d e)
-
-pub one_weight : (scheme : Scheme) (items : List Item) (tag : List (List ℕ)) (place weight : ℕ) → IsDecidedBy scheme items tag place weight → IsTheOne (Some weight) (IsDecidingWeight scheme items tag)
-one_weight scheme items tag place weight d = ((place, d), λ m w. sym w.1.1 ∙ (two_weights scheme items tag place w.0 d.0 w.1.0 ∙ d.1))
 
 pub no_weight : (scheme : Scheme) (items : List Item) (tag : List (List ℕ)) → ((place : ℕ) → ¬ IsDeciding scheme items tag place) → IsTheOne None (IsDecidingWeight scheme items tag)
 no_weight scheme items tag h = λ m w. h w.0 w.1.0
@@ -84,9 +72,6 @@ lang_decided scheme items lang tag place weight e d = subst (λ (o : Option (Lis
 pub lang_undecided : (scheme : Scheme) (items : List Item) (lang tag : List ℕ) → Some tag ≡ tag_of lang → ((place : ℕ) → ¬ IsDeciding scheme items (pieces tag) place) → (place weight : ℕ) → ¬ DecidesLang scheme items lang place weight
 lang_undecided scheme items lang tag e h place weight d = h place (subst (λ (o : Option (List ℕ)). IsSomeAnd o (λ t. IsDecidedBy scheme items (pieces t) place weight)) (sym e) d).0
 
-pub none_undecided : (scheme : Scheme) (items : List Item) (lang : List ℕ) → None ≡ tag_of lang → (place weight : ℕ) → ¬ DecidesLang scheme items lang place weight
-none_undecided scheme items lang e place weight d = subst (λ (o : Option (List ℕ)). IsSomeAnd o (λ t. IsDecidedBy scheme items (pieces t) place weight)) (sym e) d
-
 -- a language is decided in one way
 two_decided : (scheme : Scheme) (items : List Item) (tag : Option (List ℕ)) (p q m n : ℕ) → IsSomeAnd tag (λ t. IsDecidedBy scheme items (pieces t) p m) → IsSomeAnd tag (λ t. IsDecidedBy scheme items (pieces t) q n) → (q ≡ p) × (n ≡ m)
 two_decided scheme items None p q m n d f = absurd d
@@ -97,31 +82,9 @@ one_decision scheme items lang p q m n d f = two_decided scheme items (tag_of la
 
 -- ---- under the basic match
 
-pub best_of_first : (items : List Item) (text : List ℕ) (place many : ℕ) (j : Item) → IsFirstWith items text place → j ≡ get_or items place j → many ≡ specificity (pieces j.range) → IsBestOf (λ _ i. i.range ≡ text) items (record { place = place; specificity = many })
-best_of_first items text place many j f e n =
-    let same : f.item ≡ j = same_at items place place j f.item refl (stands_at items place j (slice_get_within items place f.item f.stands) e) f.stands in
-    let size : many ≡ specificity (pieces f.item.range) = n ∙ ap (λ (x : Item). specificity (pieces x.range)) (sym same) in
-    record {
-      item = f.item;
-      stands = f.stands;
-      specificity_is = size;
-      fits = f.same;
-      most = λ k other s t. (let alike : specificity (pieces other.range) ≡ specificity (pieces f.item.range) = ap (λ (x : List ℕ). specificity (pieces x)) (t ∙ sym f.same) in omega arith);
-      first = λ k other low s t. absurd (f.first k other low s t);
-    }
-
-pub any_named : (items : List Item) (text : List ℕ) → text ≡ 42 ∷ [] → NoneFits (λ _ i. (¬ IsAny i) × (i.range ≡ text)) items
-any_named items text e = λ k other s f. f.0 (f.1 ∙ e)
-
-pub other_named : (items : List Item) (text : List ℕ) (best : Option MostSpecific) → (text ≡ 42 ∷ [] → ⊥) → IsBest (λ _ i. i.range ≡ text) items best → IsBest (λ _ i. (¬ IsAny i) × (i.range ≡ text)) items best
-other_named items text best n h = best_same (λ _ i. i.range ≡ text) (λ _ i. (¬ IsAny i) × (i.range ≡ text)) items best (λ k i. ((λ e. ((λ a. n (sym e ∙ a)), e)), (λ p. p.1))) h
-
 -- another range than "*", of fewer bytes, is a front of the text
 abbrev pub IsShort : List ℕ → ℕ → Item → Type 0
 IsShort text n i = (¬ IsAny i) × IsTextFront i.range text × (length i.range < n)
-
-pub none_short : (items : List Item) (text : List ℕ) → IsBest (λ _ i. IsShort text 0 i) items None
-none_short items text = λ k other s f. let l = f.2 in absurd (omega arith)
 
 pub short_more : (items : List Item) (text start : List ℕ) (at : ℕ) (best found : Option MostSpecific) → at < length text → get_or text at 0 ≡ 45 → start ≡ take at text → IsBest (λ _ i. IsShort text at i) items best → IsBest (λ _ i. (¬ IsAny i) × (i.range ≡ start)) items found → IsBest (λ _ i. IsShort text (at + 1) i) items (better_of best found)
 short_more items text start at best found low hyphen e h f =

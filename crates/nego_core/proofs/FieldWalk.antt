@@ -1,10 +1,9 @@
 -- A walk from piece to piece of a field.
-use Rattle.std.proofs.Common.{ℕ, ◌≡◌, ◌≤◌, ◌<◌, ◌+◌, ◌-◌, inl, inr, List, [], ◌∷◌, ◌++◌, length, sum_by, refl, sym, ◌∙◌, ap, subst, arith, append_assoc, append-nil}
+use Rattle.std.proofs.Common.{ℕ, ◌≡◌, ◌<◌, ◌+◌, ◌-◌, inl, inr, List, [], ◌∷◌, ◌++◌, length, sum_by, refl, sym, ◌∙◌, ap, subst, arith, append_assoc, append-nil}
 use Rattle.std.specs.List.{prefix_len}
 use Rattle.std.proofs.lemmas.Bool.{cases_Bool}
-use Rattle.std.proofs.lemmas.List.Sums.{sum_by-append, sum_by-cons}
+use Rattle.std.proofs.lemmas.List.Sums.{sum_by-append}
 use Rattle.lang_core.specs.Text.{pieces_by}
-use Rattle.lang_core.proofs.PiecesLaws.{size_pieces}
 use Rattle.nego_core.proofs.WeightLaws.{skip_only, trimmed}
 use Rattle.nego_core.proofs.ElementLaws.{start_of_padded, start_some, padded_of_start}
 use Rattle.nego_core.specs.Blanks.{is_blank, AreBlanks, skip_blanks}
@@ -67,9 +66,6 @@ regroup a s b = append_assoc a (s ∷ []) b
 size_push : (before : List (List ℕ)) (piece : List ℕ) → sum_by (λ p. length p + 1) (before ++ piece ∷ []) ≡ sum_by (λ p. length p + 1) before + (length piece + 1)
 size_push before piece = rw sum_by-append (omega arith)
 
-size_cons : (s : List ℕ) (list : List (List ℕ)) → sum_by (λ x. length x + 1) (s ∷ list) ≡ (length s + 1) + sum_by (λ x. length x + 1) list
-size_cons s list = sum_by-cons (λ x. length x + 1) s list
-
 walked_on : (scheme : Scheme) (malformed : Malformed) (field : List ℕ) (items more : List Item) (piece : List ℕ) (rest : List (List ℕ)) (offset : ℕ) → (w : IsWalked scheme malformed field items (piece ∷ rest) offset) → ArePieces scheme malformed (w.before ++ piece ∷ []) more → IsWalked scheme malformed field more rest (offset + (length piece + 1))
 walked_on scheme malformed field items more piece rest offset w ok = record {
   before = w.before ++ piece ∷ [];
@@ -102,15 +98,6 @@ walked_item scheme malformed field items item piece bare rest offset w e s =
 
 pub walked_all : (scheme : Scheme) (malformed : Malformed) (field : List ℕ) (items : List Item) (offset : ℕ) → IsWalked scheme malformed field items [] offset → IsField scheme malformed field items
 walked_all scheme malformed field items offset w = subst (λ (x : List (List ℕ)). ArePieces scheme malformed x items) (sym (w.whole ∙ append-nil w.before)) w.before_ok
-
--- a piece has its bytes and a comma or the end
-pub walked_fits : (scheme : Scheme) (malformed : Malformed) (field : List ℕ) (items : List Item) (piece : List ℕ) (rest : List (List ℕ)) (offset : ℕ) → IsWalked scheme malformed field items (piece ∷ rest) offset → offset + (length piece + 1) ≤ length field + 1
-walked_fits scheme malformed field items piece rest offset w =
-    let whole : sum_by (λ s. length s + 1) (w.before ++ piece ∷ rest) ≡ length field + 1 = sym (ap (sum_by (λ s. length s + 1)) w.whole) ∙ size_pieces 44 field in
-    let split : sum_by (λ s. length s + 1) (w.before ++ piece ∷ rest) ≡ sum_by (λ s. length s + 1) w.before + sum_by (λ s. length s + 1) (piece ∷ rest) = rw sum_by-append refl in
-    let one = size_cons piece rest in
-    let o = w.offset_is in
-    omega arith
 
 -- ---- where a walk stops
 

@@ -9,7 +9,6 @@ use Rattle.std.proofs.lemmas.List.Sorted.{IsPermutation-map}
 use Rattle.nego_core.specs.declared.filtering.Pick.{Pick}
 use Rattle.nego_core.specs.declared.scheme.Scheme.{Scheme}
 use Rattle.nego_core.proofs.DecidingLaws.{one_decision}
-use Rattle.std.proofs.lemmas.List.{take_all}
 use Rattle.nego_core.specs.declared.filtering.FilterKey.{FilterKey}
 
 key_in : (x : FilterKey) (xs : List FilterKey) (k : ℕ) (d : Key) → k < length xs → get_or (map key_of xs) k d ≡ key_of (get_or xs k x)
@@ -63,9 +62,6 @@ key_next scheme items tags k t filter_keys r low e a h =
     let size : length (take k tags) ≡ k = length-take-le k tags (omega arith) in
     subst (λ (x : List (List ℕ)). AreKeys scheme items 0 x (map key_of (filter_keys ++ r ∷ []))) (sym (take_next tags k t low e))
     (subst (AreKeys scheme items 0 (take k tags ++ t ∷ [])) (sym (map-append key_of filter_keys (r ∷ []))) (push_key scheme items 0 (take k tags) (map key_of filter_keys) t (key_of r) a (subst (λ (n : ℕ). IsKey scheme items t n (key_of r)) (omega arith) h)))
-
-pub keys_done : (scheme : Scheme) (items : List Item) (tags : List (List ℕ)) (k : ℕ) (keys : List Key) → length tags ≤ k → AreKeys scheme items 0 (take k tags) keys → AreKeys scheme items 0 tags keys
-keys_done scheme items tags k keys h a = subst (λ (x : List (List ℕ)). AreKeys scheme items 0 x keys) (take_all k tags h) a
 
 -- ---- the key of one language
 

@@ -1,5 +1,5 @@
 -- The places of the items in the order of their ranges' bytes.
-use Rattle.std.proofs.Common.{ℕ, ◌≡◌, ◌≤◌, ◌<◌, ◌+◌, List, [], ◌∷◌, ◌++◌, true, false, inl, inr, refl, sym, ◌∙◌, ap, subst, arith, length, get_or}
+use Rattle.std.proofs.Common.{ℕ, ◌≡◌, ◌≤◌, ◌<◌, ◌+◌, List, [], ◌∷◌, true, false, inl, inr, refl, sym, ◌∙◌, ap, subst, arith, length, get_or}
 use Rattle.std.specs.Prelude.{Some, None, All, Contains, IsSorted, IsPermutation, map}
 use Rattle.std.specs.List.{slice_get}
 use Rattle.std.specs.declared.cmp.Ordering.{Ordering}
@@ -12,7 +12,7 @@ use Rattle.std.proofs.lemmas.Bool.{cases_Bool, cases_lt, cases_order, lt-ltb}
 use Rattle.std.proofs.lemmas.Cmp.{nat_list_cmp_total, nat_cmp_total, on_total, then_total, tied_itself}
 use Rattle.std.proofs.lemmas.Option.{slice_get_within}
 use Rattle.std.proofs.lemmas.Slice.Eq.{bytes_eq-Decides}
-use Rattle.std.proofs.lemmas.List.{length-map, get_or-map, length_push, get_or_append_left, get_or-append-add}
+use Rattle.std.proofs.lemmas.List.{length-map, get_or-map}
 use Rattle.std.proofs.lemmas.List.Elements.{All-map, All-weaker}
 use Rattle.std.proofs.lemmas.List.Sorted.{sorted_far, ranks_by, All-permutation, Contains-permutation, IsPermutation-map}
 use Rattle.nego_core.proofs.Basics.{false_true, same_default, same_at, stands_at}
@@ -137,27 +137,6 @@ one_found items places text seat i index at low s same =
 
 -- ---- the index is made
 
-pub no_range_keys : (items : List Item) → AreRangeKeys items 0 []
-no_range_keys items = record { as_many = refl; place_is = λ k d low. absurd (omega arith); text_is = λ k d low. absurd (omega arith) }
-
-pub push_range_key : (items : List Item) (n : ℕ) (keys : List RangeKey) (e : RangeKey) → AreRangeKeys items n keys → e.place ≡ n → e.text ≡ text_at items n → AreRangeKeys items (n + 1) (keys ++ e ∷ [])
-push_range_key items n keys e a p t =
-    let size = length_push keys e in
-    let m = a.as_many in
-    record {
-      as_many = omega arith;
-      place_is = λ k d low. elim (cases_lt k n) [
-        | inl below ↦ ap (λ (x : RangeKey). x.place) (get_or_append_left keys (e ∷ []) d k (omega arith)) ∙ a.place_is k d below
-        | inr above ↦ ap (λ (x : RangeKey). x.place) (last_is keys e k d (omega arith)) ∙ (p ∙ omega arith)
-      ];
-      text_is = λ k d low. elim (cases_lt k n) [
-        | inl below ↦ ap (λ (x : RangeKey). x.text) (get_or_append_left keys (e ∷ []) d k (omega arith)) ∙ a.text_is k d below
-        | inr above ↦ ap (λ (x : RangeKey). x.text) (last_is keys e k d (omega arith)) ∙ (t ∙ ap (text_at items) (omega arith))
-      ];
-    } where
-      last_is : (keys : List RangeKey) (e : RangeKey) (k : ℕ) (d : RangeKey) → k ≡ length keys → get_or (keys ++ e ∷ []) k d ≡ e
-      last_is keys e k d same = ap (λ (n : ℕ). get_or (keys ++ e ∷ []) n d) (omega arith) ∙ get_or-append-add keys (e ∷ []) 0 d
-
 range_key_of : (items : List Item) (keys : List RangeKey) → AreRangeKeys items (length items) keys → All (IsRangeKeyOf items) keys
 range_key_of items keys a = λ k d low.
     let n : k < length items = (let m = a.as_many in omega arith) in
@@ -196,9 +175,6 @@ index_made items keys sorted places a same up e =
       rising = places_rise items sorted all up;
     })
 
-pub empty_index : (items : List Item) → length items ≡ 0 → IsRangeIndex items []
-empty_index items e = record { within = λ k d low. absurd (omega arith); each = λ k low. absurd (omega arith); rising = λ k d low lt. absurd (omega arith) }
-
 -- ---- how the first is found without an index
 
 -- no item before the place has this range
@@ -229,9 +205,6 @@ pub record IsSeatWithin (items : List Item) (places text : List ℕ) (low high :
   pub below : (k : ℕ) → k < low → is_lt (text_cmp (text_at items (get_or places k 0)) text) ≡ true
   pub above : (k : ℕ) → high ≤ k → k < length places → is_lt (text_cmp (text_at items (get_or places k 0)) text) ≡ false
 
-pub anywhere : (items : List Item) (places text : List ℕ) → IsSeatWithin items places text 0 (length places)
-anywhere items places text = record { ordered = omega arith; within = omega arith; below = λ k low. absurd (omega arith); above = λ k high low. absurd (omega arith) }
-
 pub seat_above : (items : List Item) (places text : List ℕ) (low high middle : ℕ) → IsRangeIndex items places → IsSeatWithin items places text low high → middle < high → is_lt (text_cmp (text_at items (get_or places middle 0)) text) ≡ true → IsSeatWithin items places text (middle + 1) high
 seat_above items places text low high middle index s m h = record {
   ordered = omega arith;
@@ -246,11 +219,4 @@ seat_below items places text low high middle index s l m h = record {
   within = (let w = s.within in omega arith);
   below = s.below;
   above = λ k le lt. not_below_after items places text middle k index le lt h;
-}
-
-pub seat_is : (items : List Item) (places text : List ℕ) (low high : ℕ) → IsSeatWithin items places text low high → high ≤ low → IsSeat items places text low
-seat_is items places text low high s e = record {
-  within = (let w = s.within in let o = s.ordered in omega arith);
-  below = s.below;
-  above = λ k le lt. s.above k (omega arith) lt;
 }

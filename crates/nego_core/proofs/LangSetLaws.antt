@@ -1,11 +1,10 @@
 -- A set of languages and its table.
-use Rattle.std.proofs.Common.{ℕ, ◌≡◌, ◌+◌, ◌<◌, List, [], ◌∷◌, Bool, true, false, inl, inr, length, get_or, drop, sym, ◌∙◌, ap, subst}
-use Rattle.std.specs.Prelude.{Contains, slice_index_or, slice_set}
+use Rattle.std.proofs.Common.{ℕ, ◌≡◌, List, [], ◌∷◌, Bool, true, false, inl, inr, sym, ◌∙◌, ap, subst}
+use Rattle.std.specs.Prelude.{Contains, slice_index_or}
 use Rattle.std.specs.Str.{bytes_eq}
 use Rattle.std.proofs.lemmas.Bool.{cases_Bool}
 use Rattle.std.proofs.lemmas.Slice.Eq.{bytes_eq-Decides}
-use Rattle.nego_core.proofs.Basics.{false_true, contains_first, contains_later, element_at}
-use Rattle.nego_core.proofs.TableLaws.{IsTableSoFar, one_more}
+use Rattle.nego_core.proofs.Basics.{false_true, contains_first, contains_later}
 use Rattle.nego_core.specs.LangSet.{is_among}
 use Rattle.nego_core.specs.Fingerprint.{slot_of, IsTableOf}
 
@@ -22,8 +21,3 @@ absent langs slots text n t e f = elim (cases_Bool (is_among langs text)) [
   | inl h ↦ absurd (false_true (sym f ∙ (ap (λ (k : ℕ). slice_index_or slots k false) e ∙ t.set text (among_contains langs text h))))
   | inr h ↦ sym h
 ]
-
--- the slot of one more language
-pub next_slot : (langs : List (List ℕ)) (k n : ℕ) (lang : List ℕ) (slots : List Bool) → k < length langs → lang ≡ get_or langs k lang → n ≡ slot_of lang → n < 1024 → IsTableSoFar slot_of 1024 langs (drop k langs) slots → IsTableSoFar slot_of 1024 langs (drop (k + 1) langs) (slice_set slots n true)
-next_slot langs k n lang slots low here e within t =
-    one_more slot_of 1024 langs (drop (k + 1) langs) lang n slots (subst (λ (x : List (List ℕ)). IsTableSoFar slot_of 1024 langs x slots) (element_at langs k lang low here) t) e within

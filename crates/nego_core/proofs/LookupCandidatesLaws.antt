@@ -1,5 +1,5 @@
 -- The first candidate that is open.
-use Rattle.std.proofs.Common.{ℕ, ◌≡◌, ◌+◌, ◌≤◌, ◌<◌, ◌==◌, List, [], ◌∷◌, ◌++◌, Some, None, Option, Bool, true, false, refl, sym, ◌∙◌, ap, subst, append-nil, append_assoc, drop, get_or, length}
+use Rattle.std.proofs.Common.{ℕ, ◌≡◌, ◌+◌, ◌≤◌, ◌<◌, ◌==◌, List, [], ◌∷◌, ◌++◌, Some, None, Option, Bool, true, refl, sym, ◌∙◌, ap, subst, append-nil, append_assoc, drop, get_or, length}
 use Rattle.std.specs.Prelude.{IsTrue, ◌↔◌, All}
 use Rattle.std.specs.List.{filter_map, slice_get, cons_option}
 use Rattle.std.proofs.lemmas.Bool.{eqb-true, eq-eqb}
@@ -7,7 +7,7 @@ use Rattle.std.proofs.lemmas.Option.{slice_get_past}
 use Rattle.std.proofs.lemmas.List.{drop_all}
 use Rattle.std.proofs.lemmas.List.Elements.{All-nil, All-cons, All-append, All-head, All-tail}
 use Rattle.lang_core.specs.Text.{pieces}
-use Rattle.nego_core.proofs.Basics.{false_true, element_at, same_default, stands_at}
+use Rattle.nego_core.proofs.Basics.{element_at, same_default, stands_at}
 use Rattle.nego_core.proofs.Prefixes.{joined-pieces}
 use Rattle.nego_core.proofs.DecidingLaws.{one_item_weight, most_specific, weight_is}
 use Rattle.nego_core.proofs.LookupOrderLaws.{one_order_of}
@@ -27,9 +27,6 @@ named_refused items tag best j h e =
       (λ z. (best.place, (d, w ∙ eqb-true j.weight 0 z))),
       (λ r. eq-eqb j.weight 0 (sym w ∙ (one_item_weight (MatchesNamed tag) items r.0 best.place r.1.0 d ∙ r.1.1))),
     )
-
-pub none_refused : (items : List Item) (tag : List (List ℕ)) → IsBest (λ _ i. MatchesNamed tag i) items None → IsTrue false ↔ NamedRefuse items tag
-none_refused items tag h = ((λ f. absurd (false_true f)), (λ r. absurd (let d = r.1.0 in h r.0 d.item d.stands d.fits)))
 
 -- ---- the first that passes
 

@@ -1,5 +1,5 @@
 -- Tables of the numbers of texts.
-use Rattle.std.proofs.Common.{ℕ, ◌≡◌, ◌<◌, ◌⊎◌, List, [], ◌∷◌, Bool, true, false, inl, inr, length, get_or, sym, ◌∙◌, ap, arith}
+use Rattle.std.proofs.Common.{ℕ, ◌≡◌, ◌<◌, ◌⊎◌, List, [], ◌∷◌, Bool, true, false, inl, inr, length, get_or, ◌∙◌, ap, arith}
 use Rattle.std.specs.Prelude.{Contains, slice_set}
 use Rattle.std.proofs.lemmas.Grind.{common_steps}
 use Rattle.std.proofs.Math.ListN.{length-set}
@@ -30,19 +30,6 @@ one_more number size list left p n table m e low = record {
 
   set_still : (table : List Bool) (k n : ℕ) → k < length table → get_or table n false ≡ true → get_or (slice_set table k true) n false ≡ true
   set_still table k n low h = grind (arith, common_steps)
-
--- the number of the next text is set already
-pub none_more : (number : List ℕ → ℕ) (size : ℕ) (list left : List (List ℕ)) (p : List ℕ) (n : ℕ) (table : List Bool) → IsTableSoFar number size list (p ∷ left) table → n ≡ number p → get_or table n false ≡ true → IsTableSoFar number size list left table
-none_more number size list left p n table m e h = record {
-  full = m.full;
-  set = λ s c. elim (m.set s c) [
-    | inl old ↦ elim (contains_cases p s left old) [
-      | inl same ↦ inr (ap (λ (k : ℕ). get_or table k false) (sym (e ∙ ap number same)) ∙ h)
-      | inr later ↦ inl later
-    ]
-    | inr done ↦ inr done
-  ];
-}
 
 pub whole_table : (number : List ℕ → ℕ) (size : ℕ) (list : List (List ℕ)) (table : List Bool) → IsTableSoFar number size list [] table → IsTableOf number size list table
 whole_table number size list table m = record { full = m.full; set = λ s c. elim (m.set s c) [ inl none ↦ absurd (let low = none.1 in omega arith) | inr done ↦ done ] }

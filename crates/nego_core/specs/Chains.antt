@@ -27,7 +27,8 @@ pub record IsNextIn (numbers : List ℕ) (chain from place : ℕ) : Type 0 where
   pub none_between : (k : ℕ) → from ≤ k → k < place → slice_index numbers k ≢ chain
   pub stands : place < length numbers → slice_index numbers place ≡ chain
 
--- the first place of each chain from one on, and after each place from there on the next of its chain
+-- the first place of each chain from one on, and after each place from there on the next of its
+-- chain
 pub record AreLinksFrom (numbers : List ℕ) (from : ℕ) (first next : List ℕ) : Type 0 where
   pub many : length first ≡ 1025
   pub each : length next ≡ length numbers

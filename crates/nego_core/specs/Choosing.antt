@@ -7,7 +7,8 @@ use Rattle.nego_core.specs.declared.scheme.Scheme.TheVariants as scheme
 use Rattle.nego_core.specs.declared.choosing.Choice.{Choice}
 use Rattle.nego_core.specs.declared.choosing.Choice.TheVariants.{Matched, Default, Nothing}
 
--- a default may be answered where it is held and the whole list, "*" included, does not refuse it (own rule)
+-- a default may be answered where it is held and the whole list, "*" included, does not refuse it
+-- (project rule)
 abbrev pub IsOpenDefault : List Item → (List ℕ → Bool) → List ℕ → Type 0
 IsOpenDefault items held lang = IsTrue (held lang) × ¬ RefusesLang scheme.Basic items lang
 

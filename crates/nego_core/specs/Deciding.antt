@@ -14,7 +14,8 @@ abbrev pub Matches : Scheme → List (List ℕ) → List (List ℕ) → Type 0
 Matches scheme.Basic = Basic
 Matches scheme.Extended = Extended
 
--- Of the items that fit, the one with the most subtags other than "*", the first written among equals (own rule).
+-- Of the items that fit, the one with the most subtags other than "*", the first written among
+-- equals (project rule).
 pub record IsMostSpecific (Fits : Item → Type 0) (items : List Item) (place : ℕ) : Type 0 where
   pub item : Item
   pub stands : slice_get items place ≡ Some item
@@ -33,11 +34,11 @@ IsDecidedBy scheme items tag place weight = (d : IsDeciding scheme items tag pla
 abbrev pub IsDecidingWeight : Scheme → List Item → List (List ℕ) → ℕ → Type 0
 IsDecidingWeight scheme items tag weight = (place : ℕ) × IsDecidedBy scheme items tag place weight
 
--- the same of a language: none decides "@none" (own rule)
+-- the same of a language: none decides "@none" (project rule)
 abbrev pub DecidesLang : Scheme → List Item → List ℕ → ℕ → ℕ → Type 0
 DecidesLang scheme items lang place weight = IsSomeAnd (tag_of lang) (λ tag. IsDecidedBy scheme items (pieces tag) place weight)
 
--- the deciding item of the language has weight 0: "@none" is never refused (own rule)
+-- the deciding item of the language has weight 0: "@none" is never refused (project rule)
 abbrev pub RefusesLang : Scheme → List Item → List ℕ → Type 0
 RefusesLang scheme items lang = (place : ℕ) × DecidesLang scheme items lang place 0
 
@@ -60,7 +61,7 @@ MatchesNamed tag i = (¬ IsAny i) × Basic (pieces i.range) tag
 abbrev pub IsDecidingNamed : List Item → List (List ℕ) → ℕ → Type 0
 IsDecidingNamed items tag = IsMostSpecific (MatchesNamed tag) items
 
--- the items other than "*" refuse a tag: of them, the deciding one has weight 0 (own rule)
+-- the items other than "*" refuse a tag: of them, the deciding one has weight 0 (project rule)
 abbrev pub NamedRefuse : List Item → List (List ℕ) → Type 0
 NamedRefuse items tag = (place : ℕ) × ((d : IsDecidingNamed items tag place) × (d.item.weight ≡ 0))
 

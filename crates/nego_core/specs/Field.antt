@@ -12,12 +12,15 @@ use Rattle.nego_core.specs.declared.field.Malformed.TheVariants.{Refused, Passed
 use Rattle.nego_core.specs.declared.fault.NegoFault.{NegoFault}
 use Rattle.nego_core.specs.declared.fault.NegoFault.TheVariants.{FieldTooLong, FieldMalformed, NoMemory}
 
--- What a piece is that gives no item: blanks (RFC 9110 section 5.6.1); and where malformed pieces are passed over, as RFC 9110 section 12.5.4 leaves it to a server, anything that is no element (own rule).
+-- What a piece is that gives no item: blanks (RFC 9110 section 5.6.1); and where malformed pieces
+-- are passed over, anything that is no element (a rule of this project: a recipient may recover
+-- usable elements, RFC 9110 section 2.4, or disregard the field, section 12.4.1).
 abbrev pub GivesNone : Scheme → Malformed → List ℕ → Type 0
 GivesNone scheme Refused piece = AreBlanks piece
 GivesNone scheme PassedOver piece = (item : Item) → ¬ IsPadded scheme piece item
 
--- RFC 9110 section 5.6.1: each piece gives none, or is an element between blanks, and the elements give the items in order
+-- RFC 9110 section 5.6.1: each piece gives none, or is an element between blanks, and the elements
+-- give the items in order
 abbrev pub ArePieces : Scheme → Malformed → List (List ℕ) → List Item → Type 0
 ArePieces scheme malformed [] [] = Unit {0}
 ArePieces scheme malformed [] (i ∷ items) = ⊥
@@ -32,11 +35,12 @@ IsField scheme malformed bytes items = ArePieces scheme malformed (pieces_by 44 
 abbrev pub IsAccept : List ℕ → List Item → Type 0
 IsAccept = IsField Basic Refused
 
--- the same of extended ranges without weights (own rule)
+-- the same of extended ranges without weights (project rule)
 abbrev pub IsAcceptRanges : List ℕ → List Item → Type 0
 IsAcceptRanges = IsField Extended Refused
 
--- A list of one field: all its ranges are basic, or all its weights are full. So no list has a weight 0 beside an extended range.
+-- A list of one field: all its ranges are basic, or all its weights are full. So no list has a
+-- weight 0 beside an extended range.
 abbrev pub IsOfOneKind : List Item → Type 0
 IsOfOneKind items = All (λ i. BasicRange (pieces i.range)) items ⊎ All (λ i. i.weight ≡ 1000) items
 
@@ -64,7 +68,8 @@ pub record HasElement (scheme : Scheme) (malformed : Malformed) (bytes : List �
   pub item : Item
   pub fits : IsPadded scheme piece item
 
--- Why the bytes give no list. No malformed element refuses them where such are passed over. Memory can end only where an element was read, and never in place of the limit.
+-- Why the bytes give no list. No malformed element refuses them where such are passed over. Memory
+-- can end only where an element was read, and never in place of the limit.
 abbrev pub RefusesField : Scheme → Malformed → List ℕ → NegoFault → Type 0
 RefusesField scheme malformed bytes FieldTooLong = 65535 < length bytes
 RefusesField scheme Refused bytes (FieldMalformed offset) = (length bytes ≤ 65535) × IsFirstMalformed scheme bytes offset

@@ -18,7 +18,7 @@ pub record Key : Type 0 where
   pub lang : List ℕ
   pub place : ℕ
 
--- by missing weight, then the item's place, then the language's bytes, then place (own rule)
+-- by missing weight, then the item's place, then the language's bytes, then place (project rule)
 abbrev pub key_cmp : Key → Key → Ordering
 key_cmp = then_cmp (on (λ k. k.missing_weight) nat_cmp) (then_cmp (on (λ k. k.item) nat_cmp) (then_cmp (on (λ k. k.lang) (slice_cmp nat_cmp)) (on (λ k. k.place) nat_cmp)))
 
@@ -51,7 +51,8 @@ AreKeys scheme items place [] (k ∷ keys) = ⊥
 AreKeys scheme items place (lang ∷ langs) [] = HasNoKey scheme items lang place × AreKeys scheme items (place + 1) langs []
 AreKeys scheme items place (lang ∷ langs) (k ∷ keys) = (HasNoKey scheme items lang place × AreKeys scheme items (place + 1) langs (k ∷ keys)) ⊎ (IsKey scheme items lang place k × AreKeys scheme items (place + 1) langs keys)
 
--- RFC 4647 section 3.3: the languages that an item of positive weight decides, each once, in the order of their keys
+-- RFC 4647 section 3.3: the languages that an item of positive weight decides, each once, in the
+-- order of their keys
 pub record IsFiltered (scheme : Scheme) (items : List Item) (langs : List (List ℕ)) (picks : List Pick) : Type 0 where
   pub all : List Key
   pub keys : List Key

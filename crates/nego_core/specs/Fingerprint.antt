@@ -12,7 +12,8 @@ abbrev pub worth : ℕ → ℕ
 worth zero = 1
 worth (suc k) = 256 * worth k
 
--- The first k bytes as a number in base 256, with zeros past the end. What is no byte counts as more than any byte.
+-- The first k bytes as a number in base 256, with zeros past the end. What is no byte counts as
+-- more than any byte.
 unfoldable pub head_from : ℕ → List ℕ → ℕ
 head_from zero text = 0
 head_from (suc k) [] = 0

@@ -38,7 +38,8 @@ abbrev pub MatchFirstOf : {X : Type 0} → (X → Type 0) → List X → Option 
 MatchFirstOf Passes list None = All (λ y. ¬ Passes y) list
 MatchFirstOf Passes list (Some x) = IsFirst Passes list x
 
--- RFC 4647 section 3.4: the first candidate of the items, in their order, that is held and not refused
+-- RFC 4647 section 3.4: the first candidate of the items, in their order, that is held and not
+-- refused
 pub record IsLookedUp (items : List Item) (held : List ℕ → Bool) (found : Option (List (List ℕ))) : Type 0 where
   pub ordered : List Item
   pub order_ok : IsOrder items ordered

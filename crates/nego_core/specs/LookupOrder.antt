@@ -7,7 +7,8 @@ use Rattle.lang_core.specs.Matching.{as_basic, is_lone_star}
 use Rattle.nego_core.specs.Item.{Item}
 use Rattle.nego_core.specs.declared.lookup_order.OrderKey.{OrderKey}
 
--- whether lookup tries the item: it has a positive weight, and is not "*" as a basic range (RFC 4647 sections 3.2 and 3.4)
+-- whether lookup tries the item: it has a positive weight, and is not "*" as a basic range (RFC
+-- 4647 sections 3.2 and 3.4)
 abbrev pub is_tried : Item → Bool
 is_tried i = not (i.weight == 0) && not (is_lone_star (as_basic (pieces i.range)))
 
@@ -25,7 +26,7 @@ pub record AreOrderKeys (items : List Item) (keys : List OrderKey) : Type 0 wher
   pub each_once : IsPermutation (order_keys_from items 0) keys
   pub rising : IsSorted order_key_cmp keys
 
--- The items that are tried, by weight downwards, then by place (own rule).
+-- The items that are tried, by weight downwards, then by place (project rule).
 pub record IsOrder (items ordered : List Item) : Type 0 where
   pub keys : List OrderKey
   pub keys_ok : AreOrderKeys items keys

@@ -8,7 +8,8 @@ use Rattle.nego_core.specs.Deciding.{Matches}
 use Rattle.nego_core.specs.LookupCandidates.{MatchFirstOf, all_candidates}
 use Rattle.nego_core.specs.declared.scheme.Scheme.{Scheme}
 
--- What RFC 4647 says where no own rule applies: of lists without a weight 0, and without weights.
+-- What RFC 4647 says where no project rule applies: of lists without a weight 0, and without
+-- weights.
 
 -- no weight is 0
 abbrev pub AllPositive : List Item → Type 0

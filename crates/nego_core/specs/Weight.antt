@@ -10,7 +10,8 @@ thousandths digits = 100 * (slice_index digits 0 - 48) + 10 * (slice_index digit
 abbrev pub is_zero_digit : ℕ → Bool
 is_zero_digit b = b == 48
 
--- RFC 9110 section 12.4.2: qvalue = ( "0" [ "." 0*3DIGIT ] ) / ( "1" [ "." 0*3("0") ] ), in thousandths
+-- RFC 9110 section 12.4.2: qvalue = ( "0" [ "." 0*3DIGIT ] ) / ( "1" [ "." 0*3("0") ] ), in
+-- thousandths
 abbrev pub IsQvalue : List ℕ → ℕ → Type 0
 IsQvalue [] n = ⊥
 IsQvalue (b ∷ []) n = ((b ≡ 48) × (n ≡ 0)) ⊎ ((b ≡ 49) × (n ≡ 1000))

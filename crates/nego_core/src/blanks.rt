@@ -48,7 +48,7 @@ pub(crate) fn cut_token(text: &[u8]) -> (&[u8], &[u8])
     }
 }
 
-/// Where the first blank or semicolon stands.
+/// The place of the first blank or semicolon.
 fn stop_at(text: &[u8]) -> Option<usize>
     ensures { result ≡ position is_stop text.now }
 {

@@ -1,6 +1,7 @@
-//! The items of a long list in chains, of which a tag has to ask a few: each subtag of a range but
-//! "*" has to stand in the tag (RFC 4647 section 3.3.2), so a range in the chain of one of its
-//! subtags does not match where no subtag of the tag has this chain.
+//! The items of a long list in hash buckets, here called chains, so that a tag is compared with few
+//! of them. Each subtag of a range but "*" has to be in the tag (RFC 4647 section 3.3.2), so a
+//! range in the chain of one of its subtags does not match where no subtag of the tag has this
+//! chain.
 ghost use Rattle.std.specs.Prelude.{ℕ, ◌≡◌, ◌<◌, length, slice_index, IfOk};
 ghost use Rattle.lang_core.specs.Text.{pieces};
 ghost use Rattle.nego_core.specs.Fingerprint.{fingerprint_of};
@@ -27,8 +28,8 @@ pub(crate) struct Chains {
     pub(crate) next: Vec<usize>,
 }
 
-/// The items in chains. Of those in which a range may stand it is put into the shortest, so that
-/// a list whose ranges share a subtag stands in as many chains as their other subtags give.
+/// The items in chains. Each range goes into the shortest of the chains of its subtags, so that
+/// ranges with one subtag in common are spread over the chains of their others.
 pub(crate) fn chains_of(alloc: Global, items: &[Item]) -> Result<Chains, AllocError>
     ensures { IfOk result (AreChains items.now) }
 {
@@ -58,7 +59,7 @@ fn numbers_of(alloc: Global, items: &[Item]) -> Result<Vec<usize>, AllocError>
     Ok(numbers)
 }
 
-/// The shortest chain in which the range may stand.
+/// The shortest of the chains that the range may go into.
 fn shortest_for(lengths: &[usize; CHAINS], range: &Range) -> usize
     ensures may { MayStandIn (pieces range.now) result }
     ensures within { result < 1025 }

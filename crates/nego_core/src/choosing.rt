@@ -21,12 +21,13 @@ pub enum Choice<'a> {
     Nothing,
 }
 
-/// Lookup (RFC 4647 section 3.4) over anything that tells which languages it holds. It takes no
+/// Lookup (RFC 4647 section 3.4) over any set that can say which languages it has. It takes no
 /// memory.
 ///
-/// The ranges are tried by weight downwards, then as written, each through all its truncations.
-/// The first text that is held and not refused by the items other than "*" is answered. Where
-/// there is none, the default is answered if it is held and the whole list does not refuse it.
+/// The ranges are tried by descending weight, then as written, each through all its truncations.
+/// The answer is the first text that is in the set and is not refused by the items other than "*".
+/// Where there is none, it is the default, if that is in the set and the whole list does not refuse
+/// it.
 ///
 /// So `*;q=0` bars the default, but no match: `en-GB, *;q=0` over a set with `en` finds `en`.
 pub fn choose<'a, H: Holds>(list: &'a PriorityList, held: &H, default: Option<&Lang>) -> Choice<'a>
@@ -55,7 +56,7 @@ fn has_open_default<H: Holds>(list: &PriorityList, held: &H, default: Option<&La
     }
 }
 
-/// Whether the default is held and the whole list does not refuse it.
+/// Whether the default is in the set and the whole list does not refuse it.
 fn is_open_default<H: Holds>(list: &PriorityList, held: &H, lang: &Lang) -> bool
     ensures { IsTrue result ↔ IsOpenDefault list.now (H.held held.now) lang.now }
 {

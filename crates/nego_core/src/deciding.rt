@@ -64,8 +64,8 @@ pub(crate) fn best_basic(
     )
 }
 
-/// The best of the items that match under the extended match. The last chain is asked, and once
-/// each chain of the tag's subtags.
+/// The best of the items that match under the extended match. It searches the last chain, and each
+/// chain of the tag's subtags once.
 pub(crate) fn best_extended(items: &[Item], chains: &Chains, tag: &Tag) -> Option<MostSpecific>
     requires { AreChains items.now chains.now }
     ensures { IsBest (λ _ i. Extended (pieces i.range) (pieces tag.now)) items.now result }

@@ -41,8 +41,8 @@ pub(crate) fn read_item(
     }
 }
 
-/// Whether no element begins the text, since more bytes than a range has stand there before one
-/// could end.
+/// Whether no element begins the text, since more bytes than a range may have come before an
+/// element could end.
 pub(crate) fn begins_overlong(text: &[u8]) -> bool
     ensures { IsTrue result ↔ BeginsOverlong text.now }
 {

@@ -19,12 +19,13 @@ const COMMA: u8 = b',';
 /// This many commas are skipped at once.
 const COMMAS: &[u8] = b",,,,,,,,,,,,,,,,";
 
-/// What becomes of a field's malformed elements. RFC 9110 section 12.5.4 leaves it to a server.
+/// What becomes of a field's malformed elements. A recipient may recover the usable ones (RFC 9110
+/// section 2.4), or disregard the field (section 12.4.1).
 #[derive(Clone, Copy, Debug, PartialEq, Eq)]
 pub enum Malformed {
     /// The first of them refuses the field.
     Refused,
-    /// They are passed over, and the other elements are read.
+    /// They are skipped, and the other elements are read.
     PassedOver,
 }
 
@@ -114,7 +115,7 @@ fn skip_commas(text: &[u8]) -> &[u8]
     rest
 }
 
-/// Where the first comma stands.
+/// The place of the first comma.
 fn comma_at(text: &[u8]) -> Option<usize>
     ensures { result ≡ position (λ b. b == 44) text.now }
 {

@@ -1,4 +1,4 @@
-//! Filtering (RFC 4647 section 3.3): all languages that a list asks for, the best first.
+//! Filtering (RFC 4647 section 3.3): all languages that a list accepts, the best first.
 ghost use Rattle.std.specs.Prelude.{◌≡◌, ◌==◌, length, ℕ, List, MatchOption, MatchResult, IfOk, IsPermutation, IsSorted, map};
 ghost use Rattle.std.specs.List.{slice_get};
 ghost use Rattle.std.specs.Cmp as laws_of;
@@ -41,6 +41,7 @@ impl Model for Picks {
 }
 
 impl Picks {
+    /// The answer with these picks.
     pub(crate) fn new(picks: Vec<Pick>) -> Picks
         ensures { result ≡ picks.items }
     {
@@ -122,9 +123,9 @@ pub fn filter(
     filter_by::<Lang>(alloc, list, scheme, langs)
 }
 
-/// Filtering (RFC 4647 section 3.3) over languages that are lent: those that an item of positive
-/// weight decides, each once, by weight downwards, then by the item's place, the language's bytes
-/// and its place. `@none` is never picked.
+/// Filtering (RFC 4647 section 3.3) over borrowed languages: those that an item of positive weight
+/// decides, each once, by descending weight, then by the item's place, the language's bytes and its
+/// place. `@none` is never picked.
 ///
 /// The only refusal is `NoMemory`, and it comes only where there is something to pick.
 pub fn filter_lent(
@@ -139,7 +140,7 @@ pub fn filter_lent(
     filter_by::<&Lang>(alloc, list, scheme, langs)
 }
 
-/// Filtering over languages, themselves or lent.
+/// Filtering over languages, owned or borrowed.
 fn filter_by<L: AsLang>(
     alloc: Global,
     list: &PriorityList,
@@ -158,11 +159,12 @@ fn filter_by<L: AsLang>(
     Ok(Picks::new(picks))
 }
 
-/// A language, itself or lent.
+/// A language, owned or borrowed.
 trait AsLang {
     /// Its text.
     ghost text: { Self → List ℕ };
 
+    /// The language, borrowed.
     fn as_lang(&self) -> &Lang
         ensures { result.now ≡ text self.now };
 }
@@ -183,7 +185,7 @@ impl AsLang for &Lang {
     }
 }
 
-/// Sort key of a filter's answer: what is compared first stands first.
+/// Sort key of a filter's answer: its fields are compared in this order.
 #[derive(PartialEq, Eq, PartialOrd, Ord, Drop)]
 pub(crate) struct FilterKey<'a> {
     /// 1000 less the weight.
@@ -244,7 +246,7 @@ fn sort_filter_keys(keys: &mut Vec<FilterKey>)
     keys.sort_unstable()
 }
 
-/// The picks that the keys stand for.
+/// The picks of the keys.
 fn picks_of(alloc: Global, keys: &[FilterKey]) -> Result<Vec<Pick>, AllocError>
     ensures { IfOk result (λ picks. picks.items ≡ map (λ r. pick_of (key_of r)) keys.now) }
 {

@@ -1,4 +1,4 @@
-//! Numbers of a text's bytes, which tell most texts apart at once.
+//! Hashes of texts: where two of them differ, so do the texts.
 ghost use Rattle.std.specs.Prelude.{◌≡◌, ◌<◌, slice_index};
 ghost use Rattle.lang_core.specs.Text.{pieces};
 ghost use Rattle.nego_core.specs.Fingerprint.{first_byte, head_of, slot_of, fingerprint_of};
@@ -39,7 +39,7 @@ pub(crate) fn slot_of(text: &[u8]) -> usize
     first % 32 * 32 + second % 32
 }
 
-/// A number of a subtag, by all of its bytes.
+/// The hash of all bytes of a subtag.
 #[tactic(auto, unfolding(crate::specs::Fingerprint::fingerprint_of))]
 pub(crate) fn fingerprint_of(subtag: &[u8]) -> u16
     ensures { result ≡ fingerprint_of subtag.now }

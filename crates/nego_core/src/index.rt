@@ -122,7 +122,7 @@ fn places_of(alloc: Global, items: &[Item]) -> Result<Vec<usize>, AllocError>
     places_by_key(alloc, &keys)
 }
 
-/// Sort key of an index: a range's text and its item's place. What is compared first stands first.
+/// Sort key of an index: a range's text and its item's place, compared in this order.
 #[derive(PartialEq, Eq, PartialOrd, Ord, Drop)]
 struct RangeKey<'a> {
     pub(crate) text: OrderedText<'a>,

@@ -40,6 +40,7 @@ impl Model for Item {
 }
 
 impl Item {
+    /// The item of this range and this weight in thousandths.
     pub(crate) fn new(range: Range, weight: u16) -> Item
         requires { weight ≤ 1000 }
         ensures range { result.range ≡ range }

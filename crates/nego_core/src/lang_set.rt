@@ -1,4 +1,4 @@
-//! Sets of languages that lookup asks.
+//! Sets of languages that lookup searches.
 ghost use Rattle.std.specs.Prelude.{◌≡◌, ◌<◌, ℕ, List, Bool};
 ghost use Rattle.nego_core.specs.Fingerprint.{slot_of};
 ghost use Rattle.nego_core.specs.LangSet.{is_among};
@@ -12,13 +12,13 @@ const SLOTS: usize = 1024;
 
 /// A set of languages, each by its text: a tag in lower case, or `@none`.
 ///
-/// `choose` asks nothing else of what it looks through. It takes no memory, so long as `holds`
-/// takes none. A slice of languages is such a set: `choose(&list, &langs.as_slice(), None)`.
+/// This is all that `choose` needs of a set. It takes no memory, so long as `holds` takes none. A
+/// slice of languages is such a set: `choose(&list, &langs.as_slice(), None)`.
 pub trait Holds {
     /// Whether a text is in the set.
     ghost held: { Self → List ℕ → Bool };
 
-    /// Whether the language of this text is held. It should take no memory.
+    /// Whether the language of this text is in the set. It should take no memory.
     fn holds(&self, lang: &str) -> bool
         ensures { result ≡ held self.now lang.now };
 }
@@ -32,8 +32,8 @@ impl Holds for &[Lang] {
     }
 }
 
-/// The languages of a slice, and a table in which the slot of each of them is set: of most other
-/// texts it tells at once that they are not among them.
+/// The languages of a slice, and a table in which the slot of each of them is set: most other texts
+/// have a slot that is not set, so they are not among them.
 #[derive(Drop)]
 pub(crate) struct LangSet<'a> {
     langs: &'a [Lang],
@@ -52,6 +52,7 @@ impl<'a> Model for LangSet<'a> {
 }
 
 impl<'a> LangSet<'a> {
+    /// The set of these languages, with its table.
     pub(crate) fn new(langs: &'a [Lang]) -> LangSet<'a>
         ensures { result ≡ langs.now }
     {

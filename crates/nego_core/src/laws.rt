@@ -17,21 +17,21 @@ ghost use Rattle.nego_core.specs.declared.field.Malformed.TheVariants.{Refused, 
 ghost use Rattle.nego_core.specs.declared.lookup_places.Found.{Found};
 ghost use Rattle.nego_core.specs.declared.filtering.Pick.{Pick};
 
-/// A field gives one list of items (RFC 9110 section 12.5.4), and one where malformed elements
-/// are passed over.
+/// A field gives one list of items (RFC 9110 section 12.5.4), and one where malformed elements are
+/// skipped.
 pub fn one_item_list()
     ensures { (scheme : Scheme) (malformed : Malformed) (bytes : List ℕ) (a b : List Item)
         → IsField scheme malformed bytes a → IsField scheme malformed bytes b → a ≡ b }
 {}
 
-/// A field without a malformed element gives the same items where such are passed over.
+/// A field without a malformed element gives the same items where such are skipped.
 pub fn same_items_where_none_is_malformed()
     ensures { (scheme : Scheme) (bytes : List ℕ) (items : List Item)
         → IsField scheme Refused bytes items → IsField scheme PassedOver bytes items }
 {}
 
-/// The items of a field are those of its elements. So passing over malformed ones takes nothing
-/// else away.
+/// The items of a field are those of its elements. So skipping malformed ones takes nothing else
+/// away.
 pub fn items_are_of_elements()
     ensures { (scheme : Scheme) (malformed : Malformed) (bytes : List ℕ) (items : List Item)
         → IsField scheme malformed bytes items → (item : Item) → Contains items item
@@ -65,8 +65,8 @@ pub fn one_lookup()
 {}
 
 /// What lookup finds is the lookup text of the range of an item that it tries, or a truncation of
-/// it; it is held, and the items other than "*" do not refuse it. Where lookup finds nothing there
-/// is no such text.
+/// it; it is in the set, and the items other than "*" do not refuse it. Where lookup finds nothing
+/// there is no such text.
 pub fn found_is_a_candidate()
     ensures candidate { (items : List Item) (held : List ℕ → Bool) (found : List (List ℕ))
         → IsLookedUp items held (Some found)
@@ -82,7 +82,7 @@ pub fn found_is_a_candidate()
         → ¬ (IsTrue (held (joined candidate)) × ¬ NamedRefuse items candidate) }
 {}
 
-/// By a list without weights lookup finds the first text that is held, of the ranges other than
+/// By a list without weights lookup finds the first text that the set has, of the ranges other than
 /// "*" as written, each through its truncations (RFC 4647 section 3.4).
 pub fn unweighted_lookup()
     ensures { (items : List Item) (held : List ℕ → Bool) (found : Option (List (List ℕ)))
@@ -135,7 +135,7 @@ pub fn order_has_each_once()
         → IsOrder items ordered → IsPermutation (filter is_tried items) ordered }
 {}
 
-/// The order falls by weight, and the items of one weight stand in it as written.
+/// The order falls by weight, and items of one weight are in it as written.
 pub fn order_falls()
     ensures falls { (items ordered : List Item) → All (λ i. i.weight ≤ 1000) items
         → IsOrder items ordered → AllPairs (λ i j. j.weight ≤ i.weight) ordered }

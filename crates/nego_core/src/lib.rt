@@ -1,16 +1,16 @@
 //! Language negotiation: priority lists (RFC 9110 section 12.5.4, RFC 4647 section 2.3), filtering
 //! (RFC 4647 section 3.3) and lookup (RFC 4647 section 3.4).
 //!
-//! - [`PriorityList`] is what a reader asks for: ranges with weights, read from an Accept-Language
-//!   field or from a list of extended ranges. [`Malformed`] tells whether a malformed element
-//!   refuses the field or is passed over.
-//! - [`filter`] gives all languages of a slice that the list asks for, best first.
+//! - [`PriorityList`] is what a reader prefers: ranges with weights, read from an Accept-Language
+//!   field or from a list of extended ranges. [`Malformed`] says whether a malformed element
+//!   refuses the field or is skipped.
+//! - [`filter`] gives all languages of a slice that the list accepts, best first.
 //! - [`lookup`] gives the one that fits best, or a default; [`choose`] does so over any set that
-//!   tells whether it holds a text ([`Holds`]).
+//!   can say whether it has a text ([`Holds`]).
 //! - [`NegoFault`] says why a field is refused, and where.
 //!
 //! Of several ranges that match a tag the one with the most subtags other than "*" decides, and
-//! weight 0 refuses. Questions allocate nothing but the list of a filter.
+//! weight 0 refuses. Of the questions only a filter allocates, for its answer.
 //!
 //! ```text
 //! let list = PriorityList::from_accept(alloc, b"da, en-GB;q=0.8, en;q=0.7")?;
@@ -19,7 +19,7 @@
 //! filter(alloc, &list, Scheme::Basic, &langs)?       en, weight 700
 //! ```
 //!
-//! The laws of these definitions stand in [`laws`].
+//! The laws of these definitions are in [`laws`].
 #![tactic(auto)]
 
 mod blanks;

@@ -51,7 +51,7 @@ fn first_of<'a, H: Holds>(list: &PriorityList, range: &'a Range, held: &H) -> Op
     None
 }
 
-/// Whether the text is held and not refused.
+/// Whether the text is in the set and not refused.
 fn is_open<H: Holds>(list: &PriorityList, held: &H, text: &str) -> bool
     ensures { IsTrue result ↔ IsOpen list.now (H.held held.now) (pieces text.now) }
 {

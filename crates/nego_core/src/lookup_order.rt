@@ -5,7 +5,7 @@ ghost use Rattle.nego_core.specs.LookupOrder.{is_tried, order_keys_from, order_k
 use crate::item::Item;
 use std::alloc::{AllocError, Global};
 
-/// Sort key of lookup: by weight downwards, then as written.
+/// Sort key of lookup: by descending weight, then as written.
 #[derive(Clone, Copy, PartialEq, Eq, PartialOrd, Ord)]
 pub(crate) struct OrderKey {
     /// 1000 less the weight.
@@ -14,7 +14,7 @@ pub(crate) struct OrderKey {
     pub(crate) place: usize,
 }
 
-/// The keys of the items, by weight downwards, then by place.
+/// The keys of the items, by descending weight, then by place.
 pub(crate) fn order_of(alloc: Global, items: &[Item]) -> Result<Vec<OrderKey>, AllocError>
     ensures { IfOk result (λ keys. AreOrderKeys items.now keys.items) }
 {

@@ -11,7 +11,7 @@ use crate::fingerprint::head_of;
 use std::cmp::Ordering;
 use std::marker::Model;
 
-/// A text with its first eight bytes as a number, which tells the order of most texts.
+/// A text with its first eight bytes as a number, which decides the order of most texts.
 #[derive(Drop)]
 pub(crate) struct OrderedText<'a> {
     head: u64,
@@ -30,6 +30,7 @@ impl<'a> Model for OrderedText<'a> {
 }
 
 impl<'a> OrderedText<'a> {
+    /// The text with its number.
     pub(crate) fn new(text: &'a str) -> OrderedText<'a>
         ensures { result ≡ text.now }
     {

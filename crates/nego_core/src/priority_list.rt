@@ -33,7 +33,7 @@ pub struct PriorityList {
     items: Vec<Item>,
     /// When lookup tries each item.
     order: Vec<OrderKey>,
-    /// What makes it cheap to ask, where the items are many.
+    /// What makes questions fast, where there are many items.
     index: Option<Index>,
     /// Whether an item may have weight 0, and so refuse what it decides.
     may_refuse: bool,
@@ -65,11 +65,11 @@ impl PriorityList {
     /// Under `Scheme::Basic` the elements between commas are basic ranges, each with a weight or
     /// none, which is 1000 (Accept-Language, RFC 9110 section 12.5.4); under `Scheme::Extended`
     /// extended ranges without weights (RFC 4647 section 2.2), each of weight 1000. Blanks (spaces
-    /// and tabs) may stand around an element and around the ";" before its weight. What is empty
+    /// and tabs) are allowed around an element and around the ";" before its weight. What is empty
     /// or blank between commas is no element, so an empty field gives the empty list.
     ///
-    /// `Malformed` tells what becomes of a malformed element. Passing it over takes nothing else
-    /// away: `en_US, fr` gives fr alone. It may be one that refuses a language, as `de;q=0.0000`.
+    /// `Malformed` says what becomes of a malformed element. Skipping it takes nothing else away:
+    /// `en_US, fr` gives fr alone. It may be one that refuses a language, as `de;q=0.0000`.
     ///
     /// Refusals: `FieldTooLong` where the field has more than 65,535 bytes; else, at the first
     /// malformed element where such are refused, `FieldMalformed` with the offset in the field at
@@ -229,7 +229,7 @@ impl fmt::Debug for PriorityList {
     }
 }
 
-/// The list of the items, with what makes it cheap to ask.
+/// The list of the items, with its order and its index.
 fn list_of(alloc: Global, scheme: Scheme, items: Vec<Item>) -> Result<PriorityList, NegoFault>
     requires one_kind { IsOfOneKind items.items }
     requires small { All (λ i. i.weight ≤ 1000) items.items }

@@ -10,7 +10,7 @@ use crate::blanks::{all_blanks, cut_token, trim_start};
 /// The weight of an element that has none.
 const FULL_WEIGHT: u16 = 1000;
 
-/// The weight that stands after a range, or that of none.
+/// The weight after a range; where there is none, the full weight.
 pub(crate) fn read_weight(text: &[u8]) -> Option<u16>
     ensures only { IsTheOne result (IsTail IsWeight text.now) }
     ensures small { IfSome result (λ n. n ≤ 1000) }
@@ -34,7 +34,7 @@ pub(crate) fn read_no_weight(text: &[u8]) -> Option<u16>
     }
 }
 
-/// The weight that stands after a semicolon.
+/// The weight after a semicolon.
 fn read_after_semicolon(text: &[u8]) -> Option<u16>
     ensures only { IsTheOne result (FollowsSemicolon text.now) }
     ensures small { IfSome result (λ n. n ≤ 1000) }
@@ -42,7 +42,7 @@ fn read_after_semicolon(text: &[u8]) -> Option<u16>
     read_named(trim_start(text))
 }
 
-/// The weight that stands after "q=".
+/// The weight after "q=".
 fn read_named(text: &[u8]) -> Option<u16>
     ensures only { IsTheOne result (IsNamedQvalue text.now) }
     ensures small { IfSome result (λ n. n ≤ 1000) }
@@ -65,7 +65,7 @@ fn read_last_qvalue(text: &[u8]) -> Option<u16>
     read_qvalue(qvalue)
 }
 
-/// The weight in thousandths that a qvalue says.
+/// The weight of a qvalue, in thousandths.
 fn read_qvalue(text: &[u8]) -> Option<u16>
     ensures only { IsTheOne result (IsQvalue text.now) }
     ensures small { IfSome result (λ n. n ≤ 1000) }
@@ -81,7 +81,7 @@ fn read_qvalue(text: &[u8]) -> Option<u16>
     }
 }
 
-/// The thousandths that up to three digits after the point say.
+/// The thousandths of up to three digits after the point.
 fn value_of(digits: &[u8]) -> u16
     requires { IsTrue (list_all is_digit digits.now) }
     ensures value { result ≡ thousandths digits.now }

@@ -34,7 +34,7 @@ fn at_step(fault: CataFault, step: usize) -> PlayFault
     }
 }
 
-/// Joins an edit to what the site holds, where the two agree.
+/// Joins an edit to the cells of a site, where the two agree.
 fn take_edit(own: &mut Catalogue, alloc: Global, step: usize, edit: &Edit) -> Result<(), PlayFault>
     ensures agree { OnOk result (Agree own.old (edit.now ∷ [])) }
     ensures ok { OnOk result (own.new ≡ joined own.old (edit.now ∷ [])) }
@@ -46,7 +46,7 @@ fn take_edit(own: &mut Catalogue, alloc: Global, step: usize, edit: &Edit) -> Re
     }
 }
 
-/// Joins what comes in to what the site holds, where the two agree.
+/// Joins incoming cells to those of a site, where the two agree.
 fn take_in(
     own: &mut Catalogue,
     alloc: Global,
@@ -81,7 +81,7 @@ fn edit(
     take_edit(&mut world.sites[site], alloc, number, edit)
 }
 
-/// Joins to a site what another holds; nothing is copied where both are one.
+/// Joins the cells of another site to those of a site; nothing is copied where both are one.
 fn merge(
     world: &mut World,
     alloc: Global,

@@ -1,4 +1,4 @@
-//! The sites of a run as they stand, and what was told, posted and answered.
+//! The sites of a run, and what was told, posted and answered.
 
 ghost use Rattle.std.specs.Prelude.{◌≡◌};
 
@@ -23,18 +23,21 @@ impl Model for ToldSummary {
 }
 
 impl ToldSummary {
+    /// The summary, told by the site at this place.
     pub fn new(teller: usize, summary: Summary) -> ToldSummary
         ensures { result ≡ record { teller = teller; stamps = summary.stamps } }
     {
         ToldSummary { teller, summary }
     }
 
+    /// The place of the site that told it.
     pub fn teller(&self) -> usize
         ensures { result ≡ self.now.teller }
     {
         self.teller
     }
 
+    /// The summary.
     pub fn summary(&self) -> &Summary
         ensures { result.now.stamps ≡ self.now.stamps }
     {
@@ -58,18 +61,21 @@ impl Model for PostedDelta {
 }
 
 impl PostedDelta {
+    /// The delta of these cells, for the site at this place.
     pub fn new(addressee: usize, cells: Catalogue) -> PostedDelta
         ensures { result ≡ record { addressee = addressee; cells = cells } }
     {
         PostedDelta { addressee, cells }
     }
 
+    /// The place of the site that it is for.
     pub fn addressee(&self) -> usize
         ensures { result ≡ self.now.addressee }
     {
         self.addressee
     }
 
+    /// The cells of the delta.
     pub fn cells(&self) -> &Catalogue
         ensures { result.now ≡ self.now.cells }
     {
@@ -80,8 +86,12 @@ impl PostedDelta {
 /// The catalogues of the sites by place, and what was told, posted and answered so far.
 #[derive(Drop)]
 pub struct World {
+    /// The catalogues, each at the place of its site.
     pub sites: Vec<Catalogue>,
+    /// The summaries that were told, in order.
     pub told: Vec<ToldSummary>,
+    /// The deltas that were posted, in order.
     pub posts: Vec<PostedDelta>,
+    /// The answers, in order.
     pub answers: Vec<Answer>,
 }

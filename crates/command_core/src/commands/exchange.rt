@@ -17,7 +17,7 @@ pub(crate) fn with_exchange<'a>(
     let summary = described(
         alloc,
         "summary",
-        "Prints what a site tells of its cells, to ask others for what it lacks",
+        "Prints the stamps of a site's cells, by which another site finds what this one lacks",
         "Reads a site document.\nExample: lexicat new --site tokyo | lexicat summary > summary.json",
     );
     let program = with_command(Ok(program), Ok(summary));
@@ -25,21 +25,21 @@ pub(crate) fn with_exchange<'a>(
         alloc,
         "delta",
         "Prints the cells of a site that the owner of a summary lacks",
-        "Reads a site document, then a summary.\nDocument 1 of the input ends at the first LF, and all behind it is document 2.\nExample: cat three.json summary.json | lexicat delta > delta.json",
+        "Reads a site document, then a summary.\nDocument 1 of the input ends at the first LF, and all after it is document 2.\nExample: cat three.json summary.json | lexicat delta > delta.json",
     );
     let program = with_command(program, Ok(delta));
     let take = described(
         alloc,
         "take",
         "Joins a delta into the site that it is for",
-        "Reads a site document, then a delta.\nDocument 1 of the input ends at the first LF, and all behind it is document 2.\nExample: (lexicat new --site tokyo; cat delta.json) | lexicat take > tokyo.json",
+        "Reads a site document, then a delta.\nDocument 1 of the input ends at the first LF, and all after it is document 2.\nExample: (lexicat new --site tokyo; cat delta.json) | lexicat take > tokyo.json",
     );
     let program = with_command(program, Ok(take));
     let sync = described(
         alloc,
         "sync",
-        "Merges two sites with one another, so that both hold the same cells",
-        "Reads two site documents and prints both, one line each, in the order read.\nDocument 1 of the input ends at the first LF, and all behind it is document 2.\nExample: cat three.json tokyo.json | lexicat sync > both.json",
+        "Merges two sites with one another, so that both have the same cells",
+        "Reads two site documents and prints both, one line each, in the order read.\nDocument 1 of the input ends at the first LF, and all after it is document 2.\nExample: cat three.json tokyo.json | lexicat sync > both.json",
     );
     let program = with_command(program, Ok(sync));
     let replay = described(

@@ -1,4 +1,4 @@
-//! The commands by which editors and translators take language maps from a site and hand them in.
+//! The commands by which editors and translators take language maps from a site and pass them back.
 ghost use Rattle.std.specs.Prelude.{◌≡◌, IfOk};
 ghost use Rattle.clap.specs.Words.{app_of};
 ghost use Rattle.command_core.specs.Words.{IsCommand, import_app, labels_app, missing_app, update_app};
@@ -35,7 +35,7 @@ fn import<'a>(alloc: Global) -> Result<Command<'a>, AllocError>
         alloc,
         "import",
         "Puts the labels of language maps into a site, each with a new stamp",
-        "Reads a site document, then language maps, and prints the new site.\nDocument 1 of the input ends at the first LF, and all behind it is document 2.\nExample: (cat one.json; echo '{\"greeting\":{\"fr\":\"Bonjour\"}}') | lexicat import --now 7 > three.json",
+        "Reads a site document, then language maps, and prints the new site.\nDocument 1 of the input ends at the first LF, and all after it is document 2.\nExample: (cat one.json; echo '{\"greeting\":{\"fr\":\"Bonjour\"}}') | lexicat import --now 7 > three.json",
     )
     .arg(arguments::now(alloc))
 }
@@ -47,8 +47,8 @@ fn update<'a>(alloc: Global) -> Result<Command<'a>, AllocError>
     described(
         alloc,
         "update",
-        "Hands in what an editor changed in language maps, and nothing else",
-        "Reads a site document, then language maps as they were before the editor worked on them, then as they are now, and prints the new site. A label that the new ones leave out is deleted. Of an id that is written twice only the last counts.\nDocuments 1 and 2 of the input end at the first and the second LF, and all behind is document 3.\nExample: (cat three.json; echo '{\"greeting\":{\"fr\":\"Bonjour\"}}'; echo '{\"greeting\":{\"fr\":\"Salut\"}}') | lexicat update --now 8 > four.json",
+        "Applies what an editor changed in language maps, and nothing else",
+        "Reads a site document, then language maps as they were before the editor worked on them, then as they are now, and prints the new site. A label that the new ones leave out is deleted. Of an id that is written twice only the last counts.\nDocuments 1 and 2 of the input end at the first and the second LF, and all after that is document 3.\nExample: (cat three.json; echo '{\"greeting\":{\"fr\":\"Bonjour\"}}'; echo '{\"greeting\":{\"fr\":\"Salut\"}}') | lexicat update --now 8 > four.json",
     )
     .arg(arguments::now(alloc))
 }
@@ -61,7 +61,7 @@ fn missing<'a>(alloc: Global) -> Result<Command<'a>, AllocError>
         alloc,
         "missing",
         "Prints the messages that have labels but none of just this language, as language maps",
-        "Reads a site document. A deleted label is missing too, and fr-ca is not fr. A translator adds the members that are missing; update hands them in.\nExample: lexicat missing --lang de < three.json",
+        "Reads a site document. A deleted label is missing too, and fr-ca is not fr. A translator adds the members that are missing; update puts them into the site.\nExample: lexicat missing --lang de < three.json",
     )
     .arg(arguments::lang(alloc))
 }

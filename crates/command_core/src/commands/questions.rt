@@ -1,4 +1,4 @@
-//! The commands that ask a site for a reader.
+//! The commands that question a site for a reader.
 ghost use Rattle.std.specs.Prelude.{◌≡◌, IfOk};
 ghost use Rattle.clap.specs.Words.{app_of};
 ghost use Rattle.command_core.specs.Words.{IsCommand, bundle_app, filter_app, lookup_app, questions_app};

@@ -68,7 +68,7 @@ fn put<'a>(alloc: Global) -> Result<Command<'a>, AllocError>
         alloc,
         "put",
         "Puts a label into a site, with a new stamp",
-        "Reads a site document and prints the new one. A TEXT that begins with \"-\" stands behind --.\nExample: lexicat put --now 5 --id greeting --lang en Hello < paris.json > one.json",
+        "Reads a site document and prints the new one. Write -- before a TEXT that begins with \"-\".\nExample: lexicat put --now 5 --id greeting --lang en Hello < paris.json > one.json",
     );
     arguments::with_edit(alloc, command)?.arg(arguments::words(
         alloc,

@@ -15,7 +15,7 @@ use lang_core::Lang;
 use nego_core::{PriorityList, Scheme};
 use std::alloc::{AllocError, Global};
 
-/// What is asked of the live labels of a message.
+/// A question about the live labels of a message.
 #[derive(Drop)]
 pub enum Ask {
     /// Those whose languages the list takes (RFC 4647, sections 3.3.1 and 3.3.2).
@@ -42,6 +42,7 @@ pub fn ask_document(
     Ok(answer)
 }
 
+// The lines of the answer, and whether anything was found.
 fn answer_of(
     alloc: Global,
     catalogue: &Catalogue,
@@ -60,6 +61,7 @@ fn answer_of(
     }
 }
 
+// The lines of a filter, and whether they have a label.
 fn filter_answer(
     alloc: Global,
     catalogue: &Catalogue,
@@ -74,6 +76,7 @@ fn filter_answer(
     Ok((lines, entries.len() != 0))
 }
 
+// Whether a lookup found a label.
 fn is_found(reply: &LentReply<'_>) -> bool
     ensures { result ≡ is_found (reply_of reply.now) }
 {

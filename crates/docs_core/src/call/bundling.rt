@@ -37,9 +37,9 @@ pub fn bundle_document(
     Ok(answer)
 }
 
-/// The same of a catalogue that is held in memory: what [`bundle_document`] gives for its document.
+/// The same for a catalogue in memory: what [`bundle_document`] gives for its document.
 ///
-/// Refused when memory runs out alone (26).
+/// Out of memory is the only refusal (26).
 pub fn write_bundle(
     alloc: Global,
     catalogue: &Catalogue,

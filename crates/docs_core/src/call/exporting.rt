@@ -12,8 +12,8 @@ use cell_core::{Label, MessageId};
 use lang_core::Lang;
 use std::alloc::{AllocError, Global};
 
-/// The language-map document of live labels of a catalogue, lent from it, and whether there is one:
-/// of all messages, or of those alone that lack a language.
+/// The language-map document of live labels of a catalogue, borrowed from it, and whether there is
+/// one: of all messages, or only of those that lack a language.
 pub(crate) fn write_live(
     alloc: Global,
     catalogue: &Catalogue,
@@ -35,7 +35,7 @@ pub(crate) fn write_live(
     Ok((doc, current.is_some()))
 }
 
-// Whether no language is asked for, or the message has no live label in it.
+// Whether there is no such language, or the message has no live label in it.
 fn is_chosen(catalogue: &Catalogue, id: &MessageId, lacking: Option<&Lang>) -> bool
     ensures { result ≡ is_chosen (option_map (λ l. l.now) lacking.entry) catalogue.now id.now }
 {

@@ -9,10 +9,10 @@ use cata_core::{CataFault, Site};
 use std::alloc::Global;
 
 /// Puts each label, in rising order of key, at this time: with the next stamp of the site after the
-/// greatest that it then holds. A label that is held already is put again.
+/// greatest that it then has. A label that the site has already is put again.
 ///
 /// Refused by `ClockSpent` (14) where there is no next stamp for a label, and by `NoMemory` (26);
-/// the site may then hold some of the labels.
+/// the site may then have some of the labels.
 pub(crate) fn put_labels(
     alloc: Global,
     site: &mut Site,

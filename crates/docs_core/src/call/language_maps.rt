@@ -16,8 +16,8 @@ use lang_core::Lang;
 use std::alloc::Global;
 
 /// The document of the site after each label of the language maps was put, in rising order of key,
-/// at the time `now`: each with the next stamp of the site. A label that is held already is put
-/// again and gets a new stamp; no other cell changes.
+/// at the time `now`: each with the next stamp of the site. A label that the site has already is
+/// put again and gets a new stamp; no other cell changes.
 ///
 /// Refusals, in their order: a reader's with document 1, a reader's with document 2, then 14 where
 /// there is no next stamp for a label, which refuses the whole. Out of memory (26) may come before.

@@ -34,8 +34,8 @@ pub fn answer_lines(alloc: Global, answers: &Answers) -> Result<Doc, AllocError>
     Ok(written.into_doc())
 }
 
-/// The lines of a filter's answer, lent by the catalogue: `filter N`, then its entries in their
-/// order, as [`answer_lines`] writes them.
+/// The lines of a filter's answer, borrowed from the catalogue: `filter N`, then its entries in
+/// their order, as [`answer_lines`] writes them.
 pub fn filter_lines(alloc: Global, entries: &LentEntries<'_>) -> Result<Doc, AllocError>
     ensures { IfOk result (λ doc. doc ≡ filter_lines entries.now) }
 {
@@ -43,7 +43,7 @@ pub fn filter_lines(alloc: Global, entries: &LentEntries<'_>) -> Result<Doc, All
     Ok(written.into_doc())
 }
 
-/// The line of a lookup's answer, lent by the catalogue, as [`answer_lines`] writes it.
+/// The line of a lookup's answer, borrowed from the catalogue, as [`answer_lines`] writes it.
 pub fn reply_line(alloc: Global, reply: &LentReply<'_>) -> Result<Doc, AllocError>
     ensures { IfOk result (λ doc. doc ≡ reply_line (reply_of reply.now)) }
 {
@@ -51,13 +51,15 @@ pub fn reply_line(alloc: Global, reply: &LentReply<'_>) -> Result<Doc, AllocErro
     Ok(written.into_doc())
 }
 
-/// The answer of a filter, owned or lent.
+/// The answer of a filter, owned or borrowed.
 trait Weights {
     ghost weighed: { Self → Weighed };
 
+    /// How many entries there are.
     fn count(&self) -> usize
         ensures { result ≡ length (weighed self.now) };
 
+    /// The entry at a place, from 0; none from `count` on.
     fn entry(&self, place: usize) -> Option<(&Lang, &Label, u16)>
         ensures { lent_weighed result ≡ slice_get (weighed self.now) place };
 }
@@ -86,7 +88,7 @@ impl Weights for LentEntries<'_> {
     }
 }
 
-/// Lends the answer of a lookup.
+/// Borrows the answer of a lookup.
 fn lent(reply: &Reply) -> LentReply<'_>
     ensures { reply_of result ≡ reply.now }
 {
@@ -112,6 +114,7 @@ impl Model for Lines {
 }
 
 impl Lines {
+    /// No lines.
     fn new(alloc: Global) -> Lines
         ensures { result ≡ [] }
     {
@@ -120,12 +123,14 @@ impl Lines {
         }
     }
 
+    /// The bytes of all lines.
     fn into_doc(self) -> Doc
         ensures { result ≡ self }
     {
         Doc::from(self.bytes)
     }
 
+    /// Adds a text.
     fn text(mut self, text: &str) -> Result<Lines, AllocError>
         ensures { IfOk result (λ new. new ≡ self ++ text.now) }
     {
@@ -133,6 +138,7 @@ impl Lines {
         Ok(self)
     }
 
+    /// Adds a number in decimal digits.
     fn number(self, number: usize) -> Result<Lines, AllocError>
         ensures { IfOk result (λ new. new ≡ self ++ decimal number) }
     {

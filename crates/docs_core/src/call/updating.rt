@@ -1,4 +1,4 @@
-//! What an editor changed in language maps, handed in to a site.
+//! What an editor changed in language maps, applied to a site.
 ghost use Rattle.std.specs.Prelude.{◌≡◌, ◌+◌, ◌<◌, [], IfErr, IfSome, MatchOption, MatchResult, None, OnOk, Some, length, option_map};
 ghost use Rattle.std.specs.Bool.{Decides};
 ghost use Rattle.cell_core.specs.Maps.{IsMap};
@@ -29,8 +29,7 @@ use std::cmp::Ordering;
 ///
 /// A label that was added or is another now is put, unless the site has it already. A label that is
 /// left out is deleted, unless the site has no live label of the key. Where the old and the new
-/// label are equal nothing is done, whatever the site holds. Labels are equal where their texts
-/// are.
+/// label are equal nothing is done, whatever the site has. Labels are equal where their texts are.
 ///
 /// Refusals, in their order: a reader's with document 1, a reader's with document 2 (the old
 /// language maps), a reader's with document 3 (the new ones), then 14 where there is no next stamp

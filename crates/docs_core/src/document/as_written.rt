@@ -1,4 +1,5 @@
-//! Sites and deltas that stand as they are written, read in one pass.
+//! The fast path for sites and deltas: documents in the form in which they are written, read in one
+//! pass.
 ghost use Rattle.std.specs.Prelude.{◌≡◌, ◌∷◌, ◌++◌, [], ℕ, List, Some, IfSome, IsTrue, codes, map, string_bytes};
 ghost use Rattle.json.specs.Lex.{tokens};
 ghost use Rattle.json.specs.Token.{Token as Read, begin_array, begin_object, end_object, key, number, string};
@@ -21,11 +22,13 @@ use cell_core::{Cell, Label, SiteName};
 use json::{Reader, Scratch, Token};
 use std::alloc::Global;
 
-/// The name and the cells of a document of this kind, where its members stand in the order in
-/// which they are written, it is of version 2, and all its rows pass their tests. Each row is taken
+/// The name and the cells of a document of this kind, where its members are in the order in which
+/// they are written, it is of version 2, and all its rows pass their tests. Each row is taken from
+/// its tokens.
 /// from its tokens.
 ///
-/// None answers nothing of the document: it may stand otherwise, be refused, or want memory.
+/// `None` says nothing of the document: it may be valid in another order, it may be refused, or
+/// memory ran out.
 pub fn cells_as_written(alloc: Global, bytes: &[u8], kind: Kind) -> Option<(SiteName, Catalogue)>
     ensures { IfSome result (λ r. ReadsCells kind bytes.now r.0 r.1) }
 {
@@ -51,7 +54,7 @@ fn cells_of_text(alloc: Global, text: &str, kind: Kind) -> Option<(SiteName, Cat
     Some((name, cells))
 }
 
-// Takes what stands before the rows.
+// Takes what comes before the rows.
 fn begins_rows(reader: &mut Reader<'_>) -> bool
     ensures { IsTrue result → reader.old ≡ begin_object ∷ key (codes "cells") ∷ begin_array ∷ reader.new }
 {
@@ -60,7 +63,7 @@ fn begins_rows(reader: &mut Reader<'_>) -> bool
         && matches!(reader.next(), Some(Token::BeginArray))
 }
 
-// The cells of the rows, with the bracket behind them.
+// The cells of the rows, up to and including the closing bracket.
 fn next_rows(alloc: Global, reader: &mut Reader<'_>) -> Option<Catalogue>
     ensures { IfSome result (λ cells. BeginsRows reader.old cells reader.new) }
 {
@@ -76,7 +79,7 @@ fn next_rows(alloc: Global, reader: &mut Reader<'_>) -> Option<Catalogue>
     Some(cells)
 }
 
-// Puts the entry behind the others, where its key is above theirs.
+// Appends the entry, where its key is greater than all others.
 fn put_above(alloc: Global, cells: &mut Catalogue, entry: CellEntry) -> bool
     ensures { IsTrue result → IsAboveAll (entry_by entry).0 cells.old × (cells.new ≡ cells.old ++ entry_by entry ∷ []) }
 {
@@ -147,7 +150,7 @@ fn next_label(alloc: Global, reader: &mut Reader<'_>) -> Option<Option<Label>>
     }
 }
 
-// Texts, with the bracket behind them.
+// Texts, up to and including the closing bracket.
 fn next_texts(alloc: Global, reader: &mut Reader<'_>) -> Option<Vec<String>>
     ensures { IfSome result (λ texts. BeginsTexts reader.old (map string_bytes texts.items) reader.new) }
 {
@@ -165,7 +168,7 @@ fn next_texts(alloc: Global, reader: &mut Reader<'_>) -> Option<Vec<String>>
     Some(texts)
 }
 
-// Puts a copy of the text behind the others.
+// Appends a copy of the text.
 fn push_text(alloc: Global, texts: &mut Vec<String>, text: &str) -> bool
     ensures { IsTrue result → map string_bytes texts.new.items ≡ map string_bytes texts.old.items ++ text.now ∷ [] }
 {

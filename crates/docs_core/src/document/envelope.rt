@@ -1,4 +1,4 @@
-//! What stands in a document in front of its rows, and behind them, as it is written.
+//! The parts of a document before and after its rows, written.
 ghost use Rattle.std.specs.Prelude.{◌≡◌, ◌∷◌, [], ◌++◌, ℕ, List, IfOk, IsUtf8, OnOk, codes};
 ghost use Rattle.json.specs.Print.{print};
 ghost use Rattle.json.specs.Token.{begin_object, end_object, begin_array, end_array, key, number, string};
@@ -22,7 +22,7 @@ pub fn open_cells(alloc: Global) -> Result<Writer, AllocError>
     Ok(draft)
 }
 
-/// Closes the document of a site behind its rows.
+/// Closes the document of a site after its rows.
 pub fn close_site(draft: Writer, site: &str) -> Result<Doc, AllocError>
     ensures text { (rows : List Data) → HoldsCells draft rows
         → IfOk result (λ doc. doc ≡ text (site_value site.now rows)) }
@@ -31,7 +31,7 @@ pub fn close_site(draft: Writer, site: &str) -> Result<Doc, AllocError>
     close_named(draft, "site", "site", site)
 }
 
-/// Closes the document of a delta behind its rows.
+/// Closes the document of a delta after its rows.
 pub fn close_delta(draft: Writer, addressee: &str) -> Result<Doc, AllocError>
     ensures text { (rows : List Data) → HoldsCells draft rows
         → IfOk result (λ doc. doc ≡ text (delta_value addressee.now rows)) }
@@ -53,7 +53,7 @@ pub fn open_stamps(alloc: Global, owner: &str) -> Result<Writer, AllocError>
     Ok(draft)
 }
 
-/// Closes the document of a summary behind its rows.
+/// Closes the document of a summary after its rows.
 pub fn close_summary(draft: Writer) -> Result<Doc, AllocError>
     ensures text { (owner : List ℕ) (rows : List Data) → HoldsStamps draft owner rows
         → IfOk result (λ doc. doc ≡ text (summary_value owner rows)) }

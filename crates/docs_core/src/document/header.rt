@@ -41,9 +41,11 @@ pub enum Subject {
 /// The header as far as it was read. Of two members with one name the last one counts.
 #[derive(Clone, Copy, Debug)]
 pub struct Header {
-    /// The kind is that of the document that is asked for.
+    /// The kind is the wanted one.
     pub is_kind: bool,
+    /// The version, where its member is a whole number of 64 bits.
     pub version: Option<u64>,
+    /// The subject, where there is a member for it.
     pub subject: Option<Subject>,
     /// The first refusal of a row, if any, where there is an array of rows.
     pub rows: Option<Option<DocCause>>,
@@ -91,7 +93,7 @@ pub(crate) fn next_name<'t>(reader: &mut Reader<'t>) -> Result<Option<&'t str>, 
     }
 }
 
-// Reads a member behind its name.
+// Reads the value of a member, whose name was read.
 fn read_member<R: Rows>(
     alloc: Global,
     reader: &mut Reader<'_>,
@@ -118,6 +120,7 @@ fn read_member<R: Rows>(
     }
 }
 
+// Reads the member `kind`.
 fn read_kind(
     alloc: Global,
     reader: &mut Reader<'_>,
@@ -136,6 +139,7 @@ fn read_kind(
     })
 }
 
+// Reads the member `version`.
 fn read_version(alloc: Global, reader: &mut Reader<'_>, header: Header) -> Result<Header, DocCause>
     requires { are_in_range reader.old ≡ true }
     ensures { MatchResult result
@@ -149,6 +153,7 @@ fn read_version(alloc: Global, reader: &mut Reader<'_>, header: Header) -> Resul
     })
 }
 
+// Reads the member of the subject.
 fn read_subject(alloc: Global, reader: &mut Reader<'_>, header: Header) -> Result<Header, DocCause>
     requires { are_in_range reader.old ≡ true }
     ensures { MatchResult result
@@ -217,7 +222,7 @@ pub(crate) fn is_scalar(token: Token<'_>) -> bool
     )
 }
 
-// Passes over the members of an object whose brace was read.
+// Skips the members of an object whose brace was read.
 fn pass_members(reader: &mut Reader<'_>) -> Result<(), DocCause>
     requires { are_in_range reader.old ≡ true }
     ensures read { MatchResult result
@@ -235,7 +240,7 @@ fn pass_members(reader: &mut Reader<'_>) -> Result<(), DocCause>
     Ok(())
 }
 
-// Passes over a member of another name.
+// Skips the value of a member of another name.
 fn pass_over(reader: &mut Reader<'_>, header: Header) -> Result<Header, DocCause>
     requires { are_in_range reader.old ≡ true }
     ensures { MatchResult result
@@ -251,7 +256,7 @@ fn pass_over(reader: &mut Reader<'_>, header: Header) -> Result<Header, DocCause
     }
 }
 
-// Whether the text is the kind that is asked for.
+// Whether the text is the wanted kind.
 fn is_kind(kind: Kind, value: &Value<'_>) -> bool
     ensures { result ≡ is_text (kind_text kind) (as_str (seen value.now)) }
 {
@@ -261,6 +266,7 @@ fn is_kind(kind: Kind, value: &Value<'_>) -> bool
     }
 }
 
+// What a value names as the subject.
 fn subject_of(value: &Value<'_>) -> Subject
     ensures { IsSubject result (seen value.now) }
 {
@@ -273,6 +279,7 @@ fn subject_of(value: &Value<'_>) -> Subject
     }
 }
 
+// The name that a text is, where it is one.
 fn name_of(text: &str) -> Subject
     ensures { (d : Data) → as_str d ≡ Some text.now → IsSubject result d }
 {

@@ -65,6 +65,7 @@ impl Kind {
         }
     }
 
+    /// The name of the member that has the rows.
     fn rows(self) -> &'static str
         ensures { result.now ≡ rows_of self }
     {

@@ -30,7 +30,7 @@ pub fn site_from(alloc: Global, bytes: &[u8]) -> Result<Site, DocCause>
     }
 }
 
-// The site of a document whose members may stand in any order.
+// The site of a document whose members may be in any order.
 fn site_of_members(alloc: Global, bytes: &[u8]) -> Result<Site, DocCause>
     ensures { MatchResult result (ReadsAsSite bytes.now) (OrMemory NoMemory (RefusesSite bytes.now)) }
 {
@@ -49,7 +49,7 @@ pub fn delta_from(alloc: Global, bytes: &[u8]) -> Result<Delta, DocCause>
     }
 }
 
-// The delta of a document whose members may stand in any order.
+// The delta of a document whose members may be in any order.
 fn delta_of_members(alloc: Global, bytes: &[u8]) -> Result<Delta, DocCause>
     ensures { MatchResult result (ReadsAsDelta bytes.now) (OrMemory NoMemory (RefusesDelta bytes.now)) }
 {
@@ -97,6 +97,7 @@ fn subject_name(version: Version, subject: Subject) -> Result<SiteName, DocCause
     }
 }
 
+// The padded name of a number of 32 bits, in version 1.
 fn numbered_name(subject: Subject) -> Result<SiteName, DocCause>
     ensures { (d : Data) → IsSubject subject d → MatchResult result
         (λ name. AllPass (subject_checks One d) × (site_in One d ≡ Some name))
@@ -111,6 +112,7 @@ fn numbered_name(subject: Subject) -> Result<SiteName, DocCause>
     }
 }
 
+// The name, in version 2.
 fn written_name(subject: Subject) -> Result<SiteName, DocCause>
     ensures { (d : Data) → IsSubject subject d → MatchResult result
         (λ name. AllPass (subject_checks Two d) × (site_in Two d ≡ Some name))

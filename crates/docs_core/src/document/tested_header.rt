@@ -30,9 +30,11 @@ const MOST_DEPTH: usize = 127;
 /// The header of a document, and the first refusal of a row.
 #[derive(Clone, Copy, Debug)]
 pub struct TestedHeader {
+    /// The version by which its rows were read.
     pub version: Version,
     /// What names a site, or says how many there are.
     pub subject: Subject,
+    /// The first refusal of a row, if any.
     pub refusal: Option<DocCause>,
 }
 

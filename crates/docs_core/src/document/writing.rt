@@ -51,7 +51,7 @@ pub fn write_summary(alloc: Global, summary: &Summary) -> Result<Doc, AllocError
     close_summary(draft)
 }
 
-// A site's or a delta's document, open behind all cells.
+// A site's or a delta's document with all its cells, not yet closed.
 fn cells_draft(alloc: Global, cells: &Catalogue) -> Result<Writer, AllocError>
     ensures rows { IfOk result (λ draft. HoldsCells draft (cells_values cells.now)) }
     ensures kept { IfOk result (λ _. AreKeptCells cells.now) }
@@ -63,7 +63,7 @@ fn cells_draft(alloc: Global, cells: &Catalogue) -> Result<Writer, AllocError>
     Ok(draft)
 }
 
-// A summary's document, open behind all stamps.
+// A summary's document with all its stamps, not yet closed.
 fn stamps_draft(alloc: Global, summary: &Summary) -> Result<Writer, AllocError>
     ensures rows { IfOk result (λ draft. HoldsStamps draft summary.now.owner (stamps_values summary.now.stamps)) }
     ensures owner { IfOk result (λ _. IsSiteName summary.now.owner) }

@@ -17,7 +17,7 @@ pub fn whole_number(text: &str) -> Option<u64>
     positive_whole(&Numeral::scan(bytes))
 }
 
-/// Whether the number is read: a whole number of 64 bits, or one that a float holds.
+/// Whether the number is read: a whole number of 64 bits, or one in the range of a float.
 pub fn is_in_range(text: &str) -> bool
     ensures { result ≡ is_some (number_of text.now) }
 {
@@ -29,18 +29,21 @@ pub fn is_in_range(text: &str) -> bool
     }
 }
 
+// The unsigned whole number of 64 bits that a numeral without a minus is, where it is one.
 fn positive_whole(numeral: &Numeral<'_>) -> Option<u64>
     ensures { result ≡ option_and_then as_u64 (number_from false numeral.now) }
 {
     numeral.to_u64()
 }
 
+// Whether a numeral without a minus is read.
 fn is_positive_read(numeral: &Numeral<'_>) -> bool
     ensures { result ≡ is_some (number_from false numeral.now) }
 {
     numeral.to_u64().is_some() || numeral.to_float::<f64>(false).is_finite()
 }
 
+// Whether a numeral after a minus is read.
 fn is_negative_read(numeral: &Numeral<'_>) -> bool
     ensures { result ≡ is_some (number_from true numeral.now) }
 {
@@ -52,6 +55,7 @@ fn is_negative_read(numeral: &Numeral<'_>) -> bool
     numeral.to_float::<f64>(true).is_finite()
 }
 
+// Whether the text begins with a minus.
 fn has_minus(bytes: &[u8]) -> bool
     ensures value { result ≡ (slice_index bytes.now 0 == 45) }
     ensures len { IsTrue result → 0 < length bytes.now }

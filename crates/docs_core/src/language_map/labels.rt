@@ -39,7 +39,7 @@ pub(crate) fn labels_of(alloc: Global, rows: Rows) -> Result<LangMaps, DocCause>
     Ok(maps)
 }
 
-// Adds the labels of a row behind those of lesser messages; a name that begins with "@" is skipped.
+// Appends the labels of a row to those of smaller messages; a name that begins with "@" is skipped.
 fn add_row(
     alloc: Global,
     maps: &mut LangMaps,
@@ -68,7 +68,7 @@ fn is_marked(name: &String) -> bool
     }
 }
 
-// Adds the labels of a message behind those of lesser messages.
+// Appends the labels of a message to those of smaller messages.
 fn add_message(
     alloc: Global,
     maps: &mut LangMaps,
@@ -123,7 +123,7 @@ fn languages_of(
     Ok(found)
 }
 
-// Adds a key of a language map behind others.
+// Appends a key of a language map.
 fn add_key(
     alloc: Global,
     found: &mut BTreeMap<Lang, Option<Label>>,
@@ -166,7 +166,7 @@ fn label_of(row: usize, strings: Vec<String>) -> Result<Option<Label>, DocCause>
     }
 }
 
-// Puts the labels that were found behind those of lesser messages.
+// Appends the labels that were found to those of smaller messages.
 fn push_languages(
     alloc: Global,
     maps: &mut LangMaps,

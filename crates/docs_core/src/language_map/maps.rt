@@ -96,7 +96,7 @@ impl LangMaps {
         self.labels.iter()
     }
 
-    /// Puts a label behind all that are there; its key has to be greater than theirs.
+    /// Appends a label; its key has to be greater than all others.
     ///
     /// When memory runs out (26) the list is unchanged, and what was passed in is dropped.
     pub fn push(&mut self, id: MessageId, lang: Lang, label: Label) -> Result<(), AllocError>

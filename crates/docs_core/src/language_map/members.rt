@@ -60,7 +60,7 @@ fn read_rest(alloc: Global, reader: &mut Reader<'_>) -> Result<Rows, DocCause>
     }
 }
 
-/// What stands behind the names of an object.
+/// The values of an object's members.
 trait MemberValue: Sized {
     // What a contract sees of it.
     ghost Plain: { Type 0 };
@@ -133,7 +133,7 @@ impl MemberValue for Strings {
     }
 }
 
-// Reads the value of a row: the keys of an object. What is no object is passed over.
+// Reads the value of a row: the keys of an object. What is no object is skipped.
 fn read_keys(alloc: Global, reader: &mut Reader<'_>) -> Result<Option<Keys>, DocCause>
     requires { are_in_range reader.old ≡ true }
     ensures read { MatchResult result
@@ -175,7 +175,7 @@ fn keys_of(alloc: Global, members: BTreeMap<String, Strings>) -> Result<Keys, Al
     Ok(keys)
 }
 
-// Passes over the items of an array whose opening bracket was read.
+// Skips the items of an array whose opening bracket was read.
 fn pass_items(reader: &mut Reader<'_>) -> Result<(), DocCause>
     requires { are_in_range reader.old ≡ true }
     ensures read { MatchResult result

@@ -30,7 +30,7 @@ pub fn read_langmaps(alloc: Global, bytes: &[u8]) -> Result<LangMaps, DocFault>
     langmaps_of_document(alloc, 1, bytes)
 }
 
-// The labels of the document that stands at this place of the input.
+// The labels of the input document with this number.
 pub(crate) fn langmaps_of_document(
     alloc: Global,
     document: u8,
@@ -44,6 +44,7 @@ pub(crate) fn langmaps_of_document(
     }
 }
 
+// The labels of a document, or why it is refused.
 fn langmaps_in(alloc: Global, bytes: &[u8]) -> Result<LangMaps, DocCause>
     ensures { MatchResult result (AreLangMaps bytes.now) (OrMemory NoMemory (RefusesLangMaps bytes.now)) }
 {

@@ -25,8 +25,8 @@ use std::alloc::{AllocError, Global};
 /// The text of the language-map document of these labels, with its line feed: one object from
 /// message id to language map (JSON-LD 1.1, section 9.8), in rising order of key.
 ///
-/// A label of one text is a string, one of several an array of strings. Refused when memory runs
-/// out alone (26).
+/// A label of one text is a string, one of several an array of strings. Out of memory is the only
+/// refusal (26).
 pub fn write_langmaps(alloc: Global, maps: &LangMaps) -> Result<Doc, AllocError>
     ensures text { IfOk result (λ doc. doc ≡ text (langmaps_value maps.now)) }
     ensures reads { IfOk result (λ doc. AreLangMaps doc maps.now) }
@@ -49,7 +49,7 @@ pub(crate) fn open_labels(alloc: Global) -> Result<Writer, AllocError>
     Ok(draft)
 }
 
-/// Closes the language maps behind all their labels.
+/// Closes the language maps after all their labels.
 pub(crate) fn close_labels(
     mut draft: Writer,
     current: Option<&MessageId>,

@@ -19,10 +19,10 @@ use std::alloc::Global;
 
 /// Takes the rows of a document in their order, each only where it passes the tests of a row.
 pub trait Rows {
-    // The tests of a row of this version behind those before it, in their order.
+    // The tests of a row of this version after those before it, in their order.
     ghost Checks: { Version → List Data → Data → List Check };
 
-    // What is held is what these rows of this version make.
+    // The value is what these rows of this version make.
     ghost Holds: { Version → Self → List Data → Type 0 };
 
     /// Forgets all rows.

@@ -80,6 +80,7 @@ pub fn label_of(
     }
 }
 
+// The label of these values, all of them texts.
 fn label_from(alloc: Global, place: usize, values: &[Value<'_>]) -> Result<Label, DocCause>
     requires { AreTexts values.now }
     ensures { let plain = texts_of values.now in MatchResult result (λ label. IsLabelText (Some plain) × (label ≡ plain))
@@ -108,16 +109,22 @@ fn copied_texts(alloc: Global, values: &[Value<'_>]) -> Result<Vec<String>, Allo
 /// The key and the stamp of a row of a summary.
 #[derive(Drop)]
 pub struct StampEntry {
+    /// The message.
     pub id: MessageId,
+    /// The language.
     pub lang: Lang,
+    /// The stamp.
     pub stamp: Stamp,
 }
 
 /// The key and the cell of a row of a site or a delta.
 #[derive(Drop)]
 pub struct CellEntry {
+    /// The message.
     pub id: MessageId,
+    /// The language.
     pub lang: Lang,
+    /// The cell.
     pub cell: Cell,
 }
 

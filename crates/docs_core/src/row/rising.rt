@@ -1,4 +1,4 @@
-//! The rows of sites, deltas and summaries, put behind one another as they are read.
+//! The rows of sites, deltas and summaries, appended in rising order of key as they are read.
 ghost use Rattle.std.specs.Prelude.{◌≡◌, Some, MatchResult};
 ghost use Rattle.json.specs.Value.{value_view};
 ghost use Rattle.docs_core.specs.Checks.{AllPass, FirstFails, OrMemory};

@@ -21,17 +21,24 @@ pub enum SiteText<'t> {
 /// The key and the stamp of a row, as they are written.
 #[derive(Clone, Copy, Debug)]
 pub struct Row<'t> {
+    /// The id of the message.
     pub id: &'t str,
+    /// The language.
     pub language: &'t str,
+    /// The time of the stamp.
     pub time: u64,
+    /// The site of the stamp.
     pub site: SiteText<'t>,
+    /// The count of the stamp.
     pub count: u32,
 }
 
-/// A row with a label, as it is written; no texts stand for a deletion.
+/// A row with a label, as it is written; a deletion has no texts.
 #[derive(Clone, Copy)]
 pub struct CellRow<'v, 't> {
+    /// The key and the stamp.
     pub row: Row<'t>,
+    /// The texts of the label; none for a deletion.
     pub texts: Option<&'v [Value<'t>]>,
 }
 
@@ -106,12 +113,14 @@ pub fn label_of<'v, 't>(value: &'v Value<'t>) -> Option<Option<&'v [Value<'t>]>>
     }
 }
 
+// Whether all items are texts.
 fn are_texts(items: &[Value<'_>]) -> bool
     ensures { result ≡ is_some (texts_in (map seen items.now)) }
 {
     each_is_text(items)
 }
 
+// Whether each item is a text.
 fn each_is_text(items: &[Value<'_>]) -> bool
     ensures { result ≡ list_all (λ item. is_some (as_str (seen item))) items.now }
 {

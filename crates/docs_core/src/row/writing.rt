@@ -10,13 +10,18 @@ use crate::doc::Doc;
 use json::Writer;
 use std::alloc::{AllocError, Global};
 
-/// The key and the stamp of a row, lent by what is written.
+/// The key and the stamp of a row, borrowed from what is written.
 #[derive(Clone, Copy)]
 pub struct WrittenRow<'a> {
+    /// The id of the message.
     pub id: &'a str,
+    /// The language.
     pub language: &'a str,
+    /// The time of the stamp.
     pub time: u64,
+    /// The site of the stamp.
     pub site: &'a str,
+    /// The count of the stamp.
     pub count: u32,
 }
 

@@ -12,7 +12,7 @@ const FULL_WEIGHT: u16 = 1000;
 
 /// A field that reads as the list under the scheme, or none where no field does.
 ///
-/// A list does not tell under which scheme it was read: so its field is read back.
+/// A list does not say under which scheme it was read: so its field is read back.
 pub fn field_of(
     alloc: Global,
     scheme: Scheme,
@@ -65,7 +65,7 @@ fn joined_items(alloc: Global, items: &[Item]) -> Result<String, AllocError>
     Ok(text)
 }
 
-// Adds the items, each behind a comma.
+// Adds the items, each after a comma.
 fn push_others(text: &mut String, items: &[Item]) -> Result<(), AllocError>
     ensures { OnOk result (string_bytes text.new
         ≡ string_bytes text.old ++ flat_map (λ i. (44 ∷ []) ++ item_text i) items.now) }
@@ -85,6 +85,7 @@ fn push_item(text: &mut String, item: &Item) -> Result<(), AllocError>
     push_weight(text, item.weight())
 }
 
+// Adds the weight, unless it is full.
 fn push_weight(text: &mut String, weight: u16) -> Result<(), AllocError>
     requires { weight ≤ 1000 }
     ensures { OnOk result (string_bytes text.new ≡ string_bytes text.old ++ weight_text weight) }
@@ -96,7 +97,7 @@ fn push_weight(text: &mut String, weight: u16) -> Result<(), AllocError>
     push_fraction(text, weight)
 }
 
-// Adds what stands behind the 0 of so many thousandths.
+// Writes the fraction of a weight below 1000, in thousandths.
 fn push_fraction(text: &mut String, weight: u16) -> Result<(), AllocError>
     requires { weight < 1000 }
     ensures { OnOk result (string_bytes text.new ≡ string_bytes text.old ++ fraction_text weight) }
@@ -109,7 +110,7 @@ fn push_fraction(text: &mut String, weight: u16) -> Result<(), AllocError>
     push_tens(text, weight % 100)
 }
 
-// Adds the digits behind the first.
+// Adds the digits after the first.
 fn push_tens(text: &mut String, rest: u16) -> Result<(), AllocError>
     requires { rest < 100 }
     ensures { OnOk result (string_bytes text.new ≡ string_bytes text.old ++ tens_text rest) }
@@ -121,7 +122,7 @@ fn push_tens(text: &mut String, rest: u16) -> Result<(), AllocError>
     push_ones(text, rest % 10)
 }
 
-// Adds the digit behind the second.
+// Adds the digit after the second.
 fn push_ones(text: &mut String, rest: u16) -> Result<(), AllocError>
     requires { rest < 10 }
     ensures { OnOk result (string_bytes text.new ≡ string_bytes text.old ++ ones_text rest) }
@@ -132,6 +133,7 @@ fn push_ones(text: &mut String, rest: u16) -> Result<(), AllocError>
     push_digit(text, rest)
 }
 
+// Adds a digit.
 fn push_digit(text: &mut String, digit: u16) -> Result<(), AllocError>
     requires { digit < 10 }
     ensures { OnOk result (string_bytes text.new ≡ string_bytes text.old ++ (48 + digit) ∷ []) }

@@ -38,6 +38,7 @@ pub fn read_script(alloc: Global, bytes: &[u8]) -> Result<Script, DocFault>
     }
 }
 
+// The script of a document, or why it is refused.
 fn script_from(alloc: Global, bytes: &[u8]) -> Result<Script, DocCause>
     ensures { MatchResult result (ReadsAsScript bytes.now) (OrMemory NoMemory (RefusesScript bytes.now)) }
 {
@@ -83,6 +84,7 @@ fn site_count(subject: Subject) -> Result<usize, DocCause>
     }
 }
 
+// The number of sites, where a script may have as many.
 fn count_of(number: u64) -> Result<usize, DocCause>
     ensures { MatchResult result
         (λ sites. IsSiteCount sites × (count_of number ≡ Some sites))

@@ -27,7 +27,7 @@ use std::alloc::Global;
 ///
 /// Refusals are those of [`read_all`] (23, 24, 26), of [`read_script`], of the run (16, 17, 13), of
 /// [`answer_lines`] (26) and of [`write_out`] (25), in this order. Nothing is written with any of
-/// them but 25, and with 25 a front of the lines.
+/// them but 25, and with 25 a prefix of the lines.
 pub fn replay<R: Source, W: Sink>(
     alloc: Global,
     reader: &mut R,
@@ -70,12 +70,14 @@ fn play_script(alloc: Global, bytes: Doc) -> Result<Doc, DocFault>
     Ok(lines)
 }
 
+// The script of a document, whose bytes are given back.
 fn script_in(alloc: Global, bytes: Doc) -> Result<Script, DocFault>
     ensures { MatchResult result (ReadsAsScript bytes) (OrMemory no_memory (IsOfDocument 1 (RefusesScript bytes))) }
 {
     read_script(alloc, bytes.bytes())
 }
 
+// The answers of the run of a script.
 fn answers_of(alloc: Global, script: &Script) -> Result<Answers, PlayFault>
     ensures { MatchResult result (IsPlayed script.now) (OrMemory NoMemory (RefusesRun script.now)) }
 {

@@ -33,7 +33,7 @@ impl Model for Script {
 impl Script {
     ghost use Rattle.docs_core.specs.Scripts.{IsSiteCount};
 
-    /// The script of so many sites, from 1 to 1,024, with these steps.
+    /// The script of `sites` sites, from 1 to 1,024, with these steps.
     pub fn new(sites: usize, steps: Vec<Step>) -> Script
         requires { IsSiteCount sites }
         ensures { result ≡ record { sites = sites; steps = steps.items } }
@@ -60,6 +60,7 @@ impl Script {
 /// The steps that were read so far.
 #[derive(Drop)]
 pub struct Steps {
+    /// The steps, in order.
     pub steps: Vec<Step>,
 }
 

@@ -57,6 +57,7 @@ pub fn write_step(
     }
 }
 
+// Adds the row of an edit.
 fn write_edit(out: &mut Writer, place: usize, site: usize, edit: &Edit) -> Result<(), DocCause>
     ensures ok { OnOk result (WritesStep (EditStep site edit.now) out.old out.new) }
     ensures err { IfErr result (RefusesStep place (EditStep site edit.now)) }
@@ -68,6 +69,7 @@ fn write_edit(out: &mut Writer, place: usize, site: usize, edit: &Edit) -> Resul
     Ok(())
 }
 
+// Adds the row of a merge.
 fn write_merge(out: &mut Writer, place: usize, into: usize, source: usize) -> Result<(), DocCause>
     ensures ok { OnOk result (WritesStep (Merge into source) out.old out.new) }
     ensures err { IfErr result (RefusesStep place (Merge into source)) }
@@ -75,6 +77,7 @@ fn write_merge(out: &mut Writer, place: usize, into: usize, source: usize) -> Re
     write_pair(out, place, "merge", into, source)
 }
 
+// Adds the row of a filter.
 fn write_filter(
     alloc: Global,
     out: &mut Writer,
@@ -95,6 +98,7 @@ fn write_filter(
     Ok(())
 }
 
+// Adds the row of a lookup.
 fn write_lookup(
     alloc: Global,
     out: &mut Writer,
@@ -115,6 +119,7 @@ fn write_lookup(
     Ok(())
 }
 
+// Adds the row of a question for all cells.
 fn write_cells(out: &mut Writer, place: usize, site: usize) -> Result<(), DocCause>
     ensures ok { OnOk result (WritesStep (AskCells site) out.old out.new) }
     ensures err { IfErr result (RefusesStep place (AskCells site)) }
@@ -122,6 +127,7 @@ fn write_cells(out: &mut Writer, place: usize, site: usize) -> Result<(), DocCau
     write_single(out, place, "cells", site)
 }
 
+// Adds the row of a told summary.
 fn write_tell(out: &mut Writer, place: usize, site: usize) -> Result<(), DocCause>
     ensures ok { OnOk result (WritesStep (Tell site) out.old out.new) }
     ensures err { IfErr result (RefusesStep place (Tell site)) }
@@ -129,6 +135,7 @@ fn write_tell(out: &mut Writer, place: usize, site: usize) -> Result<(), DocCaus
     write_single(out, place, "tell", site)
 }
 
+// Adds the row of a post.
 fn write_post(out: &mut Writer, place: usize, site: usize, told: usize) -> Result<(), DocCause>
     ensures ok { OnOk result (WritesStep (Post site told) out.old out.new) }
     ensures err { IfErr result (RefusesStep place (Post site told)) }
@@ -136,6 +143,7 @@ fn write_post(out: &mut Writer, place: usize, site: usize, told: usize) -> Resul
     write_pair(out, place, "post", site, told)
 }
 
+// Adds the row of a delivery.
 fn write_deliver(out: &mut Writer, place: usize, post: usize) -> Result<(), DocCause>
     ensures ok { OnOk result (WritesStep (Deliver post) out.old out.new) }
     ensures err { IfErr result (RefusesStep place (Deliver post)) }
@@ -197,6 +205,7 @@ fn no_row(place: usize) -> DocCause
     }
 }
 
+// Adds `[WORD, NUMBER]`.
 fn single_row(out: &mut Writer, word: &str, number: u64) -> Result<(), AllocError>
     ensures { OnOk result (Adds out.old out.new (value_tokens (single_value word.now number))) }
 {
@@ -206,6 +215,7 @@ fn single_row(out: &mut Writer, word: &str, number: u64) -> Result<(), AllocErro
     out.end_array()
 }
 
+// Adds `[WORD, FIRST, SECOND]`.
 fn pair_row(out: &mut Writer, word: &str, first: u64, second: u64) -> Result<(), AllocError>
     ensures { OnOk result (Adds out.old out.new (value_tokens (pair_value word.now first second))) }
 {
@@ -216,6 +226,7 @@ fn pair_row(out: &mut Writer, word: &str, first: u64, second: u64) -> Result<(),
     out.end_array()
 }
 
+// Adds `["edit", SITE, CELL]`, with the row of the cell.
 fn edit_row(out: &mut Writer, site: u64, edit: &Edit) -> Result<(), AllocError>
     ensures tokens { OnOk result (Adds out.old out.new (value_tokens (edit_value site (row_of edit.now) edit.now.1.label))) }
     ensures kept { OnOk result (IsKeptCell edit.now) }
@@ -227,6 +238,7 @@ fn edit_row(out: &mut Writer, site: u64, edit: &Edit) -> Result<(), AllocError>
     out.end_array()
 }
 
+// Adds `["filter", SITE, ID, SCHEME, FIELD]`.
 fn filter_row(
     out: &mut Writer,
     site: u64,
@@ -246,6 +258,7 @@ fn filter_row(
     out.end_array()
 }
 
+// Adds `["lookup", SITE, ID, FIELD, DEFAULT]`; no default is null.
 fn lookup_row(
     out: &mut Writer,
     site: u64,
@@ -269,6 +282,7 @@ fn lookup_row(
     out.end_array()
 }
 
+// The name of a scheme.
 fn scheme_text(scheme: Scheme) -> &'static str
     ensures { result.now ≡ scheme_text scheme }
 {

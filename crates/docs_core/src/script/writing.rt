@@ -41,7 +41,7 @@ fn script_document(alloc: Global, script: &Script) -> Result<Doc, DocCause>
     Ok(doc)
 }
 
-// A script's document, open behind all steps.
+// A script's document with all its steps, not yet closed.
 fn steps_draft(alloc: Global, script: &Script) -> Result<Writer, DocCause>
     ensures ok { IfOk result (λ draft. HasRows draft script.now.sites script.now.steps) }
     ensures count { IfOk result (λ _. IsSiteCount script.now.sites) }
@@ -70,7 +70,7 @@ fn open_steps(alloc: Global, sites: usize) -> Result<Writer, AllocError>
     Ok(draft)
 }
 
-// Closes a script's document behind its rows.
+// Closes a script's document after its rows.
 fn close_steps(mut draft: Writer) -> Result<Doc, AllocError>
     ensures text { (sites : ℕ) (rows : List Data) → HoldsSteps draft sites rows
         → IfOk result (λ doc. doc ≡ text (script_value sites rows)) }

@@ -10,14 +10,14 @@ use crate::fault::{DocCause, DocFault};
 use std::io;
 use std::io::Write;
 
-/// Takes bytes as `std`'s `Write` does, and tells whether a write failed. There is no flush.
+/// Takes bytes as `std`'s `Write` does, and remembers whether a write failed. There is no flush.
 pub trait Sink {
     // The bytes that were written so far, where they are known.
     ghost contents: { Self → Option (List ℕ) };
 
     ghost failed: { Self → Bool };
 
-    /// Takes a front of `buf`, and says how many bytes it took. An interrupted write is an error
+    /// Takes a prefix of `buf`, and says how many bytes it took. An interrupted write is an error
     /// like any other.
     fn write(&mut self, buf: &[u8]) -> io::Result<usize>
         ensures bound { WritesAtMost result buf.now }
@@ -80,7 +80,7 @@ impl<W: Write> Sink for Output<W> {
 
 /// Writes all bytes to a sink that did not fail yet. It takes no memory.
 ///
-/// Its one refusal is 25, where a write gave an error or took none of some bytes; a front of the
+/// Its one refusal is 25, where a write gave an error or took none of some bytes; a prefix of the
 /// bytes was then written.
 pub fn write_out<S: Sink>(writer: &mut S, bytes: &[u8]) -> Result<(), DocFault>
     requires { S.failed writer.old ≡ false }

@@ -16,7 +16,7 @@ pub const MOST_BYTES: usize = 67_108_864;
 // The first size of the buffer that `read_all` fills.
 const FIRST_BYTES: usize = 8192;
 
-/// Gives bytes as `std`'s `Read` does, and tells whether a read failed.
+/// Gives bytes as `std`'s `Read` does, and remembers whether a read failed.
 pub trait Source {
     // The bytes that reads will give from here on, where they are known.
     ghost remaining: { Self → Option (List ℕ) };
@@ -84,7 +84,7 @@ impl<R: Read> Source for Input<R> {
 ///
 /// Refusals, as they come: 23 where the source gave more than [`MOST_BYTES`] bytes, 24 where a read
 /// gave an error, 26 where memory is refused. The source has failed with 24 and with no other
-/// answer, and it is never asked for more than what is left of `MOST_BYTES + 1`.
+/// answer, and no read is given more room than what is left of `MOST_BYTES + 1`.
 pub fn read_all<S: Source>(alloc: Global, reader: &mut S) -> Result<Doc, DocFault>
     requires { S.failed reader.old ≡ false }
     ensures { MatchResult result (ReadsWhole S.failed S.remaining reader.old reader.new) (IsReadFault S.failed S.remaining reader.old reader.new) }
@@ -105,7 +105,7 @@ pub fn read_all<S: Source>(alloc: Global, reader: &mut S) -> Result<Doc, DocFaul
     Err(DocFault::of_no_document(DocCause::TooLarge))
 }
 
-// One read into what of the buffer is not filled yet.
+// One read into the part of the buffer that is not filled yet.
 fn read_behind<S: Source>(reader: &mut S, buffer: &mut Vec<u8>, filled: usize) -> io::Result<usize>
     requires { filled ≤ vec_len buffer.old }
     ensures bound { IfOk result (λ count. filled + count ≤ vec_len buffer.new) }
