@@ -1,9 +1,10 @@
 """Completes lines in real shells, those of bash, zsh and fish that are installed.
 
-It is run by scripts/completions-check. A script stands for lexicat, which writes its arguments and
-its input into a file. A line is typed, then a tab and the end of the line, and the file shows what
-was completed.
+It is run by scripts/completions-check. A script stands for lexicat and for its companions, which
+writes its arguments and its input into a file. A line is typed, then a tab and the end of the line,
+and the file shows what was completed.
 """
+import multiprocessing
 import os
 import pty
 import re
@@ -25,13 +26,30 @@ LINES = [
     ("lexicat status < zz", "args:status input:held"),
     ("lexicat status <zz", "args:status input:held"),
     ("lexicat export > zz", "args:export input:"),
+    ("lexicat-file zz", "args:zz_file.json input:"),
+    ("lexicat-file --wa", "args:--wait=? input:"),
+    ("lexicat-file --wait 5 zz", "args:--wait 5 zz_file.json input:"),
+    ("lexicat-file zz_file.json stat", "args:zz_file.json status input:"),
+    ("lexicat-file --wait=5 zz_file.json upd", "args:--wait=5 zz_file.json update input:"),
+    ("lexicat-file zz_file.json lookup --d", "args:zz_file.json lookup --default=? input:"),
+    ("lexicat-file zz_file.json lookup --scheme e", "args:zz_file.json lookup --scheme extended input:"),
+    ("lexicat-file --wait 5 zz_file.json put --la", "args:--wait 5 zz_file.json put --lang=? input:"),
+    ("lexicat-file zz_file.json sync zz", "args:zz_file.json sync zz_file.json input:"),
+    ("lexicat-file zz_file.json take < zz", "args:zz_file.json take input:held"),
+    ("lexicat-edit zz", "args:zz_file.json input:"),
+    ("lexicat-edit --mis", "args:--missing=? input:"),
+    ("lexicat-edit --missing fr zz", "args:--missing fr zz_file.json input:"),
+    ("lexicat-edit zz_file.json zz", "args:zz_file.json zz input:"),
 ]
+
+# What completes, in an order in which each finds what it stands on later.
+NAMES = ["lexicat-edit", "lexicat-file", "lexicat"]
 
 SETUP = {
     "bash": (
         ["bash", "--norc", "--noprofile", "-i"],
         ["PS1=; bind 'set enable-bracketed-paste off'",
-         f". {ROOT}/completions/lexicat.bash"],
+         *(f". {ROOT}/completions/{name}.bash" for name in NAMES)],
     ),
     "zsh": (
         ["zsh", "-f", "-i"],
@@ -40,7 +58,8 @@ SETUP = {
     ),
     "fish": (
         ["fish", "--no-config", "-i"],
-        ["function fish_prompt; end", f"source {ROOT}/completions/lexicat.fish"],
+        ["function fish_prompt; end",
+         *(f"source {ROOT}/completions/{name}.fish" for name in NAMES)],
     ),
 }
 
@@ -69,9 +88,11 @@ def said_by(shell):
     room = tempfile.mkdtemp()
     said = os.path.join(room, "said")
     os.mkdir(os.path.join(room, "bin"))
-    with open(os.path.join(room, "bin", "lexicat"), "w", encoding="utf-8") as file:
-        file.write(LEXICAT)
-    os.chmod(os.path.join(room, "bin", "lexicat"), 0o755)
+    for name in NAMES:
+        path = os.path.join(room, "bin", name)
+        with open(path, "w", encoding="utf-8") as file:
+            file.write(LEXICAT)
+        os.chmod(path, 0o755)
     command, setup = SETUP[shell]
     process, terminal = pty.fork()
     if process == 0:
@@ -111,16 +132,15 @@ def said_by(shell):
         shutil.rmtree(room, ignore_errors=True)
 
 
-faults, tried = 0, []
-for shell in SETUP:
-    if shutil.which(shell) is None:
-        continue
-    tried.append(shell)
-    for (typed, wanted), got in zip(LINES, said_by(shell)):
-        if not re.fullmatch(wanted, got):
-            told = f"{shell}: {typed!r} and a tab: {got!r}, wanted {wanted!r}"
-            print(f"completions-check: {told}", file=sys.stderr)
-            faults += 1
+tried = [shell for shell in SETUP if shutil.which(shell)]
+faults = 0
+with multiprocessing.Pool(len(SETUP)) as pool:
+    for shell, answers in zip(tried, pool.map(said_by, tried)):
+        for (typed, wanted), got in zip(LINES, answers):
+            if not re.fullmatch(wanted, got):
+                told = f"{shell}: {typed!r} and a tab: {got!r}, wanted {wanted!r}"
+                print(f"completions-check: {told}", file=sys.stderr)
+                faults += 1
 if faults:
     sys.exit(1)
 print(f"completions-check: {len(LINES)} lines completed in {', '.join(tried)}")

@@ -1,0 +1,43 @@
+# Completion of lexicat-file for bash: source this file, or install it into bash-completion's folder,
+# beside that of lexicat, which completes the arguments of a command.
+
+_lexicat_file() {
+    local word=${COMP_WORDS[COMP_CWORD]} site=1 folder=${BASH_SOURCE[0]%/*} file
+    local commands='new put delete status import update export missing filter lookup bundle summary delta take sync'
+    COMPREPLY=()
+    # After a redirection comes a file.
+    case ${COMP_WORDS[COMP_CWORD-1]} in
+        '<' | '>' | '>>' | '<>' | '>|' | '2>' | '2>>' | '&>' | '&>>') compopt -o default 2> /dev/null; return ;;
+    esac
+    # The options before SITE. Bash cuts words at "=": `--wait=5` comes as three.
+    while ((site < COMP_CWORD)); do
+        case ${COMP_WORDS[site]} in
+            --wait)
+                if [[ ${COMP_WORDS[site+1]} == '=' ]]; then ((site += 3)); else ((site += 2)); fi
+                ;;
+            -*) ((site += 1)) ;;
+            *) break ;;
+        esac
+    done
+    if ((site > COMP_CWORD)); then
+        return
+    elif ((site == COMP_CWORD)); then
+        case $word in
+            -*) COMPREPLY=($(compgen -W '--wait --help -h' -- "$word")) ;;
+            *) compopt -o default 2> /dev/null ;;
+        esac
+    elif ((site + 1 == COMP_CWORD)); then
+        COMPREPLY=($(compgen -W "$commands" -- "$word"))
+    elif [[ ${COMP_WORDS[site+1]} == sync && $word != -* ]]; then
+        compopt -o default 2> /dev/null
+    else
+        for file in "$folder/lexicat" "$folder/lexicat.bash"; do
+            declare -F _lexicat > /dev/null || [ ! -f "$file" ] || . "$file"
+        done
+        declare -F _lexicat > /dev/null || return
+        COMP_WORDS=(lexicat "${COMP_WORDS[@]:site+1}")
+        ((COMP_CWORD -= site))
+        _lexicat
+    fi
+}
+complete -F _lexicat_file lexicat-file

@@ -1,0 +1,51 @@
+# Completion of lexicat-file for fish: install it into fish's folder of completions, beside that of
+# lexicat, which completes the arguments of a command.
+
+# Prints SITE and the arguments after it, one a line.
+function __lexicat_file_given
+    set -l words (commandline -opc)[2..-1]
+    while string match -q -- '-*' $words[1]
+        test $words[1] = --wait; and set words $words[2..-1]
+        set words $words[2..-1]
+    end
+    string join \n -- $words
+end
+
+# Whether SITE and so many arguments are given.
+function __lexicat_file_has
+    test (count (__lexicat_file_given)) $argv
+end
+
+# Whether the command is sync.
+function __lexicat_file_syncs
+    set -l given (__lexicat_file_given)
+    test "$given[2]" = sync
+end
+
+# What lexicat offers after its command.
+function __lexicat_file_arguments
+    set -l given (__lexicat_file_given)
+    complete -C "lexicat "(string join ' ' -- (string escape -- $given[2..-1]))" "(commandline -ct)
+end
+
+complete -c lexicat-file -f
+complete -c lexicat-file -n '__lexicat_file_has -eq 0' -F
+complete -c lexicat-file -n '__lexicat_file_has -eq 0' -x -l wait -d 'Wait no longer for the lock'
+complete -c lexicat-file -n '__lexicat_file_has -eq 0' -s h -l help -d 'Print help'
+complete -c lexicat-file -n '__lexicat_file_has -eq 1' -a new -d 'Make the file of a new site'
+complete -c lexicat-file -n '__lexicat_file_has -eq 1' -a put -d 'Put a label into the site'
+complete -c lexicat-file -n '__lexicat_file_has -eq 1' -a delete -d 'Delete a label of the site'
+complete -c lexicat-file -n '__lexicat_file_has -eq 1' -a status -d 'How many cells and labels the site has'
+complete -c lexicat-file -n '__lexicat_file_has -eq 1' -a import -d 'Put the labels of language maps into the site'
+complete -c lexicat-file -n '__lexicat_file_has -eq 1' -a update -d 'Pass on what an editor changed in language maps'
+complete -c lexicat-file -n '__lexicat_file_has -eq 1' -a export -d 'The labels of the site as language maps'
+complete -c lexicat-file -n '__lexicat_file_has -eq 1' -a missing -d 'The messages without a label of a language'
+complete -c lexicat-file -n '__lexicat_file_has -eq 1' -a filter -d 'The labels of a message that fit, best first'
+complete -c lexicat-file -n '__lexicat_file_has -eq 1' -a lookup -d 'The one label of a message that fits best'
+complete -c lexicat-file -n '__lexicat_file_has -eq 1' -a bundle -d 'The one label of each message that fits best'
+complete -c lexicat-file -n '__lexicat_file_has -eq 1' -a summary -d 'The summary of the site'
+complete -c lexicat-file -n '__lexicat_file_has -eq 1' -a delta -d 'The cells that the owner of a summary lacks'
+complete -c lexicat-file -n '__lexicat_file_has -eq 1' -a take -d 'Join a delta into the site'
+complete -c lexicat-file -n '__lexicat_file_has -eq 1' -a sync -d 'Merge the site with that of another file'
+complete -c lexicat-file -n '__lexicat_file_has -ge 2; and __lexicat_file_syncs' -F
+complete -c lexicat-file -n '__lexicat_file_has -ge 2; and not __lexicat_file_syncs' -a '(__lexicat_file_arguments)'
