@@ -2,24 +2,28 @@
  * Accept-Language. Link with -lsilkwaram (`pkg-config --cflags --libs silkwaram`). docs/LIBRARY.md leads in,
  * docs/REFUSALS.md has each refusal by its number, docs/FORMATS.md the documents.
  *
- * Texts are bytes with a length and need no zero byte at the end. A text of length 0 may be NULL. `out` may be NULL
- * where `out_len` is 0, and so may a text; no other pointer may be.
+ * Texts are bytes with a length and need no zero byte at the end. A text of length 0 may be NULL, and so may `out` if
+ * `out_len` is 0. No other pointer may be NULL: not `told`, and not the handle of sw_site_free.
  *
- * Every call answers with a status, and writes `told` whatever the status is. The answer goes to the front of `out` as
- * it is, without a zero byte behind it; the rest of `out` is not touched. Where the answer has more than `out_len`
- * bytes, or where there is none, nothing of `out` is touched. So `told->len > out_len` says that the answer did not
- * fit, and how much room it wants; the status is the same as with room.
+ * Every call returns a status, and writes `told` whatever the status is. The answer goes to the front of `out` as it
+ * is, without a zero byte after it; the rest of `out` is not touched. If the answer has more than `out_len` bytes, or
+ * if there is none, nothing is written to `out`. So `told->len > out_len` means that the answer did not fit, and
+ * `told->len` is the size that it needs; the status is the same as with room: call again.
  *
- * No call prints, waits, ends the process, or keeps a pointer that it was handed. The code behind each call is proved
- * to do what is said here. What the caller owes, which nothing checks:
+ * No call prints, waits, ends the process, or keeps a pointer that it was passed. The code of each call is proved to do
+ * what is said here, but for time, stack and memory, which are measured: that sw_site_share copies no site, and that
+ * the last handle of a site frees its memory, is tried by counting and under valgrind, not proved.
+ *
+ * What the caller owes, which nothing checks:
  *
  * - A text can be read, and `out`, `told` and a handle can be read and written, for their whole length.
- * - What a call writes to (`out`, `told`, a handle that is opened, shared into or freed) overlaps nothing else that the
- *   call is handed, and no other thread touches it during the call.
+ * - What a call writes to (`out`, `told`, a handle that is opened, shared into or freed) overlaps nothing else that is
+ *   passed to the call, and no other thread touches it during the call.
  * - A handle is used by one call at a time, whatever the call; threads that work at once take a handle each, by
  *   sw_site_share. A handle passes from one thread to another by a lock, or by a thread's start or end. It is not
  *   copied: two copies count as one handle, and only one of them may be used from then on.
  * - A handle begins as zeros (`sw_site site = {0};`), and then is changed by these calls alone.
+ * - The thread has 80 KiB of stack left for a call (docs/LIBRARY.md has what each takes); a smaller one may overflow.
  * - No call is made from a signal handler. After a fork the child opens sites of its own.
  * - malloc, realloc and free are those of one allocator, which aligns blocks as the C standard asks. */
 #ifndef SILKWARAM_H
@@ -38,8 +42,8 @@ extern "C" {
 /* How a field is read: the sum of these. Any other bit is SW_USAGE.
  * Without SW_EXTENDED a field is an Accept-Language field (RFC 9110 section 12.5.4): basic ranges with weights. With it
  * the field is a list of extended ranges between commas (RFC 4647 section 2.2), without weights.
- * With SW_LENIENT malformed elements of a field are passed over, as RFC 9110 section 12.5.4 leaves to a server;
- * without it they are refused (9). */
+ * With SW_LENIENT malformed elements of a field are skipped, as RFC 9110 section 12.5.4 leaves to a server; without it
+ * they are refused (9). */
 #define SW_EXTENDED 1u
 #define SW_LENIENT 2u
 
@@ -50,7 +54,7 @@ extern "C" {
 #define SW_REFUSED 3   /* refused, by told->number */
 #define SW_NO_MEMORY 5 /* refused by 26: out of memory; the same call may be made again */
 
-/* What a call tells beside its status. What a call does not name below is 0. */
+/* What a call reports beside its status. What a call does not name below is 0. */
 typedef struct sw_told {
   size_t len;      /* bytes of the answer, also where they did not fit */
   size_t offset;   /* of the refusals 3, 9 and 18: the place in the text that is refused, in bytes from 0 */
@@ -68,26 +72,26 @@ typedef struct sw_site {
 uint32_t sw_version(void);
 
 /* Which of some languages a reader gets (RFC 4647 section 3.4). `tags` are the languages there are: language tags in
- * any case, or `@none`, one on a line, with or without an LF (a byte 10) behind the last; no bytes at all are no tags.
- * `dflt` is the language for who gets no other, or nothing. The answer is the tag as it stands in `tags`, at most 255
- * bytes; of tags that are equal without case, the first.
+ * any case, or `@none`, one on a line, with or without an LF (a byte 10) after the last; no bytes at all are no tags.
+ * `dflt` is the language for readers who get no other, or nothing. The answer is the tag as it is in `tags`, at most
+ * 255 bytes; of tags that are equal without case, the first.
  *   SW_FOUND     lookup finds a tag; or it finds none, and the default is among the tags and is not refused by the
  *                field: then told->count is 1
  *   SW_NOTHING   neither
  *   SW_REFUSED   first the default (1 to 4), then the field (8, 9), then the tags in their order (1 to 4; a line
  *                without bytes is 1); told->offset counts from the first byte of the default, the field or that tag
- * Where a request has no Accept-Language, hand in `*`: an empty field is an empty list, which finds the default alone.
- * A field has at most 65,535 bytes (8). */
+ * If a request has no Accept-Language, pass `*`; an empty field is an empty list. Both find the default alone: so let
+ * the default be your first language. A field has at most 65,535 bytes (8). */
 int32_t sw_pick(uint32_t flags, const uint8_t *field, size_t field_len, const uint8_t *tags, size_t tags_len,
                 const uint8_t *dflt, size_t dflt_len, uint8_t *out, size_t out_len, sw_told *told);
 
-/* Reads a site document into a handle. Where the handle is open, its old site is let go once the new one is read, and
- * stays where the document is refused: so a running server takes up a new state. The text is not needed any more when
- * the call is over. Memory: some 400 bytes a cell.
+/* Reads a site document into a handle. If the handle is open, its old site is let go once the new one is read, and
+ * stays if the document is refused: so a running server takes up a new state. The text is not needed after the call.
+ * The document may be of any length (the command reads no more than 64 MiB). Memory: some 400 bytes a cell.
  *   SW_FOUND     the site is read
  *   SW_REFUSED   the document (18 to 21, 27, 28), or an id, a language or a label in a row of it (10; 1 to 4; 11, 12).
- *                told->row is that row, where one is meant, told->offset the place in the document (18) or in
- *                the tag (3) */
+ *                told->row is that row, if it is of a row, told->offset the place in the document (18) or in the
+ *                tag (3) */
 int32_t sw_site_open(const uint8_t *text, size_t text_len, sw_site *site, sw_told *told);
 
 /* The label of a message that a reader gets (RFC 4647 section 3.4), over the languages in which the message has one.
@@ -95,8 +99,8 @@ int32_t sw_site_open(const uint8_t *text, size_t text_len, sw_site *site, sw_tol
  * LANGUAGE LABEL`, `default LANGUAGE LABEL` or `nothing`, where LABEL is a JSON array of the label's texts.
  *   SW_FOUND     a label is found
  *   SW_NOTHING   none is; the answer is the line `nothing`
- *   SW_USAGE     also where the handle is not open
- *   SW_REFUSED   first the id (10, also where it is not UTF-8), then the default (1 to 4), then the field (8, 9)
+ *   SW_USAGE     also if the handle is not open
+ *   SW_REFUSED   first the id (10, also if it is not UTF-8), then the default (1 to 4), then the field (8, 9)
  * A message that the site does not have is SW_NOTHING. */
 int32_t sw_site_lookup(sw_site *site, uint32_t flags, const uint8_t *id, size_t id_len, const uint8_t *field,
                        size_t field_len, const uint8_t *dflt, size_t dflt_len, uint8_t *out, size_t out_len,
@@ -121,21 +125,25 @@ int32_t sw_site_filter(sw_site *site, uint32_t flags, const uint8_t *id, size_t 
 
 /* All labels of one reader: of each message the label that sw_site_lookup finds, under its language. The answer is the
  * JSON document of the command `bundle` with its LF: language maps, as {"greeting":{"fr":"Bonjour"}}.
+ * Time: a lookup for each message, so it grows with messages times ranges. Over 16,000 messages of 20 languages a field
+ * of 100 bytes takes 10 milliseconds, a hostile one of 8,000 bytes 5 seconds: bound the field of a stranger, or pick a
+ * tag first and bundle for that tag.
  *   SW_FOUND     there is at least one label
  *   SW_NOTHING   there is none; the answer is the line `{}`
  *   SW_USAGE, SW_REFUSED   as sw_site_lookup, without the id */
 int32_t sw_site_bundle(sw_site *site, uint32_t flags, const uint8_t *field, size_t field_len, const uint8_t *dflt,
                        size_t dflt_len, uint8_t *out, size_t out_len, sw_told *told);
 
-/* Makes `other` one more handle of the same site, for another thread. The site is not copied. Where `other` is open,
- * its old site is let go. Each of the two handles is freed for itself, in any order.
+/* Makes `other` one more handle of an equal site, for another thread. The memory of the site is shared, not copied
+ * (measured, not proved). If `other` is open, its old site is let go. Each of the two handles is freed by itself, in
+ * any order.
  *   SW_FOUND      done
  *   SW_USAGE      the handle is not open; `other` stays as it is
  *   SW_NO_MEMORY  `other` stays as it is */
 int32_t sw_site_share(sw_site *site, sw_site *other);
 
-/* Lets a site go and leaves zeros in the handle. The last handle of a site frees its memory. A handle of zeros stays as
- * it is. */
+/* Lets a site go and leaves zeros in the handle. The last handle of a site frees its memory (tried, not proved). A
+ * handle of zeros stays as it is. */
 void sw_site_free(sw_site *site);
 
 #ifdef __cplusplus

@@ -3,7 +3,10 @@
  * usage: label SITE.json ID FIELD [DEFAULT]
  *
  *     cc label.c -o label $(pkg-config --cflags --libs silkwaram)
- *     ./label site.json greeting 'fr-CA, en;q=0.5' en */
+ *     ./label site.json greeting 'fr-CA, en;q=0.5' en
+ *
+ * Ends with 0 if a text was printed, 1 if there is none for this reader, 2 for wrong usage, 3 if something is refused,
+ * 4 if the file cannot be read or the text cannot be written, 5 if memory runs out. */
 #include <silkwaram.h>
 #include <stdio.h>
 #include <stdlib.h>
@@ -24,6 +27,21 @@ static uint8_t *read_file(const char *name, size_t *len) {
   return bytes;
 }
 
+/* What a refusal means, in short. */
+static const char *meaning(uint32_t number) {
+  switch (number) {
+    case 1: case 2: case 3: case 4: return "a language tag is not well-formed";
+    case 8: return "the field is too long";
+    case 9: return "an element of the field is malformed";
+    case 10: return "a message id is malformed";
+    case 18: return "the document is not UTF-8";
+    case 19: return "the document is not JSON";
+    case 26: return "out of memory";
+    case 28: return "the document is of a later version";
+    default: return "this is no site document";
+  }
+}
+
 static const uint8_t *bytes(const char *text) { return (const uint8_t *)text; }
 
 /* Prints the first text of the label, in a block of memory of just its size where the buffer has no room. */
@@ -38,7 +56,7 @@ static int32_t print_text(sw_site *site, const char *id, const char *field, cons
     status = sw_site_text(site, 0, bytes(id), strlen(id), bytes(field), strlen(field), bytes(dflt), strlen(dflt), 0,
                           out, room, told);
   }
-  if (status == SW_FOUND) printf("%.*s\n", (int)told->len, (const char *)out);
+  if (status == SW_FOUND && (printf("%.*s\n", (int)told->len, (const char *)out) < 0 || fflush(stdout))) status = 4;
   if (out != buffer) free(out);
   return status;
 }
@@ -59,7 +77,9 @@ int main(int count, char **words) {
   int32_t status = sw_site_open(document, len, &site, &told);
   free(document);
   if (status == SW_FOUND) status = print_text(&site, words[2], words[3], count == 5 ? words[4] : "", &told);
-  if (told.number) fprintf(stderr, "refused %u: docs/REFUSALS.md\n", told.number);
+  if (told.number)
+    fprintf(stderr, "refused %u: %s (byte %zu, row %zu; docs/REFUSALS.md)\n", told.number, meaning(told.number),
+            told.offset, told.row);
   sw_site_free(&site);
   return status;
 }

@@ -3,15 +3,25 @@
     SILKWARAM_LIBRARY=build/lib/libsilkwaram.so PYTHONPATH=bindings/python/src \
         python3 -m unittest discover -s bindings/python/tests
 """
+import array
+import contextlib
+import copy
+import io
 import json
+import mmap
 import os
+import pickle
 import re
+import subprocess
+import sys
+import tempfile
 import threading
 import unittest
+from unittest import mock
 
 import silkwaram
 from silkwaram import Choice, Label, Refused, Site, pick
-from silkwaram._refusals import MEANINGS
+from silkwaram._refusals import TEXTS, WITH_OFFSET
 
 HEADER = os.path.join(os.path.dirname(__file__), "../../../include/silkwaram.h")
 
@@ -33,6 +43,9 @@ PARIS = document(
     ("greeting", "en", ["Hello"]),
     ("größe", "ja", ["サイズ"]),
 )
+
+
+BUFFERS = (bytes, bytearray, memoryview, lambda text: array.array("B", text))
 
 
 class Picks(unittest.TestCase):
@@ -68,7 +81,7 @@ class Picks(unittest.TestCase):
         with self.assertRaises(Refused) as it:
             pick("fr, en_US", ["en"])
         self.assertEqual((it.exception.number, it.exception.offset, it.exception.row), (9, 4, None))
-        self.assertEqual(str(it.exception), "refused 9: an element of the field is malformed, at 4")
+        self.assertEqual(str(it.exception), "refused 9: field element at 4")
 
     def test_a_malformed_element_that_is_passed_over(self):
         self.assertEqual(pick("en_US, fr;q=0.5", ["en", "fr"], lenient=True), "fr")
@@ -95,14 +108,97 @@ class Picks(unittest.TestCase):
         self.assertEqual(it.exception.number, 9)
 
     def test_one_text_in_place_of_tags(self):
-        with self.assertRaises(TypeError):
-            pick("en", "en")
+        for tags in ("en", b"en", bytearray(b"en"), memoryview(b"en")):
+            with self.subTest(tags=tags), self.assertRaisesRegex(TypeError, "^tags must be an it"):
+                pick("en", tags)
+
+    def test_buffers(self):
+        for kind in BUFFERS:
+            with self.subTest(kind=kind):
+                tag = pick(kind(b"ja, de"), ["en", "de"], default=kind(b"en"))
+                self.assertEqual(tag, "de")
+                self.assertEqual(pick(kind(b"ja"), ["en", "de"], default=kind(b"en")), "en")
+
+    def test_wrong_types(self):
+        generated = (it for it in ["en", None])
+        for ask, message in [
+            (lambda: pick(5, ["en"]), "field must be str or bytes-like, not int"),
+            (lambda: pick(["en"], ["en"]), "field must be str or bytes-like, not list"),
+            (lambda: pick("en", None), "tags must be an iterable of str, not NoneType"),
+            (lambda: pick("en", 5), "tags must be an iterable of str, not int"),
+            (lambda: pick("en", [b"en"]), "tags[0] must be str, not bytes"),
+            (lambda: pick("en", generated), "tags[1] must be str, not NoneType"),
+            (lambda: pick("en", ["en"], default=1), "default must be str or bytes-like, not int"),
+        ]:
+            with self.subTest(message=message), self.assertRaises(TypeError) as it:
+                ask()
+            self.assertEqual(str(it.exception), message)
+
+    def test_a_fault_of_what_gives_the_tags(self):
+        def tags():
+            yield "en"
+            raise TypeError("of the caller")
+
+        with self.assertRaisesRegex(TypeError, "^of the caller$"):
+            pick("en", tags())
 
 
 class Questions(unittest.TestCase):
     def setUp(self):
         self.site = Site.open(PARIS)
         self.addCleanup(self.site.close)
+
+    def test_places_that_no_label_has(self):
+        for place in (2, 63, 64, 2**31, 2**32, 2**63, 2**64 - 1, 2**64, 2**64 + 1, 2**65, 10**30):
+            with self.subTest(place=place):
+                self.assertIsNone(self.site.text("greeting", "de", place=place))
+        for place in (-1, -(2**64), -(2**64) + 1):
+            with self.subTest(place=place), self.assertRaisesRegex(ValueError, "counts from 0"):
+                self.site.text("greeting", "de", place=place)
+        with self.assertRaises(Refused) as it:
+            self.site.text("@m", "de", place=2**64)
+        self.assertEqual(it.exception.number, 10)
+
+    def test_places_by_index(self):
+        class One:
+            def __index__(self):
+                return 1
+
+        for place in (1, True, One()):
+            self.assertEqual(self.site.text("greeting", "de", place=place), "Guten Tag")
+
+    def test_buffers(self):
+        for kind in BUFFERS:
+            with self.subTest(kind=kind):
+                name, field = kind("größe".encode()), kind(b"ja")
+                self.assertEqual(self.site.text(name, field), "サイズ")
+                self.assertEqual(self.site.lookup(name, field), Label("ja", ["サイズ"], False))
+                self.assertEqual(self.site.filter(name, field), [Choice("ja", 1000, ["サイズ"])])
+                self.assertEqual(self.site.bundle(field), {"größe": {"ja": "サイズ"}})
+                self.assertEqual(self.site.text(b"greeting", "fr", default=kind(b"en")), "Hello")
+
+    def test_wrong_types(self):
+        site, wanted = self.site, "must be str or bytes-like, not"
+        for ask, message in [
+            (lambda: site.text(None, "en"), f"id {wanted} NoneType"),
+            (lambda: site.text("m", 5), f"field {wanted} int"),
+            (lambda: site.text("m", "en", default=5), f"default {wanted} int"),
+            (lambda: site.text("m", "en", place=1.5), "place must be int, not float"),
+            (lambda: site.text("m", "en", place="0"), "place must be int, not str"),
+            (lambda: site.text("m", "en", place=None), "place must be int, not NoneType"),
+            (lambda: site.lookup(5, "en"), f"id {wanted} int"),
+            (lambda: site.lookup("m", ["en"]), f"field {wanted} list"),
+            (lambda: site.filter(["m"], "en"), f"id {wanted} list"),
+            (lambda: site.filter("m", {}), f"field {wanted} dict"),
+            (lambda: site.bundle(5), f"field {wanted} int"),
+            (lambda: site.bundle("en", default=("en",)), f"default {wanted} tuple"),
+            (lambda: site.reload(None), f"document {wanted} NoneType"),
+            (lambda: Site.open(io.BytesIO(PARIS)), f"document {wanted} BytesIO"),
+        ]:
+            with self.subTest(message=message), self.assertRaises(TypeError) as it:
+                ask()
+            self.assertEqual(str(it.exception), message)
+        self.assertEqual(site.text("greeting", "en"), "Hello")
 
     def test_lookup(self):
         self.assertEqual(
@@ -159,6 +255,66 @@ class Questions(unittest.TestCase):
         site.close()
 
 
+class Slow:
+    """The library, whose first reading of a document ends when it is told to."""
+
+    def __init__(self, library):
+        self.library, self.begun, self.end = library, threading.Event(), threading.Event()
+
+    def __getattr__(self, name):
+        return getattr(self.library, name)
+
+    def sw_site_open(self, *words):
+        is_first = not self.begun.is_set()
+        self.begun.set()
+        if is_first:
+            self.end.wait(60)
+        return self.library.sw_site_open(*words)
+
+
+@contextlib.contextmanager
+def slow_reading():
+    """Gives what is set when a document is being read, and what is to be set for its end."""
+    slow = Slow(silkwaram._site.library)
+    with mock.patch.object(silkwaram._site, "library", slow):
+        try:
+            yield slow.begun, slow.end
+        finally:
+            slow.end.set()
+
+
+class Counting:
+    """The library, and the handles that are open."""
+
+    def __init__(self, library):
+        self.library, self.held = library, set()
+
+    def __getattr__(self, name):
+        return getattr(self.library, name)
+
+    def _changed(self, handle, call):
+        result = call()
+        (self.held.add if handle.held else self.held.discard)(id(handle))
+        return result
+
+    def sw_site_open(self, text, size, handle, told):
+        return self._changed(handle, lambda: self.library.sw_site_open(text, size, handle, told))
+
+    def sw_site_share(self, handle, other):
+        return self._changed(other, lambda: self.library.sw_site_share(handle, other))
+
+    def sw_site_free(self, handle):
+        return self._changed(handle, lambda: self.library.sw_site_free(handle))
+
+
+@contextlib.contextmanager
+def counting():
+    """Gives the handles that are open, of those that are opened meanwhile."""
+    counted = Counting(silkwaram._site.library)
+    with mock.patch.object(silkwaram._site, "library", counted):
+        yield counted.held
+
+
 class Handles(unittest.TestCase):
     def test_a_site_that_is_closed(self):
         with Site.open(PARIS) as site:
@@ -201,6 +357,138 @@ class Handles(unittest.TestCase):
                 self.assertEqual((fault.number, fault.offset, fault.row), (number, offset, row))
             self.assertEqual(site.text("greeting", "en"), "Hello")
 
+    def test_a_copy_is_a_share(self):
+        site = Site.open(PARIS)
+        other = copy.copy(site)
+        self.assertIsInstance(other, Site)
+        other.close()
+        self.assertEqual(site.text("greeting", "en"), "Hello")
+        other = copy.copy(site)
+        del other
+        self.assertEqual(site.text("greeting", "en"), "Hello")
+        other = copy.copy(site)
+        site.close()
+        self.assertEqual(other.text("greeting", "en"), "Hello")
+        other.close()
+
+    def test_what_copies_no_site(self):
+        with Site.open(PARIS) as site:
+            for make in (
+                copy.deepcopy,
+                pickle.dumps,
+                lambda it: pickle.dumps(it, 0),
+                lambda it: copy.deepcopy([it]),
+            ):
+                with self.assertRaisesRegex(TypeError, r"neither pickled nor copied .* share\(\)"):
+                    make(site)
+            self.assertEqual(site.text("greeting", "en"), "Hello")
+
+    def test_documents_in_buffers(self):
+        for kind in BUFFERS:
+            with self.subTest(kind=kind), Site.open(kind(PARIS)) as site:
+                self.assertEqual(site.text("greeting", "en"), "Hello")
+        with Site.open(PARIS.decode()) as site:
+            self.assertEqual(site.text("größe", "ja"), "サイズ")
+
+    def test_a_document_that_is_mapped(self):
+        with tempfile.TemporaryFile() as it:
+            it.write(PARIS)
+            it.flush()
+            with mmap.mmap(it.fileno(), 0, access=mmap.ACCESS_READ) as mapped:
+                with Site.open(mapped) as site:
+                    self.assertEqual(site.text("greeting", "en"), "Hello")
+
+    def test_a_name_in_place_of_a_document(self):
+        hint = "(wanted: the document itself, not its name)"
+        for text in ("site.json", "/srv/größe.json"):
+            with self.subTest(text=text), self.assertRaises(Refused) as it:
+                Site.open(text)
+            self.assertEqual(it.exception.number, 19)
+            self.assertEqual(str(it.exception), f"refused 19: not JSON {hint}")
+        for text in ("", '{"cells":', b"site.json", "x" * 1000):
+            with self.subTest(text=text), self.assertRaises(Refused) as it:
+                Site.open(text)
+            self.assertEqual(str(it.exception), "refused 19: not JSON")
+
+    def test_questions_do_not_wait_for_a_document_that_is_read(self):
+        site, answers = Site.open(PARIS), []
+        self.addCleanup(site.close)
+        with slow_reading() as (begun, end):
+            reading = threading.Thread(
+                target=site.reload, args=[document(("greeting", "en", ["Good day"]))]
+            )
+            reading.start()
+            self.assertTrue(begun.wait(60))
+            asking = threading.Thread(
+                target=lambda: answers.append((site.text("greeting", "en"), end.is_set()))
+            )
+            asking.start()
+            asking.join(5)
+            end.set()
+            asking.join()
+            reading.join()
+        self.assertEqual(answers, [("Hello", False)])
+        self.assertEqual(site.text("greeting", "en"), "Good day")
+
+    def test_a_second_reload_waits_for_the_first(self):
+        site = Site.open(PARIS)
+        self.addCleanup(site.close)
+        with slow_reading() as (begun, end):
+            first, second = [
+                threading.Thread(target=site.reload, args=[document(("greeting", "en", [text]))])
+                for text in ("first", "second")
+            ]
+            first.start()
+            self.assertTrue(begun.wait(60))
+            second.start()
+            second.join(0.2)
+            end.set()
+            first.join()
+            second.join()
+        self.assertEqual(site.text("greeting", "en"), "second")
+
+    def test_a_closed_site_is_opened_by_a_reload(self):
+        site = Site.open(PARIS)
+        site.close()
+        site.reload(PARIS)
+        self.assertEqual(site.text("greeting", "en"), "Hello")
+        site.close()
+
+    def test_each_site_that_is_opened_is_let_go(self):
+        with counting() as held:
+            with Site.open(PARIS) as site:
+                self.assertEqual(len(held), 1)
+                for _ in range(3):
+                    site.reload(PARIS)
+                    self.assertEqual(len(held), 1)
+                with self.assertRaises(Refused):
+                    site.reload("{")
+                other = site.share()
+                self.assertEqual(len(held), 2)
+            self.assertEqual(len(held), 1)
+            del other
+            self.assertEqual(held, set())
+            Site.open(PARIS)
+            self.assertEqual(held, set())
+
+    def test_a_site_whose_class_did_not_begin_it(self):
+        program = """
+from silkwaram import Site
+class Bare(Site):
+    def __init__(self, name):
+        self.name = name
+Bare("a")
+try:
+    Bare.open("{}")
+except TypeError:
+    pass
+kept = Site.open('{"cells":[],"kind":"site","site":"paris","version":2}')
+"""
+        ran = subprocess.run(
+            [sys.executable, "-X", "dev", "-c", program], capture_output=True, text=True
+        )
+        self.assertEqual((ran.returncode, ran.stderr), (0, ""))
+
     def test_threads_that_use_one_site_and_shares_of_it(self):
         wrong = []
 
@@ -235,12 +523,59 @@ class Copies(unittest.TestCase):
         self.assertEqual(sorted(declared), sorted(silkwaram._library._CALLS))
 
     @unittest.skipUnless(os.path.exists(HEADER), "outside the repository")
-    def test_each_number_is_a_refusal_of_the_table(self):
+    def test_the_texts_of_the_refusals(self):
         with open(
             os.path.join(os.path.dirname(HEADER), "../docs/REFUSALS.md"), encoding="utf-8"
         ) as it:
-            numbers = {int(number) for number in re.findall(r"^\| (\d+) \|", it.read(), re.M)}
-        self.assertLessEqual(set(MEANINGS), numbers)
+            rows = dict(re.findall(r"^\| (\d+) \| `(.*?)`", it.read(), re.M))
+        self.assertEqual(TEXTS, {number: rows[str(number)] for number in TEXTS})
+        with_offset = {number for number, text in TEXTS.items() if "OFFSET" in text}
+        self.assertEqual(set(WITH_OFFSET), with_offset)
+
+
+class Libraries(unittest.TestCase):
+    def test_another_library_and_none(self):
+        for path, message in [
+            ("libc.so.6", "libc.so.6 is not Silkwaram's library"),
+            ("/nowhere/libsilkwaram.so", "/nowhere/libsilkwaram.so cannot be loaded"),
+        ]:
+            program = "try:\n    import silkwaram\nexcept ImportError as fault:\n    print(fault)"
+            ran = subprocess.run(
+                [sys.executable, "-c", program],
+                env={**os.environ, "SILKWARAM_LIBRARY": path},
+                capture_output=True,
+                text=True,
+            )
+            with self.subTest(path=path):
+                self.assertIn(message, ran.stdout)
+                self.assertEqual((ran.returncode, ran.stderr), (0, ""))
+
+
+class Faults(unittest.TestCase):
+    def test_what_a_refusal_says(self):
+        for fault, line in [
+            (Refused(3, 2), "refused 3: subtag at 2"),
+            (Refused(3, 2, 0), "refused 3: subtag at 2 in row 0"),
+            (Refused(11, None, 7), "refused 11: a text is over 65535 bytes in row 7"),
+            (
+                Refused(12, None, 0),
+                "refused 12: label has no or too many texts in row 0 (wanted: 1 to 64)",
+            ),
+            (Refused(28), "refused 28: version unknown (wanted: 1 or 2)"),
+            (Refused(99), "refused 99: unknown"),
+        ]:
+            with self.subTest(line=line):
+                self.assertEqual(str(fault), line)
+
+    def test_a_refusal_that_is_pickled(self):
+        fault = pickle.loads(pickle.dumps(Refused(3, 2, 4)))
+        self.assertIs(type(fault), Refused)
+        self.assertEqual((fault.number, fault.offset, fault.row), (3, 2, 4))
+        self.assertEqual(str(fault), "refused 3: subtag at 2 in row 4")
+        fault = copy.copy(Refused(19, wanted="the document itself, not its name"))
+        self.assertEqual(
+            str(fault), "refused 19: not JSON (wanted: the document itself, not its name)"
+        )
 
 
 if __name__ == "__main__":
