@@ -1,18 +1,28 @@
 """Builds the package with Python's standard library alone, so that an installation fetches nothing.
 
-These are the calls of PEP 517 that pip makes. The wheel has the modules as they stand.
+These are the calls of PEP 517 that pip makes. The wheel has the modules as they stand. With the
+setting `library`, the path of libsilkwaram.so, it has the library too, and bears the tag of the
+machines that this runs on; that wants `objdump` of binutils:
+
+    pip wheel --config-settings library=$PWD/build/lib/libsilkwaram.so ./bindings/python
 """
 import base64
+import gzip
 import hashlib
 import io
 import os
 import re
+import subprocess
 import tarfile
 import zipfile
 
 HERE = os.path.dirname(os.path.abspath(__file__))
 NAME = "silkwaram"
-ZIP_EPOCH = (1980, 1, 1, 0, 0, 0)
+LICENCES = ["LICENSE-APACHE", "LICENSE-MIT"]
+SONAME = "libsilkwaram.so.0"
+GLIBC = (2, 17)
+# The first of January 1980, before which no date of a file in a wheel can be.
+EPOCH, ZIP_EPOCH = 315532800, (1980, 1, 1, 0, 0, 0)
 
 
 def read(path):
@@ -26,16 +36,34 @@ def version():
     ].decode()
 
 
+def licences():
+    """The licence files: in a source package beside this file, in the repository at its top."""
+    found = {}
+    for name in LICENCES:
+        for folder in ("", "../../"):
+            if os.path.exists(os.path.join(HERE, folder + name)):
+                found[name] = read(folder + name)
+                break
+    return found
+
+
 def metadata():
+    """The fields as pyproject.toml has them, and the page."""
     project = read("pyproject.toml").decode()
-    value = lambda name: re.search(rf'^{name} = (?:\{{ text = )?"(.*?)"', project, re.M)[1]
+    value = lambda name: re.search(rf'^{name} = "(.*?)"', project, re.M)[1]
+    classifiers = re.search(r"^classifiers = \[(.*?)\]", project, re.M | re.S)[1]
+    address = re.search(r'^maintainers = .* email = "(.*?)"', project, re.M)[1]
     head = [
-        "Metadata-Version: 2.1",
+        "Metadata-Version: 2.4",
         f"Name: {NAME}",
         f"Version: {version()}",
         f"Summary: {value('description')}",
-        f"License: {value('license')}",
+        f"Maintainer-email: {address}",
+        f"License-Expression: {value('license')}",
+        *[f"License-File: {it}" for it in licences()],
+        *[f"Classifier: {it}" for it in re.findall(r'"(.*?)"', classifiers)],
         f"Requires-Python: {value('requires-python')}",
+        f"Project-URL: Homepage, {value('Homepage')}",
         "Description-Content-Type: text/markdown",
     ]
     return ("\n".join(head) + "\n\n").encode() + read("README.md")
@@ -46,6 +74,28 @@ def modules():
     return sorted(it for it in os.listdir(folder) if it.endswith((".py", ".typed")))
 
 
+def library_tag(path):
+    """The tag of the machines that a library runs on; a ValueError where it wants more of them."""
+    said = subprocess.run(
+        ["objdump", "-p", path],
+        check=True,
+        stdout=subprocess.PIPE,
+        universal_newlines=True,
+        env={**os.environ, "LC_ALL": "C"},
+    ).stdout
+    if "file format elf64-x86-64" not in said or f"SONAME               {SONAME}\n" not in said:
+        raise ValueError(f"{path} is not {SONAME} for x86-64")
+    others = set(re.findall(r"NEEDED +(\S+)", said)) - {"libc.so.6"}
+    if others:
+        raise ValueError(f"{path} wants {', '.join(sorted(others))}, which not every machine has")
+    versions = said.partition("Version References:")[2]
+    for wanted in re.findall(r"^ +0x\w+ 0x\w+ \d+ (\S+)$", versions, re.M):
+        number = re.fullmatch(r"GLIBC_(\d+)\.(\d+)(?:\.\d+)?", wanted)
+        if not number or (int(number[1]), int(number[2])) > GLIBC:
+            raise ValueError(f"{path} wants {wanted}, and the tag says GLIBC_{GLIBC[0]}.{GLIBC[1]}")
+    return f"manylinux_{GLIBC[0]}_{GLIBC[1]}_x86_64"
+
+
 def record_line(path, content):
     digest = base64.urlsafe_b64encode(hashlib.sha256(content).digest()).rstrip(b"=").decode()
     return f"{path},sha256={digest},{len(content)}\n"
@@ -54,13 +104,20 @@ def record_line(path, content):
 def build_wheel(wheel_directory, config_settings=None, metadata_directory=None):
     info = f"{NAME}-{version()}.dist-info"
     files = {f"{NAME}/{it}": read(f"src/{NAME}/{it}") for it in modules()}
+    library = (config_settings or {}).get("library")
+    machines = "any"
+    if library:
+        machines = library_tag(library)
+        files[f"{NAME}/{SONAME}"] = read(library)
+    files.update({f"{info}/licenses/{it}": content for it, content in licences().items()})
     files[f"{info}/METADATA"] = metadata()
-    files[
-        f"{info}/WHEEL"
-    ] = b"Wheel-Version: 1.0\nGenerator: silkwaram\nRoot-Is-Purelib: true\nTag: py3-none-any\n"
+    files[f"{info}/WHEEL"] = (
+        "Wheel-Version: 1.0\nGenerator: silkwaram\n"
+        f"Root-Is-Purelib: {'false' if library else 'true'}\nTag: py3-none-{machines}\n"
+    ).encode()
     record = "".join(record_line(path, content) for path, content in files.items())
     files[f"{info}/RECORD"] = f"{record}{info}/RECORD,,\n".encode()
-    made = f"{NAME}-{version()}-py3-none-any.whl"
+    made = f"{NAME}-{version()}-py3-none-{machines}.whl"
     with zipfile.ZipFile(os.path.join(wheel_directory, made), "w", zipfile.ZIP_DEFLATED) as wheel:
         for path, content in files.items():
             entry = zipfile.ZipInfo(path, ZIP_EPOCH)
@@ -78,10 +135,15 @@ def build_sdist(sdist_directory, config_settings=None):
         *[f"src/{NAME}/{it}" for it in modules()],
     ]
     files = {it: read(it) for it in paths}
+    files.update({it: licences()[it] for it in LICENCES})
     files["PKG-INFO"] = metadata()
-    with tarfile.open(os.path.join(sdist_directory, f"{base}.tar.gz"), "w:gz") as archive:
+    made = f"{base}.tar.gz"
+    # (with no name and a date of its own inside, so that the same sources give the same bytes)
+    with open(os.path.join(sdist_directory, made), "wb") as file, gzip.GzipFile(
+        "", "wb", 9, file, EPOCH
+    ) as packed, tarfile.open(fileobj=packed, mode="w", format=tarfile.PAX_FORMAT) as archive:
         for path, content in files.items():
             entry = tarfile.TarInfo(f"{base}/{path}")
-            entry.size = len(content)
+            entry.size, entry.mtime = len(content), EPOCH
             archive.addfile(entry, io.BytesIO(content))
-    return f"{base}.tar.gz"
+    return made

@@ -41,17 +41,6 @@ class Answer(NamedTuple):
     text: bytes
 
 
-def _loaded() -> ctypes.CDLL:
-    path = os.environ.get("SILKWARAM_LIBRARY") or NAME
-    try:
-        return ctypes.CDLL(path)
-    except OSError as fault:
-        raise ImportError(
-            f"{path} cannot be loaded ({fault}): install Silkwaram's library, or name its file by"
-            " SILKWARAM_LIBRARY"
-        ) from fault
-
-
 _TEXT = [c_char_p, c_size_t]
 _OUT = [c_char_p, c_size_t, POINTER(Told)]
 _SITE = [POINTER(Handle)]
@@ -67,10 +56,34 @@ _CALLS = {
     "sw_site_free": (None, [*_SITE]),
 }
 
-library = _loaded()
-for _name, (_result, _parameters) in _CALLS.items():
-    _call = getattr(library, _name)
-    _call.restype, _call.argtypes = _result, _parameters
+
+def _path() -> str:
+    """The library that the environment names, else the one beside this file, else the loader's."""
+    beside = os.path.join(os.path.dirname(os.path.abspath(__file__)), NAME)
+    return os.environ.get("SILKWARAM_LIBRARY") or (beside if os.path.exists(beside) else NAME)
+
+
+def _loaded(path: str) -> ctypes.CDLL:
+    """The library with its calls declared; an ImportError where it is another, or not there."""
+    try:
+        loaded = ctypes.CDLL(path)
+    except OSError as fault:
+        raise ImportError(
+            f"{path} cannot be loaded ({fault}): install Silkwaram's library, or name its file by"
+            " SILKWARAM_LIBRARY"
+        ) from fault
+    for name, (result, parameters) in _CALLS.items():
+        try:
+            call = getattr(loaded, name)
+        except AttributeError as fault:
+            raise ImportError(
+                f"{path} is not Silkwaram's library, or one of an older version: it has no {name}"
+            ) from fault
+        call.restype, call.argtypes = result, parameters
+    return loaded
+
+
+library = _loaded(_path())
 
 
 def answered(call: Call) -> Answer:
