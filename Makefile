@@ -1,7 +1,10 @@
-# `make` builds the proved command, `make library` the library for C, `make demo` shows the command,
-# `make test` is the whole gate.
-# Needed: make and the Rattle kit (`rt`, which brings python3); for the library a C compiler and
-# binutils; for `make bench` also cargo, valgrind and GNU time; for `make dist` git and dpkg-deb too.
+# `make try` gives an answer from the sources, `make` builds the proved command, `make library` the
+# library for C, `make demo` shows the command, `make test` is the whole gate, `make help` lists all.
+# Needed, on x86-64 Linux: make, bash, tar, awk and the usual GNU tools (coreutils, findutils, grep,
+# sed, diffutils); the Rattle kit, whose command `rt` is on the PATH or named by RT=; and python3 3.8
+# or later, since rt is written in it and the kit has none. For the library a C compiler and binutils;
+# for `make test` these and valgrind; for `make bench` also cargo, valgrind and GNU time; for
+# `make dist` git and dpkg-deb too.
 SHELL := bash
 RT ?= rt
 PREFIX ?= /usr/local
@@ -10,37 +13,60 @@ SOURCES := crates.txt $(shell find crates \
 	\( -name out -o -name '*_tests' -o -name 'example_*' -o -name bench \) -prune \
 	-o -type f \( -name '*.rt' -o -name '*.antt' \) -print)
 
-.PHONY: all library demo test test-alone check-docs bench bench-documents bench-front \
-	install install-command install-library uninstall dist clean
+.PHONY: all help try try-session library demo test test-alone check-docs \
+	bench bench-documents bench-front install install-command install-library uninstall dist clean
 
+.DEFAULT_GOAL := all
+
+# Every target with what it does and what it costs: the lines of this file that begin with "#:".
+help:
+	@sed -n 's/^#: //p' Makefile
+
+#: make try           one answer from the sources, in a minute or two; nothing is proved.
+#:                    WORDS="pick 'da, en' en fr" gives other arguments
+try:
+	@RT='$(RT)' scripts/try $(WORDS)
+
+#: make try-session   README's session from the sources, in some two minutes; nothing is proved
+try-session:
+	@RT='$(RT)' scripts/try-session
+
+#: make               proves the crates and builds build/lexicat: some 35 minutes the first time on
+#:                    four processors, seconds where nothing changed
 all: build/lexicat
 
 # Each crate is proved, and only then built. What was proved before is not proved again.
 build/lexicat: $(SOURCES)
 	RT='$(RT)' scripts/build
 
-# The library for C, static and shared, in build/lib (docs/LIBRARY.md).
+#: make demo          builds the command, and shows an answer, a story of three newsrooms, and that
+#:                    answer again
+demo: build/lexicat
+	build/lexicat pick zh-Hant-CN-x-private1-private2 zh-Hant en
+	PATH="$$PWD/build:$$PATH" examples/newsroom/story
+	build/lexicat pick zh-Hant-CN-x-private1-private2 zh-Hant en
+
+#: make library       the library for C, static and shared, in build/lib (docs/LIBRARY.md): a minute or
+#:                    two more than the command
 library: build/lib/libsilkwaram.a
 
 build/lib/libsilkwaram.a: $(SOURCES) include/silkwaram.h scripts/library
 	RT='$(RT)' scripts/library
 
-# Shows one query and an example session.
-demo: build/lexicat
-	build/lexicat pick zh-Hant-CN-x-private1-private2 zh-Hant en
-	PATH="$$PWD/build:$$PATH" examples/newsroom/story
-
+#: make test          the whole gate: one to two and a half hours on four processors
 # The program that the compiler has to refuse; every proof, from nothing where this machine has not
 # passed the same crate before, the tests and the programs; the edits that the prover has to refuse,
 # one of each function and many in one check; then what the docs show. The last line counts them all.
 test:
 	RT='$(RT)' scripts/gate
 
-# The same by `rt ci` alone over the repository as it stands, with each edit tried alone: some hours.
+#: make test-alone    the same by `rt ci` alone, with each edit tried alone: some hours
 test-alone:
 	RT='$(RT)' scripts/gate --alone
 
-# Instructions, time and memory beside plain Rust. WALL=0 leaves time out; WRITE=1 keeps the figures.
+#: make bench         instructions, time and memory beside plain Rust; bench-documents and bench-front
+#:                    are parts of it, of large documents and of the library
+# WALL=0 leaves time out; WRITE=1 keeps the figures.
 bench: build/lexicat
 	cd crates/bench && $(RT) run > /dev/null
 	CARGO_TARGET_DIR=build/plain cargo build --release --offline --quiet --manifest-path bench/plain/Cargo.toml
@@ -63,8 +89,11 @@ SHARE = $(DESTDIR)$(PREFIX)/share
 LIBDIR ?= $(PREFIX)/lib
 LIB = $(DESTDIR)$(LIBDIR)
 INCLUDE = $(DESTDIR)$(PREFIX)/include
+# Scripts that edit the file of a site in place by the command; they are installed with it.
+COMPANIONS = lexicat-file lexicat-edit
 
-# The command with its manual and completions, and the library; each of them alone too.
+#: make install       the command with its companions, manual and completions, and the library, below
+#:                    PREFIX=/usr/local; install-command and install-library are one of them alone
 install: install-command install-library
 
 install-command: build/lexicat
@@ -77,6 +106,13 @@ install-command: build/lexicat
 	install -m 644 completions/lexicat.bash "$(SHARE)/bash-completion/completions/lexicat"
 	install -m 644 completions/_lexicat "$(SHARE)/zsh/site-functions/_lexicat"
 	install -m 644 completions/lexicat.fish "$(SHARE)/fish/vendor_completions.d/lexicat.fish"
+	for name in $(COMPANIONS); do \
+		install -m 755 companions/$$name "$(BIN)/$$name" && \
+		install -m 644 man/$$name.1 "$(SHARE)/man/man1/$$name.1" && \
+		install -m 644 completions/$$name.bash "$(SHARE)/bash-completion/completions/$$name" && \
+		install -m 644 completions/_$$name "$(SHARE)/zsh/site-functions/_$$name" && \
+		install -m 644 completions/$$name.fish "$(SHARE)/fish/vendor_completions.d/$$name.fish" || exit 1; \
+	done
 
 # (the links are made by `scripts/library`, and lead to each other by their names alone)
 install-library: library
@@ -87,23 +123,31 @@ install-library: library
 	scripts/pkg-config-file '$(PREFIX)' '$(LIBDIR)' > "$(LIB)/pkgconfig/silkwaram.pc"
 	chmod 644 "$(LIB)"/libsilkwaram.so.*.*.* "$(LIB)/pkgconfig/silkwaram.pc"
 
-# Takes away the files that `make install` put in place, by the same PREFIX, LIBDIR and DESTDIR.
+#: make uninstall     takes away what `make install` put in place, by the same PREFIX, LIBDIR, DESTDIR
 uninstall:
 	rm -f "$(BIN)/lexicat"
 	rm -f "$(SHARE)/man/man1/lexicat.1" "$(SHARE)/man/man5/lexicat-formats.5"
 	rm -f "$(SHARE)/bash-completion/completions/lexicat" "$(SHARE)/zsh/site-functions/_lexicat"
 	rm -f "$(SHARE)/fish/vendor_completions.d/lexicat.fish"
+	for name in $(COMPANIONS); do \
+		rm -f "$(BIN)/$$name" "$(SHARE)/man/man1/$$name.1" \
+			"$(SHARE)/bash-completion/completions/$$name" "$(SHARE)/zsh/site-functions/_$$name" \
+			"$(SHARE)/fish/vendor_completions.d/$$name.fish"; \
+	done
 	rm -f "$(INCLUDE)/silkwaram.h" "$(LIB)/pkgconfig/silkwaram.pc"
 	rm -f "$(LIB)/libsilkwaram.a" "$(LIB)"/libsilkwaram.so*
 
-# A tarball and Debian packages for those who have no Rattle kit, in build/dist.
+#: make dist          a tarball, Debian packages and a wheel for Python, for those who have no Rattle
+#:                    kit, in build/dist: some minutes more than the library
 dist:
 	RT='$(RT)' scripts/dist
 
-# What the docs name and show: names and links, and the examples run with the command.
+#: make check-docs    what the docs name and show: names and links, and the examples run with the
+#:                    command, in some minutes
 check-docs: build/lexicat
 	for script in $(filter-out scripts/borrow-check,$(wildcard scripts/*-check)); do $$script || exit 1; done
 
+#: make clean         removes what was built, and what was kept of proofs
 clean:
 	rm -rf build
 	find crates -name out -type d -prune -exec rm -rf {} +
