@@ -42,8 +42,8 @@ extern "C" {
 /* How a field is read: the sum of these. Any other bit is SW_USAGE.
  * Without SW_EXTENDED a field is an Accept-Language field (RFC 9110 section 12.5.4): basic ranges with weights. With it
  * the field is a list of extended ranges between commas (RFC 4647 section 2.2), without weights.
- * With SW_LENIENT malformed elements of a field are skipped, as RFC 9110 section 12.5.4 leaves to a server; without it
- * they are refused (9). */
+ * With SW_LENIENT malformed elements of a field are skipped (RFC 9110 section 2.4 lets a recipient recover what is
+ * usable); without it they are refused (9). */
 #define SW_EXTENDED 1u
 #define SW_LENIENT 2u
 

@@ -8,7 +8,7 @@ $site = new Silkwaram(
     getenv('SILKWARAM_LIBRARY') ?: 'libsilkwaram.so.0'
 );
 
-// No header at all is no preference. One that is refused counts as none (RFC 9110 section 12.5.4).
+// No header at all is no preference. One that is refused counts as none (RFC 9110 section 12.4.1).
 $field = $_SERVER['HTTP_ACCEPT_LANGUAGE'] ?? '*';
 try {
     $site->pick($field, ['en']);
