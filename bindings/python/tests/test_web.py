@@ -1,0 +1,425 @@
+"""The middleware for WSGI and ASGI, asked without a server. scripts/web-check asks over HTTP.
+
+    SILKWARAM_LIBRARY=build/lib/libsilkwaram.so PYTHONPATH=bindings/python/src \
+        python3 -m unittest discover -s bindings/python/tests
+"""
+import asyncio
+import json
+import subprocess
+import sys
+import threading
+import unittest
+from wsgiref.util import setup_testing_defaults
+from wsgiref.validate import validator
+
+from silkwaram import Refused, Site
+from silkwaram.web import LABEL, LANGUAGE, ASGILanguageMiddleware, WSGILanguageMiddleware
+
+TAGS = ["en", "fr", "zh-CN"]
+# What a reader sends, in header lines; the language, and that without `lenient`.
+READERS = [
+    ([], "en", "en"),
+    (["*"], "en", "en"),
+    ([""], "en", "en"),
+    (["fr-CA, en;q=0.5"], "fr", "fr"),
+    (["da, en-GB;q=0.8, en;q=0.7"], "en", "en"),
+    (["zh-CN,zh;q=0.9"], "zh-CN", "zh-CN"),
+    (["fr;q=0.5", "zh-CN"], "zh-CN", "zh-CN"),
+    (["en_US, fr;q=0.5"], "fr", "en"),
+    (["\xe9, fr;q=0.5"], "fr", "en"),
+    (["fr"] + ["," * 30000] * 3, "en", "en"),
+    (["ja, *;q=0"], None, None),
+]
+# The Vary lines of an application, and what the response has.
+VARIES = [
+    ([], ["Accept-Language"]),
+    (["Cookie"], ["Cookie, Accept-Language"]),
+    (["Cookie", "Origin,"], ["Cookie, Origin, Accept-Language"]),
+    (["accept-language, Cookie"], ["accept-language, Cookie"]),
+    (["Cookie", "ACCEPT-LANGUAGE"], ["Cookie", "ACCEPT-LANGUAGE"]),
+    (["*"], ["*"]),
+    (["Cookie, *"], ["Cookie, *"]),
+    (["Accept-Language-Of-Mine"], ["Accept-Language-Of-Mine, Accept-Language"]),
+]
+# A status, the Content-Language that the application sets, and those of the response.
+STATUSES = [
+    (200, [], ["fr"]),
+    (404, [], ["fr"]),
+    (500, [], ["fr"]),
+    (204, [], []),
+    (304, [], []),
+    (200, ["de"], ["de"]),
+]
+FIELD = "fr, en;q=0.5"
+
+
+def document(greeting):
+    cells = [
+        ["greeting", "@none", 5, "paris", 0, ["*"]],
+        ["greeting", "en", 5, "paris", 1, [greeting]],
+        ["greeting", "fr", 5, "paris", 2, ["Bonjour"]],
+        ["title", "en", 5, "paris", 3, ["Paper"]],
+    ]
+    return json.dumps({"cells": cells, "kind": "site", "site": "paris", "version": 2}).encode()
+
+
+def values(headers, name):
+    return [value for it, value in headers if it.lower() == name]
+
+
+def ask_wsgi(app, lines=(), **environ):
+    """Returns status, headers and body, with the calls checked against PEP 3333."""
+    setup_testing_defaults(environ)
+    environ.update(SERVER_PROTOCOL="HTTP/1.1", QUERY_STRING="")
+    if lines:
+        environ["HTTP_ACCEPT_LANGUAGE"] = ",".join(lines)
+    begun = []
+
+    def start_response(status, headers, exc_info=None):
+        begun[:] = [int(status[:3]), headers]
+        return lambda data: None
+
+    answer = validator(app)(environ, start_response)
+    try:
+        body = b"".join(answer)
+    finally:
+        answer.close()
+    return begun[0], begun[1], body
+
+
+def ask_asgi(app, lines=(), kind="http"):
+    """Returns status, headers and body; the scope has what a server puts into it."""
+    scope = {
+        "type": kind,
+        "asgi": {"version": "3.0"},
+        "headers": [(b"accept-language", line.encode("latin-1")) for line in lines],
+    }
+    given, sent = dict(scope), []
+
+    async def receive():
+        return {"type": "http.request", "body": b"", "more_body": False}
+
+    async def send(event):
+        sent.append(event)
+
+    asyncio.run(app(scope, receive, send))
+    if scope != given:
+        raise AssertionError("the scope of the server is changed")
+    headers = [(name.decode(), value.decode()) for name, value in sent[0]["headers"]]
+    return sent[0]["status"], headers, b"".join(it["body"] for it in sent[1:])
+
+
+def wsgi_app(status=200, headers=(), text=None):
+    """An application that answers with the language that it is told, or with a text."""
+
+    def app(environ, start_response):
+        has_type = [] if status in (204, 304) else [("Content-Type", "text/plain")]
+        start_response(f"{status} Status", has_type + list(headers))
+        return [(text or (lambda it: str(it[LANGUAGE])))(environ).encode()]
+
+    return app
+
+
+def asgi_app(status=200, headers=(), text=None):
+    async def app(scope, receive, send):
+        lines = [(name.lower().encode(), value.encode()) for name, value in headers]
+        await send({"type": "http.response.start", "status": status, "headers": lines})
+        body = (text or (lambda it: str(it[LANGUAGE])))(scope).encode()
+        await send({"type": "http.response.body", "body": body})
+
+    return app
+
+
+WAYS = [
+    ("WSGI", WSGILanguageMiddleware, wsgi_app, ask_wsgi),
+    ("ASGI", ASGILanguageMiddleware, asgi_app, ask_asgi),
+]
+
+
+class Both(unittest.TestCase):
+    """What holds for WSGI and for ASGI."""
+
+    def test_readers(self):
+        for name, middleware, app, ask in WAYS:
+            for lines, *wanted in READERS:
+                for lenient, language in zip((True, False), wanted):
+                    with self.subTest(name=name, lines=str(lines)[:60], lenient=lenient):
+                        asked = middleware(app(), tags=TAGS, default="en", lenient=lenient)
+                        status, headers, body = ask(asked, lines)
+                        said = [] if language is None else [language]
+                        self.assertEqual((status, body.decode()), (200, str(language)))
+                        self.assertEqual(values(headers, "content-language"), said)
+                        self.assertEqual(values(headers, "vary"), ["Accept-Language"])
+
+    def test_without_a_default(self):
+        for name, middleware, app, ask in WAYS:
+            with self.subTest(name=name):
+                asked = middleware(app(), tags=iter(TAGS), default=None)
+                self.assertEqual(ask(asked)[2], b"None")
+                self.assertEqual(ask(asked, ["fr"])[2], b"fr")
+
+    def test_vary(self):
+        for name, middleware, app, ask in WAYS:
+            for given, wanted in VARIES:
+                with self.subTest(name=name, given=given):
+                    asked = middleware(
+                        app(headers=[("Vary", it) for it in given]), tags=TAGS, default="en"
+                    )
+                    self.assertEqual(values(ask(asked)[1], "vary"), wanted)
+
+    def test_content_language(self):
+        for name, middleware, app, ask in WAYS:
+            for status, given, wanted in STATUSES:
+                with self.subTest(name=name, status=status, given=given):
+                    if status in (204, 304) and middleware is WSGILanguageMiddleware:
+                        continue  # (below: PEP 3333's validator wants no body there)
+                    asked = middleware(
+                        app(status, [("Content-Language", it) for it in given]),
+                        tags=TAGS,
+                        default="en",
+                    )
+                    got, headers, _ = ask(asked, [FIELD])
+                    self.assertEqual(got, status)
+                    self.assertEqual(values(headers, "content-language"), wanted)
+                    self.assertEqual(values(headers, "vary"), ["Accept-Language"])
+
+    def test_other_headers_stay_in_their_order(self):
+        given = [("Set-Cookie", "a=1"), ("X-Name", "x"), ("Set-Cookie", "b=2")]
+        for name, middleware, app, ask in WAYS:
+            with self.subTest(name=name):
+                _, headers, _ = ask(middleware(app(headers=given), tags=TAGS, default="en"))
+                self.assertEqual(values(headers, "set-cookie"), ["a=1", "b=2"])
+                self.assertEqual(values(headers, "x-name"), ["x"])
+
+    def test_labels_of_a_site(self):
+        def text(told):
+            label, other = told[LABEL]("greeting"), told[LABEL]("title")
+            return f"{told[LANGUAGE]} {label.texts[0]} {other.language} {told[LABEL]('none')}"
+
+        with Site.open(document("Hello")) as site:
+            for name, middleware, app, ask in WAYS:
+                asked = middleware(app(text=text), site=site, message="greeting", default="en")
+                for lines, body, language in [
+                    ([FIELD], "fr Bonjour en None", "fr"),
+                    ([], "en Hello en None", "en"),
+                    (["en_US"], "en Hello en None", "en"),
+                    (["," * 65536], "en Hello en None", "en"),
+                ]:
+                    with self.subTest(name=name, lines=str(lines)[:60]):
+                        _, headers, got = ask(asked, lines)
+                        self.assertEqual(got.decode(), body)
+                        self.assertEqual(values(headers, "content-language"), [language])
+
+    def test_a_site_without_a_language(self):
+        with Site.open(document("Hello")) as site:
+            for name, middleware, app, ask in WAYS:
+                for words in (
+                    {"message": "greeting", "default": "@none"},
+                    {"message": "missing", "default": "en"},
+                    {"default": "en"},
+                ):
+                    with self.subTest(name=name, words=words):
+                        _, headers, _ = ask(middleware(app(), site=site, **words))
+                        self.assertEqual(values(headers, "content-language"), [])
+                        self.assertEqual(values(headers, "vary"), ["Accept-Language"])
+
+    def test_a_reload_during_a_request(self):
+        for name, middleware, app, ask in WAYS:
+            with self.subTest(name=name), Site.open(document("old")) as site:
+
+                def text(told):
+                    before = told[LABEL]("greeting").texts[0]
+                    site.reload(document("new"))
+                    return f"{before} {told[LABEL]('greeting').texts[0]}"
+
+                asked = middleware(app(text=text), site=site, default="en")
+                self.assertEqual(ask(asked)[2], b"old old")
+                self.assertEqual(ask(asked)[2], b"new new")
+
+    def test_reloads_beside_requests(self):
+        def text(told):
+            return " ".join(told[LABEL]("greeting").texts[0] for _ in range(20))
+
+        for name, middleware, app, ask in WAYS:
+            site, wrong = Site.open(document("0")), []
+            asked = middleware(app(text=text), site=site, default="en")
+
+            def requests():
+                for _ in range(50):
+                    body = ask(asked)[2].split()
+                    if len(body) != 20 or len(set(body)) != 1:
+                        wrong.append(body)
+
+            threads = [threading.Thread(target=requests) for _ in range(3)]
+            for it in threads:
+                it.start()
+            for state in range(50):
+                site.reload(document(str(state)))
+            for it in threads:
+                it.join()
+            with self.subTest(name=name):
+                self.assertEqual(wrong, [])
+            site.close()
+
+    def test_what_is_refused_when_it_is_made(self):
+        with Site.open(document("Hello")) as site:
+            for fault, words in [
+                (TypeError, {}),
+                (TypeError, {"tags": TAGS, "site": site}),
+                (TypeError, {"tags": TAGS, "message": "title"}),
+                (TypeError, {"tags": "en"}),
+                (ValueError, {"tags": ["fr"]}),
+                (Refused, {"tags": ["en", "e"]}),
+                (Refused, {"tags": TAGS, "default": "e n"}),
+                (Refused, {"site": site, "default": "e n"}),
+                (Refused, {"site": site, "message": "@title"}),
+            ]:
+                for name, middleware, app, _ in WAYS:
+                    with self.subTest(name=name, words=words), self.assertRaises(fault):
+                        middleware(app(), **{"default": "en", **words})
+
+
+class Iterable:
+    """A body in parts that tells whether it was closed."""
+
+    def __init__(self, start):
+        self.start, self.closed = start, 0
+
+    def __iter__(self):
+        self.start("200 OK", [("Content-Type", "text/plain")])
+        yield b"a"
+        yield b"b"
+
+    def close(self):
+        self.closed += 1
+
+
+class OfWSGI(unittest.TestCase):
+    def test_a_body_in_parts_is_closed_once(self):
+        made = []
+
+        def app(environ, start_response):
+            made.append(Iterable(start_response))
+            return made[0]
+
+        _, headers, body = ask_wsgi(WSGILanguageMiddleware(app, tags=TAGS, default="en"))
+        self.assertEqual((body, made[0].closed), (b"ab", 1))
+        self.assertEqual(values(headers, "content-language"), ["en"])
+
+    def test_a_fault_passes(self):
+        def app(environ, start_response):
+            raise KeyError("of the application")
+
+        with self.assertRaisesRegex(KeyError, "of the application"):
+            ask_wsgi(WSGILanguageMiddleware(app, tags=TAGS, default="en"))
+
+    def test_a_fault_that_the_application_answers(self):
+        passed = []
+
+        def app(environ, start_response):
+            try:
+                raise KeyError("of the application")
+            except KeyError:
+                passed.append(sys.exc_info())
+                start_response("500 Fault", [("Content-Type", "text/plain")], passed[0])
+            return [b"fault"]
+
+        asked, got = WSGILanguageMiddleware(app, tags=TAGS, default="en"), []
+        asked({}, lambda status, headers, exc_info: got.append((status, exc_info)))
+        self.assertEqual(got, [("500 Fault", passed[0])])
+
+    def test_what_is_written(self):
+        def app(environ, start_response):
+            start_response("200 OK", [("Content-Type", "text/plain")])(b"a")
+            return [b"b"]
+
+        written = []
+        asked = WSGILanguageMiddleware(app, tags=TAGS, default="en")
+        self.assertEqual(asked({}, lambda status, headers: written.append), [b"b"])
+        self.assertEqual(written, [b"a"])
+
+    def test_head(self):
+        def app(environ, start_response):
+            start_response("200 OK", [("Content-Type", "text/plain")])
+            return []
+
+        asked = WSGILanguageMiddleware(app, tags=TAGS, default="en")
+        _, headers, body = ask_wsgi(asked, [FIELD], REQUEST_METHOD="HEAD")
+        self.assertEqual((values(headers, "content-language"), body), (["fr"], b""))
+
+    def test_statuses_without_content(self):
+        def app(environ, start_response):
+            start_response(environ["wanted"], [])
+            return []
+
+        asked = WSGILanguageMiddleware(app, tags=TAGS, default="en")
+        for status in ("204 No Content", "304 Not Modified"):
+            with self.subTest(status=status):
+                _, headers, _ = ask_wsgi(asked, [FIELD], wanted=status)
+                self.assertEqual(headers, [("Vary", "Accept-Language")])
+
+
+class OfASGI(unittest.TestCase):
+    def test_lifespan_passes_as_it_is(self):
+        passed = []
+
+        async def app(*given):
+            passed.append(given)
+
+        given = {"type": "lifespan"}, object(), object()
+        asyncio.run(ASGILanguageMiddleware(app, tags=TAGS, default="en")(*given))
+        self.assertEqual(len(passed), 1)
+        for it, wanted in zip(passed[0], given):
+            self.assertIs(it, wanted)
+        self.assertEqual(given[0], {"type": "lifespan"})
+
+    def test_a_websocket(self):
+        events, told = [{"type": "websocket.accept", "headers": []}], []
+
+        async def app(scope, receive, send):
+            told.append(scope[LANGUAGE])
+            for event in events:
+                await send(event)
+
+        async def send(event):
+            sent.append(event)
+
+        asked, sent = ASGILanguageMiddleware(app, tags=TAGS, default="en"), []
+        scope = {"type": "websocket", "headers": [(b"accept-language", b"fr")]}
+        asyncio.run(asked(scope, None, send))
+        self.assertEqual((told, sent), (["fr"], events))
+        events[:] = [{"type": "websocket.http.response.start", "status": 403, "headers": []}]
+        del sent[:]
+        asyncio.run(asked(scope, None, send))
+        self.assertIn((b"content-language", b"fr"), sent[0]["headers"])
+
+    def test_a_start_without_headers(self):
+        async def app(scope, receive, send):
+            await send({"type": "http.response.start", "status": 200})
+            await send({"type": "http.response.body", "body": b"a", "more_body": True})
+            await send({"type": "http.response.body", "body": b"b"})
+
+        _, headers, body = ask_asgi(ASGILanguageMiddleware(app, tags=TAGS, default="en"), [FIELD])
+        self.assertEqual(headers, [("vary", "Accept-Language"), ("content-language", "fr")])
+        self.assertEqual(body, b"ab")
+
+    def test_a_fault_passes(self):
+        async def app(scope, receive, send):
+            raise KeyError("of the application")
+
+        with self.assertRaisesRegex(KeyError, "of the application"):
+            ask_asgi(ASGILanguageMiddleware(app, tags=TAGS, default="en"))
+
+
+class Imports(unittest.TestCase):
+    def test_no_framework_is_imported(self):
+        program = (
+            "import sys, silkwaram, silkwaram.web\n"
+            "print([it for it in ('django', 'flask', 'starlette', 'asgiref') if it in sys.modules])"
+        )
+        ran = subprocess.run([sys.executable, "-c", program], capture_output=True, text=True)
+        self.assertEqual((ran.returncode, ran.stdout), (0, "[]\n"))
+
+
+if __name__ == "__main__":
+    unittest.main()
