@@ -1,0 +1,132 @@
+#!/usr/bin/env python3
+"""Asks an application that serve.py serves as some readers do, and compares what it answers.
+
+usage: ask.py KIND
+"""
+import collections
+import http.client
+import os
+import subprocess
+import sys
+import urllib.parse
+
+SERVE = os.path.join(os.path.dirname(os.path.realpath(__file__)), "serve.py")
+MOST_SECONDS = 20
+GREETINGS = {"de": "Hallo", "en": "Hello", "fr": "Bonjour"}
+# What a reader sends, in header lines, and the language among en, fr and de, with en as default.
+READERS = [
+    ([], "en"),
+    (["*"], "en"),
+    ([""], "en"),
+    (["fr-CA, en;q=0.5"], "fr"),
+    (["da, en-GB;q=0.8, en;q=0.7"], "en"),
+    (["de-CH, fr;q=0.5"], "de"),
+    (["fr;q=0.5", "de"], "de"),
+    (["en_US, fr;q=0.5"], "fr"),
+    (["\xe9, fr;q=0.5"], "fr"),
+    (["ja"], "en"),
+]
+# What only Django is asked. It has pt-br and zh-hans too, which no shorter range finds.
+OF_DJANGO = [(["pt"], "en"), (["pt-BR"], "pt-br"), (["zh-CN, fr;q=0.5"], "fr")]
+REFUSES_ALL = "ja, *;q=0"
+
+Answer = collections.namedtuple("Answer", "status headers body")
+
+
+class Server:
+    def __init__(self, address):
+        self.address = urllib.parse.urlsplit(address).netloc
+
+    def ask(self, *fields, path="/", method="GET", cookie=None):
+        """Returns the answer to a request with these Accept-Language headers, or status 0."""
+        asked = http.client.HTTPConnection(self.address, timeout=MOST_SECONDS)
+        try:
+            asked.putrequest(method, path)
+            for field in fields:
+                asked.putheader("Accept-Language", field.encode("latin-1"))
+            if cookie:
+                asked.putheader("Cookie", cookie)
+            asked.endheaders()
+            got = asked.getresponse()
+            return Answer(got.status, got.headers, got.read().decode())
+        except (OSError, http.client.HTTPException) as fault:
+            return Answer(0, http.client.HTTPMessage(), f"no answer: {fault!r}")
+        finally:
+            asked.close()
+
+
+def differs(what, got, status, body, language, vary="Accept-Language"):
+    """Yields what is not as wanted; a body or a language of None is not compared, or not there."""
+    wanted = [status, [] if language is None else [language], [vary]]
+    has = [got.status, got.headers.get_all("Content-Language", []), got.headers.get_all("Vary", [])]
+    if has != wanted or (body is not None and got.body != body):
+        yield f"{what}: {has} {got.body[:200]!r}, not {wanted} {body!r}"
+
+
+def faults_of_pages(server):
+    for fields, language in READERS:
+        yield from differs(fields, server.ask(*fields), 200, language, language)
+        got = server.ask(*fields, path="/label")
+        yield from differs(f"label {fields}", got, 200, GREETINGS[language], language)
+    got = server.ask("fr", path="/stream")
+    yield from differs("stream", got, 200, "part of fr", "fr")
+    got = server.ask("fr", path="/vary")
+    yield from differs("vary", got, 200, "fr", "fr", "Cookie, Accept-Language")
+    yield from differs("HEAD", server.ask("fr", method="HEAD"), 200, "", "fr")
+    yield from differs("404", server.ask("fr", path="/missing"), 404, None, "fr")
+
+
+def faults_of_exceptions(server, kind):
+    """A fault of the application is its server's to answer, and the next request is answered."""
+    got = server.ask("fr", path="/fault")
+    if got.status != 500:
+        yield f"fault: {got}"
+    if kind == "flask" or kind.startswith("django"):
+        # (these answer it inside of the middleware)
+        yield from differs("fault", got, 500, None, "fr")
+    yield from differs("after a fault", server.ask("de"), 200, "de", "de")
+
+
+def faults_of_middleware(server):
+    """A reader who refuses the default too is told so."""
+    yield from differs(REFUSES_ALL, server.ask(REFUSES_ALL), 200, "None", None)
+
+
+def faults_of_django(server):
+    yield from differs(REFUSES_ALL, server.ask(REFUSES_ALL), 200, "en", "en")
+    for fields, language in OF_DJANGO:
+        yield from differs(fields, server.ask(*fields), 200, language, language)
+    got = server.ask("fr", cookie="django_language=de")
+    yield from differs("a cookie", got, 200, "fr", "fr")
+    yield from differs("a prefix", server.ask("fr", path="/de/"), 404, None, "fr")
+    got = server.ask("fr", path="/label").headers["X-After"]
+    if got != "en-us":
+        yield f"after the response the language is {got}, not that of LANGUAGE_CODE"
+
+
+def faults_of(server, kind):
+    yield from faults_of_pages(server)
+    yield from faults_of_exceptions(server, kind)
+    yield from (faults_of_django if kind.startswith("django") else faults_of_middleware)(server)
+
+
+def main(kind):
+    words = [sys.executable, SERVE, kind]
+    with subprocess.Popen(
+        words, stdout=subprocess.PIPE, stderr=subprocess.PIPE, text=True
+    ) as started:
+        try:
+            address = started.stdout.readline().strip()
+            faults = list(faults_of(Server(address), kind)) if address else ["does not start"]
+        finally:
+            started.terminate()
+            said = started.communicate()[1]
+    for fault in faults:
+        print(f"{kind}: {fault[:500]}")
+    if faults:
+        print(said[-2000:])
+    return 1 if faults else 0
+
+
+if __name__ == "__main__":
+    sys.exit(main(sys.argv[1]))
