@@ -210,6 +210,17 @@ class Both(unittest.TestCase):
                         self.assertEqual(got.decode(), body)
                         self.assertEqual(values(headers, "content-language"), [language])
 
+    def test_a_field_that_is_refused_where_no_message_is_named(self):
+        def text(told):
+            return told[LABEL]("greeting").texts[0]
+
+        with Site.open(document("Hello")) as site:
+            for name, middleware, app, ask in WAYS:
+                for lenient, line in [(True, "fr" + "," * 65536), (False, "en_US, fr")]:
+                    with self.subTest(name=name, lenient=lenient):
+                        asked = middleware(app(text=text), site=site, default="en", lenient=lenient)
+                        self.assertEqual(ask(asked, [line])[2], b"Hello")
+
     def test_a_site_without_a_language(self):
         with Site.open(document("Hello")) as site:
             for name, middleware, app, ask in WAYS:

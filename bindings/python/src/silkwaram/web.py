@@ -13,7 +13,7 @@ The application finds in its environ or scope, under the names that this module 
 
 Each response gets `Vary: Accept-Language` beside what the application varies by; a `Vary` of `*`
 stays. It gets `Content-Language`, unless the application sets one, the language is None or `@none`,
-or the status is one without content (1xx, 204, 304).
+or the status is one without content (204, 304).
 
 No header is no preference, and several are one field, joined with commas. A field that is refused
 counts as no header. `lenient`, which is the rule here, skips what is malformed of a field in place
@@ -93,6 +93,7 @@ class _Languages:
         if self._site is None:
             language = pick(field, self._tags, **self._rules)
             return _Reader({LANGUAGE: language}, language)
+        # (so that a field is refused here, and not where the application asks for a label)
         pick(field, [], lenient=self._rules["lenient"])
         label = self._labels(self._site.share(), field)
         first = None if self._message is None else label(self._message)
@@ -121,9 +122,8 @@ def _with_language(headers: Headers, status: int, language: Optional[str]) -> He
     vary = _varied([value for name, value in headers if name.lower() == "vary"])
     if vary is not None:
         headers = [it for it in headers if it[0].lower() != "vary"] + [("Vary", vary)]
-    has_content = status >= 200 and status not in WITHOUT_CONTENT
     is_set = any(name.lower() == "content-language" for name, _ in headers)
-    if language in (None, "@none") or is_set or not has_content:
+    if language in (None, "@none") or is_set or status in WITHOUT_CONTENT:
         return headers
     return headers + [("Content-Language", str(language))]
 
