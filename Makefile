@@ -89,8 +89,9 @@ SHARE = $(DESTDIR)$(PREFIX)/share
 LIBDIR ?= $(PREFIX)/lib
 LIB = $(DESTDIR)$(LIBDIR)
 INCLUDE = $(DESTDIR)$(PREFIX)/include
-# Scripts that edit the file of a site in place by the command; they are installed with it.
-COMPANIONS = lexicat-file lexicat-edit
+# Scripts around the command: two edit the file of a site in place, one makes PO files of it; they
+# are installed with it.
+COMPANIONS = lexicat-file lexicat-edit lexicat-po
 
 #: make install       the command with its companions, manual and completions, and the library, below
 #:                    PREFIX=/usr/local; install-command and install-library are one of them alone

@@ -40,10 +40,16 @@ LINES = [
     ("lexicat-edit --mis", "args:--missing=? input:"),
     ("lexicat-edit --missing fr zz", "args:--missing fr zz_file.json input:"),
     ("lexicat-edit zz_file.json zz", "args:zz_file.json zz input:"),
+    ("lexicat-po conf", "args:confirmed input:"),
+    ("lexicat-po in --lang de --so", "args:in --lang de --source=? input:"),
+    ("lexicat-po in --sent zz", "args:in --sent zz_file.json input:"),
+    ("lexicat-po in --lang de --source en zz", "args:in --lang de --source en zz_file.json input:"),
+    ("lexicat-po out --plu", "args:out --plural-forms=? input:"),
+    ("lexicat-po out --lang de < zz", "args:out --lang de input:held"),
 ]
 
 # What completes, in an order in which each finds what it stands on later.
-NAMES = ["lexicat-edit", "lexicat-file", "lexicat"]
+NAMES = ["lexicat-edit", "lexicat-file", "lexicat-po", "lexicat"]
 
 SETUP = {
     "bash": (
