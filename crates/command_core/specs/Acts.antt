@@ -9,8 +9,7 @@ use Rattle.cell_core.specs.MessageIds.{IsMessageId}
 use Rattle.cell_core.specs.Refusals.{RefusesName}
 use Rattle.cell_core.specs.SiteNames.{IsSiteName}
 use Rattle.docs_core.specs.Calls as call
-use Rattle.docs_core.specs.Documents.{site_text}
-use Rattle.docs_core.specs.ReadsAs.{ReadsAsSite}
+use Rattle.docs_core.specs.ReadsAs.{IsSiteText, ReadsAsSite}
 use Rattle.docs_core.specs.Fields.{IsSpelled}
 use Rattle.docs_core.specs.Missing as missing
 use Rattle.docs_core.specs.Replays.{RefusesReplay, Replays}
@@ -44,7 +43,7 @@ IsPick words text answered = (answer : Answer) × AnswersPick words.preferences.
 
 -- the document of the empty site of this name
 abbrev pub IsNew : Text → List ℕ → ℕ → Type 0
-IsNew name text answered = IsSiteName name × (text ≡ site_text (record { name = name; cells = [] })) × (answered ≡ 0)
+IsNew name text answered = IsSiteName name × IsSiteText (record { name = name; cells = [] }) text × (answered ≡ 0)
 
 abbrev pub RefusesNew : Text → FrontFault → Type 0
 RefusesNew name fault = IsOf cell_fault (RefusesName name) fault ⊎ (IsSiteName name × (fault ≡ NoMemory))

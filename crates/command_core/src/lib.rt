@@ -24,6 +24,7 @@ mod documents;
 mod edits;
 mod fault_line;
 mod input;
+pub mod laws;
 mod matches;
 mod output;
 mod parsing;

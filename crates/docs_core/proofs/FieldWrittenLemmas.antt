@@ -374,13 +374,17 @@ field_again scheme text (i ∷ items) f =
     let short = again.shorter in
     (subst (λ (ps : List (List ℕ)). ArePieces scheme Refused ps (i ∷ items)) (sym same) again.fits, omega arith)
 
+-- the field that is written reads as the list, and is no longer than one that does
+pub shortest : (scheme : Scheme) (field : List ℕ) (items : List Item) → Lists scheme field items → Lists scheme (field_text items) items × (length (field_text items) ≤ length field)
+shortest scheme field items lists =
+    let again = field_again scheme field items lists.1 in
+    let short = again.1 in
+    let few : length field ≤ 65535 = lists.0 in
+    ((omega arith, again.0), short)
+
 -- the field that is written reads as the list where some field does
 pub listed_again : (scheme : Scheme) (items : List Item) → IsListed scheme items → Lists scheme (field_text items) items
-listed_again scheme items listed =
-    let again = field_again scheme listed.0 items listed.1.1 in
-    let short = again.1 in
-    let few : length listed.0 ≤ 65535 = listed.1.0 in
-    (omega arith, again.0)
+listed_again scheme items listed = (shortest scheme listed.0 items listed.1).0
 
 -- ---- reading back
 

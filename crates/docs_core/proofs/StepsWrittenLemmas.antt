@@ -1,5 +1,5 @@
 -- Rows that were written for steps are read as these steps.
-use Rattle.std.proofs.Common.{◌≡◌, ◌<◌, ◌≤◌, ◌^◌, ◌++◌, ℕ, List, [], ◌∷◌, map, refl, ap, subst, sym, arith}
+use Rattle.std.proofs.Common.{◌≡◌, ◌<◌, ◌≤◌, ◌^◌, ◌++◌, ℕ, List, [], ◌∷◌, map, refl, ap, ap₂, subst, sym, arith}
 use Rattle.std.specs.Prelude.{None, Option, Some, option_map}
 use Rattle.std.specs.Str.{str_to_ascii_lowercase}
 use Rattle.cata_core.specs.Entries.{Entry}
@@ -19,11 +19,12 @@ use Rattle.serde_json.specs.Written.{items_outline, outline}
 use Rattle.serde_json.proofs.Numbers.{number_of-decimal}
 use Rattle.docs_core.specs.Checks.{AllPass, rows_checks}
 use Rattle.docs_core.specs.Entries.{row_of}
+use Rattle.docs_core.specs.FieldWritten.{field_text}
 use Rattle.docs_core.specs.Rows.{cell_in}
 use Rattle.docs_core.specs.ScriptWritten.{AreRowsOf}
 use Rattle.docs_core.specs.StepFields.{AreSteps, Lists, default_checks, step_checks}
 use Rattle.docs_core.specs.Steps.{StepText, edit_step, merge_step, filter_step, lookup_step, cells_step, tell_step, post_step, deliver_step, step_in}
-use Rattle.docs_core.specs.StepsWritten.{FitsMember, HasRoom, IsDefault, IsRowOf, IsWritable, step_value}
+use Rattle.docs_core.specs.StepsWritten.{FitsMember, HasRoom, IsDefault, IsRowOf, IsWritable, step_row, step_value}
 use Rattle.docs_core.specs.Valid.{IsKeptCell}
 use Rattle.docs_core.specs.Values.{Row, cell_value, label_value}
 use Rattle.docs_core.specs.declared.document.version.Version.TheVariants.{Two}
@@ -150,6 +151,13 @@ rows_push [] (s ∷ ss) text step rows last = absurd rows
 rows_push (t ∷ ts) [] text step rows last = absurd rows
 rows_push (t ∷ ts) (s ∷ ss) text step rows last = (rows.0, rows_push ts ss text step rows.1 last)
 
+-- the rows that were written are those of the steps
+pub rows_written : (texts : List StepText) (steps : List Step) → AreRowsOf texts steps → map step_value texts ≡ map step_row steps
+rows_written [] [] rows = refl
+rows_written [] (s ∷ ss) rows = absurd rows
+rows_written (t ∷ ts) [] rows = absurd rows
+rows_written (t ∷ ts) (s ∷ ss) rows = ap₂ (λ (d : Data) (ds : List Data). d ∷ ds) (ap step_value rows.0.written) (rows_written ts ss rows.1)
+
 -- ---- the row of a step
 
 -- a step that a row makes is writable
@@ -168,13 +176,15 @@ edit_row_of site e h kept = record {
   room = (h, kept.0.time, kept.0.count);
   fields = λ k. (kept.0.id, ((e.0.1, spells-IsLang e.0.1 kept.0.lang), (kept.0.site, (kept.1, tt))));
   makes = rw (lower-IsLang e.0.1 kept.0.lang) refl;
+  written = refl;
 }
 
-pub filter_row_of : (site : ℕ) (id : List ℕ) (scheme : Scheme) (items : List Item) (field : List ℕ) → FitsMember site → IsMessageId id → Lists scheme field items → IsRowOf (filter_step site id scheme field) (AskFilter site id scheme items)
-filter_row_of site id scheme items field h is lists = record {
+pub filter_row_of : (site : ℕ) (id : List ℕ) (scheme : Scheme) (items : List Item) (field : List ℕ) → FitsMember site → IsMessageId id → field ≡ field_text items → Lists scheme field items → IsRowOf (filter_step site id scheme field) (AskFilter site id scheme items)
+filter_row_of site id scheme items field h is joined lists = record {
   room = h;
   fields = λ k. (is, ((items, lists), tt));
   makes = (items, lists, refl);
+  written = ap (filter_step site id scheme) joined;
 }
 
 default_passes : (k : ℕ) (default : Option (List ℕ)) → IsDefault default → AllPass (default_checks k default)
@@ -185,9 +195,10 @@ lower_default : (default : Option (List ℕ)) → IsDefault default → option_m
 lower_default None is = refl
 lower_default (Some lang) is = ap Some (lower-IsLang lang is)
 
-pub lookup_row_of : (site : ℕ) (id : List ℕ) (items : List Item) (default : Option (List ℕ)) (field : List ℕ) → FitsMember site → IsMessageId id → Lists Basic field items → IsDefault default → IsRowOf (lookup_step site id field default) (AskLookup site id items default)
-lookup_row_of site id items default field h is lists known = record {
+pub lookup_row_of : (site : ℕ) (id : List ℕ) (items : List Item) (default : Option (List ℕ)) (field : List ℕ) → FitsMember site → IsMessageId id → field ≡ field_text items → Lists Basic field items → IsDefault default → IsRowOf (lookup_step site id field default) (AskLookup site id items default)
+lookup_row_of site id items default field h is joined lists known = record {
   room = h;
   fields = λ k. (is, ((items, lists), default_passes k default known));
   makes = (items, lists, ap (AskLookup site id items) (sym (lower_default default known)));
+  written = ap (λ (f : List ℕ). lookup_step site id f default) joined;
 }

@@ -8,9 +8,11 @@ use Rattle.serde_json.specs.Data.{Data, object, array, number, unsigned, string,
 use Rattle.serde_json.specs.View.{items_of}
 use Rattle.docs_core.specs.Checks.{OrMemory}
 use Rattle.docs_core.specs.Faults.{of_no_document}
+use Rattle.docs_core.specs.ScriptReads.{ReadsAsScript}
+use Rattle.docs_core.specs.Scripts.{ScriptState}
 use Rattle.docs_core.specs.Steps.{StepText}
-use Rattle.docs_core.specs.StepsWritten.{IsRowOf, IsWritable, step_value}
-use Rattle.docs_core.specs.Texts.{row_tokens}
+use Rattle.docs_core.specs.StepsWritten.{IsRowOf, IsWritable, step_row, step_value}
+use Rattle.docs_core.specs.Texts.{row_tokens, text}
 use Rattle.docs_core.specs.declared.fault.DocCause.{DocCause}
 use Rattle.docs_core.specs.declared.fault.DocCause.TheVariants.{NoMemory, Shape}
 use Rattle.docs_core.specs.declared.fault.DocFault.{DocFault}
@@ -41,6 +43,10 @@ script_value sites rows = object
     (member (codes "sites") (number (unsigned sites))
     (member (codes "steps") (array (items_of rows))
     (member (codes "version") (number (unsigned 2)) no_members))))
+
+-- the text of a script: a row for each step in order; and it reads as the script
+abbrev pub IsScriptText : ScriptState → List ℕ → Type 0
+IsScriptText script doc = (doc ≡ text (script_value script.sites (map step_row script.steps))) × ReadsAsScript doc script
 
 -- a script's draft of so many sites: it is open behind these rows
 abbrev pub HoldsSteps : Written → ℕ → List Data → Type 0

@@ -8,7 +8,8 @@ use Rattle.nego_core.specs.declared.scheme.Scheme.{Scheme}
 use Rattle.nego_core.specs.declared.scheme.Scheme.TheVariants.{Basic, Extended}
 use Rattle.serde_json.specs.Data.{Data, null, array, number, unsigned, string, no_items, item}
 use Rattle.docs_core.specs.Checks.{AllPass, OrMemory}
-use Rattle.docs_core.specs.FieldWritten.{IsListed}
+use Rattle.docs_core.specs.Entries.{row_of}
+use Rattle.docs_core.specs.FieldWritten.{IsListed, field_text}
 use Rattle.docs_core.specs.StepFields.{Makes, step_fields}
 use Rattle.docs_core.specs.Steps.{StepText, edit_step, merge_step, filter_step, lookup_step, cells_step, tell_step, post_step, deliver_step}
 use Rattle.docs_core.specs.Texts.{Adds, value_tokens}
@@ -84,6 +85,21 @@ step_value (deliver_step post) = single_value (codes "deliver") post
 
 -- ---- what is written for a step
 
+-- the text of a step: a priority list is written as its items with a comma between each two
+abbrev pub written_step : Step → StepText
+written_step (Edit site edit) = edit_step site (row_of edit, edit.1.label)
+written_step (Merge into source) = merge_step into source
+written_step (AskFilter site id scheme items) = filter_step site id scheme (field_text items)
+written_step (AskLookup site id items default) = lookup_step site id (field_text items) default
+written_step (AskCells site) = cells_step site
+written_step (Tell site) = tell_step site
+written_step (Post site told) = post_step site told
+written_step (Deliver post) = deliver_step post
+
+-- the row of a step
+abbrev pub step_row : Step → Data
+step_row step = step_value (written_step step)
+
 -- the numbers of the text fit their members
 abbrev pub HasRoom : StepText → Type 0
 HasRoom (edit_step site row) = FitsMember site × (row.0.time < 2 ^ 64) × FitsMember row.0.count
@@ -100,11 +116,12 @@ abbrev pub IsDefault : Option (List ℕ) → Type 0
 IsDefault None = Unit {0}
 IsDefault (Some lang) = IsLang lang
 
--- the text passes the tests of a row at any place, and makes the step
+-- the text is that of the step; it passes the tests of a row at any place, and makes the step
 pub record IsRowOf (text : StepText) (step : Step) : Type 0 where
   pub room : HasRoom text
   pub fields : (k : ℕ) → AllPass (step_fields k text)
   pub makes : Makes text step
+  pub written : text ≡ written_step step
 
 -- a draft grew by a row of the step
 abbrev pub WritesStep : Step → Written → Written → Type 0

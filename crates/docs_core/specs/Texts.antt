@@ -1,5 +1,5 @@
 -- The text of a document, and what its pieces add to it.
-use Rattle.std.specs.Prelude.{◌≡◌, ℕ, List, [], ◌∷◌, ◌++◌, codes}
+use Rattle.std.specs.Prelude.{◌≡◌, ◌≢◌, ℕ, List, [], ◌∷◌, ◌++◌, All, codes}
 use Rattle.json.specs.Token.{Token, begin_object, begin_array, key, string}
 use Rattle.json.specs.Tree.{json_tokens}
 use Rattle.json.specs.Written.{Written}
@@ -9,6 +9,10 @@ use Rattle.serde_json.specs.Written.{compact_text, outline}
 -- Own rule: the compact text of the value, and a line feed.
 abbrev pub text : Data → List ℕ
 text d = compact_text d ++ 10 ∷ []
+
+-- a line feed is its last byte, and there is no other
+abbrev pub IsOneLine : List ℕ → Type 0
+IsOneLine bytes = (line : List ℕ) × (bytes ≡ line ++ 10 ∷ []) × All (λ byte. byte ≢ 10) line
 
 -- the tokens of a value
 abbrev pub value_tokens : Data → List Token

@@ -1,9 +1,11 @@
 //! Laws over the definitions alone, each the contract of a function that does nothing.
-ghost use Rattle.std.specs.Prelude.{◌≡◌, ◌↔◌, ℕ, Bool, Contains, List, [], IsTrue, IsUtf8, Option};
+ghost use Rattle.std.specs.Prelude.{◌≡◌, ◌≤◌, ◌↔◌, ◌∷◌, ◌++◌, ℕ, Bool, Contains, List, [], IsTrue, IsUtf8, Option, length};
 ghost use Rattle.std.specs.FinMap.Entries.{find};
 ghost use Rattle.cell_core.specs.Maps.{IsMap};
 ghost use Rattle.cell_core.specs.SiteNames.{IsSiteName};
 ghost use Rattle.nego_core.specs.Item.{Item};
+ghost use Rattle.nego_core.specs.declared.scheme.Scheme.{Scheme};
+ghost use Rattle.serde_json.specs.Data.{Data};
 ghost use Rattle.cata_core.specs.Deltas.{HasAll, Stamps, delta_of};
 ghost use Rattle.cata_core.specs.Entries.{Agree, Entries, EntryKey, joined, key_cmp};
 ghost use Rattle.cata_core.specs.Parts.{part_of};
@@ -14,6 +16,7 @@ ghost use Rattle.docs_core.specs.Bundled.{IsBundle};
 ghost use Rattle.docs_core.specs.Calls.{AreSynced, IsDeltaFor, IsSummarised, IsTaken};
 ghost use Rattle.docs_core.specs.Documents.{cells_values, delta_text, site_text, summary_text};
 ghost use Rattle.docs_core.specs.Exported.{live_labels};
+ghost use Rattle.docs_core.specs.FieldWritten.{field_text};
 ghost use Rattle.docs_core.specs.LangMapLabels.{AreLangMaps, RefusesLangMaps};
 ghost use Rattle.docs_core.specs.LangMaps.{Labelled};
 ghost use Rattle.docs_core.specs.Made.{Change};
@@ -22,7 +25,8 @@ ghost use Rattle.docs_core.specs.Missing.{missing_labels};
 ghost use Rattle.docs_core.specs.Replays.{Replays};
 ghost use Rattle.docs_core.specs.ScriptReads.{ReadsAsScript, RefusesScript};
 ghost use Rattle.docs_core.specs.Scripts.{ScriptState};
-ghost use Rattle.docs_core.specs.Texts.{text};
+ghost use Rattle.docs_core.specs.StepFields.{Lists};
+ghost use Rattle.docs_core.specs.Texts.{IsOneLine, text};
 ghost use Rattle.docs_core.specs.Updated.{AreChanges, IsUpdated, Updates};
 ghost use Rattle.docs_core.specs.Valid.{AreKeptCells, AreKeptStamps};
 ghost use Rattle.docs_core.specs.Values.{site_value};
@@ -108,6 +112,26 @@ pub fn synced_documents_have_equal_cells()
     ensures { (a b x y : List ℕ) (first second : SiteState) → ReadsAsSite a first → ReadsAsSite b second → AreSynced a b x y
         → let cells = cells_values (joined first.cells second.cells) in
         (x ≡ text (site_value first.name cells)) × (y ≡ text (site_value second.name cells)) }
+{}
+
+/// The field that a script has for a priority list reads as it, and none that does is shorter.
+pub fn a_written_field_is_the_shortest()
+    ensures { (scheme : Scheme) (field : List ℕ) (items : List Item) → Lists scheme field items
+        → Lists scheme (field_text items) items × (length (field_text items) ≤ length field) }
+{}
+
+/// What is written for a value is one line, and ends in its line feed.
+pub fn a_written_text_is_one_line()
+    ensures { (value : Data) → IsOneLine (text value) }
+{}
+
+/// A line feed behind a text changes nothing in what it reads as.
+pub fn a_last_line_feed_is_free()
+    ensures site { (bytes : List ℕ) (site : SiteState) → ReadsAsSite (bytes ++ 10 ∷ []) site ↔ ReadsAsSite bytes site }
+    ensures delta { (bytes : List ℕ) (delta : Delta) → ReadsAsDelta (bytes ++ 10 ∷ []) delta ↔ ReadsAsDelta bytes delta }
+    ensures summary { (bytes : List ℕ) (summary : SummaryState) → ReadsAsSummary (bytes ++ 10 ∷ []) summary ↔ ReadsAsSummary bytes summary }
+    ensures script { (bytes : List ℕ) (script : ScriptState) → ReadsAsScript (bytes ++ 10 ∷ []) script ↔ ReadsAsScript bytes script }
+    ensures labels { (bytes : List ℕ) (labels : List Labelled) → AreLangMaps (bytes ++ 10 ∷ []) labels ↔ AreLangMaps bytes labels }
 {}
 
 // ---- updates

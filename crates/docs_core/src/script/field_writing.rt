@@ -10,7 +10,8 @@ use std::alloc::{AllocError, Global};
 /// The weight of an item that is written without one.
 const FULL_WEIGHT: u16 = 1000;
 
-/// A field that reads as the list under the scheme, or none where no field does.
+/// The items with a comma between each two, if that reads as the list under the scheme; none where no
+/// field does.
 ///
 /// A list does not say under which scheme it was read: so its field is read back.
 pub fn field_of(
@@ -19,7 +20,7 @@ pub fn field_of(
     list: &PriorityList,
 ) -> Result<Option<String>, AllocError>
     ensures { IfOk result (λ found. MatchOption found (¬ IsListed scheme list.now)
-        (λ field. Lists scheme (string_bytes field) list.now)) }
+        (λ field. (string_bytes field ≡ field_text list.now) × Lists scheme (string_bytes field) list.now)) }
 {
     let field = joined_items(alloc, list.items())?;
     let same = reads_as(alloc, scheme, field.as_str(), list)?;

@@ -3,8 +3,7 @@ ghost use Rattle.std.specs.Prelude.{◌≡◌, ◌∷◌, [], ℕ, List, IfErr, 
 ghost use Rattle.json.specs.Token.{end_array};
 ghost use Rattle.serde_json.specs.Data.{Data};
 ghost use Rattle.docs_core.specs.Envelope.{version_tokens};
-ghost use Rattle.docs_core.specs.ScriptReads.{ReadsAsScript};
-ghost use Rattle.docs_core.specs.ScriptWritten.{HasRows, HoldsSteps, IsOfNone, RefusesWriting, script_value};
+ghost use Rattle.docs_core.specs.ScriptWritten.{HasRows, HoldsSteps, IsOfNone, IsScriptText, RefusesWriting, script_value};
 ghost use Rattle.docs_core.specs.Scripts.{IsSiteCount};
 ghost use Rattle.docs_core.specs.Texts.{Adds, text};
 
@@ -16,14 +15,15 @@ use crate::script::step_writing::write_step;
 use json::Writer;
 use std::alloc::{AllocError, Global};
 
-/// The document of a script, version 2. It reads as this script.
+/// The document of a script, version 2: a row for each step, and a priority list as its items with a
+/// comma between each two. It reads as this script.
 ///
 /// Refused is the first step that no document can have, in its row (20): the number of a site, a
 /// told summary or a post is over 32 bits, or no field under the scheme of a question gives its
 /// priority list. The one other refusal is out of memory (26). Both mean no document, since none is
 /// read.
 pub fn write_script(alloc: Global, script: &Script) -> Result<Doc, DocFault>
-    ensures { MatchResult result (λ doc. ReadsAsScript doc script.now) (IsOfNone (RefusesWriting script.now.steps)) }
+    ensures { MatchResult result (IsScriptText script.now) (IsOfNone (RefusesWriting script.now.steps)) }
 {
     match script_document(alloc, script) {
         Ok(doc) => Ok(doc),
@@ -33,7 +33,7 @@ pub fn write_script(alloc: Global, script: &Script) -> Result<Doc, DocFault>
 
 // The document of a script, or the refusal of its first step that no document can have.
 fn script_document(alloc: Global, script: &Script) -> Result<Doc, DocCause>
-    ensures ok { IfOk result (λ doc. ReadsAsScript doc script.now) }
+    ensures ok { IfOk result (IsScriptText script.now) }
     ensures err { IfErr result (RefusesWriting script.now.steps) }
 {
     let draft = steps_draft(alloc, script)?;

@@ -1,0 +1,17 @@
+//! Laws over the definitions alone, each the contract of a function that does nothing.
+ghost use Rattle.std.specs.Prelude.{◌++◌, List, ℕ};
+ghost use Rattle.cata_core.specs.Sites.{SiteState};
+ghost use Rattle.docs_core.specs.LangMapLabels.{AreLangMaps};
+ghost use Rattle.docs_core.specs.LangMaps.{Labelled};
+ghost use Rattle.docs_core.specs.ReadsAs.{IsSiteText, ReadsAsSite};
+ghost use Rattle.docs_core.specs.Texts.{IsOneLine};
+ghost use Rattle.command_core.specs.Input.{AreDocuments};
+
+/// A text that was written stands before the next document of an input: the input is cut behind it,
+/// and the document in front reads as it does.
+pub fn a_written_text_is_a_document_of_the_input()
+    ensures site { (site : SiteState) (text rest : List ℕ) → IsSiteText site text
+        → (document : List ℕ) × AreDocuments (text ++ rest) document rest × ReadsAsSite document site }
+    ensures labels { (labels : List Labelled) (text rest : List ℕ) → IsOneLine text → AreLangMaps text labels
+        → (document : List ℕ) × AreDocuments (text ++ rest) document rest × AreLangMaps document labels }
+{}

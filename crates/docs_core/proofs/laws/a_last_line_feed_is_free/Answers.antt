@@ -1,0 +1,21 @@
+use Rattle.docs_core.specs.LangMapLabels.{ReadsAsLangMaps}
+use Rattle.docs_core.specs.LangMapChecks.{langmaps_checks}
+use Rattle.docs_core.specs.ScriptReads.{IsScriptDocument, script_checks}
+use Rattle.docs_core.specs.SiteDocuments.{IsDeltaDocument, IsSiteDocument, IsSummaryDocument, delta_checks, site_checks, summary_checks}
+use Rattle.docs_core.proofs.FreeLineFeed.{free}
+use Rattle.docs_core.proofs.laws.a_last_line_feed_is_free.Goals as goal
+
+pub returns-clause-site : goal.returns-clause-site
+returns-clause-site c = free site_checks IsSiteDocument
+
+pub returns-clause-delta : goal.returns-clause-delta
+returns-clause-delta c = free delta_checks IsDeltaDocument
+
+pub returns-clause-summary : goal.returns-clause-summary
+returns-clause-summary c = free summary_checks IsSummaryDocument
+
+pub returns-clause-script : goal.returns-clause-script
+returns-clause-script c = free script_checks IsScriptDocument
+
+pub returns-clause-labels : goal.returns-clause-labels
+returns-clause-labels c = free langmaps_checks ReadsAsLangMaps
