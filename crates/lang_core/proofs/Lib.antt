@@ -9,6 +9,7 @@ pub mod StageSound
 pub mod StageComplete
 pub mod GrammarLaws
 pub mod OneOffset
+pub mod OtherText
 pub mod Walks
 pub mod TagText
 pub mod RangeText

@@ -1,5 +1,6 @@
 use Rattle.std.specs.Prelude.{ℕ, ◌≡◌, ◌<◌, List, [], length, IsTrue}
 use Rattle.lang_core.specs.Text.{pieces, IsSized}
+use Rattle.lang_core.specs.LowerText.{TakesMemory}
 use Rattle.lang_core.specs.Grammar.{WellFormed, are_allowed, IsFirstRefused, tag_piece}
 use Rattle.lang_core.specs.declared.fault.LangFault.{LangFault}
 use Rattle.lang_core.specs.declared.fault.LangFault.TheVariants.{TagEmpty, TagTooLong, TagSubtag, TagNotWellFormed, RangeEmpty, RangeTooLong, RangeSubtag, NoMemory}
@@ -22,7 +23,7 @@ RefusesTag text TagNotWellFormed = IsSized text × HasSubtags text × ¬ WellFor
 RefusesTag text RangeEmpty = ⊥
 RefusesTag text RangeTooLong = ⊥
 RefusesTag text (RangeSubtag offset) = ⊥
-RefusesTag text NoMemory = IsTag text
+RefusesTag text NoMemory = IsTag text × TakesMemory text
 
 -- the part of it that needs the pieces
 abbrev pub RefusesTagFirst : List ℕ → LangFault → Type 0

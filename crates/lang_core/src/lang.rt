@@ -1,5 +1,5 @@
 //! Languages of texts: tags, and `@none` (JSON-LD 1.1 section 9.8).
-ghost use Rattle.std.specs.Prelude.{◌≡◌, List, ℕ, MatchResult, IfOk, IsOk, IfSome, Some, Option};
+ghost use Rattle.std.specs.Prelude.{◌≡◌, List, ℕ, MatchResult, IfOk, IsErr, IsOk, IfSome, Some, Option};
 ghost use Rattle.std.specs.Option.{option_copied};
 ghost use Rattle.std.specs.Str.{bytes_eq};
 ghost use Rattle.std.specs.Ordering.{nat_cmp};
@@ -8,6 +8,7 @@ ghost use Rattle.std.specs.Cmp.Rules.{comparing, hashing};
 ghost use Rattle.std.specs.Fmt.{padded};
 ghost use Rattle.std.specs.Hash as fed;
 ghost use Rattle.lang_core.specs.Tag.{IsTag};
+ghost use Rattle.lang_core.specs.LowerText.{TakesMemory};
 ghost use Rattle.lang_core.specs.Lang.{IsLang, none_text, tag_of, SpellsLang, RefusesLang};
 ghost use borrow.Author.Rules.{rules};
 
@@ -109,11 +110,12 @@ impl Lang {
         }
     }
 
-    /// An equal language, by the same number of allocations as its parsing. A copy of `@none` is
-    /// never refused.
+    /// An equal language, by the same number of allocations as its parsing. A copy of `@none`, or of
+    /// any language of at most 16 bytes, is never refused.
     pub fn copy(&self, alloc: Global) -> Result<Lang, AllocError>
         ensures equal { IfOk result (λ lang. lang ≡ self.now) }
         ensures none { self.now ≡ none_text → IsOk result }
+        ensures memory { IsErr result → TakesMemory self.now }
     {
         match &self.choice {
             Choice::Tagged(tag) => Ok(Lang {

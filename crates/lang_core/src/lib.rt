@@ -7,7 +7,7 @@
 //!
 //! Texts are stored in lower case and have at most 255 bytes. A parser finds every other fault
 //! before it allocates. Only parsers and copies allocate, and not for the text of a tag or a range
-//! of at most 16 bytes, which is stored inline.
+//! of at most 16 bytes, which is stored inline: that is part of their contracts.
 //!
 //! ```text
 //! let tag = Tag::parse(alloc, b"de-Latn-DE")?;

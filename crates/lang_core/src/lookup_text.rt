@@ -1,7 +1,9 @@
 //! An extended range as a basic one (RFC 4647 section 3.2).
-ghost use Rattle.std.specs.Prelude.{◌≡◌, ◌++◌, List, ℕ, IfOk, OnOk};
+ghost use Rattle.std.specs.Prelude.{◌≡◌, ◌++◌, List, ℕ, IfOk, IsErr, OnOk};
+ghost use Rattle.std.specs.List.{list_any};
 ghost use Rattle.std.specs.String.{string_bytes};
-ghost use Rattle.lang_core.specs.LookupText.{lookup_text, kept_text, hyphened};
+ghost use Rattle.lang_core.specs.Grammar.{is_star};
+ghost use Rattle.lang_core.specs.LookupText.{lookup_text, kept_text, hyphened, HasOtherText, IsKeptFor};
 ghost use Rattle.lang_core.specs.Matching.{without_stars};
 ghost use Rattle.lang_core.specs.Subtags.{subtags_left};
 
@@ -12,7 +14,7 @@ use std::alloc::{AllocError, Global};
 /// The text of a range as a basic one.
 #[derive(Debug, Drop)]
 pub(crate) enum LookupText {
-    /// The range's own text, as that of each basic range.
+    /// The range's own text, where no "*" is in it or it is "*".
     Own,
     /// "*", where the range begins with it.
     Every,
@@ -22,10 +24,15 @@ pub(crate) enum LookupText {
 
 impl LookupText {
     /// "*" where the range begins with "*", else its subtags without each "*" (RFC 4647 section
-    /// 3.2). Only the latter takes memory.
+    /// 3.2). It takes memory only where that is another text than both "*" and the range's own.
     pub(crate) fn new(alloc: Global, range: &str) -> Result<LookupText, AllocError>
-        ensures { IfOk result (λ kept. kept_text range.now kept ≡ lookup_text range.now) }
+        ensures text { IfOk result (λ kept. (kept_text range.now kept ≡ lookup_text range.now)
+            × IsKeptFor range.now kept) }
+        ensures memory { IsErr result → HasOtherText range.now }
     {
+        if !has_star(Subtags::new(range)) {
+            return Ok(LookupText::Own);
+        }
         let mut subtags = Subtags::new(range);
         match subtags.next() {
             Some(first) => {
@@ -51,10 +58,12 @@ impl LookupText {
         }
     }
 
-    /// The same for an equal range, by the same number of allocations.
+    /// The same for an equal range, by the same number of allocations: one for another text.
     pub(crate) fn copy(&self, alloc: Global) -> Result<LookupText, AllocError>
-        ensures { IfOk result (λ copy. (own : List ℕ)
-            → kept_text own copy ≡ kept_text own self.now) }
+        ensures text { IfOk result (λ copy. (own : List ℕ) → IsKeptFor own self.now
+            → (kept_text own copy ≡ kept_text own self.now) × IsKeptFor own copy) }
+        ensures memory { IsErr result → (own : List ℕ) → IsKeptFor own self.now
+            → HasOtherText own }
     {
         match self {
             LookupText::Own => Ok(LookupText::Own),
@@ -65,6 +74,18 @@ impl LookupText {
             }
         }
     }
+}
+
+/// Whether one of the subtags is "*".
+fn has_star(subtags: Subtags) -> bool
+    ensures { result ≡ list_any is_star (subtags_left subtags.entry) }
+{
+    for subtag in subtags {
+        if is_star(subtag.as_bytes()) {
+            return true;
+        }
+    }
+    false
 }
 
 /// The first subtag, and after it the others but each "*".

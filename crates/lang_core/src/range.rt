@@ -1,11 +1,11 @@
 //! Language ranges (RFC 4647 section 2).
-ghost use Rattle.std.specs.Prelude.{◌≡◌, List, ℕ, IsTrue, MatchResult, IfOk, ◌↔◌, Some};
+ghost use Rattle.std.specs.Prelude.{◌≡◌, List, ℕ, IsTrue, MatchResult, IfOk, IsErr, ◌↔◌, Some};
 ghost use Rattle.std.specs.Str.{bytes_eq, str_to_ascii_lowercase};
 ghost use Rattle.std.specs.Cmp.Rules.{comparing};
 ghost use Rattle.std.specs.Fmt.{padded};
 ghost use Rattle.lang_core.specs.Text.{pieces, subtags};
 ghost use Rattle.lang_core.specs.Grammar.{BasicRange, ExtendedRange, basic_piece, extended_piece};
-ghost use Rattle.lang_core.specs.Range.{IsRange, RefusesRange};
+ghost use Rattle.lang_core.specs.Range.{IsRange, RangeTakesMemory, RefusesRange};
 ghost use Rattle.lang_core.specs.Matching.{Basic, Extended, as_basic, is_basic_match, specificity};
 ghost use Rattle.lang_core.specs.Candidates.{candidates};
 ghost use Rattle.lang_core.specs.LookupText.{lookup_text};
@@ -39,15 +39,16 @@ impl Model for Range {
     ghost use Rattle.std.specs.Prelude.{List, ℕ, ◌≡◌};
     ghost use Rattle.lang_core.specs.Range.{IsRange};
     ghost use Rattle.lang_core.specs.Grammar.{ExtendedRange};
-    ghost use Rattle.lang_core.specs.LookupText.{lookup_text, kept_text};
-    ghost use Rattle.lang_core.specs.LowerText.{lower_bytes};
+    ghost use Rattle.lang_core.specs.LookupText.{lookup_text, kept_text, IsKeptFor};
+    ghost use Rattle.lang_core.specs.LowerText.{lower_bytes, IsInPlace};
 
     ghost Value = { List ℕ };
 
     ghost view = { λ r. lower_bytes r.text };
 
     ghost invariant = { λ r. IsRange ExtendedRange (lower_bytes r.text)
-        × (kept_text (lower_bytes r.text) r.lookup ≡ lookup_text (lower_bytes r.text)) };
+        × (kept_text (lower_bytes r.text) r.lookup ≡ lookup_text (lower_bytes r.text))
+        × IsInPlace r.text × IsKeptFor (lower_bytes r.text) r.lookup };
 }
 
 impl Range {
@@ -86,9 +87,9 @@ impl Range {
     /// The extended range that the bytes spell in any case (RFC 4647 section 2.2), as `de-*-ch`.
     ///
     /// Refused are, in this order, an empty text, one over 255 bytes, and the first subtag that an
-    /// extended range may not have at its place. Only then one allocation is made for the lookup
-    /// text, where the range does not begin with "*", and one for a text of more than 16 bytes;
-    /// out of memory is the last refusal.
+    /// extended range may not have at its place. Only then one allocation is made for a text of
+    /// more than 16 bytes, and one for a lookup text that is neither the range's text nor "*"; out
+    /// of memory is the last refusal.
     ///
     /// ```text
     /// Range::parse_extended(alloc, b"de-*-CH")?.lookup_text()  "de-ch"
@@ -186,9 +187,11 @@ impl Range {
         Truncations::new(self.lookup_text())
     }
 
-    /// An equal range, by the same number of allocations as its parsing.
+    /// An equal range, by the same number of allocations as its parsing. Where the range has at
+    /// most 16 bytes, and its lookup text is its own text or "*", a copy is never refused.
     pub fn copy(&self, alloc: Global) -> Result<Range, AllocError>
-        ensures { IfOk result (λ range. range ≡ self.now) }
+        ensures equal { IfOk result (λ range. range ≡ self.now) }
+        ensures memory { IsErr result → RangeTakesMemory self.now }
     {
         let text = self.text.copy(alloc)?;
         let lookup = self.lookup.copy(alloc)?;

@@ -1,5 +1,5 @@
 //! Tags (RFC 5646 section 2.1).
-ghost use Rattle.std.specs.Prelude.{◌≡◌, List, ℕ, MatchResult, IfOk, Some, Option};
+ghost use Rattle.std.specs.Prelude.{◌≡◌, List, ℕ, MatchResult, IfOk, IsErr, Some, Option};
 ghost use Rattle.std.specs.Str.{bytes_eq, str_to_ascii_lowercase};
 ghost use Rattle.std.specs.Ordering.{nat_cmp};
 ghost use Rattle.std.specs.Cmp.Lexicographic.{slice_cmp};
@@ -7,6 +7,7 @@ ghost use Rattle.std.specs.Cmp.Rules.{comparing, hashing};
 ghost use Rattle.std.specs.Fmt.{padded};
 ghost use Rattle.std.specs.Hash as fed;
 ghost use Rattle.lang_core.specs.Tag.{IsTag, RefusesTag};
+ghost use Rattle.lang_core.specs.LowerText.{TakesMemory};
 ghost use Rattle.lang_core.specs.Subtags.{subtags_left};
 ghost use Rattle.lang_core.specs.Text.{pieces};
 ghost use borrow.Author.Rules.{rules};
@@ -33,13 +34,13 @@ pub struct Tag {
 impl Model for Tag {
     ghost use Rattle.std.specs.Prelude.{List, ℕ};
     ghost use Rattle.lang_core.specs.Tag.{IsTag};
-    ghost use Rattle.lang_core.specs.LowerText.{lower_bytes};
+    ghost use Rattle.lang_core.specs.LowerText.{lower_bytes, IsInPlace};
 
     ghost Value = { List ℕ };
 
     ghost view = { λ t. lower_bytes t.text };
 
-    ghost invariant = { λ t. IsTag (lower_bytes t.text) };
+    ghost invariant = { λ t. IsTag (lower_bytes t.text) × IsInPlace t.text };
 }
 
 impl Tag {
@@ -85,9 +86,11 @@ impl Tag {
         Subtags::new(self.text.as_str())
     }
 
-    /// An equal tag, by the same number of allocations as its parsing.
+    /// An equal tag, by the same number of allocations as its parsing: a copy of a tag of at most
+    /// 16 bytes is never refused.
     pub fn copy(&self, alloc: Global) -> Result<Tag, AllocError>
-        ensures { IfOk result (λ tag. tag ≡ self.now) }
+        ensures equal { IfOk result (λ tag. tag ≡ self.now) }
+        ensures memory { IsErr result → TakesMemory self.now }
     {
         let text = self.text.copy(alloc)?;
         Ok(Tag { text })

@@ -1,9 +1,9 @@
 //! Texts of a length that tags and ranges may have.
-ghost use Rattle.std.specs.Prelude.{◌≡◌, ◌≤◌, length, MatchResult, IfOk};
+ghost use Rattle.std.specs.Prelude.{◌≡◌, ◌≤◌, length, MatchResult, IfOk, IsErr};
 ghost use Rattle.std.specs.String.{string_bytes};
 ghost use Rattle.std.specs.Str.{IsAscii, str_to_ascii_lowercase};
 ghost use Rattle.lang_core.specs.declared.fault.LangFault.TheVariants.{NoMemory};
-ghost use Rattle.lang_core.specs.LowerText.{lower_bytes};
+ghost use Rattle.lang_core.specs.LowerText.{lower_bytes, IsInPlace, TakesMemory};
 
 use crate::fault::LangFault;
 use arrayvec::ArrayString;
@@ -28,8 +28,8 @@ impl LowerText {
     pub(crate) fn new(alloc: Global, bytes: &[u8]) -> Result<LowerText, LangFault>
         requires { IsAscii (str_to_ascii_lowercase bytes.now) }
         ensures { MatchResult result
-            (λ text. lower_bytes text ≡ str_to_ascii_lowercase bytes.now)
-            (λ fault. fault ≡ NoMemory) }
+            (λ text. (lower_bytes text ≡ str_to_ascii_lowercase bytes.now) × IsInPlace text)
+            (λ fault. (fault ≡ NoMemory) × TakesMemory (str_to_ascii_lowercase bytes.now)) }
     {
         if bytes.len() <= MAX_SHORT_LEN {
             return Ok(LowerText::Short(lower_short(bytes)));
@@ -54,9 +54,11 @@ impl LowerText {
         self.as_str().as_bytes()
     }
 
-    /// An equal text, by the same number of allocations.
+    /// An equal text, by the same number of allocations: without memory up to 16 bytes.
     pub(crate) fn copy(&self, alloc: Global) -> Result<LowerText, AllocError>
-        ensures { IfOk result (λ text. lower_bytes text ≡ lower_bytes self.now) }
+        requires { IsInPlace self.now }
+        ensures equal { IfOk result (λ text. (lower_bytes text ≡ lower_bytes self.now) × IsInPlace text) }
+        ensures memory { IsErr result → TakesMemory (lower_bytes self.now) }
     {
         match self {
             LowerText::Short(text) => Ok(LowerText::Short(*text)),

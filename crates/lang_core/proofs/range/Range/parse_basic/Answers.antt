@@ -3,7 +3,8 @@ use Rattle.std.proofs.lemmas.List.{length-map}
 use Rattle.std.specs.Char.{to_ascii_lowercase}
 use Rattle.std.specs.Str.{str_to_ascii_lowercase}
 use Rattle.lang_core.specs.Text.{subtags, IsSized}
-use Rattle.lang_core.specs.Grammar.{BasicRange}
+use Rattle.lang_core.specs.Grammar.{BasicRange, ExtendedRange}
+use Rattle.lang_core.specs.Range.{IsRange}
 use Rattle.lang_core.proofs.RangeText.{basic_ascii, basic_extended}
 use Rattle.lang_core.proofs.LookupLaws.{lookup_text-basic}
 use Rattle.lang_core.proofs.range.Range.parse_basic.Goals as goal
@@ -16,4 +17,5 @@ invariant_of-result c =
     let basic : BasicRange (subtags c.args.text.now) = c.in_default.ensures in
     let size : length (str_to_ascii_lowercase c.args.text.now) ≡ length c.args.text.now = length-map c.args.text.now to_ascii_lowercase in
     let sized : IsSized (str_to_ascii_lowercase c.args.text.now) = (grind arith, omega arith) in
-    rw c.in_ok-text.ensures ((sized, basic_extended _ basic), lookup_text-basic _ basic)
+    let range : IsRange ExtendedRange (str_to_ascii_lowercase c.args.text.now) = (sized, basic_extended _ basic) in
+    (rw c.in_ok-text.ensures.0 range, rw c.in_ok-text.ensures.0 (lookup_text-basic _ basic), c.in_ok-text.ensures.1, tt)
