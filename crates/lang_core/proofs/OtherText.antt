@@ -43,6 +43,7 @@ pub other_text : (range s : List ℕ) (list : List (List ℕ)) → pieces range 
 other_text range s list e first some =
     let basic : as_basic (s ∷ list) ≡ s ∷ without_stars list = rw first refl in
     let of : pieces (lookup_text range) ≡ s ∷ without_stars list = pieces-lookup_text range ∙ (ap as_basic e ∙ basic) in
-    let none : list_any is_star (s ∷ without_stars list) ≡ false = (let same : list_any is_star (s ∷ without_stars list) ≡ list_any is_star (without_stars list) = rw first refl in same ∙ none_left list) in
-    ((λ own. let stars : list_any is_star (pieces (lookup_text range)) ≡ true = ap (λ (x : List ℕ). list_any is_star (pieces x)) own ∙ some in let without : list_any is_star (pieces (lookup_text range)) ≡ false = ap (list_any is_star) of ∙ none in cc),
-     (λ star. let lone : s ∷ without_stars list ≡ (42 ∷ []) ∷ [] = sym of ∙ (ap pieces star ∙ star_pieces (42 ∷ []) star_self) in let same : s ≡ 42 ∷ [] = cc in let yes : is_star s ≡ true = ap is_star same ∙ star_self in cc))
+    let none : list_any is_star (s ∷ without_stars list) ≡ false = (let same : list_any is_star (s ∷ without_stars list) ≡ list_any is_star (without_stars list) = rw first refl in same ∙ none_left list) in (
+      (λ own. let stars : list_any is_star (pieces (lookup_text range)) ≡ true = ap (λ (x : List ℕ). list_any is_star (pieces x)) own ∙ some in let without : list_any is_star (pieces (lookup_text range)) ≡ false = ap (list_any is_star) of ∙ none in cc),
+      (λ star. let lone : s ∷ without_stars list ≡ (42 ∷ []) ∷ [] = sym of ∙ (ap pieces star ∙ star_pieces (42 ∷ []) star_self) in let same : s ≡ 42 ∷ [] = cc in let yes : is_star s ≡ true = ap is_star same ∙ star_self in cc),
+    )

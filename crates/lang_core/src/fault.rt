@@ -38,7 +38,7 @@ pub enum LangFault {
 }
 
 impl LangFault {
-    ghost use Rattle.lang_core.specs.Fault.{number_of};
+    ghost use Rattle.lang_core.specs.Fault.{number_of, offset_of, meaning_of};
 
     /// The fault's number among all refusals.
     pub fn number(&self) -> u8
@@ -53,6 +53,48 @@ impl LangFault {
             LangFault::RangeTooLong => 6,
             LangFault::RangeSubtag { .. } => 7,
             LangFault::NoMemory => 26,
+        }
+    }
+
+    /// Where the subtag that is refused begins, in bytes from 0: of 3 and 7 alone.
+    ///
+    /// ```text
+    /// Tag::parse(alloc, b"en--us")  Err(fault), fault.offset() is Some(3)
+    /// Tag::parse(alloc, b"")        Err(fault), fault.offset() is None
+    /// ```
+    pub fn offset(&self) -> Option<usize>
+        ensures { result ≡ offset_of self.now }
+    {
+        match *self {
+            LangFault::TagSubtag { offset } | LangFault::RangeSubtag { offset } => Some(offset),
+            _ => None,
+        }
+    }
+
+    /// What was wanted, in one sentence without an end mark, to be shown after the fault's text.
+    ///
+    /// ```text
+    /// "{fault}: {meaning}"  subtag at 3: each subtag is 1 to 8 letters or digits, ..
+    /// ```
+    pub fn meaning(&self) -> &'static str
+        ensures { result.now ≡ meaning_of self.now }
+    {
+        match *self {
+            LangFault::TagEmpty => "a tag has at least one byte",
+            LangFault::TagTooLong => "a tag has at most 255 bytes",
+            LangFault::TagSubtag { .. } => {
+                "each subtag is 1 to 8 letters or digits, with a hyphen between two"
+            }
+            LangFault::TagNotWellFormed => {
+                "a language comes first, then script, region, variants, extensions, private use"
+            }
+            LangFault::RangeEmpty => "a range has at least one byte",
+            LangFault::RangeTooLong => "a range has at most 255 bytes",
+            LangFault::RangeSubtag { .. } => {
+                "each subtag is * or 1 to 8 letters, after the first also digits; \
+                 in a basic range * is alone"
+            }
+            LangFault::NoMemory => "there is memory for the text",
         }
     }
 }

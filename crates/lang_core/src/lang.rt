@@ -1,5 +1,6 @@
 //! Languages of texts: tags, and `@none` (JSON-LD 1.1 section 9.8).
-ghost use Rattle.std.specs.Prelude.{◌≡◌, List, ℕ, MatchResult, IfOk, IsErr, IsOk, IfSome, Some, Option};
+ghost use Rattle.std.specs.Prelude.{◌≡◌, List, ℕ, MatchResult, IfOk, IsErr, IsOk};
+ghost use Rattle.std.specs.Prelude.{IfSome, Some, Option};
 ghost use Rattle.std.specs.Option.{option_copied};
 ghost use Rattle.std.specs.Str.{bytes_eq};
 ghost use Rattle.std.specs.Ordering.{nat_cmp};
@@ -110,8 +111,8 @@ impl Lang {
         }
     }
 
-    /// An equal language, by the same number of allocations as its parsing. A copy of `@none`, or of
-    /// any language of at most 16 bytes, is never refused.
+    /// An equal language, by the same number of allocations as its parsing. A copy of `@none`, or
+    /// of any language of at most 16 bytes, is never refused.
     pub fn copy(&self, alloc: Global) -> Result<Lang, AllocError>
         ensures equal { IfOk result (λ lang. lang ≡ self.now) }
         ensures none { self.now ≡ none_text → IsOk result }

@@ -57,7 +57,8 @@ impl LowerText {
     /// An equal text, by the same number of allocations: without memory up to 16 bytes.
     pub(crate) fn copy(&self, alloc: Global) -> Result<LowerText, AllocError>
         requires { IsInPlace self.now }
-        ensures equal { IfOk result (λ text. (lower_bytes text ≡ lower_bytes self.now) × IsInPlace text) }
+        ensures equal { IfOk result (λ text. (lower_bytes text ≡ lower_bytes self.now)
+            × IsInPlace text) }
         ensures memory { IsErr result → TakesMemory (lower_bytes self.now) }
     {
         match self {

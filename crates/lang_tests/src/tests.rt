@@ -2,6 +2,7 @@
 mod lengths;
 mod matching;
 mod parsing;
+mod refusals;
 mod truncations;
 mod values;
 
