@@ -1,0 +1,46 @@
+import type { Label, Site } from './index.js';
+
+export interface LanguagesOptions {
+  /** The site whose labels `req.label` gives. */
+  site: Site;
+  /** The languages that pages are in. */
+  tags: readonly string[];
+  /**
+   * The language for readers who get no other. It is one of the tags.
+   *
+   * @default the first of the tags
+   */
+  default?: string;
+  /**
+   * Skips malformed elements of a reader's field. Without it such a field counts as none.
+   *
+   * @default true
+   */
+  lenient?: boolean;
+}
+
+/** What the middleware adds to a request. */
+export interface ReaderLanguage {
+  /** The tag that the reader gets, or null where they refuse all of them. */
+  language: string | null;
+  /** Returns the label of a message in that language, or else in the default, or null. */
+  label(id: string): Label | null;
+}
+
+/** What the middleware needs of a request and of a response: those of node:http have it. */
+export interface RequestWithHeaders {
+  headers: { 'accept-language'?: string };
+}
+export interface ResponseWithHeaders {
+  getHeader(name: string): number | string | string[] | undefined;
+  setHeader(name: string, value: string): unknown;
+}
+
+/** Returns middleware of express's form. It is refused (1 to 4) where a tag is none. */
+export function languages(
+  options: LanguagesOptions,
+): (
+  req: RequestWithHeaders & Partial<ReaderLanguage>,
+  res: ResponseWithHeaders,
+  next: () => void,
+) => void;

@@ -1,0 +1,57 @@
+'use strict';
+
+const { Site, pick } = require('./index.js');
+
+// A refusal of the field: it is too long, or has a malformed element and `lenient` is false.
+const OF_FIELD = [8, 9];
+
+function isOfField(error) {
+  return OF_FIELD.includes(error.number);
+}
+
+// The tag of a reader. A field that is refused counts as none (RFC 9110 section 12.5.4 lets a server do so).
+function pickFor(field, tags, options) {
+  try {
+    return pick(field, tags, options);
+  } catch (error) {
+    if (!isOfField(error)) throw error;
+    return pick(undefined, tags, options);
+  }
+}
+
+// Says to caches that the answer depends on the reader's header.
+function vary(res) {
+  const had = [res.getHeader('Vary') ?? []].flat().join(', ');
+  const names = had.split(',').map((name) => name.trim().toLowerCase());
+  if (names.includes('*') || names.includes('accept-language')) return;
+  res.setHeader('Vary', had ? `${had}, Accept-Language` : 'Accept-Language');
+}
+
+// The label of a message in the language that the reader got, or else in the default.
+function labelIn(site, id, language, fallback) {
+  return language === null ? null : site.lookup(id, language, { default: fallback });
+}
+
+// Throws where the arguments cannot serve any reader.
+function check(site, offered, options) {
+  if (!(site instanceof Site)) throw new TypeError('site must be a Site');
+  if (!Array.isArray(offered)) throw new TypeError('tags must be an array of strings');
+  if (offered.includes('@none')) throw new RangeError('@none is no language that a page can be in');
+  if (pick(undefined, offered, options) === null) throw new RangeError('default must be one of tags');
+}
+
+function languages({ site, tags, default: fallback = tags?.[0], lenient = true }) {
+  const options = { default: fallback, lenient };
+  check(site, tags, options);
+  const offered = [...tags];
+  return function readerLanguage(req, res, next) {
+    const language = pickFor(req.headers['accept-language'], offered, options);
+    req.language = language;
+    req.label = (id) => labelIn(site, id, language, fallback);
+    if (language !== null) res.setHeader('Content-Language', language);
+    vary(res);
+    next();
+  };
+}
+
+module.exports = { languages };

@@ -1,0 +1,3 @@
+import silkwaram from './index.js';
+
+export const { Site, pick } = silkwaram;
