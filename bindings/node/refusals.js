@@ -67,4 +67,4 @@ function mayBeName(document) {
   return typeof document === 'string' && /^[^{]{1,255}$/s.test(document);
 }
 
-module.exports = { refusedDocument, refusedQuestion };
+module.exports = { IN_ROWS, TEXTS, WITH_OFFSET, refusedDocument, refusedQuestion };

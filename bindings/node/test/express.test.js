@@ -1,0 +1,117 @@
+'use strict';
+
+const assert = require('node:assert/strict');
+const http = require('node:http');
+const { once } = require('node:events');
+const test = require('node:test');
+const { Site } = require('..');
+const { languages } = require('../express.js');
+const { GREETINGS } = require('./documents.js');
+
+const TAGS = ['en', 'fr', 'de-CH'];
+
+function greet(req, res) {
+  const label = req.label('greeting');
+  res.setHeader('Content-Type', 'text/plain; charset=utf-8');
+  res.end(label === null ? 'none' : `${label.language} ${label.texts[0]}`);
+}
+
+function respond(middleware, earlier) {
+  return (req, res) => {
+    if (earlier !== undefined) res.setHeader('Vary', earlier);
+    middleware(req, res, () => greet(req, res));
+  };
+}
+
+function expressOrNull() {
+  try {
+    return require('express');
+  } catch {
+    return null;
+  }
+}
+
+async function serve(t, handler) {
+  const server = http.createServer(handler).listen(0, '127.0.0.1');
+  await once(server, 'listening');
+  t.after(() => server.close());
+  return server.address().port;
+}
+
+// (http.request, since fetch sends an Accept-Language of its own)
+async function get(port, header) {
+  const headers = header === undefined ? {} : { 'Accept-Language': header };
+  const request = http.get({ host: '127.0.0.1', port, headers, agent: false });
+  const [response] = await once(request, 'response');
+  const parts = await response.toArray();
+  const { 'content-language': language, vary } = response.headers;
+  return { body: Buffer.concat(parts).toString(), language, vary };
+}
+
+function answer(body, language, vary = 'Accept-Language') {
+  return { body, language, vary };
+}
+
+async function asksAll(port) {
+  assert.deepEqual(await get(port, 'fr-CA, en;q=0.5'), answer('fr Bonjour', 'fr'));
+  assert.deepEqual(await get(port, 'DE-ch-1996'), answer('de-ch Grüezi', 'de-CH'));
+  assert.deepEqual(await get(port, 'ja'), answer('en Hello', 'en'));
+  assert.deepEqual(await get(port), answer('en Hello', 'en'));
+  assert.deepEqual(await get(port, ''), answer('en Hello', 'en'));
+  assert.deepEqual(await get(port, 'en_US, fr'), answer('fr Bonjour', 'fr'));
+  assert.deepEqual(await get(port, ['ja', 'fr']), answer('fr Bonjour', 'fr'));
+  assert.deepEqual(await get(port, '*;q=0'), answer('none', undefined));
+}
+
+test('a server of node:http answers in the language of each reader', async (t) => {
+  const site = Site.open(GREETINGS);
+  await asksAll(await serve(t, respond(languages({ site, tags: TAGS }))));
+});
+
+const express = expressOrNull();
+test('a server of express does', { skip: express === null && 'express is not installed' }, async (t) => {
+  const app = express();
+  app.use(languages({ site: Site.open(GREETINGS), tags: TAGS, default: 'en' }));
+  app.get('/', greet);
+  await asksAll(await serve(t, app));
+});
+
+test('a field that is refused counts as none', async (t) => {
+  const site = Site.open(GREETINGS);
+  const middleware = languages({ site, tags: TAGS, default: 'fr', lenient: false });
+  const port = await serve(t, respond(middleware));
+  assert.deepEqual(await get(port, 'en_US, en'), answer('fr Bonjour', 'fr'));
+  // (longer than the header that node:http lets through)
+  const req = { headers: { 'accept-language': 'en' + ' '.repeat(70_000) } };
+  middleware(req, new http.ServerResponse(req), () => {});
+  assert.equal(req.language, 'fr');
+});
+
+test('Vary keeps what it has', async (t) => {
+  const middleware = languages({ site: Site.open(GREETINGS), tags: TAGS });
+  const vary = async (earlier) => (await get(await serve(t, respond(middleware, earlier)), 'fr')).vary;
+  assert.equal(await vary('Accept-Encoding'), 'Accept-Encoding, Accept-Language');
+  assert.equal(await vary(['Accept-Encoding', 'Cookie']), 'Accept-Encoding, Cookie, Accept-Language');
+  assert.equal(await vary('Cookie, accept-language'), 'Cookie, accept-language');
+  assert.equal(await vary('*'), '*');
+});
+
+test('a label that a language lacks is that of the default', () => {
+  const req = { headers: { 'accept-language': 'fr' } };
+  const site = Site.open(GREETINGS);
+  languages({ site, tags: TAGS })(req, new http.ServerResponse(req), () => {});
+  assert.deepEqual(req.label('farewell'), { language: 'en', texts: ['Bye'], isDefault: true });
+  assert.equal(req.label('nowhere'), null);
+  assert.throws(() => req.label('@'), { number: 10 });
+});
+
+test('arguments that can serve no reader are refused at once', () => {
+  const site = Site.open(GREETINGS);
+  assert.throws(() => languages({ site, tags: ['en_US'] }), { number: 3 });
+  assert.throws(() => languages({ site, tags: ['en'], default: 'fr' }), RangeError);
+  assert.throws(() => languages({ site, tags: [] }), RangeError);
+  assert.throws(() => languages({ site, tags: ['en', '@none'] }), RangeError);
+  assert.throws(() => languages({ site, tags: 'en' }), TypeError);
+  assert.throws(() => languages({ site }), TypeError);
+  assert.throws(() => languages({ tags: ['en'] }), TypeError);
+});

@@ -1,0 +1,71 @@
+'use strict';
+
+const assert = require('node:assert/strict');
+const test = require('node:test');
+const { setImmediate: nextTurn } = require('node:timers/promises');
+const { Site } = require('..');
+const { siteDocument } = require('./documents.js');
+
+const MESSAGES = 2000;
+const MEBIBYTE = 2 ** 20;
+
+const LARGE = Buffer.from(
+  siteDocument(
+    Object.fromEntries(
+      Array.from({ length: MESSAGES }, (_, at) => [`message-${at}`, { en: ['text'], fr: ['texte'] }]),
+    ),
+  ),
+);
+
+// Opens sites and lets `use` have each of them, with a turn of the event loop now and then.
+async function openMany(count, use) {
+  for (let at = 0; at < count; at++) {
+    use(Site.open(LARGE));
+    if (at % 10 === 9) {
+      globalThis.gc?.();
+      await nextTurn();
+    }
+  }
+}
+
+// What the process has more of memory after `work` than before, in MiB.
+async function growth(work) {
+  await work(20);
+  const before = process.memoryUsage.rss();
+  await work(400);
+  return (process.memoryUsage.rss() - before) / MEBIBYTE;
+}
+
+// 400 of these sites take over 200 MiB together.
+test('memory of sites that stay open is seen', async () => {
+  const kept = [];
+  const grown = await growth((count) => openMany(count, (site) => kept.push(site)));
+  assert.ok(grown > 200, `${grown} MiB`);
+  for (const site of kept) site.close();
+});
+
+test('memory of closed sites is given back', async () => {
+  const grown = await growth((count) => openMany(count, (site) => site.close()));
+  assert.ok(grown < 50, `${grown} MiB`);
+});
+
+test('memory of forgotten sites is given back', { skip: !globalThis.gc && 'needs --expose-gc' }, async () => {
+  const grown = await growth((count) => openMany(count, () => {}));
+  assert.ok(grown < 50, `${grown} MiB`);
+});
+
+test('memory of forgotten shares is given back', { skip: !globalThis.gc && 'needs --expose-gc' }, async () => {
+  const grown = await growth((count) => openMany(count, (site) => (site.share(), site.close())));
+  assert.ok(grown < 50, `${grown} MiB`);
+});
+
+// (which it is, as the collector is told what open sites take)
+test('memory of forgotten sites is given back by itself', async () => {
+  const grown = await growth(async (count) => {
+    for (let at = 0; at < count; at++) {
+      Site.open(LARGE);
+      await nextTurn();
+    }
+  });
+  assert.ok(grown < 100, `${grown} MiB`);
+});

@@ -1,0 +1,143 @@
+'use strict';
+
+const assert = require('node:assert/strict');
+const test = require('node:test');
+const { pick } = require('..');
+
+test('the header of RFC 9110 section 12.5.4 takes Danish, then British English', () => {
+  const field = 'da, en-gb;q=0.8, en;q=0.7';
+  assert.equal(pick(field, ['en', 'da']), 'da');
+  assert.equal(pick(field, ['en', 'en-GB']), 'en-GB');
+  assert.equal(pick(field, ['fr']), null);
+});
+
+test('a range is truncated as in RFC 4647 section 3.4', () => {
+  const range = 'zh-Hant-CN-x-private1-private2';
+  assert.equal(pick(range, ['zh', 'zh-Hant']), 'zh-Hant');
+  assert.equal(pick(range, ['zh-Hant-CN-x', 'zh']), 'zh');
+  assert.equal(pick('en-GB', ['en-US']), null);
+});
+
+test('the tag comes back as it was given', () => {
+  assert.equal(pick('FR-ca', ['en', 'Fr-CA']), 'Fr-CA');
+});
+
+test('the default is answered where nothing else is, and not where it is refused', () => {
+  assert.equal(pick('ja', ['en', 'fr'], { default: 'en' }), 'en');
+  assert.equal(pick('ja', ['en', 'fr'], { default: null }), null);
+  assert.equal(pick('ja', ['en', 'fr'], { default: 'de' }), null);
+  assert.equal(pick('ja, en;q=0', ['en', 'fr'], { default: 'en' }), null);
+  assert.equal(pick('ja, *;q=0', ['en', 'fr'], { default: 'en' }), null);
+});
+
+test('no header finds the default, as * and an empty header do', () => {
+  for (const field of [undefined, null, '*', '']) {
+    assert.equal(pick(field, ['en', 'fr']), null);
+    assert.equal(pick(field, ['en', 'fr'], { default: 'fr' }), 'fr');
+  }
+});
+
+test('extended ranges', () => {
+  const extended = { scheme: 'extended' };
+  assert.equal(pick('de-*-DE', ['de', 'de-DE'], extended), 'de-DE');
+  assert.throws(() => pick('de-*-DE', ['de']), { number: 9, offset: 0, row: null });
+  assert.equal(pick('de', ['de'], { scheme: 'basic' }), 'de');
+});
+
+test('malformed elements are refused, or skipped', () => {
+  assert.throws(() => pick('fr;q=0.4,en;q=1.001', ['en']), {
+    name: 'Error',
+    message: 'refused 9: field element at 9',
+    number: 9,
+    offset: 9,
+    row: null,
+  });
+  assert.equal(pick('en_US, fr;q=0.5', ['en', 'fr'], { lenient: true }), 'fr');
+});
+
+test('a field has at most 65,535 bytes', () => {
+  assert.equal(pick('en' + ' '.repeat(65_533), ['en']), 'en');
+  const refused = { message: 'refused 8: field is over 65535 bytes', number: 8, offset: null };
+  assert.throws(() => pick('en' + ' '.repeat(65_534), ['en']), refused);
+  assert.throws(() => pick('en' + ' '.repeat(65_534), ['en'], { lenient: true }), refused);
+});
+
+test('tags are refused by their number', () => {
+  assert.throws(() => pick('en', ['']), { message: 'refused 1: tag is empty' });
+  assert.throws(() => pick('en', ['fr', 'a'.repeat(256)]), { number: 2 });
+  assert.throws(() => pick('en', ['en_US']), { message: 'refused 3: subtag at 0', offset: 0 });
+  assert.throws(() => pick('en', ['en-']), { number: 3, offset: 3 });
+  assert.throws(() => pick('en', ['en-a']), { number: 4 });
+  assert.throws(() => pick('e_', ['e_'], { default: '' }), { number: 9 });
+  assert.throws(() => pick('e_', ['e_'], { default: 'en-' }), { number: 3, offset: 3 });
+});
+
+test('no tags are none, and @none is one', () => {
+  assert.equal(pick('en', []), null);
+  assert.equal(pick('en', ['@none'], { default: '@none' }), '@none');
+});
+
+test('a text is UTF-8 bytes too', () => {
+  assert.equal(pick(Buffer.from('fr'), ['fr']), 'fr');
+  assert.equal(pick(new Uint8Array([0x66, 0x72]), ['fr']), 'fr');
+  assert.equal(pick(Buffer.from('xxfrxx').subarray(2, 4), ['fr']), 'fr');
+  assert.equal(pick('ja', ['fr'], { default: Buffer.from('fr') }), 'fr');
+  assert.equal(pick(new Uint8Array(new SharedArrayBuffer(0)), ['fr'], { default: 'fr' }), 'fr');
+});
+
+test('line feeds, zeros and half surrogate pairs are refused at their place', () => {
+  assert.throws(() => pick('en', ['fr\nen']), { number: 3, offset: 0 });
+  assert.throws(() => pick('en', ['fr-\nen']), { number: 3, offset: 3 });
+  assert.throws(() => pick('en', ['fr-\0']), { number: 3, offset: 3 });
+  assert.throws(() => pick('en', ['\ud800']), { number: 3, offset: 0 });
+  assert.throws(() => pick('en, \udfff', ['en']), { number: 9, offset: 4 });
+  assert.throws(() => pick('en, f\0r', ['en']), { number: 9, offset: 4 });
+  assert.equal(pick('\ud800, en', ['en'], { lenient: true }), 'en');
+});
+
+test('offsets count bytes of UTF-8', () => {
+  const skipsOne = 'é'.repeat(3);
+  assert.throws(() => pick('en', [`en-${skipsOne}`]), { number: 3, offset: 3 });
+  assert.throws(() => pick('en', ['de'], { default: '😀' }), { number: 3, offset: 0 });
+});
+
+test('wrong types are TypeErrors that name the argument', () => {
+  const wrong = (name) => ({
+    name: 'TypeError',
+    code: 'ERR_INVALID_ARG_TYPE',
+    message: new RegExp(`^${name} must be `),
+  });
+  assert.throws(() => pick(7, ['en']), wrong('field'));
+  assert.throws(() => pick(['en'], ['en']), wrong('field'));
+  assert.throws(() => pick(new Uint16Array(1), ['en']), wrong('field'));
+  assert.throws(() => pick(new ArrayBuffer(1), ['en']), wrong('field'));
+  assert.throws(() => pick(Symbol('en'), ['en']), wrong('field'));
+  assert.throws(() => pick('en', 'en'), wrong('tags'));
+  assert.throws(() => pick('en'), wrong('tags'));
+  assert.throws(() => pick('en', new Set(['en'])), wrong('tags'));
+  assert.throws(() => pick('en', ['en', undefined]), wrong('tags\\[1\\]'));
+  assert.throws(() => pick('en', [, 'en']), wrong('tags\\[0\\]'));
+  assert.throws(() => pick('en', ['en'], { default: 7 }), wrong('default'));
+  assert.throws(() => pick('en', ['en'], { lenient: 1 }), wrong('lenient'));
+  assert.throws(() => pick('en', ['en'], { scheme: 'toString' }), wrong('scheme'));
+  assert.throws(() => pick('en', ['en'], { scheme: null }), wrong('scheme'));
+  assert.throws(() => pick('en', ['en'], null), wrong('options'));
+  assert.throws(() => pick('en', ['en'], 'en'), wrong('options'));
+});
+
+test('an error of a getter among the tags is passed on', () => {
+  const tags = ['en'];
+  Object.defineProperty(tags, 1, {
+    get() {
+      throw new RangeError('of the getter');
+    },
+  });
+  assert.throws(() => pick('en', tags), { name: 'RangeError', message: 'of the getter' });
+});
+
+test('the package gives the same to import and to require', async () => {
+  const module = await import('../index.mjs');
+  assert.equal(module.pick, pick);
+  assert.equal(module.Site, require('..').Site);
+  assert.deepEqual(Object.keys(module).sort(), ['Site', 'pick']);
+});

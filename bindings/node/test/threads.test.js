@@ -1,0 +1,74 @@
+'use strict';
+
+const assert = require('node:assert/strict');
+const test = require('node:test');
+const { Worker } = require('node:worker_threads');
+const { GREETINGS } = require('./documents.js');
+
+const THREADS = 8;
+const ROUNDS = 2000;
+
+// Asks in a thread of its own: each round opens, shares, asks and closes or forgets.
+function work({ document, rounds, path }) {
+  const { parentPort } = require('node:worker_threads');
+  const { Site, pick } = require(path);
+  const site = Site.open(document);
+  let right = 0;
+  for (let round = 0; round < rounds; round++) {
+    const share = site.share();
+    if (round % 100 === 0) site.reload(document);
+    if (pick('fr-CA', ['en', 'fr']) === 'fr' && share.text('greeting', 'fr-CA') === 'Bonjour') right++;
+    if (round % 2 === 0) share.close();
+  }
+  parentPort.postMessage(right);
+}
+
+// Recurses until the stack ends, and asks at each depth.
+function descend({ document, path }) {
+  const { parentPort } = require('node:worker_threads');
+  const { Site, pick } = require(path);
+  function below(depth) {
+    pick('fr-CA, en;q=0.5', ['en', 'fr']);
+    Site.open(document).close();
+    try {
+      return below(depth + 1);
+    } catch (error) {
+      if (!(error instanceof RangeError)) throw error;
+      return depth;
+    }
+  }
+  parentPort.postMessage(below(0));
+}
+
+function run(task, given, options) {
+  const data = { ...given, path: require.resolve('..') };
+  const code = `(${task})(require('node:worker_threads').workerData)`;
+  return new Promise((resolve, reject) => {
+    const worker = new Worker(code, { eval: true, workerData: data, ...options });
+    let told;
+    worker.on('message', (message) => (told = message));
+    worker.on('error', reject);
+    worker.on('exit', () => resolve(told));
+  });
+}
+
+test('threads ask at once, each a site of its own', async () => {
+  const given = { document: GREETINGS, rounds: ROUNDS };
+  const all = await Promise.all(Array.from({ length: THREADS }, () => run(work, given)));
+  assert.deepEqual(all, Array(THREADS).fill(ROUNDS));
+});
+
+test('a thread that is ended in the middle takes nothing else with it', async () => {
+  const data = { document: GREETINGS, rounds: 1e9, path: require.resolve('..') };
+  const code = `(${work})(require('node:worker_threads').workerData)`;
+  const worker = new Worker(code, { eval: true, workerData: data });
+  await new Promise((resolve) => setTimeout(resolve, 200));
+  assert.equal(await worker.terminate(), 1);
+  assert.equal(require('..').pick('fr', ['fr']), 'fr');
+});
+
+test('a call has stack enough where the stack of JavaScript ends', async () => {
+  const given = { document: GREETINGS };
+  assert.ok((await run(descend, given)) > 100);
+  assert.ok((await run(descend, given, { resourceLimits: { stackSizeMb: 1 } })) > 100);
+});
