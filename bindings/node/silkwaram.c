@@ -19,7 +19,7 @@
 #define OUT_OF_MEMORY_TOLD ((sw_told){.number = OUT_OF_MEMORY})
 #define MOST_ARGUMENTS 6
 
-/* What an open site takes of memory for each byte of its document, as the garbage collector is told. */
+/* About how many bytes of memory an open site takes for a byte of its document, as the garbage collector is told. */
 #define MEMORY_FOR_BYTE 8
 
 /* Marks the objects of this addon, so that no other object is taken for one. */

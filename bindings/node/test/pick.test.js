@@ -14,7 +14,8 @@ test('the header of RFC 9110 section 12.5.4 takes Danish, then British English',
 test('a range is truncated as in RFC 4647 section 3.4', () => {
   const range = 'zh-Hant-CN-x-private1-private2';
   assert.equal(pick(range, ['zh', 'zh-Hant']), 'zh-Hant');
-  assert.equal(pick(range, ['zh-Hant-CN-x', 'zh']), 'zh');
+  assert.equal(pick(range, ['zh', 'zh-Hant-CN']), 'zh-Hant-CN');
+  assert.equal(pick(range, ['zh', 'zh-Hant-CN-x-private1']), 'zh-Hant-CN-x-private1');
   assert.equal(pick('en-GB', ['en-US']), null);
 });
 
