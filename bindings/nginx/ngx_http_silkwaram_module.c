@@ -1,0 +1,548 @@
+
+/*
+ * The variable $silkwaram_lang: which of the languages of silkwaram_tags a
+ * request gets, by its Accept-Language field and the lookup of RFC 4647.
+ * README.md has the directives.
+ */
+
+
+#include <ngx_config.h>
+#include <ngx_core.h>
+#include <ngx_http.h>
+#include <silkwaram.h>
+
+
+#define NGX_HTTP_SILKWARAM_TAG_LEN  255
+
+
+typedef struct {
+    ngx_str_t                       tags;    /* each with an LF after it */
+    ngx_str_t                       dflt;
+    ngx_flag_t                      lenient;
+    ngx_uint_t                      checked; /* whether dflt is in tags */
+} ngx_http_silkwaram_loc_conf_t;
+
+
+typedef struct {
+    ngx_http_silkwaram_loc_conf_t  *conf;    /* by which lang was picked */
+    ngx_str_t                       lang;    /* empty if there is none */
+} ngx_http_silkwaram_ctx_t;
+
+
+static ngx_int_t ngx_http_silkwaram_lang_variable(ngx_http_request_t *r,
+    ngx_http_variable_value_t *v, uintptr_t data);
+static ngx_int_t ngx_http_silkwaram_lang(ngx_http_request_t *r,
+    ngx_http_silkwaram_loc_conf_t *conf, ngx_str_t *lang);
+static int32_t ngx_http_silkwaram_pick(ngx_http_silkwaram_loc_conf_t *conf,
+    ngx_str_t *field, u_char *lang, sw_told *told);
+static ngx_int_t ngx_http_silkwaram_field(ngx_http_request_t *r,
+    ngx_str_t *field);
+static ngx_table_elt_t *ngx_http_silkwaram_next_line(ngx_list_part_t **part,
+    ngx_uint_t *i);
+
+static ngx_int_t ngx_http_silkwaram_add_variable(ngx_conf_t *cf);
+static void *ngx_http_silkwaram_create_loc_conf(ngx_conf_t *cf);
+static char *ngx_http_silkwaram_merge_loc_conf(ngx_conf_t *cf, void *parent,
+    void *child);
+static void ngx_http_silkwaram_check_default(ngx_conf_t *cf,
+    ngx_http_silkwaram_loc_conf_t *conf);
+static char *ngx_http_silkwaram_tags(ngx_conf_t *cf, ngx_command_t *cmd,
+    void *conf);
+static char *ngx_http_silkwaram_default(ngx_conf_t *cf, ngx_command_t *cmd,
+    void *conf);
+static char *ngx_http_silkwaram_check_tag(ngx_conf_t *cf, ngx_command_t *cmd,
+    ngx_str_t *tag);
+
+
+static ngx_command_t  ngx_http_silkwaram_commands[] = {
+
+    { ngx_string("silkwaram_tags"),
+      NGX_HTTP_MAIN_CONF|NGX_HTTP_SRV_CONF|NGX_HTTP_LOC_CONF|NGX_CONF_1MORE,
+      ngx_http_silkwaram_tags,
+      NGX_HTTP_LOC_CONF_OFFSET,
+      0,
+      NULL },
+
+    { ngx_string("silkwaram_default"),
+      NGX_HTTP_MAIN_CONF|NGX_HTTP_SRV_CONF|NGX_HTTP_LOC_CONF|NGX_CONF_TAKE1,
+      ngx_http_silkwaram_default,
+      NGX_HTTP_LOC_CONF_OFFSET,
+      0,
+      NULL },
+
+    { ngx_string("silkwaram_lenient"),
+      NGX_HTTP_MAIN_CONF|NGX_HTTP_SRV_CONF|NGX_HTTP_LOC_CONF|NGX_CONF_FLAG,
+      ngx_conf_set_flag_slot,
+      NGX_HTTP_LOC_CONF_OFFSET,
+      offsetof(ngx_http_silkwaram_loc_conf_t, lenient),
+      NULL },
+
+      ngx_null_command
+};
+
+
+static ngx_http_module_t  ngx_http_silkwaram_module_ctx = {
+    ngx_http_silkwaram_add_variable,       /* preconfiguration */
+    NULL,                                  /* postconfiguration */
+
+    NULL,                                  /* create main configuration */
+    NULL,                                  /* init main configuration */
+
+    NULL,                                  /* create server configuration */
+    NULL,                                  /* merge server configuration */
+
+    ngx_http_silkwaram_create_loc_conf,    /* create location configuration */
+    ngx_http_silkwaram_merge_loc_conf      /* merge location configuration */
+};
+
+
+ngx_module_t  ngx_http_silkwaram_module = {
+    NGX_MODULE_V1,
+    &ngx_http_silkwaram_module_ctx,        /* module context */
+    ngx_http_silkwaram_commands,           /* module directives */
+    NGX_HTTP_MODULE,                       /* module type */
+    NULL,                                  /* init master */
+    NULL,                                  /* init module */
+    NULL,                                  /* init process */
+    NULL,                                  /* init thread */
+    NULL,                                  /* exit thread */
+    NULL,                                  /* exit process */
+    NULL,                                  /* exit master */
+    NGX_MODULE_V1_PADDING
+};
+
+
+static ngx_str_t  ngx_http_silkwaram_lang_name = ngx_string("silkwaram_lang");
+
+static ngx_str_t  ngx_http_silkwaram_header = ngx_string("accept-language");
+
+/* what a request without the header accepts */
+static ngx_str_t  ngx_http_silkwaram_any = ngx_string("*");
+
+
+static ngx_int_t
+ngx_http_silkwaram_lang_variable(ngx_http_request_t *r,
+    ngx_http_variable_value_t *v, uintptr_t data)
+{
+    ngx_http_silkwaram_ctx_t       *ctx;
+    ngx_http_silkwaram_loc_conf_t  *conf;
+
+    conf = ngx_http_get_module_loc_conf(r, ngx_http_silkwaram_module);
+
+    if (conf->tags.len == 0) {
+        v->not_found = 1;
+        return NGX_OK;
+    }
+
+    ctx = ngx_http_get_module_ctx(r, ngx_http_silkwaram_module);
+
+    if (ctx == NULL) {
+        ctx = ngx_pcalloc(r->pool, sizeof(ngx_http_silkwaram_ctx_t));
+        if (ctx == NULL) {
+            return NGX_ERROR;
+        }
+
+        ngx_http_set_ctx(r, ctx, ngx_http_silkwaram_module);
+    }
+
+    /* a rewrite may have led to a location with other tags */
+
+    if (ctx->conf != conf) {
+        if (ngx_http_silkwaram_lang(r, conf, &ctx->lang) != NGX_OK) {
+            return NGX_ERROR;
+        }
+
+        ctx->conf = conf;
+    }
+
+    if (ctx->lang.len == 0) {
+        v->not_found = 1;
+        return NGX_OK;
+    }
+
+    v->valid = 1;
+    v->no_cacheable = 0;
+    v->not_found = 0;
+    v->len = ctx->lang.len;
+    v->data = ctx->lang.data;
+
+    return NGX_OK;
+}
+
+
+static ngx_int_t
+ngx_http_silkwaram_lang(ngx_http_request_t *r,
+    ngx_http_silkwaram_loc_conf_t *conf, ngx_str_t *lang)
+{
+    u_char     tag[NGX_HTTP_SILKWARAM_TAG_LEN];
+    int32_t    status;
+    sw_told    told;
+    ngx_str_t  field;
+
+    if (ngx_http_silkwaram_field(r, &field) != NGX_OK) {
+        return NGX_ERROR;
+    }
+
+    status = ngx_http_silkwaram_pick(conf, &field, tag, &told);
+
+    if (status == SW_REFUSED) {
+        ngx_log_error(NGX_LOG_INFO, r->connection->log, 0,
+                      "client sent an Accept-Language field that is taken "
+                      "as none: refused %uD at %uz", told.number, told.offset);
+
+        status = ngx_http_silkwaram_pick(conf, &ngx_http_silkwaram_any, tag,
+                                         &told);
+    }
+
+    switch (status) {
+
+    case SW_FOUND:
+        lang->data = ngx_pnalloc(r->pool, told.len);
+        if (lang->data == NULL) {
+            return NGX_ERROR;
+        }
+
+        ngx_memcpy(lang->data, tag, told.len);
+        lang->len = told.len;
+        return NGX_OK;
+
+    case SW_NOTHING:
+        lang->len = 0;
+        return NGX_OK;
+
+    default:
+        ngx_log_error(NGX_LOG_ERR, r->connection->log, 0,
+                      "sw_pick() ended with status %D: refused %uD",
+                      status, told.number);
+        return NGX_ERROR;
+    }
+}
+
+
+static int32_t
+ngx_http_silkwaram_pick(ngx_http_silkwaram_loc_conf_t *conf, ngx_str_t *field,
+    u_char *lang, sw_told *told)
+{
+    return sw_pick(conf->lenient ? SW_LENIENT : 0, field->data, field->len,
+                   conf->tags.data, conf->tags.len,
+                   conf->dflt.data, conf->dflt.len,
+                   lang, NGX_HTTP_SILKWARAM_TAG_LEN, told);
+}
+
+
+/* the field of a request: its lines, joined with commas */
+
+static ngx_int_t
+ngx_http_silkwaram_field(ngx_http_request_t *r, ngx_str_t *field)
+{
+    u_char           *p;
+    size_t            len;
+    ngx_uint_t        i, lines;
+    ngx_list_part_t  *part;
+    ngx_table_elt_t  *line;
+
+    len = 0;
+    lines = 0;
+    part = &r->headers_in.headers.part;
+    i = 0;
+
+    while ((line = ngx_http_silkwaram_next_line(&part, &i)) != NULL) {
+        *field = line->value;
+        len += line->value.len;
+        lines++;
+    }
+
+    if (lines == 0) {
+        *field = ngx_http_silkwaram_any;
+        return NGX_OK;
+    }
+
+    if (lines == 1) {
+        return NGX_OK;
+    }
+
+    len += lines - 1;
+
+    p = ngx_pnalloc(r->pool, len);
+    if (p == NULL) {
+        return NGX_ERROR;
+    }
+
+    field->len = len;
+    field->data = p;
+    part = &r->headers_in.headers.part;
+    i = 0;
+
+    while ((line = ngx_http_silkwaram_next_line(&part, &i)) != NULL) {
+        p = ngx_cpymem(p, line->value.data, line->value.len);
+
+        if (--lines != 0) {
+            *p++ = ',';
+        }
+    }
+
+    return NGX_OK;
+}
+
+
+/* the next Accept-Language line from the place i of a part on, or NULL */
+
+static ngx_table_elt_t *
+ngx_http_silkwaram_next_line(ngx_list_part_t **part, ngx_uint_t *i)
+{
+    ngx_table_elt_t  *h;
+
+    while (*part != NULL) {
+
+        while (*i < (*part)->nelts) {
+            h = (ngx_table_elt_t *) (*part)->elts + (*i)++;
+
+            /* (a module that takes a line away leaves it without a hash) */
+
+            if (h->hash != 0
+                && h->key.len == ngx_http_silkwaram_header.len
+                && ngx_strncasecmp(h->key.data,
+                                   ngx_http_silkwaram_header.data,
+                                   ngx_http_silkwaram_header.len)
+                   == 0)
+            {
+                return h;
+            }
+        }
+
+        *part = (*part)->next;
+        *i = 0;
+    }
+
+    return NULL;
+}
+
+
+static ngx_int_t
+ngx_http_silkwaram_add_variable(ngx_conf_t *cf)
+{
+    ngx_http_variable_t  *var;
+
+    /* its value depends on the location, which may change within a request */
+
+    var = ngx_http_add_variable(cf, &ngx_http_silkwaram_lang_name,
+                                NGX_HTTP_VAR_NOCACHEABLE);
+    if (var == NULL) {
+        return NGX_ERROR;
+    }
+
+    var->get_handler = ngx_http_silkwaram_lang_variable;
+
+    return NGX_OK;
+}
+
+
+static void *
+ngx_http_silkwaram_create_loc_conf(ngx_conf_t *cf)
+{
+    ngx_http_silkwaram_loc_conf_t  *conf;
+
+    conf = ngx_pcalloc(cf->pool, sizeof(ngx_http_silkwaram_loc_conf_t));
+    if (conf == NULL) {
+        return NULL;
+    }
+
+    /*
+     * set by ngx_pcalloc():
+     *
+     *     conf->tags = { 0, NULL };
+     *     conf->dflt = { 0, NULL };
+     *     conf->checked = 0;
+     */
+
+    conf->lenient = NGX_CONF_UNSET;
+
+    return conf;
+}
+
+
+static char *
+ngx_http_silkwaram_merge_loc_conf(ngx_conf_t *cf, void *parent, void *child)
+{
+    ngx_http_silkwaram_loc_conf_t *prev = parent;
+    ngx_http_silkwaram_loc_conf_t *conf = child;
+
+    ngx_uint_t  inherits;
+
+    inherits = conf->tags.data == NULL && conf->dflt.data == NULL;
+
+    ngx_conf_merge_str_value(conf->tags, prev->tags, "");
+    ngx_conf_merge_str_value(conf->dflt, prev->dflt, "");
+    ngx_conf_merge_value(conf->lenient, prev->lenient, 0);
+
+    /* once, however many locations inherit the two */
+
+    if (!inherits || !prev->checked) {
+        ngx_http_silkwaram_check_default(cf, conf);
+    }
+
+    conf->checked = 1;
+
+    if (inherits) {
+        prev->checked = 1;
+    }
+
+    return NGX_CONF_OK;
+}
+
+
+/* an empty field finds the default alone, if that is among the tags */
+
+static void
+ngx_http_silkwaram_check_default(ngx_conf_t *cf,
+    ngx_http_silkwaram_loc_conf_t *conf)
+{
+    u_char     tag[NGX_HTTP_SILKWARAM_TAG_LEN];
+    sw_told    told;
+    ngx_str_t  empty = ngx_null_string;
+
+    if (conf->tags.len == 0 || conf->dflt.len == 0) {
+        return;
+    }
+
+    if (ngx_http_silkwaram_pick(conf, &empty, tag, &told) == SW_NOTHING) {
+        ngx_conf_log_error(NGX_LOG_WARN, cf, 0,
+                           "\"silkwaram_default\" \"%V\" is not among "
+                           "\"silkwaram_tags\", so it is never chosen",
+                           &conf->dflt);
+    }
+}
+
+
+static char *
+ngx_http_silkwaram_tags(ngx_conf_t *cf, ngx_command_t *cmd, void *conf)
+{
+    ngx_http_silkwaram_loc_conf_t *slcf = conf;
+
+    u_char      *p;
+    size_t       len;
+    ngx_str_t   *value;
+    ngx_uint_t   i, k;
+
+    if (slcf->tags.data != NULL) {
+        return "is duplicate";
+    }
+
+    value = cf->args->elts;
+    len = 0;
+
+    for (i = 1; i < cf->args->nelts; i++) {
+        if (ngx_http_silkwaram_check_tag(cf, cmd, &value[i]) != NGX_CONF_OK) {
+            return NGX_CONF_ERROR;
+        }
+
+        for (k = 1; k < i; k++) {
+            if (value[k].len == value[i].len
+                && ngx_strncasecmp(value[k].data, value[i].data, value[i].len)
+                   == 0)
+            {
+                ngx_conf_log_error(NGX_LOG_EMERG, cf, 0,
+                                   "\"%V\" has \"%V\" twice",
+                                   &cmd->name, &value[i]);
+                return NGX_CONF_ERROR;
+            }
+        }
+
+        len += value[i].len + 1;
+    }
+
+    p = ngx_pnalloc(cf->pool, len);
+    if (p == NULL) {
+        return NGX_CONF_ERROR;
+    }
+
+    slcf->tags.len = len;
+    slcf->tags.data = p;
+
+    for (i = 1; i < cf->args->nelts; i++) {
+        p = ngx_cpymem(p, value[i].data, value[i].len);
+        *p++ = '\n';
+    }
+
+    return NGX_CONF_OK;
+}
+
+
+static char *
+ngx_http_silkwaram_default(ngx_conf_t *cf, ngx_command_t *cmd, void *conf)
+{
+    ngx_http_silkwaram_loc_conf_t *slcf = conf;
+
+    ngx_str_t  *value;
+
+    if (slcf->dflt.data != NULL) {
+        return "is duplicate";
+    }
+
+    value = cf->args->elts;
+
+    /* an empty one is none, where another would be inherited */
+
+    if (value[1].len != 0
+        && ngx_http_silkwaram_check_tag(cf, cmd, &value[1]) != NGX_CONF_OK)
+    {
+        return NGX_CONF_ERROR;
+    }
+
+    slcf->dflt = value[1];
+
+    return NGX_CONF_OK;
+}
+
+
+/* whether the library takes a tag; the texts are those of docs/REFUSALS.md */
+
+static char *
+ngx_http_silkwaram_check_tag(ngx_conf_t *cf, ngx_command_t *cmd,
+    ngx_str_t *tag)
+{
+    sw_told  told;
+    int32_t  status;
+
+    if (tag->len == 0) {
+        ngx_conf_log_error(NGX_LOG_EMERG, cf, 0,
+                           "\"%V\": refused 1: tag is empty", &cmd->name);
+        return NGX_CONF_ERROR;
+    }
+
+    /* as a default, since among tags an LF would make two of one */
+
+    status = sw_pick(0, NULL, 0, NULL, 0, tag->data, tag->len, NULL, 0, &told);
+
+    if (status == SW_NOTHING) {
+        return NGX_CONF_OK;
+    }
+
+    switch (told.number) {
+
+    case 2:
+        ngx_conf_log_error(NGX_LOG_EMERG, cf, 0,
+                           "\"%V\": refused 2: tag is over 255 bytes: \"%V\"",
+                           &cmd->name, tag);
+        break;
+
+    case 3:
+        ngx_conf_log_error(NGX_LOG_EMERG, cf, 0,
+                           "\"%V\": refused 3: subtag at %uz: \"%V\"",
+                           &cmd->name, told.offset, tag);
+        break;
+
+    case 4:
+        ngx_conf_log_error(NGX_LOG_EMERG, cf, 0,
+                           "\"%V\": refused 4: tag is not well-formed: \"%V\"",
+                           &cmd->name, tag);
+        break;
+
+    default:
+        ngx_conf_log_error(NGX_LOG_EMERG, cf, 0,
+                           "\"%V\": refused %uD: \"%V\"",
+                           &cmd->name, told.number, tag);
+    }
+
+    return NGX_CONF_ERROR;
+}
