@@ -43,7 +43,7 @@ push_key scheme items from (t ∷ tags) (k ∷ keys) tag key a h = elim a [
   | inr x ↦ inr (x.0, push_key scheme items (from + 1) tags keys tag key x.1 (subst (λ (n : ℕ). IsKey scheme items tag n key) (omega arith) h))
 ]
 
-take_next : (tags : List (List ℕ)) (k : ℕ) (t : List ℕ) → k < length tags → t ≡ get_or tags k t → take (k + 1) tags ≡ take k tags ++ t ∷ []
+pub take_next : (tags : List (List ℕ)) (k : ℕ) (t : List ℕ) → k < length tags → t ≡ get_or tags k t → take (k + 1) tags ≡ take k tags ++ t ∷ []
 take_next tags k t low e = rw (add-one, take-suc tags k t low) (ap (λ (x : List ℕ). take k tags ++ x ∷ []) (sym e))
 
 pub text_within : {X : Type 0} (text : X → List ℕ) (langs : List X) (k : ℕ) → k < length langs → k < length (map text langs)

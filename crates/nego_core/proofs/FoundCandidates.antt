@@ -1,17 +1,17 @@
 -- What lookup finds is an open candidate of an item that is tried, and it finds nothing where there is none.
 use Rattle.std.proofs.Common.{ℕ, ◌≡◌, List, [], ◌∷◌, inl, inr, sym, subst, arith}
-use Rattle.std.specs.Prelude.{zero, suc, Option, Some, None, Bool, IsTrue, All, Contains, filter}
+use Rattle.std.specs.Prelude.{zero, suc, Some, None, Bool, IsTrue, All, Contains, filter}
 use Rattle.std.specs.List.{slice_get}
 use Rattle.std.proofs.lemmas.List.Elements.{All-contains, All-contains_itself, All-head, All-tail, Contains-append_cases, Contains-append_left, Contains-append_right}
 use Rattle.std.proofs.lemmas.List.Sorted.{All-permutation, Contains-permutation}
 use Rattle.nego_core.proofs.Basics.{all_passed, contains_first, contains_passed, stands_at}
 use Rattle.nego_core.proofs.LookupOrderEach.{each_once}
 use Rattle.nego_core.specs.Item.{Item}
-use Rattle.nego_core.specs.LookupOrder.{is_tried}
+use Rattle.nego_core.specs.LookupOrder.{is_tried, IsOrder}
 use Rattle.nego_core.specs.LookupCandidates.{IsOpen, IsLookedUp, candidates_of, all_candidates}
 
 -- an item of the list that is tried
-abbrev IsTriedOf : List Item → Item → Type 0
+abbrev pub IsTriedOf : List Item → Item → Type 0
 IsTriedOf items i = Contains items i × IsTrue (is_tried i)
 
 candidate_of_one : (P : Item → Type 0) (items : List Item) (text : List (List ℕ)) → All P items → Contains (all_candidates items) text → (i : Item) × P i × Contains (candidates_of i) text
@@ -21,9 +21,10 @@ candidate_of_one P (i ∷ items) text all c = elim (Contains-append_cases (candi
   | inr later ↦ candidate_of_one P items text (All-tail P i items all) later
 ]
 
-each_tried : (items : List Item) (held : List ℕ → Bool) (found : Option (List (List ℕ))) → (l : IsLookedUp items held found) → All (IsTriedOf items) l.ordered
-each_tried items held found l =
-    All-permutation (IsTriedOf items) (filter is_tried items) l.ordered (each_once items l.ordered l.order_ok)
+-- those in the order are such
+pub each_tried : (items ordered : List Item) → IsOrder items ordered → All (IsTriedOf items) ordered
+each_tried items ordered o =
+    All-permutation (IsTriedOf items) (filter is_tried items) ordered (each_once items ordered o)
     (all_passed (Contains items) (IsTriedOf items) is_tried items (λ i c e. (c, e)) (All-contains_itself items))
 
 -- what is found is the lookup text of the range of an item that is tried, or a truncation of it
@@ -31,7 +32,7 @@ pub found_candidate : (items : List Item) (held : List ℕ → Bool) (found : Li
 found_candidate items held found l =
     let first = l.found_is in
     let c : Contains (all_candidates l.ordered) found = subst (λ (x : List (List (List ℕ))). Contains x found) (sym first.whole) (Contains-append_right first.before (found ∷ first.after) found (contains_first found first.after)) in
-    let one = candidate_of_one (IsTriedOf items) l.ordered found (each_tried items held (Some found) l) c in
+    let one = candidate_of_one (IsTriedOf items) l.ordered found (each_tried items l.ordered l.order_ok) c in
     (one.0, one.1.0, one.2, one.1.1)
 
 -- and is open

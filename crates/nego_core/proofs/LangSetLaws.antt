@@ -1,18 +1,28 @@
 -- A set of languages and its table.
-use Rattle.std.proofs.Common.{ℕ, ◌≡◌, List, [], ◌∷◌, Bool, true, false, inl, inr, sym, ◌∙◌, ap, subst}
+use Rattle.std.proofs.Common.{ℕ, ◌≡◌, List, [], ◌∷◌, Bool, true, false, inl, inr, refl, sym, ◌∙◌, ap, arith, subst}
 use Rattle.std.specs.Prelude.{Contains, slice_index_or}
 use Rattle.std.specs.Str.{bytes_eq}
 use Rattle.std.proofs.lemmas.Bool.{cases_Bool}
 use Rattle.std.proofs.lemmas.Slice.Eq.{bytes_eq-Decides}
-use Rattle.nego_core.proofs.Basics.{false_true, contains_first, contains_later}
+use Rattle.nego_core.proofs.Basics.{false_true, contains_cases, contains_first, contains_later}
 use Rattle.nego_core.specs.LangSet.{is_among}
 use Rattle.nego_core.specs.Fingerprint.{slot_of, IsTableOf}
 
-among_contains : (langs : List (List ℕ)) (text : List ℕ) → is_among langs text ≡ true → Contains langs text
+pub among_contains : (langs : List (List ℕ)) (text : List ℕ) → is_among langs text ≡ true → Contains langs text
 among_contains [] text h = cc
 among_contains (l ∷ langs) text h = elim (cases_Bool (bytes_eq l text)) [
   | inl e ↦ subst (Contains (l ∷ langs)) ((bytes_eq-Decides l text).0 e) (contains_first l langs)
   | inr e ↦ contains_later l text langs (among_contains langs text (rw e at h))
+]
+
+pub contains_among : (langs : List (List ℕ)) (text : List ℕ) → Contains langs text → is_among langs text ≡ true
+contains_among [] text c = absurd (let low = c.1 in omega arith)
+contains_among (l ∷ langs) text c = elim (cases_Bool (bytes_eq l text)) [
+  | inl e ↦ rw e refl
+  | inr e ↦ elim (contains_cases l text langs c) [
+    | inl same ↦ absurd (false_true (sym e ∙ (bytes_eq-Decides l text).1 same))
+    | inr later ↦ rw e (contains_among langs text later)
+  ]
 ]
 
 -- a text whose slot is not set is not among the languages

@@ -36,3 +36,5 @@ pub mod UnweightedLookup
 pub mod ChoosingLaws
 pub mod LookupPlacesLaws
 pub mod LangSetLaws
+pub mod Rising
+pub mod WideningLemmas

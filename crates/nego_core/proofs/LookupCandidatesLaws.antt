@@ -121,7 +121,7 @@ same_first P [] (z ∷ c) a d x y e m n p q = absurd (let s : x ≡ z = cc in Al
 same_first P (z ∷ b) [] a d x y e m n p q = absurd (let s : z ≡ y = cc in All-head (λ w. ¬ P w) z b m (subst P (sym s) q))
 same_first P (z ∷ b) (w ∷ c) a d x y e m n p q = same_first P b c a d x y (cc) (All-tail (λ v. ¬ P v) z b m) (All-tail (λ v. ¬ P v) w c n) p q
 
-one_first : {X : Type 0} (P : X → Type 0) (list : List X) (a b : Option X) → MatchFirstOf P list a → MatchFirstOf P list b → a ≡ b
+pub one_first : {X : Type 0} (P : X → Type 0) (list : List X) (a b : Option X) → MatchFirstOf P list a → MatchFirstOf P list b → a ≡ b
 one_first P list None None f g = refl
 one_first P list None (Some y) f g = absurd (not_before P g.before g.after y g.passes (subst (All (λ z. ¬ P z)) g.whole f))
 one_first P list (Some x) None f g = absurd (not_before P f.before f.after x f.passes (subst (All (λ z. ¬ P z)) f.whole g))

@@ -14,5 +14,6 @@ pub mod LookupCandidates
 pub mod LangSet
 pub mod Choosing
 pub mod LookupPlaces
+pub mod Widening
 pub mod Filtering
 pub mod Unweighted

@@ -57,7 +57,7 @@ fn has_open_default<H: Holds>(list: &PriorityList, held: &H, default: Option<&La
 }
 
 /// Whether the default is in the set and the whole list does not refuse it.
-fn is_open_default<H: Holds>(list: &PriorityList, held: &H, lang: &Lang) -> bool
+pub(crate) fn is_open_default<H: Holds>(list: &PriorityList, held: &H, lang: &Lang) -> bool
     ensures { IsTrue result ↔ IsOpenDefault list.now (H.held held.now) lang.now }
 {
     held.holds(lang.as_str()) && !refuses(list, lang)

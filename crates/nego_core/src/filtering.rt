@@ -1,5 +1,5 @@
 //! Filtering (RFC 4647 section 3.3): all languages that a list accepts, the best first.
-ghost use Rattle.std.specs.Prelude.{◌≡◌, ◌==◌, length, ℕ, List, MatchOption, MatchResult, IfOk, IsPermutation, IsSorted, map};
+ghost use Rattle.std.specs.Prelude.{◌≡◌, ◌==◌, length, MatchOption, MatchResult, IfOk, IsPermutation, IsSorted, map};
 ghost use Rattle.std.specs.List.{slice_get};
 ghost use Rattle.std.specs.Cmp as laws_of;
 ghost use Rattle.std.specs.Cmp.Lexicographic.{pointwise, lists_equiv};
@@ -7,6 +7,7 @@ ghost use Rattle.std.specs.Slice.Iter.{iter_rest};
 ghost use Rattle.nego_core.specs.Filtering.{pick_eq, pick_equiv, IsFiltered, IsKey, HasNoKey, HasPick, AreKeys, key_of, pick_of, filter_key_cmp, texts_of};
 ghost use Rattle.nego_core.specs.declared.fault.NegoFault.TheVariants.{NoMemory};
 
+use crate::as_lang::AsLang;
 use crate::fault::NegoFault;
 use crate::ordered_text::OrderedText;
 use crate::priority_list::PriorityList;
@@ -157,32 +158,6 @@ fn filter_by<L: AsLang>(
     sort_filter_keys(&mut keys);
     let picks = picks_of(alloc, &keys)?;
     Ok(Picks::new(picks))
-}
-
-/// A language, owned or borrowed.
-trait AsLang {
-    /// Its text.
-    ghost text: { Self → List ℕ };
-
-    /// The language, borrowed.
-    fn as_lang(&self) -> &Lang
-        ensures { result.now ≡ text self.now };
-}
-
-impl AsLang for Lang {
-    ghost text = { λ l. l };
-
-    fn as_lang(&self) -> &Lang {
-        self
-    }
-}
-
-impl AsLang for &Lang {
-    ghost text = { λ l. l.now };
-
-    fn as_lang(&self) -> &Lang {
-        self
-    }
 }
 
 /// Sort key of a filter's answer: its fields are compared in this order.

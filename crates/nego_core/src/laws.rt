@@ -1,5 +1,5 @@
 //! Laws about the definitions alone: each function's contract is the law.
-ghost use Rattle.std.specs.Prelude.{◌≡◌, ◌≢◌, ◌≤◌, ◌==◌, ◌↔◌, ℕ, List, Option, Some, None, Bool, IsTrue, All, AllPairs, Contains, IsPermutation, filter, map};
+ghost use Rattle.std.specs.Prelude.{◌≡◌, ◌≢◌, ◌≤◌, ◌==◌, ◌↔◌, ◌⊎◌, ◌∷◌, ℕ, List, Option, Some, None, Bool, IsTrue, All, AllPairs, Contains, IsPermutation, filter, map};
 ghost use Rattle.lang_core.specs.Text.{pieces, pieces_by, joined};
 ghost use Rattle.nego_core.specs.Item.{Item};
 ghost use Rattle.nego_core.specs.Element.{IsPadded};
@@ -8,6 +8,8 @@ ghost use Rattle.nego_core.specs.Filtering.{IsFiltered, IsPicked};
 ghost use Rattle.nego_core.specs.LookupOrder.{is_tried, IsOrder};
 ghost use Rattle.nego_core.specs.LookupCandidates.{IsLookedUp, candidates_of};
 ghost use Rattle.nego_core.specs.LookupPlaces.{IsFound};
+ghost use Rattle.nego_core.specs.LangSet.{is_among};
+ghost use Rattle.nego_core.specs.Widening.{IsLookedUpWidened, MatchesLang};
 ghost use Rattle.nego_core.specs.Deciding.{Matches, IsDeciding, IsDecidedBy, NamedRefuse, RefusesLang, named_items};
 ghost use Rattle.nego_core.specs.Unweighted.{AllPositive, AllUnweighted, IsMatchedAt, IsFirstHeld};
 ghost use Rattle.nego_core.specs.declared.scheme.Scheme.TheVariants as scheme;
@@ -93,6 +95,49 @@ pub fn unweighted_lookup()
 pub fn one_found()
     ensures { (items : List Item) (langs : List (List ℕ)) (default : Option (List ℕ)) (a b : Found)
         → IsFound items langs default a → IsFound items langs default b → a ≡ b }
+{}
+
+/// Widened lookup finds one text, or none.
+pub fn one_widened_lookup()
+    ensures { (scheme : Scheme) (items : List Item) (langs : List (List ℕ))
+        (a b : Option (List (List ℕ)))
+        → IsLookedUpWidened scheme items langs a → IsLookedUpWidened scheme items langs b → a ≡ b }
+{}
+
+/// What widened lookup finds is one of the languages, the items other than "*" do not refuse it,
+/// and it is a candidate of an item that is tried, or that item's range matches it.
+pub fn widened_is_a_candidate_or_matched()
+    ensures open { (scheme : Scheme) (items : List Item) (langs : List (List ℕ))
+        (found : List (List ℕ)) → IsLookedUpWidened scheme items langs (Some found)
+        → Contains langs (joined found) × ¬ NamedRefuse items found }
+    ensures item { (scheme : Scheme) (items : List Item) (langs : List (List ℕ))
+        (found : List (List ℕ)) → IsLookedUpWidened scheme items langs (Some found)
+        → (item : Item) × Contains items item × IsTrue (is_tried item)
+        × (Contains (candidates_of item) found ⊎ MatchesLang scheme item (joined found)) }
+{}
+
+/// Where widened lookup finds nothing, lookup finds nothing.
+pub fn widened_finds_no_less()
+    ensures { (scheme : Scheme) (items : List Item) (langs : List (List ℕ))
+        → IsLookedUpWidened scheme items langs None → IsLookedUp items (is_among langs) None }
+{}
+
+/// Where lookup finds a candidate of the first item in the order, widened lookup finds the same.
+pub fn widened_keeps_the_first_item()
+    ensures { (scheme : Scheme) (items : List Item) (langs : List (List ℕ)) (first : Item)
+        (rest : List Item) (found : List (List ℕ)) → IsOrder items (first ∷ rest)
+        → IsLookedUp items (is_among langs) (Some found) → Contains (candidates_of first) found
+        → IsLookedUpWidened scheme items langs (Some found) }
+{}
+
+/// Where no range of the list matches a language that is not one of its candidates, widened lookup
+/// and lookup find the same.
+pub fn widened_is_lookup_where_nothing_is_added()
+    ensures { (scheme : Scheme) (items : List Item) (langs : List (List ℕ))
+        (found : Option (List (List ℕ)))
+        → ((item : Item) → Contains items item → (lang : List ℕ) → Contains langs lang
+        → MatchesLang scheme item lang → Contains (candidates_of item) (pieces lang))
+        → IsLookedUpWidened scheme items langs found ↔ IsLookedUp items (is_among langs) found }
 {}
 
 /// There is one filtered list.

@@ -7,6 +7,7 @@
 //! - [`filter`] gives all languages of a slice that the list accepts, best first.
 //! - [`lookup`] gives the one that fits best, or a default; [`choose`] does so over any set that
 //!   can say whether it has a text ([`Holds`]).
+//! - [`lookup_widened`] also lets a range find the languages that it matches, as `en` finds en-us.
 //! - [`NegoFault`] says why a field is refused, and where.
 //!
 //! Of several ranges that match a tag the one with the most subtags other than "*" decides, and
@@ -22,6 +23,7 @@
 //! The laws of these definitions are in [`laws`].
 #![tactic(auto)]
 
+mod as_lang;
 mod blanks;
 mod chains;
 mod choosing;
@@ -42,6 +44,7 @@ mod ordered_text;
 mod priority_list;
 mod scheme;
 mod weight;
+mod widening;
 
 pub use choosing::{Choice, choose};
 pub use fault::NegoFault;
@@ -52,3 +55,4 @@ pub use lang_set::Holds;
 pub use lookup_places::{Found, lookup};
 pub use priority_list::PriorityList;
 pub use scheme::Scheme;
+pub use widening::{lookup_widened, lookup_widened_lent};

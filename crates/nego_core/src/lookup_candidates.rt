@@ -38,7 +38,11 @@ fn first_at<'a, H: Holds>(list: &'a PriorityList, place: usize, held: &H) -> Opt
 }
 
 /// The first candidate of the range that is open.
-fn first_of<'a, H: Holds>(list: &PriorityList, range: &'a Range, held: &H) -> Option<&'a str>
+pub(crate) fn first_of<'a, H: Holds>(
+    list: &PriorityList,
+    range: &'a Range,
+    held: &H,
+) -> Option<&'a str>
     ensures { MatchFirstOf (IsOpen list.now (H.held held.now))
         (candidates (as_basic (pieces range.now)))
         (option_map (λ text. pieces text.now) result) }
@@ -59,7 +63,7 @@ fn is_open<H: Holds>(list: &PriorityList, held: &H, text: &str) -> bool
 }
 
 /// Whether the items other than "*" refuse the text.
-fn named_refuse(list: &PriorityList, text: &str) -> bool
+pub(crate) fn named_refuse(list: &PriorityList, text: &str) -> bool
     ensures { IsTrue result ↔ NamedRefuse list.now (pieces text.now) }
 {
     if !list.may_refuse() {

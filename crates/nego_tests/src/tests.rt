@@ -10,3 +10,4 @@ mod lenient;
 mod long_lists;
 mod looking_up;
 mod reading;
+mod widening;
