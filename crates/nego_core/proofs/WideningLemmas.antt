@@ -290,12 +290,6 @@ place_here langs text k x low e so h =
     let at : position_or_len (Spells text) langs ≡ k = omega arith in
     rw (at, lt-ltb k (length langs) low) refl
 
-pub place_none : (langs : List (List ℕ)) (text : List ℕ) (k : ℕ) → length langs ≤ k → SoFar langs text k → None ≡ least_place langs text
-place_none langs text k over so = elim (cases_Bool (nat_lt (position_or_len (Spells text) langs) (length langs))) [
-  | inl e ↦ absurd (let low = ltb-true (position_or_len (Spells text) langs) (length langs) e in omega arith)
-  | inr e ↦ rw e refl
-]
-
 one_more : (m n : ℕ) (b : Bool) → b ≡ nat_lt m n → b ≡ nat_lt (1 + m) (suc n)
 one_more m n true e = sym (lt-ltb (1 + m) (suc n) (let low = ltb-true m n (sym e) in omega arith))
 one_more m n false e = let high = ltb-false m n (sym e) in sym (le-ltb (1 + m) (suc n) (omega arith))
