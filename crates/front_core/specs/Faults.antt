@@ -10,6 +10,7 @@ use Rattle.nego_core.specs.declared.fault.NegoFault.TheVariants as nego
 use Rattle.cell_core.specs.Numbers.{number_of as cell_number}
 use Rattle.cell_core.specs.declared.fault.CellFault.{CellFault}
 use Rattle.cell_core.specs.declared.fault.CellFault.TheVariants as cell
+use Rattle.cata_core.specs.declared.cata_fault.CataFault.{CataFault}
 use Rattle.docs_core.specs.Faults as doc
 use Rattle.docs_core.specs.declared.fault.DocCause.{DocCause}
 use Rattle.docs_core.specs.declared.fault.DocCause.TheVariants as cause
@@ -86,6 +87,10 @@ cause_fault fault _ = Document fault
 
 abbrev pub document_fault : DocFault → FrontFault
 document_fault fault = cause_fault fault fault.cause
+
+-- the refusal of a site's call
+abbrev pub site_fault : CataFault → FrontFault
+site_fault fault = document_fault (doc.of_no_document (doc.of_site fault))
 
 -- it is a refusal of the crate below, in the form that it has here
 abbrev pub IsOf : {F : Type 0} → (F → FrontFault) → (F → Type 0) → FrontFault → Type 0

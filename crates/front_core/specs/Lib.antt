@@ -1,3 +1,6 @@
+pub mod Changes
+pub mod Documents
+pub mod Editing
 pub mod Faults
 pub mod Fields
 pub mod Lines

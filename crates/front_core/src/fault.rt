@@ -2,6 +2,7 @@
 ghost use Rattle.std.specs.Prelude.{◌≡◌};
 ghost use Rattle.front_core.specs.Faults.{cause_offset, lang_offset, nego_offset, row_offset};
 
+use cata_core::CataFault;
 use cell_core::CellFault;
 use docs_core::{DocCause, DocFault, FieldFault};
 use lang_core::LangFault;
@@ -22,7 +23,7 @@ pub enum FrontFault {
     /// The field is no priority list: 8, 9.
     #[error("{0}")]
     Field(NegoFault),
-    /// A document or a stream is refused: 1 to 4, 8 to 25, 27, 28.
+    /// A document or a stream is refused, or a site refuses an edit: 1 to 4, 8 to 25, 27, 28.
     #[error("{cause}", cause = .0.cause)]
     Document(DocFault),
     /// 26.
@@ -171,6 +172,16 @@ impl From<DocFault> for FrontFault {
             DocCause::NoMemory => FrontFault::NoMemory,
             _ => FrontFault::Document(refused),
         }
+    }
+}
+
+impl From<CataFault> for FrontFault {
+    ghost use Rattle.front_core.specs.Faults.{site_fault};
+
+    ghost from_gives = { λ refused fault. fault ≡ site_fault refused };
+
+    fn from(refused: CataFault) -> FrontFault {
+        FrontFault::from(DocFault::from(refused))
     }
 }
 

@@ -5,6 +5,11 @@
 //!   [`bundle`] answer questions from it.
 //! - [`Preferences`], [`Lookup`] and [`Filter`] are such questions read before there is a site.
 //! - [`words`] picks among the arguments of a command.
+//! - [`new_site`] makes an empty site; [`put`], [`delete`] and [`merge`] edit a site in memory, and
+//!   a [`Change`] is such an edit read before there is a site. A refused edit leaves the site as it
+//!   was; [`merge`] says what out of memory leaves.
+//! - [`document`], [`summary`], [`status`] and [`delta`] are the documents of a site in memory, as
+//!   the commands print them.
 //!
 //! Ids, fields and languages come in as bytes. A refusal is a [`FrontFault`], with its number, and
 //! its place where it has one.
@@ -21,6 +26,9 @@
 #![tactic(auto)]
 
 mod answer;
+mod change;
+mod documents;
+mod editing;
 mod fault;
 mod field;
 mod filter;
@@ -36,11 +44,14 @@ mod tags;
 pub mod words;
 
 pub use answer::{Answer, LabelText, Outcome};
+pub use change::Change;
+pub use documents::{delta, document, status, summary};
+pub use editing::{delete, merge, put};
 pub use fault::FrontFault;
 pub use field::Field;
 pub use filter::Filter;
 pub use lookup::Lookup;
 pub use preferences::Preferences;
 pub use questions::{bundle, filter_lines, lookup_line, lookup_text};
-pub use site::open_site;
+pub use site::{new_site, open_site};
 pub use tag_pick::{Picked, pick};

@@ -1,0 +1,73 @@
+-- Changes of one label: how they are read, and what they make of a site (project rules).
+use Rattle.std.specs.Prelude.{◌≡◌, ◌⊎◌, ◌∷◌, [], ℕ, List, Option, None, Some}
+use Rattle.std.specs.FinMap.Entries.{put}
+use Rattle.std.specs.Str.{IsUtf8}
+use Rattle.std.specs.Str.Lossy.{utf8_valid_len}
+use Rattle.lang_core.specs.Lang.{SpellsLang, RefusesLang}
+use Rattle.cell_core.specs.Labels.{IsLabel}
+use Rattle.cell_core.specs.Refusals.{RefusesLabel}
+use Rattle.cell_core.specs.Stamps.{IsNext}
+use Rattle.cell_core.specs.declared.stamp.Stamp.{Stamp}
+use Rattle.cata_core.specs.Entries.{EntryKey, key_cmp}
+use Rattle.cata_core.specs.Latest.{latest_of}
+use Rattle.cata_core.specs.Sites.{RefusesEdit, SiteState}
+use Rattle.docs_core.specs.Faults.{of_no_document}
+use Rattle.docs_core.specs.declared.fault.DocCause.TheVariants.{NotUtf8}
+use Rattle.front_core.specs.Faults.{IsOf, cell_fault, language_fault, site_fault}
+use Rattle.front_core.specs.Fields.{Text}
+use Rattle.front_core.specs.Questions.{IsId, RefusesId}
+use Rattle.front_core.specs.declared.change.Change.{Change}
+use Rattle.front_core.specs.declared.fault.FrontFault.{FrontFault}
+use Rattle.front_core.specs.declared.fault.FrontFault.TheVariants.{Document, NoMemory}
+
+-- ---- keys and texts
+
+-- the message and the language that the bytes spell
+abbrev pub IsKey : Text → Text → EntryKey → Type 0
+IsKey id lang key = IsId id × (key.0 ≡ id) × SpellsLang lang key.1
+
+abbrev pub HasKey : Text → Text → Type 0
+HasKey id lang = IsId id × (spelled : Text) × SpellsLang lang spelled
+
+-- the id is refused first, and then the language
+abbrev pub RefusesKey : Text → Text → FrontFault → Type 0
+RefusesKey id lang fault = RefusesId id fault ⊎ (IsId id × IsOf language_fault (RefusesLang lang) fault)
+
+-- the bytes are the text of a label
+abbrev pub HasLabel : Text → Type 0
+HasLabel text = IsUtf8 text × IsLabel (text ∷ [])
+
+-- the refusal of a text whose longest valid prefix has this length
+abbrev pub not_utf8 : ℕ → FrontFault
+not_utf8 offset = Document (of_no_document (NotUtf8 offset))
+
+-- bytes that are not UTF-8 are refused first, and then a text that is none of a label; memory may
+-- end as soon as the bytes are known to be a text
+abbrev pub RefusesLabelText : Text → FrontFault → Type 0
+RefusesLabelText text fault =
+    ((¬ IsUtf8 text) × (fault ≡ not_utf8 (utf8_valid_len text)))
+    ⊎ (IsUtf8 text × ((fault ≡ NoMemory) ⊎ IsOf cell_fault (RefusesLabel (text ∷ [])) fault))
+
+-- ---- what is asked
+
+abbrev pub IsPut : Text → Text → Text → Change → Type 0
+IsPut id lang text change = IsKey id lang (change.id, change.lang) × HasLabel text × (change.label ≡ Some (text ∷ []))
+
+-- the id is refused first, then the language, and then the text
+abbrev pub RefusesPut : Text → Text → Text → FrontFault → Type 0
+RefusesPut id lang text fault = RefusesKey id lang fault ⊎ (HasKey id lang × RefusesLabelText text fault)
+
+abbrev pub IsDelete : Text → Text → Change → Type 0
+IsDelete id lang change = IsKey id lang (change.id, change.lang) × (change.label ≡ None)
+
+-- ---- what it makes of a site
+
+-- the key has the label of the change, with the next stamp of the site
+abbrev pub IsChanged : ℕ → Change → SiteState → SiteState → Type 0
+IsChanged now change old new =
+    (stamp : Stamp) × IsNext (latest_of old.cells) now old.name stamp
+    × (new ≡ record { name = old.name; cells = put key_cmp (change.id, change.lang) (record { stamp = stamp; label = change.label }) old.cells })
+
+-- the site has no next stamp, or memory ended
+abbrev pub RefusesChange : SiteState → ℕ → FrontFault → Type 0
+RefusesChange site now = IsOf site_fault (RefusesEdit site now)
