@@ -1,5 +1,6 @@
 -- An input is cut behind a text that was written.
-use Rattle.std.proofs.Common.{◌≡◌, ◌≢◌, ◌∙◌, ◌+◌, ◌<◌, ◌==◌, ℕ, List, [], ◌∷◌, ◌++◌, Bool, false, true, cond, not, length, length-append, refl, ap, sym, subst, arith}
+use Rattle.std.proofs.Common.{◌≡◌, ◌≢◌, ◌∙◌, ◌+◌, ◌<◌, ◌==◌, ℕ, List, [], ◌∷◌, ◌++◌, Bool, false}
+use Rattle.std.proofs.Common.{true, cond, not, length, length-append, refl, ap, sym, subst, arith}
 use Rattle.std.specs.Prelude.{All, Some, drop, nat_lt, position, take}
 use Rattle.std.specs.List.{prefix_len}
 use Rattle.std.proofs.lemmas.Bool.Decides.{nat_tests}
@@ -22,7 +23,8 @@ other : (b : ℕ) → b ≢ 10 → (b == 10) ≡ false
 other b h = grind (arith, nat_tests, h)
 
 -- as many bytes stand in front of the first line feed as the line has
-before : (line rest : List ℕ) → All (λ b. b ≢ 10) line → prefix_len (λ b. not (b == 10)) (line ++ 10 ∷ rest) ≡ length line
+before : (line rest : List ℕ) → All (λ b. b ≢ 10) line
+    → prefix_len (λ b. not (b == 10)) (line ++ 10 ∷ rest) ≡ length line
 before [] rest h = refl
 before (b ∷ line) rest h =
     let test : (b == 10) ≡ false = other b (All-head (λ c. c ≢ 10) b line h) in
@@ -32,7 +34,8 @@ before (b ∷ line) rest h =
 within : (line rest : List ℕ) → nat_lt (length line) (length (line ++ 10 ∷ rest)) ≡ true
 within line rest = let size = length-append line (10 ∷ rest) in grind (arith, nat_tests, size)
 
-first : (line rest : List ℕ) → All (λ b. b ≢ 10) line → position (λ b. b == 10) (line ++ 10 ∷ rest) ≡ Some (length line)
+first : (line rest : List ℕ) → All (λ b. b ≢ 10) line
+    → position (λ b. b == 10) (line ++ 10 ∷ rest) ≡ Some (length line)
 first line rest h = rw (before line rest h, within line rest) refl
 
 cut : (line rest : List ℕ) → All (λ b. b ≢ 10) line → AreDocuments (line ++ 10 ∷ rest) line rest
@@ -42,13 +45,15 @@ cut line rest h =
         ap (drop (length line + 1)) (sym (append_assoc line (10 ∷ []) rest)) ∙ drop_at (line ++ 10 ∷ []) rest (length line + 1) size in
     rw (first line rest h) (sym (take_at line (10 ∷ rest) (length line) refl), sym behind)
 
-cut_behind : (text line rest : List ℕ) → text ≡ line ++ 10 ∷ [] → All (λ b. b ≢ 10) line → AreDocuments (text ++ rest) line rest
+cut_behind : (text line rest : List ℕ) → text ≡ line ++ 10 ∷ [] → All (λ b. b ≢ 10) line
+    → AreDocuments (text ++ rest) line rest
 cut_behind text line rest is h =
     let whole : text ++ rest ≡ line ++ 10 ∷ rest = ap (λ (t : List ℕ). t ++ rest) is ∙ append_assoc line (10 ∷ []) rest in
     subst (λ (t : List ℕ). AreDocuments t line rest) (sym whole) (cut line rest h)
 
 -- a site that was written is the document in front
-pub written_site : (site : SiteState) (text rest : List ℕ) → IsSiteText site text → (document : List ℕ) × AreDocuments (text ++ rest) document rest × ReadsAsSite document site
+pub written_site : (site : SiteState) (text rest : List ℕ) → IsSiteText site text
+    → (document : List ℕ) × AreDocuments (text ++ rest) document rest × ReadsAsSite document site
 written_site site text rest is =
     let one = one_line (site_value site.name (cells_values site.cells)) in
     let whole : text ≡ one.0 ++ 10 ∷ [] = is.0 ∙ one.1 in (
@@ -58,7 +63,9 @@ written_site site text rest is =
     )
 
 -- so are language maps that are one line
-pub written_labels : (labels : List Labelled) (text rest : List ℕ) → IsOneLine text → AreLangMaps text labels → (document : List ℕ) × AreDocuments (text ++ rest) document rest × AreLangMaps document labels
+pub written_labels : (labels : List Labelled) (text rest : List ℕ) → IsOneLine text
+    → AreLangMaps text labels
+    → (document : List ℕ) × AreDocuments (text ++ rest) document rest × AreLangMaps document labels
 written_labels labels text rest one reads = (
   one.0,
   cut_behind text one.0 rest one.1 one.2,

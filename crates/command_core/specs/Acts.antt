@@ -1,6 +1,7 @@
 -- What each command does (project rules). The answers and refusals of documents are those of the
 -- document calls.
-use Rattle.std.specs.Prelude.{◌≡◌, ◌⊎◌, ◌++◌, ℕ, Bool, List, [], Option, None, Some, Result, MatchOption, MatchResult}
+use Rattle.std.specs.Prelude.{◌≡◌, ◌⊎◌, ◌++◌, ℕ, Bool, List, [], Option, None, Some, Result}
+use Rattle.std.specs.Prelude.{MatchOption, MatchResult}
 use Rattle.clap.specs.Words.{Row, Text}
 use Rattle.cata_core.specs.Entries.{Entries}
 use Rattle.cata_core.specs.Sites.{SiteState}
@@ -16,7 +17,8 @@ use Rattle.docs_core.specs.Replays.{RefusesReplay, Replays}
 use Rattle.docs_core.specs.declared.fault.DocFault.{DocFault}
 use Rattle.lang_core.specs.Lang.{RefusesLang, SpellsLang}
 use Rattle.front_core.specs.Picks.{AnswersPick, RefusesPick}
-use Rattle.front_core.specs.Questions.{AreBundleMaps, HasFilter, HasLookup, IsFilterLines, IsLookupLine, RefusesFilter, RefusesLookup}
+use Rattle.front_core.specs.Questions.{AreBundleMaps, HasFilter, HasLookup, IsFilterLines}
+use Rattle.front_core.specs.Questions.{IsLookupLine, RefusesFilter, RefusesLookup}
 use Rattle.front_core.specs.Preferences.{HasPreferences, RefusesPreferences}
 use Rattle.front_core.specs.Faults.{IsOf, cell_fault, language_fault}
 use Rattle.front_core.specs.declared.answer.Answer.{Answer}

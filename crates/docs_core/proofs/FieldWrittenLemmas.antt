@@ -1,5 +1,7 @@
 -- Where some field reads as a list, the one that is written does, and none is shorter.
-use Rattle.std.proofs.Common.{ℕ, ◌≡◌, ◌≤◌, ◌<◌, ◌+◌, ◌-◌, ◌*◌, ◌/◌, ◌%◌, ◌==◌, inl, inr, List, [], ◌∷◌, ◌++◌, Bool, true, false, cond, length, map, sum_by, refl, sym, ◌∙◌, ap, subst, arith, append-nil, length-append}
+use Rattle.std.proofs.Common.{ℕ, ◌≡◌, ◌≤◌, ◌<◌, ◌+◌, ◌-◌, ◌*◌, ◌/◌, ◌%◌, ◌==◌, inl, inr, List, []}
+use Rattle.std.proofs.Common.{◌∷◌, ◌++◌, Bool, true, false, cond, length, map, sum_by, refl, sym}
+use Rattle.std.proofs.Common.{◌∙◌, ap, subst, arith, append-nil, length-append}
 use Rattle.std.specs.Prelude.{All, Decides, MatchBool, codes, flat_map, nat_eq, slice_index}
 use Rattle.std.specs.Cmp.Lexicographic.{pointwise, pointwise_decides, bytes_decides}
 use Rattle.std.specs.List.{list_all, slice_split}
@@ -21,14 +23,16 @@ use Rattle.nego_core.specs.Field.{ArePieces, IsField, RefusesField}
 use Rattle.nego_core.specs.Item.{Item, item_eq, item_equiv}
 use Rattle.nego_core.specs.Weight.{HasWeight, IsQvalue, thousandths}
 use Rattle.nego_core.specs.declared.fault.NegoFault.{NegoFault}
-use Rattle.nego_core.specs.declared.fault.NegoFault.TheVariants.{FieldMalformed, FieldTooLong, NoMemory}
+use Rattle.nego_core.specs.declared.fault.NegoFault.TheVariants.{FieldMalformed, FieldTooLong}
+use Rattle.nego_core.specs.declared.fault.NegoFault.TheVariants.{NoMemory}
 use Rattle.nego_core.specs.declared.field.Malformed.TheVariants.{Refused}
 use Rattle.nego_core.specs.declared.scheme.Scheme.{Scheme}
 use Rattle.nego_core.specs.declared.scheme.Scheme.TheVariants.{Basic, Extended}
 use Rattle.nego_core.proofs.FieldLaws.{malformed_is_no_field}
 use Rattle.nego_core.proofs.FieldUnique.{one_items}
 use Rattle.nego_core.proofs.WeightBounds.{small_weights}
-use Rattle.docs_core.specs.FieldWritten.{IsListed, field_text, fraction_text, item_text, ones_text, tens_text, weight_text}
+use Rattle.docs_core.specs.FieldWritten.{IsListed, field_text, fraction_text, item_text, ones_text}
+use Rattle.docs_core.specs.FieldWritten.{tens_text, weight_text}
 use Rattle.docs_core.specs.StepFields.{Lists}
 
 -- ---- the digits of a weight
@@ -51,7 +55,8 @@ tens_some n h = ap (λ (b : Bool). cond b [] ((48 + n / 10) ∷ ones_text (n % 1
 fraction_none : (n : ℕ) → (n == 0) ≡ true → fraction_text n ≡ []
 fraction_none n h = ap (λ (b : Bool). cond b [] (46 ∷ (48 + n / 100) ∷ tens_text (n % 100))) h
 
-fraction_some : (n : ℕ) → (n == 0) ≡ false → fraction_text n ≡ 46 ∷ (48 + n / 100) ∷ tens_text (n % 100)
+fraction_some : (n : ℕ) → (n == 0) ≡ false
+    → fraction_text n ≡ 46 ∷ (48 + n / 100) ∷ tens_text (n % 100)
 fraction_some n h = ap (λ (b : Bool). cond b [] (46 ∷ (48 + n / 100) ∷ tens_text (n % 100))) h
 
 -- what is asked of each digit, of all
@@ -81,7 +86,8 @@ ones_value n = elim (cases_Bool (n == 0)) [
   | inr e ↦ subst (λ (t : List ℕ). slice_index t 0 - 48 ≡ n) (sym (ones_some n e)) (omega arith)
 ]
 
-tens_value : (n : ℕ) → n < 100 → 10 * (slice_index (tens_text n) 0 - 48) + (slice_index (tens_text n) 1 - 48) ≡ n
+tens_value : (n : ℕ) → n < 100
+    → 10 * (slice_index (tens_text n) 0 - 48) + (slice_index (tens_text n) 1 - 48) ≡ n
 tens_value n h = elim (cases_Bool (n == 0)) [
   | inl e ↦ subst (λ (t : List ℕ). 10 * (slice_index t 0 - 48) + (slice_index t 1 - 48) ≡ n) (sym (tens_none n e)) (omega (arith, is_none n e))
   | inr e ↦ (let last = ones_value (n % 10) in
@@ -138,7 +144,8 @@ whole_hundredths : (n a b : ℕ) → n ≡ 100 * a + 10 * b → b ≤ 9 → (n %
 whole_hundredths n a b h low = omega arith
 
 -- none is shorter
-by_digits : (digits : List ℕ) (n : ℕ) → list_all is_digit digits ≡ true → length digits ≤ 3 → n ≡ thousandths digits → length (fraction_text n) ≤ 1 + length digits
+by_digits : (digits : List ℕ) (n : ℕ) → list_all is_digit digits ≡ true → length digits ≤ 3
+    → n ≡ thousandths digits → length (fraction_text n) ≤ 1 + length digits
 by_digits [] n all few value =
     let zero : n ≡ 0 = omega (arith, value) in
     let none : fraction_text n ≡ [] = ap fraction_text zero in
@@ -159,7 +166,8 @@ by_digits (x ∷ y ∷ z ∷ more) n all few value =
     let short = fraction_length n 2 (tens_length (n % 100)) in
     omega arith
 
-qvalue_shortest : (text : List ℕ) (n : ℕ) → n < 1000 → IsQvalue text n → length (48 ∷ fraction_text n) ≤ length text
+qvalue_shortest : (text : List ℕ) (n : ℕ) → n < 1000 → IsQvalue text n
+    → length (48 ∷ fraction_text n) ≤ length text
 qvalue_shortest [] n h q = absurd q
 qvalue_shortest (b ∷ []) n h q = elim q [
   | inl x ↦ (let none : fraction_text n ≡ [] = ap fraction_text x.1 in
@@ -189,7 +197,8 @@ weight_part n h = ap (λ (b : Bool). cond b [] (codes ";q=0" ++ fraction_text n)
 abbrev IsShorter : (List ℕ → Type 0) → List ℕ → List ℕ → Type 0
 IsShorter Fits text other = Fits text × (length text ≤ length other)
 
-part_again : (text : List ℕ) (n : ℕ) → n < 1000 → HasWeight text n → IsShorter (λ t. HasWeight t n) (59 ∷ 113 ∷ 61 ∷ 48 ∷ fraction_text n) text
+part_again : (text : List ℕ) (n : ℕ) → n < 1000 → HasWeight text n
+    → IsShorter (λ t. HasWeight t n) (59 ∷ 113 ∷ 61 ∷ 48 ∷ fraction_text n) text
 part_again text n h w =
     let short = qvalue_shortest w.qvalue n h w.qvalue_ok in
     let size : length text ≡ length (w.before ++ 59 ∷ (w.after ++ w.letter ∷ 61 ∷ w.qvalue)) = ap length w.whole in
@@ -209,7 +218,8 @@ part_again text n h w =
       omega arith,
     )
 
-weight_again : (scheme : Scheme) (text : List ℕ) (n : ℕ) → n ≤ 1000 → WeightGrammar scheme text n → IsShorter (λ t. WeightGrammar scheme t n) (weight_text n) text
+weight_again : (scheme : Scheme) (text : List ℕ) (n : ℕ) → n ≤ 1000 → WeightGrammar scheme text n
+    → IsShorter (λ t. WeightGrammar scheme t n) (weight_text n) text
 weight_again Basic text n small w = elim (cases_Bool (n == 1000)) [
   | inl e ↦ subst (λ (t : List ℕ). IsShorter (λ u. WeightGrammar Basic u n) t text) (sym (weight_full n e)) (inl (refl, is_full n e), omega arith)
   | inr e ↦ elim w [
@@ -262,7 +272,8 @@ plain_weight n h = elim (cases_Bool (n == 1000)) [
 
 -- ---- an element
 
-extended_of : (scheme : Scheme) (text : List ℕ) → IsRange (RangeGrammar scheme) text → ExtendedRange (pieces text)
+extended_of : (scheme : Scheme) (text : List ℕ) → IsRange (RangeGrammar scheme) text
+    → ExtendedRange (pieces text)
 extended_of Basic text h = basic_extended (pieces text) h.1
 extended_of Extended text h = h.1
 
@@ -272,7 +283,8 @@ record IsAgain (scheme : Scheme) (piece : List ℕ) (item : Item) : Type 0 where
   shorter : length (item_text item) ≤ length piece
   plain : IsPlain (item_text item)
 
-element_again : (scheme : Scheme) (piece : List ℕ) (item : Item) → item.weight ≤ 1000 → IsPadded scheme piece item → IsAgain scheme piece item
+element_again : (scheme : Scheme) (piece : List ℕ) (item : Item) → item.weight ≤ 1000
+    → IsPadded scheme piece item → IsAgain scheme piece item
 element_again scheme piece item small p =
     let e = p.element_ok in
     let lower_size : length (str_to_ascii_lowercase e.range) ≡ length e.range = simp length-map in
@@ -325,10 +337,12 @@ record AreAgain (scheme : Scheme) (pieces : List (List ℕ)) (items : List Item)
 abbrev AreSmall : List Item → Type 0
 AreSmall items = All (λ i. i.weight ≤ 1000) items
 
-size_cons : (s : List ℕ) (list : List (List ℕ)) → sum_by (λ x. length x + 1) (s ∷ list) ≡ (length s + 1) + sum_by (λ x. length x + 1) list
+size_cons : (s : List ℕ) (list : List (List ℕ))
+    → sum_by (λ x. length x + 1) (s ∷ list) ≡ (length s + 1) + sum_by (λ x. length x + 1) list
 size_cons s list = sum_by-cons (λ x. length x + 1) s list
 
-pieces_again : (scheme : Scheme) (pieces : List (List ℕ)) (items : List Item) → AreSmall items → ArePieces scheme Refused pieces items → AreAgain scheme pieces items
+pieces_again : (scheme : Scheme) (pieces : List (List ℕ)) (items : List Item) → AreSmall items
+    → ArePieces scheme Refused pieces items → AreAgain scheme pieces items
 pieces_again scheme [] [] small a = record { fits = tt; shorter = omega arith; plain = tt }
 pieces_again scheme [] (i ∷ items) small a = absurd a
 pieces_again scheme (p ∷ pieces) [] small a = record { fits = tt; shorter = omega arith; plain = tt }
@@ -349,13 +363,15 @@ pieces_again scheme (p ∷ pieces) (i ∷ items) small a = elim a [
 abbrev behind_commas : List Item → List ℕ
 behind_commas items = flat_map (λ i. (44 ∷ []) ++ item_text i) items
 
-split_again : (text : List ℕ) (items : List Item) → IsPlain text → ArePlain items → slice_split (λ b. b == 44) (text ++ behind_commas items) ≡ text ∷ map item_text items
+split_again : (text : List ℕ) (items : List Item) → IsPlain text → ArePlain items
+    → slice_split (λ b. b == 44) (text ++ behind_commas items) ≡ text ∷ map item_text items
 split_again text [] first rest = ap (slice_split (λ b. b == 44)) (append-nil text) ∙ slice_split_none (λ b. b == 44) text first
 split_again text (i ∷ items) first rest =
     slice_split_at (λ b. b == 44) text 44 (item_text i ++ behind_commas items) first refl
     ∙ ap (λ (t : List (List ℕ)). text ∷ t) (split_again (item_text i) items rest.0 rest.1)
 
-field_pieces : (i : Item) (items : List Item) → ArePlain (i ∷ items) → pieces_by 44 (field_text (i ∷ items)) ≡ map item_text (i ∷ items)
+field_pieces : (i : Item) (items : List Item) → ArePlain (i ∷ items)
+    → pieces_by 44 (field_text (i ∷ items)) ≡ map item_text (i ∷ items)
 unfolding pieces_by
 field_pieces i items plain = split_again (item_text i) items plain.0 plain.1
 
@@ -363,7 +379,9 @@ no_pieces : pieces_by 44 [] ≡ [] ∷ []
 unfolding pieces_by
 no_pieces = refl
 
-field_again : (scheme : Scheme) (text : List ℕ) (items : List Item) → IsField scheme Refused text items → IsField scheme Refused (field_text items) items × (length (field_text items) ≤ length text)
+field_again : (scheme : Scheme) (text : List ℕ) (items : List Item)
+    → IsField scheme Refused text items
+    → IsField scheme Refused (field_text items) items × (length (field_text items) ≤ length text)
 field_again scheme text [] f = (subst (λ (ps : List (List ℕ)). ArePieces scheme Refused ps []) (sym no_pieces) (refl, tt), omega arith)
 field_again scheme text (i ∷ items) f =
     let again = pieces_again scheme (pieces_by 44 text) (i ∷ items) (small_weights scheme Refused text (i ∷ items) f) f in
@@ -375,7 +393,8 @@ field_again scheme text (i ∷ items) f =
     (subst (λ (ps : List (List ℕ)). ArePieces scheme Refused ps (i ∷ items)) (sym same) again.fits, omega arith)
 
 -- the field that is written reads as the list, and is no longer than one that does
-pub shortest : (scheme : Scheme) (field : List ℕ) (items : List Item) → Lists scheme field items → Lists scheme (field_text items) items × (length (field_text items) ≤ length field)
+pub shortest : (scheme : Scheme) (field : List ℕ) (items : List Item) → Lists scheme field items
+    → Lists scheme (field_text items) items × (length (field_text items) ≤ length field)
 shortest scheme field items lists =
     let again = field_again scheme field items lists.1 in
     let short = again.1 in
@@ -383,13 +402,15 @@ shortest scheme field items lists =
     ((omega arith, again.0), short)
 
 -- the field that is written reads as the list where some field does
-pub listed_again : (scheme : Scheme) (items : List Item) → IsListed scheme items → Lists scheme (field_text items) items
+pub listed_again : (scheme : Scheme) (items : List Item) → IsListed scheme items
+    → Lists scheme (field_text items) items
 listed_again scheme items listed = (shortest scheme listed.0 items listed.1).0
 
 -- ---- reading back
 
 -- a field that is refused is of no list
-pub refused_lists_none : (scheme : Scheme) (text : List ℕ) (items : List Item) (fault : NegoFault) → (fault ≡ NoMemory → ⊥) → RefusesField scheme Refused text fault → ¬ Lists scheme text items
+pub refused_lists_none : (scheme : Scheme) (text : List ℕ) (items : List Item) (fault : NegoFault)
+    → (fault ≡ NoMemory → ⊥) → RefusesField scheme Refused text fault → ¬ Lists scheme text items
 refused_lists_none scheme text items FieldTooLong other refuses lists = let few : length text ≤ 65535 = lists.0 in omega (arith, refuses)
 refused_lists_none scheme text items (FieldMalformed offset) other refuses lists = malformed_is_no_field scheme text offset items refuses.1 lists.1
 refused_lists_none scheme text items NoMemory other refuses lists = other refl
@@ -407,10 +428,13 @@ item_decides i j = (
   λ e. subst (λ (x : Item). item_eq i x ≡ true) e (item_equiv.refl i),
 )
 
+-- the test of items tells equal lists
 pub same_items : (xs ys : List Item) → Decides (pointwise item_eq xs ys) (xs ≡ ys)
 same_items xs ys = pointwise_decides item_decides xs ys
 
 -- the field of one list is of another just where they are the same
-pub lists_where_same : (scheme : Scheme) (text : List ℕ) (read items : List Item) → Lists scheme text read → (same : Bool) → same ≡ pointwise item_eq read items → MatchBool same (Lists scheme text items) (¬ Lists scheme text items)
+pub lists_where_same : (scheme : Scheme) (text : List ℕ) (read items : List Item)
+    → Lists scheme text read → (same : Bool) → same ≡ pointwise item_eq read items
+    → MatchBool same (Lists scheme text items) (¬ Lists scheme text items)
 lists_where_same scheme text read items lists true is = subst (Lists scheme text) ((same_items read items).0 (sym is)) lists
 lists_where_same scheme text read items lists false is = λ other. true≢false (sym ((same_items read items).1 (one_items scheme Refused text read items lists.1 other.1)) ∙ sym is)

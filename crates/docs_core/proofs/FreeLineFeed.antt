@@ -2,7 +2,8 @@
 use Rattle.std.proofs.Common.{◌∙◌, ◌↔◌, ℕ, List, [], ◌∷◌, ◌++◌, length, refl, sym, subst, arith}
 use Rattle.std.specs.Prelude.{IsUtf8}
 use Rattle.std.proofs.lemmas.List.{take_at}
-use Rattle.std.proofs.lemmas.Str.{IsCharBoundary-at_seam, IsUtf8-append, IsUtf8-from_ascii, IsUtf8-take}
+use Rattle.std.proofs.lemmas.Str.{IsCharBoundary-at_seam, IsUtf8-append, IsUtf8-from_ascii}
+use Rattle.std.proofs.lemmas.Str.{IsUtf8-take}
 use Rattle.std.proofs.lemmas.Str.Ascii.{IsAscii-cons, IsAscii-nil}
 use Rattle.serde_json.specs.Data.{Data}
 use Rattle.docs_core.specs.Checks.{AreJson, Check}
@@ -24,7 +25,8 @@ json_with : (bytes : List ℕ) (d : Data) → AreJson bytes d → AreJson (bytes
 json_with bytes d json = (IsUtf8-append bytes (10 ∷ []) json.0 feed, read-line_feed bytes ∙ json.1)
 
 -- what a text with a line feed behind it reads as, it reads as without
-pub free : {X : Type 0} (checks : Data → List Check) (Is : Data → X → Type 0) (bytes : List ℕ) (x : X) → Reads checks Is (bytes ++ 10 ∷ []) x ↔ Reads checks Is bytes x
+pub free : {X : Type 0} (checks : Data → List Check) (Is : Data → X → Type 0) (bytes : List ℕ) (x : X)
+    → Reads checks Is (bytes ++ 10 ∷ []) x ↔ Reads checks Is bytes x
 free checks Is bytes x = (
   λ reads. (reads.0, json_without bytes reads.0 reads.1, reads.2, reads.3),
   λ reads. (reads.0, json_with bytes reads.0 reads.1, reads.2, reads.3),

@@ -1,5 +1,6 @@
 -- What is written for a value has no line feed but its last byte.
-use Rattle.std.proofs.Common.{◌≡◌, ◌≢◌, ℕ, zero, suc, ◌/◌, ◌%◌, ◌==◌, List, [], ◌∷◌, ◌++◌, Bool, true, false, cond, not, refl, arith}
+use Rattle.std.proofs.Common.{◌≡◌, ◌≢◌, ℕ, zero, suc, ◌/◌, ◌%◌, ◌==◌, List, [], ◌∷◌, ◌++◌, Bool}
+use Rattle.std.proofs.Common.{true, false, cond, not, refl, arith}
 use Rattle.std.specs.Prelude.{All, decimal, nat_lt, pos, negsuc, ℤ}
 use Rattle.std.specs.Char.{digit_char}
 use Rattle.std.specs.Fmt.{digit_glyph, digits, digits_onto, signed_decimal}
@@ -8,7 +9,9 @@ use Rattle.std.proofs.lemmas.Bool.{and_parts}
 use Rattle.std.proofs.lemmas.Bool.Decides.{nat_tests}
 use Rattle.std.proofs.lemmas.List.Elements.{All-append, All-cons, All-nil}
 use Rattle.json.specs.Print.{escape, escape_byte, escape_letter, quoted}
-use Rattle.serde_json.specs.Data.{Data, Num, Items, Members, unsigned, negative, float, null, boolean, number, string, array, object, no_items, item, no_members, member}
+use Rattle.serde_json.specs.Data.{Data, Num, Items, Members, unsigned, negative, float, null}
+use Rattle.serde_json.specs.Data.{boolean, number, string, array, object, no_items, item}
+use Rattle.serde_json.specs.Data.{no_members, member}
 use Rattle.serde_json.specs.Written.{comma_if, compact_text, items_text, members_text, number_text}
 use Rattle.docs_core.specs.Texts.{IsOneLine, text}
 
@@ -42,7 +45,8 @@ letter x = λ e. grind (arith, nat_tests, e)
 glyph : (d : ℕ) → digit_char d ≢ 10
 glyph d = λ e. grind (arith, nat_tests, e)
 
-by_tests : (short long : Bool) (u v w : List ℕ) → IsLine u → IsLine v → (long ≡ false → IsLine w) → IsLine (cond short u (cond long v w))
+by_tests : (short long : Bool) (u v w : List ℕ) → IsLine u → IsLine v → (long ≡ false → IsLine w)
+    → IsLine (cond short u (cond long v w))
 by_tests true long u v w p q r = p
 by_tests false true u v w p q r = q
 by_tests false false u v w p q r = r refl

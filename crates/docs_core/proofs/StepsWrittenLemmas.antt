@@ -1,5 +1,6 @@
 -- Rows that were written for steps are read as these steps.
-use Rattle.std.proofs.Common.{◌≡◌, ◌<◌, ◌≤◌, ◌^◌, ◌++◌, ℕ, List, [], ◌∷◌, map, refl, ap, ap₂, subst, sym, arith}
+use Rattle.std.proofs.Common.{◌≡◌, ◌<◌, ◌≤◌, ◌^◌, ◌++◌, ℕ, List, [], ◌∷◌, map, refl, ap, ap₂, subst}
+use Rattle.std.proofs.Common.{sym, arith}
 use Rattle.std.specs.Prelude.{None, Option, Some, option_map}
 use Rattle.std.specs.Str.{str_to_ascii_lowercase}
 use Rattle.cata_core.specs.Entries.{Entry}
@@ -23,8 +24,10 @@ use Rattle.docs_core.specs.FieldWritten.{field_text}
 use Rattle.docs_core.specs.Rows.{cell_in}
 use Rattle.docs_core.specs.ScriptWritten.{AreRowsOf}
 use Rattle.docs_core.specs.StepFields.{AreSteps, Lists, default_checks, step_checks}
-use Rattle.docs_core.specs.Steps.{StepText, edit_step, merge_step, filter_step, lookup_step, cells_step, tell_step, post_step, deliver_step, step_in}
-use Rattle.docs_core.specs.StepsWritten.{FitsMember, HasRoom, IsDefault, IsRowOf, IsWritable, step_row, step_value}
+use Rattle.docs_core.specs.Steps.{StepText, edit_step, merge_step, filter_step, lookup_step}
+use Rattle.docs_core.specs.Steps.{cells_step, tell_step, post_step, deliver_step, step_in}
+use Rattle.docs_core.specs.StepsWritten.{FitsMember, HasRoom, IsDefault, IsRowOf, IsWritable}
+use Rattle.docs_core.specs.StepsWritten.{step_row, step_value}
 use Rattle.docs_core.specs.Valid.{IsKeptCell}
 use Rattle.docs_core.specs.Values.{Row, cell_value, label_value}
 use Rattle.docs_core.specs.declared.document.version.Version.TheVariants.{Two}
@@ -35,7 +38,8 @@ use Rattle.docs_core.proofs.WrittenRows.{label_again, narrow}
 
 -- ---- the text of a row
 
-cell_again : (row : Row) (label : Option (List (List ℕ))) → FitsMember row.count → cell_in Two (cell_value row label) ≡ Some (row, label)
+cell_again : (row : Row) (label : Option (List (List ℕ))) → FitsMember row.count
+    → cell_in Two (cell_value row label) ≡ Some (row, label)
 cell_again row label h = rw (narrow row.count h, label_again label) refl
 
 row_again : (text : StepText) → HasRoom text → step_in Two (step_value text) ≡ Some text
@@ -62,7 +66,8 @@ record IsSound (d : Data) (most : ℕ) : Type 0 where
   shallow : tree.depth (outline d) ≤ most
   back : of_json (outline d) ≡ Some d
 
-one_more : (d : Data) (ds : Items) (most : ℕ) → IsSound d most → AreSound ds most → AreSound (item d ds) most
+one_more : (d : Data) (ds : Items) (most : ℕ) → IsSound d most → AreSound ds most
+    → AreSound (item d ds) most
 one_more d ds most p q = record {
   numbers = (p.numbers, q.numbers);
   shallow = omega (arith, p.shallow, q.shallow);
@@ -82,7 +87,8 @@ label_sound (Some texts) =
 wide : (n : ℕ) → FitsMember n → n < 2 ^ 64
 wide n h = omega (arith, h)
 
-cell_sound : (row : Row) (label : Option (List (List ℕ))) → row.time < 2 ^ 64 → FitsMember row.count → IsSound (cell_value row label) 2
+cell_sound : (row : Row) (label : Option (List (List ℕ))) → row.time < 2 ^ 64 → FitsMember row.count
+    → IsSound (cell_value row label) 2
 cell_sound row texts late few =
     let label = label_sound texts in
     record {
@@ -125,19 +131,22 @@ row_sound (deliver_step post) h =
 
 -- ---- rows of steps
 
-pub rows_sound : (texts : List StepText) (steps : List Step) → AreRowsOf texts steps → AreSound (items_of (map step_value texts)) 3
+pub rows_sound : (texts : List StepText) (steps : List Step) → AreRowsOf texts steps
+    → AreSound (items_of (map step_value texts)) 3
 rows_sound [] [] rows = record { numbers = tt; shallow = omega arith; back = refl }
 rows_sound [] (s ∷ ss) rows = absurd rows
 rows_sound (t ∷ ts) [] rows = absurd rows
 rows_sound (t ∷ ts) (s ∷ ss) rows = one_more (step_value t) (items_of (map step_value ts)) 3 (row_sound t rows.0.room) (rows_sound ts ss rows.1)
 
-pub steps_again : (texts : List StepText) (steps : List Step) → AreRowsOf texts steps → AreSteps Two (map step_value texts) steps
+pub steps_again : (texts : List StepText) (steps : List Step) → AreRowsOf texts steps
+    → AreSteps Two (map step_value texts) steps
 steps_again [] [] rows = tt
 steps_again [] (s ∷ ss) rows = absurd rows
 steps_again (t ∷ ts) [] rows = absurd rows
 steps_again (t ∷ ts) (s ∷ ss) rows = ((t, row_again t rows.0.room, rows.0.makes), steps_again ts ss rows.1)
 
-pub steps_pass : (done : List Data) (texts : List StepText) (steps : List Step) → AreRowsOf texts steps → AllPass (rows_checks (step_checks Two) done (map step_value texts))
+pub steps_pass : (done : List Data) (texts : List StepText) (steps : List Step)
+    → AreRowsOf texts steps → AllPass (rows_checks (step_checks Two) done (map step_value texts))
 steps_pass done [] steps rows = tt
 steps_pass done (t ∷ ts) [] rows = absurd rows
 steps_pass done (t ∷ ts) (s ∷ ss) rows =
@@ -145,14 +154,17 @@ steps_pass done (t ∷ ts) (s ∷ ss) rows =
     (step_passes Two done (step_value t) t (sym (row_again t rows.0.room)) (rows.0.fields _))
     (steps_pass (done ++ step_value t ∷ []) ts ss rows.1)
 
-pub rows_push : (texts : List StepText) (steps : List Step) (text : StepText) (step : Step) → AreRowsOf texts steps → IsRowOf text step → AreRowsOf (texts ++ text ∷ []) (steps ++ step ∷ [])
+pub rows_push : (texts : List StepText) (steps : List Step) (text : StepText) (step : Step)
+    → AreRowsOf texts steps → IsRowOf text step
+    → AreRowsOf (texts ++ text ∷ []) (steps ++ step ∷ [])
 rows_push [] [] text step rows last = (last, tt)
 rows_push [] (s ∷ ss) text step rows last = absurd rows
 rows_push (t ∷ ts) [] text step rows last = absurd rows
 rows_push (t ∷ ts) (s ∷ ss) text step rows last = (rows.0, rows_push ts ss text step rows.1 last)
 
 -- the rows that were written are those of the steps
-pub rows_written : (texts : List StepText) (steps : List Step) → AreRowsOf texts steps → map step_value texts ≡ map step_row steps
+pub rows_written : (texts : List StepText) (steps : List Step) → AreRowsOf texts steps
+    → map step_value texts ≡ map step_row steps
 rows_written [] [] rows = refl
 rows_written [] (s ∷ ss) rows = absurd rows
 rows_written (t ∷ ts) [] rows = absurd rows
@@ -171,7 +183,8 @@ writable_of (tell_step site) step r = subst IsWritable (sym r.makes) r.room
 writable_of (post_step site told) step r = subst IsWritable (sym r.makes) r.room
 writable_of (deliver_step post) step r = subst IsWritable (sym r.makes) r.room
 
-pub edit_row_of : (site : ℕ) (e : Entry) → FitsMember site → IsKeptCell e → IsRowOf (edit_step site (row_of e, e.1.label)) (Edit site e)
+pub edit_row_of : (site : ℕ) (e : Entry) → FitsMember site → IsKeptCell e
+    → IsRowOf (edit_step site (row_of e, e.1.label)) (Edit site e)
 edit_row_of site e h kept = record {
   room = (h, kept.0.time, kept.0.count);
   fields = λ k. (kept.0.id, ((e.0.1, spells-IsLang e.0.1 kept.0.lang), (kept.0.site, (kept.1, tt))));
@@ -179,7 +192,9 @@ edit_row_of site e h kept = record {
   written = refl;
 }
 
-pub filter_row_of : (site : ℕ) (id : List ℕ) (scheme : Scheme) (items : List Item) (field : List ℕ) → FitsMember site → IsMessageId id → field ≡ field_text items → Lists scheme field items → IsRowOf (filter_step site id scheme field) (AskFilter site id scheme items)
+pub filter_row_of : (site : ℕ) (id : List ℕ) (scheme : Scheme) (items : List Item) (field : List ℕ)
+    → FitsMember site → IsMessageId id → field ≡ field_text items → Lists scheme field items
+    → IsRowOf (filter_step site id scheme field) (AskFilter site id scheme items)
 filter_row_of site id scheme items field h is joined lists = record {
   room = h;
   fields = λ k. (is, ((items, lists), tt));
@@ -187,15 +202,20 @@ filter_row_of site id scheme items field h is joined lists = record {
   written = ap (filter_step site id scheme) joined;
 }
 
-default_passes : (k : ℕ) (default : Option (List ℕ)) → IsDefault default → AllPass (default_checks k default)
+default_passes : (k : ℕ) (default : Option (List ℕ)) → IsDefault default
+    → AllPass (default_checks k default)
 default_passes k None is = tt
 default_passes k (Some lang) is = ((lang, spells-IsLang lang is), tt)
 
-lower_default : (default : Option (List ℕ)) → IsDefault default → option_map str_to_ascii_lowercase default ≡ default
+lower_default : (default : Option (List ℕ)) → IsDefault default
+    → option_map str_to_ascii_lowercase default ≡ default
 lower_default None is = refl
 lower_default (Some lang) is = ap Some (lower-IsLang lang is)
 
-pub lookup_row_of : (site : ℕ) (id : List ℕ) (items : List Item) (default : Option (List ℕ)) (field : List ℕ) → FitsMember site → IsMessageId id → field ≡ field_text items → Lists Basic field items → IsDefault default → IsRowOf (lookup_step site id field default) (AskLookup site id items default)
+pub lookup_row_of : (site : ℕ) (id : List ℕ) (items : List Item) (default : Option (List ℕ)) (field : List ℕ)
+    → FitsMember site → IsMessageId id → field ≡ field_text items → Lists Basic field items
+    → IsDefault default
+    → IsRowOf (lookup_step site id field default) (AskLookup site id items default)
 lookup_row_of site id items default field h is joined lists known = record {
   room = h;
   fields = λ k. (is, ((items, lists), default_passes k default known));

@@ -1,8 +1,10 @@
 -- Documents of scripts, written. Own rule: the members of an object stand in byte order of their
 -- names.
-use Rattle.std.specs.Prelude.{◌≡◌, ℕ, List, [], ◌∷◌, codes, decimal, map, take, All, Some, slice_get}
+use Rattle.std.specs.Prelude.{◌≡◌, ℕ, List, [], ◌∷◌, codes, decimal, map, take, All, Some}
+use Rattle.std.specs.Prelude.{slice_get}
 use Rattle.cata_core.specs.declared.step.Step.{Step}
-use Rattle.json.specs.Token.{begin_object, begin_array, key, number as number_token, string as string_token}
+use Rattle.json.specs.Token.{begin_object, begin_array, key, number as number_token}
+use Rattle.json.specs.Token.{string as string_token}
 use Rattle.json.specs.Written.{Written}
 use Rattle.serde_json.specs.Data.{Data, object, array, number, unsigned, string, no_members, member}
 use Rattle.serde_json.specs.View.{items_of}

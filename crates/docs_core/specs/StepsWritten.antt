@@ -1,7 +1,8 @@
 -- Which steps a document can have, and their JSON values, version 2. Own rule.
 use Rattle.std.specs.Prelude.{◌≡◌, ◌<◌, ◌^◌, ℕ, List, codes, Option, None, Some}
 use Rattle.cata_core.specs.declared.step.Step.{Step}
-use Rattle.cata_core.specs.declared.step.Step.TheVariants.{Edit, Merge, AskFilter, AskLookup, AskCells, Tell, Post, Deliver}
+use Rattle.cata_core.specs.declared.step.Step.TheVariants.{Edit, Merge, AskFilter, AskLookup}
+use Rattle.cata_core.specs.declared.step.Step.TheVariants.{AskCells, Tell, Post, Deliver}
 use Rattle.json.specs.Written.{Written}
 use Rattle.lang_core.specs.Lang.{IsLang}
 use Rattle.nego_core.specs.declared.scheme.Scheme.{Scheme}
@@ -11,7 +12,8 @@ use Rattle.docs_core.specs.Checks.{AllPass, OrMemory}
 use Rattle.docs_core.specs.Entries.{row_of}
 use Rattle.docs_core.specs.FieldWritten.{IsListed, field_text}
 use Rattle.docs_core.specs.StepFields.{Makes, step_fields}
-use Rattle.docs_core.specs.Steps.{StepText, edit_step, merge_step, filter_step, lookup_step, cells_step, tell_step, post_step, deliver_step}
+use Rattle.docs_core.specs.Steps.{StepText, edit_step, merge_step, filter_step, lookup_step}
+use Rattle.docs_core.specs.Steps.{cells_step, tell_step, post_step, deliver_step}
 use Rattle.docs_core.specs.Texts.{Adds, value_tokens}
 use Rattle.docs_core.specs.Values.{Row, cell_value}
 use Rattle.docs_core.specs.declared.fault.DocCause.{DocCause}

@@ -1,5 +1,6 @@
 //! Laws over the definitions alone, each the contract of a function that does nothing.
-ghost use Rattle.std.specs.Prelude.{◌≡◌, ◌≤◌, ◌↔◌, ◌∷◌, ◌++◌, ℕ, Bool, Contains, List, [], IsTrue, IsUtf8, Option, length};
+ghost use Rattle.std.specs.Prelude.{◌≡◌, ◌≤◌, ◌↔◌, ◌∷◌, ◌++◌, ℕ, Bool, Contains, List, [], IsTrue};
+ghost use Rattle.std.specs.Prelude.{IsUtf8, Option, length};
 ghost use Rattle.std.specs.FinMap.Entries.{find};
 ghost use Rattle.cell_core.specs.Maps.{IsMap};
 ghost use Rattle.cell_core.specs.SiteNames.{IsSiteName};
@@ -20,7 +21,8 @@ ghost use Rattle.docs_core.specs.FieldWritten.{field_text};
 ghost use Rattle.docs_core.specs.LangMapLabels.{AreLangMaps, RefusesLangMaps};
 ghost use Rattle.docs_core.specs.LangMaps.{Labelled};
 ghost use Rattle.docs_core.specs.Made.{Change};
-ghost use Rattle.docs_core.specs.ReadsAs.{IsSiteText, ReadsAsDelta, ReadsAsSite, ReadsAsSummary, RefusesDelta, RefusesSite, RefusesSummary};
+ghost use Rattle.docs_core.specs.ReadsAs.{IsSiteText, ReadsAsDelta, ReadsAsSite, ReadsAsSummary};
+ghost use Rattle.docs_core.specs.ReadsAs.{RefusesDelta, RefusesSite, RefusesSummary};
 ghost use Rattle.docs_core.specs.Missing.{missing_labels};
 ghost use Rattle.docs_core.specs.Replays.{Replays};
 ghost use Rattle.docs_core.specs.ScriptReads.{ReadsAsScript, RefusesScript};

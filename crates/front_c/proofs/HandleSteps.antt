@@ -1,5 +1,6 @@
 -- What the owner of a handle learns from what it owns. Assumes `Logic`.
-use Rattle.std.proofs.Common.{◌≡◌, refl, sym, ap, Bool, true, false, Option, None, Some, List, ◌∷◌, subst}
+use Rattle.std.proofs.Common.{◌≡◌, refl, sym, ap, Bool, true, false, Option, None, Some, List, ◌∷◌}
+use Rattle.std.proofs.Common.{subst}
 use Rattle.std.specs.Prelude.{is_some}
 use seplogic.Ra.Ura.{Ura}
 use base.Fraction.{full_share}

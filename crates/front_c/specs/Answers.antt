@@ -2,7 +2,9 @@
 use Rattle.std.specs.Prelude.{◌≡◌, ◌⊎◌, ℕ, ℤ, List, Option, Some, MatchOption}
 use Rattle.cata_core.specs.Sites.{SiteState}
 use Rattle.docs_core.specs.ReadsAs.{ReadsAsSite}
-use Rattle.front_core.specs.Questions.{AreBundleMaps, IsFilterLines, IsLookupLine, IsLookupText, RefusesBundle, RefusesFilterLines, RefusesLookup, RefusesLookupLine}
+use Rattle.front_core.specs.Questions.{AreBundleMaps, IsFilterLines, IsLookupLine, IsLookupText}
+use Rattle.front_core.specs.Questions.{RefusesBundle, RefusesFilterLines, RefusesLookup}
+use Rattle.front_core.specs.Questions.{RefusesLookupLine}
 use Rattle.front_core.specs.Fields.{FieldText}
 use Rattle.front_core.specs.Lines.{lines_of}
 use Rattle.front_core.specs.Site.{RefusesOpening}
@@ -14,8 +16,10 @@ use Rattle.front_core.specs.declared.answer.LabelText.TheVariants as label
 use Rattle.front_core.specs.declared.tag_pick.Picked.{Picked}
 use Rattle.front_core.specs.declared.tag_pick.Picked.TheVariants as picked
 use Rattle.front_c.specs.Questions.{asked, default_of, field_of}
-use Rattle.front_c.specs.Statuses.{found, out_of_memory, status_of_outcome, status_of_refusal, usage}
-use Rattle.front_c.specs.Telling.{TellsNothing, TellsRefusal, TellsText, TellsUsage, answered, refused}
+use Rattle.front_c.specs.Statuses.{found, out_of_memory, status_of_outcome, status_of_refusal}
+use Rattle.front_c.specs.Statuses.{usage}
+use Rattle.front_c.specs.Telling.{TellsNothing, TellsRefusal, TellsText, TellsUsage, answered}
+use Rattle.front_c.specs.Telling.{refused}
 use Rattle.front_c.specs.declared.told.Told.{Told}
 
 abbrev pub Text : Type 0

@@ -1,5 +1,6 @@
 -- How an answer or a refusal is told to C (project rules).
-use Rattle.std.specs.Prelude.{◌≡◌, ◌≤◌, ◌<◌, ◌++◌, ◌⊎◌, ℕ, ℤ, List, Option, None, Some, drop, length}
+use Rattle.std.specs.Prelude.{◌≡◌, ◌≤◌, ◌<◌, ◌++◌, ◌⊎◌, ℕ, ℤ, List, Option, None, Some, drop}
+use Rattle.std.specs.Prelude.{length}
 use Rattle.front_core.specs.Faults.{number_of, offset_of, row_of}
 use Rattle.front_core.specs.declared.fault.FrontFault.{FrontFault}
 use Rattle.front_c.specs.declared.told.Told.{Told}

@@ -1,6 +1,8 @@
 //! Questions from C, answered.
 ghost use Rattle.std.specs.Prelude.{◌≡◌};
-ghost use Rattle.front_core.specs.Questions.{AreBundleMaps, IsFilterLines, IsLookupLine, IsLookupText, RefusesBundle, RefusesFilterLines, RefusesLookup, RefusesLookupLine};
+ghost use Rattle.front_core.specs.Questions.{AreBundleMaps, IsFilterLines, IsLookupLine};
+ghost use Rattle.front_core.specs.Questions.{IsLookupText, RefusesBundle, RefusesFilterLines};
+ghost use Rattle.front_core.specs.Questions.{RefusesLookup, RefusesLookupLine};
 ghost use Rattle.front_core.specs.Fields.{field_text};
 ghost use Rattle.front_core.specs.Lines.{lines_of};
 ghost use Rattle.front_core.specs.Picks.{IsPickedTag, RefusesPick};

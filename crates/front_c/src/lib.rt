@@ -20,7 +20,8 @@
 
 ghost use Rattle.std.specs.Prelude.{◌≡◌, None, Some, IfSome};
 ghost use denote.RawPtr.{null_ptr};
-ghost use Rattle.front_c.specs.Answers.{TellsBundle, TellsFilter, TellsLookup, TellsLookupText, TellsOpened, TellsPick, TellsShared};
+ghost use Rattle.front_c.specs.Answers.{TellsBundle, TellsFilter, TellsLookup, TellsLookupText};
+ghost use Rattle.front_c.specs.Answers.{TellsOpened, TellsPick, TellsShared};
 ghost use Rattle.front_c.specs.Handles.{site_of};
 
 mod answers;

@@ -1,5 +1,7 @@
 -- The first line of a text, and those after it.
-use Rattle.std.proofs.Common.{◌≡◌, ◌∙◌, ◌<◌, ◌==◌, ◌+◌, ◌-◌, ℕ, List, [], ◌∷◌, ap, sym, length, take, drop, position, refl, None, Some, cond, true, false, Bool, arith}
+use Rattle.std.proofs.Common.{◌≡◌, ◌∙◌, ◌<◌, ◌==◌, ◌+◌, ◌-◌, ℕ, List, [], ◌∷◌, ap, sym, length}
+use Rattle.std.proofs.Common.{take, drop, position, refl, None, Some, cond, true, false, Bool}
+use Rattle.std.proofs.Common.{arith}
 use Rattle.std.specs.List.{onto_first, slice_split}
 use Rattle.lang_core.proofs.PiecesLaws.{pieces_cut, pieces_whole}
 use Rattle.lang_core.specs.Text.{pieces_by}
@@ -26,6 +28,7 @@ whole_stays : (text : List ℕ) → 0 < length text → without_empty_last (text
 whole_stays [] some = absurd (omega arith)
 whole_stays (b ∷ text) some = refl
 
+-- an empty text has no line
 pub no_lines : (text : List ℕ) → length text ≡ 0 → lines_of text ≡ []
 unfolding pieces_by
 no_lines [] none = refl

@@ -1,5 +1,6 @@
 -- A pick has one line, or none where it is refused.
-use Rattle.std.proofs.Common.{◌≡◌, ◌≢◌, ◌∙◌, ◌<◌, ℕ, List, [], ◌∷◌, ◌++◌, ap, ap₂, refl, sym, subst, inl, inr, length, Option, None, Some, arith}
+use Rattle.std.proofs.Common.{◌≡◌, ◌≢◌, ◌∙◌, ◌<◌, ℕ, List, [], ◌∷◌, ◌++◌, ap, ap₂, refl, sym, subst}
+use Rattle.std.proofs.Common.{inl, inr, length, Option, None, Some, arith}
 use Rattle.std.specs.Str.{str_to_ascii_lowercase}
 use Rattle.lang_core.specs.Tag.{IsTag, RefusesTag}
 use Rattle.lang_core.specs.Grammar.{tag_piece}

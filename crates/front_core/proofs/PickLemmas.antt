@@ -1,5 +1,6 @@
 -- What lookup finds, by its text and by the tags that spell it.
-use Rattle.std.proofs.Common.{◌≡◌, ◌∙◌, ◌<◌, ℕ, List, [], ◌∷◌, ap, arith, false, get_or, inl, inr, length, refl, subst, suc, sym, true, zero, Option, None, Some}
+use Rattle.std.proofs.Common.{◌≡◌, ◌∙◌, ◌<◌, ℕ, List, [], ◌∷◌, ap, arith, false, get_or, inl, inr}
+use Rattle.std.proofs.Common.{length, refl, subst, suc, sym, true, zero, Option, None, Some}
 use Rattle.std.proofs.lemmas.List.Elements.{All-cons, All-nil}
 use Rattle.std.proofs.lemmas.List.Quantifiers.{position-Some}
 use Rattle.std.proofs.lemmas.Slice.Eq.{bytes_eq-Decides}

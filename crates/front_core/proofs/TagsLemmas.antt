@@ -1,5 +1,6 @@
 -- Tags, read one after another.
-use Rattle.std.proofs.Common.{◌≡◌, ◌∙◌, ◌<◌, ◌+◌, ℕ, List, [], ◌∷◌, ◌++◌, ap, map, length, take, drop, get_or, sym, suc}
+use Rattle.std.proofs.Common.{◌≡◌, ◌∙◌, ◌<◌, ◌+◌, ℕ, List, [], ◌∷◌, ◌++◌, ap, map, length, take}
+use Rattle.std.proofs.Common.{drop, get_or, sym, suc}
 use Rattle.std.proofs.lemmas.List.{append_assoc, map-append, take_more, take-append-drop}
 use Rattle.std.proofs.Math.Seq.{drop-cons}
 use Rattle.lang_core.specs.Lang.{SpellsLang, RefusesLang}
@@ -31,6 +32,7 @@ pub record IsReadTo (words left langs : List Text) : Type 0 where
   pub whole : words ≡ before ++ left
   pub spelled : SpellLangs before langs
 
+-- one more word is read
 pub read_on : (words left rest langs more : List Text) (word lang : Text) → left ≡ word ∷ rest → more ≡ langs ++ lang ∷ [] → IsReadTo words left langs → SpellsLang word lang → IsReadTo words rest more
 read_on words left rest langs more word lang e is h one = record {
   before = h.before ++ word ∷ [];

@@ -4,7 +4,8 @@ use Rattle.cata_core.specs.Deltas.{delta_of, summary_of}
 use Rattle.cata_core.specs.Sites.{SiteState}
 use Rattle.cata_core.specs.Summary.{SummaryState}
 use Rattle.docs_core.specs.Checks.{OrMemory}
-use Rattle.docs_core.specs.ReadsAs.{IsDeltaText, IsOfDocument, IsSiteText, IsSummaryText, ReadsAsSummary, RefusesSummary, no_memory}
+use Rattle.docs_core.specs.ReadsAs.{IsDeltaText, IsOfDocument, IsSiteText, IsSummaryText}
+use Rattle.docs_core.specs.ReadsAs.{ReadsAsSummary, RefusesSummary, no_memory}
 use Rattle.docs_core.specs.Status.{status_line}
 use Rattle.front_core.specs.Faults.{IsOf, document_fault}
 use Rattle.front_core.specs.Fields.{Text}

@@ -3,7 +3,8 @@ use Rattle.std.specs.Prelude.{◌≡◌, ◌⊎◌, ℕ}
 use Rattle.cata_core.specs.CataFaults.{IsRefusal}
 use Rattle.cata_core.specs.Entries.{Agree, joined}
 use Rattle.cata_core.specs.Sites.{IsLeftSite, SiteState}
-use Rattle.front_core.specs.Changes.{HasKey, HasLabel, IsChanged, IsDelete, IsPut, RefusesChange, RefusesKey, RefusesPut}
+use Rattle.front_core.specs.Changes.{HasKey, HasLabel, IsChanged, IsDelete, IsPut, RefusesChange}
+use Rattle.front_core.specs.Changes.{RefusesKey, RefusesPut}
 use Rattle.front_core.specs.Faults.{IsOf, site_fault}
 use Rattle.front_core.specs.Fields.{Text}
 use Rattle.front_core.specs.declared.change.Change.{Change}

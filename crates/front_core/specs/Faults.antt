@@ -18,7 +18,8 @@ use Rattle.docs_core.specs.declared.fault.DocFault.{DocFault}
 use Rattle.docs_core.specs.declared.fault.FieldFault.{FieldFault}
 use Rattle.docs_core.specs.declared.fault.FieldFault.TheVariants as row
 use Rattle.front_core.specs.declared.fault.FrontFault.{FrontFault}
-use Rattle.front_core.specs.declared.fault.FrontFault.TheVariants.{Cell, Language, Field, Document, NoMemory}
+use Rattle.front_core.specs.declared.fault.FrontFault.TheVariants.{Cell, Language, Field, Document}
+use Rattle.front_core.specs.declared.fault.FrontFault.TheVariants.{NoMemory}
 
 abbrev pub number_of : FrontFault → ℕ
 number_of (Cell fault) = cell_number fault

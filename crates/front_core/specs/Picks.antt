@@ -1,5 +1,6 @@
 -- A pick: lookup (RFC 4647 section 3.4) of a priority list over the languages that tags spell.
-use Rattle.std.specs.Prelude.{◌≡◌, ◌<◌, ◌⊎◌, ℕ, List, ◌++◌, Option, None, Some, codes, length, slice_get}
+use Rattle.std.specs.Prelude.{◌≡◌, ◌<◌, ◌⊎◌, ℕ, List, ◌++◌, Option, None, Some, codes, length}
+use Rattle.std.specs.Prelude.{slice_get}
 use Rattle.lang_core.specs.Lang.{SpellsLang}
 use Rattle.lang_core.specs.Text.{pieces}
 use Rattle.nego_core.specs.Choosing.{HasOpenDefault, IsOpenDefault}

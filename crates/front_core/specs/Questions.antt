@@ -1,5 +1,6 @@
 -- Questions to an open site, and what answers them (project rules).
-use Rattle.std.specs.Prelude.{◌≡◌, ◌≤◌, ◌⊎◌, ℕ, Bool, List, Option, None, Some, false, true, length, option_map, slice_get}
+use Rattle.std.specs.Prelude.{◌≡◌, ◌≤◌, ◌⊎◌, ℕ, Bool, List, Option, None, Some, false, true, length}
+use Rattle.std.specs.Prelude.{option_map, slice_get}
 use Rattle.std.specs.Str.{IsUtf8}
 use Rattle.cata_core.specs.Asking.{IsLookupAnswer}
 use Rattle.cata_core.specs.Entries.{Entries}

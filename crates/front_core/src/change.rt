@@ -23,7 +23,8 @@ pub struct Change {
 
 impl Change {
     ghost use Rattle.std.specs.Prelude.{◌≡◌, IfErr, MatchResult, OnErr, OnOk};
-    ghost use Rattle.front_core.specs.Changes.{IsChanged, IsDelete, IsPut, RefusesChange, RefusesKey, RefusesPut};
+    ghost use Rattle.front_core.specs.Changes.{IsChanged, IsDelete, IsPut, RefusesChange};
+    ghost use Rattle.front_core.specs.Changes.{RefusesKey, RefusesPut};
 
     /// The change that puts a label of one text.
     ///

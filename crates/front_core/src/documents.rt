@@ -1,6 +1,7 @@
 //! Documents of an open site, as the commands print them.
 ghost use Rattle.std.specs.Prelude.{IfOk, MatchResult};
-ghost use Rattle.front_core.specs.Documents.{IsDelta, IsDocument, IsStatus, IsSummary, RefusesDelta};
+ghost use Rattle.front_core.specs.Documents.{IsDelta, IsDocument, IsStatus, IsSummary};
+ghost use Rattle.front_core.specs.Documents.{RefusesDelta};
 
 use crate::answer::{Answer, Outcome};
 use crate::fault::FrontFault;

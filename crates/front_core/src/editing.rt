@@ -1,6 +1,7 @@
 //! Edits of an open site, read and made at once.
 ghost use Rattle.std.specs.Prelude.{◌≡◌, IfErr, OnErr, OnOk};
-ghost use Rattle.front_core.specs.Editing.{IsDeleted, IsMerged, IsPutInto, RefusesDelete, RefusesMerge, RefusesPutInto};
+ghost use Rattle.front_core.specs.Editing.{IsDeleted, IsMerged, IsPutInto, RefusesDelete};
+ghost use Rattle.front_core.specs.Editing.{RefusesMerge, RefusesPutInto};
 
 use crate::change::Change;
 use crate::fault::FrontFault;

@@ -25,7 +25,8 @@ pub struct Lookup {
 
 impl Lookup {
     ghost use Rattle.std.specs.Prelude.{IfOk, MatchResult};
-    ghost use Rattle.front_core.specs.Questions.{AnswersLookup, AnswersText, IsLookup, RefusesLookup};
+    ghost use Rattle.front_core.specs.Questions.{AnswersLookup, AnswersText, IsLookup};
+    ghost use Rattle.front_core.specs.Questions.{RefusesLookup};
     ghost use Rattle.front_core.specs.Fields.{field_text};
 
     /// Reads a lookup from these bytes.

@@ -1,6 +1,8 @@
 //! Questions to an open site, read and answered at once.
 ghost use Rattle.std.specs.Prelude.{MatchResult, option_map};
-ghost use Rattle.front_core.specs.Questions.{AreBundleMaps, IsFilterLines, IsLookupLine, IsLookupText, RefusesBundle, RefusesFilterLines, RefusesLookup, RefusesLookupLine};
+ghost use Rattle.front_core.specs.Questions.{AreBundleMaps, IsFilterLines, IsLookupLine};
+ghost use Rattle.front_core.specs.Questions.{IsLookupText, RefusesBundle, RefusesFilterLines};
+ghost use Rattle.front_core.specs.Questions.{RefusesLookup, RefusesLookupLine};
 ghost use Rattle.front_core.specs.Fields.{field_text};
 
 use crate::answer::{Answer, LabelText};

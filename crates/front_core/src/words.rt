@@ -1,7 +1,8 @@
 //! Picking a language among the arguments of a command (RFC 4647 section 3.4).
 ghost use Rattle.std.specs.Prelude.{◌≡◌, map, option_map, string_bytes, IfOk, MatchResult, None};
 ghost use Rattle.front_core.specs.Fields.{FieldText, field_text};
-ghost use Rattle.front_core.specs.Picks.{AnswersPick, Finds, IsPicked, IsPickLine, RefusesPick, pick_line, pick_outcome};
+ghost use Rattle.front_core.specs.Picks.{AnswersPick, Finds, IsPicked, IsPickLine, RefusesPick};
+ghost use Rattle.front_core.specs.Picks.{pick_line, pick_outcome};
 
 use crate::answer::{Answer, Outcome};
 use crate::fault::FrontFault;

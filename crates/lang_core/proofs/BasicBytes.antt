@@ -1,5 +1,6 @@
 -- Basic matching of texts.
-use Rattle.std.proofs.Common.{ℕ, ◌≡◌, ◌⊎◌, inl, inr, List, [], ◌∷◌, ◌++◌, true, refl, sym, ◌∙◌, ap, arith, append-nil}
+use Rattle.std.proofs.Common.{ℕ, ◌≡◌, ◌⊎◌, inl, inr, List, [], ◌∷◌, ◌++◌, true, refl, sym, ◌∙◌, ap}
+use Rattle.std.proofs.Common.{arith, append-nil}
 use Rattle.std.proofs.lemmas.Bool.Decides.{nat_tests}
 use Rattle.lang_core.specs.Text.{pieces, joined}
 use Rattle.lang_core.specs.Fronts.{ends_subtag}

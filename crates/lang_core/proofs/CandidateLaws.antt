@@ -1,10 +1,13 @@
 -- What cutting a text at its last hyphen does to its pieces and truncations.
-use Rattle.std.proofs.Common.{ℕ, ◌≡◌, ◌≤◌, ◌<◌, ◌+◌, ◌-◌, inl, inr, List, [], ◌∷◌, ◌++◌, true, false, cond, length, take, drop, get_or, refl, sym, ◌∙◌, ap, arith, length-append, length-drop, take-append-drop, drop-cons, add-one}
+use Rattle.std.proofs.Common.{ℕ, ◌≡◌, ◌≤◌, ◌<◌, ◌+◌, ◌-◌, inl, inr, List, [], ◌∷◌, ◌++◌, true}
+use Rattle.std.proofs.Common.{false, cond, length, take, drop, get_or, refl, sym, ◌∙◌, ap, arith}
+use Rattle.std.proofs.Common.{length-append, length-drop, take-append-drop, drop-cons, add-one}
 use Rattle.std.proofs.lemmas.List.{get_or-drop, take-append-le, take_all}
 use Rattle.std.specs.Prelude.{not, zero, suc, filter, ◌||◌}
 use Rattle.lang_core.specs.Text.{pieces}
 use Rattle.lang_core.specs.Grammar.{is_star}
-use Rattle.lang_core.specs.Candidates.{fronts_from, is_single, is_cut, truncated, candidates, last_of}
+use Rattle.lang_core.specs.Candidates.{fronts_from, is_single, is_cut, truncated, candidates}
+use Rattle.lang_core.specs.Candidates.{last_of}
 use Rattle.lang_core.proofs.Basics.{cases_bool}
 use Rattle.lang_core.proofs.PiecesLaws.{pieces_join, pieces_no_hyphen}
 

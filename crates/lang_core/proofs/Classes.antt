@@ -1,9 +1,12 @@
 -- No subtag is of two kinds that may stand at one place.
-use Rattle.std.proofs.Common.{ℕ, ◌≡◌, ◌≤◌, ◌⊎◌, inl, inr, List, [], ◌∷◌, Bool, true, false, length, take, refl, arith}
+use Rattle.std.proofs.Common.{ℕ, ◌≡◌, ◌≤◌, ◌⊎◌, inl, inr, List, [], ◌∷◌, Bool, true, false, length}
+use Rattle.std.proofs.Common.{take, refl, arith}
 use Rattle.std.specs.Prelude.{nat_le, ◌&&◌, not}
 use Rattle.std.specs.List.{list_all, list_any}
 use Rattle.std.proofs.lemmas.Bool.Decides.{nat_tests}
-use Rattle.lang_core.specs.Grammar.{is_letter, is_digit, is_alphanum, is_run, is_short_language, is_long_language, is_extlang, is_script, is_region, is_variant, is_x, is_singleton, is_extension_piece}
+use Rattle.lang_core.specs.Grammar.{is_letter, is_digit, is_alphanum, is_run, is_short_language}
+use Rattle.lang_core.specs.Grammar.{is_long_language, is_extlang, is_script, is_region, is_variant}
+use Rattle.lang_core.specs.Grammar.{is_x, is_singleton, is_extension_piece}
 use Rattle.lang_core.proofs.Basics.{each_true, one_true, is_false, le_is}
 
 pub record RunOf (kind : ℕ → Bool) (low high : ℕ) (s : List ℕ) : Type 0 where

@@ -1,16 +1,21 @@
 -- The text of a range as a basic one.
-use Rattle.std.proofs.Common.{ℕ, ◌≡◌, ◌<◌, ◌+◌, ◌==◌, inl, inr, List, [], ◌∷◌, ◌++◌, Bool, true, false, length, refl, sym, ◌∙◌, ap, arith, append-nil, get_or}
+use Rattle.std.proofs.Common.{ℕ, ◌≡◌, ◌<◌, ◌+◌, ◌==◌, inl, inr, List, [], ◌∷◌, ◌++◌, Bool, true}
+use Rattle.std.proofs.Common.{false, length, refl, sym, ◌∙◌, ap, arith, append-nil, get_or}
 use Rattle.std.specs.Prelude.{not, zero, suc}
 use Rattle.std.specs.List.{list_all, slice_split, onto_first}
 use Rattle.std.specs.Str.{str_to_ascii_lowercase}
 use Rattle.std.specs.Char.{to_ascii_lowercase}
 use Rattle.std.proofs.lemmas.Bool.Decides.{nat_tests}
-use Rattle.std.proofs.lemmas.List.Splits.{slice_split-cons_yes, slice_split-cons_no, slice_split_none}
+use Rattle.std.proofs.lemmas.List.Splits.{slice_split-cons_yes, slice_split-cons_no}
+use Rattle.std.proofs.lemmas.List.Splits.{slice_split_none}
 use Rattle.lang_core.specs.Text.{pieces_by, pieces, joined}
-use Rattle.lang_core.specs.Grammar.{are_allowed, is_list_of, extended_piece, basic_piece, is_private_piece, is_letter, is_alphanum, is_star, BasicRange, ExtendedRange}
+use Rattle.lang_core.specs.Grammar.{are_allowed, is_list_of, extended_piece, basic_piece}
+use Rattle.lang_core.specs.Grammar.{is_private_piece, is_letter, is_alphanum, is_star, BasicRange}
+use Rattle.lang_core.specs.Grammar.{ExtendedRange}
 use Rattle.lang_core.specs.Matching.{as_basic, without_stars}
 use Rattle.lang_core.specs.LookupText.{lookup_text, hyphened}
-use Rattle.lang_core.proofs.Basics.{other_true, cases_bool, each_true, both, is_false, not_true, true_not}
+use Rattle.lang_core.proofs.Basics.{other_true, cases_bool, each_true, both, is_false, not_true}
+use Rattle.lang_core.proofs.Basics.{true_not}
 use Rattle.lang_core.proofs.Classes.{run_of}
 use Rattle.lang_core.proofs.PiecesLaws.{joined-pieces, some_pieces, pieces_join}
 use Rattle.lang_core.proofs.RangeText.{range_bytes, is_range_byte}

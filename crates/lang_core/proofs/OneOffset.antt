@@ -1,5 +1,6 @@
 -- The first piece that is refused begins at one offset.
-use Rattle.std.proofs.Common.{ℕ, ◌≡◌, ◌+◌, List, [], ◌∷◌, ◌++◌, Bool, true, false, length, sum_by, sym, ◌∙◌, ap, subst, arith}
+use Rattle.std.proofs.Common.{ℕ, ◌≡◌, ◌+◌, List, [], ◌∷◌, ◌++◌, Bool, true, false, length, sum_by}
+use Rattle.std.proofs.Common.{sym, ◌∙◌, ap, subst, arith}
 use Rattle.lang_core.specs.Grammar.{are_allowed, IsFirstRefused}
 use Rattle.lang_core.proofs.Basics.{each_true}
 

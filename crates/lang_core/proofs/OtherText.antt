@@ -27,7 +27,8 @@ own_pieces (s ∷ list) h = elim (cases_bool (is_star s)) [
 ]
 
 -- the lookup text of a range without a star is its own
-pub own_text : (range : List ℕ) → list_any is_star (pieces range) ≡ false → range ≡ lookup_text range
+pub own_text : (range : List ℕ) → list_any is_star (pieces range) ≡ false
+    → range ≡ lookup_text range
 own_text range h = sym (ap joined (own_pieces (pieces range) h) ∙ joined-pieces range)
 
 -- no star is left
@@ -39,7 +40,8 @@ none_left (s ∷ list) = elim (cases_bool (is_star s)) [
 ]
 
 -- where a star comes after another subtag, the lookup text is another text
-pub other_text : (range s : List ℕ) (list : List (List ℕ)) → pieces range ≡ s ∷ list → is_star s ≡ false → list_any is_star (pieces range) ≡ true → HasOtherText range
+pub other_text : (range s : List ℕ) (list : List (List ℕ)) → pieces range ≡ s ∷ list
+    → is_star s ≡ false → list_any is_star (pieces range) ≡ true → HasOtherText range
 other_text range s list e first some =
     let basic : as_basic (s ∷ list) ≡ s ∷ without_stars list = rw first refl in
     let of : pieces (lookup_text range) ≡ s ∷ without_stars list = pieces-lookup_text range ∙ (ap as_basic e ∙ basic) in

@@ -1,5 +1,7 @@
 -- The pieces of a text.
-use Rattle.std.proofs.Common.{ℕ, ◌≡◌, ◌≤◌, ◌<◌, ◌+◌, ◌-◌, ◌==◌, get_or, sym, ap, ◌∙◌, inl, inr, List, [], ◌∷◌, ◌++◌, Some, None, Bool, true, false, cond, ltb, length, take, drop, sum_by, refl, arith, length-drop}
+use Rattle.std.proofs.Common.{ℕ, ◌≡◌, ◌≤◌, ◌<◌, ◌+◌, ◌-◌, ◌==◌, get_or, sym, ap, ◌∙◌, inl, inr}
+use Rattle.std.proofs.Common.{List, [], ◌∷◌, ◌++◌, Some, None, Bool, true, false, cond, ltb, length}
+use Rattle.std.proofs.Common.{take, drop, sum_by, refl, arith, length-drop}
 use Rattle.std.specs.Prelude.{position}
 use Rattle.std.specs.List.{position_or_len, slice_split, onto_first}
 use Rattle.std.specs.Str.{str_to_ascii_lowercase}
@@ -11,7 +13,9 @@ use Rattle.std.proofs.lemmas.List.Quantifiers.{position-Some}
 use Rattle.std.proofs.lemmas.Option.{cond_some}
 use Rattle.std.proofs.lemmas.List.{take_all, get_or_default}
 use Rattle.std.proofs.lemmas.List.Sums.{fails_before_first}
-use Rattle.std.proofs.lemmas.List.Splits.{slice_split_none, slice_split_first, slice_split-cons_yes, slice_split-cons_no, length-slice_split, join_with_byte-slice_split}
+use Rattle.std.proofs.lemmas.List.Splits.{slice_split_none, slice_split_first, slice_split-cons_yes}
+use Rattle.std.proofs.lemmas.List.Splits.{slice_split-cons_no, length-slice_split}
+use Rattle.std.proofs.lemmas.List.Splits.{join_with_byte-slice_split}
 use Rattle.lang_core.specs.Text.{pieces_by, pieces, joined}
 use Rattle.lang_core.proofs.Basics.{cases_bool}
 use Rattle.lang_core.proofs.CaseLaws.{lower_hyphen, lowered}

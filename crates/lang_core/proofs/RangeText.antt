@@ -1,5 +1,6 @@
 -- Lists of pieces that the grammars of ranges allow.
-use Rattle.std.proofs.Common.{ℕ, ◌≡◌, ◌<◌, ◌+◌, ◌==◌, inl, inr, List, [], ◌∷◌, ◌++◌, Bool, true, false, length, refl, sym, ◌∙◌, ap, subst, arith}
+use Rattle.std.proofs.Common.{ℕ, ◌≡◌, ◌<◌, ◌+◌, ◌==◌, inl, inr, List, [], ◌∷◌, ◌++◌, Bool, true}
+use Rattle.std.proofs.Common.{false, length, refl, sym, ◌∙◌, ap, subst, arith}
 use Rattle.std.specs.Prelude.{◌||◌, IsTrue, zero, suc}
 use Rattle.std.specs.List.{list_all, slice_split, onto_first}
 use Rattle.std.specs.Str.{IsAscii}
@@ -8,7 +9,9 @@ use Rattle.std.proofs.lemmas.List.Splits.{slice_split-cons_yes, slice_split-cons
 use Rattle.std.proofs.lemmas.Str.Ascii.{IsAscii-nil, IsAscii-cons}
 use Rattle.std.specs.Prelude.{Option, Some, None, MatchOption}
 use Rattle.lang_core.specs.Text.{pieces_by, pieces, joined}
-use Rattle.lang_core.specs.Grammar.{are_allowed, is_list_of, is_alphanum, is_letter, is_digit, is_private_piece, is_star, basic_piece, extended_piece, BasicRange, ExtendedRange, IsFirstRefused}
+use Rattle.lang_core.specs.Grammar.{are_allowed, is_list_of, is_alphanum, is_letter, is_digit}
+use Rattle.lang_core.specs.Grammar.{is_private_piece, is_star, basic_piece, extended_piece}
+use Rattle.lang_core.specs.Grammar.{BasicRange, ExtendedRange, IsFirstRefused}
 use Rattle.lang_core.proofs.Basics.{cases_bool, each_true, both, one_true, or_left, or_right}
 use Rattle.lang_core.proofs.Classes.{run_of}
 use Rattle.lang_core.proofs.PiecesLaws.{joined-pieces, some_pieces}

@@ -1,13 +1,21 @@
 -- The stages accept each private tag and each langtag.
-use Rattle.std.proofs.Common.{ℕ, ◌≡◌, ◌≤◌, ◌<◌, ◌-◌, ◌⊎◌, inl, inr, List, [], ◌∷◌, ◌++◌, Some, Option, true, length, refl, sym, subst, arith, append_assoc}
+use Rattle.std.proofs.Common.{ℕ, ◌≡◌, ◌≤◌, ◌<◌, ◌-◌, ◌⊎◌, inl, inr, List, [], ◌∷◌, ◌++◌, Some}
+use Rattle.std.proofs.Common.{Option, true, length, refl, sym, subst, arith, append_assoc}
 use Rattle.std.specs.Prelude.{nat_lt}
 use Rattle.std.specs.List.{list_all, flat_map, AllByRecursion}
-use Rattle.lang_core.specs.Grammar.{is_short_language, is_long_language, is_extlang, is_script, is_region, is_variant, is_x, is_singleton, is_extension_piece, is_private_piece, AreAll, IsAtMostOne, IsExtension, IsPrivate, IsLanguage, AreExtensions, IsMaybePrivate, IsLangtag}
+use Rattle.lang_core.specs.Grammar.{is_short_language, is_long_language, is_extlang, is_script}
+use Rattle.lang_core.specs.Grammar.{is_region, is_variant, is_x, is_singleton, is_extension_piece}
+use Rattle.lang_core.specs.Grammar.{is_private_piece, AreAll, IsAtMostOne, IsExtension, IsPrivate}
+use Rattle.lang_core.specs.Grammar.{IsLanguage, AreExtensions, IsMaybePrivate, IsLangtag}
 use Rattle.lang_core.specs.Stage.{next_stage, is_complete, accepts}
 use Rattle.lang_core.specs.declared.stage.Stage.{Stage}
-use Rattle.lang_core.specs.declared.stage.Stage.TheVariants.{Start, Language, Script, Variants, Singleton, Extension, PrivateStart, Private}
+use Rattle.lang_core.specs.declared.stage.Stage.TheVariants.{Start, Language, Script, Variants}
+use Rattle.lang_core.specs.declared.stage.Stage.TheVariants.{Singleton, Extension, PrivateStart}
+use Rattle.lang_core.specs.declared.stage.Stage.TheVariants.{Private}
 use Rattle.lang_core.proofs.Basics.{each_true, one_true, and_false, is_lt}
-use Rattle.lang_core.proofs.Classes.{size_x, x_singleton, IsSingle, single, variant_only, region_extlang, region_script, script_extlang, long_short, size_singleton}
+use Rattle.lang_core.proofs.Classes.{size_x, x_singleton, IsSingle, single, variant_only}
+use Rattle.lang_core.proofs.Classes.{region_extlang, region_script, script_extlang, long_short}
+use Rattle.lang_core.proofs.Classes.{size_singleton}
 
 -- a stage at which a tag may end, and after which an extension or a private part may come
 pub record CanEnd (stage : Stage) : Type 0 where

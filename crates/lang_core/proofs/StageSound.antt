@@ -1,11 +1,19 @@
 -- The stages accept a list exactly where it is a private tag or a langtag.
-use Rattle.std.proofs.Common.{ℕ, ◌≡◌, ◌≤◌, ◌<◌, ◌-◌, ◌⊎◌, inl, inr, List, [], ◌∷◌, ◌++◌, Some, None, Option, Bool, true, false, cond, length, refl, sym, ◌∙◌, ap, arith, append_assoc}
+use Rattle.std.proofs.Common.{ℕ, ◌≡◌, ◌≤◌, ◌<◌, ◌-◌, ◌⊎◌, inl, inr, List, [], ◌∷◌, ◌++◌, Some, None}
+use Rattle.std.proofs.Common.{Option, Bool, true, false, cond, length, refl, sym, ◌∙◌, ap, arith}
+use Rattle.std.proofs.Common.{append_assoc}
 use Rattle.std.specs.Prelude.{IsTrue, nat_lt, ◌&&◌}
 use Rattle.std.proofs.lemmas.Bool.{ltb-true}
-use Rattle.lang_core.specs.Grammar.{is_short_language, is_long_language, is_extlang, is_script, is_region, is_variant, is_x, is_singleton, is_extension_piece, is_private_piece, AreAll, IsAtMostOne, IsPrivate, IsLanguage, AreExtensions, IsMaybePrivate, IsLangtag}
-use Rattle.lang_core.specs.Stage.{private_stage, extension_stage, variant_stage, region_stage, script_stage, language_stage, start_stage, accepts}
+use Rattle.lang_core.specs.Grammar.{is_short_language, is_long_language, is_extlang, is_script}
+use Rattle.lang_core.specs.Grammar.{is_region, is_variant, is_x, is_singleton, is_extension_piece}
+use Rattle.lang_core.specs.Grammar.{is_private_piece, AreAll, IsAtMostOne, IsPrivate, IsLanguage}
+use Rattle.lang_core.specs.Grammar.{AreExtensions, IsMaybePrivate, IsLangtag}
+use Rattle.lang_core.specs.Stage.{private_stage, extension_stage, variant_stage, region_stage}
+use Rattle.lang_core.specs.Stage.{script_stage, language_stage, start_stage, accepts}
 use Rattle.lang_core.specs.declared.stage.Stage.{Stage}
-use Rattle.lang_core.specs.declared.stage.Stage.TheVariants.{Start, Language, Script, Variants, Singleton, Extension, PrivateStart, Private}
+use Rattle.lang_core.specs.declared.stage.Stage.TheVariants.{Start, Language, Script, Variants}
+use Rattle.lang_core.specs.declared.stage.Stage.TheVariants.{Singleton, Extension, PrivateStart}
+use Rattle.lang_core.specs.declared.stage.Stage.TheVariants.{Private}
 use Rattle.lang_core.proofs.Basics.{each_true, both, or_left, or_right}
 
 -- ---- what may follow each stage

@@ -1,11 +1,13 @@
 -- What is kept of a subtag.
-use Rattle.std.proofs.Common.{ℕ, ◌≡◌, ◌≤◌, ◌<◌, List, [], ◌∷◌, Bool, true, false, length, refl, sym, ◌∙◌, ap, arith}
+use Rattle.std.proofs.Common.{ℕ, ◌≡◌, ◌≤◌, ◌<◌, List, [], ◌∷◌, Bool, true, false, length, refl, sym}
+use Rattle.std.proofs.Common.{◌∙◌, ap, arith}
 use Rattle.std.specs.Prelude.{nat_le, ◌&&◌, zero, suc}
 use Rattle.std.specs.List.{list_all}
 use Rattle.std.specs.Char.{to_ascii_lowercase, is_ascii_alphanumeric}
 use Rattle.std.specs.Str.{str_to_ascii_lowercase}
 use Rattle.std.proofs.lemmas.List.{length-map}
-use Rattle.lang_core.specs.Grammar.{is_run, is_letter, is_digit, is_alphanum, is_private_piece, basic_piece}
+use Rattle.lang_core.specs.Grammar.{is_run, is_letter, is_digit, is_alphanum, is_private_piece}
+use Rattle.lang_core.specs.Grammar.{basic_piece}
 use Rattle.lang_core.proofs.Basics.{both, each_true, is_false, is_le, or_left}
 use Rattle.lang_core.proofs.CaseLaws.{alphanums-lower}
 use Rattle.lang_core.proofs.Classes.{run_of}

@@ -1,10 +1,13 @@
 -- Truncation by its steps.
-use Rattle.std.proofs.Common.{ℕ, ◌≡◌, ◌<◌, ◌+◌, ◌⊎◌, inl, inr, List, [], ◌∷◌, ◌++◌, Bool, true, false, cond, length, refl, sym, ◌∙◌, ap, subst, arith}
+use Rattle.std.proofs.Common.{ℕ, ◌≡◌, ◌<◌, ◌+◌, ◌⊎◌, inl, inr, List, [], ◌∷◌, ◌++◌, Bool, true}
+use Rattle.std.proofs.Common.{false, cond, length, refl, sym, ◌∙◌, ap, subst, arith}
 use Rattle.std.specs.Prelude.{zero, suc, ◌&&◌}
 use Rattle.std.specs.List.{list_all}
 use Rattle.std.proofs.lemmas.List.Folds.{list_all-append}
 use Rattle.lang_core.specs.Grammar.{BasicRange, basic_piece, are_allowed, is_star}
-use Rattle.lang_core.specs.Candidates.{is_single, is_cut, last_of, truncated, candidates, without_last, without_last_singles, shortened, candidates_left}
+use Rattle.lang_core.specs.Candidates.{is_single, is_cut, last_of, truncated, candidates}
+use Rattle.lang_core.specs.Candidates.{without_last, without_last_singles, shortened}
+use Rattle.lang_core.specs.Candidates.{candidates_left}
 use Rattle.lang_core.proofs.Basics.{cases_bool, each_true, both, and_false}
 use Rattle.lang_core.proofs.CandidateLaws.{truncated_one, truncated_push, is_cut_one, is_cut_push}
 use Rattle.lang_core.proofs.LookupLaws.{no_star}

@@ -1,4 +1,5 @@
-use Rattle.std.specs.Prelude.{ℕ, ◌-◌, ◌||◌, not, zero, suc, Bool, true, List, [], ◌∷◌, length, take, filter, if◌then◌else◌}
+use Rattle.std.specs.Prelude.{ℕ, ◌-◌, ◌||◌, not, zero, suc, Bool, true, List, [], ◌∷◌, length, take}
+use Rattle.std.specs.Prelude.{filter, if◌then◌else◌}
 use Rattle.std.specs.List.{list_all}
 use Rattle.lang_core.specs.Grammar.{is_alphanum, is_run, is_star}
 

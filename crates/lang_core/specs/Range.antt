@@ -4,7 +4,8 @@ use Rattle.lang_core.specs.Grammar.{IsFirstRefused}
 use Rattle.lang_core.specs.LowerText.{TakesMemory}
 use Rattle.lang_core.specs.LookupText.{HasOtherText}
 use Rattle.lang_core.specs.declared.fault.LangFault.{LangFault}
-use Rattle.lang_core.specs.declared.fault.LangFault.TheVariants.{RangeEmpty, RangeTooLong, RangeSubtag, NoMemory}
+use Rattle.lang_core.specs.declared.fault.LangFault.TheVariants.{RangeEmpty, RangeTooLong}
+use Rattle.lang_core.specs.declared.fault.LangFault.TheVariants.{RangeSubtag, NoMemory}
 
 -- a text in lower case is a range of a grammar, which says which pieces may stand where
 abbrev pub IsRange : (List (List ℕ) → Type 0) → List ℕ → Type 0

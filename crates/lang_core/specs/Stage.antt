@@ -1,7 +1,12 @@
-use Rattle.std.specs.Prelude.{ℕ, ◌-◌, ◌&&◌, nat_lt, Bool, true, false, List, [], ◌∷◌, Option, Some, None, if◌then◌else◌}
-use Rattle.lang_core.specs.Grammar.{is_short_language, is_long_language, is_extlang, is_script, is_region, is_variant, is_x, is_singleton, is_extension_piece, is_private_piece}
+use Rattle.std.specs.Prelude.{ℕ, ◌-◌, ◌&&◌, nat_lt, Bool, true, false, List, [], ◌∷◌, Option, Some}
+use Rattle.std.specs.Prelude.{None, if◌then◌else◌}
+use Rattle.lang_core.specs.Grammar.{is_short_language, is_long_language, is_extlang, is_script}
+use Rattle.lang_core.specs.Grammar.{is_region, is_variant, is_x, is_singleton, is_extension_piece}
+use Rattle.lang_core.specs.Grammar.{is_private_piece}
 use Rattle.lang_core.specs.declared.stage.Stage.{Stage}
-use Rattle.lang_core.specs.declared.stage.Stage.TheVariants.{Start, Language, Script, Variants, Singleton, Extension, PrivateStart, Private}
+use Rattle.lang_core.specs.declared.stage.Stage.TheVariants.{Start, Language, Script, Variants}
+use Rattle.lang_core.specs.declared.stage.Stage.TheVariants.{Singleton, Extension, PrivateStart}
+use Rattle.lang_core.specs.declared.stage.Stage.TheVariants.{Private}
 
 abbrev pub private_stage : List ℕ → Option Stage
 private_stage s = if is_x s then Some PrivateStart else None

@@ -3,7 +3,10 @@ use Rattle.lang_core.specs.Text.{pieces, IsSized}
 use Rattle.lang_core.specs.LowerText.{TakesMemory}
 use Rattle.lang_core.specs.Grammar.{WellFormed, are_allowed, IsFirstRefused, tag_piece}
 use Rattle.lang_core.specs.declared.fault.LangFault.{LangFault}
-use Rattle.lang_core.specs.declared.fault.LangFault.TheVariants.{TagEmpty, TagTooLong, TagSubtag, TagNotWellFormed, RangeEmpty, RangeTooLong, RangeSubtag, NoMemory}
+use Rattle.lang_core.specs.declared.fault.LangFault.TheVariants.{TagEmpty, TagTooLong, TagSubtag}
+use Rattle.lang_core.specs.declared.fault.LangFault.TheVariants.{TagNotWellFormed, RangeEmpty}
+use Rattle.lang_core.specs.declared.fault.LangFault.TheVariants.{RangeTooLong, RangeSubtag}
+use Rattle.lang_core.specs.declared.fault.LangFault.TheVariants.{NoMemory}
 
 -- each piece of the text is 1 to 8 letters or digits
 abbrev pub HasSubtags : List ℕ → Type 0

@@ -4,7 +4,8 @@ ghost use Rattle.lang_core.specs.Text.{pieces};
 ghost use Rattle.lang_core.specs.Tag.{IsTag};
 ghost use Rattle.lang_core.specs.Grammar.{BasicRange, ExtendedRange, IsFirstRefused};
 ghost use Rattle.lang_core.specs.Lang.{none_text};
-ghost use Rattle.lang_core.specs.Matching.{Basic, BasicInBytes, Embeds, greedy, is_basic_match, without_stars, as_basic};
+ghost use Rattle.lang_core.specs.Matching.{Basic, BasicInBytes, Embeds, greedy, is_basic_match};
+ghost use Rattle.lang_core.specs.Matching.{without_stars, as_basic};
 ghost use Rattle.lang_core.specs.Candidates.{candidates, candidates_left, shortened};
 
 /// A range's subtags other than "*" embed in a tag's exactly where pairing them greedily succeeds

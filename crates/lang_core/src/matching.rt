@@ -1,11 +1,13 @@
 //! Basic and extended filtering of texts (RFC 4647 sections 3.3.1 and 3.3.2).
-ghost use Rattle.std.specs.Prelude.{◌≡◌, false, ◌&&◌, ◌∷◌, ◌↔◌, ◌⊎◌, ◌≤◌, length, IsTrue, List, ℕ, is_some, IfSome, take};
+ghost use Rattle.std.specs.Prelude.{◌≡◌, false, ◌&&◌, ◌∷◌, ◌↔◌, ◌⊎◌, ◌≤◌, length, IsTrue, List, ℕ};
+ghost use Rattle.std.specs.Prelude.{is_some, IfSome, take};
 ghost use Rattle.std.specs.Str.{str_to_ascii_lowercase};
 ghost use Rattle.lang_core.specs.Text.{pieces, subtags};
 ghost use Rattle.lang_core.specs.Fronts.{ends_at, ends_subtag};
 ghost use Rattle.lang_core.specs.Pieces.{pieces_left};
 ghost use Rattle.lang_core.specs.Grammar.{is_star};
-ghost use Rattle.lang_core.specs.Matching.{Basic, IsFront, Extended, greedy, without_stars, specificity};
+ghost use Rattle.lang_core.specs.Matching.{Basic, IsFront, Extended, greedy, without_stars};
+ghost use Rattle.lang_core.specs.Matching.{specificity};
 
 use crate::pieces::{HYPHEN, Pieces};
 use crate::range_syntax::is_star;

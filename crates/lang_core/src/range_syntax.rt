@@ -2,7 +2,8 @@
 ghost use Rattle.std.specs.Prelude.{◌≡◌, ◌≤◌, length, MatchOption, IsTrue};
 ghost use Rattle.std.specs.Str.{str_to_ascii_lowercase};
 ghost use Rattle.lang_core.specs.Text.{subtags};
-ghost use Rattle.lang_core.specs.Grammar.{are_allowed, IsFirstRefused, basic_piece, extended_piece, is_star, BasicRange, ExtendedRange};
+ghost use Rattle.lang_core.specs.Grammar.{are_allowed, IsFirstRefused, basic_piece, extended_piece};
+ghost use Rattle.lang_core.specs.Grammar.{is_star, BasicRange, ExtendedRange};
 
 use crate::pieces::{HYPHEN, Pieces};
 use crate::subtag::Subtag;

@@ -1,8 +1,12 @@
 //! Subtags, and which kinds of the grammar each of them is (RFC 5646 section 2.1).
-ghost use Rattle.std.specs.Prelude.{◌≡◌, ◌≤◌, IsTrue, MatchOption, take, ◌&&◌, nat_le, length, sum_by, false};
+ghost use Rattle.std.specs.Prelude.{◌≡◌, ◌≤◌, IsTrue, MatchOption, take, ◌&&◌, nat_le, length};
+ghost use Rattle.std.specs.Prelude.{sum_by, false};
 ghost use Rattle.std.specs.List.{list_any};
 ghost use Rattle.std.specs.Str.{str_to_ascii_lowercase};
-ghost use Rattle.lang_core.specs.Grammar.{is_letter, is_digit, is_alphanum, is_run, is_short_language, is_long_language, is_extlang, is_script, is_region, is_variant, is_x, is_singleton, is_extension_piece, is_private_piece};
+ghost use Rattle.lang_core.specs.Grammar.{is_letter, is_digit, is_alphanum, is_run};
+ghost use Rattle.lang_core.specs.Grammar.{is_short_language, is_long_language, is_extlang};
+ghost use Rattle.lang_core.specs.Grammar.{is_script, is_region, is_variant, is_x, is_singleton};
+ghost use Rattle.lang_core.specs.Grammar.{is_extension_piece, is_private_piece};
 ghost use Rattle.lang_core.specs.Subtag.{class_of};
 
 use std::marker::Model;

@@ -1,5 +1,6 @@
 //! A range truncated for lookup (RFC 4647 section 3.4).
-ghost use Rattle.std.specs.Prelude.{◌≡◌, ◌≢◌, ◌<◌, ◌++◌, ◌∷◌, ◌||◌, [], ℕ, List, length, slice_index, MatchOption, IfSome};
+ghost use Rattle.std.specs.Prelude.{◌≡◌, ◌≢◌, ◌<◌, ◌++◌, ◌∷◌, ◌||◌, [], ℕ, List, length};
+ghost use Rattle.std.specs.Prelude.{slice_index, MatchOption, IfSome};
 ghost use Rattle.std.specs.Iterator.{YieldsFirstBy, item_count};
 ghost use Rattle.lang_core.specs.Text.{pieces};
 ghost use Rattle.lang_core.specs.Grammar.{is_star};

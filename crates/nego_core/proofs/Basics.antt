@@ -1,11 +1,15 @@
 -- Small facts on tests, options and list places.
-use Rattle.std.proofs.Common.{ℕ, ◌≡◌, ◌<◌, ◌+◌, ◌⊎◌, inl, inr, List, [], ◌∷◌, Option, Some, None, Bool, true, false, cond, length, get_or, drop, refl, sym, ◌∙◌, ap, subst, arith, drop-cons, add-one}
-use Rattle.std.specs.Prelude.{Result, Ok, Err, IfOk, All, AllPairs, Contains, map, filter, not, zero, suc}
+use Rattle.std.proofs.Common.{ℕ, ◌≡◌, ◌<◌, ◌+◌, ◌⊎◌, inl, inr, List, [], ◌∷◌, Option, Some, None}
+use Rattle.std.proofs.Common.{Bool, true, false, cond, length, get_or, drop, refl, sym, ◌∙◌, ap}
+use Rattle.std.proofs.Common.{subst, arith, drop-cons, add-one}
+use Rattle.std.specs.Prelude.{Result, Ok, Err, IfOk, All, AllPairs, Contains, map, filter, not}
+use Rattle.std.specs.Prelude.{zero, suc}
 use Rattle.std.proofs.lemmas.List.{length-map, get_or-map}
 use Rattle.std.specs.List.{slice_get}
 use Rattle.std.proofs.lemmas.Bool.{cases_Bool}
 use Rattle.std.proofs.lemmas.List.Elements.{All-nil, All-cons, All-head, All-tail, Contains-get_or}
-use Rattle.std.proofs.lemmas.Option.{slice_get_read, slice_get-get_or, slice_get_within, get_or_from_slice_get}
+use Rattle.std.proofs.lemmas.Option.{slice_get_read, slice_get-get_or, slice_get_within}
+use Rattle.std.proofs.lemmas.Option.{get_or_from_slice_get}
 use Rattle.nego_core.specs.Basics.{IsTheOne}
 
 pub false_true : false ≡ true → ⊥

@@ -1,21 +1,28 @@
 -- Items in chains.
-use Rattle.std.proofs.Common.{ℕ, ◌≡◌, ◌≤◌, ◌<◌, ◌+◌, List, [], ◌∷◌, ◌++◌, Option, Some, None, Bool, true, false, inl, inr, length, get_or, refl, sym, ◌∙◌, ap, subst, arith}
+use Rattle.std.proofs.Common.{ℕ, ◌≡◌, ◌≤◌, ◌<◌, ◌+◌, List, [], ◌∷◌, ◌++◌, Option, Some, None, Bool}
+use Rattle.std.proofs.Common.{true, false, inl, inr, length, get_or, refl, sym, ◌∙◌, ap, subst}
+use Rattle.std.proofs.Common.{arith}
 use Rattle.std.specs.Prelude.{Contains, slice_set, replicate, zero, suc}
 use Rattle.std.specs.List.{slice_get}
 use Rattle.std.specs.Str.{bytes_eq}
 use Rattle.std.proofs.lemmas.Bool.{cases_Bool, cases_lt, cases_eq}
-use Rattle.std.proofs.lemmas.List.{length-replicate, get_or-replicate, length_push, get_or_append_left, get_or-append-add, length-set, get_or-set_same, get_or-set_other}
+use Rattle.std.proofs.lemmas.List.{length-replicate, get_or-replicate, length_push}
+use Rattle.std.proofs.lemmas.List.{get_or_append_left, get_or-append-add, length-set}
+use Rattle.std.proofs.lemmas.List.{get_or-set_same, get_or-set_other}
 use Rattle.std.proofs.lemmas.Option.{slice_get_within}
 use Rattle.lang_core.specs.Text.{pieces}
 use Rattle.lang_core.specs.Grammar.{is_star}
 use Rattle.lang_core.specs.Matching.{Embeds, Extended, without_stars, specificity}
-use Rattle.nego_core.proofs.Basics.{false_true, contains_first, contains_later, contains_cases, same_at}
-use Rattle.nego_core.proofs.MostSpecificLaws.{best_same, better_joins, Before, passed, newest, passed_to, all_before}
+use Rattle.nego_core.proofs.Basics.{false_true, contains_first, contains_later, contains_cases}
+use Rattle.nego_core.proofs.Basics.{same_at}
+use Rattle.nego_core.proofs.MostSpecificLaws.{best_same, better_joins, Before, passed, newest}
+use Rattle.nego_core.proofs.MostSpecificLaws.{passed_to, all_before}
 use Rattle.nego_core.specs.Deciding.{IsBest, better_of, is_above}
 use Rattle.nego_core.specs.declared.deciding.MostSpecific.{MostSpecific}
 use Rattle.nego_core.specs.Item.{Item}
 use Rattle.nego_core.specs.Fingerprint.{IsTableOf}
-use Rattle.nego_core.specs.Chains.{chain_of, MayStandIn, AreNumbers, IsNextIn, AreLinksFrom, AreLinked, StandsIn, StandsAmong}
+use Rattle.nego_core.specs.Chains.{chain_of, MayStandIn, AreNumbers, IsNextIn, AreLinksFrom}
+use Rattle.nego_core.specs.Chains.{AreLinked, StandsIn, StandsAmong}
 use Rattle.nego_core.specs.declared.chains.Chains.{Chains}
 
 -- ---- what a range that matches has, the tag has

@@ -1,5 +1,6 @@
 -- The deciding item.
-use Rattle.std.proofs.Common.{ℕ, ◌≡◌, ◌≤◌, ◌<◌, ◌+◌, ◌⊎◌, List, [], ◌∷◌, true, inl, inr, refl, sym, ◌∙◌, ap, subst, arith, length, get_or, take, length-take-le}
+use Rattle.std.proofs.Common.{ℕ, ◌≡◌, ◌≤◌, ◌<◌, ◌+◌, ◌⊎◌, List, [], ◌∷◌, true, inl, inr, refl, sym}
+use Rattle.std.proofs.Common.{◌∙◌, ap, subst, arith, length, get_or, take, length-take-le}
 use Rattle.std.specs.Prelude.{Option, Some, None, MatchOption, IsSomeAnd}
 use Rattle.std.proofs.lemmas.Bool.{cases_lt, cases_order, cases_Bool}
 use Rattle.std.proofs.lemmas.Option.{slice_get_within}
@@ -9,11 +10,14 @@ use Rattle.lang_core.specs.Matching.{Basic}
 use Rattle.std.specs.Str.{bytes_eq}
 use Rattle.std.proofs.lemmas.Slice.Eq.{bytes_eq-Decides}
 use Rattle.nego_core.proofs.Basics.{same_at, stands_at}
-use Rattle.nego_core.proofs.Prefixes.{IsTextFront, joined-pieces, star_pieces, front_of_text, text_of_front, front_within, front_is_take, take_is_front}
+use Rattle.nego_core.proofs.Prefixes.{IsTextFront, joined-pieces, star_pieces, front_of_text}
+use Rattle.nego_core.proofs.Prefixes.{text_of_front, front_within, front_is_take, take_is_front}
 use Rattle.nego_core.proofs.MostSpecificLaws.{best_same, better_joins}
 use Rattle.nego_core.specs.Item.{Item}
 use Rattle.nego_core.specs.Basics.{IsTheOne}
-use Rattle.nego_core.specs.Deciding.{better_of, IsBestOf, IsBest, Matches, IsMostSpecific, IsDeciding, IsDecidedBy, IsDecidingWeight, DecidesLang, IsAny, MatchesNamed}
+use Rattle.nego_core.specs.Deciding.{better_of, IsBestOf, IsBest, Matches, IsMostSpecific}
+use Rattle.nego_core.specs.Deciding.{IsDeciding, IsDecidedBy, IsDecidingWeight, DecidesLang, IsAny}
+use Rattle.nego_core.specs.Deciding.{MatchesNamed}
 use Rattle.nego_core.specs.declared.deciding.MostSpecific.{MostSpecific}
 use Rattle.nego_core.specs.declared.deciding.Decision.{Decision}
 use Rattle.nego_core.specs.declared.scheme.Scheme.{Scheme}

@@ -1,5 +1,6 @@
 -- What a malformed element says of the whole field.
-use Rattle.std.proofs.Common.{ℕ, ◌≡◌, ◌<◌, ◌≤◌, ◌+◌, List, [], ◌∷◌, ◌++◌, inl, inr, length, sum_by, refl, sym, ◌∙◌, ap, subst, arith}
+use Rattle.std.proofs.Common.{ℕ, ◌≡◌, ◌<◌, ◌≤◌, ◌+◌, List, [], ◌∷◌, ◌++◌, inl, inr, length, sum_by}
+use Rattle.std.proofs.Common.{refl, sym, ◌∙◌, ap, subst, arith}
 use Rattle.std.specs.List.{prefix_len}
 use Rattle.std.specs.Prelude.{All, Result, Ok, Err, MatchResult}
 use Rattle.nego_core.specs.declared.fault.NegoFault.{NegoFault}
@@ -12,7 +13,8 @@ use Rattle.nego_core.specs.declared.scheme.Scheme.TheVariants.{Basic, Extended}
 use Rattle.nego_core.specs.Item.{Item}
 use Rattle.nego_core.specs.Blanks.{is_blank, AreBlanks}
 use Rattle.nego_core.specs.Element.{IsPadded}
-use Rattle.nego_core.specs.Field.{ArePieces, IsField, IsFirstMalformed, IsOfOneKind, HasElement, RefusesField}
+use Rattle.nego_core.specs.Field.{ArePieces, IsField, IsFirstMalformed, IsOfOneKind, HasElement}
+use Rattle.nego_core.specs.Field.{RefusesField}
 use Rattle.nego_core.specs.declared.scheme.Scheme.{Scheme}
 use Rattle.nego_core.specs.declared.field.Malformed.{Malformed}
 use Rattle.nego_core.specs.declared.field.Malformed.TheVariants.{Refused}

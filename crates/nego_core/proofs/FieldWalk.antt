@@ -1,5 +1,6 @@
 -- A walk from piece to piece of a field.
-use Rattle.std.proofs.Common.{ℕ, ◌≡◌, ◌<◌, ◌+◌, ◌-◌, inl, inr, List, [], ◌∷◌, ◌++◌, length, sum_by, refl, sym, ◌∙◌, ap, subst, arith, append_assoc, append-nil}
+use Rattle.std.proofs.Common.{ℕ, ◌≡◌, ◌<◌, ◌+◌, ◌-◌, inl, inr, List, [], ◌∷◌, ◌++◌, length, sum_by}
+use Rattle.std.proofs.Common.{refl, sym, ◌∙◌, ap, subst, arith, append_assoc, append-nil}
 use Rattle.std.specs.List.{prefix_len}
 use Rattle.std.proofs.lemmas.Bool.{cases_Bool}
 use Rattle.std.proofs.lemmas.List.Sums.{sum_by-append}
@@ -8,7 +9,8 @@ use Rattle.nego_core.proofs.WeightLaws.{skip_only, trimmed}
 use Rattle.nego_core.proofs.ElementLaws.{start_of_padded, start_some, padded_of_start}
 use Rattle.nego_core.specs.Blanks.{is_blank, AreBlanks, skip_blanks}
 use Rattle.nego_core.specs.Element.{IsPadded, IsStart, HasStart}
-use Rattle.nego_core.specs.Field.{GivesNone, ArePieces, IsField, IsReadTo, IsFirstMalformed, HasElement}
+use Rattle.nego_core.specs.Field.{GivesNone, ArePieces, IsField, IsReadTo, IsFirstMalformed}
+use Rattle.nego_core.specs.Field.{HasElement}
 use Rattle.nego_core.specs.Item.{Item}
 use Rattle.nego_core.specs.declared.scheme.Scheme.{Scheme}
 use Rattle.nego_core.specs.declared.field.Malformed.{Malformed}

@@ -1,8 +1,11 @@
 -- Keys of the languages, and their order.
-use Rattle.std.proofs.Common.{ℕ, ◌≡◌, ◌+◌, ◌-◌, ◌<◌, ◌≤◌, inl, inr, take, length-take-le, take-suc, List, [], ◌∷◌, ◌++◌, refl, sym, ◌∙◌, ap, subst, arith, length, get_or, add-one}
+use Rattle.std.proofs.Common.{ℕ, ◌≡◌, ◌+◌, ◌-◌, ◌<◌, ◌≤◌, inl, inr, take, length-take-le, take-suc}
+use Rattle.std.proofs.Common.{List, [], ◌∷◌, ◌++◌, refl, sym, ◌∙◌, ap, subst, arith, length, get_or}
+use Rattle.std.proofs.Common.{add-one}
 use Rattle.std.specs.Prelude.{map, IsSorted, IsPermutation}
 use Rattle.std.proofs.lemmas.List.{length-map, get_or-map, map-append}
-use Rattle.nego_core.specs.Filtering.{filter_key_cmp, IsFiltered, IsKey, HasNoKey, AreKeys, pick_of, Key, key_cmp, key_of}
+use Rattle.nego_core.specs.Filtering.{filter_key_cmp, IsFiltered, IsKey, HasNoKey, AreKeys, pick_of}
+use Rattle.nego_core.specs.Filtering.{Key, key_cmp, key_of}
 use Rattle.nego_core.specs.Deciding.{DecidesLang}
 use Rattle.nego_core.specs.Item.{Item}
 use Rattle.std.proofs.lemmas.List.Sorted.{IsPermutation-map}
@@ -11,11 +14,13 @@ use Rattle.nego_core.specs.declared.scheme.Scheme.{Scheme}
 use Rattle.nego_core.proofs.DecidingLaws.{one_decision}
 use Rattle.nego_core.specs.declared.filtering.FilterKey.{FilterKey}
 
-key_in : (x : FilterKey) (xs : List FilterKey) (k : ℕ) (d : Key) → k < length xs → get_or (map key_of xs) k d ≡ key_of (get_or xs k x)
+key_in : (x : FilterKey) (xs : List FilterKey) (k : ℕ) (d : Key) → k < length xs
+    → get_or (map key_of xs) k d ≡ key_of (get_or xs k x)
 key_in x xs k d h = get_or-map key_of xs k x d h
 
 -- filter_keys in order have keys in order
-pub sorted_keys : (xs : List FilterKey) → IsSorted filter_key_cmp xs → IsSorted key_cmp (map key_of xs)
+pub sorted_keys : (xs : List FilterKey) → IsSorted filter_key_cmp xs
+    → IsSorted key_cmp (map key_of xs)
 sorted_keys [] h = λ k d low lt. absurd (omega arith)
 sorted_keys (x ∷ xs) h = λ k d low lt.
     let size : length (map key_of (x ∷ xs)) ≡ length (x ∷ xs) = simp length-map in
@@ -25,7 +30,9 @@ sorted_keys (x ∷ xs) h = λ k d low lt.
 
 -- ---- the keys of the languages so far
 
-push_none : (scheme : Scheme) (items : List Item) (from : ℕ) (tags : List (List ℕ)) (keys : List Key) (tag : List ℕ) → AreKeys scheme items from tags keys → HasNoKey scheme items tag (from + length tags) → AreKeys scheme items from (tags ++ tag ∷ []) keys
+push_none : (scheme : Scheme) (items : List Item) (from : ℕ) (tags : List (List ℕ)) (keys : List Key) (tag : List ℕ)
+    → AreKeys scheme items from tags keys → HasNoKey scheme items tag (from + length tags)
+    → AreKeys scheme items from (tags ++ tag ∷ []) keys
 push_none scheme items from [] [] tag a h = (subst (HasNoKey scheme items tag) (omega arith) h, tt)
 push_none scheme items from [] (k ∷ keys) tag a h = absurd a
 push_none scheme items from (t ∷ tags) [] tag a h = (a.0, push_none scheme items (from + 1) tags [] tag a.1 (subst (HasNoKey scheme items tag) (omega arith) h))
@@ -34,7 +41,9 @@ push_none scheme items from (t ∷ tags) (k ∷ keys) tag a h = elim a [
   | inr x ↦ inr (x.0, push_none scheme items (from + 1) tags keys tag x.1 (subst (HasNoKey scheme items tag) (omega arith) h))
 ]
 
-push_key : (scheme : Scheme) (items : List Item) (from : ℕ) (tags : List (List ℕ)) (keys : List Key) (tag : List ℕ) (key : Key) → AreKeys scheme items from tags keys → IsKey scheme items tag (from + length tags) key → AreKeys scheme items from (tags ++ tag ∷ []) (keys ++ key ∷ [])
+push_key : (scheme : Scheme) (items : List Item) (from : ℕ) (tags : List (List ℕ)) (keys : List Key) (tag : List ℕ) (key : Key)
+    → AreKeys scheme items from tags keys → IsKey scheme items tag (from + length tags) key
+    → AreKeys scheme items from (tags ++ tag ∷ []) (keys ++ key ∷ [])
 push_key scheme items from [] [] tag key a h = inr (subst (λ (n : ℕ). IsKey scheme items tag n key) (omega arith) h, tt)
 push_key scheme items from [] (k ∷ keys) tag key a h = absurd a
 push_key scheme items from (t ∷ tags) [] tag key a h = inl (a.0, push_key scheme items (from + 1) tags [] tag key a.1 (subst (λ (n : ℕ). IsKey scheme items tag n key) (omega arith) h))
@@ -43,21 +52,31 @@ push_key scheme items from (t ∷ tags) (k ∷ keys) tag key a h = elim a [
   | inr x ↦ inr (x.0, push_key scheme items (from + 1) tags keys tag key x.1 (subst (λ (n : ℕ). IsKey scheme items tag n key) (omega arith) h))
 ]
 
-pub take_next : (tags : List (List ℕ)) (k : ℕ) (t : List ℕ) → k < length tags → t ≡ get_or tags k t → take (k + 1) tags ≡ take k tags ++ t ∷ []
+pub take_next : (tags : List (List ℕ)) (k : ℕ) (t : List ℕ) → k < length tags → t ≡ get_or tags k t
+    → take (k + 1) tags ≡ take k tags ++ t ∷ []
 take_next tags k t low e = rw (add-one, take-suc tags k t low) (ap (λ (x : List ℕ). take k tags ++ x ∷ []) (sym e))
 
-pub text_within : {X : Type 0} (text : X → List ℕ) (langs : List X) (k : ℕ) → k < length langs → k < length (map text langs)
+pub text_within : {X : Type 0} (text : X → List ℕ) (langs : List X) (k : ℕ) → k < length langs
+    → k < length (map text langs)
 text_within text langs k low = let size : length (map text langs) ≡ length langs = simp length-map in omega arith
 
-pub text_at : {X : Type 0} (text : X → List ℕ) (langs : List X) (k : ℕ) (l : X) → k < length langs → l ≡ get_or langs k l → text l ≡ get_or (map text langs) k (text l)
+pub text_at : {X : Type 0} (text : X → List ℕ) (langs : List X) (k : ℕ) (l : X) → k < length langs
+    → l ≡ get_or langs k l → text l ≡ get_or (map text langs) k (text l)
 text_at text langs k l low e = ap text e ∙ sym (get_or-map text langs k l (text l) low)
 
-pub none_next : (scheme : Scheme) (items : List Item) (tags : List (List ℕ)) (k : ℕ) (t : List ℕ) (filter_keys : List FilterKey) → k < length tags → t ≡ get_or tags k t → AreKeys scheme items 0 (take k tags) (map key_of filter_keys) → HasNoKey scheme items t k → AreKeys scheme items 0 (take (k + 1) tags) (map key_of filter_keys)
+pub none_next : (scheme : Scheme) (items : List Item) (tags : List (List ℕ)) (k : ℕ) (t : List ℕ) (filter_keys : List FilterKey)
+    → k < length tags → t ≡ get_or tags k t
+    → AreKeys scheme items 0 (take k tags) (map key_of filter_keys) → HasNoKey scheme items t k
+    → AreKeys scheme items 0 (take (k + 1) tags) (map key_of filter_keys)
 none_next scheme items tags k t filter_keys low e a h =
     let size : length (take k tags) ≡ k = length-take-le k tags (omega arith) in
     subst (λ (x : List (List ℕ)). AreKeys scheme items 0 x (map key_of filter_keys)) (sym (take_next tags k t low e)) (push_none scheme items 0 (take k tags) (map key_of filter_keys) t a (subst (HasNoKey scheme items t) (omega arith) h))
 
-pub key_next : (scheme : Scheme) (items : List Item) (tags : List (List ℕ)) (k : ℕ) (t : List ℕ) (filter_keys : List FilterKey) (r : FilterKey) → k < length tags → t ≡ get_or tags k t → AreKeys scheme items 0 (take k tags) (map key_of filter_keys) → IsKey scheme items t k (key_of r) → AreKeys scheme items 0 (take (k + 1) tags) (map key_of (filter_keys ++ r ∷ []))
+pub key_next : (scheme : Scheme) (items : List Item) (tags : List (List ℕ)) (k : ℕ) (t : List ℕ) (filter_keys : List FilterKey) (r : FilterKey)
+    → k < length tags → t ≡ get_or tags k t
+    → AreKeys scheme items 0 (take k tags) (map key_of filter_keys)
+    → IsKey scheme items t k (key_of r)
+    → AreKeys scheme items 0 (take (k + 1) tags) (map key_of (filter_keys ++ r ∷ []))
 key_next scheme items tags k t filter_keys r low e a h =
     let size : length (take k tags) ≡ k = length-take-le k tags (omega arith) in
     subst (λ (x : List (List ℕ)). AreKeys scheme items 0 x (map key_of (filter_keys ++ r ∷ []))) (sym (take_next tags k t low e))
@@ -68,10 +87,12 @@ key_next scheme items tags k t filter_keys r low e a h =
 pub has_key : (scheme : Scheme) (items : List Item) (lang : List ℕ) (place item weight : ℕ) (key : Key) → DecidesLang scheme items lang item weight → 0 < weight → key ≡ record { missing_weight = 1000 - weight; item = item; lang = lang; place = place } → IsKey scheme items lang place key
 has_key scheme items lang place item weight key d p e = subst (IsKey scheme items lang place) (sym e) (record { weight = weight; decided = d; positive = p; missing_is = refl; lang_is = refl; place_is = refl })
 
-pub no_decision : (scheme : Scheme) (items : List Item) (lang : List ℕ) (place : ℕ) → ((p weight : ℕ) → ¬ DecidesLang scheme items lang p weight) → HasNoKey scheme items lang place
+pub no_decision : (scheme : Scheme) (items : List Item) (lang : List ℕ) (place : ℕ)
+    → ((p weight : ℕ) → ¬ DecidesLang scheme items lang p weight) → HasNoKey scheme items lang place
 no_decision scheme items lang place h = λ key k. h key.item k.weight k.decided
 
-pub no_weight : (scheme : Scheme) (items : List Item) (lang : List ℕ) (place item weight : ℕ) → DecidesLang scheme items lang item weight → weight ≤ 0 → HasNoKey scheme items lang place
+pub no_weight : (scheme : Scheme) (items : List Item) (lang : List ℕ) (place item weight : ℕ)
+    → DecidesLang scheme items lang item weight → weight ≤ 0 → HasNoKey scheme items lang place
 no_weight scheme items lang place item weight d z = λ key k.
     let same = (one_decision scheme items lang item key.item weight k.weight d k.decided).1 in
     let p = k.positive in
@@ -81,6 +102,9 @@ map_map : (xs : List FilterKey) → map (λ r. pick_of (key_of r)) xs ≡ map pi
 map_map [] = refl
 map_map (x ∷ xs) = ap (λ (ps : List Pick). pick_of (key_of x) ∷ ps) (map_map xs)
 
-pub filtered : (scheme : Scheme) (items : List Item) (tags : List (List ℕ)) (filter_keys sorted : List FilterKey) (picks : List Pick) → AreKeys scheme items 0 tags (map key_of filter_keys) → IsPermutation filter_keys sorted → IsSorted filter_key_cmp sorted → picks ≡ map (λ r. pick_of (key_of r)) sorted → IsFiltered scheme items tags picks
+pub filtered : (scheme : Scheme) (items : List Item) (tags : List (List ℕ)) (filter_keys sorted : List FilterKey) (picks : List Pick)
+    → AreKeys scheme items 0 tags (map key_of filter_keys) → IsPermutation filter_keys sorted
+    → IsSorted filter_key_cmp sorted → picks ≡ map (λ r. pick_of (key_of r)) sorted
+    → IsFiltered scheme items tags picks
 filtered scheme items tags filter_keys sorted picks a same rising p =
     record { all = map key_of filter_keys; keys = map key_of sorted; all_ok = a; each_once = IsPermutation-map key_of filter_keys sorted same; rising = sorted_keys sorted rising; picks_are = p ∙ map_map sorted }

@@ -1,5 +1,6 @@
 -- The places of the items in the order of their ranges' bytes.
-use Rattle.std.proofs.Common.{ℕ, ◌≡◌, ◌≤◌, ◌<◌, ◌+◌, List, [], ◌∷◌, true, false, inl, inr, refl, sym, ◌∙◌, ap, subst, arith, length, get_or}
+use Rattle.std.proofs.Common.{ℕ, ◌≡◌, ◌≤◌, ◌<◌, ◌+◌, List, [], ◌∷◌, true, false, inl, inr, refl}
+use Rattle.std.proofs.Common.{sym, ◌∙◌, ap, subst, arith, length, get_or}
 use Rattle.std.specs.Prelude.{Some, None, All, Contains, IsSorted, IsPermutation, map}
 use Rattle.std.specs.List.{slice_get}
 use Rattle.std.specs.declared.cmp.Ordering.{Ordering}
@@ -9,16 +10,19 @@ use Rattle.std.specs.Cmp.{IsTotalOrder}
 use Rattle.std.specs.Str.{bytes_eq}
 use Rattle.std.specs.Cmp.Lexicographic.{slice_cmp}
 use Rattle.std.proofs.lemmas.Bool.{cases_Bool, cases_lt, cases_order, lt-ltb}
-use Rattle.std.proofs.lemmas.Cmp.{nat_list_cmp_total, nat_cmp_total, on_total, then_total, tied_itself}
+use Rattle.std.proofs.lemmas.Cmp.{nat_list_cmp_total, nat_cmp_total, on_total, then_total}
+use Rattle.std.proofs.lemmas.Cmp.{tied_itself}
 use Rattle.std.proofs.lemmas.Option.{slice_get_within}
 use Rattle.std.proofs.lemmas.Slice.Eq.{bytes_eq-Decides}
 use Rattle.std.proofs.lemmas.List.{length-map, get_or-map}
 use Rattle.std.proofs.lemmas.List.Elements.{All-map, All-weaker}
-use Rattle.std.proofs.lemmas.List.Sorted.{sorted_far, ranks_by, All-permutation, Contains-permutation, IsPermutation-map}
+use Rattle.std.proofs.lemmas.List.Sorted.{sorted_far, ranks_by, All-permutation}
+use Rattle.std.proofs.lemmas.List.Sorted.{Contains-permutation, IsPermutation-map}
 use Rattle.nego_core.proofs.Basics.{false_true, same_default, same_at, stands_at}
 use Rattle.nego_core.proofs.Unique.{text_tied}
 use Rattle.nego_core.specs.Item.{Item}
-use Rattle.nego_core.specs.Index.{text_at, place_cmp, range_key_cmp, IsRangeIndex, IsRangeKeyOf, AreRangeKeys, IsSeat, IsFirstWith, MatchFirst}
+use Rattle.nego_core.specs.Index.{text_at, place_cmp, range_key_cmp, IsRangeIndex, IsRangeKeyOf}
+use Rattle.nego_core.specs.Index.{AreRangeKeys, IsSeat, IsFirstWith, MatchFirst}
 use Rattle.nego_core.specs.declared.index.RangeKey.{RangeKey}
 
 -- ---- texts in order

@@ -1,5 +1,6 @@
 -- Where a range matches, an item decides.
-use Rattle.std.proofs.Common.{ℕ, ◌≡◌, ◌⊎◌, List, [], ◌∷◌, inl, inr, refl, sym, ap, subst, arith, length}
+use Rattle.std.proofs.Common.{ℕ, ◌≡◌, ◌⊎◌, List, [], ◌∷◌, inl, inr, refl, sym, ap, subst, arith}
+use Rattle.std.proofs.Common.{length}
 use Rattle.std.specs.Prelude.{zero, suc, Option, Some, None, Contains}
 use Rattle.std.specs.List.{slice_get}
 use Rattle.std.specs.Str.{bytes_eq}
@@ -11,7 +12,8 @@ use Rattle.lang_core.specs.Matching.{Basic, Extended, specificity, is_basic_matc
 use Rattle.lang_core.proofs.BasicLaw.{basic_of_test, test_of_basic}
 use Rattle.lang_core.proofs.Embedding.{embeds_of_greedy, greedy_of_embeds}
 use Rattle.nego_core.proofs.Basics.{stands_at}
-use Rattle.nego_core.proofs.MostSpecificLaws.{Before, At, none_before, all_before, best_here, none_here, joined_at}
+use Rattle.nego_core.proofs.MostSpecificLaws.{Before, At, none_before, all_before, best_here}
+use Rattle.nego_core.proofs.MostSpecificLaws.{none_here, joined_at}
 use Rattle.nego_core.proofs.DecidingLaws.{most_specific}
 use Rattle.nego_core.specs.Item.{Item}
 use Rattle.nego_core.specs.Deciding.{better_of, IsBest, Matches, IsMostSpecific, IsDeciding}

@@ -1,12 +1,14 @@
 -- What the items other than "*" refuse, said of the list without "*".
-use Rattle.std.proofs.Common.{ℕ, ◌≡◌, ◌≤◌, ◌<◌, List, [], ◌∷◌, Some, Bool, true, false, cond, inl, inr, refl, sym, ◌∙◌, ap, arith}
+use Rattle.std.proofs.Common.{ℕ, ◌≡◌, ◌≤◌, ◌<◌, List, [], ◌∷◌, Some, Bool, true, false, cond, inl}
+use Rattle.std.proofs.Common.{inr, refl, sym, ◌∙◌, ap, arith}
 use Rattle.std.specs.Prelude.{zero, suc, ◌↔◌, if◌then◌else◌}
 use Rattle.std.specs.List.{slice_get}
 use Rattle.std.proofs.lemmas.Bool.{cases_Bool, cases_lt}
 use Rattle.std.proofs.lemmas.Slice.Eq.{bytes_eq-Decides}
 use Rattle.nego_core.proofs.Basics.{false_true, not_true, not_false}
 use Rattle.nego_core.specs.Item.{Item}
-use Rattle.nego_core.specs.Deciding.{IsAny, IsDecidingNamed, NamedRefuse, IsDeciding, IsDecidedBy, is_named, named_items}
+use Rattle.nego_core.specs.Deciding.{IsAny, IsDecidingNamed, NamedRefuse, IsDeciding, IsDecidedBy}
+use Rattle.nego_core.specs.Deciding.{is_named, named_items}
 use Rattle.nego_core.specs.declared.scheme.Scheme.TheVariants as scheme
 
 named_no_any : (i : Item) → is_named i ≡ true → ¬ IsAny i

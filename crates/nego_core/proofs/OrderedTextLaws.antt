@@ -1,5 +1,6 @@
 -- The first bytes of a text as a number tell its order.
-use Rattle.std.proofs.Common.{ℕ, ◌≡◌, ◌≤◌, ◌<◌, ◌+◌, ◌*◌, ◌⊎◌, inl, inr, List, [], ◌∷◌, true, false, get_or, refl, sym, ◌∙◌, ap, arith, w64}
+use Rattle.std.proofs.Common.{ℕ, ◌≡◌, ◌≤◌, ◌<◌, ◌+◌, ◌*◌, ◌⊎◌, inl, inr, List, [], ◌∷◌, true, false}
+use Rattle.std.proofs.Common.{get_or, refl, sym, ◌∙◌, ap, arith, w64}
 use Rattle.std.specs.Prelude.{nat_lt, zero, suc, slice_index}
 use Rattle.std.specs.Int.{from_be_bytes}
 use Rattle.std.specs.Ordering.{nat_cmp, ordering_then, ordering_reverse}

@@ -1,5 +1,6 @@
 -- Texts in rising order, each once.
-use Rattle.std.proofs.Common.{ℕ, ◌≡◌, ◌⊎◌, List, [], ◌∷◌, Bool, inl, inr, refl, sym, ◌∙◌, ap, subst, arith}
+use Rattle.std.proofs.Common.{ℕ, ◌≡◌, ◌⊎◌, List, [], ◌∷◌, Bool, inl, inr, refl, sym, ◌∙◌, ap, subst}
+use Rattle.std.proofs.Common.{arith}
 use Rattle.std.specs.Prelude.{zero, suc, All, AllPairs, Contains, IsTrue, if◌then◌else◌}
 use Rattle.std.specs.Ordering.{nat_cmp, ordering_reverse}
 use Rattle.std.specs.Cmp.Lexicographic.{slice_cmp}
@@ -7,16 +8,20 @@ use Rattle.std.specs.declared.cmp.Ordering.{Ordering}
 use Rattle.std.specs.declared.cmp.Ordering.TheVariants.{Less, Equal, Greater}
 use Rattle.std.proofs.lemmas.Bool.{cases_Bool}
 use Rattle.std.proofs.lemmas.Cmp.{nat_list_cmp_total}
-use Rattle.std.proofs.lemmas.List.Elements.{All-nil, All-cons, All-head, All-tail, All-contains, All-weaker}
+use Rattle.std.proofs.lemmas.List.Elements.{All-nil, All-cons, All-head, All-tail, All-contains}
+use Rattle.std.proofs.lemmas.List.Elements.{All-weaker}
 use Rattle.std.proofs.lemmas.List.Kept.{AllPairs-cons}
 use Rattle.nego_core.proofs.Basics.{contains_cases, contains_first, contains_later}
 use Rattle.nego_core.proofs.Unique.{text_tied}
 use Rattle.nego_core.specs.Widening.{IsBelow}
 
+-- the first text of a rising list is below all others
 pub all_above : (x : List ℕ) (xs : List (List ℕ)) → AllPairs IsBelow (x ∷ xs) → All (IsBelow x) xs
 all_above x xs h = λ k d low. h zero (suc k) d (omega arith) (omega arith)
 
-pub rising_tail : (x : List ℕ) (xs : List (List ℕ)) → AllPairs IsBelow (x ∷ xs) → AllPairs IsBelow xs
+-- what follows the first text of a rising list rises
+pub rising_tail : (x : List ℕ) (xs : List (List ℕ)) → AllPairs IsBelow (x ∷ xs)
+    → AllPairs IsBelow xs
 rising_tail x xs h = λ i j d lt low. h (suc i) (suc j) d (omega arith) (omega arith)
 
 -- of two texts not both are below the other
@@ -40,7 +45,9 @@ abbrev put_in : List ℕ → List (List ℕ) → List (List ℕ)
 put_in x [] = x ∷ []
 put_in x (y ∷ ys) = put_at (slice_cmp nat_cmp x y) x y ys (put_in x ys)
 
-put_from_at : (o : Ordering) (x y z : List ℕ) (ys rest : List (List ℕ)) → (Contains rest z → (x ≡ z) ⊎ Contains ys z) → Contains (put_at o x y ys rest) z → (x ≡ z) ⊎ Contains (y ∷ ys) z
+put_from_at : (o : Ordering) (x y z : List ℕ) (ys rest : List (List ℕ))
+    → (Contains rest z → (x ≡ z) ⊎ Contains ys z) → Contains (put_at o x y ys rest) z
+    → (x ≡ z) ⊎ Contains (y ∷ ys) z
 put_from_at Less x y z ys rest f c = contains_cases x z (y ∷ ys) c
 put_from_at Equal x y z ys rest f c = inr c
 put_from_at Greater x y z ys rest f c = elim (contains_cases y z rest c) [
@@ -52,7 +59,8 @@ put_from : (x z : List ℕ) (ys : List (List ℕ)) → Contains (put_in x ys) z 
 put_from x z [] c = contains_cases x z [] c
 put_from x z (y ∷ ys) c = put_from_at (slice_cmp nat_cmp x y) x y z ys (put_in x ys) (put_from x z ys) c
 
-put_kept_at : (o : Ordering) (x y z : List ℕ) (ys rest : List (List ℕ)) → (Contains ys z → Contains rest z) → Contains (y ∷ ys) z → Contains (put_at o x y ys rest) z
+put_kept_at : (o : Ordering) (x y z : List ℕ) (ys rest : List (List ℕ))
+    → (Contains ys z → Contains rest z) → Contains (y ∷ ys) z → Contains (put_at o x y ys rest) z
 put_kept_at Less x y z ys rest f c = contains_later x z (y ∷ ys) c
 put_kept_at Equal x y z ys rest f c = c
 put_kept_at Greater x y z ys rest f c = elim (contains_cases y z ys c) [
@@ -64,7 +72,8 @@ put_kept : (x z : List ℕ) (ys : List (List ℕ)) → Contains ys z → Contain
 put_kept x z [] c = contains_later x z [] c
 put_kept x z (y ∷ ys) c = put_kept_at (slice_cmp nat_cmp x y) x y z ys (put_in x ys) (put_kept x z ys) c
 
-put_own_at : (o : Ordering) (x y : List ℕ) (ys rest : List (List ℕ)) → slice_cmp nat_cmp x y ≡ o → Contains rest x → Contains (put_at o x y ys rest) x
+put_own_at : (o : Ordering) (x y : List ℕ) (ys rest : List (List ℕ)) → slice_cmp nat_cmp x y ≡ o
+    → Contains rest x → Contains (put_at o x y ys rest) x
 put_own_at Less x y ys rest e c = contains_first x (y ∷ ys)
 put_own_at Equal x y ys rest e c = subst (Contains (y ∷ ys)) (sym (text_tied x y e)) (contains_first y ys)
 put_own_at Greater x y ys rest e c = contains_later y x rest c
@@ -73,32 +82,39 @@ put_own : (x : List ℕ) (ys : List (List ℕ)) → Contains (put_in x ys) x
 put_own x [] = contains_first x []
 put_own x (y ∷ ys) = put_own_at (slice_cmp nat_cmp x y) x y ys (put_in x ys) refl (put_own x ys)
 
-put_all_at : (Q : List ℕ → Type 0) (o : Ordering) (x y : List ℕ) (ys rest : List (List ℕ)) → Q x → All Q (y ∷ ys) → All Q rest → All Q (put_at o x y ys rest)
+put_all_at : (Q : List ℕ → Type 0) (o : Ordering) (x y : List ℕ) (ys rest : List (List ℕ)) → Q x
+    → All Q (y ∷ ys) → All Q rest → All Q (put_at o x y ys rest)
 put_all_at Q Less x y ys rest q h r = All-cons Q x (y ∷ ys) q h
 put_all_at Q Equal x y ys rest q h r = h
 put_all_at Q Greater x y ys rest q h r = All-cons Q y rest (All-head Q y ys h) r
 
-put_all : (Q : List ℕ → Type 0) (x : List ℕ) (ys : List (List ℕ)) → Q x → All Q ys → All Q (put_in x ys)
+put_all : (Q : List ℕ → Type 0) (x : List ℕ) (ys : List (List ℕ)) → Q x → All Q ys
+    → All Q (put_in x ys)
 put_all Q x [] q h = All-cons Q x [] q h
 put_all Q x (y ∷ ys) q h = put_all_at Q (slice_cmp nat_cmp x y) x y ys (put_in x ys) q h (put_all Q x ys q (All-tail Q y ys h))
 
-put_rising_at : (o : Ordering) (x y : List ℕ) (ys rest : List (List ℕ)) → slice_cmp nat_cmp x y ≡ o → AllPairs IsBelow (y ∷ ys) → AllPairs IsBelow rest → (IsBelow y x → All (IsBelow y) rest) → AllPairs IsBelow (put_at o x y ys rest)
+put_rising_at : (o : Ordering) (x y : List ℕ) (ys rest : List (List ℕ)) → slice_cmp nat_cmp x y ≡ o
+    → AllPairs IsBelow (y ∷ ys) → AllPairs IsBelow rest → (IsBelow y x → All (IsBelow y) rest)
+    → AllPairs IsBelow (put_at o x y ys rest)
 put_rising_at Less x y ys rest e h r f =
     AllPairs-cons IsBelow x (y ∷ ys) (All-cons (IsBelow x) y ys e (All-weaker (IsBelow y) (IsBelow x) (λ z l. nat_list_cmp_total.trans x y z e l) ys (all_above y ys h))) h
 put_rising_at Equal x y ys rest e h r f = h
 put_rising_at Greater x y ys rest e h r f = AllPairs-cons IsBelow y rest (f (above x y e)) r
 
-put_rising : (x : List ℕ) (ys : List (List ℕ)) → AllPairs IsBelow ys → AllPairs IsBelow (put_in x ys)
+put_rising : (x : List ℕ) (ys : List (List ℕ)) → AllPairs IsBelow ys
+    → AllPairs IsBelow (put_in x ys)
 put_rising x [] h = AllPairs-cons IsBelow x [] (All-nil (IsBelow x)) h
 put_rising x (y ∷ ys) h =
     put_rising_at (slice_cmp nat_cmp x y) x y ys (put_in x ys) refl h (put_rising x ys (rising_tail y ys h)) (λ l. put_all (IsBelow y) x ys l (all_above y ys h))
 
 -- ---- those that pass a test, in rising order
 
+-- the texts of a list that pass a test, each once, in rising order
 abbrev pub rising_of : (List ℕ → Bool) → List (List ℕ) → List (List ℕ)
 rising_of p [] = []
 rising_of p (x ∷ xs) = if p x then put_in x (rising_of p xs) else rising_of p xs
 
+-- that list rises
 pub rising_is : (p : List ℕ → Bool) (xs : List (List ℕ)) → AllPairs IsBelow (rising_of p xs)
 rising_is p [] = λ i j d lt low. absurd (omega arith)
 rising_is p (x ∷ xs) = elim (cases_Bool (p x)) [
@@ -106,11 +122,13 @@ rising_is p (x ∷ xs) = elim (cases_Bool (p x)) [
   | inr e ↦ rw e (rising_is p xs)
 ]
 
+-- the text passes the test
 abbrev pub IsPassed : (List ℕ → Bool) → List ℕ → Type 0
 IsPassed p x = IsTrue (p x)
 
 -- each is one of the list, and passes
-pub rising_from : (P : List ℕ → Type 0) (p : List ℕ → Bool) (xs : List (List ℕ)) (z : List ℕ) → ((x : List ℕ) → IsPassed p x → P x) → Contains (rising_of p xs) z → Contains xs z × P z
+pub rising_from : (P : List ℕ → Type 0) (p : List ℕ → Bool) (xs : List (List ℕ)) (z : List ℕ)
+    → ((x : List ℕ) → IsPassed p x → P x) → Contains (rising_of p xs) z → Contains xs z × P z
 rising_from P p [] z f c = absurd (let low = c.1 in omega arith)
 rising_from P p (x ∷ xs) z f c = elim (cases_Bool (p x)) [
   | inl e ↦ elim (put_from x z (rising_of p xs) (rw e at c)) [
@@ -121,7 +139,8 @@ rising_from P p (x ∷ xs) z f c = elim (cases_Bool (p x)) [
 ]
 
 -- each of the list that passes is one
-pub rising_has : (p : List ℕ → Bool) (xs : List (List ℕ)) (z : List ℕ) → IsPassed p z → Contains xs z → Contains (rising_of p xs) z
+pub rising_has : (p : List ℕ → Bool) (xs : List (List ℕ)) (z : List ℕ) → IsPassed p z
+    → Contains xs z → Contains (rising_of p xs) z
 rising_has p [] z t c = absurd (let low = c.1 in omega arith)
 rising_has p (x ∷ xs) z t c = elim (contains_cases x z xs c) [
   | inl same ↦ (let e : IsTrue (p x) = subst (IsPassed p) (sym same) t in rw e (subst (Contains (put_in x (rising_of p xs))) same (put_own x (rising_of p xs))))
@@ -133,7 +152,8 @@ rising_has p (x ∷ xs) z t c = elim (contains_cases x z xs c) [
 
 -- ---- one list of these members rises
 
-first_same : (x y : List ℕ) (xs ys : List (List ℕ)) → AllPairs IsBelow (x ∷ xs) → AllPairs IsBelow (y ∷ ys) → Contains (y ∷ ys) x → Contains (x ∷ xs) y → x ≡ y
+first_same : (x y : List ℕ) (xs ys : List (List ℕ)) → AllPairs IsBelow (x ∷ xs)
+    → AllPairs IsBelow (y ∷ ys) → Contains (y ∷ ys) x → Contains (x ∷ xs) y → x ≡ y
 first_same x y xs ys h g c d = elim (contains_cases y x ys c) [
   | inl e ↦ sym e
   | inr a ↦ elim (contains_cases x y xs d) [
@@ -143,13 +163,17 @@ first_same x y xs ys h g c d = elim (contains_cases y x ys c) [
 ]
 
 -- a later one of the first list is a later one of the second
-later_of : (x y z : List ℕ) (xs ys : List (List ℕ)) → x ≡ y → AllPairs IsBelow (x ∷ xs) → Contains xs z → Contains (y ∷ ys) z → Contains ys z
+later_of : (x y z : List ℕ) (xs ys : List (List ℕ)) → x ≡ y → AllPairs IsBelow (x ∷ xs)
+    → Contains xs z → Contains (y ∷ ys) z → Contains ys z
 later_of x y z xs ys e h c d = elim (contains_cases y z ys d) [
   | inl same ↦ absurd (not_itself z (subst (λ (w : List ℕ). IsBelow w z) (e ∙ same) (All-contains (IsBelow x) xs z (all_above x xs h) c)))
   | inr later ↦ later
 ]
 
-pub one_rising : (xs ys : List (List ℕ)) → AllPairs IsBelow xs → AllPairs IsBelow ys → ((z : List ℕ) → Contains xs z → Contains ys z) → ((z : List ℕ) → Contains ys z → Contains xs z) → xs ≡ ys
+-- two rising lists with the same members are one
+pub one_rising : (xs ys : List (List ℕ)) → AllPairs IsBelow xs → AllPairs IsBelow ys
+    → ((z : List ℕ) → Contains xs z → Contains ys z)
+    → ((z : List ℕ) → Contains ys z → Contains xs z) → xs ≡ ys
 one_rising [] [] h g f b = refl
 one_rising [] (y ∷ ys) h g f b = absurd (let c = b y (contains_first y ys) in let low = c.1 in omega arith)
 one_rising (x ∷ xs) [] h g f b = absurd (let c = f x (contains_first x xs) in let low = c.1 in omega arith)

@@ -1,5 +1,7 @@
 -- A walk over a field's bytes, from element to element.
-use Rattle.std.proofs.Common.{ℕ, ◌≡◌, ◌≤◌, ◌<◌, ◌+◌, ◌-◌, ◌⊎◌, ◌==◌, true, false, inl, inr, List, [], ◌∷◌, ◌++◌, length, sum_by, refl, sym, ◌∙◌, ap, subst, arith, append_assoc, append-nil, length-append}
+use Rattle.std.proofs.Common.{ℕ, ◌≡◌, ◌≤◌, ◌<◌, ◌+◌, ◌-◌, ◌⊎◌, ◌==◌, true, false, inl, inr, List}
+use Rattle.std.proofs.Common.{[], ◌∷◌, ◌++◌, length, sum_by, refl, sym, ◌∙◌, ap, subst, arith}
+use Rattle.std.proofs.Common.{append_assoc, append-nil, length-append}
 use Rattle.std.specs.List.{slice_split, onto_first}
 use Rattle.std.proofs.lemmas.Bool.{cases_Bool, and_parts}
 use Rattle.std.proofs.lemmas.Bool.Decides.{nat_tests}
@@ -8,12 +10,14 @@ use Rattle.std.proofs.lemmas.List.Sums.{sum_by-append}
 use Rattle.std.specs.List.{list_all}
 use Rattle.lang_core.specs.Text.{pieces_by}
 use Rattle.lang_core.proofs.PiecesLaws.{size_pieces, size_cons}
-use Rattle.nego_core.proofs.FieldWalk.{IsWalked, walked_start, walked_blank, walked_item, walked_over, walked_all, stops_malformed, stops_fitting}
+use Rattle.nego_core.proofs.FieldWalk.{IsWalked, walked_start, walked_blank, walked_item}
+use Rattle.nego_core.proofs.FieldWalk.{walked_over, walked_all, stops_malformed, stops_fitting}
 use Rattle.nego_core.proofs.WeightLaws.{skip_all, skip_only, skip_none}
 use Rattle.nego_core.specs.Blanks.{is_blank, AreBlanks, skip_blanks}
 use Rattle.nego_core.proofs.OverlongLaws.{overlong_piece}
 use Rattle.nego_core.specs.Element.{IsStart, HasStart, BeginsOverlong}
-use Rattle.nego_core.specs.Field.{IsField, IsFirstMalformed, HasElement, RefusesField, is_separator, skip_separators, IsFirstPiece}
+use Rattle.nego_core.specs.Field.{IsField, IsFirstMalformed, HasElement, RefusesField, is_separator}
+use Rattle.nego_core.specs.Field.{skip_separators, IsFirstPiece}
 use Rattle.nego_core.specs.Item.{Item}
 use Rattle.nego_core.specs.declared.scheme.Scheme.{Scheme}
 use Rattle.nego_core.specs.declared.field.Malformed.{Malformed}

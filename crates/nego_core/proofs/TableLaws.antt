@@ -1,5 +1,6 @@
 -- Tables of the numbers of texts.
-use Rattle.std.proofs.Common.{ℕ, ◌≡◌, ◌<◌, ◌⊎◌, List, [], ◌∷◌, Bool, true, false, inl, inr, length, get_or, ◌∙◌, ap, arith}
+use Rattle.std.proofs.Common.{ℕ, ◌≡◌, ◌<◌, ◌⊎◌, List, [], ◌∷◌, Bool, true, false, inl, inr, length}
+use Rattle.std.proofs.Common.{get_or, ◌∙◌, ap, arith}
 use Rattle.std.specs.Prelude.{Contains, slice_set}
 use Rattle.std.proofs.lemmas.Grind.{common_steps}
 use Rattle.std.proofs.Math.ListN.{length-set}

@@ -1,5 +1,7 @@
 -- Weights, read from left to right.
-use Rattle.std.proofs.Common.{ℕ, ◌≡◌, ◌≤◌, ◌<◌, ◌-◌, take, drop, ◌⊎◌, inl, inr, List, [], ◌∷◌, ◌++◌, Bool, true, false, append-nil, refl, sym, ◌∙◌, ap, subst, arith, length, append_assoc}
+use Rattle.std.proofs.Common.{ℕ, ◌≡◌, ◌≤◌, ◌<◌, ◌-◌, take, drop, ◌⊎◌, inl, inr, List, [], ◌∷◌, ◌++◌}
+use Rattle.std.proofs.Common.{Bool, true, false, append-nil, refl, sym, ◌∙◌, ap, subst, arith}
+use Rattle.std.proofs.Common.{length, append_assoc}
 use Rattle.std.specs.Prelude.{Option, Some, None, slice_index}
 use Rattle.std.proofs.lemmas.List.{take_all}
 use Rattle.std.specs.List.{list_all}
@@ -12,7 +14,8 @@ use Rattle.nego_core.specs.Element.{WeightGrammar}
 use Rattle.nego_core.specs.declared.scheme.Scheme.{Scheme}
 use Rattle.nego_core.specs.declared.scheme.Scheme.TheVariants.{Basic, Extended}
 use Rattle.nego_core.specs.Blanks.{is_blank, AreBlanks, skip_blanks, is_plain, IsCut}
-use Rattle.nego_core.specs.Weight.{IsQvalue, is_zero_digit, HasWeight, IsWeight, IsLastQvalue, FollowsSemicolon, IsNamedQvalue, IsTail}
+use Rattle.nego_core.specs.Weight.{IsQvalue, is_zero_digit, HasWeight, IsWeight, IsLastQvalue}
+use Rattle.nego_core.specs.Weight.{FollowsSemicolon, IsNamedQvalue, IsTail}
 use Rattle.nego_core.specs.Basics.{IsTheOne}
 
 -- ---- blanks at the front

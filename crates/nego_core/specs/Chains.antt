@@ -1,4 +1,5 @@
-use Rattle.std.specs.Prelude.{ℕ, ◌≡◌, ◌≢◌, ◌≤◌, ◌<◌, ◌+◌, ◌*◌, ◌%◌, ◌⊎◌, Bool, true, false, List, length, Some, Contains, slice_index, slice_index_or}
+use Rattle.std.specs.Prelude.{ℕ, ◌≡◌, ◌≢◌, ◌≤◌, ◌<◌, ◌+◌, ◌*◌, ◌%◌, ◌⊎◌, Bool, true, false, List}
+use Rattle.std.specs.Prelude.{length, Some, Contains, slice_index, slice_index_or}
 use Rattle.std.specs.List.{slice_get}
 use Rattle.lang_core.specs.Text.{pieces}
 use Rattle.lang_core.specs.Grammar.{is_star}

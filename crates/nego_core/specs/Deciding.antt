@@ -1,4 +1,6 @@
-use Rattle.std.specs.Prelude.{ℕ, ◌≡◌, ◌≤◌, ◌<◌, not, Bool, List, [], ◌∷◌, Some, IsSomeAnd, filter, ◌==◌, ◌&&◌, ◌||◌, nat_lt, true, Option, None, MatchOption, if◌then◌else◌}
+use Rattle.std.specs.Prelude.{ℕ, ◌≡◌, ◌≤◌, ◌<◌, not, Bool, List, [], ◌∷◌, Some, IsSomeAnd, filter}
+use Rattle.std.specs.Prelude.{◌==◌, ◌&&◌, ◌||◌, nat_lt, true, Option, None, MatchOption}
+use Rattle.std.specs.Prelude.{if◌then◌else◌}
 use Rattle.std.specs.Str.{bytes_eq}
 use Rattle.std.specs.List.{slice_get}
 use Rattle.lang_core.specs.Text.{pieces}

@@ -1,4 +1,5 @@
-use Rattle.std.specs.Prelude.{ℕ, ◌≡◌, ◌≤◌, ◌<◌, ◌+◌, ◌⊎◌, List, [], ◌∷◌, ◌++◌, length, sum_by, All, ◌==◌, ◌||◌, Bool, if◌then◌else◌}
+use Rattle.std.specs.Prelude.{ℕ, ◌≡◌, ◌≤◌, ◌<◌, ◌+◌, ◌⊎◌, List, [], ◌∷◌, ◌++◌, length, sum_by, All}
+use Rattle.std.specs.Prelude.{◌==◌, ◌||◌, Bool, if◌then◌else◌}
 use Rattle.std.specs.List.{prefix_len}
 use Rattle.lang_core.specs.Text.{pieces, pieces_by}
 use Rattle.lang_core.specs.Grammar.{BasicRange}
@@ -10,7 +11,8 @@ use Rattle.nego_core.specs.declared.scheme.Scheme.TheVariants.{Basic, Extended}
 use Rattle.nego_core.specs.declared.field.Malformed.{Malformed}
 use Rattle.nego_core.specs.declared.field.Malformed.TheVariants.{Refused, PassedOver}
 use Rattle.nego_core.specs.declared.fault.NegoFault.{NegoFault}
-use Rattle.nego_core.specs.declared.fault.NegoFault.TheVariants.{FieldTooLong, FieldMalformed, NoMemory}
+use Rattle.nego_core.specs.declared.fault.NegoFault.TheVariants.{FieldTooLong, FieldMalformed}
+use Rattle.nego_core.specs.declared.fault.NegoFault.TheVariants.{NoMemory}
 
 -- What a piece is that gives no item: blanks (RFC 9110 section 5.6.1); and where malformed pieces
 -- are passed over, anything that is no element (a rule of this project: a recipient may recover

@@ -1,5 +1,7 @@
 -- Numbers of a text's bytes, and a table of such numbers.
-use Rattle.std.specs.Prelude.{ℕ, List, [], ◌∷◌, ◌+◌, ◌*◌, nat_lt, zero, suc, if◌then◌else◌, ◌%◌, slice_index, ◌≡◌, Bool, true, false, length, Contains, fold, slice_index_or}
+use Rattle.std.specs.Prelude.{ℕ, List, [], ◌∷◌, ◌+◌, ◌*◌, nat_lt, zero, suc, if◌then◌else◌, ◌%◌}
+use Rattle.std.specs.Prelude.{slice_index, ◌≡◌, Bool, true, false, length, Contains, fold}
+use Rattle.std.specs.Prelude.{slice_index_or}
 
 -- the first byte of the first subtag, or 0 where that is empty
 abbrev pub first_byte : List (List ℕ) → ℕ

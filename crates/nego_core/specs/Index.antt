@@ -1,4 +1,6 @@
-use Rattle.std.specs.Prelude.{ℕ, ◌≡◌, ◌≢◌, ◌<◌, ◌≤◌, slice_index, true, false, List, [], Option, Some, MatchOption, unwrap_or, option_map, length, All, Contains, IsSorted}
+use Rattle.std.specs.Prelude.{ℕ, ◌≡◌, ◌≢◌, ◌<◌, ◌≤◌, slice_index, true, false, List, [], Option}
+use Rattle.std.specs.Prelude.{Some, MatchOption, unwrap_or, option_map, length, All, Contains}
+use Rattle.std.specs.Prelude.{IsSorted}
 use Rattle.std.specs.List.{slice_get, slice_index_or}
 use Rattle.std.specs.declared.cmp.Ordering.{Ordering}
 use Rattle.std.specs.Ordering.{nat_cmp, on, then_cmp, is_lt}

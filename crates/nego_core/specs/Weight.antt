@@ -1,4 +1,5 @@
-use Rattle.std.specs.Prelude.{ℕ, ◌≡◌, ◌≤◌, ◌+◌, ◌-◌, ◌*◌, ◌==◌, ◌⊎◌, Bool, IsTrue, List, [], ◌∷◌, length, slice_index, ◌++◌}
+use Rattle.std.specs.Prelude.{ℕ, ◌≡◌, ◌≤◌, ◌+◌, ◌-◌, ◌*◌, ◌==◌, ◌⊎◌, Bool, IsTrue, List, [], ◌∷◌}
+use Rattle.std.specs.Prelude.{length, slice_index, ◌++◌}
 use Rattle.std.specs.List.{list_all}
 use Rattle.lang_core.specs.Grammar.{is_digit}
 use Rattle.nego_core.specs.Blanks.{AreBlanks}

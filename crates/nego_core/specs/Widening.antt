@@ -1,4 +1,5 @@
-use Rattle.std.specs.Prelude.{ℕ, ◌≡◌, ◌↔◌, Bool, true, List, ◌++◌, Option, Some, None, All, AllPairs, Contains, IsSomeAnd, map}
+use Rattle.std.specs.Prelude.{ℕ, ◌≡◌, ◌↔◌, Bool, true, List, ◌++◌, Option, Some, None, All}
+use Rattle.std.specs.Prelude.{AllPairs, Contains, IsSomeAnd, map}
 use Rattle.std.specs.List.{flat_map, slice_get}
 use Rattle.std.specs.Cmp.Lexicographic.{slice_cmp}
 use Rattle.std.specs.Ordering.{nat_cmp, is_lt}
@@ -28,7 +29,8 @@ IsBelow a b = slice_cmp nat_cmp a b ≡ Less
 
 -- the languages that the range of an item matches, each once, in rising order of bytes
 pub record AreMatched (scheme : Scheme) (langs : List (List ℕ)) (i : Item) (matched : List (List ℕ)) : Type 0 where
-  pub each : (lang : List ℕ) → Contains matched lang ↔ (Contains langs lang × MatchesLang scheme i lang)
+  pub each : (lang : List ℕ)
+      → Contains matched lang ↔ (Contains langs lang × MatchesLang scheme i lang)
   pub rising : AllPairs IsBelow matched
 
 -- the widened candidates of an item: those of lookup, and behind them the languages that it matches

@@ -3,7 +3,8 @@
 ghost use Rattle.std.specs.Prelude.{ℕ, ◌≡◌, ◌<◌, List, IfSome};
 ghost use Rattle.lang_core.specs.Text.{pieces};
 ghost use Rattle.lang_core.specs.Matching.{Basic, Extended};
-ghost use Rattle.nego_core.specs.Deciding.{IsBest, IsAny, Matches, MatchesNamed, better_of, is_above, is_worse};
+ghost use Rattle.nego_core.specs.Deciding.{IsBest, IsAny, Matches, MatchesNamed, better_of};
+ghost use Rattle.nego_core.specs.Deciding.{is_above, is_worse};
 ghost use Rattle.nego_core.specs.Index.{IsRangeIndex};
 ghost use Rattle.nego_core.specs.Chains.{AreChains, AreLinked, StandsIn};
 

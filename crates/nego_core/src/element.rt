@@ -5,7 +5,8 @@ ghost use Rattle.std.specs.Str.{str_to_ascii_lowercase};
 ghost use Rattle.lang_core.specs.Range.{IsRange};
 ghost use Rattle.nego_core.specs.Basics.{IsTheOne};
 ghost use Rattle.nego_core.specs.Weight.{IsTail};
-ghost use Rattle.nego_core.specs.Element.{RangeGrammar, WeightGrammar, IsStart, HasStart, fitting_range, is_inner, BeginsOverlong};
+ghost use Rattle.nego_core.specs.Element.{RangeGrammar, WeightGrammar, IsStart, HasStart};
+ghost use Rattle.nego_core.specs.Element.{fitting_range, is_inner, BeginsOverlong};
 ghost use Rattle.nego_core.specs.Item.{Item};
 ghost use Rattle.nego_core.specs.declared.fault.NegoFault.TheVariants.{NoMemory};
 

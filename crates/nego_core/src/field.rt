@@ -1,6 +1,7 @@
 //! A field: elements between commas (RFC 9110 section 5.6.1), and what becomes of malformed ones.
 ghost use Rattle.std.specs.Prelude.{◌≡◌, ◌≤◌, length, MatchResult, ◌==◌, position};
-ghost use Rattle.nego_core.specs.Field.{IsField, RefusesField, is_separator, skip_separators, IsFirstPiece};
+ghost use Rattle.nego_core.specs.Field.{IsField, RefusesField, is_separator, skip_separators};
+ghost use Rattle.nego_core.specs.Field.{IsFirstPiece};
 ghost use Rattle.nego_core.specs.declared.fault.NegoFault.TheVariants.{FieldMalformed};
 ghost use Rattle.nego_core.specs.declared.field.Malformed.TheVariants.{Refused, PassedOver};
 

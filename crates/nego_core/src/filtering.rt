@@ -1,10 +1,13 @@
 //! Filtering (RFC 4647 section 3.3): all languages that a list accepts, the best first.
-ghost use Rattle.std.specs.Prelude.{◌≡◌, ◌==◌, length, MatchOption, MatchResult, IfOk, IsPermutation, IsSorted, map};
+ghost use Rattle.std.specs.Prelude.{◌≡◌, ◌==◌, length, MatchOption, MatchResult, IfOk};
+ghost use Rattle.std.specs.Prelude.{IsPermutation, IsSorted, map};
 ghost use Rattle.std.specs.List.{slice_get};
 ghost use Rattle.std.specs.Cmp as laws_of;
 ghost use Rattle.std.specs.Cmp.Lexicographic.{pointwise, lists_equiv};
 ghost use Rattle.std.specs.Slice.Iter.{iter_rest};
-ghost use Rattle.nego_core.specs.Filtering.{pick_eq, pick_equiv, IsFiltered, IsKey, HasNoKey, HasPick, AreKeys, key_of, pick_of, filter_key_cmp, texts_of};
+ghost use Rattle.nego_core.specs.Filtering.{pick_eq, pick_equiv, IsFiltered, IsKey, HasNoKey};
+ghost use Rattle.nego_core.specs.Filtering.{HasPick, AreKeys, key_of, pick_of, filter_key_cmp};
+ghost use Rattle.nego_core.specs.Filtering.{texts_of};
 ghost use Rattle.nego_core.specs.declared.fault.NegoFault.TheVariants.{NoMemory};
 
 use crate::as_lang::AsLang;

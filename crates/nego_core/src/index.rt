@@ -1,6 +1,7 @@
 //! What makes questions to a long list fast, under the scheme by which the list was read.
 ghost use Rattle.std.specs.Prelude.{IfOk, IfSome, ◌≡◌, ◌<◌, length, IsPermutation, IsSorted, map};
-ghost use Rattle.nego_core.specs.Index.{IsIndex, IsRangeIndex, MatchFirst, AreRangeKeys, IsSeat, text_at, range_key_cmp};
+ghost use Rattle.nego_core.specs.Index.{IsIndex, IsRangeIndex, MatchFirst, AreRangeKeys, IsSeat};
+ghost use Rattle.nego_core.specs.Index.{text_at, range_key_cmp};
 ghost use Rattle.std.specs.Ordering.{is_lt, nat_cmp};
 ghost use Rattle.std.specs.Cmp.Lexicographic.{slice_cmp};
 ghost use Rattle.std.specs.Str.{bytes_eq};

@@ -1,5 +1,7 @@
 //! Laws about the definitions alone: each function's contract is the law.
-ghost use Rattle.std.specs.Prelude.{◌≡◌, ◌≢◌, ◌≤◌, ◌==◌, ◌↔◌, ◌⊎◌, ◌∷◌, ℕ, List, Option, Some, None, Bool, IsTrue, All, AllPairs, Contains, IsPermutation, filter, map};
+ghost use Rattle.std.specs.Prelude.{◌≡◌, ◌≢◌, ◌≤◌, ◌==◌, ◌↔◌, ◌⊎◌, ◌∷◌, ℕ, List, Option, Some};
+ghost use Rattle.std.specs.Prelude.{None, Bool, IsTrue, All, AllPairs, Contains, IsPermutation};
+ghost use Rattle.std.specs.Prelude.{filter, map};
 ghost use Rattle.lang_core.specs.Text.{pieces, pieces_by, joined};
 ghost use Rattle.nego_core.specs.Item.{Item};
 ghost use Rattle.nego_core.specs.Element.{IsPadded};
@@ -10,7 +12,8 @@ ghost use Rattle.nego_core.specs.LookupCandidates.{IsLookedUp, candidates_of};
 ghost use Rattle.nego_core.specs.LookupPlaces.{IsFound};
 ghost use Rattle.nego_core.specs.LangSet.{is_among};
 ghost use Rattle.nego_core.specs.Widening.{IsLookedUpWidened, MatchesLang};
-ghost use Rattle.nego_core.specs.Deciding.{Matches, IsDeciding, IsDecidedBy, NamedRefuse, RefusesLang, named_items};
+ghost use Rattle.nego_core.specs.Deciding.{Matches, IsDeciding, IsDecidedBy, NamedRefuse};
+ghost use Rattle.nego_core.specs.Deciding.{RefusesLang, named_items};
 ghost use Rattle.nego_core.specs.Unweighted.{AllPositive, AllUnweighted, IsMatchedAt, IsFirstHeld};
 ghost use Rattle.nego_core.specs.declared.scheme.Scheme.TheVariants as scheme;
 ghost use Rattle.nego_core.specs.Field.{IsField, IsFirstMalformed, IsOfOneKind};

@@ -1,6 +1,7 @@
 //! The order in which lookup tries the items of a list.
 ghost use Rattle.std.specs.Prelude.{◌≡◌, IfOk, IsPermutation, IsSorted};
-ghost use Rattle.nego_core.specs.LookupOrder.{is_tried, order_keys_from, order_key_cmp, AreOrderKeys};
+ghost use Rattle.nego_core.specs.LookupOrder.{is_tried, order_keys_from, order_key_cmp};
+ghost use Rattle.nego_core.specs.LookupOrder.{AreOrderKeys};
 
 use crate::item::Item;
 use std::alloc::{AllocError, Global};

@@ -1,16 +1,19 @@
 //! Priority lists (RFC 4647 section 2.3), and how they are read from a field.
-ghost use Rattle.std.specs.Prelude.{◌≡◌, ◌≤◌, ◌<◌, ◌==◌, ℕ, false, length, All, MatchResult, MatchOption, IfSome};
+ghost use Rattle.std.specs.Prelude.{◌≡◌, ◌≤◌, ◌<◌, ◌==◌, ℕ, false, length, All, MatchResult};
+ghost use Rattle.std.specs.Prelude.{MatchOption, IfSome};
 ghost use Rattle.std.specs.List.{list_any};
 ghost use Rattle.std.specs.Cmp as laws_of;
 ghost use Rattle.std.specs.Cmp.Lexicographic.{pointwise, lists_equiv};
 ghost use Rattle.lang_core.specs.Text.{pieces};
 ghost use Rattle.nego_core.specs.Item.{item_eq, item_equiv};
 ghost use Rattle.nego_core.specs.Basics.{IsTheOne};
-ghost use Rattle.nego_core.specs.Deciding.{IsBest, Matches, IsDeciding, IsDecidedBy, IsDecidingWeight, DecidesLang};
+ghost use Rattle.nego_core.specs.Deciding.{IsBest, Matches, IsDeciding, IsDecidedBy};
+ghost use Rattle.nego_core.specs.Deciding.{IsDecidingWeight, DecidesLang};
 ghost use Rattle.nego_core.specs.LookupOrder.{AreOrderKeys};
 ghost use Rattle.nego_core.specs.Unweighted.{AllPositive};
 ghost use Rattle.nego_core.specs.Index.{IsRangeIndex};
-ghost use Rattle.nego_core.specs.Field.{IsField, IsAccept, IsAcceptRanges, IsOfOneKind, RefusesField};
+ghost use Rattle.nego_core.specs.Field.{IsField, IsAccept, IsAcceptRanges, IsOfOneKind};
+ghost use Rattle.nego_core.specs.Field.{RefusesField};
 ghost use Rattle.nego_core.specs.declared.scheme.Scheme.TheVariants.{Basic, Extended};
 ghost use Rattle.nego_core.specs.declared.field.Malformed.TheVariants.{Refused};
 ghost use Rattle.nego_core.specs.declared.fault.NegoFault.TheVariants.{NoMemory};

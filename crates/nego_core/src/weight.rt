@@ -1,7 +1,9 @@
 //! The weight of an element (RFC 9110 section 12.4.2).
 ghost use Rattle.std.specs.Prelude.{◌≤◌, IfSome, ◌≡◌, IsTrue, slice_index, ◌-◌};
 ghost use Rattle.nego_core.specs.Basics.{IsTheOne};
-ghost use Rattle.nego_core.specs.Weight.{IsWeight, IsNoWeight, FollowsSemicolon, IsNamedQvalue, IsLastQvalue, IsTail, IsQvalue, is_zero_digit, thousandths};
+ghost use Rattle.nego_core.specs.Weight.{IsWeight, IsNoWeight, FollowsSemicolon, IsNamedQvalue};
+ghost use Rattle.nego_core.specs.Weight.{IsLastQvalue, IsTail, IsQvalue, is_zero_digit};
+ghost use Rattle.nego_core.specs.Weight.{thousandths};
 ghost use Rattle.std.specs.List.{list_all};
 ghost use Rattle.lang_core.specs.Grammar.{is_digit};
 

@@ -5,7 +5,8 @@ ghost use Rattle.lang_core.specs.Text.{pieces};
 ghost use Rattle.nego_core.specs.Filtering.{texts_of};
 ghost use Rattle.nego_core.specs.LangSet.{is_among};
 ghost use Rattle.nego_core.specs.LookupPlaces.{least_place};
-ghost use Rattle.nego_core.specs.Widening.{Fits, IsFirstWidened, IsFirstWidenedAt, IsFoundWidened, IsLookedUpWidened, MatchLeast, MatchesLang, is_below};
+ghost use Rattle.nego_core.specs.Widening.{Fits, IsFirstWidened, IsFirstWidenedAt, IsFoundWidened};
+ghost use Rattle.nego_core.specs.Widening.{IsLookedUpWidened, MatchLeast, MatchesLang, is_below};
 
 use crate::as_lang::AsLang;
 use crate::choosing::is_open_default;

@@ -1,7 +1,9 @@
 //! The fields of priority lists, written (RFC 9110 section 12.5.4).
-ghost use Rattle.std.specs.Prelude.{◌≡◌, ◌≢◌, ◌≤◌, ◌<◌, ◌+◌, ◌∷◌, ◌++◌, [], flat_map, string_bytes, false, IfOk, OnOk, MatchBool, MatchOption};
+ghost use Rattle.std.specs.Prelude.{◌≡◌, ◌≢◌, ◌≤◌, ◌<◌, ◌+◌, ◌∷◌, ◌++◌, [], flat_map, string_bytes};
+ghost use Rattle.std.specs.Prelude.{false, IfOk, OnOk, MatchBool, MatchOption};
 ghost use Rattle.nego_core.specs.declared.fault.NegoFault.TheVariants.{NoMemory};
-ghost use Rattle.docs_core.specs.FieldWritten.{IsListed, field_text, fraction_text, item_text, ones_text, tens_text, weight_text};
+ghost use Rattle.docs_core.specs.FieldWritten.{IsListed, field_text, fraction_text, item_text};
+ghost use Rattle.docs_core.specs.FieldWritten.{ones_text, tens_text, weight_text};
 ghost use Rattle.docs_core.specs.StepFields.{Lists};
 
 use nego_core::{Item, Malformed, NegoFault, PriorityList, Scheme};

@@ -3,7 +3,8 @@ ghost use Rattle.std.specs.Prelude.{◌≡◌, ◌∷◌, [], ℕ, List, IfErr, 
 ghost use Rattle.json.specs.Token.{end_array};
 ghost use Rattle.serde_json.specs.Data.{Data};
 ghost use Rattle.docs_core.specs.Envelope.{version_tokens};
-ghost use Rattle.docs_core.specs.ScriptWritten.{HasRows, HoldsSteps, IsOfNone, IsScriptText, RefusesWriting, script_value};
+ghost use Rattle.docs_core.specs.ScriptWritten.{HasRows, HoldsSteps, IsOfNone, IsScriptText};
+ghost use Rattle.docs_core.specs.ScriptWritten.{RefusesWriting, script_value};
 ghost use Rattle.docs_core.specs.Scripts.{IsSiteCount};
 ghost use Rattle.docs_core.specs.Texts.{Adds, text};
 

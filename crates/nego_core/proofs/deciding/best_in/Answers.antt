@@ -4,7 +4,10 @@ use Rattle.lang_core.specs.Matching.{Extended}
 use Rattle.nego_core.proofs.Basics.{stands_at, same_default, false_true}
 use Rattle.nego_core.proofs.ChainsLaws.{asked_better, asked_passed, asked_whole}
 use Rattle.nego_core.proofs.deciding.best_in.Goals as goal
-use Rattle.nego_core.proofs.deciding.best_in.Goals.{then-is_above+then-matches_extended, else-is_above, else-is_above-via-then-is_above+else-matches_extended, else-is_above-via-else-is_above}
+use Rattle.nego_core.proofs.deciding.best_in.Goals.{then-is_above+then-matches_extended}
+use Rattle.nego_core.proofs.deciding.best_in.Goals.{else-is_above}
+use Rattle.nego_core.proofs.deciding.best_in.Goals.{else-is_above-via-then-is_above+else-matches_extended}
+use Rattle.nego_core.proofs.deciding.best_in.Goals.{else-is_above-via-else-is_above}
 
 pub loop-place-preserved : goal.loop-place-preserved
 loop-place-preserved c = λ numbers h.

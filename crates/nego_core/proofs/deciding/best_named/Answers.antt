@@ -1,7 +1,8 @@
 use Rattle.std.proofs.Common.{refl}
 use Rattle.nego_core.proofs.DecidingLaws.{short_more, short_same, all_named}
 use Rattle.nego_core.proofs.deciding.best_named.Goals as goal
-use Rattle.nego_core.proofs.deciding.best_named.Goals.{then-text-at-eq-HYPHEN, else-text-at-eq-HYPHEN}
+use Rattle.nego_core.proofs.deciding.best_named.Goals.{then-text-at-eq-HYPHEN}
+use Rattle.nego_core.proofs.deciding.best_named.Goals.{else-text-at-eq-HYPHEN}
 
 pub loop-at-preserved : goal.loop-at-preserved
 loop-at-preserved c = elim c.if-text-at-eq-HYPHEN.branch [

@@ -2,9 +2,13 @@ use Rattle.std.proofs.Common.{rules, ◌≡◌, ◌<◌, ◌-◌, length, arith,
 use Rattle.nego_core.specs.Element.{BeginsOverlong}
 use Rattle.nego_core.specs.Field.{HasElement, RefusesField}
 use Rattle.nego_core.specs.declared.fault.NegoFault.TheVariants.{FieldMalformed}
-use Rattle.nego_core.proofs.SeparatorLaws.{BeginsElement, walked_from, begins_element, element_read, element_refused, overlong_refused, element_passed, element_fits, cut_shorter, no_more, rest_fits, walked_to_end}
+use Rattle.nego_core.proofs.SeparatorLaws.{BeginsElement, walked_from, begins_element, element_read}
+use Rattle.nego_core.proofs.SeparatorLaws.{element_refused, overlong_refused, element_passed}
+use Rattle.nego_core.proofs.SeparatorLaws.{element_fits, cut_shorter, no_more, rest_fits}
+use Rattle.nego_core.proofs.SeparatorLaws.{walked_to_end}
 use Rattle.nego_core.proofs.FieldWalk.{no_bytes}
-use Rattle.nego_core.proofs.field.read_items.Goals.{in-Some+in_ok-push-in-Some, in-None+in_ok-pass_over-in-None}
+use Rattle.nego_core.proofs.field.read_items.Goals.{in-Some+in_ok-push-in-Some}
+use Rattle.nego_core.proofs.field.read_items.Goals.{in-None+in_ok-pass_over-in-None}
 use Rattle.nego_core.proofs.field.read_items.Goals as goal
 
 pub loop-rest-init : goal.loop-rest-init

@@ -1,7 +1,8 @@
 use Rattle.std.proofs.Common.{refl}
 use Rattle.nego_core.proofs.FilteringKeys.{has_key, no_decision, no_weight}
 use Rattle.nego_core.proofs.filtering.filter_key_of.Goals as goal
-use Rattle.nego_core.proofs.filtering.filter_key_of.Goals.{in_default-via-in-Some+else-found-gt0, in_default-via-in_default}
+use Rattle.nego_core.proofs.filtering.filter_key_of.Goals.{in_default-via-in-Some+else-found-gt0}
+use Rattle.nego_core.proofs.filtering.filter_key_of.Goals.{in_default-via-in_default}
 
 pub returns-in-Some : goal.returns-in-Some
 returns-in-Some c = rw (c.new.ensures, c.as_str.ensures.text) (has_key _ _ _ _ _ _ _ c.in-Some.ensures.decides c.if-found-gt0.true refl)

@@ -5,7 +5,9 @@ use Rattle.nego_core.proofs.Basics.{false_true}
 use Rattle.nego_core.proofs.FilteringKeys.{text_within, text_at}
 use Rattle.nego_core.proofs.WideningLemmas.{next_above, next_new, next_unfit}
 use Rattle.nego_core.proofs.widening.least_match.Goals as goal
-use Rattle.nego_core.proofs.widening.least_match.Goals.{then-is_below+then-fits, else-is_below, else-is_below-via-then-is_below+else-fits, else-is_below-via-else-is_below}
+use Rattle.nego_core.proofs.widening.least_match.Goals.{then-is_below+then-fits, else-is_below}
+use Rattle.nego_core.proofs.widening.least_match.Goals.{else-is_below-via-then-is_below+else-fits}
+use Rattle.nego_core.proofs.widening.least_match.Goals.{else-is_below-via-else-is_below}
 
 pub loop-lang-preserved : goal.loop-lang-preserved
 loop-lang-preserved g c =

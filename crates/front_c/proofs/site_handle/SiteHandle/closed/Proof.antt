@@ -6,7 +6,8 @@ use mir.Val.{Val, vnull, vstruct, vcons, vnil}
 use base.Logic.{SProp, ent, id⊢}
 use base.Fml.{ftrue}
 use prog.Wp.{WpFn}
-use types.Kit.{‵, ◌⊛◌, ◌$◌, ◌∵◌, !, qed, move, keep, split, join, fsplit, fjoin, fpack, feq_i, suffices, done}
+use types.Kit.{‵, ◌⊛◌, ◌$◌, ◌∵◌, !, qed, move, keep, split, join, fsplit, fjoin, fpack, feq_i}
+use types.Kit.{suffices, done}
 use types.Run.{enter, lit, no_more, and_then, returns}
 use types.Part.{agg}
 use types.ByLocal.{alloc_all, pass_all, free_all, look_at, sets}

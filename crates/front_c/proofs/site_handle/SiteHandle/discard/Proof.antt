@@ -1,11 +1,13 @@
 -- `discard` lets a handle go that owns nothing. Assumes `Logic`.
-use Rattle.std.proofs.Common.{Option, None, ◌≡◌, List, [], ◌∷◌, ◌++◌, refl, sym, ap, ◌∙◌, subst, lit<}
+use Rattle.std.proofs.Common.{Option, None, ◌≡◌, List, [], ◌∷◌, ◌++◌, refl, sym, ap, ◌∙◌, subst}
+use Rattle.std.proofs.Common.{lit<}
 use Rattle.std.proofs.raw_atomic.Walks.{proved_at}
 use mir.Val.{Val, vnull, vunit, vstruct, vcons, vnil}
 use base.Logic.{SProp, ent, id⊢}
 use base.Fml.{ftrue}
 use prog.Wp.{WpFn}
-use types.Kit.{‵, raw, ◌⊛◌, ◌$◌, ◌∵◌, !, qed, move, keep, split, join, fsplit, feq_i, feq_l, group, suffices, done, rewrite}
+use types.Kit.{‵, raw, ◌⊛◌, ◌$◌, ◌∵◌, !, qed, move, keep, split, join, fsplit, feq_i, feq_l, group}
+use types.Kit.{suffices, done, rewrite}
 use types.Run.{enter, of_opd, unit_lit, returns}
 use types.ByLocal.{alloc_all, pass_all, free_all, look_at, sets}
 use contract.Monad.{fact}

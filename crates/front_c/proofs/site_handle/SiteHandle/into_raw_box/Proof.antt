@@ -8,7 +8,8 @@ use base.Logic.{SProp, ent, id⊢, never, fst∗}
 use base.Fml.{ftrue}
 use prog.Wp.{WpFn}
 use types.Logic.{sem}
-use types.Kit.{‵, raw, ◌⊛◌, ◌$◌, ◌∵◌, !, qed, move, keep, split, join, fsplit, suffices, done, rewrite}
+use types.Kit.{‵, raw, ◌⊛◌, ◌$◌, ◌∵◌, !, qed, move, keep, split, join, fsplit, suffices, done}
+use types.Kit.{rewrite}
 use types.Run.{enter, of_opd, stop, fld, no_more, and_then, returns}
 use types.Part.{agg, sub, whole}
 use types.ByLocal.{alloc_all, pass_all, free_all, look_at, get, get_in, sets}

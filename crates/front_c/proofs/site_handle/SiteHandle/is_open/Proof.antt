@@ -5,7 +5,8 @@ use base.Fml.{ftrue, flft}
 use mir.Syntax.{named, ptr_eq}
 use mir.Val.{Val, vnull, vbool, op2_val}
 use mathlib.Core.Bool.{not}
-use types.Kit.{‵, ◌⊛◌, ◌$◌, ◌∵◌, !, qed, move, keep, split, join, fsplit, fsplit3, fjoin, frame, group, rewrite, suffices, done}
+use types.Kit.{‵, ◌⊛◌, ◌$◌, ◌∵◌, !, qed, move, keep, split, join, fsplit, fsplit3, fjoin, frame}
+use types.Kit.{group, rewrite, suffices, done}
 use types.Run.{enter, of_opd, un, bin, lit, load, stop, fld, returns}
 use types.Part.{sub, whole, look_in}
 use types.ByLocal.{alloc_all, pass_all, free_all, look_at, get, is as reads_as, through, sets}
