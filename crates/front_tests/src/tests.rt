@@ -1,6 +1,5 @@
 //! Examples from the standards and from real clients, and what no contract says.
 mod bundling;
-mod editing;
 mod questions;
 mod refusals;
 mod site;
