@@ -1,7 +1,7 @@
 -- An input is cut behind a text that was written.
-use Rattle.std.proofs.Common.{◌≡◌, ◌≢◌, ◌∙◌, ◌+◌, ◌<◌, ◌==◌, ℕ, List, [], ◌∷◌, ◌++◌, Bool, false}
-use Rattle.std.proofs.Common.{true, cond, not, length, length-append, refl, ap, sym, subst, arith}
-use Rattle.std.specs.Prelude.{All, Some, drop, nat_lt, position, take}
+use Rattle.std.proofs.Common.{◌≡◌, ◌≢◌, ◌∙◌, ◌+◌, ◌==◌, ℕ, List, [], ◌∷◌, ◌++◌, false}
+use Rattle.std.proofs.Common.{true, not, length, length-append, refl, ap, sym, subst, arith}
+use Rattle.std.specs.Prelude.{All, Some, drop, nat_lt, position}
 use Rattle.std.specs.List.{prefix_len}
 use Rattle.std.proofs.lemmas.Bool.Decides.{nat_tests}
 use Rattle.std.proofs.lemmas.List.{append_assoc, drop_at, take_at}
@@ -42,7 +42,7 @@ cut : (line rest : List ℕ) → All (λ b. b ≢ 10) line → AreDocuments (lin
 cut line rest h =
     let size : length (line ++ 10 ∷ []) ≡ length line + 1 = length-append line (10 ∷ []) in
     let behind : drop (length line + 1) (line ++ 10 ∷ rest) ≡ rest =
-        ap (drop (length line + 1)) (sym (append_assoc line (10 ∷ []) rest)) ∙ drop_at (line ++ 10 ∷ []) rest (length line + 1) size in
+    ap (drop (length line + 1)) (sym (append_assoc line (10 ∷ []) rest)) ∙ drop_at (line ++ 10 ∷ []) rest (length line + 1) size in
     rw (first line rest h) (sym (take_at line (10 ∷ rest) (length line) refl), sym behind)
 
 cut_behind : (text line rest : List ℕ) → text ≡ line ++ 10 ∷ [] → All (λ b. b ≢ 10) line
