@@ -1,3 +1,4 @@
+-- Widened lookup (project rule): a range finds the languages that it matches too.
 use Rattle.std.specs.Prelude.{ℕ, ◌≡◌, ◌↔◌, Bool, true, List, ◌++◌, Option, Some, None, All}
 use Rattle.std.specs.Prelude.{AllPairs, Contains, IsSomeAnd, map}
 use Rattle.std.specs.List.{flat_map, slice_get}
@@ -16,8 +17,6 @@ use Rattle.nego_core.specs.Choosing.{IsOpenDefault, HasOpenDefault}
 use Rattle.nego_core.specs.declared.scheme.Scheme.{Scheme}
 use Rattle.nego_core.specs.declared.lookup_places.Found.{Found}
 use Rattle.nego_core.specs.declared.lookup_places.Found.TheVariants.{Matched, Default, Nothing}
-
--- Widened lookup (project rule): a range finds the languages that it matches too.
 
 -- the range of the item matches the language: none matches "@none"
 abbrev pub MatchesLang : Scheme → Item → List ℕ → Type 0

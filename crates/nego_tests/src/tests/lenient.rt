@@ -1,5 +1,5 @@
 //! Fields as they are found in the wild, whose malformed elements are passed over (RFC 9110
-//! section 12.5.4 leaves it to a server).
+//! section 2.4 leaves it to a server).
 use crate::tests::reading::{columns, has_items};
 use nego_core::{Malformed, NegoFault, PriorityList, Scheme};
 use std::process::Abort;
