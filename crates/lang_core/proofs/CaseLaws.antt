@@ -1,11 +1,10 @@
 -- Case does not matter.
-use Rattle.std.proofs.Common.{ℕ, ◌≡◌, ◌<◌, ◌==◌, List, [], ◌∷◌, Bool, refl, sym, arith}
-use Rattle.std.specs.Prelude.{◌&&◌, map, suc}
+use Rattle.std.proofs.Common.{ℕ, ◌≡◌, ◌==◌, List, [], ◌∷◌, Bool, refl, sym, arith}
+use Rattle.std.specs.Prelude.{◌&&◌, map}
 use Rattle.std.specs.List.{list_all}
 use Rattle.std.specs.Char.{to_ascii_lowercase, is_ascii_alphabetic, is_ascii_alphanumeric}
-use Rattle.std.specs.Str.{str_to_ascii_lowercase, IsAscii}
+use Rattle.std.specs.Str.{str_to_ascii_lowercase}
 use Rattle.std.proofs.lemmas.Bool.Decides.{nat_tests}
-use Rattle.std.proofs.lemmas.Str.Ascii.{IsAscii-nil, IsAscii-cons}
 use Rattle.lang_core.specs.Grammar.{is_letter, is_digit, is_alphanum, is_star}
 
 -- the pieces in lower case
@@ -48,10 +47,3 @@ unfolding is_star
 star-lower [] = refl
 star-lower (b ∷ []) = lower_star b
 star-lower (b ∷ c ∷ s) = refl
-
-lower_small : (b : ℕ) → to_ascii_lowercase b < 128 → b < 128
-lower_small b h = grind (arith, nat_tests)
-
-pub ascii-lower : (text : List ℕ) → IsAscii (str_to_ascii_lowercase text) → IsAscii text
-ascii-lower [] h = IsAscii-nil
-ascii-lower (b ∷ text) h = IsAscii-cons b text (lower_small b (h 0)) (ascii-lower text (λ i. h (suc i)))

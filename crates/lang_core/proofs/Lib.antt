@@ -11,6 +11,8 @@ pub mod GrammarLaws
 pub mod OneOffset
 pub mod OtherText
 pub mod Walks
+pub mod TagStates
+pub mod TagTableLemmas
 pub mod TagText
 pub mod RangeText
 pub mod Embedding
@@ -21,3 +23,4 @@ pub mod CandidateLaws
 pub mod LookupLaws
 pub mod TruncationSteps
 pub mod LangLaws
+pub mod LowerTextLemmas

@@ -3,15 +3,14 @@ use Rattle.std.proofs.Common.{ℕ, ◌≡◌, ◌<◌, ◌+◌, ◌==◌, inl, i
 use Rattle.std.proofs.Common.{false, length, refl, sym, ◌∙◌, ap, subst, arith}
 use Rattle.std.specs.Prelude.{◌||◌, IsTrue, zero, suc}
 use Rattle.std.specs.List.{list_all, slice_split, onto_first}
-use Rattle.std.specs.Str.{IsAscii}
 use Rattle.std.proofs.lemmas.Bool.Decides.{nat_tests}
 use Rattle.std.proofs.lemmas.List.Splits.{slice_split-cons_yes, slice_split-cons_no}
-use Rattle.std.proofs.lemmas.Str.Ascii.{IsAscii-nil, IsAscii-cons}
 use Rattle.std.specs.Prelude.{Option, Some, None, MatchOption}
 use Rattle.lang_core.specs.Text.{pieces_by, pieces, joined}
 use Rattle.lang_core.specs.Grammar.{are_allowed, is_list_of, is_alphanum, is_letter, is_digit}
 use Rattle.lang_core.specs.Grammar.{is_private_piece, is_star, basic_piece, extended_piece}
 use Rattle.lang_core.specs.Grammar.{BasicRange, ExtendedRange, IsFirstRefused}
+use Rattle.lang_core.specs.LowerText.{is_plain, IsPlain}
 use Rattle.lang_core.proofs.Basics.{cases_bool, each_true, both, one_true, or_left, or_right}
 use Rattle.lang_core.proofs.Classes.{run_of}
 use Rattle.lang_core.proofs.PiecesLaws.{joined-pieces, some_pieces}
@@ -134,18 +133,22 @@ pub range_bytes : (text : List ℕ) → ExtendedRange (pieces text) → list_all
 unfolding pieces_by
 range_bytes text h = split_bytes text (extended_bytes 0 (pieces text) (allowed_of_list extended_piece (pieces text) h))
 
-byte_ascii : (b : ℕ) → is_range_byte b ≡ true → b < 128
-byte_ascii b h = grind (arith, nat_tests)
+byte_plain : (b : ℕ) → is_range_byte b ≡ true → is_plain b ≡ true
+byte_plain b h = grind (arith, nat_tests)
 
-bytes_ascii : (text : List ℕ) → list_all is_range_byte text ≡ true → IsAscii text
-bytes_ascii [] h = IsAscii-nil
-bytes_ascii (b ∷ text) h = let parts = each_true (is_range_byte b) (list_all is_range_byte text) h in IsAscii-cons b text (byte_ascii b parts.0) (bytes_ascii text parts.1)
+bytes_plain : (text : List ℕ) → list_all is_range_byte text ≡ true → IsPlain text
+bytes_plain [] h = refl
+bytes_plain (b ∷ text) h =
+    let parts = each_true (is_range_byte b) (list_all is_range_byte text) h in
+    both _ _ (byte_plain b parts.0) (bytes_plain text parts.1)
 
-pub extended_ascii : (text : List ℕ) → ExtendedRange (pieces text) → IsAscii text
-extended_ascii text h = bytes_ascii text (range_bytes text h)
+-- An extended range has no bytes but letters, digits, hyphens and stars.
+pub extended_plain : (text : List ℕ) → ExtendedRange (pieces text) → IsPlain text
+extended_plain text h = bytes_plain text (range_bytes text h)
 
-pub basic_ascii : (text : List ℕ) → BasicRange (pieces text) → IsAscii text
-basic_ascii text h = extended_ascii text (basic_extended (pieces text) h)
+-- So has a basic range.
+pub basic_plain : (text : List ℕ) → BasicRange (pieces text) → IsPlain text
+basic_plain text h = extended_plain text (basic_extended (pieces text) h)
 
 -- ---- what the reader found
 

@@ -3,6 +3,7 @@ pub mod Grammar
 pub mod Subtag
 pub mod Pieces
 pub mod Stage
+pub mod TagTable
 pub mod Fault
 pub mod Tag
 pub mod Range
@@ -16,3 +17,4 @@ pub mod Choice
 pub mod LookupText
 pub mod Fronts
 pub mod LowerText
+pub mod Kept

@@ -155,7 +155,10 @@ impl PartialEq for Lang {
     ghost laws = { Prim.search (comparing, rules) };
 
     fn eq(&self, other: &Lang) -> bool {
-        self.as_str() == other.as_str()
+        match (&self.choice, &other.choice) {
+            (Choice::Tagged(tag), Choice::Tagged(other_tag)) => tag == other_tag,
+            _ => self.as_str() == other.as_str(),
+        }
     }
 }
 
@@ -183,7 +186,10 @@ impl Ord for Lang {
     ghost matches_eq = { Prim.search (comparing, rules) };
 
     fn cmp(&self, other: &Lang) -> Ordering {
-        self.as_str().cmp(other.as_str())
+        match (&self.choice, &other.choice) {
+            (Choice::Tagged(tag), Choice::Tagged(other_tag)) => tag.cmp(other_tag),
+            _ => self.as_str().cmp(other.as_str()),
+        }
     }
 }
 

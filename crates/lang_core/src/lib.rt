@@ -26,6 +26,7 @@ mod irregular;
 mod lang;
 pub mod laws;
 mod lookup_text;
+mod lower_text;
 mod matching;
 mod pieces;
 mod range;
@@ -34,7 +35,7 @@ mod stage;
 mod subtag;
 mod subtags;
 mod tag;
-mod text;
+mod tag_table;
 mod truncations;
 
 pub use fault::LangFault;

@@ -15,11 +15,11 @@ ghost use borrow.Author.Rules.{rules};
 
 use crate::fault::LangFault;
 use crate::lookup_text::LookupText;
+use crate::lower_text::{LowerText, MAX_LEN};
 use crate::matching::{matches_basic, matches_basic_text, matches_extended, specificity};
 use crate::range_syntax::{basic_fault, extended_fault};
 use crate::subtags::Subtags;
 use crate::tag::Tag;
-use crate::text::{LowerText, MAX_LEN};
 use crate::truncations::Truncations;
 use std::alloc::{AllocError, Global};
 use std::fmt;
@@ -40,15 +40,13 @@ impl Model for Range {
     ghost use Rattle.lang_core.specs.Range.{IsRange};
     ghost use Rattle.lang_core.specs.Grammar.{ExtendedRange};
     ghost use Rattle.lang_core.specs.LookupText.{lookup_text, kept_text, IsKeptFor};
-    ghost use Rattle.lang_core.specs.LowerText.{lower_bytes, IsInPlace};
 
     ghost Value = { List ℕ };
 
-    ghost view = { λ r. lower_bytes r.text };
+    ghost view = { λ r. r.text };
 
-    ghost invariant = { λ r. IsRange ExtendedRange (lower_bytes r.text)
-        × (kept_text (lower_bytes r.text) r.lookup ≡ lookup_text (lower_bytes r.text))
-        × IsInPlace r.text × IsKeptFor (lower_bytes r.text) r.lookup };
+    ghost invariant = { λ r. IsRange ExtendedRange r.text
+        × (kept_text r.text r.lookup ≡ lookup_text r.text) × IsKeptFor r.text r.lookup };
 }
 
 impl Range {
@@ -215,7 +213,7 @@ impl PartialEq for Range {
     ghost laws = { Prim.search (comparing, rules) };
 
     fn eq(&self, other: &Range) -> bool {
-        self.as_str() == other.as_str()
+        self.text.equals(&other.text)
     }
 }
 

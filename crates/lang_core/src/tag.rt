@@ -14,8 +14,8 @@ ghost use borrow.Author.Rules.{rules};
 
 use crate::fault::LangFault;
 use crate::grammar::tag_fault;
+use crate::lower_text::{LowerText, MAX_LEN};
 use crate::subtags::Subtags;
-use crate::text::{LowerText, MAX_LEN};
 use std::alloc::{AllocError, Global};
 use std::cmp::Ordering;
 use std::fmt;
@@ -34,13 +34,12 @@ pub struct Tag {
 impl Model for Tag {
     ghost use Rattle.std.specs.Prelude.{List, ℕ};
     ghost use Rattle.lang_core.specs.Tag.{IsTag};
-    ghost use Rattle.lang_core.specs.LowerText.{lower_bytes, IsInPlace};
 
     ghost Value = { List ℕ };
 
-    ghost view = { λ t. lower_bytes t.text };
+    ghost view = { λ t. t.text };
 
-    ghost invariant = { λ t. IsTag (lower_bytes t.text) × IsInPlace t.text };
+    ghost invariant = { λ t. IsTag t.text };
 }
 
 impl Tag {
@@ -113,7 +112,7 @@ impl PartialEq for Tag {
     ghost laws = { Prim.search (comparing, rules) };
 
     fn eq(&self, other: &Tag) -> bool {
-        self.as_str() == other.as_str()
+        self.text.equals(&other.text)
     }
 }
 
@@ -141,7 +140,7 @@ impl Ord for Tag {
     ghost matches_eq = { Prim.search (comparing, rules) };
 
     fn cmp(&self, other: &Tag) -> Ordering {
-        self.as_str().cmp(other.as_str())
+        self.text.compare(&other.text)
     }
 }
 

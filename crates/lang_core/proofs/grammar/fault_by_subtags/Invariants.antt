@@ -6,7 +6,7 @@ use Rattle.lang_core.specs.Stage.{accepts}
 use Rattle.lang_core.specs.declared.stage.Stage.TheVariants.{Start}
 use Rattle.lang_core.proofs.CaseLaws.{lowered}
 use Rattle.lang_core.proofs.Walks.{IsWalked}
-use Rattle.lang_core.proofs.grammar.tag_fault.Given as goal
+use Rattle.lang_core.proofs.grammar.fault_by_subtags.Given as goal
 
 abbrev pub invariant-loop-piece : goal.invariant-loop-piece
 invariant-loop-piece l =

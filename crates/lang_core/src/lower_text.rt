@@ -1,0 +1,178 @@
+//! Texts of a length that tags and ranges may have.
+ghost use Rattle.std.specs.Prelude.{◌≡◌, ◌==◌, ◌≤◌, length, position, MatchResult, IfOk, IsErr};
+ghost use Rattle.std.specs.String.{string_bytes};
+ghost use Rattle.std.specs.Str.{IsAscii, bytes_eq, str_to_ascii_lowercase};
+ghost use Rattle.std.specs.Ordering.{nat_cmp};
+ghost use Rattle.std.specs.Cmp.Lexicographic.{slice_cmp};
+ghost use Rattle.lang_core.specs.declared.fault.LangFault.TheVariants.{NoMemory};
+ghost use Rattle.lang_core.specs.LowerText.{IsPlain, filled, unfilled, IsFilled, TakesMemory};
+
+use crate::fault::LangFault;
+use std::alloc::{AllocError, Global};
+use std::cmp::Ordering;
+use std::fmt;
+use std::marker::Model;
+
+/// The most bytes of a tag or a range.
+pub(crate) const MAX_LEN: usize = 255;
+
+/// The most bytes of a text that takes no memory.
+const MAX_SHORT_LEN: usize = 16;
+
+/// A text in lower case of ASCII bytes other than zero.
+#[derive(Drop)]
+pub(crate) struct LowerText {
+    kept: Kept,
+}
+
+/// A short text lies in the value itself, as most tags are short.
+#[derive(Drop)]
+enum Kept {
+    // The text with zero bytes after it. No text has a zero byte, so the arrays are in the order of
+    // the texts, and are compared in place of them.
+    Short([u8; MAX_SHORT_LEN]),
+    Long(String),
+}
+
+impl Model for LowerText {
+    ghost use Rattle.std.specs.Prelude.{List, ℕ};
+    ghost use Rattle.lang_core.specs.Kept.{kept_bytes, IsKept};
+
+    ghost Value = { List ℕ };
+
+    ghost view = { λ t. kept_bytes t.kept };
+
+    ghost invariant = { λ t. IsKept t.kept };
+}
+
+impl LowerText {
+    /// The text in lower case: without memory up to 16 bytes, else by one allocation.
+    pub(crate) fn new(alloc: Global, bytes: &[u8]) -> Result<LowerText, LangFault>
+        requires { IsPlain (str_to_ascii_lowercase bytes.now) }
+        ensures { MatchResult result
+            (λ text. text ≡ str_to_ascii_lowercase bytes.now)
+            (λ fault. (fault ≡ NoMemory) × TakesMemory (str_to_ascii_lowercase bytes.now)) }
+    {
+        let kept = if bytes.len() <= MAX_SHORT_LEN {
+            Kept::Short(lower_short(bytes))
+        } else {
+            Kept::Long(lower_long(alloc, bytes)?)
+        };
+        Ok(LowerText { kept })
+    }
+
+    /// The text.
+    pub(crate) fn as_str(&self) -> &str
+        ensures { result.now ≡ self.now }
+    {
+        match &self.kept {
+            Kept::Short(bytes) => short_text(bytes),
+            Kept::Long(text) => text.as_str(),
+        }
+    }
+
+    /// The bytes of the text.
+    pub(crate) fn as_bytes(&self) -> &[u8]
+        ensures { result.now ≡ self.now }
+    {
+        self.as_str().as_bytes()
+    }
+
+    /// An equal text, by the same number of allocations: without memory up to 16 bytes.
+    pub(crate) fn copy(&self, alloc: Global) -> Result<LowerText, AllocError>
+        ensures equal { IfOk result (λ text. text ≡ self.now) }
+        ensures memory { IsErr result → TakesMemory self.now }
+    {
+        let kept = match &self.kept {
+            Kept::Short(bytes) => Kept::Short(*bytes),
+            Kept::Long(text) => Kept::Long(String::from_str(alloc, text.as_str())?),
+        };
+        Ok(LowerText { kept })
+    }
+
+    /// Whether the texts are equal.
+    pub(crate) fn equals(&self, other: &LowerText) -> bool
+        ensures { result ≡ bytes_eq self.now other.now }
+    {
+        match (&self.kept, &other.kept) {
+            (Kept::Short(bytes), Kept::Short(other_bytes)) => bytes == other_bytes,
+            _ => self.as_str() == other.as_str(),
+        }
+    }
+
+    /// The order of the texts by their bytes.
+    pub(crate) fn compare(&self, other: &LowerText) -> Ordering
+        ensures { result ≡ slice_cmp nat_cmp self.now other.now }
+    {
+        match (&self.kept, &other.kept) {
+            (Kept::Short(bytes), Kept::Short(other_bytes)) => bytes.cmp(other_bytes),
+            _ => self.as_str().cmp(other.as_str()),
+        }
+    }
+}
+
+impl fmt::Debug for LowerText {
+    fn fmt<W: fmt::Write>(&self, f: &mut fmt::Formatter<W>) -> fmt::Result {
+        fmt::Debug::fmt(self.as_str(), f)
+    }
+}
+
+/// A short text in lower case, with zero bytes after it.
+fn lower_short(bytes: &[u8]) -> [u8; MAX_SHORT_LEN]
+    requires { length bytes.now ≤ 16 }
+    ensures { result ≡ filled (str_to_ascii_lowercase bytes.now) }
+{
+    let mut short = fill(bytes);
+    // All of it at once, as its length is known.
+    short.make_ascii_lowercase();
+    short
+}
+
+/// A short text with zero bytes after it.
+fn fill(text: &[u8]) -> [u8; MAX_SHORT_LEN]
+    requires { length text.now ≤ 16 }
+    ensures { result ≡ filled text.now }
+{
+    let mut bytes = [0; MAX_SHORT_LEN];
+    bytes[..text.len()].copy_from_slice(text);
+    bytes
+}
+
+/// An ASCII text in lower case, by one allocation.
+fn lower_long(alloc: Global, bytes: &[u8]) -> Result<String, LangFault>
+    requires { IsAscii bytes.now }
+    ensures { MatchResult result
+        (λ text. string_bytes text ≡ str_to_ascii_lowercase bytes.now)
+        (λ fault. fault ≡ NoMemory) }
+{
+    // ASCII is UTF-8.
+    let text = unsafe { str::from_utf8_unchecked(bytes) };
+    let mut lower = String::from_str(alloc, text)?;
+    lower.make_ascii_lowercase();
+    Ok(lower)
+}
+
+/// The text before the zero bytes.
+fn short_text(bytes: &[u8; MAX_SHORT_LEN]) -> &str
+    requires { IsFilled bytes.now }
+    ensures { result.now ≡ unfilled bytes.now }
+{
+    let len = unfilled_len(bytes);
+    // The text is ASCII, and so UTF-8.
+    unsafe { str::from_utf8_unchecked(&bytes[..len]) }
+}
+
+/// How many bytes come before the zero bytes.
+fn unfilled_len(bytes: &[u8; MAX_SHORT_LEN]) -> usize
+    ensures text { result ≡ length (unfilled bytes.now) }
+    ensures bound { result ≤ 16 }
+{
+    first_zero(bytes).unwrap_or(MAX_SHORT_LEN)
+}
+
+/// The place of the first zero byte.
+fn first_zero(bytes: &[u8]) -> Option<usize>
+    ensures { result ≡ position (λ b. b == 0) bytes.now }
+{
+    bytes.iter().position(|b| *b == 0)
+}
