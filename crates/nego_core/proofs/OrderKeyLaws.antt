@@ -1,5 +1,5 @@
 -- The keys of a list's items.
-use Rattle.std.proofs.Common.{ℕ, ◌≡◌, ◌+◌, List, [], ◌∷◌, ◌++◌, false, refl, ◌∙◌, ap, arith}
+use Rattle.std.proofs.Common.{ℕ, ◌≡◌, List, [], ◌∷◌, ◌++◌, false, refl, ◌∙◌, ap, arith}
 use Rattle.std.specs.Prelude.{Bool, not, ◌≢◌, ◌==◌}
 use Rattle.std.specs.Str.{bytes_eq}
 use Rattle.std.proofs.lemmas.Bool.Decides.{nat_tests}

@@ -44,8 +44,9 @@ use Rattle.nego_core.specs.LookupCandidates.{candidates_of, all_candidates, IsOp
 use Rattle.nego_core.specs.LookupCandidates.{MatchFirstOf}
 use Rattle.nego_core.specs.LookupOrder.{AreOrderKeys, IsOrder, is_tried}
 use Rattle.nego_core.specs.LookupPlaces.{least_place}
-use Rattle.nego_core.specs.Widening.{AreMatched, Fits, IsBelow, IsFirstWidened, IsFirstWidenedAt}
-use Rattle.nego_core.specs.Widening.{IsLookedUpWidened, MatchLeast, MatchesLang, is_below, widened}
+use Rattle.nego_core.specs.WidenedChoice.{Fits, IsFirstWidened, IsFirstWidenedAt, MatchLeast}
+use Rattle.nego_core.specs.WidenedChoice.{is_below}
+use Rattle.nego_core.specs.Widening.{AreMatched, IsBelow, IsLookedUpWidened, MatchesLang, widened}
 use Rattle.nego_core.specs.declared.lookup_order.OrderKey.{OrderKey}
 use Rattle.nego_core.specs.declared.scheme.Scheme.{Scheme}
 use Rattle.nego_core.specs.declared.scheme.Scheme.TheVariants as scheme

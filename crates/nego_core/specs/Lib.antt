@@ -14,6 +14,7 @@ pub mod LookupCandidates
 pub mod LangSet
 pub mod Choosing
 pub mod LookupPlaces
+pub mod WidenedChoice
 pub mod Widening
 pub mod Filtering
 pub mod Unweighted

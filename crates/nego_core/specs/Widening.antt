@@ -1,22 +1,24 @@
 -- Widened lookup (project rule): a range finds the languages that it matches too.
-use Rattle.std.specs.Prelude.{ℕ, ◌≡◌, ◌↔◌, Bool, true, List, ◌++◌, Option, Some, None, All}
+use Rattle.std.specs.Prelude.{ℕ, ◌≡◌, ◌↔◌, List, ◌++◌, Option, Some, None}
 use Rattle.std.specs.Prelude.{AllPairs, Contains, IsSomeAnd, map}
-use Rattle.std.specs.List.{flat_map, slice_get}
+use Rattle.std.specs.List.{flat_map}
 use Rattle.std.specs.Cmp.Lexicographic.{slice_cmp}
-use Rattle.std.specs.Ordering.{nat_cmp, is_lt}
+use Rattle.std.specs.Ordering.{nat_cmp}
 use Rattle.std.specs.declared.cmp.Ordering.TheVariants.{Less}
 use Rattle.lang_core.specs.Text.{pieces}
 use Rattle.lang_core.specs.Lang.{tag_of}
 use Rattle.nego_core.specs.Item.{Item}
-use Rattle.nego_core.specs.Deciding.{Matches, NamedRefuse}
+use Rattle.nego_core.specs.Deciding.{Matches}
 use Rattle.nego_core.specs.LookupOrder.{IsOrder}
 use Rattle.nego_core.specs.LookupCandidates.{candidates_of, IsOpen, MatchFirstOf}
 use Rattle.nego_core.specs.LangSet.{is_among}
-use Rattle.nego_core.specs.LookupPlaces.{least_place}
+use Rattle.nego_core.specs.LookupPlaces.{least_place, IsFound}
 use Rattle.nego_core.specs.Choosing.{IsOpenDefault, HasOpenDefault}
 use Rattle.nego_core.specs.declared.scheme.Scheme.{Scheme}
 use Rattle.nego_core.specs.declared.lookup_places.Found.{Found}
 use Rattle.nego_core.specs.declared.lookup_places.Found.TheVariants.{Matched, Default, Nothing}
+use Rattle.nego_core.specs.declared.widening.Widening.{Widening}
+use Rattle.nego_core.specs.declared.widening.Widening.TheVariants.{Off, By}
 
 -- the range of the item matches the language: none matches "@none"
 abbrev pub MatchesLang : Scheme → Item → List ℕ → Type 0
@@ -51,29 +53,7 @@ IsFoundWidened scheme items langs default (Matched place) = (text : List ℕ) ×
 IsFoundWidened scheme items langs default (Default place) = IsLookedUpWidened scheme items langs None × ((lang : List ℕ) × (default ≡ Some lang) × IsOpenDefault items (is_among langs) lang × (least_place langs lang ≡ Some place))
 IsFoundWidened scheme items langs default Nothing = IsLookedUpWidened scheme items langs None × ¬ HasOpenDefault items (is_among langs) default
 
--- ---- how it is searched
-
--- whatever the languages are that the item matches, the first of its widened candidates that is open
-abbrev pub IsFirstWidened : Scheme → List Item → List (List ℕ) → Item → Option (List (List ℕ)) → Type 0
-IsFirstWidened scheme items langs i found = (matched : List (List ℕ)) → AreMatched scheme langs i matched → MatchFirstOf (IsOpen items (is_among langs)) (widened i matched) found
-
--- the same of the item at a place
-abbrev pub IsFirstWidenedAt : Scheme → List Item → List (List ℕ) → ℕ → Option (List (List ℕ)) → Type 0
-IsFirstWidenedAt scheme items langs place found = of_item (slice_get items place) where
-  of_item : Option Item → Type 0
-  of_item None = found ≡ None
-  of_item (Some i) = IsFirstWidened scheme items langs i found
-
--- the range of the item matches the language, and the items other than "*" do not refuse it
-abbrev pub Fits : Scheme → List Item → Item → List ℕ → Type 0
-Fits scheme items i lang = MatchesLang scheme i lang × ¬ NamedRefuse items (pieces lang)
-
--- the least of the languages that fit, or none where none does
-abbrev pub MatchLeast : (List ℕ → Type 0) → List (List ℕ) → Option (List ℕ) → Type 0
-MatchLeast Passes langs None = All (λ l. ¬ Passes l) langs
-MatchLeast Passes langs (Some x) = Contains langs x × Passes x × All (λ l. Passes l → ¬ IsBelow l x) langs
-
--- whether the language is below the least one so far
-abbrev pub is_below : List ℕ → Option (List ℕ) → Bool
-is_below lang None = true
-is_below lang (Some least) = is_lt (slice_cmp nat_cmp lang least)
+-- lookup, or widened lookup under the scheme
+abbrev pub IsFoundBy : Widening → List Item → List (List ℕ) → Option (List ℕ) → Found → Type 0
+IsFoundBy Off = IsFound
+IsFoundBy (By scheme) = IsFoundWidened scheme

@@ -46,7 +46,11 @@ pub fn choose<'a, H: Holds>(list: &'a PriorityList, held: &H, default: Option<&L
 }
 
 /// Whether there is a default, and it is open.
-fn has_open_default<H: Holds>(list: &PriorityList, held: &H, default: Option<&Lang>) -> bool
+pub(crate) fn has_open_default<H: Holds>(
+    list: &PriorityList,
+    held: &H,
+    default: Option<&Lang>,
+) -> bool
     ensures { IsTrue result
         ↔ HasOpenDefault list.now (H.held held.now) (option_map (λ l. l.now) default.entry) }
 {
@@ -57,7 +61,7 @@ fn has_open_default<H: Holds>(list: &PriorityList, held: &H, default: Option<&La
 }
 
 /// Whether the default is in the set and the whole list does not refuse it.
-pub(crate) fn is_open_default<H: Holds>(list: &PriorityList, held: &H, lang: &Lang) -> bool
+fn is_open_default<H: Holds>(list: &PriorityList, held: &H, lang: &Lang) -> bool
     ensures { IsTrue result ↔ IsOpenDefault list.now (H.held held.now) lang.now }
 {
     held.holds(lang.as_str()) && !refuses(list, lang)

@@ -8,6 +8,8 @@
 //! - [`lookup`] gives the one that fits best, or a default; [`choose`] does so over any set that
 //!   can say whether it has a text ([`Holds`]).
 //! - [`lookup_widened`] also lets a range find the languages that it matches, as `en` finds en-us.
+//!   [`lookup_by`] does either, as its [`Widening`] says; [`choose_widened`] does so over any
+//!   [`Languages`] that can be searched.
 //! - [`NegoFault`] says why a field is refused, and where.
 //!
 //! Of several ranges that match a tag the one with the most subtags other than "*" decides, and
@@ -44,6 +46,7 @@ mod ordered_text;
 mod priority_list;
 mod scheme;
 mod weight;
+mod widened_choice;
 mod widening;
 
 pub use choosing::{Choice, choose};
@@ -55,4 +58,5 @@ pub use lang_set::Holds;
 pub use lookup_places::{Found, lookup};
 pub use priority_list::PriorityList;
 pub use scheme::Scheme;
-pub use widening::{lookup_widened, lookup_widened_lent};
+pub use widened_choice::{Languages, RangeTest, choose_widened};
+pub use widening::{Widening, lookup_by, lookup_widened, lookup_widened_lent};

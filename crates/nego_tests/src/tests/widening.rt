@@ -1,7 +1,9 @@
 //! Widened lookup: a range finds the languages that it matches too.
 use crate::tests::reading::{columns, lang, langs, list_of};
 use lang_core::Lang;
-use nego_core::{Found, PriorityList, Scheme, lookup_widened, lookup_widened_lent};
+use nego_core::{
+    Found, PriorityList, Scheme, Widening, lookup_by, lookup_widened, lookup_widened_lent,
+};
 use std::process::Abort;
 use std::test::Fail;
 
@@ -23,8 +25,8 @@ fn lent<'a>(rt: &(impl Abort + AllocGlobal), langs: &'a [Lang]) -> Result<Vec<&'
     Ok(all)
 }
 
-/// What both calls find, which has to be the same.
-fn found_by_both(
+/// What the three calls find, which has to be the same.
+fn found_by_each(
     rt: &(impl Abort + AllocGlobal),
     list: &PriorityList,
     scheme: Scheme,
@@ -43,6 +45,11 @@ fn found_by_both(
     let found = lookup_widened(list, scheme, &langs, default);
     assert!(rt;
         lookup_widened_lent(list, scheme, &lent, default) == found,
+        "{texts}"
+    );
+    let widening = Widening::By(scheme);
+    assert!(rt;
+        lookup_by(list, widening, &langs, default) == found,
         "{texts}"
     );
     Ok(found)
@@ -76,7 +83,7 @@ fn widened(rt: HostRuntime) -> Result<(), Fail> {
     for row in ROWS.lines() {
         let (field, texts, default, expected) = columns(row);
         let list = list_of(&rt, field)?;
-        let found = found_by_both(&rt, &list, scheme_of(field), texts, default)?;
+        let found = found_by_each(&rt, &list, scheme_of(field), texts, default)?;
         let shown = format!(in rt.alloc(); "{found:?}")?;
         assert!(rt; shown.as_str() == expected, "{shown}: {row}");
     }
@@ -88,11 +95,21 @@ fn widened(rt: HostRuntime) -> Result<(), Fail> {
 #[test]
 fn by_the_scheme(rt: HostRuntime) -> Result<(), Fail> {
     let list = list_of(&rt, "ranges: de-*-DE")?;
-    assert!(rt; found_by_both(&rt, &list, Scheme::Basic, "de-Latn-DE", "")? == Found::Nothing);
+    assert!(rt; found_by_each(&rt, &list, Scheme::Basic, "de-Latn-DE", "")? == Found::Nothing);
     let list = list_of(&rt, "de-DE")?;
-    assert!(rt; found_by_both(&rt, &list, Scheme::Basic, "de-Latn-DE", "")? == Found::Nothing);
+    assert!(rt; found_by_each(&rt, &list, Scheme::Basic, "de-Latn-DE", "")? == Found::Nothing);
     assert!(rt;
-        found_by_both(&rt, &list, Scheme::Extended, "de-Latn-DE", "")? == Found::Matched(0)
+        found_by_each(&rt, &list, Scheme::Extended, "de-Latn-DE", "")? == Found::Matched(0)
     );
+    Ok(())
+}
+
+#[test]
+fn not_widened(rt: HostRuntime) -> Result<(), Fail> {
+    let list = list_of(&rt, "en-GB, fr;q=0.5")?;
+    let regions = langs(&rt, "en-us fr-ca")?;
+    assert!(rt; lookup_by(&list, Widening::Off, &regions, None) == Found::Nothing);
+    let plain = langs(&rt, "en-us en")?;
+    assert!(rt; lookup_by(&list, Widening::Off, &plain, None) == Found::Matched(1));
     Ok(())
 }
