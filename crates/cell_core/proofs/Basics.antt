@@ -1,14 +1,9 @@
 -- Small facts on tests, orderings, options and results.
-use Rattle.std.proofs.Common.{◌≡◌, Bool, true, false, Some, None, Result, Ok, Err, MatchResult, IsOk, OnErr, sym, refl, true≢false}
+use Rattle.std.proofs.Common.{◌≡◌, Bool, true, false, Some, None, Result, Ok, Err, OnErr, sym, refl, true≢false}
 use Rattle.std.specs.Prelude.{T, ◌&&◌}
 use Rattle.std.specs.declared.cmp.Ordering.{Ordering}
 use Rattle.std.specs.declared.cmp.Ordering.TheVariants.{Less, Equal, Greater}
 use Rattle.std.specs.Ordering.{ordering_then, is_lt, is_eq, is_gt}
-
--- where no error fits, the result is a success
-pub ok_where_no_error : {T E : Type 0} (P : T → Type 0) (Q : E → Type 0) (r : Result T E) → MatchResult r P Q → ((e : E) → ¬ (Q e)) → IsOk r
-ok_where_no_error P Q (Ok x) h none = refl
-ok_where_no_error P Q (Err e) h none = absurd (none e h)
 
 pub then_equal : (o : Ordering) → ordering_then o Equal ≡ o
 then_equal Less = refl

@@ -1,3 +1,4 @@
+pub mod AboveLemmas
 pub mod AbsentLemmas
 pub mod AppendLemmas
 pub mod Basics
@@ -8,6 +9,7 @@ pub mod FirstRunLemmas
 pub mod InterleaveLemmas
 pub mod JoinLemmas
 pub mod LabelLemmas
+pub mod MessageIdLemmas
 pub mod MigrationLemmas
 pub mod PaddedNameLemmas
 pub mod PlaceLemmas
@@ -15,3 +17,4 @@ pub mod RunLemmas
 pub mod SiteNameLemmas
 pub mod StampLemmas
 pub mod WalkLemmas
+pub mod ZeroPaddedLemmas

@@ -1,6 +1,8 @@
+pub mod Above
 pub mod Cells
 pub mod Chunks
 pub mod EntriesLeft
+pub mod Entry
 pub mod Found
 pub mod JoinBasis
 pub mod Joins
@@ -17,3 +19,4 @@ pub mod Refusals
 pub mod SiteNames
 pub mod Stamps
 pub mod TextOrder
+pub mod ZeroPadded

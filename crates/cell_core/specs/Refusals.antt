@@ -4,17 +4,17 @@ use Rattle.std.specs.List.{position}
 use Rattle.cell_core.specs.declared.fault.CellFault.{CellFault}
 use Rattle.cell_core.specs.declared.fault.CellFault.TheVariants.{SiteName, IdRefused, LabelCount, TextTooLong, NoMemory}
 use Rattle.cell_core.specs.SiteNames.{IsSiteName}
-use Rattle.cell_core.specs.MessageIds.{IsMessageId}
+use Rattle.cell_core.specs.MessageIds.{IsMessageId, IdTakesMemory}
 use Rattle.cell_core.specs.Labels.{IsLabel, IsLabelCount, is_too_long}
 
 abbrev pub RefusesName : List ℕ → CellFault → Type 0
 RefusesName text SiteName = ¬ (IsSiteName text)
 RefusesName text _ = ⊥
 
--- out of memory comes last
+-- out of memory comes last, and for a long id alone
 abbrev pub RefusesId : List ℕ → CellFault → Type 0
 RefusesId text IdRefused = ¬ (IsMessageId text)
-RefusesId text NoMemory = IsMessageId text
+RefusesId text NoMemory = IsMessageId text × IdTakesMemory text
 RefusesId text _ = ⊥
 
 -- the count is looked at first, then the first text that is too long

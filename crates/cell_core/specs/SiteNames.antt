@@ -1,8 +1,9 @@
--- The names of sites, how one is kept in sixteen bytes, and the names of numbered sites (project
+-- The names of sites, how one is stored in sixteen bytes, and the names of numbered sites (project
 -- rules).
-use Rattle.std.specs.Prelude.{◌≡◌, ℕ, ◌<◌, ◌≤◌, ◌-◌, Bool, ◌||◌, ◌&&◌, ◌==◌, nat_le, List, ◌++◌, length, replicate, All, IsTrue}
-use Rattle.std.specs.List.{before_first}
+use Rattle.std.specs.Prelude.{◌≡◌, ℕ, ◌<◌, ◌≤◌, ◌-◌, Bool, ◌||◌, ◌&&◌, ◌==◌, nat_le}
+use Rattle.std.specs.Prelude.{List, ◌++◌, length, replicate, All, IsTrue}
 use Rattle.std.specs.Fmt.{decimal}
+use Rattle.cell_core.specs.ZeroPadded.{zero_padded, before_zeros}
 
 -- "a" to "z", "0" to "9" or "-"
 unfoldable pub is_site_byte : ℕ → Bool
@@ -13,18 +14,10 @@ pub record IsSiteName (text : List ℕ) : Type 0 where
   pub most : length text ≤ 16
   pub bytes : All (λ b. IsTrue (is_site_byte b)) text
 
--- a text, filled up behind with zero bytes to sixteen
-abbrev pub filled : List ℕ → List ℕ
-filled text = text ++ replicate (16 - length text) 0
-
--- the text in front of the zero bytes
-abbrev pub unfilled : List ℕ → List ℕ
-unfilled bytes = before_first (λ b. b == 0) bytes
-
--- the bytes are a name, filled up
+-- the bytes are a name, padded
 pub record KeepsName (bytes : List ℕ) : Type 0 where
-  pub name : IsSiteName (unfilled bytes)
-  pub zeros : filled (unfilled bytes) ≡ bytes
+  pub name : IsSiteName (before_zeros bytes)
+  pub zeros : zero_padded 16 (before_zeros bytes) ≡ bytes
 
 -- the decimal digits of a number, with zeros in front to ten digits (48 is "0")
 abbrev pub padded_name : ℕ → List ℕ

@@ -5,6 +5,7 @@ ghost use Rattle.std.specs.Prelude.{◌≡◌, ◌+◌, ◌-◌, ◌<◌, ◌≤
 ghost use Rattle.std.specs.Option.{option_copied};
 ghost use Rattle.std.specs.FinMap.Entries.{find, put};
 ghost use Rattle.std.specs.Vec.{vec_len, vec_capacity};
+ghost use Rattle.cell_core.specs.Above.{IsAboveAll};
 ghost use Rattle.cell_core.specs.Maps.{IsMap};
 ghost use Rattle.cell_core.specs.Places.{IsGap};
 ghost use Rattle.cell_core.specs.Chunks.{all_of, entries_of, AllFilled, IsChunked, IsChunkFor, IsKept};
@@ -136,9 +137,10 @@ pub(crate) fn put_pair<K: Key, J: Drop>(
 }
 
 /// Whether the key is greater than all that are there.
-fn is_above_all<K: Key, J>(chunks: &[Vec<(K, J)>], key: &K) -> bool
+pub(crate) fn is_above_all<K: Key, J>(chunks: &[Vec<(K, J)>], key: &K) -> bool
     requires { IsChunked K.cmp chunks.now }
     ensures above { IsTrue result → IsGap K.cmp key.now (all_of chunks.now) (length (all_of chunks.now)) }
+    ensures below { IsAboveAll K.cmp key.now (all_of chunks.now) → IsTrue result }
     ensures some { result ≡ false → 0 < length chunks.now }
 {
     match chunks.last() {
@@ -148,7 +150,11 @@ fn is_above_all<K: Key, J>(chunks: &[Vec<(K, J)>], key: &K) -> bool
 }
 
 /// Appends a key that is greater than all others; a full last chunk stays whole.
-fn append<K: Key, J: Drop>(chunks: &mut Chunks<K, J>, key: K, value: J) -> Result<(), (K, J)>
+pub(crate) fn append<K: Key, J: Drop>(
+    chunks: &mut Chunks<K, J>,
+    key: K,
+    value: J,
+) -> Result<(), (K, J)>
     requires kept { IsKept K.cmp chunks.old }
     requires above { IsGap K.cmp key (entries_of chunks.old) (length (entries_of chunks.old)) }
     ensures kept { IsKept K.cmp chunks.new }

@@ -1,10 +1,12 @@
 //! Maps from keys to values that join, in rising order of the keys.
 
-ghost use Rattle.std.specs.Prelude.{◌≡◌, ◌-◌, ◌↔◌, [], IsTrue, IfErr, OnOk, IsOk, IsSome, length, slice_get};
+ghost use Rattle.std.specs.Prelude.{◌≡◌, ◌-◌, ◌↔◌, ◌∷◌, ◌++◌, [], IsTrue, IfErr, OnOk, IsOk, IsSome};
+ghost use Rattle.std.specs.Prelude.{length, slice_get};
 ghost use Rattle.std.specs.Option.{option_copied, option_copied_mut, option_map};
 ghost use Rattle.std.specs.Borrow.{LendsIf, sem};
 ghost use Rattle.std.specs.FinMap.Entries.{find, put};
 ghost use Rattle.cell_core.specs.contracts.keyed.Keyed.{the_row};
+ghost use Rattle.cell_core.specs.Above.{IsAboveAll};
 ghost use Rattle.cell_core.specs.Found.{with_key};
 ghost use Rattle.cell_core.specs.Maps.{IsMap, AgreeMaps, joined_maps, BetweenMaps, map_laws};
 
@@ -12,7 +14,8 @@ pub(crate) mod iter;
 
 use crate::chunk_joins::{agree_chunks, join_chunks};
 use crate::chunks::{
-    Chunks, chunk_for, chunk_from_last, copy_chunks, last_pair, nth_pair, put_pair,
+    Chunks, append, chunk_for, chunk_from_last, copy_chunks, is_above_all, last_pair, nth_pair,
+    put_pair,
 };
 use crate::join::Join;
 use crate::key::{Key, Query};
@@ -171,6 +174,27 @@ impl<K: Key, J> Keyed<K, J> {
         ensures held { IsSome (find K.cmp key self.old) → IsOk result }
     {
         put_pair(&mut self.chunks, key, value)
+    }
+
+    /// Whether the key is greater than all others, as [`Keyed::push`] requires.
+    pub fn is_above_all(&self, key: &K) -> bool
+        ensures { IsTrue result ↔ IsAboveAll K.cmp key.now self.now }
+    {
+        is_above_all(&self.chunks.list, key)
+    }
+
+    /// Appends a key with its value; the key has to be greater than all others
+    /// ([`Keyed::is_above_all`]).
+    ///
+    /// Where there is no memory that very pair comes back, and the map is as it was.
+    pub fn push(&mut self, key: K, value: J) -> Result<(), (K, J)>
+    where
+        J: Drop,
+        requires { IsAboveAll K.cmp key self.old }
+        ensures ok { OnOk result (self.new ≡ self.old ++ (key, value) ∷ []) }
+        ensures err { IfErr result (λ pair. (pair ≡ (key, value)) × (self.new ≡ self.old)) }
+    {
+        append(&mut self.chunks, key, value)
     }
 
     /// An iterator over the entries in rising order of the keys.

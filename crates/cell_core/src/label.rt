@@ -1,6 +1,6 @@
 //! Labels: the texts of a message in one language.
 
-ghost use Rattle.std.specs.Prelude.{◌≡◌, ◌↔◌, IfOk, IsTrue, MatchResult, length, nat_eq, Some, None};
+ghost use Rattle.std.specs.Prelude.{◌≡◌, ◌∷◌, ◌↔◌, [], IfOk, IsTrue, MatchResult, length, nat_eq, Some, None};
 ghost use Rattle.std.specs.List.{position};
 ghost use Rattle.std.specs.String.{string_bytes};
 ghost use Rattle.std.specs.Cmp as laws_of;
@@ -23,7 +23,7 @@ const MOST_BYTES: usize = 65_535;
 /// The label of a message in one language: 1 to 64 texts, in order, of at most 65,535 bytes each.
 ///
 /// A text may be empty, and may hold any character. A label never changes, so a copy shares the
-/// texts and takes no memory.
+/// texts.
 #[derive(Debug, Drop)]
 pub struct Label {
     texts: Arc<SmallVec<String, 1>>,
@@ -67,6 +67,22 @@ impl Label {
         Ok(Label { texts })
     }
 
+    /// The label of this one text, which is not copied: one allocation, where [`Label::from_texts`]
+    /// needs a vector besides.
+    ///
+    /// Refused by [`CellFault::TextTooLong`] (11) where the text is over 65,535 bytes.
+    pub fn from_text(text: String) -> Result<Label, CellFault>
+        ensures { let bytes = string_bytes text ∷ [] in
+            MatchResult result (λ label. IsLabel bytes × (label ≡ bytes)) (RefusesLabel bytes) }
+    {
+        if is_too_long(&text) {
+            return Err(CellFault::TextTooLong { index: 0 });
+        }
+        let alloc = *text.allocator();
+        let texts = Arc::new(alloc, SmallVec::from_buf(alloc, [text]))?;
+        Ok(Label { texts })
+    }
+
     /// The texts, in order.
     pub fn texts(&self) -> &[String]
         ensures texts { texts_of result.now ≡ self.now }
@@ -75,7 +91,8 @@ impl Label {
         self.texts.as_slice()
     }
 
-    /// An equal label, which shares the texts. It takes no memory.
+    /// An equal label, which shares the texts. By its code it takes no memory, which no contract
+    /// can say.
     ///
     /// Refused (26) where there are as many copies as can be counted, 2^63 - 1.
     pub fn copy(&self, _alloc: Global) -> Result<Label, AllocError>

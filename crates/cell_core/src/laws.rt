@@ -4,7 +4,8 @@
 ghost use Rattle.std.specs.Prelude.{◌≡◌, ◌<◌, ◌^◌, ℕ, List};
 ghost use Rattle.std.specs.Ordering.{nat_cmp};
 ghost use Rattle.std.specs.Cmp.Lexicographic.{slice_cmp};
-ghost use Rattle.cell_core.specs.SiteNames.{IsSiteName, filled, padded_name};
+ghost use Rattle.cell_core.specs.SiteNames.{IsSiteName, padded_name};
+ghost use Rattle.cell_core.specs.ZeroPadded.{zero_padded};
 ghost use Rattle.cell_core.specs.Stamps.{stamp_cmp};
 ghost use Rattle.cell_core.specs.Cells.{AgreeStamps, joined_stamps, AgreeCells, joined_cells};
 ghost use Rattle.cell_core.specs.Migration.{OldStamp, IsOldStamp, OldCell, old_stamp_cmp, AgreeOldStamps, joined_old_stamps, AgreeOldCells, joined_old_cells, migrated_stamp, migrated_cell, KeepsJoins};
@@ -14,7 +15,7 @@ use crate::stamp::Stamp;
 /// Names padded with zero bytes to 16 are in the order of the names.
 pub fn filled_names_keep_order()
     ensures { (x y : List ℕ) → IsSiteName x → IsSiteName y
-        → slice_cmp nat_cmp (filled x) (filled y) ≡ slice_cmp nat_cmp x y }
+        → slice_cmp nat_cmp (zero_padded 16 x) (zero_padded 16 y) ≡ slice_cmp nat_cmp x y }
 {}
 
 /// The padded names of numbers are site names.

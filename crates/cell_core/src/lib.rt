@@ -8,6 +8,7 @@
 //! - [`Cell`] is a last-writer-wins register (RR-7506, 3.2.1): a [`Stamp`] with a [`Label`], or
 //!   with none for a deletion. Of two cells the join keeps the one with the greater stamp.
 //! - [`Keyed`] is a map that joins key by key. A [`Query`] finds an entry without a [`Key`].
+//! - [`Entry`] is a value of a message in a language, such as a cell, a label or a stamp.
 //! - [`MessageId`] and [`SiteName`] are checked texts, and [`CellFault`] says why one is refused.
 //!
 //! ```text
@@ -18,6 +19,11 @@
 //! let theirs = Cell::new(second, None);
 //! mine.agrees(&theirs)                                     true: their stamps differ
 //! mine.join(alloc, &theirs)?                               mine is the deletion, of stamp second
+//!
+//! let mut cells = Keyed::new(alloc);                       Keyed<Lang, Cell>: one message
+//! cells.put(en, mine)                                      Ok(()), or the pair back (no memory)
+//! cells.get_by("en")                                       the entry of en, found by its text
+//! cells.join(alloc, &other)?                               key by key, as cells join
 //! ```
 //!
 //! The laws of names, stamps and cells are in [`laws`].
@@ -26,6 +32,7 @@
 mod cell;
 mod chunk_joins;
 mod chunks;
+mod entry;
 mod fault;
 mod interleave;
 mod join;
@@ -37,8 +44,10 @@ mod message_id;
 mod pairs;
 mod site_name;
 mod stamp;
+mod zero_padded;
 
 pub use cell::Cell;
+pub use entry::Entry;
 pub use fault::CellFault;
 pub use join::{Join, agree_all, join_all};
 pub use key::{Key, Query};

@@ -1,16 +1,19 @@
 //! The ids of messages.
 
-ghost use Rattle.std.specs.Prelude.{◌≡◌, ◌↔◌, IfOk, IsTrue, MatchResult, All, nat_eq, Some, refl};
+ghost use Rattle.std.specs.Prelude.{◌≡◌, ◌≤◌, ◌↔◌, IfOk, IsErr, IsTrue, MatchResult, All};
+ghost use Rattle.std.specs.Prelude.{length, nat_eq, Some, refl};
+ghost use Rattle.std.specs.Fmt.{padded};
 ghost use Rattle.std.specs.Ordering.{nat_cmp};
 ghost use Rattle.std.specs.Cmp as laws_of;
 ghost use Rattle.std.specs.Cmp.Lexicographic.{slice_cmp, pointwise, nat_list_cmp_total, nat_list_eq_equiv, texts_po};
 ghost use Rattle.std.specs.String.{string_bytes};
 ghost use Rattle.std.proofs.lemmas.Map.Lookups.{exact_bytes};
-ghost use Rattle.cell_core.specs.MessageIds.{is_id_byte, IsMessageId};
+ghost use Rattle.cell_core.specs.MessageIds.{is_id_byte, IsMessageId, IdTakesMemory, id_bytes, KeepsId};
 ghost use Rattle.cell_core.specs.TextOrder.{texts_tie};
 
 use crate::fault::CellFault;
 use crate::key::Key;
+use crate::zero_padded::{before_zeros, zero_padded};
 use std::alloc::{AllocError, Global};
 use std::cmp::Ordering;
 use std::fmt;
@@ -19,42 +22,54 @@ use std::marker::Model;
 /// The most bytes of an id.
 const MOST_BYTES: usize = 128;
 
+/// The most bytes of an id that takes no memory.
+const MOST_SHORT_BYTES: usize = 32;
+
 /// The id of a message: 1 to 128 bytes, none of them below 32 and none 127, the first not `@`.
 ///
-/// Ids are ordered by their bytes.
-#[derive(Debug, Drop)]
+/// Ids are ordered by their bytes. An id of at most 32 bytes lies in the value itself: it takes no
+/// memory, and neither does its copy.
+#[derive(Drop)]
 pub struct MessageId {
-    text: String,
+    text: IdText,
+}
+
+/// The text of an id.
+#[derive(Drop)]
+enum IdText {
+    /// Padded with zero bytes.
+    Short([u8; MOST_SHORT_BYTES]),
+    Long(String),
 }
 
 impl Model for MessageId {
     ghost use Rattle.std.specs.Prelude.{List, ℕ};
-    ghost use Rattle.std.specs.String.{string_bytes};
-    ghost use Rattle.cell_core.specs.MessageIds.{IsMessageId};
+    ghost use Rattle.cell_core.specs.MessageIds.{id_bytes, KeepsId};
 
     ghost Value = { List ℕ };
 
-    ghost view = { λ m. string_bytes m.text };
+    ghost view = { λ m. id_bytes m.text };
 
-    ghost invariant = { λ m. IsMessageId (string_bytes m.text) };
+    ghost invariant = { λ m. KeepsId m.text };
 }
 
 impl MessageId {
     ghost use Rattle.cell_core.specs.Refusals.{RefusesId};
 
-    /// The id with this text.
+    /// The id with this text: in place up to 32 bytes, else by one allocation.
     ///
-    /// Refused by [`CellFault::IdRefused`] (10) where the text is no message id.
+    /// Refused by [`CellFault::IdRefused`] (10) where the text is no message id, then by
+    /// [`CellFault::NoMemory`] (26) where an id of over 32 bytes finds no memory.
     pub fn new(alloc: Global, text: &str) -> Result<MessageId, CellFault>
         ensures { MatchResult result (λ id. IsMessageId text.now × (id ≡ text.now))
             (RefusesId text.now) }
     {
         check_id(text)?;
-        let text = String::from_str(alloc, text)?;
+        let text = IdText::new(alloc, text)?;
         Ok(MessageId { text })
     }
 
-    /// The id with this text, which is not copied; it takes no memory.
+    /// The id with this text; it takes no memory, and one of over 32 bytes is not copied.
     ///
     /// Refused by [`CellFault::IdRefused`] (10) where the text is no message id.
     pub fn from_text(text: String) -> Result<MessageId, CellFault>
@@ -63,7 +78,9 @@ impl MessageId {
             (λ fault. (fault ≡ CellFault.IdRefused) × ¬ (IsMessageId bytes)) }
     {
         check_id(text.as_str())?;
-        Ok(MessageId { text })
+        Ok(MessageId {
+            text: IdText::from_text(text),
+        })
     }
 
     /// The text of the id.
@@ -75,12 +92,20 @@ impl MessageId {
     }
 }
 
+impl fmt::Debug for MessageId {
+    fn fmt<W: fmt::Write>(&self, f: &mut fmt::Formatter<W>) -> fmt::Result {
+        fmt::Debug::fmt(self.as_str(), f)
+    }
+}
+
 /// Shows the text of the id.
 impl fmt::Display for MessageId {
     ghost output = { λ id. Some id };
 
+    ghost styled_output = { λ id spec. Some (padded spec id) };
+
     fn fmt<W: fmt::Write>(&self, f: &mut fmt::Formatter<W>) -> fmt::Result {
-        f.write_str(self.as_str())
+        f.pad(self.as_str())
     }
 }
 
@@ -90,7 +115,7 @@ impl PartialEq for MessageId {
     ghost laws = { laws_of.partial_equiv_from_equiv nat_list_eq_equiv };
 
     fn eq(&self, other: &MessageId) -> bool {
-        self.text == other.text
+        self.text.is_equal(&other.text)
     }
 }
 
@@ -118,16 +143,101 @@ impl Ord for MessageId {
     ghost matches_eq = { texts_tie };
 
     fn cmp(&self, other: &MessageId) -> Ordering {
-        self.text.cmp(&other.text)
+        self.text.compare(&other.text)
     }
 }
 
 impl Key for MessageId {
     ghost exact = { exact_bytes };
 
-    fn copy(&self, alloc: Global) -> Result<MessageId, AllocError> {
-        let text = String::from_str(alloc, self.text.as_str())?;
+    /// An equal id. A copy of an id of at most 32 bytes is never refused.
+    fn copy(&self, alloc: Global) -> Result<MessageId, AllocError>
+        ensures equal { IfOk result (λ copied. copied ≡ self.now) }
+        ensures memory { IsErr result → IdTakesMemory self.now }
+    {
+        let text = self.text.copy(alloc)?;
         Ok(MessageId { text })
+    }
+}
+
+impl IdText {
+    /// The text, in place up to 32 bytes.
+    fn new(alloc: Global, text: &str) -> Result<IdText, AllocError>
+        requires { IsMessageId text.now }
+        ensures { MatchResult result (λ stored. KeepsId stored × (id_bytes stored ≡ text.now))
+            (λ _. IdTakesMemory text.now) }
+    {
+        if text.len() > MOST_SHORT_BYTES {
+            return Ok(IdText::Long(String::from_str(alloc, text)?));
+        }
+        Ok(IdText::short(text))
+    }
+
+    /// The text, in place up to 32 bytes, else as it is.
+    fn from_text(text: String) -> IdText
+        requires { IsMessageId (string_bytes text) }
+        ensures { KeepsId result × (id_bytes result ≡ string_bytes text) }
+    {
+        if text.len() <= MOST_SHORT_BYTES {
+            return IdText::short(text.as_str());
+        }
+        IdText::Long(text)
+    }
+
+    /// A short text, in place.
+    fn short(text: &str) -> IdText
+        requires id { IsMessageId text.now }
+        requires short { length text.now ≤ 32 }
+        ensures { KeepsId result × (id_bytes result ≡ text.now) }
+    {
+        IdText::Short(zero_padded(text.as_bytes()))
+    }
+
+    /// The text.
+    fn as_str(&self) -> &str
+        requires { KeepsId self.now }
+        ensures { result.now ≡ id_bytes self.now }
+    {
+        match self {
+            IdText::Short(bytes) => before_zeros(bytes),
+            IdText::Long(text) => text.as_str(),
+        }
+    }
+
+    /// An equal text.
+    fn copy(&self, alloc: Global) -> Result<IdText, AllocError>
+        requires { KeepsId self.now }
+        ensures { MatchResult result (λ stored. KeepsId stored × (id_bytes stored ≡ id_bytes self.now))
+            (λ _. IdTakesMemory (id_bytes self.now)) }
+    {
+        match self {
+            IdText::Short(bytes) => Ok(IdText::Short(*bytes)),
+            IdText::Long(text) => Ok(IdText::Long(String::from_str(alloc, text.as_str())?)),
+        }
+    }
+
+    /// Whether the texts are equal.
+    fn is_equal(&self, other: &IdText) -> bool
+        requires own { KeepsId self.now }
+        requires others { KeepsId other.now }
+        ensures { result ≡ pointwise nat_eq (id_bytes self.now) (id_bytes other.now) }
+    {
+        if let (IdText::Short(own), IdText::Short(others)) = (self, other) {
+            return own == others;
+        }
+        self.as_str() == other.as_str()
+    }
+
+    /// How the texts are ordered by their bytes; of short ones the arrays are in that order.
+    fn compare(&self, other: &IdText) -> Ordering
+        requires own { KeepsId self.now }
+        requires others { KeepsId other.now }
+        ensures { result ≡ slice_cmp nat_cmp (id_bytes self.now) (id_bytes other.now) }
+    {
+        if let (IdText::Short(own), IdText::Short(others)) = (self, other) {
+            return own.cmp(others);
+        }
+        self.as_str().cmp(other.as_str())
     }
 }
 

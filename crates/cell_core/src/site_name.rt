@@ -1,13 +1,15 @@
 //! The names of sites.
 
-ghost use Rattle.std.specs.Prelude.{◌≡◌, ◌==◌, ◌≤◌, ◌↔◌, position, IsTrue, MatchResult, All, length, nat_eq, Some, refl};
+ghost use Rattle.std.specs.Prelude.{◌≡◌, ◌↔◌, IsTrue, MatchResult, All, nat_eq, Some, refl};
+ghost use Rattle.std.specs.Fmt.{padded};
 ghost use Rattle.std.specs.Ordering.{nat_cmp};
 ghost use Rattle.std.specs.Cmp as laws_of;
 ghost use Rattle.std.specs.Cmp.Lexicographic.{slice_cmp, pointwise, nat_list_cmp_total, nat_list_eq_equiv, texts_po};
-ghost use Rattle.cell_core.specs.SiteNames.{is_site_byte, IsSiteName, filled, unfilled, padded_name};
+ghost use Rattle.cell_core.specs.SiteNames.{is_site_byte, IsSiteName, padded_name};
 ghost use Rattle.cell_core.specs.TextOrder.{texts_tie};
 
 use crate::fault::CellFault;
+use crate::zero_padded::{before_zeros, zero_padded};
 use std::cmp::Ordering;
 use std::fmt;
 use std::marker::Model;
@@ -23,22 +25,22 @@ const DIGITS: usize = 10;
 /// Names are ordered by their bytes, a proper prefix below the longer name.
 #[derive(Clone, Copy)]
 pub struct SiteName {
-    // The text, padded with zero bytes. No name has a byte as low, so the arrays are in the order
-    // of the texts.
+    // The text, padded with zero bytes.
     bytes: [u8; MOST_BYTES],
 }
 
 impl Model for SiteName {
     ghost use Rattle.std.specs.Prelude.{List, ℕ};
-    ghost use Rattle.cell_core.specs.SiteNames.{KeepsName, filled, unfilled};
+    ghost use Rattle.cell_core.specs.SiteNames.{KeepsName};
+    ghost use Rattle.cell_core.specs.ZeroPadded.{zero_padded, before_zeros};
 
     ghost Value = { List ℕ };
 
-    ghost view = { λ n. unfilled n.bytes };
+    ghost view = { λ n. before_zeros n.bytes };
 
     ghost invariant = { λ n. KeepsName n.bytes };
 
-    ghost inverse = { λ text. record { bytes = filled text } };
+    ghost inverse = { λ text. record { bytes = zero_padded 16 text } };
 
     ghost inverse_ok = { λ n kept i. record { bytes = kept.zeros i } };
 }
@@ -57,7 +59,9 @@ impl SiteName {
         if bytes.is_empty() || bytes.len() > MOST_BYTES || !are_site_bytes(bytes) {
             return Err(CellFault::SiteName);
         }
-        Ok(SiteName { bytes: fill(bytes) })
+        Ok(SiteName {
+            bytes: zero_padded(bytes),
+        })
     }
 
     /// The name of a numbered site: the decimal digits of its number, with zeros in front to ten
@@ -72,7 +76,7 @@ impl SiteName {
             rest /= 10;
         }
         SiteName {
-            bytes: fill(&digits),
+            bytes: zero_padded(&digits),
         }
     }
 
@@ -81,8 +85,7 @@ impl SiteName {
         ensures text { result.now ≡ self.now }
         ensures name { IsSiteName self.now }
     {
-        let len = unfilled_len(&self.bytes);
-        str::from_utf8(&self.bytes[..len]).unwrap()
+        before_zeros(&self.bytes)
     }
 }
 
@@ -96,8 +99,10 @@ impl fmt::Debug for SiteName {
 impl fmt::Display for SiteName {
     ghost output = { λ name. Some name };
 
+    ghost styled_output = { λ name spec. Some (padded spec name) };
+
     fn fmt<W: fmt::Write>(&self, f: &mut fmt::Formatter<W>) -> fmt::Result {
-        f.write_str(self.as_str())
+        f.pad(self.as_str())
     }
 }
 
@@ -152,29 +157,4 @@ fn is_site_byte(b: u8) -> bool
     ensures { result ≡ is_site_byte b }
 {
     b.is_ascii_lowercase() || b.is_ascii_digit() || b == b'-'
-}
-
-/// The text, padded with zero bytes.
-fn fill(text: &[u8]) -> [u8; MOST_BYTES]
-    requires { length text.now ≤ 16 }
-    ensures { result ≡ filled text.now }
-{
-    let mut bytes = [0; MOST_BYTES];
-    bytes[..text.len()].copy_from_slice(text);
-    bytes
-}
-
-/// How many bytes come before the zero bytes.
-fn unfilled_len(bytes: &[u8; MOST_BYTES]) -> usize
-    ensures text { result ≡ length (unfilled bytes.now) }
-    ensures bound { result ≤ 16 }
-{
-    first_zero(bytes).unwrap_or(MOST_BYTES)
-}
-
-/// The place of the first zero byte.
-fn first_zero(bytes: &[u8]) -> Option<usize>
-    ensures { result ≡ position (λ b. b == 0) bytes.now }
-{
-    bytes.iter().position(|&b| b == 0)
 }

@@ -1,5 +1,6 @@
 //! Worked examples, limits, texts of refusals, and each call once. All have ample memory.
 
+mod entries;
 mod generic;
 mod growing_maps;
 mod joins;

@@ -41,6 +41,33 @@ fn assert_same(rt: &impl Abort, a: &Keyed<Lang, Cell>, b: &Keyed<Lang, Cell>) {
     }
 }
 
+/// Appends the entry where its key is greater than all others.
+fn is_pushed(map: &mut Keyed<Lang, Cell>, key: Lang, cell: Cell) -> bool {
+    map.is_above_all(&key) && map.push(key, cell).is_ok()
+}
+
+#[test]
+fn appends_a_key_above_all(rt: HostRuntime) {
+    let mut map = one(&rt, rt.alloc(), "en", "a");
+    let cell = deleted(stamp(&rt, 7, "0000000001", 0));
+    assert!(rt; is_pushed(&mut map, lang(&rt, rt.alloc(), "fr"), cell));
+    assert_same(
+        &rt,
+        &map,
+        &joined(&rt, rt.alloc(), one(&rt, rt.alloc(), "en", "a"), &map),
+    );
+    assert_eq!(rt; map.len(), 2);
+}
+
+#[test]
+fn appends_no_key_below_or_at_another(rt: HostRuntime) {
+    let mut map = one(&rt, rt.alloc(), "en", "a");
+    let stamp = stamp(&rt, 7, "0000000001", 0);
+    assert!(rt; !is_pushed(&mut map, lang(&rt, rt.alloc(), "de"), deleted(stamp)));
+    assert!(rt; !is_pushed(&mut map, lang(&rt, rt.alloc(), "en"), deleted(stamp)));
+    assert_same(&rt, &map, &one(&rt, rt.alloc(), "en", "a"));
+}
+
 #[test]
 fn joins_key_by_key(rt: HostRuntime) {
     let later = two(&rt, rt.alloc());

@@ -81,6 +81,7 @@ fn refuses_long_texts(rt: HostRuntime) {
     let alloc = rt.alloc();
     let first = CellFault::TextTooLong { index: 0 };
     assert_refused(&rt, alloc, many(&rt, alloc, 0, 1), first);
+    assert_fault(&rt, Label::from_text(repeated(&rt, alloc, 65_536)), first);
     let second = CellFault::TextTooLong { index: 1 };
     assert_refused(&rt, alloc, many(&rt, alloc, 1, 2), second);
 }
@@ -95,6 +96,14 @@ fn keeps_texts_of_any_length(rt: HostRuntime) {
     let alloc = rt.alloc();
     assert_kept(&rt, alloc, one(&rt, alloc, repeated(&rt, alloc, 0)));
     assert_kept(&rt, alloc, one(&rt, alloc, repeated(&rt, alloc, 65_535)));
+}
+
+#[test]
+fn keeps_one_text(rt: HostRuntime) {
+    let alloc = rt.alloc();
+    let texts = one(&rt, alloc, repeated(&rt, alloc, 65_535));
+    let label = Label::from_text(repeated(&rt, alloc, 65_535)).expect(&rt, "a label");
+    assert_texts(&rt, &label, &texts);
 }
 
 #[test]

@@ -26,8 +26,7 @@ pub fn lang(rt: &impl Abort, alloc: Global, tag: &str) -> Lang {
 /// A label of one text.
 pub fn label(rt: &impl Abort, alloc: Global, text: &str) -> Label {
     let text = String::from_str(alloc, text).expect(rt, "memory for the text");
-    let texts = Vec::from_array(alloc, [text]).expect(rt, "memory for the texts");
-    Label::from_texts(texts).expect(rt, "a label")
+    Label::from_text(text).expect(rt, "a label")
 }
 
 /// A cell with a label of one text.

@@ -68,6 +68,24 @@ fn counts_bytes(rt: HostRuntime) {
 }
 
 #[test]
+fn reads_ids_in_place_and_outside(rt: HostRuntime) {
+    let alloc = rt.alloc();
+    assert_read(&rt, alloc, repeated(&rt, alloc, "a", 32).as_str());
+    assert_read(&rt, alloc, repeated(&rt, alloc, "a", 33).as_str());
+    assert_read(&rt, alloc, repeated(&rt, alloc, "\u{e4}", 16).as_str());
+    assert_read(&rt, alloc, repeated(&rt, alloc, "\u{e4}", 17).as_str());
+}
+
+#[test]
+fn orders_ids_in_place_and_outside(rt: HostRuntime) {
+    let alloc = rt.alloc();
+    let (most_short, least_long) = (repeated(&rt, alloc, "a", 32), repeated(&rt, alloc, "a", 33));
+    assert_below(&rt, alloc, "a", most_short.as_str());
+    assert_below(&rt, alloc, most_short.as_str(), least_long.as_str());
+    assert_below(&rt, alloc, least_long.as_str(), "b");
+}
+
+#[test]
 fn orders_by_bytes(rt: HostRuntime) {
     let alloc = rt.alloc();
     assert_below(&rt, alloc, "a", "aa");

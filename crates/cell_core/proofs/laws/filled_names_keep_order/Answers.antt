@@ -1,5 +1,5 @@
-use Rattle.cell_core.proofs.SiteNameLemmas.{cmp-filled}
+use Rattle.cell_core.proofs.SiteNameLemmas.{cmp-padded_names}
 use Rattle.cell_core.proofs.laws.filled_names_keep_order.Goals as goal
 
 pub returns : goal.returns
-returns c = cmp-filled
+returns c = cmp-padded_names
