@@ -5,6 +5,7 @@ pub mod Best
 pub mod CataFaults
 pub mod CatalogueJoins
 pub mod Catalogues
+pub mod ChangesLemmas
 pub mod ClashWalks
 pub mod Clashes
 pub mod Deliveries
@@ -25,6 +26,7 @@ pub mod LeastDeltas
 pub mod Lengths
 pub mod LentLists
 pub mod LiveLabels
+pub mod LiveLanguages
 pub mod LiveMessages
 pub mod Machine
 pub mod Mapped

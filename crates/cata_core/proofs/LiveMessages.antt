@@ -7,10 +7,11 @@ use Rattle.std.specs.Ordering.{is_eq, is_lt}
 use Rattle.std.specs.Cmp.Lexicographic.{nat_list_cmp_total}
 use Rattle.std.specs.FinMap.Entries.{find, below_all, is_sorted}
 use Rattle.nego_core.specs.Item.{Item}
+use Rattle.nego_core.specs.declared.widening.Widening.{Widening}
 use Rattle.cell_core.specs.Maps.{IsMap, same_maps}
 use Rattle.cata_core.specs.declared.reply.Reply.{Reply}
 use Rattle.cata_core.specs.declared.reply.Reply.TheVariants.{Matched, Default, Nothing}
-use Rattle.cata_core.specs.Asking.{IsLookedUpOf, IsLookupAnswer}
+use Rattle.cata_core.specs.Asking.{IsLookedUpBy, IsLookupAnswerBy}
 use Rattle.cata_core.specs.Entries.{text_cmp, Entries}
 use Rattle.cata_core.specs.Flat.{flat, inner_of}
 use Rattle.cata_core.specs.Live.{Labelled, live_of, live}
@@ -73,7 +74,8 @@ below-live_of x (e ∷ es) h =
       | Some label ↦ both_parts (is_lt (text_cmp x e.0)) (below_all text_cmp x (live_of es)) (first_part (is_lt (text_cmp x e.0)) (below_all text_cmp x es) h) rest
     ]
 
-live_of-IsMap : (es : Inner) → IsMap text_cmp es → IsMap text_cmp (live_of es)
+-- the live labels of a message rise by their languages
+pub live_of-IsMap : (es : Inner) → IsMap text_cmp es → IsMap text_cmp (live_of es)
 live_of-IsMap [] h = tt
 live_of-IsMap (e ∷ es) h =
     let rest = live_of-IsMap es (second_part (below_all text_cmp e.0 es) (is_sorted text_cmp es) h) in
@@ -114,20 +116,31 @@ no_labels [] = λ e. refl
 no_labels (label ∷ rest) = λ e. absurd (cc)
 
 -- over no labels a lookup answers nothing
-nothing_live : (items : List Item) (default : Option (List ℕ)) (reply : Reply) → IsLookedUpOf [] items default reply → reply ≡ Nothing
-nothing_live items default (Matched lang label) = λ h. let none : None ≡ Some label = h.1 in absurd (cc)
-nothing_live items default (Default lang label) = λ h. let none : None ≡ Some label = h.3 in absurd (cc)
-nothing_live items default Nothing = λ h. refl
+nothing_live : (widening : Widening) (items : List Item) (default : Option (List ℕ)) (reply : Reply)
+    → IsLookedUpBy widening [] items default reply → reply ≡ Nothing
+nothing_live widening items default (Matched lang label) = λ h.
+    let none : None ≡ Some label = h.1 in absurd (cc)
+nothing_live widening items default (Default lang label) = λ h.
+    let none : None ≡ Some label = h.3 in absurd (cc)
+nothing_live widening items default Nothing = λ h. refl
 
 module _ (cells : Entries) (messages : List LiveMessage) (are : AreMessages cells messages) (id : List ℕ) where
-  pub a_message_answers : (labels : Labelled) → find text_cmp id messages ≡ Some labels → (items : List Item) (default : Option (List ℕ)) (reply : Reply)
-      → IsLookedUpOf labels items default reply ↔ IsLookupAnswer cells id items default reply
-  a_message_answers labels found items default reply =
+  -- a message answers a lookup, widened or not, as the catalogue does
+  pub a_message_answers : (labels : Labelled) → find text_cmp id messages ≡ Some labels
+      → (widening : Widening) (items : List Item) (default : Option (List ℕ)) (reply : Reply)
+      → IsLookedUpBy widening labels items default reply
+      ↔ IsLookupAnswerBy widening cells id items default reply
+  a_message_answers labels found widening items default reply =
       let same = labels_are labels (live cells id) (sym (are.each id) ∙ found) in (
-        λ h. subst (λ (l : Labelled). IsLookedUpOf l items default reply) same h,
-        λ h. subst (λ (l : Labelled). IsLookedUpOf l items default reply) (sym same) h,
+        λ h. subst (λ (l : Labelled). IsLookedUpBy widening l items default reply) same h,
+        λ h. subst (λ (l : Labelled). IsLookedUpBy widening l items default reply) (sym same) h,
       )
 
-  pub no_message_answers : find text_cmp id messages ≡ None → (items : List Item) (default : Option (List ℕ)) (reply : Reply) → IsLookupAnswer cells id items default reply → reply ≡ Nothing
-  no_message_answers found items default reply h =
-      nothing_live items default reply (subst (λ (l : Labelled). IsLookedUpOf l items default reply) (no_labels (live cells id) (sym (are.each id) ∙ found)) h)
+  -- where a message has no live labels its lookup answers nothing
+  pub no_message_answers : find text_cmp id messages ≡ None → (widening : Widening)
+      (items : List Item) (default : Option (List ℕ)) (reply : Reply)
+      → IsLookupAnswerBy widening cells id items default reply → reply ≡ Nothing
+  no_message_answers found widening items default reply h =
+      let none = no_labels (live cells id) (sym (are.each id) ∙ found) in
+      let over = subst (λ (l : Labelled). IsLookedUpBy widening l items default reply) none h in
+      nothing_live widening items default reply over

@@ -5,6 +5,8 @@ use Rattle.std.specs.Ordering.{is_eq, eq_by_cmp}
 use Rattle.std.specs.FinMap.Entries.{find}
 use Rattle.nego_core.specs.Item.{Item}
 use Rattle.nego_core.specs.declared.scheme.Scheme.{Scheme}
+use Rattle.nego_core.specs.declared.widening.Widening.{Widening}
+use Rattle.nego_core.specs.declared.widening.Widening.TheVariants.{Off}
 use Rattle.cell_core.specs.declared.cell.Cell.{Cell}
 use Rattle.cell_core.specs.Cells.{AgreeCells, joined_cells}
 use Rattle.cell_core.specs.Maps.{IsMap, AgreeIfBoth, joined_if_both, joined_maps-IsMap, find-joined_maps, same_maps}
@@ -12,7 +14,8 @@ use Rattle.cata_core.specs.declared.reply.Reply.{Reply}
 use Rattle.cata_core.specs.Entries.{EntryKey, key_cmp, key_cmp_total, key_cmp_exact, text_cmp, Entry, Entries, Agree, joined}
 use Rattle.cata_core.specs.Deltas.{Stamps, summary_of, is_missing, delta_of}
 use Rattle.cata_core.specs.Live.{Labelled, live_of, live}
-use Rattle.cata_core.specs.Asking.{Weighed, IsFilteredOf, IsLookedUpOf, IsFilterAnswer, IsLookupAnswer}
+use Rattle.cata_core.specs.Asking.{Weighed, IsFilteredOf, IsFilterAnswer, IsLookedUpBy}
+use Rattle.cata_core.specs.Asking.{IsLookupAnswer, IsLookupAnswerBy}
 use Rattle.cata_core.specs.Parts.{part_of}
 use Rattle.cata_core.proofs.Basics.{tied}
 use Rattle.cata_core.proofs.Best.{same_key}
@@ -143,10 +146,20 @@ part_filters messages cells id inside scheme items answer =
       λ h. subst (λ (labels : Labelled). IsFilteredOf labels scheme items answer) (sym same) h,
     )
 
-pub part_looks_up : (messages : List ℕ → Bool) (cells : Entries) (id : List ℕ) → IsTrue (messages id) → (items : List Item) (default : Option (List ℕ)) (answer : Reply)
-    → IsLookupAnswer (part_of messages cells) id items default answer ↔ IsLookupAnswer cells id items default answer
-part_looks_up messages cells id inside items default answer =
+-- a lookup of a message, widened or not, is answered by its part as by the whole
+pub part_looks_up_by : (messages : List ℕ → Bool) (cells : Entries) (id : List ℕ)
+    → IsTrue (messages id) → (widening : Widening) (items : List Item) (default : Option (List ℕ))
+    (answer : Reply) → IsLookupAnswerBy widening (part_of messages cells) id items default answer
+    ↔ IsLookupAnswerBy widening cells id items default answer
+part_looks_up_by messages cells id inside widening items default answer =
     let same = live_in_part messages id inside cells in (
-      λ h. subst (λ (labels : Labelled). IsLookedUpOf labels items default answer) same h,
-      λ h. subst (λ (labels : Labelled). IsLookedUpOf labels items default answer) (sym same) h,
+      λ h. subst (λ (l : Labelled). IsLookedUpBy widening l items default answer) same h,
+      λ h. subst (λ (l : Labelled). IsLookedUpBy widening l items default answer) (sym same) h,
     )
+
+-- the same of RFC 4647's lookup
+pub part_looks_up : (messages : List ℕ → Bool) (cells : Entries) (id : List ℕ)
+    → IsTrue (messages id) → (items : List Item) (default : Option (List ℕ)) (answer : Reply)
+    → IsLookupAnswer (part_of messages cells) id items default answer
+    ↔ IsLookupAnswer cells id items default answer
+part_looks_up messages cells id inside = part_looks_up_by messages cells id inside Off

@@ -3,10 +3,12 @@ use Rattle.std.proofs.Common.{◌≡◌, ℕ, List, [], ◌∷◌, ◌++◌, Opt
 use Rattle.std.specs.FinMap.Entries.{find}
 use Rattle.lang_core.specs.Text.{pieces, joined}
 use Rattle.nego_core.specs.Item.{Item}
-use Rattle.nego_core.specs.LookupCandidates.{IsLookedUp}
 use Rattle.nego_core.specs.declared.scheme.Scheme.{Scheme}
+use Rattle.nego_core.specs.declared.widening.Widening.{Widening}
+use Rattle.nego_core.specs.declared.widening.Widening.TheVariants.{Off, By}
 use Rattle.nego_core.proofs.FilteringLaws.{one_filtered}
 use Rattle.nego_core.proofs.LookupCandidatesLaws.{one_lookup}
+use Rattle.nego_core.proofs.WideningLemmas.{one_widened}
 use Rattle.cata_core.specs.declared.step.Step.{Step}
 use Rattle.cata_core.specs.declared.step.Step.TheVariants.{Edit, Merge, AskFilter, AskLookup, AskCells, Tell, Post, Deliver}
 use Rattle.cata_core.specs.declared.answer.Answer.{Answer}
@@ -15,7 +17,8 @@ use Rattle.cata_core.specs.declared.reply.Reply.{Reply}
 use Rattle.cata_core.specs.declared.reply.Reply.TheVariants.{Matched, Default, Nothing}
 use Rattle.cata_core.specs.Entries.{text_cmp, Entries}
 use Rattle.cata_core.specs.Live.{Labelled, live, languages, is_live}
-use Rattle.cata_core.specs.Asking.{Weighed, picked, IsFilterAnswer, IsLookedUpOf, IsLookupAnswer}
+use Rattle.cata_core.specs.Asking.{Weighed, picked, Finds, IsFilterAnswer, IsLookedUpBy}
+use Rattle.cata_core.specs.Asking.{IsLookupAnswer, IsLookupAnswerBy}
 use Rattle.cata_core.specs.Answers.{IsAnswered, AreAnswersBy}
 use Rattle.cata_core.proofs.Basics.{some_same}
 use Rattle.cata_core.proofs.Replies.{joined-pieces}
@@ -28,18 +31,34 @@ pub one_filter_answer : (cells : Entries) (id : List ℕ) (scheme : Scheme) (ite
 one_filter_answer cells id scheme items a b f g =
     f.answer_is ∙ ap (picked (live cells id)) (one_filtered scheme items (languages (live cells id)) f.picks g.picks f.filtered g.filtered) ∙ sym g.answer_is
 
-module _ (labels : Labelled) (items : List Item) where
+-- lookup finds one language, widened or not
+one_found : (widening : Widening) (labels : Labelled) (items : List Item)
+    (a b : Option (List (List ℕ))) → Finds widening labels items a → Finds widening labels items b
+    → a ≡ b
+one_found Off labels items a b f g = one_lookup items (is_live labels) a b f g
+one_found (By scheme) labels items a b f g = one_widened scheme items (languages labels) a b f g
+
+module _ (widening : Widening) (labels : Labelled) (items : List Item) where
   -- what was found is not also not found
-  found_or_none : (lang : List ℕ) → IsLookedUp items (is_live labels) (Some (pieces lang)) → IsLookedUp items (is_live labels) None → ⊥
-  found_or_none lang f g = let e = one_lookup items (is_live labels) (Some (pieces lang)) None f g in cc
+  found_or_none : (lang : List ℕ) → Finds widening labels items (Some (pieces lang))
+      → Finds widening labels items None → ⊥
+  found_or_none lang f g =
+      let e = one_found widening labels items (Some (pieces lang)) None f g in cc
 
   -- a language has one label
-  one_label : (lang lang2 : List ℕ) (label label2 : List (List ℕ)) → lang ≡ lang2 → find text_cmp lang labels ≡ Some label → find text_cmp lang2 labels ≡ Some label2 → label ≡ label2
-  one_label lang lang2 label label2 e f g = some_same label label2 (sym f ∙ ap (λ x. find text_cmp x labels) e ∙ g)
+  one_label : (lang lang2 : List ℕ) (label label2 : List (List ℕ)) → lang ≡ lang2
+      → find text_cmp lang labels ≡ Some label → find text_cmp lang2 labels ≡ Some label2
+      → label ≡ label2
+  one_label lang lang2 label label2 e f g =
+      some_same label label2 (sym f ∙ ap (λ x. find text_cmp x labels) e ∙ g)
 
-  pub one_reply : (default : Option (List ℕ)) (a b : Reply) → IsLookedUpOf labels items default a → IsLookedUpOf labels items default b → a ≡ b
+  -- an answer over the labels is one
+  pub one_reply : (default : Option (List ℕ)) (a b : Reply)
+      → IsLookedUpBy widening labels items default a → IsLookedUpBy widening labels items default b
+      → a ≡ b
   one_reply default (Matched x p) (Matched y q) f g =
-      let e : x ≡ y = same_text x y (some_same (pieces x) (pieces y) (one_lookup items (is_live labels) (Some (pieces x)) (Some (pieces y)) f.0 g.0)) in
+      let found = one_found widening labels items (Some (pieces x)) (Some (pieces y)) f.0 g.0 in
+      let e : x ≡ y = same_text x y (some_same (pieces x) (pieces y) found) in
       let l : p ≡ q = one_label x y p q e f.1 g.1 in
       λ i. Matched (e i) (l i)
   one_reply default (Matched x p) (Default y q) f g = absurd (found_or_none x f.0 g.0)
@@ -54,8 +73,19 @@ module _ (labels : Labelled) (items : List Item) where
   one_reply default Nothing (Default y q) f g = absurd (f.1 g.1)
   one_reply default Nothing Nothing f g = refl
 
-pub one_lookup_answer : (cells : Entries) (id : List ℕ) (items : List Item) (default : Option (List ℕ)) (a b : Reply) → IsLookupAnswer cells id items default a → IsLookupAnswer cells id items default b → a ≡ b
-one_lookup_answer cells id items default a b f g = one_reply (live cells id) items default a b f g
+-- a lookup over a catalogue has one answer, widened or not
+pub one_lookup_answer_by : (widening : Widening) (cells : Entries) (id : List ℕ)
+    (items : List Item) (default : Option (List ℕ)) (a b : Reply)
+    → IsLookupAnswerBy widening cells id items default a
+    → IsLookupAnswerBy widening cells id items default b → a ≡ b
+one_lookup_answer_by widening cells id items default a b f g =
+    one_reply widening (live cells id) items default a b f g
+
+-- a lookup over a catalogue has one answer
+pub one_lookup_answer : (cells : Entries) (id : List ℕ) (items : List Item)
+    (default : Option (List ℕ)) (a b : Reply) → IsLookupAnswer cells id items default a
+    → IsLookupAnswer cells id items default b → a ≡ b
+one_lookup_answer = one_lookup_answer_by Off
 
 -- ---- of a step, and of a run
 

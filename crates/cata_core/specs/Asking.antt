@@ -5,10 +5,15 @@ use Rattle.std.specs.FinMap.Entries.{find}
 use Rattle.lang_core.specs.Text.{pieces}
 use Rattle.nego_core.specs.Item.{Item}
 use Rattle.nego_core.specs.declared.filtering.Pick.{Pick}
+use Rattle.nego_core.specs.declared.choosing.Choice.{Choice}
+use Rattle.nego_core.specs.declared.choosing.Choice.TheVariants as choice
 use Rattle.nego_core.specs.declared.scheme.Scheme.{Scheme}
+use Rattle.nego_core.specs.declared.widening.Widening.{Widening}
+use Rattle.nego_core.specs.declared.widening.Widening.TheVariants.{Off, By}
 use Rattle.nego_core.specs.Filtering.{IsFiltered}
 use Rattle.nego_core.specs.LookupCandidates.{IsLookedUp}
 use Rattle.nego_core.specs.Choosing.{HasOpenDefault}
+use Rattle.nego_core.specs.Widening.{IsLookedUpWidened}
 use Rattle.cata_core.specs.declared.reply.Reply.{Reply}
 use Rattle.cata_core.specs.declared.reply.Reply.TheVariants.{Matched, Default, Nothing}
 use Rattle.cata_core.specs.Entries.{text_cmp, Entries}
@@ -33,16 +38,43 @@ pub record IsFilteredOf (labels : Labelled) (scheme : Scheme) (items : List Item
   pub filtered : IsFiltered scheme items (languages labels) picks
   pub answer_is : answer ≡ picked labels picks
 
--- RFC 4647 section 3.4: the language found with its label, or the default with its label where that
--- is live (project rule)
+-- what lookup finds among the languages of the labels: by RFC 4647 section 3.4, or widened under a
+-- scheme (project rule)
+abbrev pub Finds : Widening → Labelled → List Item → Option (List (List ℕ)) → Type 0
+Finds Off labels items = IsLookedUp items (is_live labels)
+Finds (By scheme) labels items = IsLookedUpWidened scheme items (languages labels)
+
+-- what is chosen: the language found, or the default where that is live (project rule)
+abbrev pub IsChosenBy : Widening → Labelled → List Item → Option (List ℕ) → Choice → Type 0
+IsChosenBy widening labels items default (choice.Matched text) =
+    Finds widening labels items (Some (pieces text.now))
+IsChosenBy widening labels items default choice.Default =
+    Finds widening labels items None × HasOpenDefault items (is_live labels) default
+IsChosenBy widening labels items default choice.Nothing =
+    Finds widening labels items None × ¬ (HasOpenDefault items (is_live labels) default)
+
+-- the same, each language with its label
+abbrev pub IsLookedUpBy : Widening → Labelled → List Item → Option (List ℕ) → Reply → Type 0
+IsLookedUpBy widening labels items default (Matched lang label) =
+    Finds widening labels items (Some (pieces lang)) × (find text_cmp lang labels ≡ Some label)
+IsLookedUpBy widening labels items default (Default lang label) =
+    Finds widening labels items None × HasOpenDefault items (is_live labels) default
+    × (default ≡ Some lang) × (find text_cmp lang labels ≡ Some label)
+IsLookedUpBy widening labels items default Nothing =
+    Finds widening labels items None × ¬ (HasOpenDefault items (is_live labels) default)
+
+-- the same by RFC 4647 section 3.4
 abbrev pub IsLookedUpOf : Labelled → List Item → Option (List ℕ) → Reply → Type 0
-IsLookedUpOf labels items default (Matched lang label) = IsLookedUp items (is_live labels) (Some (pieces lang)) × (find text_cmp lang labels ≡ Some label)
-IsLookedUpOf labels items default (Default lang label) = IsLookedUp items (is_live labels) None × HasOpenDefault items (is_live labels) default × (default ≡ Some lang) × (find text_cmp lang labels ≡ Some label)
-IsLookedUpOf labels items default Nothing = IsLookedUp items (is_live labels) None × ¬ (HasOpenDefault items (is_live labels) default)
+IsLookedUpOf = IsLookedUpBy Off
 
 -- the answers over a catalogue
 abbrev pub IsFilterAnswer : Entries → List ℕ → Scheme → List Item → Weighed → Type 0
 IsFilterAnswer cells id scheme items answer = IsFilteredOf (live cells id) scheme items answer
 
+abbrev pub IsLookupAnswerBy : Widening → Entries → List ℕ → List Item → Option (List ℕ) → Reply
+    → Type 0
+IsLookupAnswerBy widening cells id items default reply =
+    IsLookedUpBy widening (live cells id) items default reply
+
 abbrev pub IsLookupAnswer : Entries → List ℕ → List Item → Option (List ℕ) → Reply → Type 0
-IsLookupAnswer cells id items default reply = IsLookedUpOf (live cells id) items default reply
+IsLookupAnswer = IsLookupAnswerBy Off

@@ -4,6 +4,8 @@ pub mod AnswersEq
 pub mod Asking
 pub mod CataFaults
 pub mod CellsLeft
+pub mod Changes
+pub mod ChangesLeft
 pub mod Clashes
 pub mod Counts
 pub mod Deltas

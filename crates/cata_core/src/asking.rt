@@ -10,7 +10,7 @@ ghost use Rattle.cata_core.specs.LiveLeft.{labels_left};
 ghost use Rattle.cata_core.specs.LiveIn.{live_in};
 ghost use Rattle.cata_core.specs.LentEntries.{labelled_of};
 ghost use Rattle.cata_core.specs.LentAnswers.{reply_of};
-ghost use Rattle.cata_core.specs.Asking.{IsFilterAnswer, IsLookupAnswer};
+ghost use Rattle.cata_core.specs.Asking.{IsFilterAnswer, IsLookupAnswer, IsLookupAnswerBy};
 ghost use Rattle.cata_core.specs.LiveMessages.{AreMessages};
 ghost use Rattle.cata_core.specs.MessagesLeft.{messages_left};
 
@@ -22,7 +22,7 @@ use crate::messages::Messages;
 use crate::reply::LentReply;
 use cell_core::{Label, MessageId};
 use lang_core::Lang;
-use nego_core::{PriorityList, Scheme, filter_lent};
+use nego_core::{PriorityList, Scheme, Widening, filter_lent};
 use std::alloc::{AllocError, Global};
 
 impl Catalogue {
@@ -82,7 +82,26 @@ impl Catalogue {
     ) -> LentReply<'a>
         ensures { IsLookupAnswer self.now id.now list.now (option_map (λ l. l.now) default.entry) (reply_of result) }
     {
-        self.live(id).look_up(list, default)
+        self.ask_lookup_by(id, list, Widening::Off, default)
+    }
+
+    /// The live label of a message that the list looks up, where a range may find the languages
+    /// that it matches too ([`nego_core::lookup_widened`], project rule), or that of the default,
+    /// or nothing. With [`Widening::Off`] it is [`Catalogue::ask_lookup`].
+    ///
+    /// It takes no memory. A default is available only where it has a live label, and is not
+    /// widened.
+    pub fn ask_lookup_by<'a>(
+        &'a self,
+        id: &MessageId,
+        list: &PriorityList,
+        widening: Widening,
+        default: Option<&Lang>,
+    ) -> LentReply<'a>
+        ensures { IsLookupAnswerBy widening self.now id.now list.now
+            (option_map (λ l. l.now) default.entry) (reply_of result) }
+    {
+        self.live(id).look_up(list, widening, default)
     }
 }
 

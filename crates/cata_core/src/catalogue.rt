@@ -8,6 +8,8 @@ ghost use Rattle.cell_core.specs.Maps.{IsMap};
 ghost use Rattle.cell_core.specs.Stamps.{stamp_cmp};
 ghost use Rattle.cata_core.specs.CataFaults.{IsRefusal, IsLeft};
 ghost use Rattle.cata_core.specs.CellsLeft.{cells_left};
+ghost use Rattle.cata_core.specs.Changes.{AreChanges};
+ghost use Rattle.cata_core.specs.ChangesLeft.{changes_left};
 ghost use Rattle.cata_core.specs.Counts.{count_absent};
 ghost use Rattle.cata_core.specs.Entries.{text_cmp, key_cmp, IsAboveAll, Agree, joined, Between};
 ghost use Rattle.cata_core.specs.Flat.{flat};
@@ -16,6 +18,7 @@ ghost use Rattle.cata_core.specs.Settled.{IsSettledIn};
 
 use crate::cata_fault::CataFault;
 use crate::cells::Cells;
+use crate::changes::Changes;
 use crate::clash::first_clash;
 use crate::edit::Edit;
 use crate::places;
@@ -113,6 +116,16 @@ impl Catalogue {
         ensures sorted { IsMap key_cmp self.now }
     {
         Cells::new(&self.map)
+    }
+
+    /// What changed from this catalogue to the other: each key whose cells are not equal, or that
+    /// one of them lacks, with both cells, in rising order of key.
+    ///
+    /// It takes no memory, and goes once over the cells of both.
+    pub fn changes<'a>(&'a self, after: &'a Catalogue) -> Changes<'a>
+        ensures { AreChanges self.now after.now (changes_left result) }
+    {
+        Changes::new(self.iter(), after.iter())
     }
 
     /// An equal catalogue.

@@ -17,12 +17,15 @@ pub struct Labels<'a> {
 impl<'a> Labels<'a> {
     ghost use Rattle.std.specs.Option.{option_copied};
     ghost use Rattle.cata_core.specs.Flat.{inner_of};
+    ghost use Rattle.cell_core.specs.Maps.{IsMap};
+    ghost use Rattle.cata_core.specs.Entries.{text_cmp};
     ghost use Rattle.cata_core.specs.Live.{live_of};
     ghost use Rattle.cata_core.specs.LiveLeft.{labels_left};
 
     /// The live labels of these cells.
     pub(crate) fn new(cells: Option<&'a Keyed<Lang, Cell>>) -> Labels<'a>
-        ensures { labels_left result ≡ live_of (inner_of (option_copied cells.entry)) }
+        ensures labels { labels_left result ≡ live_of (inner_of (option_copied cells.entry)) }
+        ensures rise { IsMap text_cmp (labels_left result) }
     {
         match cells {
             Some(cells) => Labels {

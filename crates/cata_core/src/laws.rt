@@ -12,6 +12,7 @@ ghost use Rattle.cata_core.specs.Latest.{latest_of, IsLatest};
 ghost use Rattle.cata_core.specs.Flat.{flat};
 ghost use Rattle.cata_core.specs.Nested.{AgreeNested, IsCatalogue, Nested, joined_nested};
 ghost use Rattle.cata_core.specs.Deltas.{Stamps, HasAll, IsPart, IsBelowStamps, summary_of, delta_of};
+ghost use Rattle.cata_core.specs.Changes.{AreChanges, AreMade, Changed, exchanged};
 ghost use Rattle.cata_core.specs.Parts.{part_of};
 ghost use Rattle.cata_core.specs.declared.step.Step.{Step};
 ghost use Rattle.cata_core.specs.declared.step.Step.TheVariants.{Edit, Tell, Post, Deliver};
@@ -19,11 +20,14 @@ ghost use Rattle.cata_core.specs.Taken.{taken, taken_after, nothing_taken, edits
 ghost use Rattle.cata_core.specs.Held.{held, held_after, nothing_held, cells_in};
 ghost use Rattle.nego_core.specs.Item.{Item};
 ghost use Rattle.nego_core.specs.declared.scheme.Scheme.{Scheme};
+ghost use Rattle.nego_core.specs.declared.widening.Widening.{Widening};
+ghost use Rattle.nego_core.specs.declared.widening.Widening.TheVariants.{Off};
 ghost use Rattle.cata_core.specs.declared.answer.Answer.{Answer};
 ghost use Rattle.cata_core.specs.declared.reply.Reply.{Reply};
 ghost use Rattle.cata_core.specs.Live.{Labelled};
 ghost use Rattle.cata_core.specs.LiveMessages.{LiveMessage, AreMessages};
-ghost use Rattle.cata_core.specs.Asking.{Weighed, IsFilterAnswer, IsLookedUpOf, IsLookupAnswer};
+ghost use Rattle.cata_core.specs.Asking.{Weighed, IsFilterAnswer, IsLookedUpBy};
+ghost use Rattle.cata_core.specs.Asking.{IsLookupAnswer, IsLookupAnswerBy};
 ghost use Rattle.cata_core.specs.Answers.{cells_answer, AreHeldAnswers, AreAnswers};
 ghost use Rattle.cata_core.specs.Alike.{AnswerAlike};
 ghost use Rattle.cata_core.specs.Faulty.{IsNoDeliver, NoDelivers, NoneFaulty, Clashes, Unsettles};
@@ -161,18 +165,34 @@ pub fn one_lookup_answer()
         → IsLookupAnswer cells id items default a → IsLookupAnswer cells id items default b → a ≡ b }
 {}
 
+/// A lookup that may be widened has one answer, and where it is not widened that of a lookup.
+pub fn one_lookup_answer_by()
+    ensures one { (widening : Widening) (cells : Entries) (id : List ℕ) (items : List Item)
+        (default : Option (List ℕ)) (a b : Reply)
+        → IsLookupAnswerBy widening cells id items default a
+        → IsLookupAnswerBy widening cells id items default b → a ≡ b }
+    ensures off { (cells : Entries) (id : List ℕ) (items : List Item) (default : Option (List ℕ))
+        (reply : Reply) → IsLookupAnswerBy Off cells id items default reply
+        ↔ IsLookupAnswer cells id items default reply }
+{}
+
 /// A catalogue has one list of the messages that have live labels.
 pub fn one_list_of_messages()
     ensures { (cells : Entries) (a b : List LiveMessage) → AreMessages cells a → AreMessages cells b → a ≡ b }
 {}
 
-/// A message that has live labels answers a lookup as its catalogue does; a lookup over any other
-/// message answers nothing.
+/// A message that has live labels answers a lookup, widened or not, as its catalogue does; a lookup
+/// over any other message answers nothing.
 pub fn messages_answer_as_the_catalogue()
-    ensures held { (cells : Entries) (messages : List LiveMessage) → AreMessages cells messages → (id : List ℕ) (labels : Labelled) → find text_cmp id messages ≡ Some labels
-        → (items : List Item) (default : Option (List ℕ)) (reply : Reply) → IsLookedUpOf labels items default reply ↔ IsLookupAnswer cells id items default reply }
-    ensures absent { (cells : Entries) (messages : List LiveMessage) → AreMessages cells messages → (id : List ℕ) → find text_cmp id messages ≡ None
-        → (items : List Item) (default : Option (List ℕ)) (reply : Reply) → IsLookupAnswer cells id items default reply → reply ≡ Reply.Nothing }
+    ensures held { (cells : Entries) (messages : List LiveMessage) → AreMessages cells messages
+        → (id : List ℕ) (labels : Labelled) → find text_cmp id messages ≡ Some labels
+        → (widening : Widening) (items : List Item) (default : Option (List ℕ)) (reply : Reply)
+        → IsLookedUpBy widening labels items default reply
+        ↔ IsLookupAnswerBy widening cells id items default reply }
+    ensures absent { (cells : Entries) (messages : List LiveMessage) → AreMessages cells messages
+        → (id : List ℕ) → find text_cmp id messages ≡ None
+        → (widening : Widening) (items : List Item) (default : Option (List ℕ)) (reply : Reply)
+        → IsLookupAnswerBy widening cells id items default reply → reply ≡ Reply.Nothing }
 {}
 
 /// The steps of a run have one list of answers by what the sites hold, and one by what they took.
@@ -259,6 +279,30 @@ pub fn migration_keeps_joins()
     ensures { (a b : OldEntries) → IsOldMap a → IsOldMap b → KeepsJoins migrated_entries AgreeOld joined_old Agree joined a b }
 {}
 
+/// Two catalogues have one list of changes. A key is in it exactly where their cells differ, with
+/// both of them, and it is empty exactly where the catalogues are equal. The catalogue after is the
+/// one before with the changes made, and exchanging the two exchanges before and after.
+pub fn changes_are_what_differs()
+    ensures one { (before after : Entries) (a b : Changed)
+        → AreChanges before after a → AreChanges before after b → a ≡ b }
+    ensures differ { (before after : Entries) (changes : Changed)
+        → AreChanges before after changes → (key : EntryKey) (mine other : Option Cell)
+        → (find key_cmp key changes ≡ Some (mine, other))
+        ↔ ((find key_cmp key before ≡ mine) × (find key_cmp key after ≡ other) × (mine ≢ other)) }
+    ensures alike { (before after : Entries) (changes : Changed)
+        → AreChanges before after changes → (key : EntryKey)
+        → (find key_cmp key changes ≡ None)
+        ↔ (find key_cmp key before ≡ find key_cmp key after) }
+    ensures empty { (before after : Entries) (changes : Changed)
+        → AreChanges before after changes → IsMap key_cmp before → IsMap key_cmp after
+        → (changes ≡ []) ↔ (before ≡ after) }
+    ensures made { (before after : Entries) (changes : Changed)
+        → AreChanges before after changes → IsMap key_cmp after → (made : Entries)
+        → AreMade before changes made ↔ (made ≡ after) }
+    ensures turned { (before after : Entries) (changes : Changed)
+        → AreChanges before after changes → AreChanges after before (exchanged changes) }
+{}
+
 // ---- catalogues in parts, each with the cells of some of the messages
 
 /// A part has at the keys of its messages what the whole has, and at no other key anything.
@@ -288,6 +332,19 @@ pub fn a_part_answers_as_the_whole()
         → IsFilterAnswer (part_of messages cells) id scheme items answer ↔ IsFilterAnswer cells id scheme items answer }
     ensures lookup { (messages : List ℕ → Bool) (cells : Entries) (id : List ℕ) → IsTrue (messages id) → (items : List Item) (default : Option (List ℕ)) (answer : Reply)
         → IsLookupAnswer (part_of messages cells) id items default answer ↔ IsLookupAnswer cells id items default answer }
+    ensures widened { (messages : List ℕ → Bool) (cells : Entries) (id : List ℕ)
+        → IsTrue (messages id) → (widening : Widening) (items : List Item)
+        (default : Option (List ℕ)) (answer : Reply)
+        → IsLookupAnswerBy widening (part_of messages cells) id items default answer
+        ↔ IsLookupAnswerBy widening cells id items default answer }
+{}
+
+/// The changes of a part are the part of the changes.
+pub fn a_part_of_changes()
+    ensures { (messages : List ℕ → Bool) (before after : Entries) (changes : Changed)
+        → AreChanges before after changes
+        → AreChanges (part_of messages before) (part_of messages after)
+        (part_of messages changes) }
 {}
 
 // ---- that premises are needed

@@ -3,14 +3,21 @@
 ghost use Rattle.std.specs.Prelude.{◌≡◌};
 ghost use Rattle.std.specs.FinMap.Entries.{find};
 ghost use Rattle.cata_core.specs.Entries.{text_cmp};
-ghost use Rattle.cata_core.specs.Live.{live_of};
+ghost use Rattle.cata_core.specs.Live.{languages, live_of};
+ghost use Rattle.cata_core.specs.LiveLeft.{labels_left};
+ghost use Rattle.cell_core.specs.Maps.{IsMap};
+ghost use Rattle.nego_core.specs.WidenedChoice.{MatchLeast, Passes};
+ghost use Rattle.std.specs.Option.{option_map};
 ghost use Rattle.cell_core.specs.Found.{with_key};
 ghost use Rattle.cata_core.specs.Lent.{lent_pair};
 
+use crate::labels::Labels;
 use crate::reply::LentReply;
 use cell_core::{Cell, Keyed, Label};
 use lang_core::Lang;
-use nego_core::{Choice, Holds, PriorityList, choose};
+use nego_core::{
+    Choice, Holds, Languages, PriorityList, RangeTest, Widening, choose, choose_widened,
+};
 
 /// The live labels of a message, which a lookup searches by their languages' texts.
 #[derive(Drop)]
@@ -19,8 +26,8 @@ pub(crate) struct Live<'a> {
 }
 
 impl<'a> Live<'a> {
-    ghost use Rattle.std.specs.Option.{option_copied, option_map};
-    ghost use Rattle.cata_core.specs.Asking.{IsLookedUpOf};
+    ghost use Rattle.std.specs.Option.{option_copied};
+    ghost use Rattle.cata_core.specs.Asking.{IsChosenBy, IsLookedUpBy};
     ghost use Rattle.cata_core.specs.Flat.{inner_of};
     ghost use Rattle.cata_core.specs.LentAnswers.{reply_of};
     ghost use Rattle.cata_core.specs.LiveIn.{live_in};
@@ -42,12 +49,17 @@ impl<'a> Live<'a> {
         }
     }
 
-    /// The live label that the list looks up (RFC 4647, section 3.4), or that of the default, or
-    /// nothing.
-    pub(crate) fn look_up(&self, list: &PriorityList, default: Option<&Lang>) -> LentReply<'a>
-        ensures { IsLookedUpOf (live_in self.now) list.now (option_map (λ l. l.now) default.entry) (reply_of result) }
+    /// The live label that the list looks up, widened or not, or that of the default, or nothing.
+    pub(crate) fn look_up(
+        &self,
+        list: &PriorityList,
+        widening: Widening,
+        default: Option<&Lang>,
+    ) -> LentReply<'a>
+        ensures { IsLookedUpBy widening (live_in self.now) list.now
+            (option_map (λ l. l.now) default.entry) (reply_of result) }
     {
-        match choose(list, self, default) {
+        match self.choose(list, widening, default) {
             Choice::Matched(text) => match self.label(text) {
                 Some((lang, label)) => LentReply::Matched(lang, label),
                 None => unreachable!(),
@@ -62,6 +74,22 @@ impl<'a> Live<'a> {
             Choice::Nothing => LentReply::Nothing,
         }
     }
+
+    /// The language that the list looks up, widened or not, or that the default is to be answered.
+    fn choose<'b>(
+        &'b self,
+        list: &'b PriorityList,
+        widening: Widening,
+        default: Option<&Lang>,
+    ) -> Choice<'b>
+        ensures { IsChosenBy widening (live_in self.now) list.now
+            (option_map (λ l. l.now) default.entry) result }
+    {
+        match widening {
+            Widening::Off => choose(list, self, default),
+            Widening::By(scheme) => choose_widened(list, scheme, self, default),
+        }
+    }
 }
 
 impl Holds for Live<'_> {
@@ -73,6 +101,35 @@ impl Holds for Live<'_> {
     fn holds(&self, lang: &str) -> bool {
         self.label(lang).is_some()
     }
+}
+
+impl Languages for Live<'_> {
+    ghost use Rattle.cata_core.specs.Live.{languages};
+    ghost use Rattle.cata_core.specs.LiveIn.{live_in};
+
+    ghost texts = { λ l. languages (live_in l) };
+
+    fn has(&self, lang: &str) -> bool {
+        self.label(lang).is_some()
+    }
+
+    fn least(&self, test: &RangeTest<'_>) -> Option<&Lang> {
+        first_that_passes(Labels::new(self.cells), test)
+    }
+}
+
+/// The first language that passes the test, which is the least by bytes.
+fn first_that_passes<'a>(labels: Labels<'a>, test: &RangeTest<'_>) -> Option<&'a Lang>
+    requires { IsMap text_cmp (labels_left labels) }
+    ensures { MatchLeast (Passes test.now) (languages (labels_left labels.entry))
+        (option_map (λ l. l.now) result) }
+{
+    for (lang, _label) in labels {
+        if test.passes(lang) {
+            return Some(lang);
+        }
+    }
+    None
 }
 
 /// The language of this text with its label, where it is live.

@@ -10,7 +10,7 @@ use crate::live::Live;
 use crate::reply::LentReply;
 use cell_core::{Cell, Iter, Keyed, Label, MessageId};
 use lang_core::Lang;
-use nego_core::PriorityList;
+use nego_core::{PriorityList, Widening};
 use std::marker::Model;
 
 /// A message with its live labels, borrowed from the catalogue.
@@ -32,7 +32,7 @@ impl<'a> Model for Message<'a> {
 impl<'a> Message<'a> {
     ghost use Rattle.std.specs.FinMap.Entries.{find};
     ghost use Rattle.std.specs.Option.{option_copied, option_map};
-    ghost use Rattle.cata_core.specs.Asking.{IsLookedUpOf};
+    ghost use Rattle.cata_core.specs.Asking.{IsLookedUpBy, IsLookedUpOf};
     ghost use Rattle.cata_core.specs.Entries.{text_cmp};
     ghost use Rattle.cata_core.specs.LentAnswers.{reply_of};
     ghost use Rattle.cata_core.specs.LiveLeft.{labels_left};
@@ -69,7 +69,24 @@ impl<'a> Message<'a> {
     pub fn lookup(&self, list: &PriorityList, default: Option<&Lang>) -> LentReply<'a>
         ensures { IsLookedUpOf self.now.1 list.now (option_map (λ l. l.now) default.entry) (reply_of result) }
     {
-        Live::new(Some(self.cells)).look_up(list, default)
+        self.lookup_by(list, Widening::Off, default)
+    }
+
+    /// Its live label that the list looks up, where a range may find the languages that it matches
+    /// too: what [`Catalogue::ask_lookup_by`](crate::Catalogue::ask_lookup_by) answers for its id,
+    /// without a search for it.
+    ///
+    /// It takes no memory. A default is available only where it has a live label.
+    pub fn lookup_by(
+        &self,
+        list: &PriorityList,
+        widening: Widening,
+        default: Option<&Lang>,
+    ) -> LentReply<'a>
+        ensures { IsLookedUpBy widening self.now.1 list.now
+            (option_map (λ l. l.now) default.entry) (reply_of result) }
+    {
+        Live::new(Some(self.cells)).look_up(list, widening, default)
     }
 }
 

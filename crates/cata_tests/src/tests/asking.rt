@@ -4,7 +4,7 @@ use super::makers::{catalogue, default, id, list};
 use super::shown;
 use super::words::{gives, gives_in};
 use cata_core::{Catalogue, Entries, Labels, LentEntries, Reply};
-use nego_core::{PriorityList, Scheme};
+use nego_core::{PriorityList, Scheme, Widening};
 use std::alloc::Global;
 use std::test::Fail;
 
@@ -160,4 +160,58 @@ fn a_message_without_live_labels_answers_nothing(rt: HostRuntime) -> Result<(), 
     let alloc = rt.alloc();
     let held = catalogue(alloc, "m en 1 1 0 -")?;
     gives(found(alloc, &held, "en", "en"), "nothing")
+}
+
+/// What a message answers to a list that is widened, which is what its catalogue answers.
+fn widened(alloc: Global, held: &Catalogue, field: &str, tag: &str) -> Result<String, Fail> {
+    let list = list(alloc, Scheme::Basic, field)?;
+    let (id, default) = (id(alloc, "m")?, default(alloc, tag)?);
+    let widening = Widening::By(Scheme::Basic);
+    let whole = held.ask_lookup_by(&id, &list, widening, default.as_ref());
+    let answer = shown::reply(alloc, &whole.copy(alloc)?)?;
+    for message in held.messages() {
+        let own = message.lookup_by(&list, widening, default.as_ref());
+        gives(Ok(shown::reply(alloc, &own.copy(alloc)?)?), answer.as_str())?;
+    }
+    Ok(answer)
+}
+
+/// A catalogue's cells, a field, a default, and what is looked up.
+const WIDENED: &[(&str, &str, &str, &str)] = &[
+    (
+        "m en-us 1 1 0 a; m fr 1 1 1 b",
+        "en",
+        "-",
+        "matched en-us a",
+    ),
+    (
+        "m en 1 1 0 a; m fr-ca 1 1 1 b",
+        "fr-FR, fr;q=0.9, en;q=0.7",
+        "-",
+        "matched fr-ca b",
+    ),
+    (
+        "m en-us 1 1 0 a; m de-ch 1 1 1 b; m de-at 1 1 2 -",
+        "de, en;q=0.5",
+        "-",
+        "matched de-ch b",
+    ),
+    (
+        "m en-us 1 1 0 a; m en-gb 1 1 1 b",
+        "en, en-US;q=0",
+        "-",
+        "matched en-gb b",
+    ),
+    ("m de 1 1 0 a; m fr 1 1 1 b", "*", "fr", "default fr b"),
+    ("m @none 1 1 0 a", "ja", "en", "nothing"),
+    ("m en-us 1 1 0 -", "en", "en-us", "nothing"),
+];
+
+#[test]
+fn widened_lookups(rt: HostRuntime) -> Result<(), Fail> {
+    for (cells, field, tag, wanted) in WIDENED {
+        let held = catalogue(rt.alloc(), cells)?;
+        gives_in(cells, widened(rt.alloc(), &held, field, tag), wanted)?;
+    }
+    Ok(())
 }

@@ -204,3 +204,61 @@ fn merging_keeps_both(rt: HostRuntime) -> Result<(), Fail> {
         "done: m en 2 0000000001 0 -; m fr 1 0000000001 1 b; z en 3 0000000001 0 c",
     )
 }
+
+/// The catalogue of these edits, or the empty one.
+fn holding(alloc: Global, edits: &str) -> Result<Catalogue, Fail> {
+    if edits.is_empty() {
+        return Ok(Catalogue::new(alloc));
+    }
+    catalogue(alloc, edits)
+}
+
+/// What changed between two catalogues.
+fn changed(alloc: Global, before: &str, after: &str) -> Result<String, Fail> {
+    let before = holding(alloc, before)?;
+    let after = holding(alloc, after)?;
+    Ok(shown::changes(alloc, before.changes(&after))?)
+}
+
+/// A case, the cells before and after, and what changed.
+const CHANGED: &[(&str, &str, &str, &str)] = &[
+    (
+        "an equal cell is left out",
+        "m en 5 paris 0 Hello; m fr 5 paris 1 Salut",
+        "m en 5 paris 0 Hello; m fr 9 tokyo 0 -; n de 7 tokyo 0 a",
+        "m fr: 5 paris 1 Salut, 9 tokyo 0 -; n de: none, 7 tokyo 0 a",
+    ),
+    (
+        "nothing changed",
+        "m en 5 paris 0 x",
+        "m en 5 paris 0 x",
+        "",
+    ),
+    (
+        "one stamp with two labels is a change",
+        "m en 5 paris 0 x",
+        "m en 5 paris 0 y",
+        "m en: 5 paris 0 x, 5 paris 0 y",
+    ),
+    (
+        "what was there alone is left out of neither end",
+        "a en 1 paris 0 x; m de 2 paris 0 y; z fr 3 paris 0 -",
+        "m de 2 paris 0 y",
+        "a en: 1 paris 0 x, none; z fr: 3 paris 0 -, none",
+    ),
+    (
+        "from nothing",
+        "",
+        "m de 2 paris 0 y; m en 3 paris 0 z",
+        "m de: none, 2 paris 0 y; m en: none, 3 paris 0 z",
+    ),
+    ("of two empty ones", "", "", ""),
+];
+
+#[test]
+fn changes(rt: HostRuntime) -> Result<(), Fail> {
+    for (case, before, after, wanted) in CHANGED {
+        gives_in(case, changed(rt.alloc(), before, after), wanted)?;
+    }
+    Ok(())
+}

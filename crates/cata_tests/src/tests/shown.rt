@@ -1,6 +1,8 @@
 //! Shows what the calls answer as texts.
 
-use cata_core::{Answer, Answers, CataFault, Catalogue, Edit, Edits, Entries, PlayFault, Reply};
+use cata_core::{
+    Answer, Answers, CataFault, Catalogue, Changes, Edit, Edits, Entries, PlayFault, Reply,
+};
 use cell_core::{Cell, Label, Stamp};
 use lang_core::Lang;
 use std::alloc::{AllocError, Global};
@@ -49,6 +51,27 @@ pub fn cells(alloc: Global, catalogue: &Catalogue) -> Result<String, AllocError>
     for (id, lang, held) in catalogue.iter() {
         let held = cell(alloc, held)?;
         let item = format!(in alloc; "{} {} {held}", id.as_str(), lang.as_str())?;
+        push(&mut list, &item)?;
+    }
+    Ok(list)
+}
+
+/// The cell, or none.
+fn cell_if(alloc: Global, held: Option<&Cell>) -> Result<String, AllocError> {
+    match held {
+        Some(held) => cell(alloc, held),
+        None => "none".to_string(alloc),
+    }
+}
+
+/// Each key that changed, with the cells before and after.
+pub fn changes(alloc: Global, changes: Changes<'_>) -> Result<String, AllocError> {
+    let mut list = String::new(alloc);
+    for change in changes {
+        let (id, lang) = (change.id.as_str(), change.lang.as_str());
+        let before = cell_if(alloc, change.before)?;
+        let after = cell_if(alloc, change.after)?;
+        let item = format!(in alloc; "{id} {lang}: {before}, {after}")?;
         push(&mut list, &item)?;
     }
     Ok(list)
