@@ -11,7 +11,8 @@ use Rattle.std.specs.FinMap.Entries.{below_all, find, is_sorted}
 use Rattle.cell_core.specs.Maps.{IsMap}
 use Rattle.json.specs.Written.{Written}
 use Rattle.nego_core.specs.Item.{Item}
-use Rattle.cata_core.specs.Asking.{IsLookedUpOf, IsLookupAnswer}
+use Rattle.nego_core.specs.declared.widening.Widening.{Widening}
+use Rattle.cata_core.specs.Asking.{IsLookedUpBy, IsLookupAnswerBy}
 use Rattle.cata_core.specs.Entries.{Entries, Entry, key_cmp, text_cmp}
 use Rattle.cata_core.specs.Live.{live, live_of}
 use Rattle.cata_core.specs.LiveMessages.{AreMessages, LiveMessage, if_any}
@@ -20,15 +21,15 @@ use Rattle.cata_core.specs.declared.reply.Reply.TheVariants.{Default, Matched, N
 use Rattle.cata_core.proofs.Basics.{both_parts, first_part, less_than, second_part, some_same, tied}
 use Rattle.cata_core.proofs.NestedCatalogues.{text_exact}
 use Rattle.cata_core.proofs.Search.{find_get}
-use Rattle.cata_core.proofs.UniqueAnswers.{one_lookup_answer}
-use Rattle.docs_core.specs.Bundled.{IsAnswer, IsBundle}
+use Rattle.cata_core.proofs.UniqueAnswers.{one_lookup_answer_by}
+use Rattle.site_docs.specs.Texts.{Adds}
+use Rattle.map_docs.specs.LangMaps.{Labelled}
+use Rattle.map_docs.specs.LangMapLaws.{IsWritable}
+use Rattle.map_docs.specs.LangMapsWritten.{IsWriting, label_tokens, opening_tokens}
+use Rattle.docs_core.specs.Bundled.{IsAnswer, IsBundleBy}
 use Rattle.docs_core.specs.Exported.{live_labels}
-use Rattle.docs_core.specs.LangMaps.{Labelled}
-use Rattle.docs_core.specs.LangMapLaws.{IsWritable}
-use Rattle.docs_core.specs.LangMapsWritten.{IsWriting, label_tokens, opening_tokens}
 use Rattle.docs_core.specs.LooksUp.{LooksUp, answered, answered_of}
-use Rattle.docs_core.specs.Texts.{Adds}
-use Rattle.docs_core.proofs.WritingLemmas.{writing_next}
+use Rattle.map_docs.proofs.WritingLemmas.{writing_next}
 
 -- ---- members of lists
 
@@ -78,25 +79,25 @@ are_live cells messages are =
 
 -- ---- answers
 
-module _ (cells : Entries) (items : List Item) (default : Option (List ℕ)) where
+module _ (widening : Widening) (cells : Entries) (items : List Item) (default : Option (List ℕ)) where
   -- an answer is of its message
-  answer_of : (id : List ℕ) (reply : Reply) (e : Labelled) → IsLookupAnswer cells id items default reply → Contains (answered_of id (answered reply)) e → IsAnswer cells items default e
+  answer_of : (id : List ℕ) (reply : Reply) (e : Labelled) → IsLookupAnswerBy widening cells id items default reply → Contains (answered_of id (answered reply)) e → IsAnswer widening cells items default e
   answer_of id (Matched lang label) e is at = elim (member_cases ((id, lang), label) e [] at) [
-    | inl same ↦ inl (subst (λ (x : Labelled). IsLookupAnswer cells x.0.0 items default (Matched x.0.1 x.1)) same is)
+    | inl same ↦ inl (subst (λ (x : Labelled). IsLookupAnswerBy widening cells x.0.0 items default (Matched x.0.1 x.1)) same is)
     | inr none ↦ absurd (member_none e none)
   ]
   answer_of id (Default lang label) e is at = elim (member_cases ((id, lang), label) e [] at) [
-    | inl same ↦ inr (subst (λ (x : Labelled). IsLookupAnswer cells x.0.0 items default (Default x.0.1 x.1)) same is)
+    | inl same ↦ inr (subst (λ (x : Labelled). IsLookupAnswerBy widening cells x.0.0 items default (Default x.0.1 x.1)) same is)
     | inr none ↦ absurd (member_none e none)
   ]
   answer_of id Nothing e is at = absurd (member_none e at)
 
   -- what a message with all its live labels answers, the catalogue answers
-  in_cells : (m : LiveMessage) (reply : Reply) → m.1 ≡ live cells m.0 → IsLookedUpOf m.1 items default reply → IsLookupAnswer cells m.0 items default reply
-  in_cells m reply same is = subst (λ (l : Texts). IsLookedUpOf l items default reply) same is
+  in_cells : (m : LiveMessage) (reply : Reply) → m.1 ≡ live cells m.0 → IsLookedUpBy widening m.1 items default reply → IsLookupAnswerBy widening cells m.0 items default reply
+  in_cells m reply same is = subst (λ (l : Texts). IsLookedUpBy widening l items default reply) same is
 
   -- what is there is an answer
-  each_answered : (ms : List LiveMessage) (labels : List Labelled) → AreLive cells ms → LooksUp items default ms labels → (e : Labelled) → Contains labels e → IsAnswer cells items default e
+  each_answered : (ms : List LiveMessage) (labels : List Labelled) → AreLive cells ms → LooksUp widening items default ms labels → (e : Labelled) → Contains labels e → IsAnswer widening cells items default e
   each_answered [] labels live is e at = absurd (member_none e (subst (λ (ls : List Labelled). Contains ls e) is at))
   each_answered (m ∷ ms) labels live (reply, rest, is, more, all) e at =
       elim (Contains-append_cases (answered_of m.0 (answered reply)) rest e (subst (λ (ls : List Labelled). Contains ls e) all at)) [
@@ -105,17 +106,17 @@ module _ (cells : Entries) (items : List Item) (default : Option (List ℕ)) whe
       ]
 
   -- the answer of a message is there
-  answered_here : (id : List ℕ) (reply : Reply) (e : Labelled) → IsLookupAnswer cells id items default reply → id ≡ e.0.0 → IsAnswer cells items default e → Contains (answered_of id (answered reply)) e
+  answered_here : (id : List ℕ) (reply : Reply) (e : Labelled) → IsLookupAnswerBy widening cells id items default reply → id ≡ e.0.0 → IsAnswer widening cells items default e → Contains (answered_of id (answered reply)) e
   answered_here id reply e is same answer = elim answer [
     | inl matched ↦
-        let one : reply ≡ Matched e.0.1 e.1 = one_lookup_answer cells id items default reply (Matched e.0.1 e.1) is (subst (λ (x : List ℕ). IsLookupAnswer cells x items default (Matched e.0.1 e.1)) (sym same) matched) in
+        let one : reply ≡ Matched e.0.1 e.1 = one_lookup_answer_by widening cells id items default reply (Matched e.0.1 e.1) is (subst (λ (x : List ℕ). IsLookupAnswerBy widening cells x items default (Matched e.0.1 e.1)) (sym same) matched) in
         subst (λ (r : Reply). Contains (answered_of id (answered r)) e) (sym one) (member_first ((id, e.0.1), e.1) e [] (λ i. ((same i, e.0.1), e.1)))
     | inr chosen ↦
-        let one : reply ≡ Default e.0.1 e.1 = one_lookup_answer cells id items default reply (Default e.0.1 e.1) is (subst (λ (x : List ℕ). IsLookupAnswer cells x items default (Default e.0.1 e.1)) (sym same) chosen) in
+        let one : reply ≡ Default e.0.1 e.1 = one_lookup_answer_by widening cells id items default reply (Default e.0.1 e.1) is (subst (λ (x : List ℕ). IsLookupAnswerBy widening cells x items default (Default e.0.1 e.1)) (sym same) chosen) in
         subst (λ (r : Reply). Contains (answered_of id (answered r)) e) (sym one) (member_first ((id, e.0.1), e.1) e [] (λ i. ((same i, e.0.1), e.1)))
   ]
 
-  answers_there : (ms : List LiveMessage) (labels : List Labelled) → AreLive cells ms → LooksUp items default ms labels → (e : Labelled) → IsAnswer cells items default e → Contains (ids_of ms) e.0.0 → Contains labels e
+  answers_there : (ms : List LiveMessage) (labels : List Labelled) → AreLive cells ms → LooksUp widening items default ms labels → (e : Labelled) → IsAnswer widening cells items default e → Contains (ids_of ms) e.0.0 → Contains labels e
   answers_there [] labels live is e answer at = absurd (member_none e.0.0 at)
   answers_there (m ∷ ms) labels live (reply, rest, is, more, all) e answer at =
       subst (λ (ls : List Labelled). Contains ls e) (sym all)
@@ -129,7 +130,7 @@ module _ (cells : Entries) (items : List Item) (default : Option (List ℕ)) whe
   is_less : (id lang other : List ℕ) (found : List ℕ × List (List ℕ)) → text_cmp id other ≡ Less → T (is_lt (key_cmp (id, lang) (other, found.0)))
   is_less id lang other found less = subst (λ o. T (is_lt (ordering_then o (text_cmp lang found.0)))) (sym less) tt
 
-  below_rest : (id lang : List ℕ) (messages : List LiveMessage) (labels : List Labelled) → T (below_all text_cmp id messages) → LooksUp items default messages labels → T (below_all key_cmp (id, lang) labels)
+  below_rest : (id lang : List ℕ) (messages : List LiveMessage) (labels : List Labelled) → T (below_all text_cmp id messages) → LooksUp widening items default messages labels → T (below_all key_cmp (id, lang) labels)
   below_rest id lang [] labels h is = subst (λ (ls : List Labelled). T (below_all key_cmp (id, lang) ls)) (sym is) tt
   below_rest id lang (m ∷ ms) labels h (reply, rest, is, more, all) =
       let less = less_than (text_cmp id m.0) (first_part (is_lt (text_cmp id m.0)) (below_all text_cmp id ms) h) in
@@ -140,7 +141,7 @@ module _ (cells : Entries) (items : List Item) (default : Option (List ℕ)) whe
         | Some found ↦ both_parts (is_lt (key_cmp (id, lang) (m.0, found.0))) (below_all key_cmp (id, lang) rest) (is_less id lang m.0 found less) others
       ])
 
-  answers_rise : (messages : List LiveMessage) (labels : List Labelled) → IsMap text_cmp messages → LooksUp items default messages labels → IsMap key_cmp labels
+  answers_rise : (messages : List LiveMessage) (labels : List Labelled) → IsMap text_cmp messages → LooksUp widening items default messages labels → IsMap key_cmp labels
   answers_rise [] labels m is = subst (λ (ls : List Labelled). IsMap key_cmp ls) (sym is) tt
   answers_rise (x ∷ ms) labels m (reply, rest, is, more, all) =
       let others = answers_rise ms rest (second_part (below_all text_cmp x.0 ms) (is_sorted text_cmp ms) m) more in
@@ -161,16 +162,16 @@ module _ (cells : Entries) (items : List Item) (default : Option (List ℕ)) whe
         | false ↦ λ t more. member_later m.0 id (ids_of ms) (id_there id ms more)
       ] refl found
 
-  pub label_of : (e : Labelled) → IsAnswer cells items default e → find text_cmp e.0.1 (live cells e.0.0) ≡ Some e.1
+  pub label_of : (e : Labelled) → IsAnswer widening cells items default e → find text_cmp e.0.1 (live cells e.0.0) ≡ Some e.1
   label_of e answer = elim answer [ inl matched ↦ matched.1 | inr chosen ↦ chosen.3 ]
 
-  answered_id : (messages : List LiveMessage) → AreMessages cells messages → (e : Labelled) → IsAnswer cells items default e → Contains (ids_of messages) e.0.0
+  answered_id : (messages : List LiveMessage) → AreMessages cells messages → (e : Labelled) → IsAnswer widening cells items default e → Contains (ids_of messages) e.0.0
   answered_id messages are e answer =
       id_there e.0.0 messages (λ none.
       let nothing : live cells e.0.0 ≡ [] = no_labels (live cells e.0.0) (sym (are.each e.0.0) ∙ none) in
       let no : None ≡ Some e.1 = ap (find text_cmp e.0.1) (sym nothing) ∙ label_of e answer in cc)
 
-  bundle_of : (messages : List LiveMessage) (labels : List Labelled) → AreMessages cells messages → LooksUp items default messages labels → IsBundle cells items default labels
+  bundle_of : (messages : List LiveMessage) (labels : List Labelled) → AreMessages cells messages → LooksUp widening items default messages labels → IsBundleBy widening cells items default labels
   bundle_of messages labels are all =
       let each = are_live cells messages are in record {
         rising = answers_rise messages labels are.rise all;
@@ -180,42 +181,42 @@ module _ (cells : Entries) (items : List Item) (default : Option (List ℕ)) whe
 -- ---- message by message
 
 -- language maps that are being written: the labels so far, and those that are answered for the messages that are left, are those of all
-pub record IsBundling (cells : Entries) (items : List Item) (default : Option (List ℕ)) (draft : Written) (current : Option (List ℕ)) (left : List LiveMessage) : Type 0 where
+pub record IsBundling (widening : Widening) (cells : Entries) (items : List Item) (default : Option (List ℕ)) (draft : Written) (current : Option (List ℕ)) (left : List LiveMessage) : Type 0 where
   pub messages : List LiveMessage
   pub are : AreMessages cells messages
   pub done : List Labelled
   pub writing : (more : List Labelled) → IsWriting draft current more (done ++ more)
-  pub looks : (rest : List Labelled) → LooksUp items default left rest → LooksUp items default messages (done ++ rest)
+  pub looks : (rest : List Labelled) → LooksUp widening items default left rest → LooksUp widening items default messages (done ++ rest)
 
-module _ (cells : Entries) (items : List Item) (default : Option (List ℕ)) where
-  pub bundling_first : (draft : Written) (messages : List LiveMessage) → AreMessages cells messages → ((labels : List Labelled) → IsWriting draft None labels labels) → IsBundling cells items default draft None messages
+module _ (widening : Widening) (cells : Entries) (items : List Item) (default : Option (List ℕ)) where
+  pub bundling_first : (draft : Written) (messages : List LiveMessage) → AreMessages cells messages → ((labels : List Labelled) → IsWriting draft None labels labels) → IsBundling widening cells items default draft None messages
   bundling_first draft messages are writing = record { messages = messages; are = are; done = []; writing = writing; looks = λ rest looks. looks }
 
-  found_at : (old new : Written) (current : Option (List ℕ)) (m : LiveMessage) (left : List LiveMessage) (reply : Reply) (lang : List ℕ) (label : List (List ℕ)) → IsBundling cells items default old current (m ∷ left)
-      → IsLookedUpOf m.1 items default reply → Some (lang, label) ≡ answered reply → Adds old new (opening_tokens current m.0 ++ label_tokens ((m.0, lang), label)) → IsWritable ((m.0, lang), label)
-      → IsBundling cells items default new (Some m.0) left
+  found_at : (old new : Written) (current : Option (List ℕ)) (m : LiveMessage) (left : List LiveMessage) (reply : Reply) (lang : List ℕ) (label : List (List ℕ)) → IsBundling widening cells items default old current (m ∷ left)
+      → IsLookedUpBy widening m.1 items default reply → Some (lang, label) ≡ answered reply → Adds old new (opening_tokens current m.0 ++ label_tokens ((m.0, lang), label)) → IsWritable ((m.0, lang), label)
+      → IsBundling widening cells items default new (Some m.0) left
   found_at old new current m left reply lang label b is found adds valid =
       let e : Labelled = ((m.0, lang), label) in record {
         messages = b.messages;
         are = b.are;
         done = b.done ++ e ∷ [];
         writing = λ more. subst (λ (all : List Labelled). IsWriting new (Some m.0) more all) (sym (append_assoc b.done (e ∷ []) more)) (writing_next old new current e more (b.done ++ e ∷ more) (b.writing (e ∷ more)) adds valid);
-        looks = λ rest looks. subst (λ (all : List Labelled). LooksUp items default b.messages all) (sym (append_assoc b.done (e ∷ []) rest))
+        looks = λ rest looks. subst (λ (all : List Labelled). LooksUp widening items default b.messages all) (sym (append_assoc b.done (e ∷ []) rest))
             (b.looks (e ∷ rest) (reply, rest, is, looks, ap (λ o. answered_of m.0 o ++ rest) found));
       }
 
-  pub bundling_found : (old new : Written) (current : Option (List ℕ)) (m : LiveMessage) (left : List LiveMessage) (reply : Reply) (id lang : List ℕ) (label : List (List ℕ)) → id ≡ m.0 → IsBundling cells items default old current (m ∷ left)
-      → IsLookedUpOf m.1 items default reply → Some (lang, label) ≡ answered reply → Adds old new (opening_tokens current id ++ label_tokens ((id, lang), label)) → IsWritable ((id, lang), label)
-      → IsBundling cells items default new (Some id) left
+  pub bundling_found : (old new : Written) (current : Option (List ℕ)) (m : LiveMessage) (left : List LiveMessage) (reply : Reply) (id lang : List ℕ) (label : List (List ℕ)) → id ≡ m.0 → IsBundling widening cells items default old current (m ∷ left)
+      → IsLookedUpBy widening m.1 items default reply → Some (lang, label) ≡ answered reply → Adds old new (opening_tokens current id ++ label_tokens ((id, lang), label)) → IsWritable ((id, lang), label)
+      → IsBundling widening cells items default new (Some id) left
   bundling_found old new current m left reply id lang label same b is found adds valid =
-      subst (λ (x : List ℕ). IsBundling cells items default new (Some x) left) (sym same)
+      subst (λ (x : List ℕ). IsBundling widening cells items default new (Some x) left) (sym same)
       (found_at old new current m left reply lang label b is found (subst (λ (x : List ℕ). Adds old new (opening_tokens current x ++ label_tokens ((x, lang), label))) same adds)
       (subst (λ (x : List ℕ). IsWritable ((x, lang), label)) same valid))
 
-  pub bundling_last : (draft : Written) (current : Option (List ℕ)) → IsBundling cells items default draft current [] → (labels : List Labelled) × IsBundle cells items default labels × IsWriting draft current [] labels
+  pub bundling_last : (draft : Written) (current : Option (List ℕ)) → IsBundling widening cells items default draft current [] → (labels : List Labelled) × IsBundleBy widening cells items default labels × IsWriting draft current [] labels
   bundling_last draft current b = (
     b.done ++ [],
-    bundle_of cells items default b.messages (b.done ++ []) b.are (b.looks [] refl),
+    bundle_of widening cells items default b.messages (b.done ++ []) b.are (b.looks [] refl),
     b.writing [],
   )
 
@@ -247,8 +248,8 @@ live_member (e ∷ es) id lang label found =
       ]
     ] refl found
 
-pub answer_live : (cells : Entries) (items : List Item) (default : Option (List ℕ)) (e : Labelled) → IsAnswer cells items default e → Contains (live_labels cells) e
-answer_live cells items default e answer = live_member cells e.0.0 e.0.1 e.1 (label_of cells items default e answer)
+pub answer_live : (widening : Widening) (cells : Entries) (items : List Item) (default : Option (List ℕ)) (e : Labelled) → IsAnswer widening cells items default e → Contains (live_labels cells) e
+answer_live widening cells items default e answer = live_member cells e.0.0 e.0.1 e.1 (label_of widening cells items default e answer)
 
-pub bundle_live : (cells : Entries) (items : List Item) (default : Option (List ℕ)) (labels : List Labelled) (e : Labelled) → IsBundle cells items default labels → Contains labels e → Contains (live_labels cells) e
-bundle_live cells items default labels e bundle at = answer_live cells items default e ((bundle.answered e).0 at)
+pub bundle_live : (widening : Widening) (cells : Entries) (items : List Item) (default : Option (List ℕ)) (labels : List Labelled) (e : Labelled) → IsBundleBy widening cells items default labels → Contains labels e → Contains (live_labels cells) e
+bundle_live widening cells items default labels e bundle at = answer_live widening cells items default e ((bundle.answered e).0 at)

@@ -1,20 +1,15 @@
 -- What a call on documents writes, and which refusal it hands on.
-use Rattle.std.proofs.Common.{◌≡◌, ◌∙◌, ℕ, List, ap, inl, inr, refl, subst}
+use Rattle.std.proofs.Common.{◌≡◌, ◌∙◌, ℕ, List, ap, inl, inr, subst}
 use Rattle.cata_core.specs.Sites.{SiteState}
 use Rattle.cata_core.specs.declared.cata_fault.CataFault.{CataFault}
 use Rattle.cata_core.specs.declared.cata_fault.CataFault.TheVariants as cata
+use Rattle.json_docs.specs.Checks.{OrMemory}
+use Rattle.json_docs.specs.Faults.{of_no_document, of_site}
+use Rattle.json_docs.specs.declared.fault.DocCause.TheVariants.{NoMemory}
+use Rattle.json_docs.specs.declared.fault.DocFault.{DocFault}
+use Rattle.site_docs.specs.Documents.{site_text}
+use Rattle.site_docs.specs.ReadsAs.{IsSiteText, ReadsAsSite, no_memory}
 use Rattle.docs_core.specs.Calls.{IsOfSite}
-use Rattle.docs_core.specs.Checks.{OrMemory}
-use Rattle.docs_core.specs.Documents.{site_text}
-use Rattle.docs_core.specs.Faults.{of_document, of_no_document, of_site}
-use Rattle.docs_core.specs.ReadsAs.{IsOfDocument, IsSiteText, ReadsAsSite, no_memory}
-use Rattle.docs_core.specs.declared.fault.DocCause.{DocCause}
-use Rattle.docs_core.specs.declared.fault.DocCause.TheVariants.{NoMemory}
-use Rattle.docs_core.specs.declared.fault.DocFault.{DocFault}
-
--- a reader's refusal, as that of an input document
-pub of_reader : (document : ℕ) (Refuses : DocCause → Type 0) (cause : DocCause) → OrMemory NoMemory Refuses cause → OrMemory no_memory (IsOfDocument document Refuses) (of_document document cause)
-of_reader document Refuses cause why = elim why [ inl memory ↦ inl (ap (of_document document) memory) | inr h ↦ inr (cause, h, refl) ]
 
 -- the refusal of a site's call, as that of a call on documents
 pub of_call : (Refuses : CataFault → Type 0) (cause : CataFault) (fault : DocFault) → Refuses cause → fault ≡ of_no_document (of_site cause) → OrMemory no_memory (IsOfSite Refuses) fault

@@ -3,17 +3,17 @@ use Rattle.std.proofs.Common.{◌≡◌, ◌∙◌, ℕ, List, ap, inl, inr}
 use Rattle.cata_core.specs.Sites.{SiteState}
 use Rattle.cata_core.specs.declared.cata_fault.CataFault.{CataFault}
 use Rattle.cata_core.specs.declared.cata_fault.CataFault.TheVariants.{ClockSpent, NoMemory}
-use Rattle.docs_core.proofs.CallsLemmas.{site_written}
-use Rattle.docs_core.specs.Checks.{OrMemory}
-use Rattle.docs_core.specs.Documents.{site_text}
+use Rattle.json_docs.specs.Checks.{OrMemory}
+use Rattle.json_docs.specs.Faults.{of_no_document, of_site}
+use Rattle.json_docs.specs.declared.fault.DocFault.{DocFault}
+use Rattle.site_docs.specs.Documents.{site_text}
+use Rattle.site_docs.specs.ReadsAs.{ReadsAsSite, no_memory}
+use Rattle.map_docs.specs.LangMapLabels.{AreLangMaps}
+use Rattle.map_docs.specs.LangMaps.{Labelled}
 use Rattle.docs_core.specs.Exchange.{RefusesImport}
-use Rattle.docs_core.specs.Faults.{of_no_document, of_site}
 use Rattle.docs_core.specs.Imported.{SpendsImport}
-use Rattle.docs_core.specs.LangMapLabels.{AreLangMaps}
-use Rattle.docs_core.specs.LangMaps.{Labelled}
-use Rattle.docs_core.specs.ReadsAs.{ReadsAsSite, no_memory}
 use Rattle.docs_core.specs.Updated.{IsUpdated, RefusesUpdate, SpendsUpdate, Updates}
-use Rattle.docs_core.specs.declared.fault.DocFault.{DocFault}
+use Rattle.docs_core.proofs.CallsLemmas.{site_written}
 
 pub not_imported : (bytes : List ℕ) (now : ℕ) (maps : List ℕ) (site : SiteState) (labels : List Labelled) (cause : CataFault) (fault : DocFault)
     → ReadsAsSite bytes site → AreLangMaps maps labels → OrMemory NoMemory (λ c. (c ≡ ClockSpent) × SpendsImport now site.name labels site.cells) cause

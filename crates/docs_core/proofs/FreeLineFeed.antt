@@ -6,9 +6,9 @@ use Rattle.std.proofs.lemmas.Str.{IsCharBoundary-at_seam, IsUtf8-append, IsUtf8-
 use Rattle.std.proofs.lemmas.Str.{IsUtf8-take}
 use Rattle.std.proofs.lemmas.Str.Ascii.{IsAscii-cons, IsAscii-nil}
 use Rattle.serde_json.specs.Data.{Data}
-use Rattle.docs_core.specs.Checks.{AreJson, Check}
-use Rattle.docs_core.specs.ReadsAs.{Reads}
-use Rattle.docs_core.proofs.LineFeed.{read-line_feed}
+use Rattle.json_docs.specs.Checks.{AreJson, Check}
+use Rattle.site_docs.specs.ReadsAs.{Reads}
+use Rattle.json_docs.proofs.LineFeed.{read-line_feed}
 
 feed : IsUtf8 (10 ∷ [])
 feed = IsUtf8-from_ascii (10 ∷ []) (IsAscii-cons 10 [] (omega arith) IsAscii-nil)

@@ -8,8 +8,8 @@ use Rattle.cata_core.specs.Latest.{latest_of}
 use Rattle.cata_core.specs.Sites.{RefusesEdit, SiteState}
 use Rattle.cata_core.specs.declared.cata_fault.CataFault.{CataFault}
 use Rattle.cata_core.specs.declared.cata_fault.CataFault.TheVariants.{ClockSpent, NoMemory, NotForMe, StampReused}
+use Rattle.map_docs.specs.LangMaps.{Labelled}
 use Rattle.docs_core.specs.Imported.{Imports, SpendsImport}
-use Rattle.docs_core.specs.LangMaps.{Labelled}
 use Rattle.docs_core.specs.Made.{with_change}
 
 module _ (now : ℕ) (name : List ℕ) (e : Labelled) (es : List Labelled) (old mid : Entries) (stamp : Stamp) (next : IsNext (latest_of old) now name stamp) (is : mid ≡ with_change (e.0, Some e.1) stamp old) where

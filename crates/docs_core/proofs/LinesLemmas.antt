@@ -8,7 +8,7 @@ use Rattle.json.specs.Written.{Written}
 use Rattle.serde_json.specs.Data.{Data}
 use Rattle.serde_json.specs.Written.{compact_text}
 use Rattle.serde_json.proofs.Texts.{print-outline}
-use Rattle.docs_core.specs.Texts.{Adds, value_tokens}
+use Rattle.site_docs.specs.Texts.{Adds, value_tokens}
 
 -- a value written behind some bytes
 pub printed_behind : (a b : Written) (start : List ℕ) (d : Data) → a.before ≡ start → a.tokens ≡ [] → Adds a b (value_tokens d)

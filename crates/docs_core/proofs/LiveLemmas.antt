@@ -9,9 +9,11 @@ use Rattle.cell_core.specs.declared.cell.Cell.{Cell}
 use Rattle.cata_core.specs.Entries.{Entries, EntryKey, key_cmp, key_cmp_total}
 use Rattle.cata_core.proofs.Basics.{both_parts, first_part, second_part, tied}
 use Rattle.cata_core.proofs.Filtered.{below_tied_all, filter-IsMap, find-below}
+use Rattle.map_docs.specs.LangMaps.{Labelled}
 use Rattle.docs_core.specs.Chosen.{chosen_labels, is_chosen}
 use Rattle.docs_core.specs.Exported.{label_at, live_labels}
-use Rattle.docs_core.specs.LangMaps.{Labelled}
+use Rattle.docs_core.specs.declared.call.messages.Messages.{Messages}
+use Rattle.docs_core.specs.declared.call.messages.Messages.TheVariants.{All}
 
 -- what the entry adds to the labels in front of the others
 abbrev labelled : EntryKey → Option (List (List ℕ)) → List Labelled → List Labelled
@@ -38,15 +40,15 @@ live-IsMap (e ∷ es) h =
           both_parts (below_all key_cmp e.0 (live_labels es)) (is_sorted key_cmp (live_labels es)) (below_live e.0 es (first_part (below_all key_cmp e.0 es) (is_sorted key_cmp es) h)) rest
     ]
 
-pub chosen-IsMap : (lacking : Option (List ℕ)) (cells : Entries) → IsMap key_cmp cells → IsMap key_cmp (chosen_labels lacking cells)
-chosen-IsMap lacking cells m = filter-IsMap key_cmp (λ (e : Labelled). is_chosen lacking cells e.0.0) (live_labels cells) (live-IsMap cells m)
+pub chosen-IsMap : (messages : Messages) (cells : Entries) → IsMap key_cmp cells → IsMap key_cmp (chosen_labels messages cells)
+chosen-IsMap messages cells m = filter-IsMap key_cmp (λ (e : Labelled). is_chosen messages cells e.0.0) (live_labels cells) (live-IsMap cells m)
 
--- without a language all are chosen
 all_pass : (labels : List Labelled) → filter (λ _. true) labels ≡ labels
 all_pass [] = refl
 all_pass (e ∷ es) = ap (λ t. e ∷ t) (all_pass es)
 
-pub all_chosen : (cells : Entries) → chosen_labels None cells ≡ live_labels cells
+-- all live labels are of all messages
+pub all_chosen : (cells : Entries) → chosen_labels All cells ≡ live_labels cells
 all_chosen cells = all_pass (live_labels cells)
 
 -- ---- a key's label

@@ -17,22 +17,32 @@ use Rattle.cata_core.specs.declared.step.Step.{Step as StepType}
 use Rattle.cata_core.specs.declared.step.Step.TheVariants as step
 use Rattle.serde_json.specs.Data.{Data}
 use Rattle.serde_json.specs.Find.{as_str}
-use Rattle.docs_core.specs.Fields.{entry_of, key_of, stamp_of, told_of}
-use Rattle.docs_core.specs.Headers.{rows_in, subject_data, version_of}
-use Rattle.docs_core.specs.OldRows.{AreOldStepsOf, IsOldDeltaDocument, IsOldScriptDocument, IsOldSiteDocument, IsOldStepOf, IsOldSummaryDocument, OldScript, migrated_script, old_entry_in, old_entry_of, old_told_in, old_told_of}
-use Rattle.docs_core.specs.SiteDocuments.{IsDeltaDocument, IsSiteDocument, IsSummaryDocument, named_in}
-use Rattle.docs_core.specs.Rising.{entry_in, told_in}
-use Rattle.docs_core.specs.Rows.{cell_in, cell_of, items_in, label_in, parts_in, stamp_in, stamp_of as stamp_row_of, u32_in, u64_in}
-use Rattle.docs_core.specs.ScriptReads.{IsScriptDocument}
-use Rattle.docs_core.specs.Scripts.{ScriptState}
-use Rattle.docs_core.specs.StepFields.{AreSteps, IsStep}
-use Rattle.docs_core.specs.Steps.{StepText, edit_step, merge_step, filter_step, lookup_step, cells_step, tell_step, post_step, deliver_step, step_after, default_in, edit_of, filter_of, lookup_of, one_of, scheme_in, step_of, two_of, word_of}
-use Rattle.docs_core.specs.Values.{Row}
-use Rattle.docs_core.specs.declared.document.kind.Kind.{Kind}
-use Rattle.docs_core.specs.declared.document.kind.Kind.TheVariants as kind
-use Rattle.docs_core.specs.declared.script.steps.Word.{Word}
-use Rattle.docs_core.specs.declared.script.steps.Word.TheVariants.{Edit, Merge, Filter, Lookup, Cells, Tell, Post, Deliver}
-use Rattle.docs_core.specs.declared.document.version.Version.TheVariants.{One}
+use Rattle.json_docs.specs.Parts.{items_in, u32_in, u64_in}
+use Rattle.site_docs.specs.Fields.{entry_of, key_of, stamp_of, told_of}
+use Rattle.site_docs.specs.Headers.{rows_in, subject_data, version_of}
+use Rattle.site_docs.specs.SiteDocuments.{IsDeltaDocument, IsSiteDocument, IsSummaryDocument}
+use Rattle.site_docs.specs.SiteDocuments.{named_in}
+use Rattle.site_docs.specs.Rising.{entry_in, told_in}
+use Rattle.site_docs.specs.Rows.{cell_in, cell_of, label_in, parts_in, stamp_in}
+use Rattle.site_docs.specs.Rows.{stamp_of as stamp_row_of}
+use Rattle.site_docs.specs.Values.{Row}
+use Rattle.site_docs.specs.declared.document.kind.Kind.{Kind}
+use Rattle.script_docs.specs.ScriptReads.{IsScriptDocument}
+use Rattle.script_docs.specs.Scripts.{ScriptState}
+use Rattle.script_docs.specs.StepFields.{AreSteps, IsStep}
+use Rattle.script_docs.specs.Steps.{StepText, edit_step, merge_step, filter_step, lookup_step}
+use Rattle.script_docs.specs.Steps.{cells_step, tell_step, post_step, deliver_step, step_after}
+use Rattle.script_docs.specs.Steps.{default_in, edit_of, filter_of, lookup_of, one_of, scheme_in}
+use Rattle.script_docs.specs.Steps.{step_of, two_of, word_of}
+use Rattle.docs_core.specs.OldRows.{AreOldStepsOf, IsOldDeltaDocument, IsOldScriptDocument}
+use Rattle.docs_core.specs.OldRows.{IsOldSiteDocument, IsOldStepOf, IsOldSummaryDocument, OldScript}
+use Rattle.docs_core.specs.OldRows.{migrated_script, old_entry_in, old_entry_of, old_told_in}
+use Rattle.docs_core.specs.OldRows.{old_told_of}
+use Rattle.site_docs.specs.declared.document.kind.Kind.TheVariants as kind
+use Rattle.site_docs.specs.declared.document.version.Version.TheVariants.{One}
+use Rattle.script_docs.specs.declared.steps.Word.{Word}
+use Rattle.script_docs.specs.declared.steps.Word.TheVariants.{Edit, Merge, Filter, Lookup, Cells}
+use Rattle.script_docs.specs.declared.steps.Word.TheVariants.{Tell, Post, Deliver}
 
 -- ---- rows
 

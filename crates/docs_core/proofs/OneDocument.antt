@@ -14,17 +14,19 @@ use Rattle.cata_core.proofs.UniqueAnswers.{one_by}
 use Rattle.nego_core.specs.declared.field.Malformed.TheVariants.{Refused}
 use Rattle.nego_core.specs.declared.scheme.Scheme.TheVariants.{Basic}
 use Rattle.nego_core.proofs.FieldUnique.{one_items}
-use Rattle.docs_core.specs.Checks.{AreJson, Check}
+use Rattle.json_docs.specs.Checks.{AreJson, Check}
+use Rattle.site_docs.specs.ReadsAs.{Reads, ReadsAsDelta, ReadsAsSite, ReadsAsSummary}
+use Rattle.site_docs.specs.Rising.{AreEntries}
+use Rattle.site_docs.specs.SiteDocuments.{IsDeltaDocument, IsSiteDocument, IsSummaryDocument}
+use Rattle.site_docs.specs.SiteDocuments.{delta_checks, site_checks, summary_checks}
+use Rattle.site_docs.specs.declared.document.version.Version.{Version}
+use Rattle.script_docs.specs.ScriptReads.{IsScriptDocument, ReadsAsScript, script_checks}
+use Rattle.script_docs.specs.Scripts.{ScriptState}
+use Rattle.script_docs.specs.StepFields.{AreSteps, IsStep, Makes}
+use Rattle.script_docs.specs.Steps.{StepText, edit_step, merge_step, filter_step, lookup_step}
+use Rattle.script_docs.specs.Steps.{cells_step, tell_step, post_step, deliver_step}
 use Rattle.docs_core.specs.Lines.{lines}
-use Rattle.docs_core.specs.ReadsAs.{Reads, ReadsAsDelta, ReadsAsSite, ReadsAsSummary}
 use Rattle.docs_core.specs.Replays.{IsPlayed, Replays}
-use Rattle.docs_core.specs.Rising.{AreEntries}
-use Rattle.docs_core.specs.ScriptReads.{IsScriptDocument, ReadsAsScript, script_checks}
-use Rattle.docs_core.specs.Scripts.{ScriptState}
-use Rattle.docs_core.specs.SiteDocuments.{IsDeltaDocument, IsSiteDocument, IsSummaryDocument, delta_checks, site_checks, summary_checks}
-use Rattle.docs_core.specs.StepFields.{AreSteps, IsStep, Makes}
-use Rattle.docs_core.specs.Steps.{StepText, edit_step, merge_step, filter_step, lookup_step, cells_step, tell_step, post_step, deliver_step}
-use Rattle.docs_core.specs.declared.document.version.Version.{Version}
 
 inside : {A : Type 0} (x y : A) → Some x ≡ Some y → x ≡ y
 inside {A} x y is = ap (λ (o : Option A). unwrap_or o x) is

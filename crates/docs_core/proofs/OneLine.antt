@@ -13,7 +13,7 @@ use Rattle.serde_json.specs.Data.{Data, Num, Items, Members, unsigned, negative,
 use Rattle.serde_json.specs.Data.{boolean, number, string, array, object, no_items, item}
 use Rattle.serde_json.specs.Data.{no_members, member}
 use Rattle.serde_json.specs.Written.{comma_if, compact_text, items_text, members_text, number_text}
-use Rattle.docs_core.specs.Texts.{IsOneLine, text}
+use Rattle.site_docs.specs.Texts.{IsOneLine, text}
 
 abbrev IsLine : List ℕ → Type 0
 IsLine bytes = All (λ byte. byte ≢ 10) bytes

@@ -6,25 +6,31 @@ use Rattle.cell_core.specs.declared.fault.CellFault.{CellFault}
 use Rattle.lang_core.specs.declared.fault.LangFault.{LangFault}
 use Rattle.nego_core.specs.declared.fault.NegoFault.{NegoFault}
 use Rattle.nego_core.specs.declared.scheme.Scheme.{Scheme}
-use Rattle.docs_core.specs.Checks.{AllPass, AreJson, Check, FirstFails, IsRefusal, IsTextRefusal, check, rows_checks}
-use Rattle.docs_core.specs.Fields.{IsLabelRefusal, IsLabelText, cell_fields, key_of, label_check, language_check, order_check, stamp_fields}
-use Rattle.docs_core.specs.Headers.{header_checks, rows_in, subject_data, version_of}
-use Rattle.docs_core.specs.LangMapChecks as maps
-use Rattle.docs_core.specs.LangMapRows as map_rows
-use Rattle.docs_core.specs.SiteDocuments.{document_checks, subject_checks}
-use Rattle.docs_core.specs.ReadsAs.{Reads}
-use Rattle.docs_core.specs.Rising.{cell_checks, cell_row, entry_in, last_key, own_cell_checks, own_stamp_checks, stamp_checks, stamp_row, told_in}
-use Rattle.docs_core.specs.ScriptReads.{script_checks, sites_check}
-use Rattle.docs_core.specs.StepFields.{default_checks, list_check, shaped_fields, step_checks, step_fields}
-use Rattle.docs_core.specs.Steps.{StepText, edit_step, merge_step, filter_step, lookup_step, cells_step, tell_step, post_step, deliver_step, step_in}
-use Rattle.docs_core.specs.Values.{Row}
-use Rattle.docs_core.specs.declared.fault.DocCause.{DocCause}
-use Rattle.docs_core.specs.declared.fault.DocCause.TheVariants.{Field}
-use Rattle.docs_core.specs.declared.fault.FieldFault.TheVariants.{Cell, Language, Priorities}
-use Rattle.docs_core.specs.declared.document.kind.Kind.{Kind}
-use Rattle.docs_core.specs.declared.document.kind.Kind.TheVariants.{Script}
-use Rattle.docs_core.specs.declared.document.version.Version.{Version}
-use Rattle.docs_core.proofs.FieldRefusals.{no_label, no_language, no_list, one_label_fault, one_language_fault, one_list_fault}
+use Rattle.json_docs.specs.Checks.{AllPass, AreJson, Check, FirstFails, IsRefusal, IsTextRefusal}
+use Rattle.json_docs.specs.Checks.{check, rows_checks}
+use Rattle.site_docs.specs.Fields.{IsLabelRefusal, IsLabelText, cell_fields, key_of, label_check}
+use Rattle.site_docs.specs.Fields.{language_check, order_check, stamp_fields}
+use Rattle.site_docs.specs.Headers.{header_checks, rows_in, subject_data, version_of}
+use Rattle.map_docs.specs.LangMapChecks as maps
+use Rattle.map_docs.specs.LangMapRows as map_rows
+use Rattle.json_docs.specs.declared.fault.DocCause.{DocCause}
+use Rattle.json_docs.specs.declared.fault.DocCause.TheVariants.{Field}
+use Rattle.json_docs.specs.declared.fault.FieldFault.TheVariants.{Cell, Language, Priorities}
+use Rattle.site_docs.specs.SiteDocuments.{document_checks, subject_checks}
+use Rattle.site_docs.specs.ReadsAs.{Reads}
+use Rattle.site_docs.specs.Rising.{cell_checks, cell_row, entry_in, last_key, own_cell_checks}
+use Rattle.site_docs.specs.Rising.{own_stamp_checks, stamp_checks, stamp_row, told_in}
+use Rattle.site_docs.specs.Values.{Row}
+use Rattle.site_docs.specs.declared.document.kind.Kind.{Kind}
+use Rattle.site_docs.specs.declared.document.kind.Kind.TheVariants.{Script}
+use Rattle.site_docs.specs.declared.document.version.Version.{Version}
+use Rattle.script_docs.specs.ScriptReads.{script_checks, sites_check}
+use Rattle.script_docs.specs.StepFields.{default_checks, list_check, shaped_fields, step_checks}
+use Rattle.script_docs.specs.StepFields.{step_fields}
+use Rattle.script_docs.specs.Steps.{StepText, edit_step, merge_step, filter_step, lookup_step}
+use Rattle.script_docs.specs.Steps.{cells_step, tell_step, post_step, deliver_step, step_in}
+use Rattle.docs_core.proofs.FieldRefusals.{no_label, no_language, no_list, one_label_fault}
+use Rattle.docs_core.proofs.FieldRefusals.{one_language_fault, one_list_fault}
 
 -- nothing both passes and fails it, and it refuses for one cause
 pub record IsTest (c : Check) : Type 0 where

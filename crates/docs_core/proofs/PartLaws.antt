@@ -12,12 +12,13 @@ use Rattle.cata_core.proofs.Basics.{some_same}
 use Rattle.cata_core.proofs.Best.{own_key, same_key}
 use Rattle.cata_core.proofs.Filtered.{filter-IsMap}
 use Rattle.cata_core.proofs.Members.{Contains-from_in, In, filter_in, in_filter, in_from_Contains}
-use Rattle.cata_core.proofs.Parts.{find-part, part_looks_up}
+use Rattle.cata_core.proofs.Parts.{find-part, part_looks_up_by}
 use Rattle.cata_core.specs.declared.reply.Reply.TheVariants.{Default, Matched}
 use Rattle.nego_core.specs.Item.{Item}
-use Rattle.docs_core.specs.Bundled.{IsAnswer, IsBundle}
+use Rattle.nego_core.specs.declared.widening.Widening.{Widening}
+use Rattle.map_docs.specs.LangMaps.{Labelled}
+use Rattle.docs_core.specs.Bundled.{IsAnswer, IsBundleBy}
 use Rattle.docs_core.specs.Exported.{label_at, live_labels}
-use Rattle.docs_core.specs.LangMaps.{Labelled}
 use Rattle.docs_core.specs.Missing.{missing_labels}
 use Rattle.docs_core.proofs.BundledLemmas.{answer_live, label_of}
 
@@ -43,7 +44,7 @@ live_of_part messages (e ∷ es) =
 -- ---- missing labels
 
 -- a choice that a part makes as the whole does
-chosen_of_part : (messages : List ℕ → Bool) (p q : Labelled → Bool) → ((e : Labelled) → messages e.0.0 ≡ true → p e ≡ q e) → (es : List Labelled)
+pub chosen_of_part : (messages : List ℕ → Bool) (p q : Labelled → Bool) → ((e : Labelled) → messages e.0.0 ≡ true → p e ≡ q e) → (es : List Labelled)
     → filter p (part_of messages es) ≡ part_of messages (filter q es)
 chosen_of_part messages p q same [] = refl
 chosen_of_part messages p q same (e ∷ es) =
@@ -74,28 +75,28 @@ missing_of_part messages lang cells =
 
 -- ---- bundles
 
-module _ (cells : Entries) (items : List Item) (default : Option (List ℕ)) where
-  answer_of_part : (messages : List ℕ → Bool) (e : Labelled) → messages e.0.0 ≡ true → IsAnswer (part_of messages cells) items default e ↔ IsAnswer cells items default e
+module _ (widening : Widening) (cells : Entries) (items : List Item) (default : Option (List ℕ)) where
+  answer_of_part : (messages : List ℕ → Bool) (e : Labelled) → messages e.0.0 ≡ true → IsAnswer widening (part_of messages cells) items default e ↔ IsAnswer widening cells items default e
   answer_of_part messages e inside =
-      let matched = part_looks_up messages cells e.0.0 inside items default (Matched e.0.1 e.1) in
-      let chosen = part_looks_up messages cells e.0.0 inside items default (Default e.0.1 e.1) in (
+      let matched = part_looks_up_by messages cells e.0.0 inside widening items default (Matched e.0.1 e.1) in
+      let chosen = part_looks_up_by messages cells e.0.0 inside widening items default (Default e.0.1 e.1) in (
         λ h. elim h [ inl m ↦ inl (matched.0 m) | inr d ↦ inr (chosen.0 d) ],
         λ h. elim h [ inl m ↦ inl (matched.1 m) | inr d ↦ inr (chosen.1 d) ],
       )
 
-  answered_part : (messages : List ℕ → Bool) (labels : List Labelled) → IsBundle cells items default labels → (e : Labelled) → Contains (part_of messages labels) e → IsAnswer (part_of messages cells) items default e
+  answered_part : (messages : List ℕ → Bool) (labels : List Labelled) → IsBundleBy widening cells items default labels → (e : Labelled) → Contains (part_of messages labels) e → IsAnswer widening (part_of messages cells) items default e
   answered_part messages labels bundle e at =
       let kept = in_filter (λ (x : Labelled). messages x.0.0) labels e (in_from_Contains (part_of messages labels) e at) in
       (answer_of_part messages e kept.1).1 ((bundle.answered e).0 (Contains-from_in labels e kept.0))
 
-  part_answered : (messages : List ℕ → Bool) (labels : List Labelled) → IsBundle cells items default labels → (e : Labelled) → IsAnswer (part_of messages cells) items default e → Contains (part_of messages labels) e
+  part_answered : (messages : List ℕ → Bool) (labels : List Labelled) → IsBundleBy widening cells items default labels → (e : Labelled) → IsAnswer widening (part_of messages cells) items default e → Contains (part_of messages labels) e
   part_answered messages labels bundle e answer =
-      let own : Contains (part_of messages (live_labels cells)) e = subst (λ xs. Contains xs e) (live_of_part messages cells) (answer_live (part_of messages cells) items default e answer) in
+      let own : Contains (part_of messages (live_labels cells)) e = subst (λ xs. Contains xs e) (live_of_part messages cells) (answer_live widening (part_of messages cells) items default e answer) in
       let inside = (in_filter (λ (x : Labelled). messages x.0.0) (live_labels cells) e (in_from_Contains (part_of messages (live_labels cells)) e own)).1 in
       let there = (bundle.answered e).1 ((answer_of_part messages e inside).0 answer) in
       Contains-from_in (part_of messages labels) e (filter_in (λ (x : Labelled). messages x.0.0) labels e (in_from_Contains labels e there) inside)
 
-  pub bundle_of_part : (messages : List ℕ → Bool) (labels : List Labelled) → IsBundle cells items default labels → IsBundle (part_of messages cells) items default (part_of messages labels)
+  pub bundle_of_part : (messages : List ℕ → Bool) (labels : List Labelled) → IsBundleBy widening cells items default labels → IsBundleBy widening (part_of messages cells) items default (part_of messages labels)
   bundle_of_part messages labels bundle = record {
     rising = filter-IsMap key_cmp (λ (x : Labelled). messages x.0.0) labels bundle.rising;
     answered = λ e. (answered_part messages labels bundle e, part_answered messages labels bundle e);
@@ -137,23 +138,23 @@ finds (e ∷ es) k label h =
       ]
     ] refl
 
-module _ (cells : Entries) (items : List Item) (default : Option (List ℕ)) (a b : List Labelled) (first : IsBundle cells items default a) (second : IsBundle cells items default b) where
+module _ (widening : Widening) (cells : Entries) (items : List Item) (default : Option (List ℕ)) (a b : List Labelled) (first : IsBundleBy widening cells items default a) (second : IsBundleBy widening cells items default b) where
   -- what the one has at a key, the other has too
   has_too : (k : EntryKey) (label : List (List ℕ)) → find key_cmp k a ≡ Some label → find key_cmp k b ≡ Some label
   has_too k label h =
       let answer = (first.answered (k, label)).0 (Contains-from_in a (k, label) (found a k label h)) in
       let there = finds b k label (in_from_Contains b (k, label) ((second.answered (k, label)).1 answer)) in
       let other = (second.answered (k, there.0)).0 (Contains-from_in b (k, there.0) (found b k there.0 there.1)) in
-      let same : Some there.0 ≡ Some label = sym (label_of cells items default (k, there.0) other) ∙ label_of cells items default (k, label) answer in
+      let same : Some there.0 ≡ Some label = sym (label_of widening cells items default (k, there.0) other) ∙ label_of widening cells items default (k, label) answer in
       there.1 ∙ same
 
-pub one_bundle : (cells : Entries) (items : List Item) (default : Option (List ℕ)) (a b : List Labelled) → IsBundle cells items default a → IsBundle cells items default b → a ≡ b
-one_bundle cells items default a b first second =
+pub one_bundle : (widening : Widening) (cells : Entries) (items : List Item) (default : Option (List ℕ)) (a b : List Labelled) → IsBundleBy widening cells items default a → IsBundleBy widening cells items default b → a ≡ b
+one_bundle widening cells items default a b first second =
     same_maps key_cmp key_cmp_total key_cmp_exact a b first.rising second.rising
     (λ k. elim (find key_cmp k a) as (λ o. find key_cmp k a ≡ o → o ≡ find key_cmp k b) [
-      | Some label ↦ λ h. sym (has_too cells items default a b first second k label h)
+      | Some label ↦ λ h. sym (has_too widening cells items default a b first second k label h)
       | None ↦ λ h. elim (find key_cmp k b) as (λ o. find key_cmp k b ≡ o → None ≡ o) [
-        | Some label ↦ λ g. absurd (let back = has_too cells items default b a second first k label g in cc)
+        | Some label ↦ λ g. absurd (let back = has_too widening cells items default b a second first k label g in cc)
         | None ↦ λ g. refl
       ] refl
     ] refl)

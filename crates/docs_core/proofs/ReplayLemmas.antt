@@ -8,13 +8,13 @@ use Rattle.cata_core.specs.Taken.{edits_of}
 use Rattle.cata_core.specs.declared.answer.Answer.{Answer}
 use Rattle.cata_core.specs.declared.play_fault.PlayFault.{PlayFault}
 use Rattle.cata_core.specs.declared.play_fault.PlayFault.TheVariants.{NoMemory, NoSuchPost, NoSuchSite, StampReused}
-use Rattle.docs_core.specs.Checks.{OrMemory}
-use Rattle.docs_core.specs.Faults.{of_no_document, of_step}
-use Rattle.docs_core.specs.ReadsAs.{no_memory}
+use Rattle.json_docs.specs.Checks.{OrMemory}
+use Rattle.json_docs.specs.Faults.{of_no_document, of_step}
+use Rattle.json_docs.specs.declared.fault.DocFault.{DocFault}
+use Rattle.site_docs.specs.ReadsAs.{no_memory}
+use Rattle.script_docs.specs.ScriptReads.{ReadsAsScript}
+use Rattle.script_docs.specs.Scripts.{ScriptState}
 use Rattle.docs_core.specs.Replays.{IsPlayed, RefusesReplay, RefusesRun}
-use Rattle.docs_core.specs.ScriptReads.{ReadsAsScript}
-use Rattle.docs_core.specs.Scripts.{ScriptState}
-use Rattle.docs_core.specs.declared.fault.DocFault.{DocFault}
 
 module _ (script : ScriptState) where
   faulty : (fault : PlayFault) → fault ≢ NoMemory → (fault ≡ NoMemory) ⊎ IsFirstFault script.sites script.steps fault → (IsConsistent (edits_of script.steps) → IsNoClash fault) → RefusesRun script fault

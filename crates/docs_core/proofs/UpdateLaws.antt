@@ -9,14 +9,14 @@ use Rattle.cata_core.specs.Entries.{Entries, EntryKey, key_cmp, key_cmp_exact, k
 use Rattle.cata_core.specs.Sites.{SiteState}
 use Rattle.cata_core.proofs.Basics.{first_part, second_part}
 use Rattle.cata_core.proofs.Filtered.{find-below}
-use Rattle.docs_core.specs.Documents.{site_text}
+use Rattle.site_docs.specs.Documents.{site_text}
+use Rattle.site_docs.specs.ReadsAs.{ReadsAsSite}
+use Rattle.map_docs.specs.LangMapLabels.{AreLangMaps}
+use Rattle.map_docs.specs.LangMaps.{Labelled}
 use Rattle.docs_core.specs.Exported.{label_at, live_labels}
-use Rattle.docs_core.specs.LangMapLabels.{AreLangMaps}
-use Rattle.docs_core.specs.LangMaps.{Labelled}
 use Rattle.docs_core.specs.Made.{Change, Makes, with_change}
-use Rattle.docs_core.specs.ReadsAs.{ReadsAsSite}
 use Rattle.docs_core.specs.Updated.{AreChanges, IsChangeAt, IsUpdated, Texts, Updates}
-use Rattle.docs_core.proofs.LangMapLawsLemmas.{same_labels}
+use Rattle.map_docs.proofs.LangMapLawsLemmas.{same_labels}
 use Rattle.docs_core.proofs.LiveLemmas.{find-live, label_in, live-IsMap}
 use Rattle.docs_core.proofs.OneDocument.{one_site}
 use Rattle.docs_core.proofs.UpdatedLemmas.{one_change, one_key}

@@ -20,10 +20,11 @@ use Rattle.cata_core.specs.Latest.{latest_of}
 use Rattle.cata_core.proofs.Basics.{both_parts, first_part, less_than, second_part, tied}
 use Rattle.cata_core.proofs.Filtered.{find-below}
 use Rattle.cata_core.proofs.KeyPlaces.{below_lesser}
+use Rattle.map_docs.specs.LangMaps.{Labelled}
 use Rattle.docs_core.specs.Exported.{label_at}
-use Rattle.docs_core.specs.LangMaps.{Labelled}
 use Rattle.docs_core.specs.Made.{Change, Makes, SpendsClock, with_change}
-use Rattle.docs_core.specs.Revised.{IsFirstRevised, IsHead, IsRevised, NoStamp, key_of, new_of, old_of}
+use Rattle.docs_core.specs.Revised.{IsFirstRevised, IsHead, IsRevised, NoStamp, key_of, new_of}
+use Rattle.docs_core.specs.Revised.{old_of}
 use Rattle.docs_core.specs.Updated.{AreChanges, IsChangeAt, SpendsUpdate, Texts, Updates}
 use Rattle.docs_core.specs.declared.call.updating.Revised.{Revised}
 use Rattle.docs_core.proofs.LiveLemmas.{label_in}

@@ -5,8 +5,8 @@ use Rattle.cata_core.specs.Entries.{Entries}
 use Rattle.cata_core.specs.Sites.{SiteState}
 use Rattle.cata_core.specs.declared.reply.Reply.{Reply}
 use Rattle.cata_core.specs.declared.reply.Reply.TheVariants.{Matched, Default, Nothing}
+use Rattle.site_docs.specs.ReadsAs.{ReadsAsSite}
 use Rattle.docs_core.specs.Lines.{filter_lines, reply_line}
-use Rattle.docs_core.specs.ReadsAs.{ReadsAsSite}
 use Rattle.docs_core.specs.declared.call.asking.Ask.{Ask}
 use Rattle.docs_core.specs.declared.call.asking.Ask.TheVariants.{Filter, Lookup}
 

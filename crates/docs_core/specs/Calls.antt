@@ -12,10 +12,12 @@ use Rattle.cata_core.specs.Summary.{SummaryState}
 use Rattle.cata_core.specs.declared.cata_fault.CataFault.{CataFault}
 use Rattle.cata_core.specs.declared.cata_fault.CataFault.TheVariants.{NoMemory}
 use Rattle.cata_core.specs.declared.delta.Delta.{Delta}
-use Rattle.docs_core.specs.Faults.{of_no_document, of_site}
-use Rattle.docs_core.specs.ReadsAs.{IsDeltaText, IsOfDocument, IsSiteText, IsSummaryText, ReadsAsDelta, ReadsAsSite, ReadsAsSummary, RefusesDelta, RefusesSite, RefusesSummary}
+use Rattle.json_docs.specs.Faults.{of_no_document, of_site}
+use Rattle.json_docs.specs.declared.fault.DocFault.{DocFault}
+use Rattle.site_docs.specs.ReadsAs.{IsDeltaText, IsOfDocument, IsSiteText, IsSummaryText}
+use Rattle.site_docs.specs.ReadsAs.{ReadsAsDelta, ReadsAsSite, ReadsAsSummary, RefusesDelta}
+use Rattle.site_docs.specs.ReadsAs.{RefusesSite, RefusesSummary}
 use Rattle.docs_core.specs.Status.{status_line}
-use Rattle.docs_core.specs.declared.fault.DocFault.{DocFault}
 
 -- it is the refusal of a site's call, out of memory apart
 abbrev pub IsOfSite : (CataFault → Type 0) → DocFault → Type 0

@@ -1,19 +1,23 @@
--- The live labels that are written: all, or those of messages that lack a language.
-use Rattle.std.specs.Prelude.{ℕ, Bool, true, List, filter, Option, None, Some}
+-- The live labels that are written: all, or those of some messages.
+use Rattle.std.specs.Prelude.{ℕ, Bool, List, filter, true}
 use Rattle.std.specs.Option.{is_none}
 use Rattle.cata_core.specs.Entries.{Entries}
+use Rattle.map_docs.specs.LangMaps.{Labelled}
 use Rattle.docs_core.specs.Exported.{label_at, live_labels}
-use Rattle.docs_core.specs.LangMaps.{Labelled}
+use Rattle.docs_core.specs.Outdated.{is_outdated}
+use Rattle.docs_core.specs.declared.call.messages.Messages.{Messages}
+use Rattle.docs_core.specs.declared.call.messages.Messages.TheVariants.{All, Lacking, Outdated}
 
--- no language is asked for, or the message has no live label in it
-abbrev pub is_chosen : Option (List ℕ) → Entries → List ℕ → Bool
-is_chosen None cells id = true
-is_chosen (Some lang) cells id = is_none (label_at (id, lang) cells)
+-- whether the message is one of these
+abbrev pub is_chosen : Messages → Entries → List ℕ → Bool
+is_chosen All cells id = true
+is_chosen (Lacking lang) cells id = is_none (label_at (id, lang.now) cells)
+is_chosen (Outdated lang source) cells id = is_outdated lang.now source.now cells id
 
 -- those of some cells
-abbrev pub chosen_of : Option (List ℕ) → Entries → Entries → List Labelled
-chosen_of lacking cells some = filter (λ e. is_chosen lacking cells e.0.0) (live_labels some)
+abbrev pub chosen_of : Messages → Entries → Entries → List Labelled
+chosen_of messages cells some = filter (λ e. is_chosen messages cells e.0.0) (live_labels some)
 
 -- those of all cells
-abbrev pub chosen_labels : Option (List ℕ) → Entries → List Labelled
-chosen_labels lacking cells = chosen_of lacking cells cells
+abbrev pub chosen_labels : Messages → Entries → List Labelled
+chosen_labels messages cells = chosen_of messages cells cells

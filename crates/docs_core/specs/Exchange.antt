@@ -3,14 +3,14 @@ use Rattle.std.specs.Prelude.{◌≡◌, ◌⊎◌, ℕ, List}
 use Rattle.cata_core.specs.Entries.{Entries}
 use Rattle.cata_core.specs.Sites.{SiteState}
 use Rattle.cata_core.specs.declared.cata_fault.CataFault.TheVariants.{ClockSpent}
+use Rattle.json_docs.specs.Faults.{of_no_document, of_site}
+use Rattle.json_docs.specs.declared.fault.DocFault.{DocFault}
+use Rattle.site_docs.specs.ReadsAs.{IsOfDocument, IsSiteText, ReadsAsSite, RefusesSite}
+use Rattle.map_docs.specs.LangMapLabels.{AreLangMaps, RefusesLangMaps}
+use Rattle.map_docs.specs.LangMapTexts.{IsTextOf}
+use Rattle.map_docs.specs.LangMaps.{Labelled}
 use Rattle.docs_core.specs.Exported.{live_labels}
-use Rattle.docs_core.specs.Faults.{of_no_document, of_site}
 use Rattle.docs_core.specs.Imported.{Imports, SpendsImport}
-use Rattle.docs_core.specs.LangMapLabels.{AreLangMaps, RefusesLangMaps}
-use Rattle.docs_core.specs.LangMapTexts.{IsTextOf}
-use Rattle.docs_core.specs.LangMaps.{Labelled}
-use Rattle.docs_core.specs.ReadsAs.{IsOfDocument, IsSiteText, ReadsAsSite, RefusesSite}
-use Rattle.docs_core.specs.declared.fault.DocFault.{DocFault}
 
 -- the site with each label of the language maps put at this time, in rising order of key
 abbrev pub IsImported : List ℕ → ℕ → List ℕ → List ℕ → Type 0

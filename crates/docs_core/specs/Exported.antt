@@ -4,7 +4,7 @@ use Rattle.std.specs.FinMap.Entries.{find}
 use Rattle.std.specs.List.{filter_map}
 use Rattle.std.specs.Option.{option_map}
 use Rattle.cata_core.specs.Entries.{Entries, EntryKey, key_cmp}
-use Rattle.docs_core.specs.LangMaps.{Labelled}
+use Rattle.map_docs.specs.LangMaps.{Labelled}
 
 -- the keys whose cells have a label, each with its texts, in rising order
 abbrev pub live_labels : Entries → List Labelled

@@ -1,7 +1,7 @@
 -- Labels that are put one after another.
 use Rattle.std.specs.Prelude.{ℕ, List, map, Some}
 use Rattle.cata_core.specs.Entries.{Entries}
-use Rattle.docs_core.specs.LangMaps.{Labelled}
+use Rattle.map_docs.specs.LangMaps.{Labelled}
 use Rattle.docs_core.specs.Made.{Change, Makes, SpendsClock}
 
 -- each label, put

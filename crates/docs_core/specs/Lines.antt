@@ -8,8 +8,8 @@ use Rattle.cata_core.specs.declared.answer.Answer.{Answer}
 use Rattle.cata_core.specs.declared.answer.Answer.TheVariants.{Filter, Lookup, Cells}
 use Rattle.cata_core.specs.declared.reply.Reply.{Reply}
 use Rattle.cata_core.specs.declared.reply.Reply.TheVariants.{Matched, Default, Nothing}
-use Rattle.docs_core.specs.Entries.{row_of}
-use Rattle.docs_core.specs.Values.{cell_value, texts_value}
+use Rattle.site_docs.specs.Entries.{row_of}
+use Rattle.site_docs.specs.Values.{cell_value, texts_value}
 
 -- a line feed behind the words
 abbrev pub line : List ℕ → List ℕ

@@ -1,11 +1,13 @@
 -- The labels that a lookup answers for one message after another.
-use Rattle.std.specs.Prelude.{◌≡◌, ◌++◌, ℕ, List, [], ◌∷◌, None, Option, Some, option_map, option_to_list}
+use Rattle.std.specs.Prelude.{◌≡◌, ◌++◌, ℕ, List, [], ◌∷◌, None, Option, Some, option_map}
+use Rattle.std.specs.Prelude.{option_to_list}
 use Rattle.nego_core.specs.Item.{Item}
-use Rattle.cata_core.specs.Asking.{IsLookedUpOf}
+use Rattle.nego_core.specs.declared.widening.Widening.{Widening}
+use Rattle.cata_core.specs.Asking.{IsLookedUpBy}
 use Rattle.cata_core.specs.LiveMessages.{LiveMessage}
 use Rattle.cata_core.specs.declared.reply.Reply.{Reply}
 use Rattle.cata_core.specs.declared.reply.Reply.TheVariants.{Default, Matched, Nothing}
-use Rattle.docs_core.specs.LangMaps.{Labelled}
+use Rattle.map_docs.specs.LangMaps.{Labelled}
 
 -- the language that was answered, with its label
 abbrev pub answered : Reply → Option (List ℕ × List (List ℕ))
@@ -18,7 +20,10 @@ abbrev pub answered_of : List ℕ → Option (List ℕ × List (List ℕ)) → L
 answered_of id found = option_to_list (option_map (λ p. ((id, p.0), p.1)) found)
 
 -- the labels that are answered for these messages
-abbrev pub LooksUp : List Item → Option (List ℕ) → List LiveMessage → List Labelled → Type 0
-LooksUp items default [] labels = labels ≡ []
-LooksUp items default (m ∷ ms) labels =
-    (reply : Reply) × (rest : List Labelled) × IsLookedUpOf m.1 items default reply × LooksUp items default ms rest × (labels ≡ answered_of m.0 (answered reply) ++ rest)
+abbrev pub LooksUp : Widening → List Item → Option (List ℕ) → List LiveMessage → List Labelled
+    → Type 0
+LooksUp widening items default [] labels = labels ≡ []
+LooksUp widening items default (m ∷ ms) labels =
+    (reply : Reply) × (rest : List Labelled) × IsLookedUpBy widening m.1 items default reply
+    × LooksUp widening items default ms rest
+    × (labels ≡ answered_of m.0 (answered reply) ++ rest)

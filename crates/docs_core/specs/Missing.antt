@@ -3,10 +3,10 @@ use Rattle.std.specs.Prelude.{ℕ, Bool, List, filter}
 use Rattle.std.specs.Option.{is_none}
 use Rattle.cata_core.specs.Entries.{Entries}
 use Rattle.cata_core.specs.Sites.{SiteState}
+use Rattle.site_docs.specs.ReadsAs.{ReadsAsSite}
+use Rattle.map_docs.specs.LangMapTexts.{AreWritten}
+use Rattle.map_docs.specs.LangMaps.{Labelled}
 use Rattle.docs_core.specs.Exported.{label_at, live_labels}
-use Rattle.docs_core.specs.LangMapTexts.{AreWritten}
-use Rattle.docs_core.specs.LangMaps.{Labelled}
-use Rattle.docs_core.specs.ReadsAs.{ReadsAsSite}
 
 -- the live labels whose messages have none of just this language
 abbrev pub missing_labels : List ℕ → Entries → List Labelled

@@ -8,14 +8,16 @@ use Rattle.cata_core.specs.Migration.{OldDelta, OldEntry, OldSite, OldSummary}
 use Rattle.cata_core.specs.OldSteps.{OldStep, OldEdit, OldMerge, OldAskFilter, OldAskLookup, OldAskCells, OldTell, OldPost, OldDeliver, migrated_steps}
 use Rattle.serde_json.specs.Data.{Data}
 use Rattle.serde_json.specs.Find.{as_str}
-use Rattle.docs_core.specs.Headers.{rows_in, subject_data}
-use Rattle.docs_core.specs.Rows.{items_in, label_in, u32_in, u64_in}
-use Rattle.docs_core.specs.ScriptReads.{sites_in}
-use Rattle.docs_core.specs.Scripts.{ScriptState}
-use Rattle.docs_core.specs.StepFields.{Lists}
-use Rattle.docs_core.specs.Steps.{merge_step, filter_step, lookup_step, cells_step, tell_step, post_step, deliver_step, step_in}
-use Rattle.docs_core.specs.declared.document.kind.Kind.TheVariants.{Delta, Script, Site, Summary}
-use Rattle.docs_core.specs.declared.document.version.Version.TheVariants.{One}
+use Rattle.json_docs.specs.Parts.{items_in, u32_in, u64_in}
+use Rattle.site_docs.specs.Headers.{rows_in, subject_data}
+use Rattle.site_docs.specs.Rows.{label_in}
+use Rattle.site_docs.specs.declared.document.kind.Kind.TheVariants.{Delta, Script, Site, Summary}
+use Rattle.site_docs.specs.declared.document.version.Version.TheVariants.{One}
+use Rattle.script_docs.specs.ScriptReads.{sites_in}
+use Rattle.script_docs.specs.Scripts.{ScriptState}
+use Rattle.script_docs.specs.StepFields.{Lists}
+use Rattle.script_docs.specs.Steps.{merge_step, filter_step, lookup_step, cells_step, tell_step}
+use Rattle.script_docs.specs.Steps.{post_step, deliver_step, step_in}
 
 -- the key and the stamp of a row; languages stand in lower case
 abbrev pub old_parts_in : Data → Data → Data → Data → Data → Option (EntryKey × OldStamp)

@@ -7,12 +7,12 @@ use Rattle.cata_core.specs.Taken.{edits_of}
 use Rattle.cata_core.specs.declared.answer.Answer.{Answer}
 use Rattle.cata_core.specs.declared.play_fault.PlayFault.{PlayFault}
 use Rattle.cata_core.specs.declared.play_fault.PlayFault.TheVariants.{NoMemory}
-use Rattle.docs_core.specs.Faults.{of_no_document, of_step}
+use Rattle.json_docs.specs.Faults.{of_no_document, of_step}
+use Rattle.json_docs.specs.declared.fault.DocFault.{DocFault}
+use Rattle.site_docs.specs.ReadsAs.{IsOfDocument}
+use Rattle.script_docs.specs.ScriptReads.{ReadsAsScript, RefusesScript}
+use Rattle.script_docs.specs.Scripts.{ScriptState}
 use Rattle.docs_core.specs.Lines.{lines}
-use Rattle.docs_core.specs.ReadsAs.{IsOfDocument}
-use Rattle.docs_core.specs.ScriptReads.{ReadsAsScript, RefusesScript}
-use Rattle.docs_core.specs.Scripts.{ScriptState}
-use Rattle.docs_core.specs.declared.fault.DocFault.{DocFault}
 
 -- no step is faulty, and these are the answers: by what the sites hold, and where no two edits
 -- clash, or nothing is delivered, the expected ones

@@ -5,13 +5,13 @@ use Rattle.cell_core.specs.Maps.{IsMap}
 use Rattle.cata_core.specs.Entries.{Entries, EntryKey, key_cmp}
 use Rattle.cata_core.specs.Sites.{SiteState}
 use Rattle.cata_core.specs.declared.cata_fault.CataFault.TheVariants.{ClockSpent}
+use Rattle.json_docs.specs.Faults.{of_no_document, of_site}
+use Rattle.json_docs.specs.declared.fault.DocFault.{DocFault}
+use Rattle.site_docs.specs.ReadsAs.{IsOfDocument, IsSiteText, ReadsAsSite, RefusesSite}
+use Rattle.map_docs.specs.LangMapLabels.{AreLangMaps, RefusesLangMaps}
+use Rattle.map_docs.specs.LangMaps.{Labelled}
 use Rattle.docs_core.specs.Exported.{label_at}
-use Rattle.docs_core.specs.Faults.{of_no_document, of_site}
-use Rattle.docs_core.specs.LangMapLabels.{AreLangMaps, RefusesLangMaps}
-use Rattle.docs_core.specs.LangMaps.{Labelled}
 use Rattle.docs_core.specs.Made.{Change, Makes, SpendsClock}
-use Rattle.docs_core.specs.ReadsAs.{IsOfDocument, IsSiteText, ReadsAsSite, RefusesSite}
-use Rattle.docs_core.specs.declared.fault.DocFault.{DocFault}
 
 -- the texts of a label, or none where there is no label
 abbrev pub Texts : Type 0

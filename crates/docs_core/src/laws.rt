@@ -1,11 +1,13 @@
 //! Laws over the definitions alone, each the contract of a function that does nothing.
-ghost use Rattle.std.specs.Prelude.{◌≡◌, ◌≤◌, ◌↔◌, ◌∷◌, ◌++◌, ℕ, Bool, Contains, List, [], IsTrue};
-ghost use Rattle.std.specs.Prelude.{IsUtf8, Option, length};
+ghost use Rattle.std.specs.Prelude.{◌≡◌, ◌≤◌, ◌⊎◌, ◌↔◌, ◌∷◌, ◌++◌, ℕ, Bool, Contains, List, []};
+ghost use Rattle.std.specs.Prelude.{IsTrue, IsUtf8, None, Option, Some, false, length};
 ghost use Rattle.std.specs.FinMap.Entries.{find};
 ghost use Rattle.cell_core.specs.Maps.{IsMap};
 ghost use Rattle.cell_core.specs.SiteNames.{IsSiteName};
+ghost use Rattle.cell_core.specs.declared.cell.Cell.{Cell};
 ghost use Rattle.nego_core.specs.Item.{Item};
 ghost use Rattle.nego_core.specs.declared.scheme.Scheme.{Scheme};
+ghost use Rattle.nego_core.specs.declared.widening.Widening.{Widening};
 ghost use Rattle.serde_json.specs.Data.{Data};
 ghost use Rattle.cata_core.specs.Deltas.{HasAll, Stamps, delta_of};
 ghost use Rattle.cata_core.specs.Entries.{Agree, Entries, EntryKey, joined, key_cmp};
@@ -13,45 +15,56 @@ ghost use Rattle.cata_core.specs.Parts.{part_of};
 ghost use Rattle.cata_core.specs.Sites.{SiteState};
 ghost use Rattle.cata_core.specs.Summary.{SummaryState};
 ghost use Rattle.cata_core.specs.declared.delta.Delta.{Delta};
-ghost use Rattle.docs_core.specs.Bundled.{IsBundle};
-ghost use Rattle.docs_core.specs.Calls.{AreSynced, IsDeltaFor, IsSummarised, IsTaken};
-ghost use Rattle.docs_core.specs.Documents.{cells_values, delta_text, site_text, summary_text};
-ghost use Rattle.docs_core.specs.Exported.{live_labels};
-ghost use Rattle.docs_core.specs.FieldWritten.{field_text};
-ghost use Rattle.docs_core.specs.LangMapLabels.{AreLangMaps, RefusesLangMaps};
-ghost use Rattle.docs_core.specs.LangMaps.{Labelled};
+ghost use Rattle.json_docs.specs.declared.fault.DocCause.{DocCause};
+ghost use Rattle.json_docs.specs.declared.fault.DocFault.{DocFault};
+ghost use Rattle.site_docs.specs.Documents.{cells_values, delta_text, site_text, summary_text};
+ghost use Rattle.site_docs.specs.ReadsAs.{IsSiteText, ReadsAsDelta, ReadsAsSite, ReadsAsSummary};
+ghost use Rattle.site_docs.specs.ReadsAs.{RefusesDelta, RefusesSite, RefusesSummary};
+ghost use Rattle.site_docs.specs.Texts.{IsOneLine, text};
+ghost use Rattle.site_docs.specs.Valid.{AreKeptCells, AreKeptStamps};
+ghost use Rattle.site_docs.specs.Values.{site_value};
+ghost use Rattle.map_docs.specs.LangMapLabels.{AreLangMaps, RefusesLangMaps};
+ghost use Rattle.map_docs.specs.LangMaps.{Labelled};
+ghost use Rattle.script_docs.specs.FieldWritten.{field_text};
+ghost use Rattle.script_docs.specs.ScriptReads.{ReadsAsScript, RefusesScript};
+ghost use Rattle.script_docs.specs.Scripts.{ScriptState};
+ghost use Rattle.script_docs.specs.StepFields.{Lists};
+ghost use Rattle.docs_core.specs.Bundled.{IsBundleBy};
+ghost use Rattle.docs_core.specs.Calls.{AreSynced, IsDeltaFor, IsSummarised, IsTaken, RefusesSync};
+ghost use Rattle.docs_core.specs.Calls.{RefusesTaking};
+ghost use Rattle.docs_core.specs.Changed.{IsChanged};
+ghost use Rattle.docs_core.specs.Exported.{label_at, live_labels};
+ghost use Rattle.docs_core.specs.Imported.{Imports};
 ghost use Rattle.docs_core.specs.Made.{Change};
-ghost use Rattle.docs_core.specs.ReadsAs.{IsSiteText, ReadsAsDelta, ReadsAsSite, ReadsAsSummary};
-ghost use Rattle.docs_core.specs.ReadsAs.{RefusesDelta, RefusesSite, RefusesSummary};
 ghost use Rattle.docs_core.specs.Missing.{missing_labels};
+ghost use Rattle.docs_core.specs.Outdated.{IsOutdatedMessage, outdated_labels};
 ghost use Rattle.docs_core.specs.Replays.{Replays};
-ghost use Rattle.docs_core.specs.ScriptReads.{ReadsAsScript, RefusesScript};
-ghost use Rattle.docs_core.specs.Scripts.{ScriptState};
-ghost use Rattle.docs_core.specs.StepFields.{Lists};
-ghost use Rattle.docs_core.specs.Texts.{IsOneLine, text};
+ghost use Rattle.docs_core.specs.TimeLimits.{AreInTime, AreSyncedUntil, IsTakenUntil};
+ghost use Rattle.docs_core.specs.TimeLimits.{RefusesSyncUntil, RefusesTakingUntil};
 ghost use Rattle.docs_core.specs.Updated.{AreChanges, IsUpdated, Updates};
-ghost use Rattle.docs_core.specs.Valid.{AreKeptCells, AreKeptStamps};
-ghost use Rattle.docs_core.specs.Values.{site_value};
-ghost use Rattle.docs_core.specs.declared.fault.DocCause.{DocCause};
 
 /// The text that is written for a site reads as that site.
 pub fn written_site_reads()
-    ensures { (site : SiteState) → IsSiteName site.name → AreKeptCells site.cells → IsUtf8 (site_text site) → ReadsAsSite (site_text site) site }
+    ensures { (site : SiteState) → IsSiteName site.name → AreKeptCells site.cells
+        → IsUtf8 (site_text site) → ReadsAsSite (site_text site) site }
 {}
 
 /// The text that is written for a delta reads as that delta.
 pub fn written_delta_reads()
-    ensures { (delta : Delta) → IsSiteName delta.addressee → AreKeptCells delta.cells → IsUtf8 (delta_text delta) → ReadsAsDelta (delta_text delta) delta }
+    ensures { (delta : Delta) → IsSiteName delta.addressee → AreKeptCells delta.cells
+        → IsUtf8 (delta_text delta) → ReadsAsDelta (delta_text delta) delta }
 {}
 
 /// The text that is written for a summary reads as that summary.
 pub fn written_summary_reads()
-    ensures { (summary : SummaryState) → IsSiteName summary.owner → AreKeptStamps summary.stamps → IsUtf8 (summary_text summary) → ReadsAsSummary (summary_text summary) summary }
+    ensures { (summary : SummaryState) → IsSiteName summary.owner → AreKeptStamps summary.stamps
+        → IsUtf8 (summary_text summary) → ReadsAsSummary (summary_text summary) summary }
 {}
 
 /// A text reads as one site at most.
 pub fn one_site()
-    ensures { (bytes : List ℕ) (s t : SiteState) → ReadsAsSite bytes s → ReadsAsSite bytes t → s ≡ t }
+    ensures { (bytes : List ℕ) (s t : SiteState) → ReadsAsSite bytes s → ReadsAsSite bytes t
+        → s ≡ t }
 {}
 
 /// A text reads as one delta at most.
@@ -61,12 +74,14 @@ pub fn one_delta()
 
 /// A text reads as one summary at most.
 pub fn one_summary()
-    ensures { (bytes : List ℕ) (s t : SummaryState) → ReadsAsSummary bytes s → ReadsAsSummary bytes t → s ≡ t }
+    ensures { (bytes : List ℕ) (s t : SummaryState) → ReadsAsSummary bytes s
+        → ReadsAsSummary bytes t → s ≡ t }
 {}
 
 /// A text reads as one script at most.
 pub fn one_script()
-    ensures { (bytes : List ℕ) (s t : ScriptState) → ReadsAsScript bytes s → ReadsAsScript bytes t → s ≡ t }
+    ensures { (bytes : List ℕ) (s t : ScriptState) → ReadsAsScript bytes s
+        → ReadsAsScript bytes t → s ≡ t }
 {}
 
 /// A text is replayed as one text at most.
@@ -76,27 +91,38 @@ pub fn one_replay()
 
 /// No text is both read and refused.
 pub fn a_read_text_is_not_refused()
-    ensures site { (bytes : List ℕ) (site : SiteState) (cause : DocCause) → ReadsAsSite bytes site → ¬ RefusesSite bytes cause }
-    ensures delta { (bytes : List ℕ) (delta : Delta) (cause : DocCause) → ReadsAsDelta bytes delta → ¬ RefusesDelta bytes cause }
-    ensures summary { (bytes : List ℕ) (summary : SummaryState) (cause : DocCause) → ReadsAsSummary bytes summary → ¬ RefusesSummary bytes cause }
-    ensures script { (bytes : List ℕ) (script : ScriptState) (cause : DocCause) → ReadsAsScript bytes script → ¬ RefusesScript bytes cause }
-    ensures labels { (bytes : List ℕ) (labels : List Labelled) (cause : DocCause) → AreLangMaps bytes labels → ¬ RefusesLangMaps bytes cause }
+    ensures site { (bytes : List ℕ) (site : SiteState) (cause : DocCause)
+        → ReadsAsSite bytes site → ¬ RefusesSite bytes cause }
+    ensures delta { (bytes : List ℕ) (delta : Delta) (cause : DocCause)
+        → ReadsAsDelta bytes delta → ¬ RefusesDelta bytes cause }
+    ensures summary { (bytes : List ℕ) (summary : SummaryState) (cause : DocCause)
+        → ReadsAsSummary bytes summary → ¬ RefusesSummary bytes cause }
+    ensures script { (bytes : List ℕ) (script : ScriptState) (cause : DocCause)
+        → ReadsAsScript bytes script → ¬ RefusesScript bytes cause }
+    ensures labels { (bytes : List ℕ) (labels : List Labelled) (cause : DocCause)
+        → AreLangMaps bytes labels → ¬ RefusesLangMaps bytes cause }
 {}
 
 /// A text that is refused is refused for one cause.
 pub fn one_refusal()
-    ensures site { (bytes : List ℕ) (a b : DocCause) → RefusesSite bytes a → RefusesSite bytes b → a ≡ b }
-    ensures delta { (bytes : List ℕ) (a b : DocCause) → RefusesDelta bytes a → RefusesDelta bytes b → a ≡ b }
-    ensures summary { (bytes : List ℕ) (a b : DocCause) → RefusesSummary bytes a → RefusesSummary bytes b → a ≡ b }
-    ensures script { (bytes : List ℕ) (a b : DocCause) → RefusesScript bytes a → RefusesScript bytes b → a ≡ b }
-    ensures labels { (bytes : List ℕ) (a b : DocCause) → RefusesLangMaps bytes a → RefusesLangMaps bytes b → a ≡ b }
+    ensures site { (bytes : List ℕ) (a b : DocCause) → RefusesSite bytes a → RefusesSite bytes b
+        → a ≡ b }
+    ensures delta { (bytes : List ℕ) (a b : DocCause) → RefusesDelta bytes a
+        → RefusesDelta bytes b → a ≡ b }
+    ensures summary { (bytes : List ℕ) (a b : DocCause) → RefusesSummary bytes a
+        → RefusesSummary bytes b → a ≡ b }
+    ensures script { (bytes : List ℕ) (a b : DocCause) → RefusesScript bytes a
+        → RefusesScript bytes b → a ≡ b }
+    ensures labels { (bytes : List ℕ) (a b : DocCause) → RefusesLangMaps bytes a
+        → RefusesLangMaps bytes b → a ≡ b }
 {}
 
 /// A delta suffices: made against a summary that the site has in full, by a sender that agrees with
 /// it, it leaves the document of the site with all cells of the sender.
 pub fn a_delta_document_suffices()
     ensures { (a b text : List ℕ) (site : SiteState) (sender : Entries) (told : Stamps)
-        → ReadsAsSite a site → ReadsAsDelta b (record { addressee = site.name; cells = delta_of sender told })
+        → ReadsAsSite a site → ReadsAsDelta b
+        (record { addressee = site.name; cells = delta_of sender told })
         → Agree site.cells sender → HasAll site.cells told → IsTaken a b text
         → IsSiteText (record { name = site.name; cells = joined site.cells sender }) text }
 {}
@@ -104,14 +130,16 @@ pub fn a_delta_document_suffices()
 /// An exchange by documents is a join: a site that takes the delta which another made for its
 /// summary has the document of the cells of both.
 pub fn an_exchange_is_a_join()
-    ensures { (a b told delta taken : List ℕ) (site other : SiteState) → ReadsAsSite a site → ReadsAsSite b other → Agree site.cells other.cells
+    ensures { (a b told delta taken : List ℕ) (site other : SiteState) → ReadsAsSite a site
+        → ReadsAsSite b other → Agree site.cells other.cells
         → IsSummarised a told → IsDeltaFor b told delta → IsTaken a delta taken
         → IsSiteText (record { name = site.name; cells = joined site.cells other.cells }) taken }
 {}
 
 /// Synced documents have equal `cells`: those of both sites.
 pub fn synced_documents_have_equal_cells()
-    ensures { (a b x y : List ℕ) (first second : SiteState) → ReadsAsSite a first → ReadsAsSite b second → AreSynced a b x y
+    ensures { (a b x y : List ℕ) (first second : SiteState) → ReadsAsSite a first
+        → ReadsAsSite b second → AreSynced a b x y
         → let cells = cells_values (joined first.cells second.cells) in
         (x ≡ text (site_value first.name cells)) × (y ≡ text (site_value second.name cells)) }
 {}
@@ -129,70 +157,182 @@ pub fn a_written_text_is_one_line()
 
 /// A line feed behind a text changes nothing in what it reads as.
 pub fn a_last_line_feed_is_free()
-    ensures site { (bytes : List ℕ) (site : SiteState) → ReadsAsSite (bytes ++ 10 ∷ []) site ↔ ReadsAsSite bytes site }
-    ensures delta { (bytes : List ℕ) (delta : Delta) → ReadsAsDelta (bytes ++ 10 ∷ []) delta ↔ ReadsAsDelta bytes delta }
-    ensures summary { (bytes : List ℕ) (summary : SummaryState) → ReadsAsSummary (bytes ++ 10 ∷ []) summary ↔ ReadsAsSummary bytes summary }
-    ensures script { (bytes : List ℕ) (script : ScriptState) → ReadsAsScript (bytes ++ 10 ∷ []) script ↔ ReadsAsScript bytes script }
-    ensures labels { (bytes : List ℕ) (labels : List Labelled) → AreLangMaps (bytes ++ 10 ∷ []) labels ↔ AreLangMaps bytes labels }
+    ensures site { (bytes : List ℕ) (site : SiteState) → ReadsAsSite (bytes ++ 10 ∷ []) site
+        ↔ ReadsAsSite bytes site }
+    ensures delta { (bytes : List ℕ) (delta : Delta) → ReadsAsDelta (bytes ++ 10 ∷ []) delta
+        ↔ ReadsAsDelta bytes delta }
+    ensures summary { (bytes : List ℕ) (summary : SummaryState)
+        → ReadsAsSummary (bytes ++ 10 ∷ []) summary ↔ ReadsAsSummary bytes summary }
+    ensures script { (bytes : List ℕ) (script : ScriptState)
+        → ReadsAsScript (bytes ++ 10 ∷ []) script ↔ ReadsAsScript bytes script }
+    ensures labels { (bytes : List ℕ) (labels : List Labelled)
+        → AreLangMaps (bytes ++ 10 ∷ []) labels ↔ AreLangMaps bytes labels }
+{}
+
+// ---- limits on times
+
+/// What is taken under a limit is what is taken without one, of documents with no time after it.
+pub fn a_limit_takes_the_same()
+    ensures taken { (a b text : List ℕ) (limit : Option ℕ)
+        → IsTakenUntil a b limit text ↔ (IsTaken a b text × ((delta : Delta)
+        → ReadsAsDelta b delta → AreInTime limit delta.cells)) }
+    ensures synced { (a b x y : List ℕ) (limit : Option ℕ)
+        → AreSyncedUntil a b limit x y ↔ (AreSynced a b x y × ((site : SiteState)
+        → ReadsAsSite a site ⊎ ReadsAsSite b site → AreInTime limit site.cells)) }
+{}
+
+/// Without a limit nothing more is refused.
+pub fn without_a_limit_nothing_more_is_refused()
+    ensures taking { (a b : List ℕ) (fault : DocFault) → RefusesTakingUntil a b None fault
+        → RefusesTaking a b fault }
+    ensures sync { (a b : List ℕ) (fault : DocFault) → RefusesSyncUntil a b None fault
+        → RefusesSync a b fault }
+{}
+
+/// No cell that comes in under a limit has a time after it. After a take each other cell was there
+/// before; after a sync no cell has a later time.
+pub fn what_comes_in_is_in_the_limit()
+    ensures taken { (a b text : List ℕ) (limit : ℕ) (site after : SiteState) (key : EntryKey)
+        (cell : Cell)
+        → ReadsAsSite a site → ReadsAsSite text after → IsTakenUntil a b (Some limit) text
+        → find key_cmp key after.cells ≡ Some cell
+        → (find key_cmp key site.cells ≡ Some cell) ⊎ (cell.stamp.time ≤ limit) }
+    ensures synced { (a b x y : List ℕ) (limit : ℕ) (after : SiteState) (key : EntryKey)
+        (cell : Cell)
+        → ReadsAsSite x after ⊎ ReadsAsSite y after → AreSyncedUntil a b (Some limit) x y
+        → find key_cmp key after.cells ≡ Some cell
+        → cell.stamp.time ≤ limit }
+{}
+
+// ---- imports
+
+/// After an import the live labels of its keys are its labels, and each other key has the cell that
+/// it had.
+pub fn an_import_puts_its_labels_alone()
+    ensures labels { (now : ℕ) (name : List ℕ) (labels : List Labelled) (cells imported : Entries)
+        → IsMap key_cmp labels → Imports now name labels cells imported
+        → (key : EntryKey) (label : List (List ℕ)) → find key_cmp key labels ≡ Some label
+        → label_at key imported ≡ Some label }
+    ensures others { (now : ℕ) (name : List ℕ) (labels : List Labelled) (cells imported : Entries)
+        → IsMap key_cmp labels → Imports now name labels cells imported
+        → (key : EntryKey) → find key_cmp key labels ≡ None
+        → find key_cmp key imported ≡ find key_cmp key cells }
+{}
+
+/// What is exported, and imported into an empty site, has the same live labels.
+pub fn an_import_of_an_export_has_its_labels()
+    ensures { (now : ℕ) (name : List ℕ) (cells imported : Entries) → IsMap key_cmp cells
+        → Imports now name (live_labels cells) [] imported
+        → live_labels imported ≡ live_labels cells }
 {}
 
 // ---- updates
 
 /// From old labels to new ones there is one list of changes.
 pub fn one_list_of_changes()
-    ensures there { (old new : List Labelled) (cells : Entries) → (changes : List Change) × AreChanges old new cells changes }
-    ensures one { (old new : List Labelled) (cells : Entries) (x y : List Change) → AreChanges old new cells x → AreChanges old new cells y → x ≡ y }
+    ensures there { (old new : List Labelled) (cells : Entries) → (changes : List Change)
+        × AreChanges old new cells changes }
+    ensures one { (old new : List Labelled) (cells : Entries) (x y : List Change)
+        → AreChanges old new cells x → AreChanges old new cells y → x ≡ y }
 {}
 
 /// Where the old and the new labels are equal an update changes nothing, whatever the site has.
 pub fn equal_labels_change_nothing()
-    ensures cells { (now : ℕ) (name : List ℕ) (labels : List Labelled) (cells updated : Entries) → Updates now name labels labels cells updated → updated ≡ cells }
-    ensures document { (bytes old new doc : List ℕ) (now : ℕ) (site : SiteState) (labels : List Labelled)
-        → ReadsAsSite bytes site → AreLangMaps old labels → AreLangMaps new labels → IsUpdated bytes now old new doc → doc ≡ site_text site }
+    ensures cells { (now : ℕ) (name : List ℕ) (labels : List Labelled) (cells updated : Entries)
+        → Updates now name labels labels cells updated → updated ≡ cells }
+    ensures document { (bytes old new doc : List ℕ) (now : ℕ) (site : SiteState)
+        (labels : List Labelled)
+        → ReadsAsSite bytes site → AreLangMaps old labels → AreLangMaps new labels
+        → IsUpdated bytes now old new doc → doc ≡ site_text site }
 {}
 
 /// A key on which the old and the new labels agree keeps its cell.
 pub fn an_update_keeps_what_is_equal()
-    ensures { (now : ℕ) (name : List ℕ) (old new : List Labelled) (cells updated : Entries) (key : EntryKey)
-        → Updates now name old new cells updated → find key_cmp key old ≡ find key_cmp key new → find key_cmp key updated ≡ find key_cmp key cells }
+    ensures { (now : ℕ) (name : List ℕ) (old new : List Labelled) (cells updated : Entries)
+        (key : EntryKey)
+        → Updates now name old new cells updated → find key_cmp key old ≡ find key_cmp key new
+        → find key_cmp key updated ≡ find key_cmp key cells }
 {}
 
 /// On a site whose live labels are the old ones the live labels become the new ones.
 pub fn an_update_of_the_live_labels_brings_the_new_ones()
-    ensures { (now : ℕ) (name : List ℕ) (new : List Labelled) (cells updated : Entries) → IsMap key_cmp cells → IsMap key_cmp new
+    ensures { (now : ℕ) (name : List ℕ) (new : List Labelled) (cells updated : Entries)
+        → IsMap key_cmp cells → IsMap key_cmp new
         → Updates now name (live_labels cells) new cells updated → live_labels updated ≡ new }
 {}
 
 /// An update that is made twice, at whatever times, is made once.
 pub fn an_update_twice_is_one()
-    ensures cells { (now later : ℕ) (name : List ℕ) (old new : List Labelled) (cells once twice : Entries)
-        → Updates now name old new cells once → Updates later name old new once twice → twice ≡ once }
-    ensures document { (bytes old new once twice : List ℕ) (now later : ℕ) → IsUpdated bytes now old new once → IsUpdated once later old new twice → twice ≡ once }
+    ensures cells { (now later : ℕ) (name : List ℕ) (old new : List Labelled)
+        (cells once twice : Entries)
+        → Updates now name old new cells once → Updates later name old new once twice
+        → twice ≡ once }
+    ensures document { (bytes old new once twice : List ℕ) (now later : ℕ)
+        → IsUpdated bytes now old new once → IsUpdated once later old new twice → twice ≡ once }
 {}
 
 // ---- bundles
 
 /// Each label of a bundle is one of the live labels, as an export has them.
 pub fn a_bundle_is_of_the_live_labels()
-    ensures { (cells : Entries) (items : List Item) (default : Option (List ℕ)) (labels : List Labelled) (e : Labelled)
-        → IsBundle cells items default labels → Contains labels e → Contains (live_labels cells) e }
+    ensures { (widening : Widening) (cells : Entries) (items : List Item)
+        (default : Option (List ℕ)) (labels : List Labelled) (e : Labelled)
+        → IsBundleBy widening cells items default labels → Contains labels e
+        → Contains (live_labels cells) e }
 {}
 
-/// A site has one bundle for a list and a default.
+/// A site has one bundle for a list, a widening and a default.
 pub fn one_bundle()
-    ensures { (cells : Entries) (items : List Item) (default : Option (List ℕ)) (a b : List Labelled)
-        → IsBundle cells items default a → IsBundle cells items default b → a ≡ b }
+    ensures { (widening : Widening) (cells : Entries) (items : List Item)
+        (default : Option (List ℕ)) (a b : List Labelled)
+        → IsBundleBy widening cells items default a → IsBundleBy widening cells items default b
+        → a ≡ b }
+{}
+
+// ---- outdated labels
+
+/// A live label is among the outdated ones exactly where its message has live labels in both
+/// languages and the time of the source's is greater.
+pub fn a_message_is_outdated_where_its_source_is_later()
+    ensures { (lang source : List ℕ) (cells : Entries) (e : Labelled)
+        → Contains (outdated_labels lang source cells) e
+        ↔ (Contains (live_labels cells) e × IsOutdatedMessage lang source cells e.0.0) }
+{}
+
+/// No label is older than itself.
+pub fn nothing_is_outdated_by_itself()
+    ensures { (lang : List ℕ) (cells : Entries) → outdated_labels lang lang cells ≡ [] }
+{}
+
+// ---- changes
+
+/// Nothing changed exactly where the cells of both sites are equal.
+pub fn nothing_changed_where_cells_are_equal()
+    ensures { (a b doc : List ℕ) (found : Bool) (before after : SiteState)
+        → ReadsAsSite a before → ReadsAsSite b after → IsChanged a b doc found
+        → (found ≡ false)
+        ↔ ((key : EntryKey) → find key_cmp key before.cells ≡ find key_cmp key after.cells) }
 {}
 
 // ---- sites in parts, each with the cells of some of the messages
 
-/// What is exported of a part, what it misses and its bundle are the part of what the whole gives.
-/// Where each message is in some part, the whole gives nothing just where no part gives anything.
+/// What is exported of a part, what it misses, what is outdated in it and its bundle are the part
+/// of what the whole gives. Where each message is in some part, the whole gives nothing just where
+/// no part gives anything.
 pub fn a_part_gives_its_part()
-    ensures export { (messages : List ℕ → Bool) (cells : Entries) → live_labels (part_of messages cells) ≡ part_of messages (live_labels cells) }
-    ensures missing { (messages : List ℕ → Bool) (lang : List ℕ) (cells : Entries) → missing_labels lang (part_of messages cells) ≡ part_of messages (missing_labels lang cells) }
-    ensures bundle { (messages : List ℕ → Bool) (cells : Entries) (items : List Item) (default : Option (List ℕ)) (labels : List Labelled)
-        → IsBundle cells items default labels → IsBundle (part_of messages cells) items default (part_of messages labels) }
-    ensures nothing { (parts : ℕ → List ℕ → Bool) → ((id : List ℕ) → (k : ℕ) × IsTrue (parts k id)) → (labels : List Labelled)
+    ensures export { (messages : List ℕ → Bool) (cells : Entries)
+        → live_labels (part_of messages cells) ≡ part_of messages (live_labels cells) }
+    ensures missing { (messages : List ℕ → Bool) (lang : List ℕ) (cells : Entries)
+        → missing_labels lang (part_of messages cells)
+        ≡ part_of messages (missing_labels lang cells) }
+    ensures outdated { (messages : List ℕ → Bool) (lang source : List ℕ) (cells : Entries)
+        → outdated_labels lang source (part_of messages cells)
+        ≡ part_of messages (outdated_labels lang source cells) }
+    ensures bundle { (messages : List ℕ → Bool) (widening : Widening) (cells : Entries)
+        (items : List Item) (default : Option (List ℕ)) (labels : List Labelled)
+        → IsBundleBy widening cells items default labels
+        → IsBundleBy widening (part_of messages cells) items default (part_of messages labels) }
+    ensures nothing { (parts : ℕ → List ℕ → Bool)
+        → ((id : List ℕ) → (k : ℕ) × IsTrue (parts k id)) → (labels : List Labelled)
         → (labels ≡ []) ↔ ((k : ℕ) → part_of (parts k) labels ≡ []) }
 {}

@@ -4,11 +4,13 @@
 //!   document; [`write_site`], [`write_delta`], [`write_summary`], [`write_script`] and
 //!   [`write_langmaps`] write one.
 //! - [`edit_document`], [`import_document`], [`update_document`], [`export_document`],
-//!   [`bundle_document`], [`missing_document`], [`sync_documents`], [`summary_document`],
-//!   [`delta_document`], [`take_document`], [`ask_document`] and [`status_document`] work on whole
-//!   documents, from bytes to bytes.
-//! - [`filter_lines`], [`reply_line`], [`status_line`] and [`write_bundle`] write the answers of a
-//!   site in memory, without its document.
+//!   [`bundle_document`], [`missing_document`], [`outdated_document`], [`changes_document`],
+//!   [`sync_documents`], [`summary_document`], [`delta_document`], [`take_document`],
+//!   [`ask_document`] and [`status_document`] work on whole documents, from bytes to bytes;
+//!   [`take_document_until`] and [`sync_documents_until`] under a limit on times.
+//! - [`filter_lines`], [`reply_line`], [`status_line`], [`changes_lines`], [`write_live_labels`],
+//!   [`write_missing`], [`write_outdated`] and [`write_bundle`] write the answers of a site in
+//!   memory, without its document; [`put_labels`] and [`update_labels`] edit it.
 //! - [`replay`] runs the script of a [`Source`] and writes the lines of its answers to a [`Sink`];
 //!   [`read_all`] and [`write_out`] are its two ends. [`Input`] and [`Output`] make a source and a
 //!   sink of `std`'s `Read` and `Write`.
@@ -21,37 +23,31 @@
 #![tactic(auto)]
 
 mod call;
-mod doc;
-mod document;
-mod fault;
-mod json_text;
 pub mod lang_map_laws;
-mod language_map;
 pub mod laws;
 pub mod migration;
-mod row;
-mod script;
-mod stream;
 
 pub use call::asking::{Ask, ask_document};
-pub use call::bundling::{bundle_document, write_bundle};
+pub use call::bundling::{bundle_document, bundle_document_by, write_bundle, write_bundle_by};
+pub use call::changes::{changes_document, changes_lines};
+pub use call::exporting::{write_live_labels, write_missing};
+pub use call::importing::put_labels;
 pub use call::language_maps::{export_document, import_document, missing_document};
 pub use call::lines::{answer_lines, filter_lines, reply_line};
+pub use call::outdated::{outdated_document, write_outdated};
+pub use call::replaying::replay;
 pub use call::sites::{
     delta_document, edit_document, status_document, summary_document, sync_documents, take_document,
 };
 pub use call::status::status_line;
-pub use call::updating::update_document;
-pub use doc::Doc;
-pub use document::reading::{read_delta, read_site, read_summary};
-pub use document::writing::{write_delta, write_site, write_summary};
-pub use fault::{DocCause, DocFault, FieldFault, Spot};
-pub use language_map::maps::{KeyedLabel, LangMaps};
-pub use language_map::reading::read_langmaps;
-pub use language_map::writing::write_langmaps;
-pub use script::reading::read_script;
-pub use script::replaying::replay;
-pub use script::scripts::Script;
-pub use script::writing::write_script;
-pub use stream::sinks::{Output, Sink, write_out};
-pub use stream::sources::{Input, MOST_BYTES, Source, read_all};
+pub use call::time_limits::{
+    first_row_ahead, read_delta_until, sync_documents_until, take_document_until,
+};
+pub use call::updating::{update_document, update_labels};
+pub use json_docs::{
+    Doc, DocCause, DocFault, FieldFault, Input, MOST_BYTES, Output, Sink, Source, Spot, read_all,
+    write_out,
+};
+pub use map_docs::{KeyedLabel, LangMaps, read_langmaps, write_langmaps};
+pub use script_docs::{Script, read_script, write_script};
+pub use site_docs::{read_delta, read_site, read_summary, write_delta, write_site, write_summary};

@@ -5,17 +5,19 @@ ghost use Rattle.cata_core.specs.Migration.{OldDelta, OldEntry, OldSite, OldSumm
 ghost use Rattle.cata_core.specs.Sites.{SiteState};
 ghost use Rattle.cata_core.specs.Summary.{SummaryState};
 ghost use Rattle.cata_core.specs.declared.delta.Delta.{Delta};
-ghost use Rattle.docs_core.specs.Checks.{AreJson};
-ghost use Rattle.docs_core.specs.Fields.{entry_of};
-ghost use Rattle.docs_core.specs.Headers.{version_of};
-ghost use Rattle.docs_core.specs.OldRows.{IsOldDeltaDocument, IsOldScriptDocument, IsOldSiteDocument, IsOldSummaryDocument, OldScript, migrated_script, old_entry_in};
-ghost use Rattle.docs_core.specs.SiteDocuments.{IsDeltaDocument, IsSiteDocument, IsSummaryDocument};
-ghost use Rattle.docs_core.specs.ReadsAs.{ReadsAsDelta, ReadsAsSite, ReadsAsSummary};
-ghost use Rattle.docs_core.specs.Rows.{cell_in};
-ghost use Rattle.docs_core.specs.ScriptReads.{IsScriptDocument, ReadsAsScript};
-ghost use Rattle.docs_core.specs.Scripts.{ScriptState};
-ghost use Rattle.docs_core.specs.Values.{Row};
-ghost use Rattle.docs_core.specs.declared.document.version.Version.TheVariants.{One};
+ghost use Rattle.json_docs.specs.Checks.{AreJson};
+ghost use Rattle.site_docs.specs.Fields.{entry_of};
+ghost use Rattle.site_docs.specs.Headers.{version_of};
+ghost use Rattle.site_docs.specs.SiteDocuments.{IsDeltaDocument, IsSiteDocument, IsSummaryDocument};
+ghost use Rattle.site_docs.specs.ReadsAs.{ReadsAsDelta, ReadsAsSite, ReadsAsSummary};
+ghost use Rattle.site_docs.specs.Rows.{cell_in};
+ghost use Rattle.site_docs.specs.Values.{Row};
+ghost use Rattle.site_docs.specs.declared.document.version.Version.TheVariants.{One};
+ghost use Rattle.script_docs.specs.ScriptReads.{IsScriptDocument, ReadsAsScript};
+ghost use Rattle.script_docs.specs.Scripts.{ScriptState};
+ghost use Rattle.docs_core.specs.OldRows.{IsOldDeltaDocument, IsOldScriptDocument};
+ghost use Rattle.docs_core.specs.OldRows.{IsOldSiteDocument, IsOldSummaryDocument, OldScript};
+ghost use Rattle.docs_core.specs.OldRows.{migrated_script, old_entry_in};
 
 /// A row with a cell is read as the migrated cell that it has.
 pub fn a_row_reads_as_migrated()

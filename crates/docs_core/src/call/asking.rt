@@ -1,18 +1,17 @@
 //! Questions to a document of a site.
 ghost use Rattle.std.specs.Prelude.{◌≡◌, IfOk, MatchResult};
 ghost use Rattle.cata_core.specs.LentAnswers.{reply_of};
+ghost use Rattle.json_docs.specs.Checks.{OrMemory};
+ghost use Rattle.site_docs.specs.ReadsAs.{IsOfDocument, RefusesSite, no_memory};
 ghost use Rattle.docs_core.specs.Asks.{Answers, IsAsked, is_found};
-ghost use Rattle.docs_core.specs.Checks.{OrMemory};
-ghost use Rattle.docs_core.specs.ReadsAs.{IsOfDocument, RefusesSite, no_memory};
 
 use crate::call::lines::{filter_lines, reply_line};
-use crate::doc::Doc;
-use crate::document::reading::site_at;
-use crate::fault::DocFault;
 use cata_core::{Catalogue, LentReply};
 use cell_core::MessageId;
+use json_docs::{Doc, DocFault};
 use lang_core::Lang;
 use nego_core::{PriorityList, Scheme};
+use site_docs::site_at;
 use std::alloc::{AllocError, Global};
 
 /// A question about the live labels of a message.

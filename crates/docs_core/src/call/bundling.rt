@@ -2,21 +2,20 @@
 ghost use Rattle.std.specs.Prelude.{◌≡◌, IfOk, List, MatchResult, option_map};
 ghost use Rattle.cata_core.specs.Lent.{lent_pair};
 ghost use Rattle.cata_core.specs.LentAnswers.{reply_of};
-ghost use Rattle.docs_core.specs.Bundled.{IsBundle, IsBundled};
-ghost use Rattle.docs_core.specs.Checks.{OrMemory};
-ghost use Rattle.docs_core.specs.LangMapTexts.{AreWritten};
-ghost use Rattle.docs_core.specs.LangMaps.{Labelled};
+ghost use Rattle.json_docs.specs.Checks.{OrMemory};
+ghost use Rattle.site_docs.specs.ReadsAs.{IsOfDocument, RefusesSite, no_memory};
+ghost use Rattle.map_docs.specs.LangMapTexts.{AreWritten};
+ghost use Rattle.map_docs.specs.LangMaps.{Labelled};
+ghost use Rattle.docs_core.specs.Bundled.{IsBundle, IsBundleBy, IsBundled, IsBundledBy};
 ghost use Rattle.docs_core.specs.LooksUp.{answered};
-ghost use Rattle.docs_core.specs.ReadsAs.{IsOfDocument, RefusesSite, no_memory};
 
-use crate::doc::Doc;
-use crate::document::reading::site_at;
-use crate::fault::DocFault;
-use crate::language_map::writing::{close_labels, open_labels, write_label};
 use cata_core::{Catalogue, LentReply};
 use cell_core::{Label, MessageId};
+use json_docs::{Doc, DocFault};
 use lang_core::Lang;
-use nego_core::PriorityList;
+use map_docs::{close_labels, open_labels, write_label};
+use nego_core::{PriorityList, Widening};
+use site_docs::site_at;
 use std::alloc::{AllocError, Global};
 
 /// The language-map document of the labels of one reader, and whether there is one: for each
@@ -30,10 +29,30 @@ pub fn bundle_document(
     list: &PriorityList,
     default: Option<&Lang>,
 ) -> Result<(Doc, bool), DocFault>
-    ensures { MatchResult result (λ answer. IsBundled site.now list.now (option_map (λ l. l.now) default.entry) answer.0 answer.1) (OrMemory no_memory (IsOfDocument 1 (RefusesSite site.now))) }
+    ensures { MatchResult result (λ answer. IsBundled site.now list.now (option_map
+        (λ l. l.now) default.entry) answer.0 answer.1) (OrMemory no_memory (IsOfDocument 1
+        (RefusesSite site.now))) }
+{
+    bundle_document_by(alloc, site, list, Widening::Off, default)
+}
+
+/// The same by a lookup that may be widened: then a range also finds the languages of a message that
+/// it matches, as `en` finds `en-us`.
+///
+/// Refusals: a reader's with document 1. Out of memory (26) may come before.
+pub fn bundle_document_by(
+    alloc: Global,
+    site: &[u8],
+    list: &PriorityList,
+    widening: Widening,
+    default: Option<&Lang>,
+) -> Result<(Doc, bool), DocFault>
+    ensures { MatchResult result (λ answer. IsBundledBy widening site.now list.now (option_map
+        (λ l. l.now) default.entry) answer.0 answer.1) (OrMemory no_memory (IsOfDocument 1
+        (RefusesSite site.now))) }
 {
     let site = site_at(alloc, 1, site)?;
-    let answer = write_bundle(alloc, site.catalogue(), list, default)?;
+    let answer = write_bundle_by(alloc, site.catalogue(), list, widening, default)?;
     Ok(answer)
 }
 
@@ -47,12 +66,31 @@ pub fn write_bundle(
     default: Option<&Lang>,
 ) -> Result<(Doc, bool), AllocError>
     ensures { IfOk result (λ written. (labels : List Labelled)
-        × IsBundle catalogue.now list.now (option_map (λ l. l.now) default.entry) labels × AreWritten labels written.0 written.1) }
+        × IsBundle catalogue.now list.now (option_map (λ l. l.now) default.entry) labels
+        × AreWritten labels written.0 written.1) }
+{
+    write_bundle_by(alloc, catalogue, list, Widening::Off, default)
+}
+
+/// The same by a lookup that may be widened: what [`bundle_document_by`] gives for the document of a
+/// catalogue in memory.
+///
+/// Out of memory is the only refusal (26).
+pub fn write_bundle_by(
+    alloc: Global,
+    catalogue: &Catalogue,
+    list: &PriorityList,
+    widening: Widening,
+    default: Option<&Lang>,
+) -> Result<(Doc, bool), AllocError>
+    ensures { IfOk result (λ written. (labels : List Labelled)
+        × IsBundleBy widening catalogue.now list.now (option_map
+        (λ l. l.now) default.entry) labels × AreWritten labels written.0 written.1) }
 {
     let mut draft = open_labels(alloc)?;
     let mut current: Option<&MessageId> = None;
     'messages: for message in catalogue.messages() {
-        if let Some((lang, label)) = answered(message.lookup(list, default)) {
+        if let Some((lang, label)) = answered(message.lookup_by(list, widening, default)) {
             let id = message.id();
             write_label(&mut draft, current, id, lang, label)?;
             current = Some(id);

@@ -1,11 +1,11 @@
 //! Labels put into a site.
 ghost use Rattle.std.specs.Prelude.{◌≡◌, IfErr, OnOk};
 ghost use Rattle.cata_core.specs.declared.cata_fault.CataFault.TheVariants.{ClockSpent, NoMemory};
-ghost use Rattle.docs_core.specs.Checks.{OrMemory};
+ghost use Rattle.json_docs.specs.Checks.{OrMemory};
 ghost use Rattle.docs_core.specs.Imported.{Imports, SpendsImport};
 
-use crate::language_map::maps::LangMaps;
 use cata_core::{CataFault, Site};
+use map_docs::LangMaps;
 use std::alloc::Global;
 
 /// Puts each label, in rising order of key, at this time: with the next stamp of the site after the
@@ -13,7 +13,7 @@ use std::alloc::Global;
 ///
 /// Refused by `ClockSpent` (14) where there is no next stamp for a label, and by `NoMemory` (26);
 /// the site may then have some of the labels.
-pub(crate) fn put_labels(
+pub fn put_labels(
     alloc: Global,
     site: &mut Site,
     now: u64,
@@ -21,7 +21,8 @@ pub(crate) fn put_labels(
 ) -> Result<(), CataFault>
     ensures name { site.new.name ≡ site.old.name }
     ensures ok { OnOk result (Imports now site.old.name maps.now site.old.cells site.new.cells) }
-    ensures err { IfErr result (OrMemory NoMemory (λ fault. (fault ≡ ClockSpent) × SpendsImport now site.old.name maps.now site.old.cells)) }
+    ensures err { IfErr result (OrMemory NoMemory (λ fault. (fault ≡ ClockSpent)
+        × SpendsImport now site.old.name maps.now site.old.cells)) }
 {
     'labels: for found in maps.labels() {
         match site.put(alloc, now, &found.id, &found.lang, &found.label) {

@@ -1,18 +1,16 @@
 //! Language maps put into the document of a site, and made of it.
 ghost use Rattle.std.specs.Prelude.{MatchResult};
-ghost use Rattle.docs_core.specs.Checks.{OrMemory};
+ghost use Rattle.json_docs.specs.Checks.{OrMemory};
+ghost use Rattle.site_docs.specs.ReadsAs.{IsOfDocument, RefusesSite, no_memory};
 ghost use Rattle.docs_core.specs.Exchange.{IsExported, IsImported, RefusesImport};
 ghost use Rattle.docs_core.specs.Missing.{IsMissing};
-ghost use Rattle.docs_core.specs.ReadsAs.{IsOfDocument, RefusesSite, no_memory};
 
-use crate::call::exporting::write_live;
+use crate::call::exporting::{write_live_labels, write_missing};
 use crate::call::importing::put_labels;
-use crate::doc::Doc;
-use crate::document::reading::site_at;
-use crate::document::writing::write_site;
-use crate::fault::DocFault;
-use crate::language_map::reading::langmaps_of_document;
+use json_docs::{Doc, DocFault};
 use lang_core::Lang;
+use map_docs::langmaps_of_document;
+use site_docs::{site_at, write_site};
 use std::alloc::Global;
 
 /// The document of the site after each label of the language maps was put, in rising order of key,
@@ -45,8 +43,8 @@ pub fn export_document(alloc: Global, site: &[u8]) -> Result<Doc, DocFault>
     ensures { MatchResult result (IsExported site.now) (OrMemory no_memory (IsOfDocument 1 (RefusesSite site.now))) }
 {
     let site = site_at(alloc, 1, site)?;
-    let written = write_live(alloc, site.catalogue(), None)?;
-    Ok(written.0)
+    let doc = write_live_labels(alloc, site.catalogue())?;
+    Ok(doc)
 }
 
 /// The language-map document of the messages that have a live label but none of just this language,
@@ -58,6 +56,6 @@ pub fn missing_document(alloc: Global, site: &[u8], lang: &Lang) -> Result<(Doc,
     ensures { MatchResult result (λ answer. IsMissing site.now lang.now answer.0 answer.1) (OrMemory no_memory (IsOfDocument 1 (RefusesSite site.now))) }
 {
     let site = site_at(alloc, 1, site)?;
-    let answer = write_live(alloc, site.catalogue(), Some(lang))?;
+    let answer = write_missing(alloc, site.catalogue(), lang)?;
     Ok(answer)
 }

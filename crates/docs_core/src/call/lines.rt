@@ -1,18 +1,21 @@
 //! The lines of answers.
 ghost use Rattle.std.specs.Prelude.{◌≡◌, ◌++◌, ◌∷◌, [], length, slice_get, codes, decimal, IfOk};
 ghost use Rattle.cata_core.specs.Asking.{Weighed};
+ghost use Rattle.cata_core.specs.ChangesLeft.{change_seen};
 ghost use Rattle.cata_core.specs.LentAnswers.{reply_of};
 ghost use Rattle.cata_core.specs.LentEntries.{lent_weighed};
-ghost use Rattle.docs_core.specs.Lines.{cell_line, cells_lines, filter_lines, found_line, label_text, lines, lines_of, reply_line, weighed_line};
+ghost use Rattle.docs_core.specs.Changed.{change_line};
+ghost use Rattle.docs_core.specs.Lines.{cell_line, cells_lines, filter_lines, found_line};
+ghost use Rattle.docs_core.specs.Lines.{label_text, lines, lines_of, reply_line, weighed_line};
 
-use crate::doc::Doc;
-use crate::row::entries::write_entry;
-use crate::row::writing::write_texts;
-use cata_core::{Answer, Answers, Edit, Edits, Entries, LentEntries, LentReply, Reply};
+use crate::call::changes::write_change;
+use cata_core::{Answer, Answers, Change, Edit, Edits, Entries, LentEntries, LentReply, Reply};
 use cell_core::Label;
 use itoa::Buffer;
 use json::Writer;
+use json_docs::Doc;
 use lang_core::Lang;
+use site_docs::{write_entry, write_texts};
 use std::alloc::{AllocError, Global};
 use std::marker::Model;
 
@@ -101,7 +104,7 @@ fn lent(reply: &Reply) -> LentReply<'_>
 
 /// Lines that are being written, all into one buffer.
 #[derive(Drop)]
-struct Lines {
+pub(crate) struct Lines {
     bytes: Vec<u8>,
 }
 
@@ -115,7 +118,7 @@ impl Model for Lines {
 
 impl Lines {
     /// No lines.
-    fn new(alloc: Global) -> Lines
+    pub(crate) fn new(alloc: Global) -> Lines
         ensures { result ≡ [] }
     {
         Lines {
@@ -124,14 +127,14 @@ impl Lines {
     }
 
     /// The bytes of all lines.
-    fn into_doc(self) -> Doc
+    pub(crate) fn into_doc(self) -> Doc
         ensures { result ≡ self }
     {
         Doc::from(self.bytes)
     }
 
     /// Adds a text.
-    fn text(mut self, text: &str) -> Result<Lines, AllocError>
+    pub(crate) fn text(mut self, text: &str) -> Result<Lines, AllocError>
         ensures { IfOk result (λ new. new ≡ self ++ text.now) }
     {
         self.bytes.extend_from_slice(text.as_bytes())?;
@@ -163,6 +166,18 @@ impl Lines {
     {
         let mut json = Writer::new(self.bytes);
         write_entry(&mut json, edit.id(), edit.lang(), edit.cell())?;
+        let written = Lines {
+            bytes: json.into_inner(),
+        };
+        written.text("\n")
+    }
+
+    /// Adds the line of a change.
+    pub(crate) fn change(self, change: &Change<'_>) -> Result<Lines, AllocError>
+        ensures { IfOk result (λ new. new ≡ self ++ change_line (change_seen change.now)) }
+    {
+        let mut json = Writer::new(self.bytes);
+        write_change(&mut json, change)?;
         let written = Lines {
             bytes: json.into_inner(),
         };

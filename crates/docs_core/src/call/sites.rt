@@ -5,18 +5,19 @@ ghost use Rattle.cell_core.specs.Stamps.{IsNext};
 ghost use Rattle.cata_core.specs.Entries.{key_cmp};
 ghost use Rattle.cata_core.specs.Latest.{latest_of};
 ghost use Rattle.cata_core.specs.Sites.{RefusesEdit};
-ghost use Rattle.docs_core.specs.Calls.{AreSynced, IsEdited, IsDeltaFor, IsStatus, IsSummarised, IsTaken, RefusesEditing, RefusesDeltaFor, RefusesSync, RefusesTaking};
-ghost use Rattle.docs_core.specs.Checks.{OrMemory};
-ghost use Rattle.docs_core.specs.ReadsAs.{IsOfDocument, RefusesSite, no_memory};
+ghost use Rattle.json_docs.specs.Checks.{OrMemory};
+ghost use Rattle.site_docs.specs.ReadsAs.{IsOfDocument, RefusesSite, no_memory};
+ghost use Rattle.docs_core.specs.Calls.{AreSynced, IsEdited, IsDeltaFor, IsStatus, IsSummarised};
+ghost use Rattle.docs_core.specs.Calls.{IsTaken, RefusesEditing, RefusesDeltaFor, RefusesSync};
+ghost use Rattle.docs_core.specs.Calls.{RefusesTaking};
 
 use crate::call::status::status_line;
-use crate::doc::Doc;
-use crate::document::reading::{delta_at, site_at, summary_at};
-use crate::document::writing::{write_delta, write_site, write_summary};
-use crate::fault::DocFault;
-use cata_core::{CataFault, Site, sync};
+use crate::call::time_limits::{sync_documents_until, take_document_until};
+use cata_core::{CataFault, Site};
 use cell_core::{Label, MessageId, Stamp};
+use json_docs::{Doc, DocFault};
 use lang_core::Lang;
+use site_docs::{site_at, summary_at, write_delta, write_site, write_summary};
 use std::alloc::Global;
 
 /// The document of the site after an edit at the time `now`: a label is put, and none deletes.
@@ -65,13 +66,7 @@ pub(crate) fn edit(
 pub fn sync_documents(alloc: Global, first: &[u8], second: &[u8]) -> Result<(Doc, Doc), DocFault>
     ensures { MatchResult result (λ docs. AreSynced first.now second.now docs.0 docs.1) (OrMemory no_memory (RefusesSync first.now second.now)) }
 {
-    let mut first = site_at(alloc, 1, first)?;
-    let mut second = site_at(alloc, 2, second)?;
-    sync(alloc, &mut first, &mut second)?;
-    let first_doc = write_site(alloc, &first)?;
-    drop(first);
-    let second_doc = write_site(alloc, &second)?;
-    Ok((first_doc, second_doc))
+    sync_documents_until(alloc, first, second, None)
 }
 
 /// The document of the site's summary: the stamps of its cells, deletions among them.
@@ -110,12 +105,7 @@ pub fn delta_document(alloc: Global, site: &[u8], summary: &[u8]) -> Result<Doc,
 pub fn take_document(alloc: Global, site: &[u8], delta: &[u8]) -> Result<Doc, DocFault>
     ensures { MatchResult result (IsTaken site.now delta.now) (OrMemory no_memory (RefusesTaking site.now delta.now)) }
 {
-    let mut site = site_at(alloc, 1, site)?;
-    let delta = delta_at(alloc, 2, delta)?;
-    site.take(alloc, &delta)?;
-    drop(delta);
-    let doc = write_site(alloc, &site)?;
-    Ok(doc)
+    take_document_until(alloc, site, delta, None)
 }
 
 /// The status line of the site: how many cells and labels it has, and its greatest stamp.

@@ -2,8 +2,8 @@
 ghost use Rattle.std.specs.Prelude.{◌≡◌, count_by, IfOk};
 ghost use Rattle.docs_core.specs.Status.{is_labelled, status_line};
 
-use crate::doc::Doc;
 use cata_core::{Catalogue, Site};
+use json_docs::Doc;
 use std::alloc::{AllocError, Global};
 
 /// `site NAME cells N labels N last TIME NAME COUNT`, or `.. last none` where there is no cell. The

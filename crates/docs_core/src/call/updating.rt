@@ -1,25 +1,24 @@
 //! What an editor changed in language maps, applied to a site.
-ghost use Rattle.std.specs.Prelude.{◌≡◌, ◌+◌, ◌<◌, [], IfErr, IfSome, MatchOption, MatchResult, None, OnOk, Some, length, option_map};
+ghost use Rattle.std.specs.Prelude.{◌≡◌, ◌+◌, ◌<◌, [], IfErr, IfSome, MatchOption, MatchResult};
+ghost use Rattle.std.specs.Prelude.{None, OnOk, Some, length, option_map};
 ghost use Rattle.std.specs.Bool.{Decides};
 ghost use Rattle.cell_core.specs.Maps.{IsMap};
 ghost use Rattle.cata_core.specs.Entries.{key_cmp};
 ghost use Rattle.cata_core.specs.declared.cata_fault.CataFault.TheVariants.{ClockSpent, NoMemory};
-ghost use Rattle.docs_core.specs.Checks.{OrMemory};
-ghost use Rattle.docs_core.specs.LangMaps.{labels_of};
-ghost use Rattle.docs_core.specs.ReadsAs.{no_memory};
-ghost use Rattle.docs_core.specs.Revised.{IsFirstRevised, IsRevised, NoStamp, key_of, new_of, old_of};
+ghost use Rattle.json_docs.specs.Checks.{OrMemory};
+ghost use Rattle.site_docs.specs.ReadsAs.{no_memory};
+ghost use Rattle.map_docs.specs.LangMaps.{labels_of};
+ghost use Rattle.docs_core.specs.Revised.{IsFirstRevised, IsRevised, NoStamp, key_of, new_of};
+ghost use Rattle.docs_core.specs.Revised.{old_of};
 ghost use Rattle.docs_core.specs.Updated.{IsUpdated, RefusesUpdate, SpendsUpdate, Updates};
 
 use crate::call::exporting::label_at;
 use crate::call::sites::edit;
-use crate::doc::Doc;
-use crate::document::reading::site_at;
-use crate::document::writing::write_site;
-use crate::fault::DocFault;
-use crate::language_map::maps::{KeyedLabel, LangMaps};
-use crate::language_map::reading::langmaps_of_document;
 use cata_core::{CataFault, Site};
 use cell_core::Label;
+use json_docs::{Doc, DocFault};
+use map_docs::{KeyedLabel, LangMaps, langmaps_of_document};
+use site_docs::{site_at, write_site};
 use std::alloc::Global;
 use std::cmp::Ordering;
 
@@ -41,20 +40,25 @@ pub fn update_document(
     old: &[u8],
     new: &[u8],
 ) -> Result<Doc, DocFault>
-    ensures { MatchResult result (IsUpdated site.now now old.now new.now) (OrMemory no_memory (RefusesUpdate site.now now old.now new.now)) }
+    ensures { MatchResult result (IsUpdated site.now now old.now new.now) (OrMemory no_memory
+        (RefusesUpdate site.now now old.now new.now)) }
 {
     let mut site = site_at(alloc, 1, site)?;
     let old = langmaps_of_document(alloc, 2, old)?;
     let new = langmaps_of_document(alloc, 3, new)?;
-    update(alloc, &mut site, now, &old, &new)?;
+    update_labels(alloc, &mut site, now, &old, &new)?;
     drop(old);
     drop(new);
     let doc = write_site(alloc, &site)?;
     Ok(doc)
 }
 
-// Makes the changes from the old labels to the new ones.
-fn update(
+/// Makes the changes from the old labels to the new ones, in rising order of key at the time `now`,
+/// as [`update_document`] makes them in the document of a site.
+///
+/// Refused by `ClockSpent` (14) where there is no next stamp for a change, and by `NoMemory` (26);
+/// the site may then have some of the changes.
+pub fn update_labels(
     alloc: Global,
     site: &mut Site,
     now: u64,
@@ -62,8 +66,10 @@ fn update(
     new: &LangMaps,
 ) -> Result<(), CataFault>
     ensures name { OnOk result (site.new.name ≡ site.old.name) }
-    ensures ok { OnOk result (Updates now site.old.name old.now new.now site.old.cells site.new.cells) }
-    ensures err { IfErr result (OrMemory NoMemory (λ fault. (fault ≡ ClockSpent) × SpendsUpdate now site.old.name old.now new.now site.old.cells)) }
+    ensures ok { OnOk result (Updates now site.old.name old.now new.now site.old.cells
+        site.new.cells) }
+    ensures err { IfErr result (OrMemory NoMemory (λ fault. (fault ≡ ClockSpent)
+        × SpendsUpdate now site.old.name old.now new.now site.old.cells)) }
 {
     let mut olds = old.labels();
     let mut news = new.labels();
@@ -94,8 +100,10 @@ fn first_revised<'a>(
     requires old { IsMap key_cmp (labels_of old.now) }
     requires new { IsMap key_cmp (labels_of new.now) }
     ensures first { MatchOption result ((old.now ≡ []) × (new.now ≡ []))
-        (λ r. IsFirstRevised r.0 (labels_of old.now) (labels_of new.now) (labels_of r.1.now) (labels_of r.2.now)) }
-    ensures less { IfSome result (λ r. length r.1.now + length r.2.now < length old.now + length new.now) }
+        (λ r. IsFirstRevised r.0 (labels_of old.now) (labels_of new.now) (labels_of r.1.now)
+        (labels_of r.2.now)) }
+    ensures less { IfSome result (λ r. length r.1.now + length r.2.now < length old.now + length
+        new.now) }
 {
     match (old.split_first(), new.split_first()) {
         (None, None) => None,
@@ -158,8 +166,10 @@ fn kept<'a>(was: &'a KeyedLabel, is: &'a KeyedLabel) -> Revised<'a>
 // Makes the change of a key, unless nothing was changed or the site has it already.
 fn revise(alloc: Global, site: &mut Site, now: u64, revised: &Revised<'_>) -> Result<(), CataFault>
     ensures name { OnOk result (site.new.name ≡ site.old.name) }
-    ensures ok { OnOk result (IsRevised now site.old.name revised.now site.old.cells site.new.cells) }
-    ensures err { IfErr result (OrMemory NoMemory (λ fault. (fault ≡ ClockSpent) × NoStamp now site.old.name revised.now site.old.cells)) }
+    ensures ok { OnOk result (IsRevised now site.old.name revised.now site.old.cells
+        site.new.cells) }
+    ensures err { IfErr result (OrMemory NoMemory (λ fault. (fault ≡ ClockSpent)
+        × NoStamp now site.old.name revised.now site.old.cells)) }
 {
     let key = revised.key;
     if are_equal(revised.old, revised.new) {
@@ -176,7 +186,8 @@ fn revise(alloc: Global, site: &mut Site, now: u64, revised: &Revised<'_>) -> Re
 
 // Whether both have the same texts, or neither is there.
 fn are_equal(label: Option<&Label>, other: Option<&Label>) -> bool
-    ensures { Decides result (option_map (λ l. l.now) label.entry ≡ option_map (λ l. l.now) other.entry) }
+    ensures { Decides result (option_map (λ l. l.now) label.entry ≡ option_map
+        (λ l. l.now) other.entry) }
 {
     label == other
 }

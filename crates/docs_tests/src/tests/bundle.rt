@@ -1,14 +1,20 @@
 //! What a reader with priorities gets of a site.
 
-use docs_core::{Doc, DocCause, DocFault, bundle_document};
+use docs_core::{
+    Doc, DocCause, DocFault, bundle_document, bundle_document_by, read_site, write_bundle,
+    write_bundle_by,
+};
 use lang_core::Lang;
-use nego_core::PriorityList;
+use nego_core::{PriorityList, Scheme, Widening};
 use std::alloc::Global;
 use std::process::Abort;
 use std::test::Fail;
 
 const SITE: &[u8] =
     br#"{"cells":[["m","@none",1,"a",0,["x"]],["m","en",1,"a",1,["Hello"]],["m","fr",1,"a",2,["Bonjour"]],["n","de",1,"a",3,["Hallo"]],["o","en",1,"a",4,null]],"kind":"site","site":"a","version":2}"#;
+
+const REGIONS: &[u8] =
+    br#"{"cells":[["m","en-us",1,"a",0,["color"]],["m","fr",1,"a",1,["couleur"]],["n","en",1,"a",2,["n"]],["n","en-gb",1,"a",3,["gb"]],["o","de",1,"a",4,["o"]]],"kind":"site","site":"a","version":2}"#;
 
 fn lang(rt: &impl Abort, alloc: Global, tag: &str) -> Lang {
     Lang::parse(alloc, tag.as_bytes()).expect(rt, "a language")
@@ -71,6 +77,43 @@ fn the_empty_field_gives_the_default_alone(rt: HostRuntime) -> Result<(), Fail> 
 fn nothing_is_left_for_another_reader(rt: HostRuntime) -> Result<(), Fail> {
     let bundle = bundled(rt.alloc(), "ja", None)?;
     assert_bundle(&rt, bundle, "{}\n", false);
+    Ok(())
+}
+
+/// What a reader with this field gets of labels of regions, also of the site in memory.
+fn widened(alloc: Global, field: &str, widening: Widening) -> Result<(Doc, bool), Fail> {
+    let list = PriorityList::from_accept(alloc, field.as_bytes())?;
+    let site = read_site(alloc, REGIONS)?;
+    let written = write_bundle_by(alloc, site.catalogue(), &list, widening, None)?;
+    let bundle = bundle_document_by(alloc, REGIONS, &list, widening, None)?;
+    let is_same = written.0 == bundle.0 && written.1 == bundle.1;
+    Ok((bundle.0, bundle.1 && is_same))
+}
+
+#[test]
+fn a_widened_range_finds_a_region_where_its_language_is_not(rt: HostRuntime) -> Result<(), Fail> {
+    let bundle = widened(rt.alloc(), "en", Widening::By(Scheme::Basic))?;
+    let text = "{\"m\":{\"en-us\":\"color\"},\"n\":{\"en\":\"n\"}}\n";
+    assert_bundle(&rt, bundle, text, true);
+    Ok(())
+}
+
+#[test]
+fn a_widened_range_finds_no_region_that_is_refused(rt: HostRuntime) -> Result<(), Fail> {
+    let bundle = widened(rt.alloc(), "en, en-us;q=0", Widening::By(Scheme::Basic))?;
+    assert_bundle(&rt, bundle, "{\"n\":{\"en\":\"n\"}}\n", true);
+    Ok(())
+}
+
+#[test]
+fn without_widening_a_region_is_not_found(rt: HostRuntime) -> Result<(), Fail> {
+    let bundle = widened(rt.alloc(), "en", Widening::Off)?;
+    let text = "{\"n\":{\"en\":\"n\"}}\n";
+    assert_bundle(&rt, bundle, text, true);
+    let list = PriorityList::from_accept(rt.alloc(), b"en")?;
+    let site = read_site(rt.alloc(), REGIONS)?;
+    let bundle = write_bundle(rt.alloc(), site.catalogue(), &list, None)?;
+    assert_bundle(&rt, bundle, text, true);
     Ok(())
 }
 

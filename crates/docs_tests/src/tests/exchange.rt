@@ -1,9 +1,13 @@
 //! Language maps into a site, and out of it.
 
 use cata_core::CataFault;
-use docs_core::{Doc, DocCause, DocFault, export_document, import_document};
+use docs_core::{
+    Doc, DocCause, DocFault, export_document, import_document, put_labels, read_langmaps,
+    read_site, write_live_labels, write_site,
+};
 use std::alloc::Global;
 use std::process::Abort;
+use std::test::Fail;
 
 const EMPTY: &[u8] = br#"{"cells":[],"kind":"site","site":1,"version":1}"#;
 
@@ -77,4 +81,22 @@ fn a_spent_clock_refuses_the_whole(rt: HostRuntime) {
         br#"{"cells":[["m","en",18446744073709551615,"b",4294967295,["a"]]],"kind":"site","site":"a","version":2}"#;
     let made = import_document(rt.alloc(), site, 10, MAPS);
     assert_refused(&rt, made, 0, DocCause::Site(CataFault::ClockSpent));
+}
+
+/// The site in memory with the labels put, written, and its live labels.
+fn imported_in_memory(alloc: Global, site: &[u8], maps: &[u8]) -> Result<(Doc, Doc), DocFault> {
+    let mut site = read_site(alloc, site)?;
+    let maps = read_langmaps(alloc, maps)?;
+    put_labels(alloc, &mut site, 10, &maps)?;
+    let labels = write_live_labels(alloc, site.catalogue())?;
+    Ok((write_site(alloc, &site)?, labels))
+}
+
+#[test]
+fn a_site_in_memory_is_imported_and_exported_likewise(rt: HostRuntime) -> Result<(), Fail> {
+    let (site, labels) = imported_in_memory(rt.alloc(), EMPTY, MAPS)?;
+    let imported = import_document(rt.alloc(), EMPTY, 10, MAPS)?;
+    assert!(rt; site == imported);
+    assert!(rt; labels == export_document(rt.alloc(), imported.bytes())?);
+    Ok(())
 }

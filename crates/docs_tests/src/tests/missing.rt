@@ -1,6 +1,6 @@
 //! Messages that lack a language.
 
-use docs_core::{DocCause, DocFault, missing_document};
+use docs_core::{DocCause, DocFault, missing_document, read_site, write_missing};
 use lang_core::Lang;
 use std::alloc::Global;
 use std::process::Abort;
@@ -9,7 +9,8 @@ use std::test::Fail;
 const SITE: &[u8] =
     br#"{"cells":[["m","@none",1,"a",0,["x"]],["m","en",1,"a",1,["Hello"]],["m","fr",1,"a",2,["Bonjour"]],["n","de",1,"a",3,["Hallo"]],["o","en",1,"a",4,null]],"kind":"site","site":"a","version":2}"#;
 
-/// What lacks the language in a site is this, and whether there is a message.
+/// What lacks the language in a site is this, also of the site in memory, and whether there is a
+/// message.
 fn is_missing(
     alloc: Global,
     site: &[u8],
@@ -19,7 +20,10 @@ fn is_missing(
 ) -> Result<bool, Fail> {
     let lang = Lang::parse(alloc, lang.as_bytes())?;
     let (doc, is_found) = missing_document(alloc, site, &lang)?;
-    Ok(doc.bytes() == text.as_bytes() && is_found == found)
+    let site = read_site(alloc, site)?;
+    let (written, there) = write_missing(alloc, site.catalogue(), &lang)?;
+    let is_same = doc == written && is_found == there;
+    Ok(is_same && doc.bytes() == text.as_bytes() && is_found == found)
 }
 
 /// Just these messages of the site lack the language, if any.

@@ -1,7 +1,10 @@
 //! Updates of a site from the language maps before and after an edit, at the moment 6.
 
 use cata_core::CataFault;
-use docs_core::{Doc, DocCause, DocFault, FieldFault, update_document};
+use docs_core::{
+    Doc, DocCause, DocFault, FieldFault, read_langmaps, read_site, update_document, update_labels,
+    write_site,
+};
 use lang_core::LangFault;
 use std::alloc::{AllocError, Global};
 use std::process::Abort;
@@ -45,6 +48,27 @@ fn has(alloc: Global, old: &str, new: &str, cells: &[&str]) -> Result<bool, DocF
 
 fn assert_has(rt: &impl Abort, alloc: Global, old: &str, new: &str, cells: &[&str]) {
     assert_eq!(rt; has(alloc, old, new, cells), Ok(true));
+}
+
+/// The site in memory after the update, written.
+fn updated_in_memory(alloc: Global, site: &str, old: &str, new: &str) -> Result<Doc, DocFault> {
+    let mut site = read_site(alloc, site.as_bytes())?;
+    let old = read_langmaps(alloc, old.as_bytes())?;
+    let new = read_langmaps(alloc, new.as_bytes())?;
+    update_labels(alloc, &mut site, 6, &old, &new)?;
+    Ok(write_site(alloc, &site)?)
+}
+
+#[test]
+fn a_site_in_memory_is_updated_likewise(rt: HostRuntime) -> Result<(), Fail> {
+    let old = r#"{"m":{"fr":"Salut","en":"x"}}"#;
+    let new = r#"{"m":{"fr":null,"en":"y"}}"#;
+    let site = paris(rt.alloc(), &[HELLO, SALUT, DELETED])?;
+    let written = updated(rt.alloc(), &site, old, new)?;
+    let edited = updated_in_memory(rt.alloc(), &site, old, new)?;
+    assert!(rt; edited == written);
+    assert!(rt; edited.bytes() != site.as_bytes());
+    Ok(())
 }
 
 #[test]

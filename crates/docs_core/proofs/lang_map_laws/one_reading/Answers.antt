@@ -1,4 +1,4 @@
-use Rattle.docs_core.proofs.LangMapLawsLemmas.{same_labels}
+use Rattle.map_docs.proofs.LangMapLawsLemmas.{same_labels}
 use Rattle.docs_core.proofs.lang_map_laws.one_reading.Goals as goal
 
 pub returns : goal.returns

@@ -1,8 +1,8 @@
-use Rattle.docs_core.specs.LangMapLabels.{ReadsAsLangMaps}
-use Rattle.docs_core.specs.LangMapChecks.{langmaps_checks}
-use Rattle.docs_core.specs.ScriptReads.{IsScriptDocument, script_checks}
-use Rattle.docs_core.specs.SiteDocuments.{IsDeltaDocument, IsSiteDocument, IsSummaryDocument}
-use Rattle.docs_core.specs.SiteDocuments.{delta_checks, site_checks, summary_checks}
+use Rattle.site_docs.specs.SiteDocuments.{IsDeltaDocument, IsSiteDocument, IsSummaryDocument}
+use Rattle.site_docs.specs.SiteDocuments.{delta_checks, site_checks, summary_checks}
+use Rattle.map_docs.specs.LangMapLabels.{ReadsAsLangMaps}
+use Rattle.map_docs.specs.LangMapChecks.{langmaps_checks}
+use Rattle.script_docs.specs.ScriptReads.{IsScriptDocument, script_checks}
 use Rattle.docs_core.proofs.FreeLineFeed.{free}
 use Rattle.docs_core.proofs.laws.a_last_line_feed_is_free.Goals as goal
 

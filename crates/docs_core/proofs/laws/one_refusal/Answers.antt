@@ -1,7 +1,7 @@
-use Rattle.docs_core.specs.LangMapChecks.{langmaps_checks}
-use Rattle.docs_core.specs.SiteDocuments.{delta_checks, site_checks, summary_checks}
-use Rattle.docs_core.specs.ScriptReads.{script_checks}
-use Rattle.docs_core.specs.declared.document.kind.Kind.TheVariants.{Delta, Site, Summary}
+use Rattle.site_docs.specs.SiteDocuments.{delta_checks, site_checks, summary_checks}
+use Rattle.site_docs.specs.declared.document.kind.Kind.TheVariants.{Delta, Site, Summary}
+use Rattle.map_docs.specs.LangMapChecks.{langmaps_checks}
+use Rattle.script_docs.specs.ScriptReads.{script_checks}
 use Rattle.docs_core.proofs.OneRefusal.{cells_named, langmaps, one_cause, scripts, stamps_named}
 use Rattle.docs_core.proofs.laws.one_refusal.Goals as goal
 

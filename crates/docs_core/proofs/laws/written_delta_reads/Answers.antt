@@ -1,4 +1,4 @@
-use Rattle.docs_core.proofs.RoundTrip.{delta_again}
+use Rattle.site_docs.proofs.RoundTrip.{delta_again}
 use Rattle.docs_core.proofs.laws.written_delta_reads.Goals as goal
 
 pub returns : goal.returns

@@ -1,4 +1,4 @@
-use Rattle.docs_core.proofs.RoundTrip.{site_again}
+use Rattle.site_docs.proofs.RoundTrip.{site_again}
 use Rattle.docs_core.proofs.laws.written_site_reads.Goals as goal
 
 pub returns : goal.returns

@@ -1,7 +1,9 @@
+use Rattle.site_docs.specs.SiteDocuments.{IsDeltaDocument, IsSiteDocument, IsSummaryDocument}
+use Rattle.site_docs.specs.SiteDocuments.{delta_checks, site_checks, summary_checks}
+use Rattle.script_docs.specs.ScriptReads.{IsScriptDocument, script_checks}
 use Rattle.docs_core.proofs.OneDocument.{read_is}
-use Rattle.docs_core.proofs.OldRowsLemmas.{delta_migrated, script_migrated, site_migrated, summary_migrated}
-use Rattle.docs_core.specs.SiteDocuments.{IsDeltaDocument, IsSiteDocument, IsSummaryDocument, delta_checks, site_checks, summary_checks}
-use Rattle.docs_core.specs.ScriptReads.{IsScriptDocument, script_checks}
+use Rattle.docs_core.proofs.OldRowsLemmas.{delta_migrated, script_migrated, site_migrated}
+use Rattle.docs_core.proofs.OldRowsLemmas.{summary_migrated}
 use Rattle.docs_core.proofs.migration.a_text_reads_as_migrated.Goals as goal
 
 pub returns-clause-site : goal.returns-clause-site

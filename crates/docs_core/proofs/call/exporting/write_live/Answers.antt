@@ -2,25 +2,31 @@ use Rattle.std.proofs.Common.{◌∙◌, ap, subst, sym}
 use Rattle.std.specs.Prelude.{None, option_map}
 use Rattle.cata_core.specs.CellsLeft.{cells_left}
 use Rattle.cata_core.specs.Entries.{Entries}
+use Rattle.map_docs.specs.LangMapsWritten.{IsWriting}
 use Rattle.docs_core.specs.Chosen.{chosen_labels, chosen_of}
-use Rattle.docs_core.specs.LangMapsWritten.{IsWriting}
+use Rattle.map_docs.proofs.WritingLemmas.{found_last, some_lent}
 use Rattle.docs_core.proofs.LiveLemmas.{chosen-IsMap}
-use Rattle.docs_core.proofs.WritingLemmas.{found_last, some_lent}
 use Rattle.docs_core.proofs.call.exporting.write_live.Goals as goal
 
 pub cells-init : goal.cells-init
 cells-init c =
-    let lacking = option_map (λ l. l.now) c.args.lacking in
-    let all = ap cells_left c.into_iter-id-iterator.ensures.into_iter_gives ∙ c.iter-id-items.ensures.cells in
-    subst (λ (left : Entries). IsWriting c.in_ok-draft.draft None (chosen_of lacking c.args.catalogue.now left) (chosen_labels lacking c.args.catalogue.now)) (sym all)
-    (c.in_ok-draft.ensures (chosen_labels lacking c.args.catalogue.now))
+    let all = ap cells_left c.into_iter-id-iterator.ensures.into_iter_gives
+    ∙ c.iter-id-items.ensures.cells in
+    subst (λ (left : Entries). IsWriting c.in_ok-draft.draft None
+    (chosen_of c.args.messages c.args.catalogue.now left)
+    (chosen_labels c.args.messages c.args.catalogue.now)) (sym all)
+    (c.in_ok-draft.ensures (chosen_labels c.args.messages c.args.catalogue.now))
 
 pub returns : goal.returns
 returns c =
-    let lacking = option_map (λ l. l.now) c.args.lacking in
     let cells = c.args.catalogue.now in
     let current = option_map (λ id. id.now) c.cells.current in
-    let w = subst (λ (left : Entries). IsWriting c.cells.draft current (chosen_of lacking c.args.catalogue.now left) (chosen_labels lacking c.args.catalogue.now)) c.in-None.ensures.steps.0 c.cells.invariant in (
-      c.in_ok-doc.ensures (chosen_labels lacking cells) (chosen-IsMap lacking cells c.iter-id-items.ensures.sorted) w,
-      c.is_some.ensures ∙ some_lent c.cells.current ∙ found_last c.cells.draft current (chosen_labels lacking cells) w,
+    let w = subst (λ (left : Entries). IsWriting c.cells.draft current
+    (chosen_of c.args.messages c.args.catalogue.now left)
+    (chosen_labels c.args.messages c.args.catalogue.now)) c.in-None.ensures.steps.0
+    c.cells.invariant in (
+      c.in_ok-doc.ensures (chosen_labels c.args.messages cells)
+          (chosen-IsMap c.args.messages cells c.iter-id-items.ensures.sorted) w,
+      c.is_some.ensures ∙ some_lent c.cells.current
+          ∙ found_last c.cells.draft current (chosen_labels c.args.messages cells) w,
     )

@@ -1,11 +1,11 @@
 use Rattle.std.specs.Prelude.{option_map}
 use Rattle.cata_core.specs.CellsLeft.{cells_left}
+use Rattle.map_docs.specs.LangMapsWritten.{IsWriting}
 use Rattle.docs_core.specs.Chosen.{chosen_labels, chosen_of}
-use Rattle.docs_core.specs.LangMapsWritten.{IsWriting}
 use Rattle.docs_core.proofs.call.exporting.write_live.Given as goal
 
 -- with the chosen labels of the cells that are left it comes to all
 abbrev pub invariant-cells : goal.invariant-cells
 invariant-cells l =
-    let lacking = option_map (λ lang. lang.now) l.lacking in
-    IsWriting l.draft (option_map (λ id. id.now) l.current) (chosen_of lacking l.catalogue (cells_left l.id-iterator)) (chosen_labels lacking l.catalogue)
+    IsWriting l.draft (option_map (λ id. id.now) l.current) (chosen_of l.messages l.catalogue
+    (cells_left l.id-iterator)) (chosen_labels l.messages l.catalogue)

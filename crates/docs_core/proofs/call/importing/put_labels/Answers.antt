@@ -2,11 +2,11 @@ use Rattle.std.proofs.Common.{◌∙◌, ◌+◌, ℕ, List, drop, ap, inl, subs
 use Rattle.cell_core.specs.Stamps.{IsNext, NoNext}
 use Rattle.cata_core.specs.Latest.{latest_of}
 use Rattle.cata_core.specs.Sites.{SiteState}
+use Rattle.map_docs.specs.LangMaps.{Labelled, labels_of}
 use Rattle.docs_core.specs.Imported.{Imports, SpendsImport}
-use Rattle.docs_core.specs.LangMaps.{Labelled, labels_of}
+use Rattle.map_docs.proofs.LangMapLabelsLemmas.{else_by}
+use Rattle.map_docs.proofs.LangMapMembersLemmas.{first_left}
 use Rattle.docs_core.proofs.ImportedLemmas.{Imports-next, SpendsImport-next, not_put}
-use Rattle.docs_core.proofs.LangMapLabelsLemmas.{else_by}
-use Rattle.docs_core.proofs.LangMapMembersLemmas.{first_left}
 use Rattle.docs_core.proofs.call.importing.put_labels.Goals as goal
 
 pub returns-in-Err-clause-err : goal.returns-in-Err-clause-err

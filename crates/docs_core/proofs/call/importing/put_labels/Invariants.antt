@@ -1,7 +1,7 @@
 use Rattle.std.proofs.Common.{◌≡◌, drop}
 use Rattle.cata_core.specs.Entries.{Entries}
+use Rattle.map_docs.specs.LangMaps.{labels_of}
 use Rattle.docs_core.specs.Imported.{Imports, SpendsImport}
-use Rattle.docs_core.specs.LangMaps.{labels_of}
 use Rattle.docs_core.proofs.call.importing.put_labels.Given as goal
 
 -- what holds of the labels that are left, from here on, holds of all from the start

@@ -1,8 +1,8 @@
 use Rattle.std.proofs.Common.{◌≡◌, inl, inr}
 use Rattle.std.proofs.lemmas.Result.{err_from_is_err_and}
+use Rattle.map_docs.proofs.LangMapLabelsLemmas.{else_by}
 use Rattle.docs_core.proofs.CallsLemmas.{site_written}
 use Rattle.docs_core.proofs.ExchangeLemmas.{not_imported}
-use Rattle.docs_core.proofs.LangMapLabelsLemmas.{else_by}
 use Rattle.docs_core.proofs.call.language_maps.import_document.Goals as goal
 
 pub returns : goal.returns

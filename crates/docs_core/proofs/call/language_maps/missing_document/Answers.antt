@@ -1,6 +1,6 @@
 use Rattle.std.proofs.Common.{subst}
 use Rattle.cata_core.specs.Entries.{Entries}
-use Rattle.docs_core.specs.LangMapTexts.{AreWritten}
+use Rattle.map_docs.specs.LangMapTexts.{AreWritten}
 use Rattle.docs_core.specs.Missing.{missing_labels}
 use Rattle.docs_core.proofs.call.language_maps.missing_document.Goals as goal
 

@@ -1,6 +1,6 @@
 use Rattle.std.proofs.Common.{inr}
 use Rattle.std.proofs.lemmas.Result.{err_from_is_err_and}
-use Rattle.docs_core.proofs.LangMapLabelsLemmas.{else_by}
+use Rattle.map_docs.proofs.LangMapLabelsLemmas.{else_by}
 use Rattle.docs_core.proofs.call.sites.delta_document.Goals as goal
 
 pub returns-in_err-summary : goal.returns-in_err-summary

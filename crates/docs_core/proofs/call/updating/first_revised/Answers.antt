@@ -1,9 +1,9 @@
 use Rattle.std.proofs.Common.{◌≡◌, List, ◌∷◌, subst, sym}
 use Rattle.cell_core.specs.Maps.{IsMap}
 use Rattle.cata_core.specs.Entries.{EntryKey, key_cmp}
-use Rattle.docs_core.specs.LangMaps.{labels_of}
+use Rattle.map_docs.specs.LangMaps.{labels_of}
+use Rattle.map_docs.specs.declared.maps.KeyedLabel.{KeyedLabel}
 use Rattle.docs_core.specs.Revised.{IsFirstRevised}
-use Rattle.docs_core.specs.declared.language_map.maps.KeyedLabel.{KeyedLabel}
 use Rattle.docs_core.proofs.UpdatedLemmas.{first_added, first_kept, first_removed}
 use Rattle.docs_core.proofs.call.updating.first_revised.Goals as goal
 use Rattle.docs_core.proofs.call.updating.first_revised.Goals.{in-Equal, in-Greater, in-Less}

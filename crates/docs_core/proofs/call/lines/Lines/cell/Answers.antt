@@ -1,7 +1,7 @@
 use Rattle.std.proofs.Common.{◌∙◌, ◌++◌, ◌∷◌, [], ap, append_assoc}
 use Rattle.std.proofs.lemmas.Result.{IfOk-weaker}
-use Rattle.docs_core.specs.Entries.{row_of}
-use Rattle.docs_core.specs.Values.{cell_value}
+use Rattle.site_docs.specs.Entries.{row_of}
+use Rattle.site_docs.specs.Values.{cell_value}
 use Rattle.docs_core.proofs.LinesLemmas.{printed_behind}
 use Rattle.docs_core.proofs.call.lines.Lines.cell.Goals as goal
 

@@ -1,5 +1,5 @@
 use Rattle.std.proofs.Common.{◌∙◌}
-use Rattle.docs_core.specs.Values.{texts_value}
+use Rattle.site_docs.specs.Values.{texts_value}
 use Rattle.docs_core.proofs.LinesLemmas.{printed_behind}
 use Rattle.docs_core.proofs.call.lines.Lines.label.Goals as goal
 

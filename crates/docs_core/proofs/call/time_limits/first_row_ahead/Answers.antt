@@ -1,0 +1,31 @@
+use Rattle.std.proofs.Common.{◌∙◌, ◌≤◌, ◌<◌, ap, arith, subst}
+use Rattle.cell_core.specs.declared.stamp.Stamp.{Stamp}
+use Rattle.cata_core.specs.CellsLeft.{cells_left}
+use Rattle.docs_core.proofs.TimeLimitsLemmas.{searched_ahead, searched_all, searched_next}
+use Rattle.docs_core.proofs.TimeLimitsLemmas.{searched_none}
+use Rattle.docs_core.proofs.call.time_limits.first_row_ahead.Goals as goal
+
+pub cells-init : goal.cells-init
+cells-init c =
+    searched_none c.args.cells.now (cells_left c.into_iter-cell-iterator.result) c.args.not_after
+    (ap cells_left c.into_iter-cell-iterator.ensures.into_iter_gives
+    ∙ c.iter-cell-items.ensures.cells)
+
+pub returns : goal.returns
+returns c = λ few. searched_all c.args.cells.now _ c.args.not_after c.cells.row c.cells.invariant
+    c.in-None.ensures.steps.0
+
+pub returns-then-stamp-not_after : goal.returns-then-stamp-not_after
+returns-then-stamp-not_after c =
+    λ few. searched_ahead c.args.cells.now _ (cells_left c.next.new.self)
+    ((c.in-Some.field-0-0.now, c.in-Some.field-0-1.now), c.in-Some.cell.now) c.args.not_after
+    c.cells.row c.cells.invariant c.in-Some.ensures.steps
+    (subst (λ (s : Stamp). c.args.not_after < s.time) c.stamp.ensures c.if-stamp-not_after.true) few
+
+pub cells-preserved : goal.cells-preserved
+cells-preserved c =
+    searched_next c.args.cells.now _ (cells_left c.next.new.self)
+    ((c.in-Some.field-0-0.now, c.in-Some.field-0-1.now), c.in-Some.cell.now) c.args.not_after
+    c.cells.row _ c.cells.invariant c.in-Some.ensures.steps
+    (subst (λ (s : Stamp). s.time ≤ c.args.not_after) c.stamp.ensures c.if-stamp-not_after.false)
+    (λ few. omega (arith, few))

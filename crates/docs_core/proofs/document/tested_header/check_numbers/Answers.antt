@@ -1,8 +1,0 @@
-use Rattle.std.proofs.Common.{◌∙◌, ap, inr, refl, sym}
-use Rattle.docs_core.specs.Numbers.{are_in_range}
-use Rattle.docs_core.proofs.TestedHeaderLemmas.{numbers_refused}
-use Rattle.docs_core.proofs.document.tested_header.check_numbers.Goals as goal
-
-pub returns-else-has_numbers_in_range : goal.returns-else-has_numbers_in_range
-returns-else-has_numbers_in_range c =
-    inr (refl, numbers_refused c.args.text.now (ap are_in_range (sym c.in-Ok.ensures.ok) ∙ sym c.if-has_numbers_in_range.ensures))

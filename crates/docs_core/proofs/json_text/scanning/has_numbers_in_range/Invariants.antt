@@ -1,9 +1,0 @@
-use Rattle.std.proofs.Common.{◌≡◌, length}
-use Rattle.docs_core.specs.Numbers.{are_in_range}
-use Rattle.docs_core.proofs.json_text.scanning.has_numbers_in_range.Given as goal
-
-abbrev pub invariant-tokens : goal.invariant-tokens
-invariant-tokens l = are_in_range l.fn.reader ≡ are_in_range l.reader
-
-abbrev pub decreases-tokens : goal.decreases-tokens
-decreases-tokens l = length l.reader

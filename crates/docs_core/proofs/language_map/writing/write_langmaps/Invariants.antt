@@ -1,9 +1,0 @@
-use Rattle.std.proofs.Common.{drop}
-use Rattle.std.specs.Prelude.{option_map}
-use Rattle.docs_core.specs.LangMaps.{labels_of}
-use Rattle.docs_core.specs.LangMapsWritten.{IsWriting}
-use Rattle.docs_core.proofs.language_map.writing.write_langmaps.Given as goal
-
--- with the labels that are left it comes to all
-abbrev pub invariant-labels : goal.invariant-labels
-invariant-labels l = IsWriting l.draft (option_map (λ id. id.now) l.current) (labels_of (drop l.label-index l.label-items)) (labels_of l.label-items)

@@ -1,6 +1,0 @@
-use Rattle.docs_core.specs.Reads.{seen}
-use Rattle.docs_core.proofs.RisingLemmas.{own_stamp}
-use Rattle.docs_core.proofs.row.rising.own_stamp.Goals as goal
-
-pub returns : goal.returns
-returns c = own_stamp c.stamp_entry.result c.args.version c.args.place (seen c.args.row.now) _ c.in-Some.ensures c.stamp_entry.ensures

@@ -1,8 +1,0 @@
-use Rattle.std.proofs.Common.{◌≡◌, [], ◌∷◌, ◌++◌, take}
-use Rattle.std.specs.Prelude.{flat_map, string_bytes}
-use Rattle.docs_core.specs.FieldWritten.{item_text}
-use Rattle.docs_core.proofs.script.field_writing.push_others.Given as goal
-
--- the items so far, each behind a comma
-abbrev pub invariant-items : goal.invariant-items
-invariant-items l = string_bytes l.text ≡ string_bytes l.fn.text ++ flat_map (λ i. (44 ∷ []) ++ item_text i) (take l.item-index l.items)

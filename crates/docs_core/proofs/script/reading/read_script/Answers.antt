@@ -1,6 +1,0 @@
-use Rattle.docs_core.specs.ScriptReads.{RefusesScript}
-use Rattle.docs_core.proofs.CallsLemmas.{of_reader}
-use Rattle.docs_core.proofs.script.reading.read_script.Goals as goal
-
-pub returns-in-Err : goal.returns-in-Err
-returns-in-Err c = rw c.of_document.ensures (of_reader 1 (RefusesScript c.args.bytes.now) c.in-Err.cause c.in-Err.ensures)

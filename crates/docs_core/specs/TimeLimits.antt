@@ -1,0 +1,91 @@
+-- A limit on the times of what comes in, and what the calls answer under it. Own rule.
+use Rattle.std.specs.Prelude.{◌≡◌, ◌⊎◌, ◌++◌, ◌∷◌, ◌<◌, ◌≤◌, ℕ, All, List, None, Option, Some, ⊤}
+use Rattle.std.specs.Prelude.{length}
+use Rattle.cata_core.specs.CataFaults.{IsRefusal}
+use Rattle.cata_core.specs.Entries.{Agree, Entries, Entry, joined}
+use Rattle.cata_core.specs.Sites.{RefusesDelta as NotTaken, SiteState}
+use Rattle.cata_core.specs.declared.delta.Delta.{Delta}
+use Rattle.json_docs.specs.declared.fault.DocCause.TheVariants.{TimeAhead}
+use Rattle.json_docs.specs.declared.fault.DocFault.{DocFault}
+use Rattle.site_docs.specs.ReadsAs.{IsOfDocument, IsSiteText, ReadsAsDelta, ReadsAsSite}
+use Rattle.site_docs.specs.ReadsAs.{RefusesDelta, RefusesSite}
+use Rattle.docs_core.specs.Calls.{IsOfSite}
+
+-- the time of the cell is not after the limit
+abbrev pub IsInTime : ℕ → Entry → Type 0
+IsInTime limit e = e.1.stamp.time ≤ limit
+
+-- no time is after the limit, where there is one
+abbrev pub AreInTime : Option ℕ → Entries → Type 0
+AreInTime None cells = ⊤
+AreInTime (Some limit) cells = All (IsInTime limit) cells
+
+-- the row is that of the first cell whose time is after the limit
+pub record IsFirstAhead (cells : Entries) (limit row : ℕ) : Type 0 where
+  pub before : Entries
+  pub ahead : Entry
+  pub after : Entries
+  pub cells_are : cells ≡ before ++ ahead ∷ after
+  pub row_is : length before ≡ row
+  pub in_time : All (IsInTime limit) before
+  pub is_ahead : limit < ahead.1.stamp.time
+
+-- it refuses this input document with that row
+abbrev pub IsTimeAhead : ℕ → Option ℕ → Entries → DocFault → Type 0
+IsTimeAhead document None cells fault = ⊥
+IsTimeAhead document (Some limit) cells fault =
+    (row : ℕ) × IsFirstAhead cells limit row
+    × (fault ≡ record { document = document; cause = TimeAhead row })
+
+-- ---- deltas
+
+-- the bytes read as this delta, and none of its times is after the limit
+abbrev pub ReadsInTime : Option ℕ → List ℕ → Delta → Type 0
+ReadsInTime limit bytes delta = ReadsAsDelta bytes delta × AreInTime limit delta.cells
+
+-- the delta is refused by its reader, then for a time
+abbrev pub RefusesDeltaUntil : ℕ → Option ℕ → List ℕ → DocFault → Type 0
+RefusesDeltaUntil document limit bytes fault =
+    IsOfDocument document (RefusesDelta bytes) fault
+    ⊎ ((delta : Delta) × ReadsAsDelta bytes delta × IsTimeAhead document limit delta.cells fault)
+
+-- the site with the cells of a delta for it, whose times are in the limit
+abbrev pub IsTakenUntil : List ℕ → List ℕ → Option ℕ → List ℕ → Type 0
+IsTakenUntil a b limit text =
+    (site : SiteState) × (delta : Delta) × ReadsAsSite a site × ReadsInTime limit b delta
+    × (site.name ≡ delta.addressee) × Agree site.cells delta.cells
+    × IsSiteText (record { name = site.name; cells = joined site.cells delta.cells }) text
+
+-- the site is refused, then the delta, then for a time of it, then as a site refuses a delta
+abbrev pub RefusesTakingUntil : List ℕ → List ℕ → Option ℕ → DocFault → Type 0
+RefusesTakingUntil a b limit fault =
+    IsOfDocument 1 (RefusesSite a) fault
+    ⊎ ((site : SiteState) × ReadsAsSite a site × RefusesDeltaUntil 2 limit b fault)
+    ⊎ ((site : SiteState) × (delta : Delta) × ReadsAsSite a site × ReadsInTime limit b delta
+    × IsOfSite (NotTaken site delta) fault)
+
+-- ---- two sites
+
+-- both with the cells of both, whose times are in the limit
+abbrev pub AreSyncedUntil : List ℕ → List ℕ → Option ℕ → List ℕ → List ℕ → Type 0
+AreSyncedUntil a b limit x y =
+    (first second : SiteState) × ReadsAsSite a first × ReadsAsSite b second
+    × AreInTime limit first.cells × AreInTime limit second.cells × Agree first.cells second.cells
+    × IsSiteText (record { name = first.name; cells = joined first.cells second.cells }) x
+    × IsSiteText (record { name = second.name; cells = joined first.cells second.cells }) y
+
+-- for a time of the first site, or for one of the second where all of the first are in the limit
+abbrev pub IsAheadOfBoth : Option ℕ → Entries → Entries → DocFault → Type 0
+IsAheadOfBoth limit first second fault =
+    IsTimeAhead 1 limit first fault ⊎ (AreInTime limit first × IsTimeAhead 2 limit second fault)
+
+-- the first site is refused, then the second, then for a time, then as sites are
+abbrev pub RefusesSyncUntil : List ℕ → List ℕ → Option ℕ → DocFault → Type 0
+RefusesSyncUntil a b limit fault =
+    IsOfDocument 1 (RefusesSite a) fault
+    ⊎ ((first : SiteState) × ReadsAsSite a first × IsOfDocument 2 (RefusesSite b) fault)
+    ⊎ ((first second : SiteState) × ReadsAsSite a first × ReadsAsSite b second
+    × IsAheadOfBoth limit first.cells second.cells fault)
+    ⊎ ((first second : SiteState) × ReadsAsSite a first × ReadsAsSite b second
+    × AreInTime limit first.cells × AreInTime limit second.cells
+    × IsOfSite (IsRefusal first.cells second.cells) fault)

@@ -1,0 +1,130 @@
+//! Deltas and sites of others, taken only where no time of theirs is after a limit.
+ghost use Rattle.std.specs.Prelude.{◌^◌, ◌<◌, length, IfErr, MatchOption, MatchResult, OnOk, Some};
+ghost use Rattle.json_docs.specs.Checks.{OrMemory};
+ghost use Rattle.site_docs.specs.ReadsAs.{no_memory};
+ghost use Rattle.docs_core.specs.TimeLimits.{AreInTime, AreSyncedUntil, IsFirstAhead, IsTakenUntil};
+ghost use Rattle.docs_core.specs.TimeLimits.{IsTimeAhead, ReadsInTime, RefusesDeltaUntil};
+ghost use Rattle.docs_core.specs.TimeLimits.{RefusesSyncUntil, RefusesTakingUntil};
+
+use cata_core::{Catalogue, Delta, sync};
+use json_docs::{Doc, DocCause, DocFault};
+use site_docs::{delta_at, site_at, write_site};
+use std::alloc::Global;
+
+/// The document of the site after it took the delta, as [`take_document`](crate::take_document)
+/// gives it. A delta with a time greater than `not_after` is refused as a whole.
+///
+/// Each row of the delta counts: deletions, and cells that the site has already or in a later
+/// state. The site's own times do not.
+///
+/// Refusals, in their order: a reader's with document 1, a reader's with document 2, then 29 with
+/// the first row of the delta whose time is greater than `not_after`, then 15 where the delta is
+/// for another site, then 13 with the place in the site. Out of memory (26) may come before.
+pub fn take_document_until(
+    alloc: Global,
+    site: &[u8],
+    delta: &[u8],
+    not_after: Option<u64>,
+) -> Result<Doc, DocFault>
+    ensures { MatchResult result (IsTakenUntil site.now delta.now not_after) (OrMemory no_memory
+        (RefusesTakingUntil site.now delta.now not_after)) }
+{
+    let mut site = site_at(alloc, 1, site)?;
+    let delta = delta_until(alloc, 2, delta, not_after)?;
+    site.take(alloc, &delta)?;
+    drop(delta);
+    let doc = write_site(alloc, &site)?;
+    Ok(doc)
+}
+
+/// The documents of both sites after each took the other's cells, as
+/// [`sync_documents`](crate::sync_documents) gives them. A site with a time greater than
+/// `not_after` refuses the whole; deletions count too.
+///
+/// Refusals, in their order: a reader's with document 1, a reader's with document 2, then 29 with
+/// the first row of document 1 whose time is greater than `not_after`, then with that of document
+/// 2, then 13 with the place in the first site. Out of memory (26) may come before.
+pub fn sync_documents_until(
+    alloc: Global,
+    first: &[u8],
+    second: &[u8],
+    not_after: Option<u64>,
+) -> Result<(Doc, Doc), DocFault>
+    ensures { MatchResult result (λ docs. AreSyncedUntil first.now second.now not_after docs.0
+        docs.1) (OrMemory no_memory (RefusesSyncUntil first.now second.now not_after)) }
+{
+    let mut first = site_at(alloc, 1, first)?;
+    let mut second = site_at(alloc, 2, second)?;
+    check_times(1, first.catalogue(), not_after)?;
+    check_times(2, second.catalogue(), not_after)?;
+    sync(alloc, &mut first, &mut second)?;
+    let first_doc = write_site(alloc, &first)?;
+    drop(first);
+    let second_doc = write_site(alloc, &second)?;
+    Ok((first_doc, second_doc))
+}
+
+/// The delta of a document of version 1 or 2, where none of its times is greater than `not_after`.
+///
+/// Refusals, in their order: those of [`read_delta`](crate::read_delta), then 29 with the first row
+/// whose time is greater. All but 26 name document 1.
+pub fn read_delta_until(
+    alloc: Global,
+    bytes: &[u8],
+    not_after: Option<u64>,
+) -> Result<Delta, DocFault>
+    ensures { MatchResult result (ReadsInTime not_after bytes.now) (OrMemory no_memory
+        (RefusesDeltaUntil 1 not_after bytes.now)) }
+{
+    delta_until(alloc, 1, bytes, not_after)
+}
+
+/// The first row whose time is greater than `not_after`, counted from 0 in rising order of key;
+/// none where no time is. The rows of a document are counted so.
+pub fn first_row_ahead(cells: &Catalogue, not_after: u64) -> Option<usize>
+    ensures { length cells.now < 2 ^ 64
+        → MatchOption result (AreInTime (Some not_after) cells.now)
+        (IsFirstAhead cells.now not_after) }
+{
+    let mut row = 0usize;
+    'cells: for (_, _, cell) in cells.iter() {
+        if cell.stamp().time > not_after {
+            return Some(row);
+        }
+        row = row.saturating_add(1);
+    }
+    None
+}
+
+// The delta of the input document with this number, where its times are in the limit.
+fn delta_until(
+    alloc: Global,
+    document: u8,
+    bytes: &[u8],
+    not_after: Option<u64>,
+) -> Result<Delta, DocFault>
+    ensures { MatchResult result (ReadsInTime not_after bytes.now) (OrMemory no_memory
+        (RefusesDeltaUntil document not_after bytes.now)) }
+{
+    let delta = delta_at(alloc, document, bytes)?;
+    check_times(document, delta.cells(), not_after)?;
+    Ok(delta)
+}
+
+// Whether the times of the document's cells are in the limit, where there is one.
+fn check_times(document: u8, cells: &Catalogue, not_after: Option<u64>) -> Result<(), DocFault>
+    requires { length cells.now < 2 ^ 64 }
+    ensures ok { OnOk result (AreInTime not_after cells.now) }
+    ensures err { IfErr result (IsTimeAhead document not_after cells.now) }
+{
+    let Some(limit) = not_after else {
+        return Ok(());
+    };
+    match first_row_ahead(cells, limit) {
+        Some(row) => Err(DocFault {
+            document,
+            cause: DocCause::TimeAhead { row },
+        }),
+        None => Ok(()),
+    }
+}

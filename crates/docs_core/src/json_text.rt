@@ -1,4 +1,0 @@
-//! JSON as text: the range of its numbers, and its values one after another.
-
-pub(crate) mod numbers;
-pub(crate) mod scanning;

@@ -1,0 +1,10 @@
+pub mod ArraysLemmas
+pub mod ChecksLemmas
+pub mod LineFeed
+pub mod MembersLemmas
+pub mod NumbersLemmas
+pub mod ReadableLemmas
+pub mod ReadingLemmas
+pub mod SeenLemmas
+pub mod Streams
+pub mod WholeTextLemmas

@@ -1,0 +1,9 @@
+pub mod Arrays
+pub mod Checks
+pub mod Faults
+pub mod MembersRead
+pub mod Numbers
+pub mod Parts
+pub mod Reads
+pub mod Sinks
+pub mod Sources

@@ -1,0 +1,26 @@
+-- Parts of JSON data: items, numbers and texts.
+use Rattle.std.specs.Prelude.{ℕ, ◌^◌, List, [], ◌∷◌, Option, None, Some, nat_lt, if◌then◌else◌, option_map, option_and_then}
+use Rattle.serde_json.specs.Data.{Data, number, Items, no_items, item}
+use Rattle.serde_json.specs.Find.{as_array, as_number, as_str, as_u64}
+
+abbrev pub list_of : Items → List Data
+list_of no_items = []
+list_of (item d ds) = d ∷ list_of ds
+
+abbrev pub items_in : Data → Option (List Data)
+items_in d = option_map list_of (as_array d)
+
+abbrev pub u64_in : Data → Option ℕ
+u64_in d = option_and_then as_u64 (as_number d)
+
+-- a number that fits 32 bits
+abbrev pub narrowed : ℕ → Option ℕ
+narrowed n = if nat_lt n (2 ^ 32) then Some n else None
+
+abbrev pub u32_in : Data → Option ℕ
+u32_in d = option_and_then narrowed (u64_in d)
+
+-- texts and nothing else
+abbrev pub texts_in : List Data → Option (List (List ℕ))
+texts_in [] = Some []
+texts_in (d ∷ ds) = option_and_then (λ text. option_map (λ texts. text ∷ texts) (texts_in ds)) (as_str d)

@@ -1,0 +1,7 @@
+pub mod LangMapFieldsLemmas
+pub mod LangMapLabelsLemmas
+pub mod LangMapLawsLemmas
+pub mod LangMapMembersLemmas
+pub mod LangMapTripLemmas
+pub mod LangMapsLemmas
+pub mod WritingLemmas

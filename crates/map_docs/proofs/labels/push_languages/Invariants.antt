@@ -1,0 +1,13 @@
+use Rattle.std.proofs.Common.{◌≡◌, ◌++◌}
+use Rattle.cell_core.specs.Maps.{IsMap}
+use Rattle.cata_core.specs.Entries.{key_cmp}
+use Rattle.cata_core.specs.Flat.{under}
+use Rattle.map_docs.specs.LangMapRowsSeen.{live}
+use Rattle.map_docs.proofs.labels.push_languages.Given as goal
+
+-- what was put, and what is left to put, rise
+abbrev pub invariant-found : goal.invariant-found
+invariant-found l = record {
+  all : l.maps ++ under l.id (live l.lang-iterator) ≡ l.fn.maps ++ under l.id (live l.fn.found.entries);
+  sorted : IsMap key_cmp (l.maps ++ under l.id (live l.lang-iterator));
+}

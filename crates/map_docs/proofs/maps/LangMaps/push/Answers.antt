@@ -1,0 +1,14 @@
+use Rattle.std.proofs.Common.{List, sym, ◌∙◌, ap, subst}
+use Rattle.cell_core.specs.Maps.{IsMap}
+use Rattle.cata_core.specs.Entries.{IsAboveAll, key_cmp}
+use Rattle.map_docs.specs.LangMaps.{Labelled, labels_of}
+use Rattle.cata_core.proofs.Behind.{IsMap-behind}
+use Rattle.map_docs.proofs.LangMapsLemmas.{labels_push}
+use Rattle.map_docs.proofs.maps.LangMaps.push.Goals as goal
+
+pub invariant_of-self-2 : goal.invariant_of-self-2
+invariant_of-self-2 c =
+    let labels = c.self.inside.labels.items in
+    subst (IsMap key_cmp) (sym (ap labels_of c.in_ok-push.ensures.items ∙ labels_push labels (record { id = c.args.id; lang = c.args.lang; label = c.args.label })))
+    (IsMap-behind (labels_of labels) (c.args.id, c.args.lang) c.args.label c.self.invariant
+    (subst (λ (s : List Labelled). IsAboveAll (c.args.id, c.args.lang) s) (sym c.self.view_is) c.requires))

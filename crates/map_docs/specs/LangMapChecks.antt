@@ -1,0 +1,70 @@
+-- The tests of a language-map document, in their order. Own rule.
+use Rattle.std.specs.Prelude.{◌≡◌, ◌==◌, ℕ, ◌+◌, Bool, true, false, List, [], ◌∷◌, ◌++◌, Option, Some, is_some, unwrap_or}
+use Rattle.std.specs.List.{list_any}
+use Rattle.std.specs.Str.{bytes_eq, str_to_ascii_lowercase}
+use Rattle.cell_core.specs.Labels.{IsLabel}
+use Rattle.serde_json.specs.Data.{Data}
+use Rattle.json_docs.specs.Checks.{Check, check}
+use Rattle.json_docs.specs.declared.fault.DocCause.{DocCause}
+use Rattle.json_docs.specs.declared.fault.DocCause.TheVariants.{RepeatedTag, Shape}
+use Rattle.json_docs.specs.declared.fault.Spot.TheVariants.{Document, Row}
+use Rattle.site_docs.specs.Fields.{IsLabelRefusal, id_check, language_check}
+use Rattle.map_docs.specs.LangMapRows.{Keys, Rows, Strings, rows_in}
+
+-- an earlier key is equal without case
+abbrev pub is_repeated : List (List ℕ) → List ℕ → Bool
+is_repeated before key = list_any (λ earlier. bytes_eq (str_to_ascii_lowercase earlier) (str_to_ascii_lowercase key)) before
+
+-- no string gives no label, else the strings are one
+abbrev pub IsLabelOrNone : List (List ℕ) → Type 0
+IsLabelOrNone [] = Unit {0}
+IsLabelOrNone (t ∷ ts) = IsLabel (t ∷ ts)
+
+-- e says why the strings of row k are no label
+abbrev pub IsStringsRefusal : ℕ → List (List ℕ) → DocCause → Type 0
+IsStringsRefusal k [] e = ⊥
+IsStringsRefusal k (t ∷ ts) e = IsLabelRefusal k (Some (t ∷ ts)) e
+
+abbrev pub label_check : ℕ → List (List ℕ) → Check
+label_check k strings = record { passes = IsLabelOrNone strings; refuses = IsStringsRefusal k strings }
+
+-- the tests of a key of row k behind the keys before it
+abbrev pub key_checks : ℕ → List (List ℕ) → List ℕ → Strings → List Check
+key_checks k before key strings =
+    language_check k key
+    ∷ check (is_repeated before key ≡ false) (RepeatedTag k)
+    ∷ check (is_some strings ≡ true) (Shape (Row k))
+    ∷ label_check k (unwrap_or strings [])
+    ∷ []
+
+abbrev pub keys_checks : ℕ → List (List ℕ) → Keys → List Check
+keys_checks k before [] = []
+keys_checks k before (m ∷ ms) = key_checks k before m.0 m.1 ++ keys_checks k (before ++ m.0 ∷ []) ms
+
+-- a name that begins with "@" (64)
+abbrev pub is_marked : List ℕ → Bool
+is_marked [] = false
+is_marked (b ∷ name) = b == 64
+
+-- the tests of a message
+abbrev pub message_checks : ℕ → List ℕ → Option Keys → List Check
+message_checks k name keys =
+    id_check k name
+    ∷ check (is_some keys ≡ true) (Shape (Row k))
+    ∷ keys_checks k [] (unwrap_or keys [])
+
+abbrev pub unless_marked : Bool → List Check → List Check
+unless_marked true checks = []
+unless_marked false checks = checks
+
+-- a member whose name begins with "@" is no message, and its value is free
+abbrev pub row_checks : ℕ → List ℕ × Option Keys → List Check
+row_checks k r = unless_marked (is_marked r.0) (message_checks k r.0 r.1)
+
+-- the tests of the rows from the k-th on
+abbrev pub rows_checks : ℕ → Rows → List Check
+rows_checks k [] = []
+rows_checks k (r ∷ rs) = row_checks k r ++ rows_checks (k + 1) rs
+
+abbrev pub langmaps_checks : Data → List Check
+langmaps_checks d = check (is_some (rows_in d) ≡ true) (Shape Document) ∷ rows_checks 0 (unwrap_or (rows_in d) [])

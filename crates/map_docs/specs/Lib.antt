@@ -1,0 +1,9 @@
+pub mod LangMapChecks
+pub mod LangMapLabels
+pub mod LangMapLaws
+pub mod LangMapRows
+pub mod LangMapRowsSeen
+pub mod LangMapTexts
+pub mod LangMaps
+pub mod LangMapsValue
+pub mod LangMapsWritten

@@ -1,0 +1,21 @@
+//! Language maps (JSON-LD 1.1, section 9.8): the labels of a catalogue by message and language.
+//!
+//! - [`LangMaps`] are the labels in ascending order of key; [`read_langmaps`] reads them from a
+//!   document, and [`write_langmaps`] writes one.
+//! - [`langmaps_of_document`], [`open_labels`], [`write_label`] and [`close_labels`] serve
+//!   `docs_core`, whose calls read one document of several, and write labels without a list of
+//!   them.
+//!
+//! Callers find what they need in `docs_core`.
+#![tactic(auto)]
+
+mod labels;
+mod maps;
+mod members;
+mod reading;
+mod rows;
+mod writing;
+
+pub use maps::{KeyedLabel, LangMaps};
+pub use reading::{langmaps_of_document, read_langmaps};
+pub use writing::{close_labels, open_labels, write_label, write_langmaps};

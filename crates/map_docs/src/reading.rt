@@ -1,0 +1,53 @@
+//! Language-map documents read.
+ghost use Rattle.std.specs.Prelude.{MatchResult};
+ghost use Rattle.json_docs.specs.Checks.{OrMemory};
+ghost use Rattle.json_docs.specs.declared.fault.DocCause.TheVariants.{NoMemory};
+ghost use Rattle.site_docs.specs.ReadsAs.{IsOfDocument, no_memory};
+ghost use Rattle.map_docs.specs.LangMapLabels.{AreLangMaps, RefusesLangMaps};
+
+use crate::labels::labels_of;
+use crate::maps::LangMaps;
+use crate::members::read_rows;
+use json_docs::{DocCause, DocFault, Spot, text_in};
+use std::alloc::Global;
+
+/// The labels of a language-map document, in rising order of key: an object from message id to
+/// language map (JSON-LD 1.1, sections 4.6.2 and 9.8).
+///
+/// A member whose name begins with `@` is skipped. A string is a label of one text, an array one of
+/// its strings; nulls are skipped, and where no string is left there is no label. Languages are
+/// read without case.
+///
+/// Refused, with document 1, where the bytes are not UTF-8 (18) or no JSON text (19), where the
+/// value is no object (20), and by its first row that fails, in byte order of the names: by its id
+/// (10) or shape (20), or by its first key that fails: by its language (1 to 4), because an earlier
+/// key is equal without case (22), or by its value's shape (20) or label (12, 11). Out of memory
+/// (26) may come first, and means no document.
+pub fn read_langmaps(alloc: Global, bytes: &[u8]) -> Result<LangMaps, DocFault>
+    ensures { MatchResult result (AreLangMaps bytes.now) (OrMemory no_memory (IsOfDocument 1 (RefusesLangMaps bytes.now))) }
+{
+    langmaps_of_document(alloc, 1, bytes)
+}
+
+/// The labels of the input document with this number.
+pub fn langmaps_of_document(alloc: Global, document: u8, bytes: &[u8]) -> Result<LangMaps, DocFault>
+    ensures { MatchResult result (AreLangMaps bytes.now) (OrMemory no_memory (IsOfDocument document (RefusesLangMaps bytes.now))) }
+{
+    match langmaps_in(alloc, bytes) {
+        Ok(maps) => Ok(maps),
+        Err(cause) => Err(DocFault::of_document(document, cause)),
+    }
+}
+
+// The labels of a document, or why it is refused.
+fn langmaps_in(alloc: Global, bytes: &[u8]) -> Result<LangMaps, DocCause>
+    ensures { MatchResult result (AreLangMaps bytes.now) (OrMemory NoMemory (RefusesLangMaps bytes.now)) }
+{
+    let text = text_in(bytes)?;
+    match read_rows(alloc, text)? {
+        Some(rows) => labels_of(alloc, rows),
+        None => Err(DocCause::Shape {
+            spot: Spot::Document,
+        }),
+    }
+}

@@ -1,0 +1,116 @@
+//! Language maps written piece by piece into one buffer.
+ghost use Rattle.std.specs.Prelude.{◌≡◌, ◌∷◌, [], ◌++◌, List, IfOk, None, OnOk, option_map};
+ghost use Rattle.json.specs.Token.{begin_object, end_object, key};
+ghost use Rattle.cell_core.specs.Labels.{texts_of};
+ghost use Rattle.cell_core.specs.Maps.{IsMap};
+ghost use Rattle.cell_core.specs.MessageIds.{IsMessageId};
+ghost use Rattle.cata_core.specs.Entries.{key_cmp};
+ghost use Rattle.site_docs.specs.Texts.{Adds, text, value_tokens};
+ghost use Rattle.map_docs.specs.LangMapLabels.{AreLangMaps};
+ghost use Rattle.map_docs.specs.LangMapLaws.{IsWritable};
+ghost use Rattle.map_docs.specs.LangMapTexts.{IsTextOf};
+ghost use Rattle.map_docs.specs.LangMaps.{Labelled};
+ghost use Rattle.map_docs.specs.LangMapsValue.{language_value, langmaps_value};
+ghost use Rattle.map_docs.specs.LangMapsWritten.{IsWriting, label_tokens, labels_tokens};
+ghost use Rattle.map_docs.specs.LangMapsWritten.{opening_tokens};
+
+use crate::maps::LangMaps;
+use cell_core::{Label, MessageId};
+use json::Writer;
+use json_docs::Doc;
+use lang_core::Lang;
+use site_docs::{finish, write_texts};
+use std::alloc::{AllocError, Global};
+
+/// The text of the language-map document of these labels, with its line feed: one object from
+/// message id to language map (JSON-LD 1.1, section 9.8), in rising order of key.
+///
+/// A label of one text is a string, one of several an array of strings. Out of memory is the only
+/// refusal (26).
+pub fn write_langmaps(alloc: Global, maps: &LangMaps) -> Result<Doc, AllocError>
+    ensures text { IfOk result (λ doc. doc ≡ text (langmaps_value maps.now)) }
+    ensures reads { IfOk result (λ doc. AreLangMaps doc maps.now) }
+{
+    let mut draft = open_labels(alloc)?;
+    let mut current: Option<&MessageId> = None;
+    'labels: for label in maps.labels() {
+        write_label(&mut draft, current, &label.id, &label.lang, &label.label)?;
+        current = Some(&label.id);
+    }
+    close_labels(draft, current)
+}
+
+/// Opens the language maps of any labels, with none yet.
+pub fn open_labels(alloc: Global) -> Result<Writer, AllocError>
+    ensures { IfOk result (λ draft. (labels : List Labelled) → IsWriting draft None labels labels) }
+{
+    let mut draft = Writer::new(Vec::new(alloc));
+    draft.begin_object()?;
+    Ok(draft)
+}
+
+/// Closes the language maps after all their labels.
+pub fn close_labels(mut draft: Writer, current: Option<&MessageId>) -> Result<Doc, AllocError>
+    ensures { (labels : List Labelled) → IsMap key_cmp labels → IsWriting draft (option_map (λ id. id.now) current.entry) [] labels
+        → IfOk result (IsTextOf labels) }
+{
+    close_objects(&mut draft, current)?;
+    finish(draft)
+}
+
+// Closes the current message and the outer object.
+fn close_objects(out: &mut Writer, current: Option<&MessageId>) -> Result<(), AllocError>
+    ensures { OnOk result (Adds out.old out.new (labels_tokens (option_map (λ id. id.now) current.entry) [])) }
+{
+    if current.is_some() {
+        out.end_object()?;
+    }
+    out.end_object()
+}
+
+/// Adds a label, in a message of its own unless that is the current one.
+pub fn write_label(
+    out: &mut Writer,
+    current: Option<&MessageId>,
+    id: &MessageId,
+    lang: &Lang,
+    label: &Label,
+) -> Result<(), AllocError>
+    ensures tokens { OnOk result (Adds out.old out.new (opening_tokens (option_map (λ m. m.now) current.entry) id.now ++ label_tokens ((id.now, lang.now), label.now))) }
+    ensures valid { OnOk result (IsWritable ((id.now, lang.now), label.now)) }
+{
+    open_message(out, current, id)?;
+    out.key(lang.as_str())?;
+    write_language(out, label.texts())
+}
+
+// Closes the current message and opens this one, unless they are the same.
+fn open_message(
+    out: &mut Writer,
+    current: Option<&MessageId>,
+    id: &MessageId,
+) -> Result<(), AllocError>
+    ensures tokens { OnOk result (Adds out.old out.new (opening_tokens (option_map (λ id. id.now) current.entry) id.now)) }
+    ensures id { OnOk result (IsMessageId id.now) }
+{
+    let name = id.as_str();
+    if let Some(current) = current {
+        if current == id {
+            return Ok(());
+        }
+        out.end_object()?;
+    }
+    out.key(name)?;
+    out.begin_object()
+}
+
+// Adds the texts of a label: one as a string, several as an array.
+fn write_language(out: &mut Writer, texts: &[String]) -> Result<(), AllocError>
+    ensures { OnOk result (Adds out.old out.new (value_tokens (language_value (texts_of texts.now)))) }
+{
+    if let [text] = texts {
+        out.string(text.as_str())
+    } else {
+        write_texts(out, texts)
+    }
+}

@@ -1,0 +1,4 @@
+pub mod FieldWrittenLemmas
+pub mod ScriptWrittenLemmas
+pub mod StepsLemmas
+pub mod StepsWrittenLemmas

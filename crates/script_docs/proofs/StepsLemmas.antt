@@ -1,0 +1,19 @@
+-- Steps behind steps, and the tests of one.
+use Rattle.std.proofs.Common.{◌≡◌, ◌++◌, List, [], ◌∷◌, length, refl}
+use Rattle.std.specs.Prelude.{Some}
+use Rattle.cata_core.specs.declared.step.Step.{Step}
+use Rattle.serde_json.specs.Data.{Data}
+use Rattle.json_docs.specs.Checks.{AllPass}
+use Rattle.site_docs.specs.declared.document.version.Version.{Version}
+use Rattle.script_docs.specs.StepFields.{AreSteps, IsStep, step_checks, step_fields}
+use Rattle.script_docs.specs.Steps.{StepText, step_in}
+
+pub AreSteps-push : (version : Version) (ds : List Data) (d : Data) (steps : List Step) (step : Step) → AreSteps version ds steps → IsStep version d step → AreSteps version (ds ++ d ∷ []) (steps ++ step ∷ [])
+AreSteps-push version [] d [] step so_far last = (last, tt)
+AreSteps-push version [] d (s ∷ ss) step so_far last = absurd so_far
+AreSteps-push version (e ∷ ds) d [] step so_far last = absurd so_far
+AreSteps-push version (e ∷ ds) d (s ∷ ss) step so_far last = (so_far.0, AreSteps-push version ds d ss step so_far.1 last)
+
+module _ (version : Version) (before : List Data) (d : Data) where
+  pub step_passes : (text : StepText) → Some text ≡ step_in version d → AllPass (step_fields (length before) text) → AllPass (step_checks version before d)
+  step_passes text is pass = rw (← is) (refl, pass)

@@ -1,0 +1,40 @@
+-- Documents of scripts: their tests in order, and what they read as. Own rule.
+use Rattle.std.specs.Prelude.{◌≡◌, ℕ, List, [], ◌∷◌, ◌++◌, true, Option, None, Some, is_some, if◌then◌else◌, option_and_then}
+use Rattle.serde_json.specs.Data.{Data}
+use Rattle.json_docs.specs.Checks.{Check, IsRefusal, check, rows_checks}
+use Rattle.json_docs.specs.Parts.{u64_in}
+use Rattle.json_docs.specs.declared.fault.DocCause.{DocCause}
+use Rattle.json_docs.specs.declared.fault.DocCause.TheVariants.{Shape}
+use Rattle.site_docs.specs.Headers.{header_checks, rows_in, subject_data, version_of}
+use Rattle.site_docs.specs.ReadsAs.{Reads}
+use Rattle.site_docs.specs.declared.document.kind.Kind.TheVariants.{Script}
+use Rattle.script_docs.specs.Scripts.{ScriptState, is_site_count}
+use Rattle.script_docs.specs.StepFields.{AreSteps, step_checks}
+use Rattle.json_docs.specs.declared.fault.Spot.TheVariants as spot
+
+-- as many sites as there may be
+abbrev pub count_of : ℕ → Option ℕ
+count_of n = if is_site_count n then Some n else None
+
+-- how many sites there are
+abbrev pub sites_in : Data → Option ℕ
+sites_in d = option_and_then count_of (u64_in d)
+
+abbrev pub sites_check : Data → Check
+sites_check subject = check (is_some (sites_in subject) ≡ true) (Shape spot.Document)
+
+abbrev pub script_checks : Data → List Check
+script_checks d = header_checks Script d ++ (sites_check (subject_data Script d) ∷ rows_checks (step_checks (version_of d)) [] (rows_in Script d))
+
+-- the document has these sites and steps
+pub record IsScriptDocument (d : Data) (script : ScriptState) : Type 0 where
+  pub sites : sites_in (subject_data Script d) ≡ Some script.sites
+  pub steps : AreSteps (version_of d) (rows_in Script d) script.steps
+
+-- the bytes are a document of this script
+abbrev pub ReadsAsScript : List ℕ → ScriptState → Type 0
+ReadsAsScript = Reads script_checks IsScriptDocument
+
+-- why they are no document of a script
+abbrev pub RefusesScript : List ℕ → DocCause → Type 0
+RefusesScript = IsRefusal script_checks

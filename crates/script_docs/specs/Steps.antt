@@ -1,0 +1,104 @@
+-- The steps of a script as JSON data, in both versions. Own rule.
+use Rattle.std.specs.Prelude.{ℕ, List, [], ◌∷◌, codes, Option, None, Some, if◌then◌else◌, option_map, option_and_then}
+use Rattle.std.specs.Str.{bytes_eq}
+use Rattle.nego_core.specs.declared.scheme.Scheme.{Scheme}
+use Rattle.nego_core.specs.declared.scheme.Scheme.TheVariants.{Basic, Extended}
+use Rattle.serde_json.specs.Data.{Data, null, boolean, number, string, array, object}
+use Rattle.serde_json.specs.Find.{as_str}
+use Rattle.json_docs.specs.Parts.{items_in, u32_in}
+use Rattle.site_docs.specs.Rows.{cell_in}
+use Rattle.site_docs.specs.Values.{Row}
+use Rattle.site_docs.specs.declared.document.version.Version.{Version}
+use Rattle.script_docs.specs.declared.steps.Word.{Word}
+use Rattle.script_docs.specs.declared.steps.Word.TheVariants.{Edit, Merge, Filter, Lookup, Cells}
+use Rattle.script_docs.specs.declared.steps.Word.TheVariants.{Tell, Post, Deliver}
+
+-- a step, with its texts as they are written
+pub data StepText : Type 0 where
+  edit_step : ℕ → Row × Option (List (List ℕ)) → StepText
+  merge_step : ℕ → ℕ → StepText
+  filter_step : ℕ → List ℕ → Scheme → List ℕ → StepText
+  lookup_step : ℕ → List ℕ → List ℕ → Option (List ℕ) → StepText
+  cells_step : ℕ → StepText
+  tell_step : ℕ → StepText
+  post_step : ℕ → ℕ → StepText
+  deliver_step : ℕ → StepText
+
+abbrev pub word_of : List ℕ → Option Word
+word_of text =
+    if bytes_eq text (codes "edit") then Some Edit
+    else (if bytes_eq text (codes "merge") then Some Merge
+    else (if bytes_eq text (codes "filter") then Some Filter
+    else (if bytes_eq text (codes "lookup") then Some Lookup
+    else (if bytes_eq text (codes "cells") then Some Cells
+    else (if bytes_eq text (codes "tell") then Some Tell
+    else (if bytes_eq text (codes "post") then Some Post
+    else (if bytes_eq text (codes "deliver") then Some Deliver
+    else None)))))))
+
+abbrev pub scheme_of : List ℕ → Option Scheme
+scheme_of text =
+    if bytes_eq text (codes "basic") then Some Basic
+    else (if bytes_eq text (codes "extended") then Some Extended
+    else None)
+
+abbrev pub scheme_in : Data → Option Scheme
+scheme_in d = option_and_then scheme_of (as_str d)
+
+-- null for none, or a text
+abbrev pub default_in : Data → Option (Option (List ℕ))
+default_in null = Some None
+default_in (boolean b) = None
+default_in (number n) = None
+default_in (string s) = Some (Some s)
+default_in (array ds) = None
+default_in (object ms) = None
+
+-- ---- what stands after the word
+
+-- `site,CELL`
+abbrev pub edit_of : Version → List Data → Option StepText
+edit_of version (s ∷ c ∷ []) = option_and_then (λ site. option_map (λ cell. edit_step site cell) (cell_in version c)) (u32_in s)
+edit_of version _ = None
+
+-- `site,id,scheme,field`
+abbrev pub filter_of : List Data → Option StepText
+filter_of (s ∷ i ∷ c ∷ f ∷ []) =
+    option_and_then (λ site. option_and_then (λ id. option_and_then (λ scheme. option_map (λ field. filter_step site id scheme field)
+    (as_str f)) (scheme_in c)) (as_str i)) (u32_in s)
+filter_of _ = None
+
+-- `site,id,field,default`
+abbrev pub lookup_of : List Data → Option StepText
+lookup_of (s ∷ i ∷ f ∷ l ∷ []) =
+    option_and_then (λ site. option_and_then (λ id. option_and_then (λ field. option_map (λ default. lookup_step site id field default)
+    (default_in l)) (as_str f)) (as_str i)) (u32_in s)
+lookup_of _ = None
+
+-- one number
+abbrev pub one_of : (ℕ → StepText) → List Data → Option StepText
+one_of step (d ∷ []) = option_map step (u32_in d)
+one_of step _ = None
+
+-- two numbers
+abbrev pub two_of : (ℕ → ℕ → StepText) → List Data → Option StepText
+two_of step (d ∷ e ∷ []) = option_and_then (λ m. option_map (λ n. step m n) (u32_in e)) (u32_in d)
+two_of step _ = None
+
+abbrev pub step_after : Version → Word → List Data → Option StepText
+step_after version Edit ds = edit_of version ds
+step_after version Merge ds = two_of merge_step ds
+step_after version Filter ds = filter_of ds
+step_after version Lookup ds = lookup_of ds
+step_after version Cells ds = one_of cells_step ds
+step_after version Tell ds = one_of tell_step ds
+step_after version Post ds = two_of post_step ds
+step_after version Deliver ds = one_of deliver_step ds
+
+abbrev pub step_of : Version → List Data → Option StepText
+step_of version [] = None
+step_of version (d ∷ ds) = option_and_then (λ text. option_and_then (λ word. step_after version word ds) (word_of text)) (as_str d)
+
+-- a row of a script
+abbrev pub step_in : Version → Data → Option StepText
+step_in version d = option_and_then (step_of version) (items_in d)

@@ -1,0 +1,130 @@
+-- Which steps a document can have, and their JSON values, version 2. Own rule.
+use Rattle.std.specs.Prelude.{◌≡◌, ◌<◌, ◌^◌, ℕ, List, codes, Option, None, Some}
+use Rattle.cata_core.specs.declared.step.Step.{Step}
+use Rattle.cata_core.specs.declared.step.Step.TheVariants.{Edit, Merge, AskFilter, AskLookup}
+use Rattle.cata_core.specs.declared.step.Step.TheVariants.{AskCells, Tell, Post, Deliver}
+use Rattle.json.specs.Written.{Written}
+use Rattle.lang_core.specs.Lang.{IsLang}
+use Rattle.nego_core.specs.declared.scheme.Scheme.{Scheme}
+use Rattle.nego_core.specs.declared.scheme.Scheme.TheVariants.{Basic, Extended}
+use Rattle.serde_json.specs.Data.{Data, null, array, number, unsigned, string, no_items, item}
+use Rattle.json_docs.specs.Checks.{AllPass, OrMemory}
+use Rattle.json_docs.specs.declared.fault.DocCause.{DocCause}
+use Rattle.json_docs.specs.declared.fault.DocCause.TheVariants.{NoMemory, Shape}
+use Rattle.site_docs.specs.Entries.{row_of}
+use Rattle.site_docs.specs.Texts.{Adds, value_tokens}
+use Rattle.site_docs.specs.Values.{Row, cell_value}
+use Rattle.script_docs.specs.FieldWritten.{IsListed, field_text}
+use Rattle.script_docs.specs.StepFields.{Makes, step_fields}
+use Rattle.script_docs.specs.Steps.{StepText, edit_step, merge_step, filter_step, lookup_step}
+use Rattle.script_docs.specs.Steps.{cells_step, tell_step, post_step, deliver_step}
+use Rattle.json_docs.specs.declared.fault.Spot.TheVariants as spot
+
+-- ---- what a document can have
+
+-- the number of a site, a told summary or a post fits its member
+abbrev pub FitsMember : ℕ → Type 0
+FitsMember n = n < 2 ^ 32
+
+-- a document can have the step: its numbers fit, and some field reads as its priority list
+abbrev pub IsWritable : Step → Type 0
+IsWritable (Edit site edit) = FitsMember site
+IsWritable (Merge into source) = FitsMember into × FitsMember source
+IsWritable (AskFilter site id scheme items) = FitsMember site × IsListed scheme items
+IsWritable (AskLookup site id items default) = FitsMember site × IsListed Basic items
+IsWritable (AskCells site) = FitsMember site
+IsWritable (Tell site) = FitsMember site
+IsWritable (Post site told) = FitsMember site × FitsMember told
+IsWritable (Deliver post) = FitsMember post
+
+-- memory ran out, or the step at this place is not what it must be
+abbrev pub RefusesRow : ℕ → Type 0 → DocCause → Type 0
+RefusesRow place Holds = OrMemory NoMemory (λ cause. (¬ Holds) × (cause ≡ Shape (spot.Row place)))
+
+abbrev pub RefusesStep : ℕ → Step → DocCause → Type 0
+RefusesStep place step cause = RefusesRow place (IsWritable step) cause
+
+-- ---- the JSON values of steps
+
+-- `[word, number]`
+abbrev pub single_value : List ℕ → ℕ → Data
+single_value word n = array (item (string word) (item (number (unsigned n)) no_items))
+
+-- `[word, number, number]`
+abbrev pub pair_value : List ℕ → ℕ → ℕ → Data
+pair_value word m n = array (item (string word) (item (number (unsigned m)) (item (number (unsigned n)) no_items)))
+
+-- `["edit", site, CELL]`
+abbrev pub edit_value : ℕ → Row → Option (List (List ℕ)) → Data
+edit_value site row label = array (item (string (codes "edit")) (item (number (unsigned site)) (item (cell_value row label) no_items)))
+
+abbrev pub scheme_text : Scheme → List ℕ
+scheme_text Basic = codes "basic"
+scheme_text Extended = codes "extended"
+
+-- `["filter", site, id, scheme, field]`
+abbrev pub filter_value : ℕ → List ℕ → Scheme → List ℕ → Data
+filter_value site id scheme field = array (item (string (codes "filter")) (item (number (unsigned site)) (item (string id) (item (string (scheme_text scheme)) (item (string field) no_items)))))
+
+-- no default is null
+abbrev pub default_value : Option (List ℕ) → Data
+default_value None = null
+default_value (Some text) = string text
+
+-- `["lookup", site, id, field, default]`
+abbrev pub lookup_value : ℕ → List ℕ → List ℕ → Option (List ℕ) → Data
+lookup_value site id field default = array (item (string (codes "lookup")) (item (number (unsigned site)) (item (string id) (item (string field) (item (default_value default) no_items)))))
+
+abbrev pub step_value : StepText → Data
+step_value (edit_step site row) = edit_value site row.0 row.1
+step_value (merge_step into source) = pair_value (codes "merge") into source
+step_value (filter_step site id scheme field) = filter_value site id scheme field
+step_value (lookup_step site id field default) = lookup_value site id field default
+step_value (cells_step site) = single_value (codes "cells") site
+step_value (tell_step site) = single_value (codes "tell") site
+step_value (post_step site told) = pair_value (codes "post") site told
+step_value (deliver_step post) = single_value (codes "deliver") post
+
+-- ---- what is written for a step
+
+-- the text of a step: a priority list is written as its items with a comma between each two
+abbrev pub written_step : Step → StepText
+written_step (Edit site edit) = edit_step site (row_of edit, edit.1.label)
+written_step (Merge into source) = merge_step into source
+written_step (AskFilter site id scheme items) = filter_step site id scheme (field_text items)
+written_step (AskLookup site id items default) = lookup_step site id (field_text items) default
+written_step (AskCells site) = cells_step site
+written_step (Tell site) = tell_step site
+written_step (Post site told) = post_step site told
+written_step (Deliver post) = deliver_step post
+
+-- the row of a step
+abbrev pub step_row : Step → Data
+step_row step = step_value (written_step step)
+
+-- the numbers of the text fit their members
+abbrev pub HasRoom : StepText → Type 0
+HasRoom (edit_step site row) = FitsMember site × (row.0.time < 2 ^ 64) × FitsMember row.0.count
+HasRoom (merge_step into source) = FitsMember into × FitsMember source
+HasRoom (filter_step site id scheme field) = FitsMember site
+HasRoom (lookup_step site id field default) = FitsMember site
+HasRoom (cells_step site) = FitsMember site
+HasRoom (tell_step site) = FitsMember site
+HasRoom (post_step site told) = FitsMember site × FitsMember told
+HasRoom (deliver_step post) = FitsMember post
+
+-- a default that is some is a language
+abbrev pub IsDefault : Option (List ℕ) → Type 0
+IsDefault None = Unit {0}
+IsDefault (Some lang) = IsLang lang
+
+-- the text is that of the step; it passes the tests of a row at any place, and makes the step
+pub record IsRowOf (text : StepText) (step : Step) : Type 0 where
+  pub room : HasRoom text
+  pub fields : (k : ℕ) → AllPass (step_fields k text)
+  pub makes : Makes text step
+  pub written : text ≡ written_step step
+
+-- a draft grew by a row of the step
+abbrev pub WritesStep : Step → Written → Written → Type 0
+WritesStep step old new = (text : StepText) × IsRowOf text step × Adds old new (value_tokens (step_value text))

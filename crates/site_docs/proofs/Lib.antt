@@ -1,0 +1,15 @@
+pub mod AsWrittenLemmas
+pub mod DocumentsLemmas
+pub mod EnvelopeLemmas
+pub mod FieldsLemmas
+pub mod HeadersLemmas
+pub mod LowerLemmas
+pub mod ReadersLemmas
+pub mod RisingLemmas
+pub mod RoundTrip
+pub mod RowsLemmas
+pub mod SiteDocumentsLemmas
+pub mod TestsLemmas
+pub mod TextsLemmas
+pub mod WrittenRows
+pub mod WrittenTexts

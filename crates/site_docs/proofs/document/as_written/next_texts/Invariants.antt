@@ -1,0 +1,10 @@
+use Rattle.std.proofs.Common.{◌≡◌, ◌++◌, map, string_bytes, length}
+use Rattle.json.specs.Token.{string}
+use Rattle.site_docs.proofs.document.as_written.next_texts.Given as goal
+
+-- the texts that were read, and what is left
+abbrev pub invariant-texts : goal.invariant-texts
+invariant-texts l = l.fn.reader ≡ map string (map string_bytes l.texts.items) ++ l.reader
+
+abbrev pub decreases-texts : goal.decreases-texts
+decreases-texts l = length l.reader

@@ -1,0 +1,7 @@
+use Rattle.std.proofs.lemmas.Result.{err_from_is_err_and}
+use Rattle.site_docs.proofs.document.site_documents.delta_of_members.Goals as goal
+
+pub returns-in_err-addressee : goal.returns-in_err-addressee
+returns-in_err-addressee c =
+    let p = err_from_is_err_and c.from_residual.result c.from_residual.ensures.1 in
+    rw (p.1, p.2) c.in_err-addressee.ensures.err

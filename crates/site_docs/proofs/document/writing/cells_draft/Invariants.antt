@@ -1,0 +1,12 @@
+use Rattle.std.proofs.Common.{◌≡◌, ◌++◌}
+use Rattle.std.specs.List.{All}
+use Rattle.cata_core.specs.CellsLeft.{cells_left}
+use Rattle.cata_core.specs.Entries.{Entries}
+use Rattle.site_docs.specs.Documents.{cells_values}
+use Rattle.site_docs.specs.Texts.{HoldsCells}
+use Rattle.site_docs.specs.Valid.{IsKeptCell}
+use Rattle.site_docs.proofs.document.writing.cells_draft.Given as goal
+
+-- the cells that were written, and those that are left
+abbrev pub invariant-cells : goal.invariant-cells
+invariant-cells l = (done : Entries) × HoldsCells l.draft (cells_values done) × All IsKeptCell done × (done ++ cells_left l.id-iterator ≡ l.fn.cells)

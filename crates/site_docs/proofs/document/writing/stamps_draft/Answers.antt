@@ -1,0 +1,30 @@
+use Rattle.std.proofs.Common.{◌≡◌, arith, length, sym}
+use Rattle.std.proofs.Math.Seq.{take-length}
+use Rattle.cata_core.specs.Entries.{EntryKey}
+use Rattle.cell_core.specs.declared.stamp.Stamp.{Stamp}
+use Rattle.site_docs.specs.Valid.{IsKeptStamp}
+use Rattle.site_docs.proofs.DocumentsLemmas.{kept_next, some_at, stamp_more}
+use Rattle.site_docs.proofs.document.writing.stamps_draft.Goals as goal
+use Rattle.site_docs.proofs.document.writing.stamps_draft.Goals.{in-Some+in_ok-write_told}
+use Rattle.site_docs.proofs.document.writing.stamps_draft.Goals.{in_default}
+
+pub stamps-preserved : goal.stamps-preserved
+stamps-preserved c =
+    let stamps = c.args.summary.now.stamps in
+    elim c.match-nth.branch [
+      | in-Some+in_ok-write_told w ↦
+          let told : EntryKey × Stamp = ((w.in-Some.id.now, w.in-Some.lang.now), w.in-Some.stamp) in
+          let there = sym w.in-Some.ensures in
+          let wrote = w.in_ok-write_told.ensures in
+          record {
+            rows = rw w.draft-is (stamp_more c.stamps.draft w.write_told.new.out c.args.summary.now.owner stamps c.stamps.place told c.stamps.invariant.rows wrote.tokens there);
+            kept = kept_next IsKeptStamp stamps c.stamps.place told there c.stamps.invariant.kept wrote.kept;
+          }
+      | in_default w ↦ absurd (some_at stamps c.stamps.place (rw c.len-place-end.ensures.len at c.stamps-test.true) (sym w.in_default.ensures))
+    ]
+
+-- all stamps are written
+pub returns-clause-kept : goal.returns-clause-kept
+returns-clause-kept c =
+    let all : c.stamps.place ≡ length c.args.summary.now.stamps = omega arith in
+    record { each = rw (all, take-length) at c.stamps.invariant.kept; map = c.len-place-end.ensures.sorted }

@@ -1,0 +1,12 @@
+use Rattle.std.proofs.Common.{take}
+use Rattle.std.specs.List.{All}
+use Rattle.site_docs.specs.Documents.{stamps_values}
+use Rattle.site_docs.specs.Texts.{HoldsStamps}
+use Rattle.site_docs.specs.Valid.{IsKeptStamp}
+use Rattle.site_docs.proofs.document.writing.stamps_draft.Given as goal
+
+abbrev pub invariant-stamps : goal.invariant-stamps
+invariant-stamps l = record {
+  rows : HoldsStamps l.draft l.fn.summary.owner (stamps_values (take l.place l.fn.summary.stamps));
+  kept : All IsKeptStamp (take l.place l.fn.summary.stamps);
+}

@@ -1,0 +1,8 @@
+use Rattle.std.proofs.Common.{◌≡◌, map, take, string_bytes}
+use Rattle.std.specs.List.{filter_map}
+use Rattle.serde_json.specs.Find.{as_str}
+use Rattle.json_docs.specs.Reads.{seen}
+use Rattle.site_docs.proofs.row.fields.copied_texts.Given as goal
+
+abbrev pub invariant-values : goal.invariant-values
+invariant-values l = map string_bytes l.texts.items ≡ filter_map as_str (map seen (take l.value-index l.values))

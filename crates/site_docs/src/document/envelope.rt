@@ -1,0 +1,112 @@
+//! The parts of a document before and after its rows, written.
+ghost use Rattle.std.specs.Prelude.{◌≡◌, ◌∷◌, [], ◌++◌, ℕ, List, IfOk, IsUtf8, OnOk, codes};
+ghost use Rattle.json.specs.Print.{print};
+ghost use Rattle.json.specs.Token.{begin_object, end_object, begin_array, end_array, key, number, string};
+ghost use Rattle.serde_json.specs.Data.{Data};
+ghost use Rattle.site_docs.specs.Envelope.{name_tokens, version_tokens};
+ghost use Rattle.site_docs.specs.Texts.{Adds, HoldsCells, HoldsStamps, text};
+ghost use Rattle.site_docs.specs.Values.{delta_value, site_value, summary_value};
+
+use json::Writer;
+use json_docs::Doc;
+use std::alloc::{AllocError, Global};
+
+/// Opens a site's or a delta's document, with no row yet.
+pub fn open_cells(alloc: Global) -> Result<Writer, AllocError>
+    ensures { IfOk result (λ draft. HoldsCells draft []) }
+{
+    let mut draft = Writer::new(Vec::new(alloc));
+    draft.begin_object()?;
+    draft.key("cells")?;
+    draft.begin_array()?;
+    Ok(draft)
+}
+
+/// Closes the document of a site after its rows.
+pub fn close_site(draft: Writer, site: &str) -> Result<Doc, AllocError>
+    ensures text { (rows : List Data) → HoldsCells draft rows
+        → IfOk result (λ doc. doc ≡ text (site_value site.now rows)) }
+    ensures utf8 { IfOk result (λ doc. draft.before ≡ [] → IsUtf8 doc) }
+{
+    close_named(draft, "site", "site", site)
+}
+
+/// Closes the document of a delta after its rows.
+pub fn close_delta(draft: Writer, addressee: &str) -> Result<Doc, AllocError>
+    ensures text { (rows : List Data) → HoldsCells draft rows
+        → IfOk result (λ doc. doc ≡ text (delta_value addressee.now rows)) }
+    ensures utf8 { IfOk result (λ doc. draft.before ≡ [] → IsUtf8 doc) }
+{
+    close_named(draft, "delta", "to", addressee)
+}
+
+/// Opens a summary's document, with no row yet.
+pub fn open_stamps(alloc: Global, owner: &str) -> Result<Writer, AllocError>
+    ensures { IfOk result (λ draft. HoldsStamps draft owner.now []) }
+{
+    let mut draft = Writer::new(Vec::new(alloc));
+    draft.begin_object()?;
+    write_name(&mut draft, "kind", "summary")?;
+    write_name(&mut draft, "owner", owner)?;
+    draft.key("stamps")?;
+    draft.begin_array()?;
+    Ok(draft)
+}
+
+/// Closes the document of a summary after its rows.
+pub fn close_summary(draft: Writer) -> Result<Doc, AllocError>
+    ensures text { (owner : List ℕ) (rows : List Data) → HoldsStamps draft owner rows
+        → IfOk result (λ doc. doc ≡ text (summary_value owner rows)) }
+    ensures utf8 { IfOk result (λ doc. draft.before ≡ [] → IsUtf8 doc) }
+{
+    close_rows(draft)
+}
+
+// Closes the rows, and adds the version.
+fn close_rows(mut draft: Writer) -> Result<Doc, AllocError>
+    ensures text { IfOk result (λ doc. doc ≡ draft.before ++ (print (draft.tokens ++ end_array ∷ version_tokens) ++ 10 ∷ [])) }
+    ensures utf8 { IfOk result (λ doc. draft.before ≡ [] → IsUtf8 doc) }
+{
+    draft.end_array()?;
+    write_version(&mut draft)?;
+    finish(draft)
+}
+
+// Closes the rows, and adds the kind, a name and the version.
+fn close_named(mut draft: Writer, kind: &str, member: &str, name: &str) -> Result<Doc, AllocError>
+    ensures text { IfOk result (λ doc. doc ≡ draft.before ++ (print (draft.tokens ++ end_array ∷ (name_tokens (codes "kind") kind.now ++ (name_tokens member.now name.now ++ version_tokens))) ++ 10 ∷ [])) }
+    ensures utf8 { IfOk result (λ doc. draft.before ≡ [] → IsUtf8 doc) }
+{
+    draft.end_array()?;
+    write_name(&mut draft, "kind", kind)?;
+    write_name(&mut draft, member, name)?;
+    write_version(&mut draft)?;
+    finish(draft)
+}
+
+// Adds a member that is a text.
+fn write_name(draft: &mut Writer, member: &str, name: &str) -> Result<(), AllocError>
+    ensures { OnOk result (Adds draft.old draft.new (name_tokens member.now name.now)) }
+{
+    draft.key(member)?;
+    draft.string(name)
+}
+
+// Adds the version, and closes the document's object.
+fn write_version(draft: &mut Writer) -> Result<(), AllocError>
+    ensures { OnOk result (Adds draft.old draft.new version_tokens) }
+{
+    draft.key("version")?;
+    draft.u64(2)?;
+    draft.end_object()
+}
+
+/// The text with its line feed.
+pub fn finish(draft: Writer) -> Result<Doc, AllocError>
+    ensures text { IfOk result (λ doc. doc ≡ draft.before ++ (print draft.tokens ++ 10 ∷ [])) }
+    ensures utf8 { IfOk result (λ doc. draft.before ≡ [] → IsUtf8 doc) }
+{
+    let mut bytes = draft.into_inner();
+    bytes.push(b'\n')?;
+    Ok(Doc::from(bytes))
+}
