@@ -16,6 +16,9 @@ use Rattle.nego_core.specs.Item.{Item}
 use Rattle.nego_core.proofs.FieldLaws.{malformed_is_no_field}
 use Rattle.nego_core.proofs.FieldUnique.{one_items}
 use Rattle.nego_core.proofs.LookupCandidatesLaws.{one_lookup}
+use Rattle.nego_core.proofs.WideningLemmas.{one_widened}
+use Rattle.nego_core.specs.declared.widening.Widening.{Widening}
+use Rattle.nego_core.specs.declared.widening.Widening.TheVariants.{Off, By}
 use Rattle.nego_core.specs.declared.fault.NegoFault.{NegoFault}
 use Rattle.nego_core.specs.declared.field.Malformed.{Malformed}
 use Rattle.nego_core.specs.declared.field.Malformed.TheVariants.{Refused, PassedOver}
@@ -24,7 +27,7 @@ use Rattle.nego_core.specs.declared.fault.NegoFault.TheVariants as nego
 use Rattle.nego_core.specs.Field.{IsField, RefusesField}
 use Rattle.front_core.specs.Faults.{field_fault, language_fault}
 use Rattle.front_core.specs.Fields.{FieldText, ReadsAs, RefusesRanges, Text}
-use Rattle.front_core.specs.Picks.{Finds, IsPicked, IsPickLine, RefusesPick, pick_line}
+use Rattle.front_core.specs.Picks.{Finds, IsPicked, IsPickLine, LooksUp, RefusesPick, pick_line}
 use Rattle.front_core.specs.Preferences.{IsDefault, RefusesDefault}
 use Rattle.front_core.specs.Tags.{HasNoLang, RefusesTags, SpellLangs}
 use Rattle.front_core.proofs.PickLemmas.{one_lang}
@@ -52,29 +55,44 @@ one_text a b some =
     let same : pieces a ≡ pieces b = cc in
     sym (joined-pieces a) ∙ ap joined same ∙ joined-pieces b
 
-one_found : (list : List Item) (langs : List (List ℕ)) (default : Option (List ℕ)) (a b : Finding) → Finds list langs default a → Finds list langs default b → a ≡ b
-one_found list langs default (Matched x) (Matched y) f g = ap Matched (one_text x y (one_lookup list (is_among langs) (Some (pieces x)) (Some (pieces y)) f g))
-one_found list langs default (Matched x) (Default y) f g = let bad : Some (pieces x) ≡ None = one_lookup list (is_among langs) (Some (pieces x)) None f g.0 in cc
-one_found list langs default (Matched x) Nothing f g = let bad : Some (pieces x) ≡ None = one_lookup list (is_among langs) (Some (pieces x)) None f g.0 in cc
-one_found list langs default (Default x) (Matched y) f g = let bad : Some (pieces y) ≡ None = one_lookup list (is_among langs) (Some (pieces y)) None g f.0 in cc
-one_found list langs default (Default x) (Default y) f g =
+one_looked : (by : Widening) (list : List Item) (langs : List (List ℕ)) (a b : Option (List (List ℕ)))
+    → LooksUp by list langs a → LooksUp by list langs b → a ≡ b
+one_looked Off list langs a b f g = one_lookup list (is_among langs) a b f g
+one_looked (By scheme) list langs a b f g = one_widened scheme list langs a b f g
+
+one_found : (by : Widening) (list : List Item) (langs : List (List ℕ)) (default : Option (List ℕ))
+    (a b : Finding) → Finds by list langs default a → Finds by list langs default b → a ≡ b
+one_found by list langs default (Matched x) (Matched y) f g =
+    ap Matched (one_text x y (one_looked by list langs (Some (pieces x)) (Some (pieces y)) f g))
+one_found by list langs default (Matched x) (Default y) f g =
+    let bad : Some (pieces x) ≡ None = one_looked by list langs (Some (pieces x)) None f g.0 in cc
+one_found by list langs default (Matched x) Nothing f g =
+    let bad : Some (pieces x) ≡ None = one_looked by list langs (Some (pieces x)) None f g.0 in cc
+one_found by list langs default (Default x) (Matched y) f g =
+    let bad : Some (pieces y) ≡ None = one_looked by list langs (Some (pieces y)) None g f.0 in cc
+one_found by list langs default (Default x) (Default y) f g =
     let some : Some x ≡ Some y = sym f.1 ∙ g.1 in
     let same : x ≡ y = cc in
     ap Default same
-one_found list langs default (Default x) Nothing f g = absurd (g.1 (subst (λ d. HasOpenDefault list (is_among langs) d) (sym f.1) f.2))
-one_found list langs default Nothing (Matched y) f g = let bad : Some (pieces y) ≡ None = one_lookup list (is_among langs) (Some (pieces y)) None g f.0 in cc
-one_found list langs default Nothing (Default y) f g = absurd (f.1 (subst (λ d. HasOpenDefault list (is_among langs) d) (sym g.1) g.2))
-one_found list langs default Nothing Nothing f g = refl
+one_found by list langs default (Default x) Nothing f g =
+    absurd (g.1 (subst (λ d. HasOpenDefault list (is_among langs) d) (sym f.1) f.2))
+one_found by list langs default Nothing (Matched y) f g =
+    let bad : Some (pieces y) ≡ None = one_looked by list langs (Some (pieces y)) None g f.0 in cc
+one_found by list langs default Nothing (Default y) f g =
+    absurd (f.1 (subst (λ d. HasOpenDefault list (is_among langs) d) (sym g.1) g.2))
+one_found by list langs default Nothing Nothing f g = refl
 
 one_picked : (field : FieldText) (word : Option Text) (tags : List Text) (a b : Finding) → IsPicked field word tags a → IsPicked field word tags b → a ≡ b
 one_picked field word tags a b f g =
     let defaults : f.default ≡ g.default = one_default word f.default g.default f.default_ok g.default_ok in
     let lists : f.list ≡ g.list = one_items field.scheme field.malformed field.text f.list g.list f.list_ok.1 g.list_ok.1 in
     let langs : f.langs ≡ g.langs = one_langs tags f.langs g.langs f.langs_ok g.langs_ok in
-    let found : Finds g.list g.langs g.default a =
-    subst (λ (list : List Item). Finds list g.langs g.default a) lists
-    (subst (λ (given : List (List ℕ)). Finds f.list given g.default a) langs (subst (λ (d : Option (List ℕ)). Finds f.list f.langs d a) defaults f.found_ok)) in
-    one_found g.list g.langs g.default a b found g.found_ok
+    let by = field.widening in
+    let found : Finds by g.list g.langs g.default a =
+    subst (λ (list : List Item). Finds by list g.langs g.default a) lists
+    (subst (λ (given : List (List ℕ)). Finds by f.list given g.default a) langs
+    (subst (λ (d : Option (List ℕ)). Finds by f.list f.langs d a) defaults f.found_ok)) in
+    one_found by g.list g.langs g.default a b found g.found_ok
 
 pub one_pick_line : (field : FieldText) (word : Option Text) (tags : List Text) (a b : List ℕ) → IsPickLine field word tags a → IsPickLine field word tags b → a ≡ b
 one_pick_line field word tags a b f g = f.2 ∙ ap pick_line (one_picked field word tags f.0 g.0 f.1 g.1) ∙ sym g.2

@@ -11,8 +11,8 @@ use Rattle.cell_core.specs.declared.stamp.Stamp.{Stamp}
 use Rattle.cata_core.specs.Entries.{EntryKey, key_cmp}
 use Rattle.cata_core.specs.Latest.{latest_of}
 use Rattle.cata_core.specs.Sites.{RefusesEdit, SiteState}
-use Rattle.docs_core.specs.Faults.{of_no_document}
-use Rattle.docs_core.specs.declared.fault.DocCause.TheVariants.{NotUtf8}
+use Rattle.json_docs.specs.Faults.{of_no_document}
+use Rattle.json_docs.specs.declared.fault.DocCause.TheVariants.{NotUtf8}
 use Rattle.front_core.specs.Faults.{IsOf, cell_fault, language_fault, site_fault}
 use Rattle.front_core.specs.Fields.{Text}
 use Rattle.front_core.specs.Questions.{IsId, RefusesId}
@@ -31,7 +31,8 @@ HasKey id lang = IsId id × (spelled : Text) × SpellsLang lang spelled
 
 -- the id is refused first, and then the language
 abbrev pub RefusesKey : Text → Text → FrontFault → Type 0
-RefusesKey id lang fault = RefusesId id fault ⊎ (IsId id × IsOf language_fault (RefusesLang lang) fault)
+RefusesKey id lang fault = RefusesId id fault
+    ⊎ (IsId id × IsOf language_fault (RefusesLang lang) fault)
 
 -- the bytes are the text of a label
 abbrev pub HasLabel : Text → Type 0
@@ -51,11 +52,13 @@ RefusesLabelText text fault =
 -- ---- what is asked
 
 abbrev pub IsPut : Text → Text → Text → Change → Type 0
-IsPut id lang text change = IsKey id lang (change.id, change.lang) × HasLabel text × (change.label ≡ Some (text ∷ []))
+IsPut id lang text change = IsKey id lang (change.id, change.lang) × HasLabel text
+    × (change.label ≡ Some (text ∷ []))
 
 -- the id is refused first, then the language, and then the text
 abbrev pub RefusesPut : Text → Text → Text → FrontFault → Type 0
-RefusesPut id lang text fault = RefusesKey id lang fault ⊎ (HasKey id lang × RefusesLabelText text fault)
+RefusesPut id lang text fault = RefusesKey id lang fault
+    ⊎ (HasKey id lang × RefusesLabelText text fault)
 
 abbrev pub IsDelete : Text → Text → Change → Type 0
 IsDelete id lang change = IsKey id lang (change.id, change.lang) × (change.label ≡ None)
@@ -66,7 +69,12 @@ IsDelete id lang change = IsKey id lang (change.id, change.lang) × (change.labe
 abbrev pub IsChanged : ℕ → Change → SiteState → SiteState → Type 0
 IsChanged now change old new =
     (stamp : Stamp) × IsNext (latest_of old.cells) now old.name stamp
-    × (new ≡ record { name = old.name; cells = put key_cmp (change.id, change.lang) (record { stamp = stamp; label = change.label }) old.cells })
+    × (new ≡ record {
+      name = old.name;
+      cells =
+          put key_cmp (change.id, change.lang) (record { stamp = stamp; label = change.label })
+          old.cells;
+    })
 
 -- the site has no next stamp, or memory ended
 abbrev pub RefusesChange : SiteState → ℕ → FrontFault → Type 0

@@ -3,9 +3,9 @@ use Rattle.std.specs.Prelude.{◌≡◌}
 use Rattle.cata_core.specs.Deltas.{delta_of, summary_of}
 use Rattle.cata_core.specs.Sites.{SiteState}
 use Rattle.cata_core.specs.Summary.{SummaryState}
-use Rattle.docs_core.specs.Checks.{OrMemory}
-use Rattle.docs_core.specs.ReadsAs.{IsDeltaText, IsOfDocument, IsSiteText, IsSummaryText}
-use Rattle.docs_core.specs.ReadsAs.{ReadsAsSummary, RefusesSummary, no_memory}
+use Rattle.json_docs.specs.Checks.{OrMemory}
+use Rattle.site_docs.specs.ReadsAs.{IsDeltaText, IsOfDocument, IsSiteText, IsSummaryText}
+use Rattle.site_docs.specs.ReadsAs.{ReadsAsSummary, RefusesSummary, no_memory}
 use Rattle.docs_core.specs.Status.{status_line}
 use Rattle.front_core.specs.Faults.{IsOf, document_fault}
 use Rattle.front_core.specs.Fields.{Text}
@@ -21,7 +21,11 @@ abbrev pub IsDocument : SiteState → Answer → Type 0
 IsDocument site = IsFound (IsSiteText site)
 
 abbrev pub IsSummary : SiteState → Answer → Type 0
-IsSummary site = IsFound (IsSummaryText (record { owner = site.name; stamps = summary_of site.cells }))
+IsSummary site = IsFound (IsSummaryText (record {
+  owner = site.name;
+  stamps =
+      summary_of site.cells;
+}))
 
 abbrev pub IsStatus : SiteState → Answer → Type 0
 IsStatus site = IsFound (λ text. text ≡ status_line site)
@@ -30,8 +34,13 @@ IsStatus site = IsFound (λ text. text ≡ status_line site)
 abbrev pub IsDelta : SiteState → Text → Answer → Type 0
 IsDelta site bytes answer =
     (summary : SummaryState) × ReadsAsSummary bytes summary
-    × IsFound (IsDeltaText (record { addressee = summary.owner; cells = delta_of site.cells summary.stamps })) answer
+    × IsFound (IsDeltaText (record {
+      addressee = summary.owner;
+      cells =
+          delta_of site.cells summary.stamps;
+    })) answer
 
 -- the bytes are no document of a summary, or memory ran out
 abbrev pub RefusesDelta : Text → FrontFault → Type 0
-RefusesDelta bytes = IsOf document_fault (OrMemory no_memory (IsOfDocument 1 (RefusesSummary bytes)))
+RefusesDelta bytes = IsOf document_fault (OrMemory no_memory
+    (IsOfDocument 1 (RefusesSummary bytes)))

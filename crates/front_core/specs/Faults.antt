@@ -11,12 +11,12 @@ use Rattle.cell_core.specs.Numbers.{number_of as cell_number}
 use Rattle.cell_core.specs.declared.fault.CellFault.{CellFault}
 use Rattle.cell_core.specs.declared.fault.CellFault.TheVariants as cell
 use Rattle.cata_core.specs.declared.cata_fault.CataFault.{CataFault}
-use Rattle.docs_core.specs.Faults as doc
-use Rattle.docs_core.specs.declared.fault.DocCause.{DocCause}
-use Rattle.docs_core.specs.declared.fault.DocCause.TheVariants as cause
-use Rattle.docs_core.specs.declared.fault.DocFault.{DocFault}
-use Rattle.docs_core.specs.declared.fault.FieldFault.{FieldFault}
-use Rattle.docs_core.specs.declared.fault.FieldFault.TheVariants as row
+use Rattle.json_docs.specs.Faults as doc
+use Rattle.json_docs.specs.declared.fault.DocCause.{DocCause}
+use Rattle.json_docs.specs.declared.fault.DocCause.TheVariants as cause
+use Rattle.json_docs.specs.declared.fault.DocFault.{DocFault}
+use Rattle.json_docs.specs.declared.fault.FieldFault.{FieldFault}
+use Rattle.json_docs.specs.declared.fault.FieldFault.TheVariants as row
 use Rattle.front_core.specs.declared.fault.FrontFault.{FrontFault}
 use Rattle.front_core.specs.declared.fault.FrontFault.TheVariants.{Cell, Language, Field, Document}
 use Rattle.front_core.specs.declared.fault.FrontFault.TheVariants.{NoMemory}

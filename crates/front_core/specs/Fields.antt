@@ -5,6 +5,7 @@ use Rattle.nego_core.specs.Item.{Item}
 use Rattle.nego_core.specs.declared.fault.NegoFault.{NegoFault}
 use Rattle.nego_core.specs.declared.field.Malformed.{Malformed}
 use Rattle.nego_core.specs.declared.scheme.Scheme.{Scheme}
+use Rattle.nego_core.specs.declared.widening.Widening.{Widening}
 use Rattle.front_core.specs.declared.field.Field.{Field}
 
 abbrev pub Text : Type 0
@@ -13,17 +14,24 @@ Text = List ℕ
 pub record FieldText : Type 0 where
   pub scheme : Scheme
   pub malformed : Malformed
+  pub widening : Widening
   pub text : Text
 
 -- what is handed in, as values
 abbrev pub field_text : Field → FieldText
-field_text field = record { scheme = field.scheme; malformed = field.malformed; text = field.text.now }
+field_text field = record {
+  scheme = field.scheme;
+  malformed = field.malformed;
+  widening = field.widening;
+  text = field.text.now;
+}
 
 -- the list that it is read as: an Accept-Language field (RFC 9110 section 12.5.4), or extended
 -- ranges without weights (RFC 4647 section 2.2), whose malformed elements refuse it or are passed
 -- over
 abbrev pub ReadsAs : FieldText → List Item → Type 0
-ReadsAs field list = (length field.text ≤ 65535) × IsField field.scheme field.malformed field.text list
+ReadsAs field list = (length field.text ≤ 65535)
+    × IsField field.scheme field.malformed field.text list
 
 abbrev pub HasList : FieldText → Type 0
 HasList field = (list : List Item) × ReadsAs field list

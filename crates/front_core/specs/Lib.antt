@@ -7,5 +7,9 @@ pub mod Lines
 pub mod Picks
 pub mod Preferences
 pub mod Questions
+pub mod Refusals
 pub mod Site
+pub mod TagFilters
 pub mod Tags
+pub mod WholeEdits
+pub mod Work

@@ -1,4 +1,5 @@
--- A pick: lookup (RFC 4647 section 3.4) of a priority list over the languages that tags spell.
+-- A pick: lookup (RFC 4647 section 3.4), or widened lookup, of a priority list over the languages
+-- that tags spell.
 use Rattle.std.specs.Prelude.{◌≡◌, ◌<◌, ◌⊎◌, ℕ, List, ◌++◌, Option, None, Some, codes, length}
 use Rattle.std.specs.Prelude.{slice_get}
 use Rattle.lang_core.specs.Lang.{SpellsLang}
@@ -7,6 +8,9 @@ use Rattle.nego_core.specs.Choosing.{HasOpenDefault, IsOpenDefault}
 use Rattle.nego_core.specs.LangSet.{is_among}
 use Rattle.nego_core.specs.Item.{Item}
 use Rattle.nego_core.specs.LookupCandidates.{IsFirst, IsLookedUp}
+use Rattle.nego_core.specs.Widening.{IsLookedUpWidened}
+use Rattle.nego_core.specs.declared.widening.Widening.{Widening}
+use Rattle.nego_core.specs.declared.widening.Widening.TheVariants.{Off, By}
 use Rattle.nego_core.specs.declared.lookup_places.Found.{Found}
 use Rattle.nego_core.specs.declared.lookup_places.Found.TheVariants as found
 use Rattle.front_core.specs.Faults.{IsOf, language_fault}
@@ -22,27 +26,38 @@ use Rattle.front_core.specs.declared.tag_pick.Picked.TheVariants as picked
 use Rattle.front_core.specs.declared.words.Finding.{Finding}
 use Rattle.front_core.specs.declared.words.Finding.TheVariants.{Matched, Default, Nothing}
 
--- RFC 4647 section 3.4: what lookup finds over languages, by its text, or the default where it
--- finds none
-abbrev pub Finds : List Item → List (List ℕ) → Option (List ℕ) → Finding → Type 0
-Finds list langs default (Matched lang) = IsLookedUp list (is_among langs) (Some (pieces lang))
-Finds list langs default (Default lang) = IsLookedUp list (is_among langs) None × (default ≡ Some lang) × IsOpenDefault list (is_among langs) lang
-Finds list langs default Nothing = IsLookedUp list (is_among langs) None × ¬ HasOpenDefault list (is_among langs) default
+-- what lookup (RFC 4647 section 3.4), or widened lookup (project rule), finds over languages
+abbrev pub LooksUp : Widening → List Item → List (List ℕ) → Option (List (List ℕ)) → Type 0
+LooksUp Off list langs = IsLookedUp list (is_among langs)
+LooksUp (By scheme) list langs = IsLookedUpWidened scheme list langs
+
+-- the same by its text, or the default where it finds none
+abbrev pub Finds : Widening → List Item → List (List ℕ) → Option (List ℕ) → Finding → Type 0
+Finds widening list langs default (Matched lang) =
+    LooksUp widening list langs (Some (pieces lang))
+Finds widening list langs default (Default lang) =
+    LooksUp widening list langs None × (default ≡ Some lang)
+    × IsOpenDefault list (is_among langs) lang
+Finds widening list langs default Nothing =
+    LooksUp widening list langs None × ¬ HasOpenDefault list (is_among langs) default
 
 -- what a field finds among the tags
-pub record IsPicked (field : FieldText) (word : Option Text) (tags : List Text) (found : Finding) : Type 0 where
+pub record IsPicked (field : FieldText) (word : Option Text) (tags : List Text) (found : Finding) :
+    Type 0 where
   pub default : Option (List ℕ)
   pub list : List Item
   pub langs : List (List ℕ)
   pub default_ok : IsDefault word default
   pub list_ok : ReadsAs field list
   pub langs_ok : SpellLangs tags langs
-  pub found_ok : Finds list langs default found
+  pub found_ok : Finds field.widening list langs default found
 
 -- the first of the tags that spell the language that is found
 abbrev pub IsPickedTag : FieldText → Option Text → List Text → Picked → Type 0
-IsPickedTag field word tags (picked.Matched tag) = (lang : List ℕ) × IsPicked field word tags (Matched lang) × IsFirst (λ t. SpellsLang t lang) tags tag.now
-IsPickedTag field word tags (picked.Default tag) = (lang : List ℕ) × IsPicked field word tags (Default lang) × IsFirst (λ t. SpellsLang t lang) tags tag.now
+IsPickedTag field word tags (picked.Matched tag) = (lang : List ℕ)
+    × IsPicked field word tags (Matched lang) × IsFirst (λ t. SpellsLang t lang) tags tag.now
+IsPickedTag field word tags (picked.Default tag) = (lang : List ℕ)
+    × IsPicked field word tags (Default lang) × IsFirst (λ t. SpellsLang t lang) tags tag.now
 IsPickedTag field word tags picked.Nothing = IsPicked field word tags Nothing
 
 -- there is a tag at the place that is found
@@ -60,7 +75,8 @@ IsTagAt _ _ _ = ⊥
 
 -- the default is refused first, then the field, and then the tags
 abbrev pub RefusesPick : FieldText → Option Text → List Text → FrontFault → Type 0
-RefusesPick field word tags fault = RefusesPreferences field word fault ⊎ (HasPreferences field word × IsOf language_fault (RefusesTags tags) fault)
+RefusesPick field word tags fault = RefusesPreferences field word fault
+    ⊎ (HasPreferences field word × IsOf language_fault (RefusesTags tags) fault)
 
 -- the pick line (project rule)
 abbrev pub pick_line : Finding → List ℕ
@@ -76,8 +92,10 @@ pick_outcome Nothing = outcome.Nothing
 
 -- the line that tells what is picked, and whether anything is
 abbrev pub AnswersPick : FieldText → Option Text → List Text → Answer → Type 0
-AnswersPick field word tags answer = (found : Finding) × IsPicked field word tags found × (answer.text ≡ pick_line found) × (answer.outcome ≡ pick_outcome found)
+AnswersPick field word tags answer = (found : Finding) × IsPicked field word tags found
+    × (answer.text ≡ pick_line found) × (answer.outcome ≡ pick_outcome found)
 
 -- the line alone
 abbrev pub IsPickLine : FieldText → Option Text → List Text → List ℕ → Type 0
-IsPickLine field word tags line = (found : Finding) × IsPicked field word tags found × (line ≡ pick_line found)
+IsPickLine field word tags line = (found : Finding) × IsPicked field word tags found
+    × (line ≡ pick_line found)

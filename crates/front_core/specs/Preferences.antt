@@ -22,7 +22,8 @@ RefusesDefault None fault = ⊥
 RefusesDefault (Some word) fault = RefusesLang word fault
 
 abbrev pub ArePreferences : FieldText → Option Text → Preferences → Type 0
-ArePreferences field word asked = ReadsAs field asked.list × IsDefault word asked.default
+ArePreferences field word asked =
+    ReadsAs field asked.list × IsDefault word asked.default × (asked.widening ≡ field.widening)
 
 abbrev pub HasPreferences : FieldText → Option Text → Type 0
 HasPreferences field word = HasDefault word × HasList field

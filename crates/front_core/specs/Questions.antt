@@ -2,16 +2,17 @@
 use Rattle.std.specs.Prelude.{◌≡◌, ◌≤◌, ◌⊎◌, ℕ, Bool, List, Option, None, Some, false, true, length}
 use Rattle.std.specs.Prelude.{option_map, slice_get}
 use Rattle.std.specs.Str.{IsUtf8}
-use Rattle.cata_core.specs.Asking.{IsLookupAnswer}
+use Rattle.cata_core.specs.Asking.{IsLookupAnswerBy}
 use Rattle.cata_core.specs.Entries.{Entries}
 use Rattle.cata_core.specs.declared.reply.Reply.{Reply}
 use Rattle.cell_core.specs.MessageIds.{IsMessageId}
 use Rattle.cell_core.specs.declared.fault.CellFault.{CellFault}
 use Rattle.cell_core.specs.declared.fault.CellFault.TheVariants as cell
-use Rattle.docs_core.specs.Asks.{Answers}
-use Rattle.docs_core.specs.Bundled.{IsBundle}
-use Rattle.docs_core.specs.LangMapTexts.{AreWritten}
-use Rattle.docs_core.specs.LangMaps.{Labelled}
+use Rattle.map_docs.specs.LangMapTexts.{AreWritten}
+use Rattle.map_docs.specs.LangMaps.{Labelled}
+use Rattle.docs_core.specs.Asks.{Answers, is_found as is_reply}
+use Rattle.docs_core.specs.Bundled.{IsBundleBy}
+use Rattle.docs_core.specs.Lines.{reply_line}
 use Rattle.docs_core.specs.LooksUp.{answered}
 use Rattle.docs_core.specs.declared.call.asking.Ask.TheVariants as ask
 use Rattle.front_core.specs.Faults.{IsOf, cell_fault, field_fault}
@@ -50,30 +51,42 @@ RefusesId id = IsOf cell_fault (RefusesIdText id)
 -- ---- what is asked
 
 abbrev pub IsLookup : Text → FieldText → Option Text → Lookup → Type 0
-IsLookup id field word asked = IsId id × (asked.id ≡ id) × ArePreferences field word asked.preferences
+IsLookup id field word asked = IsId id × (asked.id ≡ id)
+    × ArePreferences field word asked.preferences
 
 abbrev pub HasLookup : Text → FieldText → Option Text → Type 0
 HasLookup id field word = IsId id × HasPreferences field word
 
 -- the id is refused first, then the default, and then the field
 abbrev pub RefusesLookup : Text → FieldText → Option Text → FrontFault → Type 0
-RefusesLookup id field word fault = RefusesId id fault ⊎ (IsId id × RefusesPreferences field word fault)
+RefusesLookup id field word fault = RefusesId id fault
+    ⊎ (IsId id × RefusesPreferences field word fault)
 
 abbrev pub IsFilter : Text → FieldText → Filter → Type 0
-IsFilter id field asked = IsId id × (asked.id ≡ id) × (asked.scheme ≡ field.scheme) × ReadsAs field asked.list
+IsFilter id field asked = IsId id × (asked.id ≡ id) × (asked.scheme ≡ field.scheme)
+    × ReadsAs field asked.list
 
 abbrev pub HasFilter : Text → FieldText → Type 0
 HasFilter id field = IsId id × HasList field
 
 -- the id is refused first, and then the field
 abbrev pub RefusesFilter : Text → FieldText → FrontFault → Type 0
-RefusesFilter id field fault = RefusesId id fault ⊎ (IsId id × IsOf field_fault (RefusesRanges field) fault)
+RefusesFilter id field fault = RefusesId id fault
+    ⊎ (IsId id × IsOf field_fault (RefusesRanges field) fault)
 
 -- ---- what answers it, over the cells of a site
 
--- the line of what lookup finds (RFC 4647 section 3.4) among the live labels of the message
+-- what lookup (RFC 4647 section 3.4), or widened lookup, finds among the live labels of the message
+abbrev pub IsReply : Entries → Lookup → Reply → Type 0
+IsReply cells asked reply =
+    IsLookupAnswerBy asked.preferences.widening cells asked.id asked.preferences.list
+    asked.preferences.default reply
+
+-- its line
 abbrev pub AnswersLookup : Entries → Lookup → Answer → Type 0
-AnswersLookup cells asked answer = Answers cells asked.id (ask.Lookup asked.preferences.list asked.preferences.default) answer.text (is_found answer.outcome)
+AnswersLookup cells asked answer =
+    (reply : Reply) × IsReply cells asked reply × (answer.text ≡ reply_line reply)
+    × (is_found answer.outcome ≡ is_reply reply)
 
 -- the texts of the label that was answered
 abbrev pub texts_of : Reply → Option (List Text)
@@ -82,41 +95,54 @@ texts_of reply = option_map (λ found. found.1) (answered reply)
 -- what stands at a place of these texts
 abbrev pub IsTextAt : ℕ → Option (List Text) → LabelText → Type 0
 IsTextAt place None label.Nothing = Unit {0}
-IsTextAt place (Some texts) (label.Found text count) = (slice_get texts place ≡ Some text.now) × (count ≡ length texts)
+IsTextAt place (Some texts) (label.Found text count) = (slice_get texts place ≡ Some text.now)
+    × (count ≡ length texts)
 IsTextAt place (Some texts) (label.PastEnd count) = (length texts ≤ place) × (count ≡ length texts)
 IsTextAt _ _ _ = ⊥
 
 -- the text at a place of the label that lookup finds
 abbrev pub AnswersText : Entries → Lookup → ℕ → LabelText → Type 0
-AnswersText cells asked place text = (reply : Reply) × IsLookupAnswer cells asked.id asked.preferences.list asked.preferences.default reply × IsTextAt place (texts_of reply) text
+AnswersText cells asked place text =
+    (reply : Reply) × IsReply cells asked reply × IsTextAt place (texts_of reply) text
 
 -- the lines of the live labels of the message that the list takes (RFC 4647 section 3.3)
 abbrev pub AnswersFilter : Entries → Filter → Answer → Type 0
-AnswersFilter cells asked answer = Answers cells asked.id (ask.Filter asked.scheme asked.list) answer.text (is_found answer.outcome)
+AnswersFilter cells asked answer = Answers cells asked.id (ask.Filter asked.scheme asked.list)
+    answer.text (is_found answer.outcome)
 
 -- the language maps of the labels that lookup finds, one for each message at most
 abbrev pub AnswersBundle : Entries → Preferences → Answer → Type 0
-AnswersBundle cells asked answer = (labels : List Labelled) × IsBundle cells asked.list asked.default labels × AreWritten labels answer.text (is_found answer.outcome)
+AnswersBundle cells asked answer =
+    (labels : List Labelled)
+    × IsBundleBy asked.widening cells asked.list asked.default labels
+    × AreWritten labels answer.text (is_found answer.outcome)
 
 -- ---- asked and answered at once: memory may end before the answer is written
 
 abbrev pub IsLookupLine : Entries → Text → FieldText → Option Text → Answer → Type 0
-IsLookupLine cells id field word answer = (asked : Lookup) × IsLookup id field word asked × AnswersLookup cells asked answer
+IsLookupLine cells id field word answer = (asked : Lookup) × IsLookup id field word asked
+    × AnswersLookup cells asked answer
 
 abbrev pub IsLookupText : Entries → Text → FieldText → Option Text → ℕ → LabelText → Type 0
-IsLookupText cells id field word place text = (asked : Lookup) × IsLookup id field word asked × AnswersText cells asked place text
+IsLookupText cells id field word place text = (asked : Lookup) × IsLookup id field word asked
+    × AnswersText cells asked place text
 
 abbrev pub RefusesLookupLine : Text → FieldText → Option Text → FrontFault → Type 0
-RefusesLookupLine id field word fault = RefusesLookup id field word fault ⊎ (HasLookup id field word × (fault ≡ NoMemory))
+RefusesLookupLine id field word fault = RefusesLookup id field word fault
+    ⊎ (HasLookup id field word × (fault ≡ NoMemory))
 
 abbrev pub IsFilterLines : Entries → Text → FieldText → Answer → Type 0
-IsFilterLines cells id field answer = (asked : Filter) × IsFilter id field asked × AnswersFilter cells asked answer
+IsFilterLines cells id field answer = (asked : Filter) × IsFilter id field asked
+    × AnswersFilter cells asked answer
 
 abbrev pub RefusesFilterLines : Text → FieldText → FrontFault → Type 0
-RefusesFilterLines id field fault = RefusesFilter id field fault ⊎ (HasFilter id field × (fault ≡ NoMemory))
+RefusesFilterLines id field fault = RefusesFilter id field fault
+    ⊎ (HasFilter id field × (fault ≡ NoMemory))
 
 abbrev pub AreBundleMaps : Entries → FieldText → Option Text → Answer → Type 0
-AreBundleMaps cells field word answer = (asked : Preferences) × ArePreferences field word asked × AnswersBundle cells asked answer
+AreBundleMaps cells field word answer = (asked : Preferences) × ArePreferences field word asked
+    × AnswersBundle cells asked answer
 
 abbrev pub RefusesBundle : FieldText → Option Text → FrontFault → Type 0
-RefusesBundle field word fault = RefusesPreferences field word fault ⊎ (HasPreferences field word × (fault ≡ NoMemory))
+RefusesBundle field word fault = RefusesPreferences field word fault
+    ⊎ (HasPreferences field word × (fault ≡ NoMemory))

@@ -4,8 +4,8 @@ use Rattle.std.specs.Str.{IsUtf8}
 use Rattle.cata_core.specs.Sites.{SiteState}
 use Rattle.cell_core.specs.SiteNames.{IsSiteName}
 use Rattle.cell_core.specs.declared.fault.CellFault.TheVariants.{SiteName}
-use Rattle.docs_core.specs.Checks.{OrMemory}
-use Rattle.docs_core.specs.ReadsAs.{IsOfDocument, RefusesSite, no_memory}
+use Rattle.json_docs.specs.Checks.{OrMemory}
+use Rattle.site_docs.specs.ReadsAs.{IsOfDocument, RefusesSite, no_memory}
 use Rattle.front_core.specs.Faults.{IsOf, document_fault}
 use Rattle.front_core.specs.declared.fault.FrontFault.{FrontFault}
 use Rattle.front_core.specs.declared.fault.FrontFault.TheVariants.{Cell}

@@ -31,7 +31,8 @@ impl Change {
     /// Refused are the id first (10), then the language (1 to 4), then the text (18 where it is not
     /// UTF-8, 11 where it is too long). Out of memory (26) may come before a later refusal.
     pub fn put(alloc: Global, id: &[u8], lang: &[u8], text: &[u8]) -> Result<Change, FrontFault>
-        ensures { MatchResult result (IsPut id.now lang.now text.now) (RefusesPut id.now lang.now text.now) }
+        ensures { MatchResult result (IsPut id.now lang.now text.now)
+            (RefusesPut id.now lang.now text.now) }
     {
         let key = read_key(alloc, id, lang)?;
         let label = read_label(alloc, text)?;
@@ -84,7 +85,8 @@ struct Key {
 
 /// Reads the key of a label.
 fn read_key(alloc: Global, id: &[u8], lang: &[u8]) -> Result<Key, FrontFault>
-    ensures { MatchResult result (λ key. IsKey id.now lang.now (key.id, key.lang)) (RefusesKey id.now lang.now) }
+    ensures { MatchResult result (λ key. IsKey id.now lang.now (key.id, key.lang))
+        (RefusesKey id.now lang.now) }
 {
     let id = read_id(alloc, id)?;
     let lang = Lang::parse(alloc, lang)?;
@@ -93,7 +95,8 @@ fn read_key(alloc: Global, id: &[u8], lang: &[u8]) -> Result<Key, FrontFault>
 
 /// The label of this one text.
 fn read_label(alloc: Global, text: &[u8]) -> Result<Label, FrontFault>
-    ensures { MatchResult result (λ label. HasLabel text.now × (label ≡ text.now ∷ [])) (RefusesLabelText text.now) }
+    ensures { MatchResult result (λ label. HasLabel text.now
+        × (label ≡ text.now ∷ [])) (RefusesLabelText text.now) }
 {
     let text = match std::str::from_utf8(text) {
         Ok(text) => String::from_str(alloc, text)?,

@@ -1,11 +1,12 @@
 //! Edits of an open site, read and made at once.
 ghost use Rattle.std.specs.Prelude.{◌≡◌, IfErr, OnErr, OnOk};
-ghost use Rattle.front_core.specs.Editing.{IsDeleted, IsMerged, IsPutInto, RefusesDelete};
-ghost use Rattle.front_core.specs.Editing.{RefusesMerge, RefusesPutInto};
+ghost use Rattle.front_core.specs.Editing.{IsDeleted, IsMerged, IsPutInto, IsTaken, RefusesDelete};
+ghost use Rattle.front_core.specs.Editing.{RefusesMerge, RefusesPutInto, RefusesTake};
 
 use crate::change::Change;
 use crate::fault::FrontFault;
 use cata_core::Site;
+use docs_core::read_delta_until;
 use std::alloc::Global;
 
 /// Puts a label of one text at the time `now`: [`Change::put`], [`Change::make`].
@@ -58,5 +59,26 @@ pub fn merge(alloc: Global, site: &mut Site, other: &Site) -> Result<(), FrontFa
     ensures err { IfErr result (RefusesMerge other.now site.old site.new) }
 {
     site.merge(alloc, other.catalogue())?;
+    Ok(())
+}
+
+/// Joins the cells of a delta for this site, as its document has them. Where there is a limit no
+/// time of the delta may be greater.
+///
+/// Refused, and then unchanged, as [`read_delta_until`] refuses the delta, by document 1 (29 with
+/// the first row whose time is greater); then where it is for another site (15), or one stamp has
+/// two labels (13). After 26 each key has its old cell, or none as before, or that of the join, so
+/// that a repeat gives the join.
+pub fn take(
+    alloc: Global,
+    site: &mut Site,
+    delta: &[u8],
+    not_after: Option<u64>,
+) -> Result<(), FrontFault>
+    ensures ok { OnOk result (IsTaken delta.now not_after site.old site.new) }
+    ensures err { IfErr result (RefusesTake delta.now not_after site.old site.new) }
+{
+    let delta = read_delta_until(alloc, delta, not_after)?;
+    site.take(alloc, &delta)?;
     Ok(())
 }

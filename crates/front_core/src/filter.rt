@@ -31,7 +31,8 @@ impl Filter {
     /// Refused are the id first (10), then the field (8, and 9 where a malformed element refuses
     /// it). Out of memory (26) may come before a later refusal.
     pub fn read(alloc: Global, id: &[u8], field: Field<'_>) -> Result<Filter, FrontFault>
-        ensures { MatchResult result (IsFilter id.now (field_text field.entry)) (RefusesFilter id.now (field_text field.entry)) }
+        ensures { MatchResult result (IsFilter id.now (field_text field.entry))
+            (RefusesFilter id.now (field_text field.entry)) }
     {
         let id = read_id(alloc, id)?;
         let list = field.read(alloc)?;

@@ -13,6 +13,8 @@ pub fn one_pick_line()
 
 /// A pick that is refused for another cause than memory has no line.
 pub fn refused_pick_has_no_line()
-    ensures { (field : FieldText) (default : Option Text) (tags : List Text) (line : List ℕ) (fault : FrontFault)
-        → RefusesPick field default tags fault → fault ≢ NoMemory → ¬ IsPickLine field default tags line }
+    ensures { (field : FieldText) (default : Option Text) (tags : List Text) (line : List ℕ)
+        (fault : FrontFault)
+        → RefusesPick field default tags fault → fault ≢ NoMemory
+        → ¬ IsPickLine field default tags line }
 {}

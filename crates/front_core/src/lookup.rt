@@ -14,7 +14,7 @@ use cell_core::{Label, MessageId};
 use docs_core::reply_line;
 use std::alloc::{AllocError, Global};
 
-/// Which label of a message a reader gets (RFC 4647, section 3.4).
+/// Which label of a message a reader gets (RFC 4647, section 3.4), or gets by widened lookup.
 #[derive(Drop)]
 pub struct Lookup {
     /// The message.
@@ -39,7 +39,8 @@ impl Lookup {
         field: Field<'_>,
         default: Option<&[u8]>,
     ) -> Result<Lookup, FrontFault>
-        ensures { MatchResult result (IsLookup id.now (field_text field.entry) (option_map (λ s. s.now) default.entry))
+        ensures { MatchResult result (IsLookup id.now (field_text field.entry)
+            (option_map (λ s. s.now) default.entry))
             (RefusesLookup id.now (field_text field.entry) (option_map (λ s. s.now) default.entry)) }
     {
         let id = read_id(alloc, id)?;
@@ -67,16 +68,20 @@ impl Lookup {
         }
     }
 
-    ghost use Rattle.cata_core.specs.Asking.{IsLookupAnswer};
     ghost use Rattle.cata_core.specs.LentAnswers.{reply_of};
+    ghost use Rattle.front_core.specs.Questions.{IsReply};
 
     /// The answer of the site's catalogue.
     fn reply<'a>(&self, site: &'a Site) -> LentReply<'a>
-        ensures { IsLookupAnswer site.now.cells self.now.id self.now.preferences.list self.now.preferences.default (reply_of result) }
+        ensures { IsReply site.now.cells self.now (reply_of result) }
     {
-        let Preferences { list, default } = &self.preferences;
+        let Preferences {
+            list,
+            widening,
+            default,
+        } = &self.preferences;
         site.catalogue()
-            .ask_lookup(&self.id, list, default.as_ref())
+            .ask_lookup_by(&self.id, list, *widening, default.as_ref())
     }
 }
 

@@ -22,7 +22,8 @@ pub fn lookup_line(
     field: Field<'_>,
     default: Option<&[u8]>,
 ) -> Result<Answer, FrontFault>
-    ensures { MatchResult result (IsLookupLine site.now.cells id.now (field_text field.entry) (option_map (λ s. s.now) default.entry))
+    ensures { MatchResult result (IsLookupLine site.now.cells id.now (field_text field.entry)
+        (option_map (λ s. s.now) default.entry))
         (RefusesLookupLine id.now (field_text field.entry) (option_map (λ s. s.now) default.entry)) }
 {
     let asked = Lookup::read(alloc, id, field, default)?;
@@ -39,7 +40,8 @@ pub fn lookup_text<'a>(
     default: Option<&[u8]>,
     place: usize,
 ) -> Result<LabelText<'a>, FrontFault>
-    ensures { MatchResult result (IsLookupText site.now.cells id.now (field_text field.entry) (option_map (λ s. s.now) default.entry) place)
+    ensures { MatchResult result (IsLookupText site.now.cells id.now (field_text field.entry)
+        (option_map (λ s. s.now) default.entry) place)
         (RefusesLookup id.now (field_text field.entry) (option_map (λ s. s.now) default.entry)) }
 {
     let asked = Lookup::read(alloc, id, field, default)?;
@@ -54,7 +56,8 @@ pub fn filter_lines(
     id: &[u8],
     field: Field<'_>,
 ) -> Result<Answer, FrontFault>
-    ensures { MatchResult result (IsFilterLines site.now.cells id.now (field_text field.entry)) (RefusesFilterLines id.now (field_text field.entry)) }
+    ensures { MatchResult result (IsFilterLines site.now.cells id.now (field_text field.entry))
+        (RefusesFilterLines id.now (field_text field.entry)) }
 {
     let asked = Filter::read(alloc, id, field)?;
     Ok(asked.lines(alloc, site)?)
@@ -68,7 +71,8 @@ pub fn bundle(
     field: Field<'_>,
     default: Option<&[u8]>,
 ) -> Result<Answer, FrontFault>
-    ensures { MatchResult result (AreBundleMaps site.now.cells (field_text field.entry) (option_map (λ s. s.now) default.entry))
+    ensures { MatchResult result (AreBundleMaps site.now.cells (field_text field.entry)
+        (option_map (λ s. s.now) default.entry))
         (RefusesBundle (field_text field.entry) (option_map (λ s. s.now) default.entry)) }
 {
     let asked = Preferences::read(alloc, field, default)?;

@@ -1,6 +1,6 @@
 //! Sites, made or read once.
 ghost use Rattle.std.specs.Prelude.{MatchResult};
-ghost use Rattle.docs_core.specs.ReadsAs.{ReadsAsSite};
+ghost use Rattle.site_docs.specs.ReadsAs.{ReadsAsSite};
 ghost use Rattle.front_core.specs.Site.{IsNewSite, RefusesNewSite, RefusesOpening};
 
 use crate::fault::FrontFault;

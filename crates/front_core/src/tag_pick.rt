@@ -9,7 +9,7 @@ use crate::field::Field;
 use crate::lines::Lines;
 use crate::preferences::Preferences;
 use crate::tags::read_lines;
-use nego_core::{Found, lookup};
+use nego_core::{Found, lookup_by};
 use std::alloc::Global;
 
 /// What is picked: a tag, as it was passed in.
@@ -23,8 +23,9 @@ pub enum Picked<'a> {
     Nothing,
 }
 
-/// The tag that lookup (RFC 4647, section 3.4) finds for a field among tags, one on a line; else
-/// the default, where it is among the tags and the field does not refuse it.
+/// The tag that lookup (RFC 4647, section 3.4) finds for a field among tags, one on a line, or
+/// widened lookup if the field says so; else the default, where it is among the tags and the field
+/// does not refuse it.
 ///
 /// A line feed ends each line, and may be missing after the last: no bytes are no tags. Tags are
 /// equal without case, and `@none` is a tag that is never found, but it may be the default.
@@ -38,12 +39,14 @@ pub fn pick<'a>(
     default: Option<&[u8]>,
     tags: &'a [u8],
 ) -> Result<Picked<'a>, FrontFault>
-    ensures { MatchResult result (IsPickedTag (field_text field.entry) (option_map (λ s. s.now) default.entry) (lines_of tags.now))
-        (RefusesPick (field_text field.entry) (option_map (λ s. s.now) default.entry) (lines_of tags.now)) }
+    ensures { MatchResult result (IsPickedTag (field_text field.entry)
+        (option_map (λ s. s.now) default.entry) (lines_of tags.now))
+        (RefusesPick (field_text field.entry) (option_map (λ s. s.now) default.entry)
+        (lines_of tags.now)) }
 {
     let asked = Preferences::read(alloc, field, default)?;
     let langs = read_lines(alloc, tags)?;
-    let found = lookup(&asked.list, &langs, asked.default.as_ref());
+    let found = lookup_by(&asked.list, asked.widening, &langs, asked.default.as_ref());
     Ok(tag_at(tags, found))
 }
 

@@ -10,7 +10,8 @@ use std::convert::AsStr;
 
 /// The languages of the lines of a text, in order. The first line that is none is refused (1 to 4).
 pub(crate) fn read_lines(alloc: Global, tags: &[u8]) -> Result<Vec<Lang>, LangFault>
-    ensures { MatchResult result (λ langs. SpellLangs (lines_of tags.now) langs.items) (RefusesTags (lines_of tags.now)) }
+    ensures { MatchResult result (λ langs. SpellLangs (lines_of tags.now) langs.items)
+        (RefusesTags (lines_of tags.now)) }
 {
     let mut langs = Vec::new(alloc);
     for line in Lines::new(tags) {
@@ -21,7 +22,8 @@ pub(crate) fn read_lines(alloc: Global, tags: &[u8]) -> Result<Vec<Lang>, LangFa
 
 /// The languages of arguments, in order. The first argument that is none is refused (1 to 4).
 pub(crate) fn read_words<S: AsStr>(alloc: Global, tags: &[S]) -> Result<Vec<Lang>, LangFault>
-    ensures { MatchResult result (λ langs. SpellLangs (map S.text tags.now) langs.items) (RefusesTags (map S.text tags.now)) }
+    ensures { MatchResult result (λ langs. SpellLangs (map S.text tags.now) langs.items)
+        (RefusesTags (map S.text tags.now)) }
 {
     let mut langs = Vec::with_capacity(alloc, tags.len())?;
     for tag in tags {

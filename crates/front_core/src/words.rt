@@ -1,25 +1,34 @@
-//! Picking a language among the arguments of a command (RFC 4647 section 3.4).
+//! Picking and filtering languages among the arguments of a command (RFC 4647, sections 3.3, 3.4).
 ghost use Rattle.std.specs.Prelude.{◌≡◌, map, option_map, string_bytes, IfOk, MatchResult, None};
 ghost use Rattle.front_core.specs.Fields.{FieldText, field_text};
 ghost use Rattle.front_core.specs.Picks.{AnswersPick, Finds, IsPicked, IsPickLine, RefusesPick};
 ghost use Rattle.front_core.specs.Picks.{pick_line, pick_outcome};
+ghost use Rattle.front_core.specs.TagFilters.{IsLangFilter, RefusesTagFilter, texts_of};
 
 use crate::answer::{Answer, Outcome};
 use crate::fault::FrontFault;
 use crate::field::Field;
 use crate::preferences::Preferences;
+use crate::tag_filter::taken;
 use crate::tags::read_words;
 use docs_core::Doc;
 use lang_core::Lang;
-use nego_core::{Found, Malformed, Scheme, lookup};
+use nego_core::{Found, Malformed, Scheme, Widening, filter, lookup_by};
 use std::alloc::{AllocError, Global};
 use std::convert::AsStr;
 
 /// The pick line of RANGES, read as an Accept-Language field (RFC 9110 section 12.5.4), over the
 /// tags: `pick_scheme` at the basic scheme.
 pub fn pick(alloc: Global, ranges: &str, tags: &[String]) -> Result<Doc, FrontFault>
-    ensures { let field : FieldText = record { scheme = Scheme.Basic; malformed = Malformed.Refused; text = ranges.now } in
-        MatchResult result (IsPickLine field None (map string_bytes tags.now)) (RefusesPick field None (map string_bytes tags.now)) }
+    ensures { let field : FieldText =
+        record {
+          scheme = Scheme.Basic;
+          malformed = Malformed.Refused;
+          widening = Widening.Off;
+          text = ranges.now;
+        } in
+        MatchResult result (IsPickLine field None (map string_bytes tags.now))
+        (RefusesPick field None (map string_bytes tags.now)) }
 {
     pick_scheme(alloc, Scheme::Basic, ranges, tags)
 }
@@ -32,8 +41,15 @@ pub fn pick_scheme(
     ranges: &str,
     tags: &[String],
 ) -> Result<Doc, FrontFault>
-    ensures { let field : FieldText = record { scheme = scheme; malformed = Malformed.Refused; text = ranges.now } in
-        MatchResult result (IsPickLine field None (map string_bytes tags.now)) (RefusesPick field None (map string_bytes tags.now)) }
+    ensures { let field : FieldText =
+        record {
+          scheme = scheme;
+          malformed = Malformed.Refused;
+          widening = Widening.Off;
+          text = ranges.now;
+        } in
+        MatchResult result (IsPickLine field None (map string_bytes tags.now))
+        (RefusesPick field None (map string_bytes tags.now)) }
 {
     pick_with(alloc, scheme, Malformed::Refused, None, ranges, tags)
 }
@@ -53,33 +69,75 @@ pub fn pick_with(
     ranges: &str,
     tags: &[String],
 ) -> Result<Doc, FrontFault>
-    ensures { let field : FieldText = record { scheme = scheme; malformed = malformed; text = ranges.now } in
-        MatchResult result (IsPickLine field (option_map (λ s. s.now) default.entry) (map string_bytes tags.now))
+    ensures { let field : FieldText =
+        record {
+          scheme = scheme;
+          malformed = malformed;
+          widening = Widening.Off;
+          text = ranges.now;
+        } in
+        MatchResult result (IsPickLine field (option_map (λ s. s.now) default.entry)
+        (map string_bytes tags.now))
         (RefusesPick field (option_map (λ s. s.now) default.entry) (map string_bytes tags.now)) }
 {
     let field = Field {
         scheme,
         malformed,
+        widening: Widening::Off,
         text: ranges.as_bytes(),
     };
     let answer = pick_answer(alloc, field, bytes_of(default), tags)?;
     Ok(answer.text)
 }
 
-/// The pick line of a field over the tags, and whether it names a tag or the default. Refused as
-/// [`pick_with`] is.
+/// The pick line of a field over the tags, by lookup or widened lookup as the field says, and
+/// whether it names a tag or the default. Refused as [`pick_with`] is.
 pub fn pick_answer<S: AsStr>(
     alloc: Global,
     field: Field<'_>,
     default: Option<&[u8]>,
     tags: &[S],
 ) -> Result<Answer, FrontFault>
-    ensures { MatchResult result (AnswersPick (field_text field.entry) (option_map (λ s. s.now) default.entry) (map S.text tags.now))
-        (RefusesPick (field_text field.entry) (option_map (λ s. s.now) default.entry) (map S.text tags.now)) }
+    ensures { MatchResult result (AnswersPick (field_text field.entry)
+        (option_map (λ s. s.now) default.entry) (map S.text tags.now))
+        (RefusesPick (field_text field.entry) (option_map (λ s. s.now) default.entry)
+        (map S.text tags.now)) }
 {
     let found = find(alloc, field, default, tags)?;
     let text = line_of(alloc, &found)?;
     Ok(Answer::new(text, outcome_of(&found)))
+}
+
+/// All tags that a field takes (RFC 4647 section 3.3), best first: `filter N`, then N lines `TAG
+/// WEIGHT`, with the tag in lower case and the weight in thousandths, and whether there is one.
+/// They are ordered as [`filter_tags`](crate::filter_tags) orders them.
+///
+/// Refused are the field first (8, and 9 where a malformed element refuses it), then each tag in
+/// order (1 to 4). Out of memory (26) may come before a later refusal.
+pub fn filter_answer<S: AsStr>(
+    alloc: Global,
+    field: Field<'_>,
+    tags: &[S],
+) -> Result<Answer, FrontFault>
+    ensures { MatchResult result (IsLangFilter (field_text field.entry) (map S.text tags.now))
+        (RefusesTagFilter (field_text field.entry) (map S.text tags.now)) }
+{
+    let list = field.read(alloc)?;
+    let spelled = read_words(alloc, tags)?;
+    let picks = filter(alloc, &list, field.scheme, &spelled)?;
+    let names = names_of(alloc, &spelled)?;
+    Ok(taken(alloc, &picks, &names)?)
+}
+
+/// The texts of languages.
+fn names_of(alloc: Global, langs: &[Lang]) -> Result<Vec<&[u8]>, AllocError>
+    ensures { IfOk result (λ names. texts_of names.items ≡ langs.now) }
+{
+    let mut names = Vec::with_capacity(alloc, langs.len())?;
+    for lang in langs {
+        names.push(lang.as_str().as_bytes())?;
+    }
+    Ok(names)
 }
 
 /// The bytes of an argument, where there is one.
@@ -110,8 +168,10 @@ fn find<S: AsStr>(
     default: Option<&[u8]>,
     tags: &[S],
 ) -> Result<Finding, FrontFault>
-    ensures { MatchResult result (IsPicked (field_text field.entry) (option_map (λ s. s.now) default.entry) (map S.text tags.now))
-        (RefusesPick (field_text field.entry) (option_map (λ s. s.now) default.entry) (map S.text tags.now)) }
+    ensures { MatchResult result (IsPicked (field_text field.entry)
+        (option_map (λ s. s.now) default.entry) (map S.text tags.now))
+        (RefusesPick (field_text field.entry) (option_map (λ s. s.now) default.entry)
+        (map S.text tags.now)) }
 {
     let asked = Preferences::read(alloc, field, default)?;
     let langs = read_words(alloc, tags)?;
@@ -120,9 +180,14 @@ fn find<S: AsStr>(
 
 /// What lookup finds among the languages.
 fn finding_of(asked: &Preferences, mut langs: Vec<Lang>) -> Finding
-    ensures { Finds asked.now.list langs.items asked.now.default result }
+    ensures { Finds asked.now.widening asked.now.list langs.items asked.now.default result }
 {
-    match lookup(&asked.list, langs.as_slice(), asked.default.as_ref()) {
+    match lookup_by(
+        &asked.list,
+        asked.widening,
+        langs.as_slice(),
+        asked.default.as_ref(),
+    ) {
         Found::Matched(place) => Finding::Matched(langs.swap_remove(place)),
         Found::Default(place) => Finding::Default(langs.swap_remove(place)),
         Found::Nothing => Finding::Nothing,

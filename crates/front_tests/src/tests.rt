@@ -1,7 +1,10 @@
 //! Examples from the standards and from real clients, and what no contract says.
 mod bundling;
+mod explained;
 mod questions;
 mod refusals;
 mod site;
+mod tag_filter;
 mod tag_pick;
+mod widening;
 mod words;

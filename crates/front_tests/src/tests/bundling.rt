@@ -1,7 +1,7 @@
 //! Bundles for readers with priorities.
 
 use front_core::{Answer, Field, FrontFault, Outcome, bundle, open_site};
-use nego_core::{Malformed, Scheme};
+use nego_core::{Malformed, Scheme, Widening};
 use std::alloc::Global;
 use std::process::Abort;
 
@@ -12,6 +12,7 @@ fn accept(text: &str) -> Field<'_> {
     Field {
         scheme: Scheme::Basic,
         malformed: Malformed::Refused,
+        widening: Widening::Off,
         text: text.as_bytes(),
     }
 }

@@ -5,7 +5,7 @@ use front_core::{
     Answer, Field, FrontFault, LabelText, Outcome, filter_lines, lookup_line, lookup_text,
     open_site,
 };
-use nego_core::{Malformed, Scheme};
+use nego_core::{Malformed, Scheme, Widening};
 use std::alloc::Global;
 use std::process::Abort;
 use std::test::Fail;
@@ -21,6 +21,7 @@ fn accept(text: &str) -> Field<'_> {
     Field {
         scheme: Scheme::Basic,
         malformed: Malformed::Refused,
+        widening: Widening::Off,
         text: text.as_bytes(),
     }
 }

@@ -8,7 +8,7 @@ use front_core::{
     open_site, pick,
 };
 use lang_core::LangFault;
-use nego_core::{Malformed, NegoFault, Scheme};
+use nego_core::{Malformed, NegoFault, Scheme, Widening};
 use std::alloc::Global;
 use std::fmt::InlineText;
 use std::process::Abort;
@@ -22,6 +22,7 @@ fn accept(text: &[u8]) -> Field<'_> {
     Field {
         scheme: Scheme::Basic,
         malformed: Malformed::Refused,
+        widening: Widening::Off,
         text,
     }
 }

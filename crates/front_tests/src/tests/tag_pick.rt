@@ -1,7 +1,7 @@
 //! Tags that are picked for a field.
 
 use front_core::{Field, Picked, pick};
-use nego_core::{Malformed, Scheme};
+use nego_core::{Malformed, Scheme, Widening};
 use std::alloc::Global;
 use std::process::Abort;
 
@@ -11,6 +11,7 @@ fn accept(text: &str) -> Field<'_> {
     Field {
         scheme: Scheme::Basic,
         malformed: Malformed::Refused,
+        widening: Widening::Off,
         text: text.as_bytes(),
     }
 }

@@ -4,7 +4,7 @@ use docs_core::Doc;
 use front_core::words::{pick, pick_answer, pick_scheme, pick_with};
 use front_core::{Field, FrontFault, Outcome};
 use lang_core::LangFault;
-use nego_core::{Malformed, NegoFault, Scheme};
+use nego_core::{Malformed, NegoFault, Scheme, Widening};
 use std::alloc::{AllocError, Global};
 use std::process::Abort;
 use std::test::Fail;
@@ -83,6 +83,7 @@ fn lent_words(rt: HostRuntime) -> Result<(), Fail> {
     let field = Field {
         scheme: Scheme::Basic,
         malformed: Malformed::Refused,
+        widening: Widening::Off,
         text: b"fr-CA".as_slice(),
     };
     let tags = ["en", "FR"];

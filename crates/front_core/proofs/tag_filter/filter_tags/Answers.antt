@@ -1,0 +1,44 @@
+use Rattle.std.proofs.Common.{◌∙◌, ap, inr, length, sym}
+use Rattle.std.proofs.lemmas.Result.{err_from_is_err_and}
+use Rattle.lang_core.specs.declared.fault.LangFault.TheVariants as lang
+use Rattle.front_core.specs.Faults.{field_fault}
+use Rattle.front_core.specs.Lines.{lines_of}
+use Rattle.front_core.proofs.PickLemmas.{as_many}
+use Rattle.front_core.proofs.TagFiltersLemmas.{as_many_texts, enough_names}
+use Rattle.front_core.proofs.tag_filter.filter_tags.Goals as goal
+
+pub returns-in_err-picks : goal.returns-in_err-picks
+returns-in_err-picks c =
+    let p = err_from_is_err_and c.from_residual-in_err-picks.result
+    c.from_residual-in_err-picks.ensures.1 in
+    rw p.1 (inr (
+      (_, c.in_ok-list.ensures),
+      (
+        lang.NoMemory,
+        tt,
+        p.2
+            ∙ ap field_fault c.in_err-picks.ensures.0,
+      ),
+    ))
+
+pub returns-in_err-names : goal.returns-in_err-names
+returns-in_err-names c =
+    let p = err_from_is_err_and c.from_residual-in_err-names.result
+    c.from_residual-in_err-names.ensures.1 in
+    rw p.1 (inr ((_, c.in_ok-list.ensures), (lang.NoMemory, tt, p.2)))
+
+pub taken-requires : goal.taken-requires
+taken-requires c =
+    let tags = lines_of c.args.tags.now in
+    let langs = c.in_ok-langs.langs.items in
+    enough_names _ _ c.deref.result.now c.deref-2.result.now c.in_ok-picks.picks
+    c.in_ok-picks.ensures
+    (ap length c.deref.ensures.value ∙ sym (as_many tags langs c.in_ok-langs.ensures)
+    ∙ as_many_texts c.in_ok-names.names.items c.deref-2.result.now tags c.deref-2.ensures.value
+    c.in_ok-names.ensures)
+
+pub returns-in_err-taken : goal.returns-in_err-taken
+returns-in_err-taken c =
+    let p = err_from_is_err_and c.from_residual-in_err-taken.result
+    c.from_residual-in_err-taken.ensures.1 in
+    rw p.1 (inr ((_, c.in_ok-list.ensures), (lang.NoMemory, tt, p.2)))

@@ -1,0 +1,11 @@
+use Rattle.std.proofs.Common.{◌≡◌, ◌++◌, ◌∷◌, codes, decimal, length, take}
+use Rattle.std.specs.Prelude.{flat_map}
+use Rattle.docs_core.specs.Lines.{line}
+use Rattle.front_core.specs.TagFilters.{taken_line, texts_of}
+use Rattle.front_core.proofs.tag_filter.taken.Given as goal
+
+-- the lines of the picks so far
+abbrev pub invariant-picks : goal.invariant-picks
+invariant-picks l =
+    l.text.items ≡ line (codes "filter" ++ 32 ∷ decimal (length l.picks)) ++ flat_map
+    (taken_line (texts_of l.names)) (take l.at l.picks)

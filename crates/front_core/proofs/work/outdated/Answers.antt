@@ -1,0 +1,19 @@
+use Rattle.std.proofs.Common.{inl, inr}
+use Rattle.std.proofs.lemmas.Result.{err_from_is_err_and}
+use Rattle.front_core.proofs.work.outdated.Goals as goal
+
+pub returns-in_err-source : goal.returns-in_err-source
+returns-in_err-source c =
+    let p = err_from_is_err_and c.from_residual-in_err-source.result
+    c.from_residual-in_err-source.ensures.1 in
+    rw p.1 (inr (c.in_ok-lang.lang, c.in_ok-lang.ensures, inl (_, c.in_err-source.ensures, p.2)))
+
+pub returns-in_err-written : goal.returns-in_err-written
+returns-in_err-written c =
+    let p = err_from_is_err_and c.from_residual-in_err-written.result
+    c.from_residual-in_err-written.ensures.1 in
+    rw p.1 (inr (
+      c.in_ok-lang.lang,
+      c.in_ok-lang.ensures,
+      inr (c.in_ok-source.source, c.in_ok-source.ensures, p.2),
+    ))

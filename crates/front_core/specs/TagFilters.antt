@@ -1,0 +1,58 @@
+-- A filter of tags: filtering (RFC 4647 section 3.3) of a priority list over the languages that
+-- tags spell.
+use Rattle.std.specs.Prelude.{◌≡◌, ◌==◌, ◌<◌, ◌⊎◌, ◌++◌, ◌∷◌, [], ℕ, List, All, codes, decimal}
+use Rattle.std.specs.Prelude.{get_or, length, map, not}
+use Rattle.std.specs.Borrow.{Bor}
+use Rattle.nego_core.specs.Filtering.{IsFiltered}
+use Rattle.nego_core.specs.Item.{Item}
+use Rattle.nego_core.specs.declared.filtering.Pick.{Pick}
+use Rattle.docs_core.specs.Lines.{line, listed}
+use Rattle.front_core.specs.Faults.{IsOf, field_fault, language_fault}
+use Rattle.front_core.specs.Fields.{FieldText, HasList, ReadsAs, RefusesRanges, Text}
+use Rattle.front_core.specs.Questions.{is_found}
+use Rattle.front_core.specs.Tags.{RefusesTags, SpellLangs}
+use Rattle.front_core.specs.declared.answer.Answer.{Answer}
+use Rattle.front_core.specs.declared.fault.FrontFault.{FrontFault}
+
+-- what a field takes of tags, the best first
+pub record AreTaken (field : FieldText) (tags langs : List Text) (picks : List Pick) : Type 0 where
+  pub list : List Item
+  pub list_ok : ReadsAs field list
+  pub langs_ok : SpellLangs tags langs
+  pub picks_ok : IsFiltered field.scheme list langs picks
+
+-- `NAME WEIGHT`, by the name at the place of the pick
+abbrev pub taken_line : List Text → Pick → List ℕ
+taken_line names pick = line (get_or names pick.place [] ++ 32 ∷ decimal pick.weight)
+
+-- `filter N`, then a line for each pick, in their order
+abbrev pub taken_lines : List Text → List Pick → List ℕ
+taken_lines names picks = listed (codes "filter") (taken_line names) picks
+
+-- the lines of the picks; `filter 0` means that nothing was found
+abbrev pub ShowsTaken : List Text → List Pick → Answer → Type 0
+ShowsTaken names picks answer = (answer.text ≡ taken_lines names picks)
+    × (is_found answer.outcome ≡ not (length picks == 0))
+
+-- each tag as it was given
+abbrev pub IsTagFilter : FieldText → List Text → Answer → Type 0
+IsTagFilter field tags answer = (langs : List Text) × (picks : List Pick)
+    × AreTaken field tags langs picks × ShowsTaken tags picks answer
+
+-- each tag in lower case, which is its language
+abbrev pub IsLangFilter : FieldText → List Text → Answer → Type 0
+IsLangFilter field tags answer = (langs : List Text) × (picks : List Pick)
+    × AreTaken field tags langs picks × ShowsTaken langs picks answer
+
+-- the field is refused first, and then the tags
+abbrev pub RefusesTagFilter : FieldText → List Text → FrontFault → Type 0
+RefusesTagFilter field tags fault = IsOf field_fault (RefusesRanges field) fault
+    ⊎ (HasList field × IsOf language_fault (RefusesTags tags) fault)
+
+-- the texts of what is lent
+abbrev pub texts_of : List (Bor Text) → List Text
+texts_of names = map (λ name. name.now) names
+
+-- each pick has a name
+abbrev pub HaveNames : {A : Type 0} → List A → List Pick → Type 0
+HaveNames names picks = All (λ pick. pick.place < length names) picks

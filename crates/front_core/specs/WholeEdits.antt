@@ -1,0 +1,64 @@
+-- Edits of a site that are made all or none (project rules).
+use Rattle.std.specs.Prelude.{◌≡◌, ◌⊎◌, ℕ, List, Option}
+use Rattle.cata_core.specs.CataFaults.{IsRefusal}
+use Rattle.cata_core.specs.Sites.{RefusesDelta, SiteState}
+use Rattle.cata_core.specs.declared.cata_fault.CataFault.TheVariants.{ClockSpent}
+use Rattle.cata_core.specs.declared.delta.Delta.{Delta}
+use Rattle.json_docs.specs.Checks.{OrMemory}
+use Rattle.site_docs.specs.ReadsAs.{IsOfDocument, no_memory}
+use Rattle.map_docs.specs.LangMapLabels.{AreLangMaps, RefusesLangMaps}
+use Rattle.map_docs.specs.LangMaps.{Labelled}
+use Rattle.docs_core.specs.Imported.{Imports, SpendsImport}
+use Rattle.docs_core.specs.TimeLimits.{ReadsInTime, RefusesDeltaUntil}
+use Rattle.docs_core.specs.Updated.{SpendsUpdate, Updates}
+use Rattle.front_core.specs.Faults.{IsOf, document_fault, site_fault}
+use Rattle.front_core.specs.Fields.{Text}
+use Rattle.front_core.specs.declared.fault.FrontFault.{FrontFault}
+use Rattle.front_core.specs.declared.fault.FrontFault.TheVariants.{NoMemory}
+
+-- the bytes are no language maps
+abbrev pub RefusesMaps : Text → FrontFault → Type 0
+RefusesMaps maps = IsOf document_fault (OrMemory no_memory (IsOfDocument 1 (RefusesLangMaps maps)))
+
+-- the site with each label of the language maps put at this time, in rising order of key
+abbrev pub IsImported : ℕ → Text → SiteState → SiteState → Type 0
+IsImported now maps old new =
+    (labels : List Labelled) × AreLangMaps maps labels × (new.name ≡ old.name)
+    × Imports now old.name labels old.cells new.cells
+
+-- the language maps are refused, then a label for which there is no next stamp; or memory ended
+abbrev pub RefusesImport : ℕ → Text → SiteState → FrontFault → Type 0
+RefusesImport now maps site fault =
+    RefusesMaps maps fault
+    ⊎ ((labels : List Labelled) × AreLangMaps maps labels
+    × ((fault ≡ NoMemory)
+    ⊎ (SpendsImport now site.name labels site.cells × (fault ≡ site_fault ClockSpent))))
+
+-- the site with the changes from the old language maps to the new ones, at this time
+abbrev pub AreUpdated : ℕ → Text → Text → SiteState → SiteState → Type 0
+AreUpdated now old new site updated =
+    (before after : List Labelled) × AreLangMaps old before × AreLangMaps new after
+    × (updated.name ≡ site.name)
+    × Updates now site.name before after site.cells updated.cells
+
+-- the old language maps are refused, then the new ones, then a change for which there is no next
+-- stamp; or memory ended
+abbrev pub RefusesUpdates : ℕ → Text → Text → SiteState → FrontFault → Type 0
+RefusesUpdates now old new site fault =
+    RefusesMaps old fault
+    ⊎ ((before : List Labelled) × AreLangMaps old before × RefusesMaps new fault)
+    ⊎ ((before after : List Labelled) × AreLangMaps old before × AreLangMaps new after
+    × ((fault ≡ NoMemory)
+    ⊎ (SpendsUpdate now site.name before after site.cells × (fault ≡ site_fault ClockSpent))))
+
+-- the least key whose stamp has two labels is told, or memory ended
+abbrev pub RefusesMerged : SiteState → SiteState → FrontFault → Type 0
+RefusesMerged other site fault =
+    (fault ≡ NoMemory) ⊎ IsOf site_fault (IsRefusal site.cells other.cells) fault
+
+-- the bytes are refused, or a time of them; then the site refuses the delta; or memory ended
+abbrev pub RefusesTaken : Text → Option ℕ → SiteState → FrontFault → Type 0
+RefusesTaken bytes limit site fault =
+    IsOf document_fault (OrMemory no_memory (RefusesDeltaUntil 1 limit bytes)) fault
+    ⊎ ((delta : Delta) × ReadsInTime limit bytes delta
+    × ((fault ≡ NoMemory) ⊎ IsOf site_fault (RefusesDelta site delta) fault))
