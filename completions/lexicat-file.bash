@@ -3,7 +3,7 @@
 
 _lexicat_file() {
     local word=${COMP_WORDS[COMP_CWORD]} site=1 folder=${BASH_SOURCE[0]%/*} file
-    local commands='new put delete status import update export missing filter lookup bundle summary delta take sync'
+    local commands='new put delete status import update export missing outdated changes filter lookup bundle summary delta take sync'
     COMPREPLY=()
     # After a redirection comes a file.
     case ${COMP_WORDS[COMP_CWORD-1]} in

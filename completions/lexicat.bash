@@ -1,8 +1,9 @@
 # Completion of lexicat for bash: source this file, or install it into bash-completion's folder.
+# Written by scripts/completions from the help of the command.
 
 _lexicat() {
     local word=${COMP_WORDS[COMP_CWORD]} before=${COMP_WORDS[COMP_CWORD-1]} command='' i
-    local commands='pick new put delete status import update export missing filter lookup bundle summary delta take sync replay'
+    local commands='pick new put delete status import update export missing outdated changes filter lookup bundle summary delta take sync replay explain'
     COMPREPLY=()
     # Bash cuts words at "=": `--scheme=b` comes as three.
     if [[ $word == '=' ]]; then
@@ -14,7 +15,7 @@ _lexicat() {
     case $before in
         '<' | '>' | '>>' | '<>' | '>|' | '2>' | '2>>' | '&>' | '&>>') compopt -o default 2> /dev/null; return ;;
         --scheme) COMPREPLY=($(compgen -W 'basic extended' -- "$word")); return ;;
-        --now | --site | --id | --lang | --default) return ;;
+        --default | --site | --now | --id | --lang | --source | --not-after) return ;;
     esac
     for ((i = 1; i < COMP_CWORD; i++)); do
         case ${COMP_WORDS[i]} in
@@ -25,17 +26,19 @@ _lexicat() {
     local options
     case $command in
         '') options="$commands --help --version -h -V" ;;
-        pick) options='--scheme --lenient --default --help -h' ;;
+        pick) options='--scheme --lenient --widen --default --all --help -h' ;;
         new) options='--site --help -h' ;;
-        put) options='--now --id --lang --help -h' ;;
-        delete) options='--now --id --lang --help -h' ;;
+        put | delete) options='--now --id --lang --help -h' ;;
+        status | export | changes | summary | delta | replay) options='--help -h' ;;
         import | update) options='--now --help -h' ;;
         missing) options='--lang --help -h' ;;
+        outdated) options='--lang --source --help -h' ;;
         filter) options='--id --scheme --lenient --help -h' ;;
-        lookup) options='--id --scheme --lenient --default --help -h' ;;
-        bundle) options='--scheme --lenient --default --help -h' ;;
+        lookup) options='--id --scheme --lenient --widen --default --help -h' ;;
+        bundle) options='--scheme --lenient --widen --default --help -h' ;;
+        take | sync) options='--not-after --help -h' ;;
+        explain) options='1 2 3 4 5 6 7 8 9 10 11 12 13 14 15 16 17 18 19 20 21 22 23 24 25 26 27 28 29 --help -h' ;;
         help) options=$commands ;;
-        status | export | summary | delta | take | sync | replay) options='--help -h' ;;
         *) return ;;
     esac
     COMPREPLY=($(compgen -W "$options" -- "$word"))

@@ -1,24 +1,34 @@
 -- The command line is one whose matches and faults clap states.
-use Rattle.std.proofs.Common.{◌≡◌, ◌∙◌, ◌||◌, Bool, Result, Ok, Err, IfOk, true, ap₂, refl}
+use Rattle.std.proofs.Common.{◌≡◌, ◌∙◌, ◌||◌, Bool, Result, Ok, Err, IfOk, true, ap₂, refl, subst}
 use Rattle.std.proofs.lemmas.Result.{IfOk-weaker}
-use Rattle.clap.specs.Words.{AddsArg, App, Rule, app_of, is_simple, is_simple_and_free, with_rule, with_subcommand}
+use Rattle.clap.specs.Words.{AddsArg, App, Rule, Text, app_of, is_simple, is_simple_and_free, with_rule, with_subcommand}
 use Rattle.clap.specs.declared.builder.arg.Arg.{Arg}
 use Rattle.clap.specs.declared.builder.command.Command.{Command}
 use Rattle.clap.proofs.OnLiterals.{clap_on_literals}
-use Rattle.command_core.specs.Words.{IsArgument, IsCommand, Joins, Schemes, lexicat_app}
+use Rattle.command_core.specs.Words.{IsArgument, IsCommand, Joins, Numerals, Schemes, lexicat_app, preferences_app}
 
-pub lexicat_simple : (schemes : Schemes) → is_simple (lexicat_app schemes) ≡ true
+pub lexicat_simple : (schemes : Schemes) (numbers : Numerals)
+    → is_simple (lexicat_app schemes numbers) ≡ true
 unfolding clap_on_literals
-lexicat_simple schemes = refl
+lexicat_simple schemes numbers = refl
 
-pub lexicat_free : (schemes : Schemes) → is_simple_and_free (lexicat_app schemes) ≡ true
+pub lexicat_free : (schemes : Schemes) (numbers : Numerals)
+    → is_simple_and_free (lexicat_app schemes numbers) ≡ true
 unfolding clap_on_literals
-lexicat_free schemes = refl
+lexicat_free schemes numbers = refl
 
 -- one more argument
 pub added : (app : App) (rule : Rule) (old new : Command) (arg : Arg) → IsCommand app old → AddsArg old arg new → IsArgument rule arg → IsCommand (with_rule app rule) new
 added app rule old new arg has adds is =
     (adds.shape is.1 ∙ ap₂ with_rule has.0 is.0, adds.globals ∙ ap₂ (λ (a b : Bool). a || b) has.1 is.1)
+
+-- what a reader prefers, of a command that is known
+pub preferred : (app : App) (schemes : Schemes) (name : Text) (old new : Command)
+    → IsCommand app old
+    → IsCommand (preferences_app (app_of old) schemes name) new
+    → IsCommand (preferences_app app schemes name) new
+preferred app schemes name old new is has =
+    subst (λ (a : App). IsCommand (preferences_app a schemes name) new) is.0 has
 
 abbrev sub : App → App → App
 sub app command = with_subcommand app command.top

@@ -7,14 +7,14 @@ use Rattle.std.proofs.lemmas.Bool.Decides.{nat_tests}
 use Rattle.std.proofs.lemmas.List.{append_assoc, drop_at, take_at}
 use Rattle.std.proofs.lemmas.List.Elements.{All-head, All-tail}
 use Rattle.cata_core.specs.Sites.{SiteState}
-use Rattle.docs_core.specs.Documents.{cells_values}
-use Rattle.docs_core.specs.LangMapLabels.{AreLangMaps, ReadsAsLangMaps}
-use Rattle.docs_core.specs.LangMapChecks.{langmaps_checks}
-use Rattle.docs_core.specs.LangMaps.{Labelled}
-use Rattle.docs_core.specs.ReadsAs.{IsSiteText, ReadsAsSite}
-use Rattle.docs_core.specs.SiteDocuments.{IsSiteDocument, site_checks}
-use Rattle.docs_core.specs.Texts.{IsOneLine}
-use Rattle.docs_core.specs.Values.{site_value}
+use Rattle.site_docs.specs.Documents.{cells_values}
+use Rattle.site_docs.specs.ReadsAs.{IsSiteText, ReadsAsSite}
+use Rattle.site_docs.specs.SiteDocuments.{IsSiteDocument, site_checks}
+use Rattle.site_docs.specs.Texts.{IsOneLine}
+use Rattle.site_docs.specs.Values.{site_value}
+use Rattle.map_docs.specs.LangMapLabels.{AreLangMaps, ReadsAsLangMaps}
+use Rattle.map_docs.specs.LangMapChecks.{langmaps_checks}
+use Rattle.map_docs.specs.LangMaps.{Labelled}
 use Rattle.docs_core.proofs.FreeLineFeed.{free}
 use Rattle.docs_core.proofs.OneLine.{one_line}
 use Rattle.command_core.specs.Input.{AreDocuments}

@@ -1,5 +1,5 @@
 -- From what clap says of the words to what the program does.
-use Rattle.std.proofs.Common.{◌≡◌, ℕ, List, Bool, Option, [], ◌∷◌, inl, inr, codes, map, refl, Result, Ok, Err}
+use Rattle.std.proofs.Common.{◌≡◌, ℕ, List, Option, [], ◌∷◌, inl, inr, codes, map, refl, Result, Ok, Err}
 use Rattle.std.specs.Prelude.{◌⊎◌, IsErrAnd}
 use Rattle.clap.specs.Words.{Row, Text, kind_of}
 use Rattle.clap.specs.Kinds.{Kinds, HasKind}
@@ -7,25 +7,39 @@ use Rattle.clap.specs.declared.error.Error.{Error}
 use Rattle.clap.specs.declared.error.kind.ErrorKind.TheVariants.{OutOfMemory}
 use Rattle.clap.specs.declared.parser.matches.ArgMatches.{ArgMatches}
 use Rattle.command_core.specs.Endings.{EndsForMemory}
-use Rattle.command_core.specs.Program.{Does, MatchesBy, ReportsBy}
-use Rattle.command_core.specs.Words.{Schemes, lexicat_app}
+use Rattle.command_core.specs.Program.{Does, MatchesBy, ReportsBy, refusal_numerals}
+use Rattle.command_core.specs.Streams.{IsUnread, Streams}
+use Rattle.command_core.specs.Words.{Numerals, Schemes, lexicat_app}
 
 -- where memory ends before clap is asked
-pub no_memory : (schemes : Schemes) → map (λ s. s.now) schemes.now ≡ codes "basic" ∷ codes "extended" ∷ [] → (words : List Text) (r : Result ArgMatches Error)
+pub no_memory : (schemes : Schemes) (numbers : Numerals)
+    → map (λ s. s.now) schemes.now ≡ codes "basic" ∷ codes "extended" ∷ []
+    → map (λ s. s.now) numbers.now ≡ refusal_numerals
+    → (words : List Text) (r : Result ArgMatches Error)
     → IsErrAnd r (λ e. kind_of e ≡ OutOfMemory) → MatchesBy words r
-no_memory schemes are words (Ok matches) h = absurd h
-no_memory schemes are words (Err error) h = record {
-  app = lexicat_app schemes;
-  app_ok = record { schemes = schemes; scheme_words = are; app_is = refl };
+no_memory schemes numbers are told words (Ok matches) h = absurd h
+no_memory schemes numbers are told words (Err error) h = record {
+  app = lexicat_app schemes numbers;
+  app_ok = record {
+    schemes = schemes;
+    scheme_words = are;
+    numbers = numbers;
+    number_words = told;
+    app_is = refl;
+  };
   matches = tt;
   fails = inl h;
 }
 
 -- where clap finds a fault, it is told, or memory ran out
-pub reported : {R W F : Type 0} (remaining : R → Option (List ℕ)) (broken : R → Bool) (contents : W → Option (List ℕ)) (failed : W → Bool) (lines : F → Option (List ℕ)) (closed : F → Bool) (kinds : Kinds) (met : Option (Text × List Row)) (error : Error)
-    (r : R) (old new : W) (f f' : F) (status : ℕ) → HasKind kinds error → ReportsBy contents failed lines closed (kind_of error) old new f f' status
-    → Does remaining broken contents failed lines closed kinds met r r old new f f' status ⊎ ((r ≡ r) × EndsForMemory contents failed lines closed old new f f' status)
-reported remaining broken contents failed lines closed kinds met error r old new f f' status has (inl memory) = inr (refl, memory)
-reported remaining broken contents failed lines closed kinds met error r old new f f' status (inl memory) (inr reports) = absurd (reports.0 memory)
-reported remaining broken contents failed lines closed [] met error r old new f f' status (inr among) (inr reports) = absurd among
-reported remaining broken contents failed lines closed (k ∷ ks) met error r old new f f' status (inr among) (inr reports) = inl (refl, (kind_of error, among, reports.1))
+pub reported : {R W F : Type 0} (kinds : Kinds) (met : Option (Text × List Row)) (error : Error)
+    (run : Streams R W F) (status : ℕ)
+    → IsUnread run.reader
+    → HasKind kinds error
+    → ReportsBy (kind_of error) run.writer run.faults status
+    → Does kinds met run status ⊎ (IsUnread run.reader × EndsForMemory run.writer run.faults status)
+reported kinds met error run status unread has (inl memory) = inr (unread, memory)
+reported kinds met error run status unread (inl memory) (inr reports) = absurd (reports.0 memory)
+reported [] met error run status unread (inr among) (inr reports) = absurd among
+reported (k ∷ ks) met error run status unread (inr among) (inr reports) =
+    inl (unread, (kind_of error, among, reports.1))

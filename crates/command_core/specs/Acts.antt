@@ -10,13 +10,16 @@ use Rattle.cell_core.specs.MessageIds.{IsMessageId}
 use Rattle.cell_core.specs.Refusals.{RefusesName}
 use Rattle.cell_core.specs.SiteNames.{IsSiteName}
 use Rattle.docs_core.specs.Calls as call
-use Rattle.docs_core.specs.ReadsAs.{IsSiteText, ReadsAsSite}
-use Rattle.docs_core.specs.Fields.{IsSpelled}
+use Rattle.site_docs.specs.ReadsAs.{IsSiteText, ReadsAsSite}
+use Rattle.site_docs.specs.Fields.{IsSpelled}
 use Rattle.docs_core.specs.Missing as missing
+use Rattle.docs_core.specs.Outdated as outdated
+use Rattle.json_docs.specs.declared.fault.DocFault.{DocFault}
 use Rattle.docs_core.specs.Replays.{RefusesReplay, Replays}
-use Rattle.docs_core.specs.declared.fault.DocFault.{DocFault}
+use Rattle.docs_core.specs.TimeLimits.{AreSyncedUntil, RefusesSyncUntil}
 use Rattle.lang_core.specs.Lang.{RefusesLang, SpellsLang}
 use Rattle.front_core.specs.Picks.{AnswersPick, RefusesPick}
+use Rattle.front_core.specs.TagFilters.{IsLangFilter, RefusesTagFilter}
 use Rattle.front_core.specs.Questions.{AreBundleMaps, HasFilter, HasLookup, IsFilterLines}
 use Rattle.front_core.specs.Questions.{IsLookupLine, RefusesFilter, RefusesLookup}
 use Rattle.front_core.specs.Preferences.{HasPreferences, RefusesPreferences}
@@ -24,17 +27,21 @@ use Rattle.front_core.specs.Faults.{IsOf, cell_fault, language_fault}
 use Rattle.front_core.specs.declared.answer.Answer.{Answer}
 use Rattle.front_core.specs.declared.fault.FrontFault.{FrontFault}
 use Rattle.front_core.specs.declared.fault.FrontFault.TheVariants.{NoMemory}
-use Rattle.command_core.specs.AskWords.{FilterWords, LookupWords, PickWords}
-use Rattle.command_core.specs.Documents.{IsDocument, RefusesDocuments, RefusesOnly}
+use Rattle.command_core.specs.AskWords.{FilterWords, LookupWords, OutdatedWords}
+use Rattle.command_core.specs.AskWords.{PickAllWords, PickWords}
+use Rattle.command_core.specs.Documents.{AreChangesOf, IsDocument, RefusesChanges}
+use Rattle.command_core.specs.Documents.{RefusesDocuments, RefusesOnly}
 use Rattle.command_core.specs.EditWords.{EditWords}
-use Rattle.command_core.specs.Endings.{EndsRefused, Writes}
+use Rattle.command_core.specs.Endings.{EndsRefused, TellsUsage, Writes, usage_line}
+use Rattle.command_core.specs.Explaining.{IsExplanation}
 use Rattle.command_core.specs.FieldWords.{PreferenceWords}
 use Rattle.command_core.specs.Input.{AreDocuments}
 use Rattle.command_core.specs.Reading.{AnswersInput, RefusesInput}
 use Rattle.command_core.specs.Status.{answer_status, found_status}
+use Rattle.command_core.specs.Streams.{IsUnread, IsUnwritten, Reader, Streams}
 use Rattle.command_core.specs.TaskWords.{GivesTask, TaskWords}
 use Rattle.command_core.specs.TaskWords as task
-use Rattle.command_core.specs.Parsing.{RefusesNothing, NoWords, RefusesKey, RefusesLabelWords}
+use Rattle.command_core.specs.Parsing.{RefusesNothing, NoWords, RefusesKey, RefusesLabelWords, RefusesTranslation}
 use Rattle.command_core.specs.declared.documents.DocumentTask.{DocumentTask}
 
 -- ---- `pick` and `new`
@@ -42,6 +49,12 @@ use Rattle.command_core.specs.declared.documents.DocumentTask.{DocumentTask}
 -- the pick line
 abbrev pub IsPick : PickWords → List ℕ → ℕ → Type 0
 IsPick words text answered = (answer : Answer) × AnswersPick words.preferences.field words.preferences.default words.tags answer × (text ≡ answer.text) × (answered ≡ answer_status answer.outcome)
+
+-- the lines of all tags that fit
+abbrev pub IsPickAll : PickAllWords → List ℕ → ℕ → Type 0
+IsPickAll words text answered =
+    (answer : Answer) × IsLangFilter words.field words.tags answer × (text ≡ answer.text)
+    × (answered ≡ answer_status answer.outcome)
 
 -- the document of the empty site of this name
 abbrev pub IsNew : Text → List ℕ → ℕ → Type 0
@@ -76,11 +89,15 @@ abbrev pub AnswersDocuments : DocumentTask → List ℕ → List ℕ → ℕ →
 AnswersDocuments task input text answered = IsDocument task input text × (answered ≡ 0)
 
 -- the two documents, the one behind the other
-abbrev pub IsSync : List ℕ → List ℕ → ℕ → Type 0
-IsSync input text answered = (first second one other : List ℕ) × AreDocuments input first second × call.AreSynced first second one other × (text ≡ one ++ other) × (answered ≡ 0)
+abbrev pub IsSync : Option ℕ → List ℕ → List ℕ → ℕ → Type 0
+IsSync limit input text answered =
+    (first second one other : List ℕ) × AreDocuments input first second
+    × AreSyncedUntil first second limit one other × (text ≡ one ++ other) × (answered ≡ 0)
 
-abbrev pub RefusesSync : List ℕ → DocFault → Type 0
-RefusesSync input fault = (first second : List ℕ) × AreDocuments input first second × call.RefusesSync first second fault
+abbrev pub RefusesSync : Option ℕ → List ℕ → DocFault → Type 0
+RefusesSync limit input fault =
+    (first second : List ℕ) × AreDocuments input first second
+    × RefusesSyncUntil first second limit fault
 
 -- ---- `filter` and `lookup`
 
@@ -94,13 +111,35 @@ IsFilter words = AnswersSite (λ cells. IsFilterLines cells words.id words.field
 abbrev pub IsLookup : LookupWords → List ℕ → List ℕ → ℕ → Type 0
 IsLookup words = AnswersSite (λ cells. IsLookupLine cells words.id words.preferences.field words.preferences.default)
 
--- ---- `bundle` and `missing`
+-- ---- `bundle`, `missing` and `outdated`
 
 abbrev pub IsBundle : PreferenceWords → List ℕ → List ℕ → ℕ → Type 0
 IsBundle words = AnswersSite (λ cells. AreBundleMaps cells words.field words.default)
 
 abbrev pub IsMissing : Text → List ℕ → List ℕ → ℕ → Type 0
 IsMissing word input text answered = (lang : List ℕ) × (found : Bool) × SpellsLang word lang × missing.IsMissing input lang text found × (answered ≡ found_status found)
+
+-- the words read as the two languages, and the messages of the site are these
+abbrev pub IsOutdated : OutdatedWords → List ℕ → List ℕ → ℕ → Type 0
+IsOutdated words input text answered =
+    (lang source : List ℕ) × (found : Bool) × SpellsLang words.lang lang
+    × SpellsLang words.source source × outdated.IsOutdated input lang source text found
+    × (answered ≡ found_status found)
+
+-- ---- `changes`
+
+abbrev pub AreChanges : List ℕ → List ℕ → ℕ → Type 0
+AreChanges input text answered =
+    (found : Bool) × AreChangesOf input text found × (answered ≡ found_status found)
+
+-- ---- `explain`
+
+abbrev pub IsExplained : ℕ → List ℕ → ℕ → Type 0
+IsExplained number text answered = IsExplanation number text × (answered ≡ 0)
+
+-- memory alone may be lacking
+abbrev pub RefusesNever : FrontFault → Type 0
+RefusesNever fault = fault ≡ NoMemory
 
 -- ---- `replay`
 
@@ -112,52 +151,87 @@ IsReplay input text answered = Replays input text × (answered ≡ 0)
 
 -- whether one text answers it; `sync` writes two, and `replay` its lines
 abbrev pub HasOneText : TaskWords → Type 0
-HasOneText task.Sync = ⊥
+HasOneText (task.Sync limit) = ⊥
 HasOneText task.Replay = ⊥
 HasOneText _ = Unit {0}
 
-module _ {R : Type 0} (remaining : R → Option (List ℕ)) (broken : R → Bool) where
-  -- this text with this status answers it; `pick` and `new` read nothing
-  abbrev pub Answers : TaskWords → R → R → List ℕ → ℕ → Type 0
-  Answers (task.Pick words) old new text answered = (new ≡ old) × IsPick words text answered
-  Answers (task.New name) old new text answered = (new ≡ old) × IsNew name text answered
-  Answers (task.Edit words) old new text answered = AnswersInput remaining broken (IsEdit words) old new text answered
-  Answers (task.Document task) old new text answered = AnswersInput remaining broken (AnswersDocuments task) old new text answered
-  Answers (task.Missing word) old new text answered = AnswersInput remaining broken (IsMissing word) old new text answered
-  Answers (task.Filter words) old new text answered = AnswersInput remaining broken (IsFilter words) old new text answered
-  Answers (task.Lookup words) old new text answered = AnswersInput remaining broken (IsLookup words) old new text answered
-  Answers (task.Bundle words) old new text answered = AnswersInput remaining broken (IsBundle words) old new text answered
-  Answers task.Sync old new text answered = AnswersInput remaining broken IsSync old new text answered
-  Answers task.Replay old new text answered = AnswersInput remaining broken IsReplay old new text answered
+-- this text with this status answers it; `pick`, `new` and `explain` read nothing
+abbrev pub Answers : {R : Type 0} → TaskWords → Reader R → List ℕ → ℕ → Type 0
+Answers (task.Pick words) reader text answered = IsUnread reader × IsPick words text answered
+Answers (task.PickAll words) reader text answered = IsUnread reader × IsPickAll words text answered
+Answers (task.New name) reader text answered = IsUnread reader × IsNew name text answered
+Answers (task.Edit words) reader text answered = AnswersInput (IsEdit words) reader text answered
+Answers (task.Document task) reader text answered =
+    AnswersInput (AnswersDocuments task) reader text answered
+Answers (task.Missing word) reader text answered =
+    AnswersInput (IsMissing word) reader text answered
+Answers (task.Outdated words) reader text answered =
+    AnswersInput (IsOutdated words) reader text answered
+Answers task.Changes reader text answered = AnswersInput AreChanges reader text answered
+Answers (task.Filter words) reader text answered = AnswersInput (IsFilter words) reader text answered
+Answers (task.Lookup words) reader text answered = AnswersInput (IsLookup words) reader text answered
+Answers (task.Bundle words) reader text answered = AnswersInput (IsBundle words) reader text answered
+Answers (task.Sync limit) reader text answered = AnswersInput (IsSync limit) reader text answered
+Answers task.Replay reader text answered = AnswersInput IsReplay reader text answered
+Answers (task.Explain number) reader text answered =
+    IsUnread reader × IsExplained number text answered
 
-  -- why it is refused
-  abbrev pub Refuses : TaskWords → R → R → FrontFault → Type 0
-  Refuses (task.Pick words) old new refused = (new ≡ old) × RefusesPick words.preferences.field words.preferences.default words.tags refused
-  Refuses (task.New name) old new refused = (new ≡ old) × RefusesNew name refused
-  Refuses (task.Edit words) old new refused = RefusesInput remaining broken (HasEdit words) (RefusesEditWords words) (RefusesEdit words) old new refused
-  Refuses (task.Document task) old new refused = RefusesInput remaining broken NoWords RefusesNothing (RefusesDocuments task) old new refused
-  Refuses (task.Missing word) old new refused = RefusesInput remaining broken (IsSpelled word) (IsOf language_fault (RefusesLang word)) RefusesOnly old new refused
-  Refuses (task.Filter words) old new refused = RefusesInput remaining broken (HasFilter words.id words.field) (RefusesFilter words.id words.field) RefusesOnly old new refused
-  Refuses (task.Lookup words) old new refused = RefusesInput remaining broken (HasLookup words.id words.preferences.field words.preferences.default) (RefusesLookup words.id words.preferences.field words.preferences.default) RefusesOnly old new refused
-  Refuses (task.Bundle words) old new refused = RefusesInput remaining broken (HasPreferences words.field words.default) (RefusesPreferences words.field words.default) RefusesOnly old new refused
-  Refuses task.Sync old new refused = RefusesInput remaining broken NoWords RefusesNothing RefusesSync old new refused
-  Refuses task.Replay old new refused = RefusesInput remaining broken NoWords RefusesNothing RefusesReplay old new refused
+-- why it is refused
+abbrev pub Refuses : {R : Type 0} → TaskWords → Reader R → FrontFault → Type 0
+Refuses (task.Pick words) reader refused =
+    IsUnread reader
+    × RefusesPick words.preferences.field words.preferences.default words.tags refused
+Refuses (task.PickAll words) reader refused =
+    IsUnread reader × RefusesTagFilter words.field words.tags refused
+Refuses (task.New name) reader refused = IsUnread reader × RefusesNew name refused
+Refuses (task.Edit words) reader refused =
+    RefusesInput (HasEdit words) (RefusesEditWords words) (RefusesEdit words) reader refused
+Refuses (task.Document task) reader refused =
+    RefusesInput NoWords RefusesNothing (RefusesDocuments task) reader refused
+Refuses (task.Missing word) reader refused =
+    RefusesInput (IsSpelled word) (IsOf language_fault (RefusesLang word)) RefusesOnly reader refused
+Refuses (task.Outdated words) reader refused =
+    RefusesInput (IsSpelled words.lang × IsSpelled words.source)
+    (IsOf language_fault (RefusesTranslation words.lang words.source)) RefusesOnly reader refused
+Refuses task.Changes reader refused =
+    RefusesInput NoWords RefusesNothing RefusesChanges reader refused
+Refuses (task.Filter words) reader refused =
+    RefusesInput (HasFilter words.id words.field) (RefusesFilter words.id words.field) RefusesOnly
+    reader refused
+Refuses (task.Lookup words) reader refused =
+    RefusesInput (HasLookup words.id words.preferences.field words.preferences.default)
+    (RefusesLookup words.id words.preferences.field words.preferences.default) RefusesOnly
+    reader refused
+Refuses (task.Bundle words) reader refused =
+    RefusesInput (HasPreferences words.field words.default)
+    (RefusesPreferences words.field words.default) RefusesOnly reader refused
+Refuses (task.Sync limit) reader refused =
+    RefusesInput NoWords RefusesNothing (RefusesSync limit) reader refused
+Refuses task.Replay reader refused =
+    RefusesInput NoWords RefusesNothing RefusesReplay reader refused
+Refuses (task.Explain number) reader refused = IsUnread reader × RefusesNever refused
 
-  -- it is answered by a text and the status of its outcome, or refused
-  abbrev pub Performs : TaskWords → R → R → Result Answer FrontFault → Type 0
-  Performs asked old new answered = MatchResult answered (λ answer. Answers asked old new answer.text (answer_status answer.outcome)) (Refuses asked old new)
+-- it is answered by a text and the status of its outcome, or refused
+abbrev pub Performs : {R : Type 0} → TaskWords → Reader R → Result Answer FrontFault → Type 0
+Performs asked reader answered = MatchResult answered
+    (λ answer. Answers asked reader answer.text (answer_status answer.outcome))
+    (Refuses asked reader)
 
-module _ {R W F : Type 0} (remaining : R → Option (List ℕ)) (broken : R → Bool) (contents : W → Option (List ℕ)) (failed : W → Bool) (lines : F → Option (List ℕ)) (closed : F → Bool) where
-  -- it is answered and the answer written, or it is refused, which is told, and nothing is written
-  abbrev pub Treats : TaskWords → R → R → W → W → F → F → ℕ → Type 0
-  Treats asked r r' w w' f f' status =
-      ((text : List ℕ) × (answered : ℕ) × Answers remaining broken asked r r' text answered × Writes contents failed lines closed text answered w w' f f' status)
-      ⊎ ((refused : FrontFault) × Refuses remaining broken asked r r' refused × EndsRefused contents failed lines closed refused w w' f f' status)
+-- it is answered and the answer written, or it is refused, which is told, and nothing is written
+abbrev pub Treats : {R W F : Type 0} → TaskWords → Streams R W F → ℕ → Type 0
+Treats asked run status =
+    ((text : List ℕ) × (answered : ℕ) × Answers asked run.reader text answered
+    × Writes text answered run.writer run.faults status)
+    ⊎ ((refused : FrontFault) × Refuses asked run.reader refused
+    × EndsRefused refused run.writer run.faults status)
 
-  -- a usage fault: nothing was read, written or told
-  abbrev pub IsMisused : R → R → W → W → F → F → ℕ → Type 0
-  IsMisused r r' w w' f f' status = (status ≡ 2) × (r' ≡ r) × (w' ≡ w) × (f' ≡ f)
+-- a usage fault, which was told: nothing was read or written
+abbrev pub IsMisused : {R W F : Type 0} → Streams R W F → ℕ → Type 0
+IsMisused run status =
+    IsUnread run.reader × IsUnwritten run.writer × TellsUsage usage_line run.faults status
 
-  -- what the command that was met asks is done
-  abbrev pub ActsBy : Option (Text × List Row) → R → R → W → W → F → F → ℕ → Type 0
-  ActsBy met r r' w w' f f' status = (task : Option TaskWords) × GivesTask met task × MatchOption task (IsMisused r r' w w' f f' status) (λ asked. Treats asked r r' w w' f f' status)
+-- what the command that was met asks is done
+abbrev pub ActsBy : {R W F : Type 0} → Option (Text × List Row) → Streams R W F → ℕ → Type 0
+ActsBy met run status =
+    (task : Option TaskWords) × GivesTask met task
+    × MatchOption task (IsMisused run status) (λ asked. Treats asked run status)

@@ -1,11 +1,13 @@
 -- What the commands of documents alone answer, and why they refuse them: as the document calls do
 -- (project rules).
-use Rattle.std.specs.Prelude.{ℕ, List}
+use Rattle.std.specs.Prelude.{ℕ, Bool, List}
 use Rattle.docs_core.specs.Calls as call
+use Rattle.docs_core.specs.Changed.{IsChanged, RefusesChanged}
 use Rattle.docs_core.specs.Exchange as exchange
-use Rattle.docs_core.specs.ReadsAs.{IsOfDocument, RefusesSite}
+use Rattle.site_docs.specs.ReadsAs.{IsOfDocument, RefusesSite}
+use Rattle.docs_core.specs.TimeLimits.{IsTakenUntil, RefusesTakingUntil}
 use Rattle.docs_core.specs.Updated as updated
-use Rattle.docs_core.specs.declared.fault.DocFault.{DocFault}
+use Rattle.json_docs.specs.declared.fault.DocFault.{DocFault}
 use Rattle.command_core.specs.Input.{AreDocuments, AreThreeDocuments}
 use Rattle.command_core.specs.declared.documents.DocumentTask.{DocumentTask}
 use Rattle.command_core.specs.declared.documents.DocumentTask.TheVariants.{Status, Import, Update, Export, Summary, Delta, Take}
@@ -18,7 +20,18 @@ IsDocument (Update now) input text = (site old new : List ℕ) × AreThreeDocume
 IsDocument Export input text = exchange.IsExported input text
 IsDocument Summary input text = call.IsSummarised input text
 IsDocument Delta input text = (site summary : List ℕ) × AreDocuments input site summary × call.IsDeltaFor site summary text
-IsDocument Take input text = (site delta : List ℕ) × AreDocuments input site delta × call.IsTaken site delta text
+IsDocument (Take limit) input text =
+    (site delta : List ℕ) × AreDocuments input site delta × IsTakenUntil site delta limit text
+
+-- how the cells of the two sites of an input differ, and whether they do
+abbrev pub AreChangesOf : List ℕ → List ℕ → Bool → Type 0
+AreChangesOf input text found =
+    (before after : List ℕ) × AreDocuments input before after × IsChanged before after text found
+
+-- why the two documents are no sites: the first, then the second
+abbrev pub RefusesChanges : List ℕ → DocFault → Type 0
+RefusesChanges input fault =
+    (before after : List ℕ) × AreDocuments input before after × RefusesChanged before after fault
 
 -- why the only document is no site
 abbrev pub RefusesOnly : List ℕ → DocFault → Type 0
@@ -29,5 +42,6 @@ abbrev pub RefusesDocuments : DocumentTask → List ℕ → DocFault → Type 0
 RefusesDocuments (Import now) input fault = (site maps : List ℕ) × AreDocuments input site maps × exchange.RefusesImport site now maps fault
 RefusesDocuments (Update now) input fault = (site old new : List ℕ) × AreThreeDocuments input site old new × updated.RefusesUpdate site now old new fault
 RefusesDocuments Delta input fault = (site summary : List ℕ) × AreDocuments input site summary × call.RefusesDeltaFor site summary fault
-RefusesDocuments Take input fault = (site delta : List ℕ) × AreDocuments input site delta × call.RefusesTaking site delta fault
+RefusesDocuments (Take limit) input fault =
+    (site delta : List ℕ) × AreDocuments input site delta × RefusesTakingUntil site delta limit fault
 RefusesDocuments _ input fault = RefusesOnly input fault

@@ -3,37 +3,48 @@ use Rattle.std.specs.Prelude.{◌≡◌, ◌⊎◌, ℕ, Bool, true, false, List
 use Rattle.std.specs.Io.KnownBytes.{Appends}
 use Rattle.std_io.specs.declared.io.kind.ErrorKind.{ErrorKind}
 use Rattle.std_io.specs.declared.io.kind.ErrorKind.TheVariants.{OutOfMemory}
-use Rattle.docs_core.specs.Faults.{of_no_document}
-use Rattle.docs_core.specs.Sinks.{AppendsFront}
-use Rattle.docs_core.specs.declared.fault.DocCause.TheVariants.{WriteFault}
+use Rattle.json_docs.specs.Faults.{of_no_document}
+use Rattle.json_docs.specs.Sinks.{AppendsFront}
+use Rattle.json_docs.specs.declared.fault.DocCause.TheVariants.{WriteFault}
 use Rattle.front_core.specs.Faults.{number_of}
 use Rattle.front_core.specs.declared.fault.FrontFault.{FrontFault}
 use Rattle.front_core.specs.declared.fault.FrontFault.TheVariants.{Document, NoMemory}
 use Rattle.command_core.specs.FaultLine.{PrintsLine, PrintsRefusal}
 use Rattle.command_core.specs.Status.{status_of}
+use Rattle.command_core.specs.Streams.{IsUnwritten, Writer}
 
 -- a write failed
 abbrev pub write_fault : FrontFault
 write_fault = Document (of_no_document WriteFault)
 
--- why the words of a process can't be had: the sink was told that memory ran out, or else that a
--- word is no UTF-8, which is a usage fault
-abbrev pub LacksWords : {F : Type 0} → (F → Option (List ℕ)) → (F → Bool) → ErrorKind → F → F → ℕ → Type 0
-LacksWords lines closed OutOfMemory faults faults' status = (status ≡ 5) × PrintsRefusal lines closed NoMemory faults faults'
-LacksWords lines closed _ faults faults' status = (status ≡ 2) × PrintsLine lines closed (codes "error: a word is not UTF-8\n") faults faults'
+-- a usage fault, of which the sink was told by this line
+abbrev pub TellsUsage : {F : Type 0} → List ℕ → Writer F → ℕ → Type 0
+TellsUsage line faults status = (status ≡ 2) × PrintsLine line faults
 
-module _ {W F : Type 0} (contents : W → Option (List ℕ)) (failed : W → Bool) (lines : F → Option (List ℕ)) (closed : F → Bool) where
-  -- the whole text was written and nothing told, or a front of it with a fault of the sink, which
-  -- was told
-  abbrev pub Writes : List ℕ → ℕ → W → W → F → F → ℕ → Type 0
-  Writes text answered old new faults faults' status =
-      ((status ≡ answered) × Appends (contents old) (contents new) text × (failed new ≡ false) × (faults' ≡ faults))
-      ⊎ ((status ≡ 4) × AppendsFront (contents old) (contents new) text × (failed new ≡ true) × PrintsRefusal lines closed write_fault faults faults')
+-- why the words of a process can't be had: memory ran out, or else a word is no UTF-8, which is a
+-- usage fault
+abbrev pub LacksWords : {F : Type 0} → ErrorKind → Writer F → ℕ → Type 0
+LacksWords OutOfMemory faults status = (status ≡ 5) × PrintsRefusal NoMemory faults
+LacksWords _ faults status = TellsUsage (codes "error: a word is not UTF-8\n") faults status
 
-  -- nothing was written, and the refusal was told
-  abbrev pub EndsRefused : FrontFault → W → W → F → F → ℕ → Type 0
-  EndsRefused fault old new faults faults' status = (status ≡ status_of (number_of fault)) × (new ≡ old) × PrintsRefusal lines closed fault faults faults'
+-- what is told where no command takes the words together
+abbrev pub usage_line : List ℕ
+usage_line = codes "error: no command takes these arguments together\n\nFor more information, try '--help'.\n"
 
-  -- the same where memory ran out
-  abbrev pub EndsForMemory : W → W → F → F → ℕ → Type 0
-  EndsForMemory = EndsRefused NoMemory
+-- the whole text was written and nothing told, or a front of it with a fault of the sink, which was
+-- told
+abbrev pub Writes : {W F : Type 0} → List ℕ → ℕ → Writer W → Writer F → ℕ → Type 0
+Writes text answered writer faults status =
+    ((status ≡ answered) × Appends (writer.contents writer.old) (writer.contents writer.new) text
+    × (writer.failed writer.new ≡ false) × IsUnwritten faults)
+    ⊎ ((status ≡ 4) × AppendsFront (writer.contents writer.old) (writer.contents writer.new) text
+    × (writer.failed writer.new ≡ true) × PrintsRefusal write_fault faults)
+
+-- nothing was written, and the refusal was told
+abbrev pub EndsRefused : {W F : Type 0} → FrontFault → Writer W → Writer F → ℕ → Type 0
+EndsRefused fault writer faults status =
+    (status ≡ status_of (number_of fault)) × IsUnwritten writer × PrintsRefusal fault faults
+
+-- the same where memory ran out
+abbrev pub EndsForMemory : {W F : Type 0} → Writer W → Writer F → ℕ → Type 0
+EndsForMemory = EndsRefused NoMemory

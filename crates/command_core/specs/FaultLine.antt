@@ -2,9 +2,10 @@
 use Rattle.std.specs.Prelude.{◌≡◌, ◌==◌, ◌≤◌, ℕ, Bool, false, List, ◌++◌, length, Option, None, Some, [], codes, decimal, if◌then◌else◌, IfSome, MatchBool}
 use Rattle.std.specs.Fmt.Cut.{IsTextOrCut}
 use Rattle.std.specs.Io.KnownBytes.{Appends}
-use Rattle.docs_core.specs.Sinks.{AppendsFront}
+use Rattle.json_docs.specs.Sinks.{AppendsFront}
 use Rattle.front_core.specs.Faults.{document_of, number_of, row_of}
 use Rattle.front_core.specs.declared.fault.FrontFault.{FrontFault}
+use Rattle.command_core.specs.Streams.{IsUnwritten, Writer}
 
 -- a word and a number behind it, where there is one
 abbrev pub counted : List ℕ → Option ℕ → List ℕ
@@ -24,16 +25,17 @@ fault_line number text row document = codes "refused " ++ decimal number ++ code
 abbrev pub Shows : Option (List ℕ) → List ℕ → Type 0
 Shows output text = (length text ≤ 160) × IfSome output (λ bytes. IsTextOrCut 160 bytes text)
 
-module _ {S : Type 0} (contents : S → Option (List ℕ)) (failed : S → Bool) where
-  -- the sink took the whole line, or where it failed a front of it
-  abbrev pub PrintsLine : List ℕ → S → S → Type 0
-  PrintsLine line old new = AppendsFront (contents old) (contents new) line × (failed new ≡ false → Appends (contents old) (contents new) line)
+-- the sink took the whole line, or where it failed a front of it
+abbrev pub PrintsLine : {S : Type 0} → List ℕ → Writer S → Type 0
+PrintsLine line sink =
+    AppendsFront (sink.contents sink.old) (sink.contents sink.new) line
+    × (sink.failed sink.new ≡ false → Appends (sink.contents sink.old) (sink.contents sink.new) line)
 
-  -- it took the line of a fault; nothing, where it had failed before
-  abbrev pub PrintsFault : ℕ → Option (List ℕ) → Option ℕ → ℕ → S → S → Type 0
-  PrintsFault number output row document old new = MatchBool (failed old) (new ≡ old)
-      ((text : List ℕ) × Shows output text × PrintsLine (fault_line number text row document) old new)
+-- it took the line of a fault; nothing, where it had failed before
+abbrev pub PrintsFault : {S : Type 0} → ℕ → Option (List ℕ) → Option ℕ → ℕ → Writer S → Type 0
+PrintsFault number output row document sink = MatchBool (sink.failed sink.old) (IsUnwritten sink)
+    ((text : List ℕ) × Shows output text × PrintsLine (fault_line number text row document) sink)
 
-  -- the line of a refusal, with the row and the document that it means
-  abbrev pub PrintsRefusal : FrontFault → S → S → Type 0
-  PrintsRefusal fault = PrintsFault (number_of fault) None (row_of fault) (document_of fault)
+-- the line of a refusal, with the row and the document that it means
+abbrev pub PrintsRefusal : {S : Type 0} → FrontFault → Writer S → Type 0
+PrintsRefusal fault = PrintsFault (number_of fault) None (row_of fault) (document_of fault)

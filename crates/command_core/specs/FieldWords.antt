@@ -1,5 +1,5 @@
 -- How the words of a command say that a field is read, and what they prefer (project rules).
-use Rattle.std.specs.Prelude.{List, Option, None, Some, codes, option_map, if◌then◌else◌}
+use Rattle.std.specs.Prelude.{Bool, false, List, Option, None, Some, codes, option_map, if◌then◌else◌}
 use Rattle.std.specs.Str.{bytes_eq}
 use Rattle.clap.specs.Words.{Row, Text, first_of}
 use Rattle.front_core.specs.Fields.{FieldText}
@@ -7,23 +7,34 @@ use Rattle.nego_core.specs.declared.field.Malformed.{Malformed}
 use Rattle.nego_core.specs.declared.field.Malformed.TheVariants.{Refused, PassedOver}
 use Rattle.nego_core.specs.declared.scheme.Scheme.{Scheme}
 use Rattle.nego_core.specs.declared.scheme.Scheme.TheVariants.{Basic, Extended}
+use Rattle.nego_core.specs.declared.widening.Widening.{Widening}
+use Rattle.nego_core.specs.declared.widening.Widening.TheVariants.{By, Off}
 
 -- the scheme of a word; where there is none, the basic one
 abbrev pub scheme_of : Option Text → Scheme
 scheme_of None = Basic
 scheme_of (Some word) = if bytes_eq word (codes "extended") then Extended else Basic
 
--- what becomes of malformed elements: `--lenient` has the text "true" where it is given, and else
--- "false"
-abbrev pub malformed_of : Option Text → Malformed
-malformed_of None = Refused
-malformed_of (Some word) = if bytes_eq word (codes "true") then PassedOver else Refused
+-- whether an option without a value is given: it has the text "true" then, and else "false"
+abbrev pub is_given : Option Text → Bool
+is_given None = false
+is_given (Some word) = bytes_eq word (codes "true")
+
+-- what becomes of malformed elements
+abbrev pub malformed_of : Bool → Malformed
+malformed_of lenient = if lenient then PassedOver else Refused
+
+-- whether a range also finds what it matches by the scheme
+abbrev pub widening_of : Bool → Scheme → Widening
+widening_of widens scheme = if widens then By scheme else Off
 
 -- the field of this argument, or none where it is missing
 abbrev pub field_of : Text → List Row → Option FieldText
 field_of id rows = option_map (λ text. record {
   scheme = scheme_of (first_of (codes "scheme") rows);
-  malformed = malformed_of (first_of (codes "lenient") rows);
+  malformed = malformed_of (is_given (first_of (codes "lenient") rows));
+  widening = widening_of (is_given (first_of (codes "widen") rows))
+      (scheme_of (first_of (codes "scheme") rows));
   text = text;
 }) (first_of id rows)
 
@@ -34,4 +45,7 @@ pub record PreferenceWords : Type 0 where
 
 -- these, or none where the field is missing
 abbrev pub preference_words : Text → List Row → Option PreferenceWords
-preference_words id rows = option_map (λ field. record { field = field; default = first_of (codes "default") rows }) (field_of id rows)
+preference_words id rows = option_map (λ field. record {
+  field = field;
+  default = first_of (codes "default") rows;
+}) (field_of id rows)

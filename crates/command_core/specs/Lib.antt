@@ -3,6 +3,7 @@ pub mod AskWords
 pub mod Documents
 pub mod EditWords
 pub mod Endings
+pub mod Explaining
 pub mod FaultLine
 pub mod FieldWords
 pub mod Help
@@ -12,6 +13,7 @@ pub mod Parsing
 pub mod Program
 pub mod Reading
 pub mod Status
+pub mod Streams
 pub mod TaskWords
 pub mod Values
 pub mod Words

@@ -10,6 +10,9 @@ use Rattle.lang_core.specs.Lang.{SpellsLang, RefusesLang}
 use Rattle.front_core.specs.Faults.{IsOf, cell_fault, language_fault}
 use Rattle.front_core.specs.declared.fault.FrontFault.{FrontFault}
 use Rattle.command_core.specs.declared.parsing.Key.{Key}
+use Rattle.command_core.specs.declared.parsing.Translation.{Translation}
+use Rattle.site_docs.specs.Fields.{IsSpelled}
+use Rattle.lang_core.specs.declared.fault.LangFault.{LangFault}
 
 -- a command without words that the product reads
 abbrev pub NoWords : Type 0
@@ -25,6 +28,15 @@ IsKey id lang key = IsMessageId id × (key.id ≡ id) × SpellsLang lang key.lan
 -- why the words name no key: the id first, then the language
 abbrev pub RefusesKey : Text → Text → FrontFault → Type 0
 RefusesKey id lang fault = IsOf cell_fault (RefusesId id) fault ⊎ (IsMessageId id × IsOf language_fault (RefusesLang lang) fault)
+
+-- the words spell these two languages
+abbrev pub IsTranslation : Text → Text → Translation → Type 0
+IsTranslation lang source them = SpellsLang lang them.lang × SpellsLang source them.source
+
+-- why they do not: the translation's first, then the original's
+abbrev pub RefusesTranslation : Text → Text → LangFault → Type 0
+RefusesTranslation lang source fault =
+    RefusesLang lang fault ⊎ (IsSpelled lang × RefusesLang source fault)
 
 -- the texts are this label, or there are none
 abbrev pub IsLabelOf : Option (List Text) → Option (List Text) → Type 0

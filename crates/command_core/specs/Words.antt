@@ -24,12 +24,16 @@ Joins program command joined = MatchResult program (λ old. MatchResult command 
 abbrev pub Schemes : Type 0
 Schemes = Bor (List (Bor (List ℕ)))
 
+-- the words that the number of a refusal may be, likewise
+abbrev pub Numerals : Type 0
+Numerals = Bor (List (Bor (List ℕ)))
+
 abbrev pub scheme_rule : Schemes → Rule
 scheme_rule schemes = record (new_rule (codes "scheme")) { long = Some (codes "scheme"); value_names = 1; parser = Some (Names schemes) }
 
--- `--lenient`, without a value
-abbrev pub lenient_rule : Rule
-lenient_rule = record (new_rule (codes "lenient")) { long = Some (codes "lenient"); action = Some SetTrue }
+-- an option without a value
+abbrev pub flag_rule : Text → Rule
+flag_rule name = record (new_rule name) { long = Some name; action = Some SetTrue }
 
 abbrev pub default_rule : Rule
 default_rule = record (new_rule (codes "default")) { long = Some (codes "default"); value_names = 1 }
@@ -42,14 +46,18 @@ field_rule name = record (new_rule name) { value_names = 1; required = true }
 abbrev pub words_rule : Text → Rule
 words_rule name = record (new_rule name) { value_names = 1; required = true; range = Some (record { start_inclusive = 1; end_inclusive = 18446744073709551615 }); action = Some Append }
 
--- what a reader prefers: `[--scheme SCHEME] [--lenient] [--default LANG]` and the ranges, by this
--- name
+-- what a reader prefers: `[--scheme SCHEME] [--lenient] [--widen] [--default LANG]` and the ranges,
+-- by this name
 abbrev pub preferences_app : App → Schemes → Text → App
-preferences_app app schemes name = with_rule (with_rule (with_rule (with_rule app (scheme_rule schemes)) lenient_rule) default_rule) (field_rule name)
+preferences_app app schemes name =
+    with_rule (with_rule (with_rule (with_rule (with_rule app (scheme_rule schemes))
+    (flag_rule (codes "lenient"))) (flag_rule (codes "widen"))) default_rule) (field_rule name)
 
--- `pick [--scheme SCHEME] [--lenient] [--default LANG] RANGES TAG..`
+-- `pick [--scheme SCHEME] [--lenient] [--widen] [--default LANG] [--all] RANGES TAG..`
 abbrev pub pick_app : Schemes → App
-pick_app schemes = with_rule (preferences_app (new_app (codes "pick")) schemes (codes "ranges")) (words_rule (codes "tags"))
+pick_app schemes =
+    with_rule (with_rule (preferences_app (new_app (codes "pick")) schemes (codes "ranges"))
+    (flag_rule (codes "all"))) (words_rule (codes "tags"))
 
 -- `--now N`, a number of 64 bits
 abbrev pub now_rule : Rule
@@ -67,6 +75,22 @@ id_rule = required_rule (codes "id")
 
 abbrev pub lang_rule : Rule
 lang_rule = required_rule (codes "lang")
+
+abbrev pub source_rule : Rule
+source_rule = required_rule (codes "source")
+
+-- `--not-after N`, a number of 64 bits
+abbrev pub not_after_rule : Rule
+not_after_rule = record (new_rule (codes "not-after")) {
+  long = Some (codes "not-after");
+  value_names = 1;
+  parser = Some (Unsigned 0 18446744073709551615);
+}
+
+-- the number of a refusal, one of these words
+abbrev pub number_rule : Numerals → Rule
+number_rule numbers =
+    record (new_rule (codes "number")) { value_names = 1; required = true; parser = Some (Names numbers) }
 
 -- `new --site NAME`
 abbrev pub new_site_app : App
@@ -96,19 +120,26 @@ export_app = new_app (codes "export")
 
 -- `filter --id ID [--scheme SCHEME] [--lenient] FIELD`
 abbrev pub filter_app : Schemes → App
-filter_app schemes = with_rule (with_rule (with_rule (with_rule (new_app (codes "filter")) id_rule) (scheme_rule schemes)) lenient_rule) (field_rule (codes "field"))
+filter_app schemes = with_rule (with_rule (with_rule (with_rule (new_app (codes "filter")) id_rule) (scheme_rule schemes)) (flag_rule (codes "lenient"))) (field_rule (codes "field"))
 
--- `lookup --id ID [--scheme SCHEME] [--lenient] [--default LANG] FIELD`
+-- `lookup --id ID [--scheme SCHEME] [--lenient] [--widen] [--default LANG] FIELD`
 abbrev pub lookup_app : Schemes → App
 lookup_app schemes = preferences_app (with_rule (new_app (codes "lookup")) id_rule) schemes (codes "field")
 
--- `bundle [--scheme SCHEME] [--lenient] [--default LANG] FIELD`
+-- `bundle [--scheme SCHEME] [--lenient] [--widen] [--default LANG] FIELD`
 abbrev pub bundle_app : Schemes → App
 bundle_app schemes = preferences_app (new_app (codes "bundle")) schemes (codes "field")
 
 -- `missing --lang LANG`
 abbrev pub missing_app : App
 missing_app = with_rule (new_app (codes "missing")) lang_rule
+
+-- `outdated --lang LANG --source LANG`
+abbrev pub outdated_app : App
+outdated_app = with_rule (with_rule (new_app (codes "outdated")) lang_rule) source_rule
+
+abbrev pub changes_app : App
+changes_app = new_app (codes "changes")
 
 -- `update --now N`
 abbrev pub update_app : App
@@ -120,14 +151,20 @@ summary_app = new_app (codes "summary")
 abbrev pub delta_app : App
 delta_app = new_app (codes "delta")
 
+-- `take [--not-after N]`
 abbrev pub take_app : App
-take_app = new_app (codes "take")
+take_app = with_rule (new_app (codes "take")) not_after_rule
 
+-- `sync [--not-after N]`
 abbrev pub sync_app : App
-sync_app = new_app (codes "sync")
+sync_app = with_rule (new_app (codes "sync")) not_after_rule
 
 abbrev pub replay_app : App
 replay_app = new_app (codes "replay")
+
+-- `explain NUMBER`
+abbrev pub explain_app : Numerals → App
+explain_app numbers = with_rule (new_app (codes "explain")) (number_rule numbers)
 
 -- the words do not begin with the program's name, and one of them names a subcommand
 abbrev pub bare_app : App
@@ -142,15 +179,20 @@ sites_app app schemes = under (under (under (under (under app (pick_app schemes)
 
 -- with what reads or writes many labels
 abbrev pub labels_app : App → App
-labels_app app = under (under (under (under app import_app) update_app) export_app) missing_app
+labels_app app =
+    under (under (under (under (under (under app import_app) update_app) export_app) missing_app)
+    outdated_app) changes_app
 
 -- with what a reader asks of a site
 abbrev pub questions_app : App → Schemes → App
 questions_app app schemes = under (under (under app (filter_app schemes)) (lookup_app schemes)) (bundle_app schemes)
 
--- with what two sites exchange, and with a replay of what they did
-abbrev pub exchange_app : App → App
-exchange_app app = under (under (under (under (under app summary_app) delta_app) take_app) sync_app) replay_app
+-- with what two sites exchange, with a replay of what they did, and with what a refusal is
+abbrev pub exchange_app : App → Numerals → App
+exchange_app app numbers =
+    under (under (under (under (under (under app summary_app) delta_app) take_app) sync_app) replay_app)
+    (explain_app numbers)
 
-abbrev pub lexicat_app : Schemes → App
-lexicat_app schemes = exchange_app (questions_app (labels_app (sites_app bare_app schemes)) schemes)
+abbrev pub lexicat_app : Schemes → Numerals → App
+lexicat_app schemes numbers =
+    exchange_app (questions_app (labels_app (sites_app bare_app schemes)) schemes) numbers

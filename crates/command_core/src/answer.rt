@@ -2,6 +2,7 @@
 ghost use Rattle.std.specs.Prelude.{◌≡◌, false, MatchResult};
 ghost use Rattle.command_core.specs.Endings.{EndsRefused, Writes};
 ghost use Rattle.command_core.specs.Status.{answer_status};
+ghost use Rattle.command_core.specs.Streams.{writes};
 
 use crate::fault_line::refuse;
 use crate::output::print;
@@ -16,8 +17,12 @@ pub(crate) type Answered = Result<Answer, FrontFault>;
 pub(crate) fn finish<W: Sink, F: Sink>(answered: Answered, writer: &mut W, faults: &mut F) -> u8
     requires { W.failed writer.old ≡ false }
     ensures ends { MatchResult answered
-        (λ answer. Writes W.contents W.failed F.contents F.failed answer.text (answer_status answer.outcome) writer.old writer.new faults.old faults.new result)
-        (λ fault. EndsRefused W.contents W.failed F.contents F.failed fault writer.old writer.new faults.old faults.new result) }
+        (λ answer. Writes answer.text (answer_status answer.outcome)
+        (writes W.contents W.failed writer.old writer.new)
+        (writes F.contents F.failed faults.old faults.new) result)
+        (λ fault. EndsRefused fault
+        (writes W.contents W.failed writer.old writer.new)
+        (writes F.contents F.failed faults.old faults.new) result) }
 {
     match answered {
         Ok(answer) => print(

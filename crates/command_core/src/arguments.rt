@@ -1,8 +1,12 @@
 //! The arguments of the commands, each with its rule.
-ghost use Rattle.std.specs.Prelude.{◌≡◌, false, IfOk};
+ghost use Rattle.std.specs.Prelude.{◌≡◌, false, codes, IfOk};
 ghost use Rattle.clap.specs.Words.{app_of};
 ghost use Rattle.clap.specs.declared.builder.command.Command.TheViews.{out-Command};
-ghost use Rattle.command_core.specs.Words.{IsArgument, IsCommand, default_rule, edit_app, field_rule, id_rule, lang_rule, lenient_rule, now_rule, preferences_app, required_rule, scheme_rule, site_rule, words_rule};
+ghost use Rattle.command_core.specs.Words.{IsArgument, IsCommand, default_rule, edit_app};
+ghost use Rattle.command_core.specs.Words.{field_rule, flag_rule, id_rule, lang_rule};
+ghost use Rattle.command_core.specs.Words.{not_after_rule, now_rule, number_rule, preferences_app};
+ghost use Rattle.command_core.specs.Words.{required_rule, scheme_rule, site_rule, source_rule};
+ghost use Rattle.command_core.specs.Words.{words_rule};
 
 use clap::{Arg, ArgAction, Command, value_parser};
 use std::alloc::{AllocError, Global};
@@ -20,14 +24,37 @@ pub(crate) fn scheme<'a>(alloc: Global, schemes: &'a [&'a str]) -> Arg<'a>
 
 /// `--lenient`, which takes no value.
 pub(crate) fn lenient<'a>(alloc: Global) -> Arg<'a>
-    ensures { IsArgument lenient_rule result }
+    ensures { IsArgument (flag_rule (codes "lenient")) result }
 {
-    Arg::new(alloc, "lenient")
-        .long("lenient")
-        .help(
-            "Skip malformed elements of the ranges, also one that would refuse a language, as de;q=0.0000",
-        )
-        .action(ArgAction::SetTrue)
+    flag(
+        alloc,
+        "lenient",
+        "Skip malformed elements of the ranges, also one that would refuse a language, as \
+            de;q=0.0000",
+    )
+}
+
+/// `--widen`, which takes no value.
+pub(crate) fn widen<'a>(alloc: Global) -> Arg<'a>
+    ensures { IsArgument (flag_rule (codes "widen")) result }
+{
+    flag(
+        alloc,
+        "widen",
+        "Let a range also find the languages that it matches, as en finds en-us; RFC 4647 does not",
+    )
+}
+
+/// `--all`, which takes no value.
+pub(crate) fn all<'a>(alloc: Global) -> Arg<'a>
+    ensures { IsArgument (flag_rule (codes "all")) result }
+{
+    flag(
+        alloc,
+        "all",
+        "Print all tags that fit with their weights, best first; goes with neither --default nor \
+            --widen",
+    )
 }
 
 /// `--now`, the moment of an edit.
@@ -40,6 +67,28 @@ pub(crate) fn now<'a>(alloc: Global) -> Arg<'a>
         .help("The moment of the edit, a whole number; by custom milliseconds since 1970")
         .required(true)
         .value_parser(value_parser!(u64))
+}
+
+/// `--not-after`, the latest time that is taken.
+pub(crate) fn not_after<'a>(alloc: Global) -> Arg<'a>
+    ensures { IsArgument not_after_rule result }
+{
+    Arg::new(alloc, "not-after")
+        .long("not-after")
+        .value_name("N")
+        .help("Refuse the documents of others if one has a time after this, a whole number")
+        .value_parser(value_parser!(u64))
+}
+
+/// The number of a refusal.
+pub(crate) fn number<'a>(alloc: Global, numbers: &'a [&'a str]) -> Arg<'a>
+    ensures { IsArgument (number_rule numbers.entry) result }
+{
+    Arg::new(alloc, "number")
+        .value_name("NUMBER")
+        .help("The number of a refusal")
+        .required(true)
+        .value_parser(numbers)
 }
 
 /// `--site`, the name of a site.
@@ -73,6 +122,18 @@ pub(crate) fn lang<'a>(alloc: Global) -> Arg<'a>
     required(alloc, "lang", "LANG", "A language tag, or @none")
 }
 
+/// `--source`, the language that a label was translated from.
+pub(crate) fn source<'a>(alloc: Global) -> Arg<'a>
+    ensures { IsArgument source_rule result }
+{
+    required(
+        alloc,
+        "source",
+        "LANG",
+        "The language that was translated from, or @none",
+    )
+}
+
 /// The command with what a reader prefers: how the ranges are read, the default, and the ranges by
 /// this name.
 pub(crate) fn with_preferences<'a>(
@@ -88,6 +149,7 @@ pub(crate) fn with_preferences<'a>(
     command
         .arg(scheme(alloc, schemes))?
         .arg(lenient(alloc))?
+        .arg(widen(alloc))?
         .arg(default(alloc))?
         .arg(field(alloc, name, value))
 }
@@ -108,7 +170,8 @@ fn default<'a>(alloc: Global) -> Arg<'a>
         .long("default")
         .value_name("LANG")
         .help(
-            "The language to answer where nothing fits, if it is available and the ranges do not refuse it",
+            "The language to answer where nothing fits, if it is available and the ranges do not \
+                refuse it",
         )
 }
 
@@ -132,6 +195,16 @@ pub(crate) fn words<'a>(alloc: Global, name: &'a str, value: &'a str, help: &'a 
         .required(true)
         .num_args(1..)
         .action(ArgAction::Append)
+}
+
+/// An option that takes no value.
+fn flag<'a>(alloc: Global, name: &'a str, help: &'a str) -> Arg<'a>
+    ensures { IsArgument (flag_rule name.entry.now) result }
+{
+    Arg::new(alloc, name)
+        .long(name)
+        .help(help)
+        .action(ArgAction::SetTrue)
 }
 
 /// An option that must be given, with a value.

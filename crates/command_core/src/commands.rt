@@ -16,16 +16,20 @@ use clap::Command;
 use std::alloc::{AllocError, Global};
 
 /// The version that `--version` prints.
-const VERSION: &str = "0.2.0";
+const VERSION: &str = "0.3.0";
 
 /// The program and all its commands, in the order in which the help shows them.
-pub(crate) fn lexicat<'a>(alloc: Global, schemes: &'a [&'a str]) -> Result<Command<'a>, AllocError>
-    ensures { IfOk result (λ c. app_of c ≡ lexicat_app schemes.entry) }
+pub(crate) fn lexicat<'a>(
+    alloc: Global,
+    schemes: &'a [&'a str],
+    numbers: &'a [&'a str],
+) -> Result<Command<'a>, AllocError>
+    ensures { IfOk result (λ c. app_of c ≡ lexicat_app schemes.entry numbers.entry) }
 {
     let sites = with_sites(alloc, bare(alloc)?, schemes)?;
     let labels = with_labels(alloc, sites)?;
     let questions = with_questions(alloc, labels, schemes)?;
-    with_exchange(alloc, questions)
+    with_exchange(alloc, questions, numbers)
 }
 
 /// The program without its commands.
@@ -34,10 +38,14 @@ fn bare<'a>(alloc: Global) -> Result<Command<'a>, AllocError>
 {
     Command::new(alloc, "lexicat")
         .about(
-            "Keeps labels in many languages at several sites, and picks the one that a reader wants",
+            "Keeps labels in many languages at several sites, and picks the one that a reader \
+                wants",
         )
         .after_help(
-            "It reads standard input and writes standard output. 'lexicat help COMMAND' has an example of each command; they run one after another, in the order above.\nA line 'refused N: TEXT' is refusal N of the table in 'man lexicat', under DIAGNOSTICS.",
+            "It reads standard input and writes standard output. 'lexicat help COMMAND' has an \
+                example of each command; they run one after another, in the order above.\n\
+                Of a line 'refused N: TEXT', 'lexicat explain N' says what causes it and what to \
+                do.",
         )
         .version(VERSION)
         .no_binary_name(true)

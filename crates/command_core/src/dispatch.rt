@@ -2,11 +2,12 @@
 ghost use Rattle.std.specs.Prelude.{◌≡◌, false};
 ghost use Rattle.clap.specs.Words.{subcommand_rows_of};
 ghost use Rattle.command_core.specs.Acts.{ActsBy, Treats};
+ghost use Rattle.command_core.specs.Streams.{reads, streams, writes};
 ghost use Rattle.command_core.specs.TaskWords.{Replay};
 ghost use Rattle.command_core.specs.Values.{task_values};
 
 use crate::answer::finish;
-use crate::fault_line::refuse;
+use crate::fault_line::{refuse, refuse_arguments};
 use crate::sites::sync;
 use crate::status;
 use crate::task::{Task, answer, read};
@@ -15,8 +16,8 @@ use docs_core::{Sink, Source};
 use front_core::FrontFault;
 use std::alloc::Global;
 
-/// Does what the matches say, and gives the status. Matches without a command of the program, or
-/// without an argument that the command needs, are a usage fault.
+/// Does what the matches say, and gives the status. Matches without a command of the program, without
+/// an argument that the command needs, or with two that do not go together, are a usage fault.
 pub fn act<R: Source, W: Sink, F: Sink>(
     alloc: Global,
     matches: &ArgMatches<'_>,
@@ -27,10 +28,13 @@ pub fn act<R: Source, W: Sink, F: Sink>(
     requires reads { R.failed reader.old ≡ false }
     requires writes { W.failed writer.old ≡ false }
     requires reports { F.failed faults.old ≡ false }
-    ensures acts { ActsBy R.remaining R.failed W.contents W.failed F.contents F.failed (subcommand_rows_of matches.now) reader.old reader.new writer.old writer.new faults.old faults.new result }
+    ensures acts { ActsBy (subcommand_rows_of matches.now) (streams
+        (reads R.remaining R.failed reader.old reader.new)
+        (writes W.contents W.failed writer.old writer.new)
+        (writes F.contents F.failed faults.old faults.new)) result }
 {
     let Some(task) = read(matches) else {
-        return status::USAGE;
+        return refuse_arguments(faults);
     };
     perform(alloc, task, reader, writer, faults)
 }
@@ -45,10 +49,13 @@ fn perform<R: Source, W: Sink, F: Sink>(
 ) -> u8
     requires reads { R.failed reader.old ≡ false }
     requires writes { W.failed writer.old ≡ false }
-    ensures acts { Treats R.remaining R.failed W.contents W.failed F.contents F.failed (task_values task.entry) reader.old reader.new writer.old writer.new faults.old faults.new result }
+    ensures acts { Treats (task_values task.entry) (streams
+        (reads R.remaining R.failed reader.old reader.new)
+        (writes W.contents W.failed writer.old writer.new)
+        (writes F.contents F.failed faults.old faults.new)) result }
 {
     match task {
-        Task::Sync => sync(alloc, reader, writer, faults),
+        Task::Sync(not_after) => sync(alloc, not_after, reader, writer, faults),
         Task::Replay => replay(alloc, reader, writer, faults),
         task => finish(answer(alloc, task, reader), writer, faults),
     }
@@ -63,7 +70,10 @@ fn replay<R: Source, W: Sink, F: Sink>(
 ) -> u8
     requires reads { R.failed reader.old ≡ false }
     requires writes { W.failed writer.old ≡ false }
-    ensures acts { Treats R.remaining R.failed W.contents W.failed F.contents F.failed Replay reader.old reader.new writer.old writer.new faults.old faults.new result }
+    ensures acts { Treats Replay (streams
+        (reads R.remaining R.failed reader.old reader.new)
+        (writes W.contents W.failed writer.old writer.new)
+        (writes F.contents F.failed faults.old faults.new)) result }
 {
     match docs_core::replay(alloc, reader, writer) {
         Ok(()) => status::ANSWERED,

@@ -1,21 +1,25 @@
-//! The commands whose only argument is `--now`, if any: all else comes in documents.
+//! The commands that take a number at most, `--now` or `--not-after`: all else comes in documents.
 ghost use Rattle.std.specs.Prelude.{◌≡◌, false, MatchResult};
-ghost use Rattle.docs_core.specs.Checks.{OrMemory};
-ghost use Rattle.docs_core.specs.ReadsAs.{no_memory};
+ghost use Rattle.json_docs.specs.Checks.{OrMemory};
+ghost use Rattle.site_docs.specs.ReadsAs.{no_memory};
 ghost use Rattle.command_core.specs.Acts.{Performs};
-ghost use Rattle.command_core.specs.Documents.{IsDocument, RefusesDocuments};
-ghost use Rattle.command_core.specs.TaskWords.{Document, document_words};
+ghost use Rattle.command_core.specs.Documents.{AreChangesOf, IsDocument, RefusesChanges};
+ghost use Rattle.command_core.specs.Documents.{RefusesDocuments};
+ghost use Rattle.command_core.specs.Streams.{reads};
+ghost use Rattle.command_core.specs.TaskWords.{Changes, Document, document_words};
 
 use crate::answer::Answered;
 use crate::input::two_documents;
+use crate::matches::Numbers;
 use docs_core::{
-    Doc, DocFault, Source, delta_document, export_document, import_document, read_all,
-    status_document, summary_document, take_document, update_document,
+    Doc, DocFault, Source, changes_document, delta_document, export_document, import_document,
+    read_all, status_document, summary_document, take_document_until, update_document,
 };
 use front_core::{Answer, Outcome};
 use std::alloc::Global;
 
-/// A command that reads documents, with its moment where it edits.
+/// A command that reads documents, with its moment where it edits, and with the latest time that it
+/// takes, where there is one.
 #[derive(Clone, Copy)]
 pub(crate) enum DocumentTask {
     Status,
@@ -24,14 +28,14 @@ pub(crate) enum DocumentTask {
     Export,
     Summary,
     Delta,
-    Take,
+    Take(Option<u64>),
 }
 
-/// The task of the command of this name, at this moment, where its only argument is `--now`, if
-/// any.
-pub(crate) fn task_of(name: &str, now: Option<u64>) -> Option<DocumentTask>
-    ensures { result ≡ document_words name.now now }
+/// The task of the command of this name, where its only argument is one of these numbers, if any.
+pub(crate) fn task_of(name: &str, numbers: Numbers) -> Option<DocumentTask>
+    ensures { result ≡ document_words name.now numbers }
 {
+    let Numbers { now, not_after, .. } = numbers;
     match name {
         "status" => Some(DocumentTask::Status),
         "import" => Some(DocumentTask::Import(now?)),
@@ -39,7 +43,7 @@ pub(crate) fn task_of(name: &str, now: Option<u64>) -> Option<DocumentTask>
         "export" => Some(DocumentTask::Export),
         "summary" => Some(DocumentTask::Summary),
         "delta" => Some(DocumentTask::Delta),
-        "take" => Some(DocumentTask::Take),
+        "take" => Some(DocumentTask::Take(not_after)),
         _ => None,
     }
 }
@@ -47,16 +51,37 @@ pub(crate) fn task_of(name: &str, now: Option<u64>) -> Option<DocumentTask>
 /// What answers the documents of the input.
 pub(crate) fn answer_of<R: Source>(alloc: Global, task: DocumentTask, reader: &mut R) -> Answered
     requires { R.failed reader.old ≡ false }
-    ensures { Performs R.remaining R.failed (Document task) reader.old reader.new result }
+    ensures { Performs (Document task)
+        (reads R.remaining R.failed reader.old reader.new) result }
 {
     let input = read_all(alloc, reader)?;
     let text = document_of(alloc, task, input.bytes())?;
     Ok(Answer::new(text, Outcome::Found))
 }
 
+/// How the cells of the two sites of the input differ.
+pub(crate) fn changes<R: Source>(alloc: Global, reader: &mut R) -> Answered
+    requires { R.failed reader.old ≡ false }
+    ensures { Performs Changes (reads R.remaining R.failed reader.old reader.new) result }
+{
+    let sites = read_all(alloc, reader)?;
+    let (text, is_changed) = changes_of(alloc, sites.bytes())?;
+    Ok(Answer::new(text, Outcome::of(is_changed)))
+}
+
+/// How the cells of the two sites of these bytes differ, and whether they do.
+fn changes_of(alloc: Global, input: &[u8]) -> Result<(Doc, bool), DocFault>
+    ensures { MatchResult result (λ found. AreChangesOf input.now found.0 found.1)
+        (OrMemory no_memory (RefusesChanges input.now)) }
+{
+    let (before, after) = two_documents(input);
+    changes_document(alloc, before, after)
+}
+
 /// What answers the documents of these bytes.
 fn document_of(alloc: Global, task: DocumentTask, input: &[u8]) -> Result<Doc, DocFault>
-    ensures { MatchResult result (IsDocument task input.now) (OrMemory no_memory (RefusesDocuments task input.now)) }
+    ensures { MatchResult result (IsDocument task input.now)
+        (OrMemory no_memory (RefusesDocuments task input.now)) }
 {
     match task {
         DocumentTask::Status => status_document(alloc, input),
@@ -75,9 +100,9 @@ fn document_of(alloc: Global, task: DocumentTask, input: &[u8]) -> Result<Doc, D
             let (site, summary) = two_documents(input);
             delta_document(alloc, site, summary)
         }
-        DocumentTask::Take => {
+        DocumentTask::Take(not_after) => {
             let (site, delta) = two_documents(input);
-            take_document(alloc, site, delta)
+            take_document_until(alloc, site, delta, not_after)
         }
     }
 }

@@ -1,6 +1,7 @@
 //! The commands `put` and `delete`.
 ghost use Rattle.std.specs.Prelude.{◌≡◌, false};
 ghost use Rattle.command_core.specs.Acts.{Performs};
+ghost use Rattle.command_core.specs.Streams.{reads};
 ghost use Rattle.command_core.specs.TaskWords.{Edit};
 ghost use Rattle.command_core.specs.Values.{edit_values};
 
@@ -30,7 +31,8 @@ pub(crate) fn answer_of<R: Source>(
     reader: &mut R,
 ) -> Answered
     requires { R.failed reader.old ≡ false }
-    ensures { Performs R.remaining R.failed (Edit (edit_values values.entry)) reader.old reader.new result }
+    ensures { Performs (Edit (edit_values values.entry))
+        (reads R.remaining R.failed reader.old reader.new) result }
 {
     let key = read_key(alloc, values.id, values.lang)?;
     let label = read_label(alloc, values.texts)?;

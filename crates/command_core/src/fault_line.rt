@@ -5,9 +5,11 @@ ghost use Rattle.std_io.specs.IoError.{error_kind};
 ghost use Rattle.arrayvec.specs.ArrayString.{array_string_len};
 ghost use Rattle.front_core.specs.Faults.{number_of};
 ghost use Rattle.front_core.specs.declared.fault.FrontFault.TheVariants.{NoMemory};
-ghost use Rattle.command_core.specs.Endings.{LacksWords};
-ghost use Rattle.command_core.specs.FaultLine.{PrintsFault, PrintsRefusal, counted, document_meant, fault_line};
+ghost use Rattle.command_core.specs.Endings.{LacksWords, TellsUsage, usage_line};
+ghost use Rattle.command_core.specs.FaultLine.{PrintsFault, PrintsRefusal, counted, document_meant};
+ghost use Rattle.command_core.specs.FaultLine.{fault_line};
 ghost use Rattle.command_core.specs.Status.{status_of};
+ghost use Rattle.command_core.specs.Streams.{writes};
 
 use crate::status;
 use arrayvec::ArrayString;
@@ -27,7 +29,7 @@ const LINE_BYTES: usize = 320;
 /// D` where they are named. A text of more than 160 bytes would be cut and end in dots.
 pub fn refuse<S: Sink>(faults: &mut S, fault: FrontFault) -> u8
     ensures status { result ≡ status_of (number_of fault) }
-    ensures reported { PrintsRefusal S.contents S.failed fault faults.old faults.new }
+    ensures reported { PrintsRefusal fault (writes S.contents S.failed faults.old faults.new) }
 {
     let number = fault.number();
     report(faults, number, &fault, fault.row(), fault.document());
@@ -38,21 +40,41 @@ pub fn refuse<S: Sink>(faults: &mut S, fault: FrontFault) -> u8
 /// for them, or one is not UTF-8, which is a usage fault.
 pub fn refuse_words<S: Sink>(faults: &mut S, error: &io::Error) -> u8
     requires { S.failed faults.old ≡ false }
-    ensures { LacksWords S.contents S.failed (error_kind error.now) faults.old faults.new result }
+    ensures { LacksWords (error_kind error.now)
+        (writes S.contents S.failed faults.old faults.new) result }
 {
     if error.kind() == io::ErrorKind::OutOfMemory {
         return refuse_for_memory(faults);
     }
-    let _ = write_out(faults, b"error: a word is not UTF-8\n");
-    status::USAGE
+    tell_usage(faults, b"error: a word is not UTF-8\n")
+}
+
+/// Reports that no command takes the arguments, and gives the status.
+pub(crate) fn refuse_arguments<S: Sink>(faults: &mut S) -> u8
+    requires { S.failed faults.old ≡ false }
+    ensures { TellsUsage usage_line (writes S.contents S.failed faults.old faults.new) result }
+{
+    tell_usage(
+        faults,
+        b"error: no command takes these arguments together\n\nFor more information, try '--help'.\n",
+    )
 }
 
 /// Reports that memory ended, and gives the status.
 pub(crate) fn refuse_for_memory<S: Sink>(faults: &mut S) -> u8
     ensures status { result ≡ 5 }
-    ensures reported { PrintsRefusal S.contents S.failed NoMemory faults.old faults.new }
+    ensures reported { PrintsRefusal NoMemory (writes S.contents S.failed faults.old faults.new) }
 {
     refuse(faults, FrontFault::NoMemory)
+}
+
+/// Writes what is wrong with the arguments, and gives the status.
+fn tell_usage<S: Sink>(faults: &mut S, line: &[u8]) -> u8
+    requires { S.failed faults.old ≡ false }
+    ensures { TellsUsage line.now (writes S.contents S.failed faults.old faults.new) result }
+{
+    let _ = write_out(faults, line);
+    status::USAGE
 }
 
 /// Writes the line at once, so that the line of another process can't come between.
@@ -63,7 +85,8 @@ fn report<S: Sink, T: Display>(
     row: Option<usize>,
     document: u8,
 )
-    ensures { PrintsFault S.contents S.failed number (T.output text.now) row document faults.old faults.new }
+    ensures { PrintsFault number (T.output text.now) row document
+        (writes S.contents S.failed faults.old faults.new) }
 {
     if !faults.failed() {
         let text = InlineText::<TEXT_BYTES>::of(text);

@@ -1,10 +1,10 @@
 //! Laws over the definitions alone, each the contract of a function that does nothing.
 ghost use Rattle.std.specs.Prelude.{◌++◌, List, ℕ};
 ghost use Rattle.cata_core.specs.Sites.{SiteState};
-ghost use Rattle.docs_core.specs.LangMapLabels.{AreLangMaps};
-ghost use Rattle.docs_core.specs.LangMaps.{Labelled};
-ghost use Rattle.docs_core.specs.ReadsAs.{IsSiteText, ReadsAsSite};
-ghost use Rattle.docs_core.specs.Texts.{IsOneLine};
+ghost use Rattle.site_docs.specs.ReadsAs.{IsSiteText, ReadsAsSite};
+ghost use Rattle.site_docs.specs.Texts.{IsOneLine};
+ghost use Rattle.map_docs.specs.LangMapLabels.{AreLangMaps};
+ghost use Rattle.map_docs.specs.LangMaps.{Labelled};
 ghost use Rattle.command_core.specs.Input.{AreDocuments};
 
 /// A text that was written stands before the next document of an input: the input is cut behind it,

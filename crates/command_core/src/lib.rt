@@ -22,6 +22,7 @@ mod commands;
 mod dispatch;
 mod documents;
 mod edits;
+mod explaining;
 mod fault_line;
 mod input;
 pub mod laws;

@@ -4,13 +4,13 @@ ghost use Rattle.std.specs.Option.{option_copied};
 ghost use Rattle.clap.specs.Words.{all_of, first_of, found_of, rows_of};
 ghost use Rattle.front_core.specs.Fields.{field_text};
 ghost use Rattle.command_core.specs.FieldWords as spec;
-ghost use Rattle.command_core.specs.Matches.{GivesNow};
+ghost use Rattle.command_core.specs.Matches.{GivesNumber, GivesNumbers};
 ghost use Rattle.command_core.specs.Values.{preference_values};
 
 use clap::ArgMatches;
 use front_core::Field;
 use front_core::words::bytes_of;
-use nego_core::{Malformed, Scheme};
+use nego_core::{Malformed, Scheme, Widening};
 
 /// The first text of an argument.
 pub(crate) fn text_of<'a>(matches: &ArgMatches<'a>, id: &str) -> Option<&'a str>
@@ -27,23 +27,47 @@ pub(crate) fn texts_of<'m, 'a>(matches: &'m ArgMatches<'a>, id: &str) -> Option<
     matches.get_strs(id)
 }
 
-/// The time that `--now` gives.
-pub(crate) fn now_of(matches: &ArgMatches<'_>) -> Option<u64>
-    ensures { GivesNow (rows_of (found_of matches.now)) result }
-{
-    matches.get_one::<u64>("now")
+/// The numbers among the arguments.
+#[derive(Clone, Copy)]
+pub(crate) struct Numbers {
+    /// The moment, `--now`.
+    pub now: Option<u64>,
+    /// The latest time that is taken, `--not-after`.
+    pub not_after: Option<u64>,
+    /// The number of a refusal.
+    pub number: Option<u64>,
 }
 
-/// The field of an argument, read as `--scheme` and `--lenient` say.
+/// The numbers that the arguments give.
+pub(crate) fn numbers_of(matches: &ArgMatches<'_>) -> Numbers
+    ensures { GivesNumbers (rows_of (found_of matches.now)) result }
+{
+    Numbers {
+        now: number_of(matches, "now"),
+        not_after: number_of(matches, "not-after"),
+        number: number_of(matches, "number"),
+    }
+}
+
+/// The number that an argument gives.
+fn number_of(matches: &ArgMatches<'_>, id: &str) -> Option<u64>
+    ensures { GivesNumber id.now (rows_of (found_of matches.now)) result }
+{
+    matches.get_one::<u64>(id)
+}
+
+/// The field of an argument, read as `--scheme`, `--lenient` and `--widen` say.
 pub(crate) fn field_of<'a>(matches: &ArgMatches<'a>, id: &str) -> Option<Field<'a>>
     ensures { option_map field_text result ≡ spec.field_of id.now (rows_of (found_of matches.now)) }
 {
     let text = text_of(matches, id)?;
     let scheme = scheme_of(text_of(matches, "scheme"));
-    let malformed = malformed_of(text_of(matches, "lenient"));
+    let malformed = malformed_of(is_given(matches, "lenient"));
+    let widening = widening_of(is_given(matches, "widen"), scheme);
     Some(Field {
         scheme,
         malformed,
+        widening,
         text: text.as_bytes(),
     })
 }
@@ -59,7 +83,8 @@ pub(crate) struct PreferenceValues<'a> {
 
 /// The preferences whose field is this argument.
 pub(crate) fn preferences_of<'a>(matches: &ArgMatches<'a>, id: &str) -> Option<PreferenceValues<'a>>
-    ensures { option_map preference_values result ≡ spec.preference_words id.now (rows_of (found_of matches.now)) }
+    ensures { option_map preference_values result
+        ≡ spec.preference_words id.now (rows_of (found_of matches.now)) }
 {
     let field = field_of(matches, id)?;
     let default = text_bytes(matches, "default");
@@ -73,6 +98,13 @@ pub(crate) fn text_bytes<'a>(matches: &ArgMatches<'a>, id: &str) -> Option<&'a [
     bytes_of(text_of(matches, id))
 }
 
+/// Whether an option without a value is given.
+pub(crate) fn is_given(matches: &ArgMatches<'_>, id: &str) -> bool
+    ensures { result ≡ spec.is_given (first_of id.now (rows_of (found_of matches.now))) }
+{
+    is_true(text_of(matches, id))
+}
+
 /// The scheme of an argument; where there is none, the basic one.
 fn scheme_of(word: Option<&str>) -> Scheme
     ensures { result ≡ spec.scheme_of (option_copied word.entry) }
@@ -83,13 +115,34 @@ fn scheme_of(word: Option<&str>) -> Scheme
     }
 }
 
-/// What becomes of malformed elements: clap gives the flag `--lenient` the text "true" where it is
-/// present, and else "false".
-fn malformed_of(word: Option<&str>) -> Malformed
-    ensures { result ≡ spec.malformed_of (option_copied word.entry) }
+/// Whether an option has the text that clap gives it where it is present; else it has "false".
+fn is_true(word: Option<&str>) -> bool
+    ensures { result ≡ spec.is_given (option_copied word.entry) }
 {
     match word {
-        Some("true") => Malformed::PassedOver,
-        _ => Malformed::Refused,
+        Some("true") => true,
+        _ => false,
+    }
+}
+
+/// Whether ranges find what they match by the scheme.
+fn widening_of(widens: bool, scheme: Scheme) -> Widening
+    ensures { result ≡ spec.widening_of widens scheme }
+{
+    if widens {
+        Widening::By(scheme)
+    } else {
+        Widening::Off
+    }
+}
+
+/// What becomes of malformed elements.
+fn malformed_of(is_lenient: bool) -> Malformed
+    ensures { result ≡ spec.malformed_of is_lenient }
+{
+    if is_lenient {
+        Malformed::PassedOver
+    } else {
+        Malformed::Refused
     }
 }

@@ -1,10 +1,11 @@
 //! What a command answers, on its way to the output.
 ghost use Rattle.std.specs.Prelude.{◌≡◌, ◌++◌, false, is_err, IfErr, OnOk};
 ghost use Rattle.std.specs.Io.KnownBytes.{Appends};
-ghost use Rattle.docs_core.specs.Faults.{of_no_document};
-ghost use Rattle.docs_core.specs.declared.fault.DocCause.TheVariants.{WriteFault};
-ghost use Rattle.docs_core.specs.Sinks.{AppendsFront};
+ghost use Rattle.json_docs.specs.Faults.{of_no_document};
+ghost use Rattle.json_docs.specs.Sinks.{AppendsFront};
+ghost use Rattle.json_docs.specs.declared.fault.DocCause.TheVariants.{WriteFault};
 ghost use Rattle.command_core.specs.Endings.{Writes};
+ghost use Rattle.command_core.specs.Streams.{writes};
 
 use crate::fault_line::refuse;
 use crate::status;
@@ -14,7 +15,9 @@ use front_core::FrontFault;
 /// Writes the whole text and gives the status, or that of the fault of the output.
 pub(crate) fn print<W: Sink, F: Sink>(text: &Doc, status: u8, writer: &mut W, faults: &mut F) -> u8
     requires { W.failed writer.old ≡ false }
-    ensures written { Writes W.contents W.failed F.contents F.failed text.now status writer.old writer.new faults.old faults.new result }
+    ensures written { Writes text.now status
+        (writes W.contents W.failed writer.old writer.new)
+        (writes F.contents F.failed faults.old faults.new) result }
 {
     match write_out(writer, text.bytes()) {
         Ok(()) => status,
@@ -30,7 +33,9 @@ pub(crate) fn print_both<W: Sink, F: Sink>(
     faults: &mut F,
 ) -> u8
     requires { W.failed writer.old ≡ false }
-    ensures written { Writes W.contents W.failed F.contents F.failed (first.now ++ second.now) 0 writer.old writer.new faults.old faults.new result }
+    ensures written { Writes (first.now ++ second.now) 0
+        (writes W.contents W.failed writer.old writer.new)
+        (writes F.contents F.failed faults.old faults.new) result }
 {
     match write_both(first, second, writer) {
         Ok(()) => status::ANSWERED,

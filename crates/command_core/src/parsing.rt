@@ -3,6 +3,7 @@ ghost use Rattle.std.specs.Prelude.{◌≡◌, map, option_map, IfOk, MatchResul
 ghost use Rattle.cell_core.specs.Labels.{texts_of};
 ghost use Rattle.lang_core.specs.Lang.{SpellsLang, RefusesLang};
 ghost use Rattle.command_core.specs.Parsing.{IsKey, RefusesKey, IsLabelOf, RefusesLabelWords};
+ghost use Rattle.command_core.specs.Parsing.{IsTranslation, RefusesTranslation};
 
 use cell_core::{CellFault, Label, MessageId};
 use front_core::FrontFault;
@@ -32,6 +33,29 @@ pub(crate) fn read_lang(alloc: Global, word: &str) -> Result<Lang, LangFault>
     ensures { MatchResult result (SpellsLang word.now) (RefusesLang word.now) }
 {
     Lang::parse(alloc, word.as_bytes())
+}
+
+/// A language, and the one that it was translated from.
+#[derive(Drop)]
+pub(crate) struct Translation {
+    /// The language of the translation.
+    pub lang: Lang,
+    /// The language of its original.
+    pub source: Lang,
+}
+
+/// The two languages of these arguments: the translation's is read before the original's.
+pub(crate) fn read_translation(
+    alloc: Global,
+    lang: &str,
+    source: &str,
+) -> Result<Translation, LangFault>
+    ensures { MatchResult result (IsTranslation lang.now source.now)
+        (RefusesTranslation lang.now source.now) }
+{
+    let lang = read_lang(alloc, lang)?;
+    let source = read_lang(alloc, source)?;
+    Ok(Translation { lang, source })
 }
 
 /// The label of these texts, where there are any.

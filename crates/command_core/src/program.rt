@@ -3,6 +3,7 @@ ghost use Rattle.std.specs.Prelude.{◌≡◌, false, codes, map, string_bytes, 
 ghost use Rattle.clap.specs.Words.{kind_of, fault_of, subcommand_of, subcommand_rows_of, FailsBy};
 ghost use Rattle.command_core.specs.Help.{words_meant};
 ghost use Rattle.command_core.specs.Program.{MatchesBy, RunsBy, ReportsBy};
+ghost use Rattle.command_core.specs.Streams.{reads, streams, writes};
 
 use crate::commands::lexicat;
 use crate::dispatch::act;
@@ -17,6 +18,12 @@ use std::convert::AsStr;
 /// The names of the schemes that `--scheme` takes.
 static SCHEMES: [&str; 2] = ["basic", "extended"];
 
+/// The numbers that `explain` takes.
+static NUMBERS: [&str; 29] = [
+    "1", "2", "3", "4", "5", "6", "7", "8", "9", "10", "11", "12", "13", "14", "15", "16", "17",
+    "18", "19", "20", "21", "22", "23", "24", "25", "26", "27", "28", "29",
+];
+
 /// Runs the program on the arguments after its name, and gives its status. `help` is `--help`, and
 /// `help COMMAND` is `COMMAND --help`.
 pub fn run<R: Source, W: Sink, F: Sink>(
@@ -29,7 +36,10 @@ pub fn run<R: Source, W: Sink, F: Sink>(
     requires reads { R.failed reader.old ≡ false }
     requires writes { W.failed writer.old ≡ false }
     requires reports { F.failed faults.old ≡ false }
-    ensures runs { RunsBy R.remaining R.failed W.contents W.failed F.contents F.failed (words_meant (map string_bytes words.now)) reader.old reader.new writer.old writer.new faults.old faults.new result }
+    ensures runs { RunsBy (words_meant (map string_bytes words.now)) (streams
+        (reads R.remaining R.failed reader.old reader.new)
+        (writes W.contents W.failed writer.old writer.new)
+        (writes F.contents F.failed faults.old faults.new)) result }
 {
     match words {
         [help] if help.as_str() == "help" => {
@@ -53,7 +63,10 @@ fn answer_words<S: AsStr, R: Source, W: Sink, F: Sink>(
     requires reads { R.failed reader.old ≡ false }
     requires writes { W.failed writer.old ≡ false }
     requires reports { F.failed faults.old ≡ false }
-    ensures runs { RunsBy R.remaining R.failed W.contents W.failed F.contents F.failed (map S.text words.now) reader.old reader.new writer.old writer.new faults.old faults.new result }
+    ensures runs { RunsBy (map S.text words.now) (streams
+        (reads R.remaining R.failed reader.old reader.new)
+        (writes W.contents W.failed writer.old writer.new)
+        (writes F.contents F.failed faults.old faults.new)) result }
 {
     match matches_of(alloc, words) {
         Ok(matches) => act(alloc, &matches, reader, writer, faults),
@@ -65,14 +78,16 @@ fn answer_words<S: AsStr, R: Source, W: Sink, F: Sink>(
 fn matches_of<S: AsStr>(alloc: Global, words: &[S]) -> Result<ArgMatches<'_>, Error>
     ensures { MatchesBy (map S.text words.now) result }
 {
-    lexicat(alloc, SCHEMES.as_slice())?.try_get_matches_from(words)
+    lexicat(alloc, SCHEMES.as_slice(), NUMBERS.as_slice())?.try_get_matches_from(words)
 }
 
 /// Writes the help, the version or the usage.
 fn report<W: Sink, F: Sink>(alloc: Global, error: &Error, writer: &mut W, faults: &mut F) -> u8
     requires writes { W.failed writer.old ≡ false }
     requires reports { F.failed faults.old ≡ false }
-    ensures reports { ReportsBy W.contents W.failed F.contents F.failed (kind_of error.now) writer.old writer.new faults.old faults.new result }
+    ensures reports { ReportsBy (kind_of error.now)
+        (writes W.contents W.failed writer.old writer.new)
+        (writes F.contents F.failed faults.old faults.new) result }
 {
     if error.kind() == ErrorKind::OutOfMemory {
         return refuse_for_memory(faults);

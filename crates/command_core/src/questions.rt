@@ -1,29 +1,50 @@
-//! The commands that question a site: `missing`, `filter`, `lookup` and `bundle`.
+//! The commands that question a site: `missing`, `outdated`, `filter`, `lookup` and `bundle`.
 ghost use Rattle.std.specs.Prelude.{◌≡◌, false, MatchResult};
 ghost use Rattle.front_core.specs.Fields.{field_text};
 ghost use Rattle.command_core.specs.Acts.{Performs};
 ghost use Rattle.command_core.specs.Documents.{RefusesOnly};
 ghost use Rattle.command_core.specs.Reading.{FailsInput, ReadsSite};
-ghost use Rattle.command_core.specs.TaskWords.{Bundle, Filter as FilterTask, Lookup as LookupTask, Missing};
+ghost use Rattle.command_core.specs.Streams.{reads};
+ghost use Rattle.command_core.specs.TaskWords.{Bundle, Filter as FilterTask, Lookup as LookupTask};
+ghost use Rattle.command_core.specs.TaskWords.{Missing, Outdated};
 ghost use Rattle.command_core.specs.Values.{preference_values};
 
 use crate::answer::Answered;
 use crate::matches::PreferenceValues;
-use crate::parsing::read_lang;
+use crate::parsing::{Translation, read_lang, read_translation};
 use cata_core::Site;
-use docs_core::{DocFault, Source, missing_document, read_all, read_site};
+use docs_core::{DocFault, Source, missing_document, outdated_document, read_all, read_site};
 use front_core::{Answer, Field, Filter, Lookup, Outcome, Preferences};
 use std::alloc::Global;
 
 /// The messages of the site of the input that have no label of the language.
 pub(crate) fn missing<R: Source>(alloc: Global, word: &str, reader: &mut R) -> Answered
     requires { R.failed reader.old ≡ false }
-    ensures { Performs R.remaining R.failed (Missing word.now) reader.old reader.new result }
+    ensures { Performs (Missing word.now)
+        (reads R.remaining R.failed reader.old reader.new) result }
 {
     let lang = read_lang(alloc, word)?;
     let site = read_all(alloc, reader)?;
     let (text, is_found) = missing_document(alloc, site.bytes(), &lang)?;
     Ok(Answer::new(text, Outcome::of(is_found)))
+}
+
+/// The messages of the site of the input whose label of the language is older than that of the one
+/// that it was translated from.
+pub(crate) fn outdated<R: Source>(
+    alloc: Global,
+    lang: &str,
+    source: &str,
+    reader: &mut R,
+) -> Answered
+    requires { R.failed reader.old ≡ false }
+    ensures { Performs (Outdated (record { lang = lang.now; source = source.now }))
+        (reads R.remaining R.failed reader.old reader.new) result }
+{
+    let Translation { lang, source } = read_translation(alloc, lang, source)?;
+    let site = read_all(alloc, reader)?;
+    let (text, older) = outdated_document(alloc, site.bytes(), &lang, &source)?;
+    Ok(Answer::new(text, Outcome::of(older)))
 }
 
 /// The lines of the filter over the site of the input.
@@ -34,7 +55,8 @@ pub(crate) fn filter<R: Source>(
     reader: &mut R,
 ) -> Answered
     requires { R.failed reader.old ≡ false }
-    ensures { Performs R.remaining R.failed (FilterTask (record { id = id.now; field = field_text field.entry })) reader.old reader.new result }
+    ensures { Performs (FilterTask (record { id = id.now; field = field_text field.entry }))
+        (reads R.remaining R.failed reader.old reader.new) result }
 {
     let question = Filter::read(alloc, id, field)?;
     let site = read_input(alloc, reader)?;
@@ -50,7 +72,9 @@ pub(crate) fn lookup<R: Source>(
     reader: &mut R,
 ) -> Answered
     requires { R.failed reader.old ≡ false }
-    ensures { Performs R.remaining R.failed (LookupTask (record { id = id.now; preferences = preference_values preferences.entry })) reader.old reader.new result }
+    ensures { Performs
+        (LookupTask (record { id = id.now; preferences = preference_values preferences.entry }))
+        (reads R.remaining R.failed reader.old reader.new) result }
 {
     let question = Lookup::read(alloc, id, preferences.field, preferences.default)?;
     let site = read_input(alloc, reader)?;
@@ -65,7 +89,8 @@ pub(crate) fn bundle<R: Source>(
     reader: &mut R,
 ) -> Answered
     requires { R.failed reader.old ≡ false }
-    ensures { Performs R.remaining R.failed (Bundle (preference_values preferences.entry)) reader.old reader.new result }
+    ensures { Performs (Bundle (preference_values preferences.entry))
+        (reads R.remaining R.failed reader.old reader.new) result }
 {
     let question = Preferences::read(alloc, preferences.field, preferences.default)?;
     let site = read_input(alloc, reader)?;
@@ -76,7 +101,8 @@ pub(crate) fn bundle<R: Source>(
 /// The site of the input.
 fn read_input<R: Source>(alloc: Global, reader: &mut R) -> Result<Site, DocFault>
     requires { R.failed reader.old ≡ false }
-    ensures { MatchResult result (ReadsSite R.remaining R.failed reader.old reader.new) (FailsInput R.remaining R.failed RefusesOnly reader.old reader.new) }
+    ensures { MatchResult result (ReadsSite (reads R.remaining R.failed reader.old reader.new))
+        (FailsInput RefusesOnly (reads R.remaining R.failed reader.old reader.new)) }
 {
     let input = read_all(alloc, reader)?;
     read_site(alloc, input.bytes())

@@ -4,6 +4,7 @@ ghost use Rattle.command_core.specs.Acts.{RefusesNew, IsNew, IsSync, RefusesSync
 ghost use Rattle.command_core.specs.Parsing.{NoWords, RefusesNothing};
 ghost use Rattle.command_core.specs.Reading.{AnswersInput, RefusesInput};
 ghost use Rattle.command_core.specs.Status.{answer_status};
+ghost use Rattle.command_core.specs.Streams.{reads, streams, writes};
 ghost use Rattle.command_core.specs.TaskWords.{Sync};
 
 use crate::answer::Answered;
@@ -12,45 +13,58 @@ use crate::input::two_documents;
 use crate::output::print_both;
 use cata_core::Site;
 use cell_core::SiteName;
-use docs_core::{Doc, Sink, Source, read_all, sync_documents, write_site};
+use docs_core::{Doc, Sink, Source, read_all, sync_documents_until, write_site};
 use front_core::{Answer, FrontFault, Outcome};
 use std::alloc::Global;
 
 /// The document of the empty site of this name.
 pub(crate) fn new_site(alloc: Global, name: &str) -> Answered
-    ensures { MatchResult result (λ answer. IsNew name.now answer.text (answer_status answer.outcome)) (RefusesNew name.now) }
+    ensures { MatchResult result
+        (λ answer. IsNew name.now answer.text (answer_status answer.outcome))
+        (RefusesNew name.now) }
 {
     let name = SiteName::new(name)?;
     let text = write_site(alloc, &Site::new(alloc, name))?;
     Ok(Answer::new(text, Outcome::Found))
 }
 
-/// Prints both sites of the input after their sync, or reports the refusal.
+/// Prints both sites of the input after their sync, or reports the refusal. A time after the limit is
+/// refused, where there is one.
 pub(crate) fn sync<R: Source, W: Sink, F: Sink>(
     alloc: Global,
+    not_after: Option<u64>,
     reader: &mut R,
     writer: &mut W,
     faults: &mut F,
 ) -> u8
     requires reads { R.failed reader.old ≡ false }
     requires writes { W.failed writer.old ≡ false }
-    ensures acts { Treats R.remaining R.failed W.contents W.failed F.contents F.failed Sync reader.old reader.new writer.old writer.new faults.old faults.new result }
+    ensures acts { Treats (Sync not_after) (streams
+        (reads R.remaining R.failed reader.old reader.new)
+        (writes W.contents W.failed writer.old writer.new)
+        (writes F.contents F.failed faults.old faults.new)) result }
 {
-    match synced(alloc, reader) {
+    match synced(alloc, not_after, reader) {
         Ok((first, second)) => print_both(&first, &second, writer, faults),
         Err(fault) => refuse(faults, fault),
     }
 }
 
 /// Both sites of the input after their sync.
-fn synced<R: Source>(alloc: Global, reader: &mut R) -> Result<(Doc, Doc), FrontFault>
+fn synced<R: Source>(
+    alloc: Global,
+    not_after: Option<u64>,
+    reader: &mut R,
+) -> Result<(Doc, Doc), FrontFault>
     requires { R.failed reader.old ≡ false }
     ensures { MatchResult result
-        (λ texts. AnswersInput R.remaining R.failed IsSync reader.old reader.new (texts.0 ++ texts.1) 0)
-        (RefusesInput R.remaining R.failed NoWords RefusesNothing RefusesSync reader.old reader.new) }
+        (λ texts. AnswersInput (IsSync not_after)
+        (reads R.remaining R.failed reader.old reader.new) (texts.0 ++ texts.1) 0)
+        (RefusesInput NoWords RefusesNothing (RefusesSync not_after)
+        (reads R.remaining R.failed reader.old reader.new)) }
 {
     let input = read_all(alloc, reader)?;
     let (first, second) = two_documents(input.bytes());
-    let texts = sync_documents(alloc, first, second)?;
+    let texts = sync_documents_until(alloc, first, second, not_after)?;
     Ok(texts)
 }

@@ -3,71 +3,97 @@ ghost use Rattle.std.specs.Prelude.{◌≡◌, false, map, option_map};
 ghost use Rattle.clap.specs.Words.{found_of, rows_of, subcommand_rows_of};
 ghost use Rattle.command_core.specs.Acts.{HasOneText, Performs};
 ghost use Rattle.command_core.specs.EditWords.{edit_words};
-ghost use Rattle.command_core.specs.TaskWords.{Edit, GivesTask, task_words};
+ghost use Rattle.command_core.specs.Streams.{reads};
+ghost use Rattle.command_core.specs.TaskWords.{Edit, GivesTask, pick_task, task_words};
 ghost use Rattle.command_core.specs.Values.{task_values};
 
 use crate::answer::Answered;
 use crate::documents::DocumentTask;
 use crate::edits::EditValues;
+use crate::explaining::{Explained, refusal_of};
 use crate::matches::{
-    PreferenceValues, field_of, now_of, preferences_of, text_bytes, text_of, texts_of,
+    Numbers, PreferenceValues, field_of, is_given, numbers_of, preferences_of, text_bytes, text_of,
+    texts_of,
 };
-use crate::{documents, edits, questions, sites};
+use crate::{documents, edits, explaining, questions, sites};
 use clap::ArgMatches;
 use docs_core::Source;
 use front_core::Field;
-use front_core::words::pick_answer;
+use front_core::words::{filter_answer, pick_answer};
+use nego_core::Widening;
 use std::alloc::Global;
 
 /// A command of the program, with the values of its arguments.
 #[derive(Clone, Copy)]
 pub(crate) enum Task<'m, 'a> {
     Pick(PreferenceValues<'a>, &'m [&'a str]),
+    PickAll(Field<'a>, &'m [&'a str]),
     New(&'a str),
     Edit(EditValues<'m, 'a>),
     Document(DocumentTask),
     Missing(&'a str),
+    Outdated(&'a str, &'a str),
+    Changes,
     Filter(&'a [u8], Field<'a>),
     Lookup(&'a [u8], PreferenceValues<'a>),
     Bundle(PreferenceValues<'a>),
-    Sync,
+    Sync(Option<u64>),
     Replay,
+    Explain(Explained),
 }
 
-/// The task of clap's matches, where they name a command of the program and no argument is missing.
+/// The task of clap's matches, where they name a command of the program, no argument is missing, and
+/// all go together.
 pub(crate) fn read<'m, 'a>(matches: &'m ArgMatches<'a>) -> Option<Task<'m, 'a>>
     ensures { GivesTask (subcommand_rows_of matches.now) (option_map task_values result) }
 {
     let (name, arguments) = matches.subcommand()?;
-    task_of(name, now_of(arguments), arguments)
+    task_of(name, numbers_of(arguments), arguments)
 }
 
-/// The task of the command of this name, at this moment.
+/// The task of the command of this name, with these numbers.
 fn task_of<'m, 'a>(
     name: &str,
-    now: Option<u64>,
+    numbers: Numbers,
     matches: &'m ArgMatches<'a>,
 ) -> Option<Task<'m, 'a>>
-    ensures { option_map task_values result ≡ task_words name.now now (rows_of (found_of matches.now)) }
+    ensures { option_map task_values result
+        ≡ task_words name.now numbers (rows_of (found_of matches.now)) }
 {
     match name {
-        "pick" => Some(Task::Pick(
-            preferences_of(matches, "ranges")?,
-            texts_of(matches, "tags")?,
-        )),
+        "pick" => pick_of(matches),
         "new" => Some(Task::New(text_of(matches, "site")?)),
-        "put" => edit_of(now, Some(texts_of(matches, "texts")?), matches),
-        "delete" => edit_of(now, None, matches),
+        "put" => edit_of(numbers.now, Some(texts_of(matches, "texts")?), matches),
+        "delete" => edit_of(numbers.now, None, matches),
         "missing" => Some(Task::Missing(text_of(matches, "lang")?)),
+        "outdated" => Some(Task::Outdated(text_of(matches, "lang")?, text_of(matches, "source")?)),
+        "changes" => Some(Task::Changes),
         "filter" => Some(Task::Filter(text_bytes(matches, "id")?, field_of(matches, "field")?)),
         "lookup" => Some(Task::Lookup(
             text_bytes(matches, "id")?,
             preferences_of(matches, "field")?,
         )),
         "bundle" => Some(Task::Bundle(preferences_of(matches, "field")?)),
-        "sync" => Some(Task::Sync),
+        "sync" => Some(Task::Sync(numbers.not_after)),
         "replay" => Some(Task::Replay),
-        _ => Some(Task::Document(documents::task_of(name, now)?)),
+        "explain" => Some(Task::Explain(refusal_of(numbers.number)?)),
+        _ => Some(Task::Document(documents::task_of(name, numbers)?)),
+    }
+}
+
+/// The pick of the arguments: of all tags that fit with `--all`, which goes with no widening and no
+/// default.
+fn pick_of<'m, 'a>(matches: &'m ArgMatches<'a>) -> Option<Task<'m, 'a>>
+    ensures { option_map task_values result ≡ pick_task (rows_of (found_of matches.now)) }
+{
+    let preferences = preferences_of(matches, "ranges")?;
+    let tags = texts_of(matches, "tags")?;
+    if !is_given(matches, "all") {
+        return Some(Task::Pick(preferences, tags));
+    }
+    match (preferences.field.widening, preferences.default) {
+        (Widening::Off, None) => Some(Task::PickAll(preferences.field, tags)),
+        _ => None,
     }
 }
 
@@ -92,19 +118,24 @@ fn edit_of<'m, 'a>(
 pub(crate) fn answer<R: Source>(alloc: Global, task: Task<'_, '_>, reader: &mut R) -> Answered
     requires reads { R.failed reader.old ≡ false }
     requires one { HasOneText (task_values task) }
-    ensures { Performs R.remaining R.failed (task_values task.entry) reader.old reader.new result }
+    ensures { Performs (task_values task.entry)
+        (reads R.remaining R.failed reader.old reader.new) result }
 {
     match task {
         Task::Pick(preferences, tags) => {
             pick_answer(alloc, preferences.field, preferences.default, tags)
         }
+        Task::PickAll(field, tags) => filter_answer(alloc, field, tags),
         Task::New(name) => sites::new_site(alloc, name),
         Task::Edit(values) => edits::answer_of(alloc, values, reader),
         Task::Document(task) => documents::answer_of(alloc, task, reader),
         Task::Missing(word) => questions::missing(alloc, word, reader),
+        Task::Outdated(lang, source) => questions::outdated(alloc, lang, source, reader),
+        Task::Changes => documents::changes(alloc, reader),
         Task::Filter(id, field) => questions::filter(alloc, id, field, reader),
         Task::Lookup(id, preferences) => questions::lookup(alloc, id, preferences, reader),
         Task::Bundle(preferences) => questions::bundle(alloc, preferences, reader),
-        Task::Sync | Task::Replay => unreachable!(),
+        Task::Explain(it) => explaining::answer_of(alloc, it),
+        Task::Sync(_) | Task::Replay => unreachable!(),
     }
 }

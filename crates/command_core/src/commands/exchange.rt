@@ -1,8 +1,11 @@
-//! The commands by which sites exchange their cells, and `replay`, which runs a script of them.
+//! The commands by which sites exchange their cells, `replay`, which runs a script of them, and
+//! `explain`, which says what a refusal means.
 ghost use Rattle.std.specs.Prelude.{◌≡◌, IfOk};
 ghost use Rattle.clap.specs.Words.{app_of};
-ghost use Rattle.command_core.specs.Words.{exchange_app};
+ghost use Rattle.command_core.specs.Words.{IsCommand, exchange_app, explain_app, sync_app};
+ghost use Rattle.command_core.specs.Words.{take_app};
 
+use crate::arguments;
 use crate::commands::{described, with_command};
 use clap::Command;
 use std::alloc::{AllocError, Global};
@@ -11,42 +14,84 @@ use std::alloc::{AllocError, Global};
 pub(crate) fn with_exchange<'a>(
     alloc: Global,
     program: Command<'a>,
+    numbers: &'a [&'a str],
 ) -> Result<Command<'a>, AllocError>
-    ensures { IfOk result (λ c. app_of c ≡ exchange_app (app_of program.entry)) }
+    ensures { IfOk result (λ c. app_of c ≡ exchange_app (app_of program.entry) numbers.entry) }
 {
     let summary = described(
         alloc,
         "summary",
         "Prints the stamps of a site's cells, by which another site finds what this one lacks",
-        "Reads a site document.\nExample: lexicat new --site tokyo | lexicat summary > summary.json",
+        "Reads a site document.\n\
+            Example: lexicat new --site tokyo | lexicat summary > summary.json",
     );
     let program = with_command(Ok(program), Ok(summary));
     let delta = described(
         alloc,
         "delta",
         "Prints the cells of a site that the owner of a summary lacks",
-        "Reads a site document, then a summary.\nDocument 1 of the input ends at the first LF, and all after it is document 2.\nExample: cat three.json summary.json | lexicat delta > delta.json",
+        "Reads a site document, then a summary.\n\
+            Document 1 of the input ends at the first LF, and all after it is document 2.\n\
+            Example: cat three.json summary.json | lexicat delta > delta.json",
     );
     let program = with_command(program, Ok(delta));
-    let take = described(
-        alloc,
-        "take",
-        "Joins a delta into the site that it is for",
-        "Reads a site document, then a delta.\nDocument 1 of the input ends at the first LF, and all after it is document 2.\nExample: (lexicat new --site tokyo; cat delta.json) | lexicat take > tokyo.json",
-    );
-    let program = with_command(program, Ok(take));
-    let sync = described(
-        alloc,
-        "sync",
-        "Merges two sites with one another, so that both have the same cells",
-        "Reads two site documents and prints both, one line each, in the order read.\nDocument 1 of the input ends at the first LF, and all after it is document 2.\nExample: cat three.json tokyo.json | lexicat sync > both.json",
-    );
-    let program = with_command(program, Ok(sync));
+    let program = with_command(program, take(alloc));
+    let program = with_command(program, sync(alloc));
     let replay = described(
         alloc,
         "replay",
         "Runs a script of sites from their beginning, and prints the answers",
-        "Reads a script document.\nExample: echo '{\"kind\":\"script\",\"sites\":1,\"steps\":[[\"cells\",0]],\"version\":2}' | lexicat replay",
+        "Reads a script document.\n\
+            Example: echo \
+            '{\"kind\":\"script\",\"sites\":1,\"steps\":[[\"cells\",0]],\"version\":2}' | lexicat \
+            replay",
     );
-    with_command(program, Ok(replay))
+    let program = with_command(program, Ok(replay));
+    with_command(program, explain(alloc, numbers))
+}
+
+/// `take [--not-after N]`
+fn take<'a>(alloc: Global) -> Result<Command<'a>, AllocError>
+    ensures { IfOk result (IsCommand take_app) }
+{
+    described(
+        alloc,
+        "take",
+        "Joins a delta into the site that it is for",
+        "Reads a site document, then a delta. With --not-after a delta with a later time is \
+            refused as a whole; the site's own times do not count.\n\
+            Document 1 of the input ends at the first LF, and all after it is document 2.\n\
+            Example: (lexicat new --site tokyo; cat delta.json) | lexicat take > tokyo.json",
+    )
+    .arg(arguments::not_after(alloc))
+}
+
+/// `sync [--not-after N]`
+fn sync<'a>(alloc: Global) -> Result<Command<'a>, AllocError>
+    ensures { IfOk result (IsCommand sync_app) }
+{
+    described(
+        alloc,
+        "sync",
+        "Merges two sites with one another, so that both have the same cells",
+        "Reads two site documents and prints both, one line each, in the order read. With \
+            --not-after a later time in either of them refuses the whole.\n\
+            Document 1 of the input ends at the first LF, and all after it is document 2.\n\
+            Example: cat three.json tokyo.json | lexicat sync > both.json",
+    )
+    .arg(arguments::not_after(alloc))
+}
+
+/// `explain NUMBER`
+fn explain<'a>(alloc: Global, numbers: &'a [&'a str]) -> Result<Command<'a>, AllocError>
+    ensures { IfOk result (IsCommand (explain_app numbers.entry)) }
+{
+    described(
+        alloc,
+        "explain",
+        "Prints what a refusal means, what causes it, and what to do",
+        "A refusal is a line 'refused N: TEXT'; standard input is not read.\n\
+            Example: lexicat explain 21",
+    )
+    .arg(arguments::number(alloc, numbers))
 }

@@ -1,7 +1,8 @@
 //! The commands that question a site for a reader.
 ghost use Rattle.std.specs.Prelude.{◌≡◌, IfOk};
 ghost use Rattle.clap.specs.Words.{app_of};
-ghost use Rattle.command_core.specs.Words.{IsCommand, bundle_app, filter_app, lookup_app, questions_app};
+ghost use Rattle.command_core.specs.Words.{IsCommand, bundle_app, filter_app, lookup_app};
+ghost use Rattle.command_core.specs.Words.{questions_app};
 
 use crate::arguments;
 use crate::commands::{described, with_command};
@@ -29,7 +30,8 @@ fn filter<'a>(alloc: Global, schemes: &'a [&'a str]) -> Result<Command<'a>, Allo
         alloc,
         "filter",
         "Prints the labels of a message whose languages fit, best first",
-        "Reads a site document.\nExample: lexicat filter --id greeting \"fr;q=0.5, en\" < three.json",
+        "Reads a site document.\n\
+            Example: lexicat filter --id greeting \"fr;q=0.5, en\" < three.json",
     )
     .arg(arguments::id(alloc))?
     .arg(arguments::scheme(alloc, schemes))?
@@ -37,7 +39,7 @@ fn filter<'a>(alloc: Global, schemes: &'a [&'a str]) -> Result<Command<'a>, Allo
     .arg(arguments::field(alloc, "field", "FIELD"))
 }
 
-/// `lookup --id ID [--scheme SCHEME] [--lenient] [--default LANG] FIELD`
+/// `lookup --id ID [--scheme SCHEME] [--lenient] [--widen] [--default LANG] FIELD`
 fn lookup<'a>(alloc: Global, schemes: &'a [&'a str]) -> Result<Command<'a>, AllocError>
     ensures { IfOk result (IsCommand (lookup_app schemes.entry)) }
 {
@@ -45,13 +47,14 @@ fn lookup<'a>(alloc: Global, schemes: &'a [&'a str]) -> Result<Command<'a>, Allo
         alloc,
         "lookup",
         "Prints the one label of a message that fits best, or the default's, or nothing",
-        "Reads a site document.\nExample: lexicat lookup --id greeting --default en \"da, fr;q=0.5\" < three.json",
+        "Reads a site document.\n\
+            Example: lexicat lookup --id greeting --default en \"da, fr;q=0.5\" < three.json",
     )
     .arg(arguments::id(alloc))?;
     arguments::with_preferences(alloc, command, schemes, "field", "FIELD")
 }
 
-/// `bundle [--scheme SCHEME] [--lenient] [--default LANG] FIELD`
+/// `bundle [--scheme SCHEME] [--lenient] [--widen] [--default LANG] FIELD`
 fn bundle<'a>(alloc: Global, schemes: &'a [&'a str]) -> Result<Command<'a>, AllocError>
     ensures { IfOk result (IsCommand (bundle_app schemes.entry)) }
 {
@@ -59,7 +62,9 @@ fn bundle<'a>(alloc: Global, schemes: &'a [&'a str]) -> Result<Command<'a>, Allo
         alloc,
         "bundle",
         "Prints for each message the one label that a reader gets, as language maps",
-        "Reads a site document. Of each message it is the label that lookup answers; a message for which lookup answers nothing is left out.\nExample: lexicat bundle --default en \"fr-CA, de;q=0.5\" < three.json",
+        "Reads a site document. Of each message it is the label that lookup answers; a message \
+            for which lookup answers nothing is left out.\n\
+            Example: lexicat bundle --default en \"fr-CA, de;q=0.5\" < three.json",
     );
     arguments::with_preferences(alloc, command, schemes, "field", "FIELD")
 }

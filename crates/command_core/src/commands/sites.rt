@@ -1,7 +1,8 @@
 //! The commands of one site, and `pick`, which needs none.
 ghost use Rattle.std.specs.Prelude.{◌≡◌, IfOk};
 ghost use Rattle.clap.specs.Words.{app_of};
-ghost use Rattle.command_core.specs.Words.{IsCommand, delete_app, new_site_app, pick_app, put_app, sites_app};
+ghost use Rattle.command_core.specs.Words.{IsCommand, delete_app, new_site_app, pick_app, put_app};
+ghost use Rattle.command_core.specs.Words.{sites_app};
 
 use crate::arguments;
 use crate::commands::{described, with_command};
@@ -29,7 +30,7 @@ pub(crate) fn with_sites<'a>(
     with_command(program, Ok(status))
 }
 
-/// `pick [--scheme SCHEME] [--lenient] [--default LANG] RANGES TAG..`
+/// `pick [--scheme SCHEME] [--lenient] [--widen] [--default LANG] [--all] RANGES TAG..`
 fn pick<'a>(alloc: Global, schemes: &'a [&'a str]) -> Result<Command<'a>, AllocError>
     ensures { IfOk result (IsCommand (pick_app schemes.entry)) }
 {
@@ -39,12 +40,9 @@ fn pick<'a>(alloc: Global, schemes: &'a [&'a str]) -> Result<Command<'a>, AllocE
         "Prints the first language that fits the ranges, or the default, or nothing",
         "Example: lexicat pick \"da, en-GB;q=0.8, en;q=0.7\" en fr",
     );
-    arguments::with_preferences(alloc, command, schemes, "ranges", "RANGES")?.arg(arguments::words(
-        alloc,
-        "tags",
-        "TAG",
-        "The languages to pick from",
-    ))
+    arguments::with_preferences(alloc, command, schemes, "ranges", "RANGES")?
+        .arg(arguments::all(alloc))?
+        .arg(arguments::words(alloc, "tags", "TAG", "The languages to pick from"))
 }
 
 /// `new --site NAME`
@@ -55,7 +53,8 @@ fn new<'a>(alloc: Global) -> Result<Command<'a>, AllocError>
         alloc,
         "new",
         "Prints the document of a new site, which is empty",
-        "The name 1 makes a new site, and not the old site 1, whose name is 0000000001.\nExample: lexicat new --site paris > paris.json",
+        "The name 1 makes a new site, and not the old site 1, whose name is 0000000001.\n\
+            Example: lexicat new --site paris > paris.json",
     )
     .arg(arguments::site(alloc))
 }
@@ -68,7 +67,9 @@ fn put<'a>(alloc: Global) -> Result<Command<'a>, AllocError>
         alloc,
         "put",
         "Puts a label into a site, with a new stamp",
-        "Reads a site document and prints the new one. Write -- before a TEXT that begins with \"-\".\nExample: lexicat put --now 5 --id greeting --lang en Hello < paris.json > one.json",
+        "Reads a site document and prints the new one. Write -- before a TEXT that begins with \
+            \"-\".\n\
+            Example: lexicat put --now 5 --id greeting --lang en Hello < paris.json > one.json",
     );
     arguments::with_edit(alloc, command)?.arg(arguments::words(
         alloc,
@@ -86,7 +87,9 @@ fn delete<'a>(alloc: Global) -> Result<Command<'a>, AllocError>
         alloc,
         "delete",
         "Deletes a label of a site, with a new stamp",
-        "Reads a site document and prints the new one. The deletion is kept, so that no older label comes back.\nExample: lexicat delete --now 6 --id greeting --lang en < one.json > two.json",
+        "Reads a site document and prints the new one. The deletion is kept, so that no older \
+            label comes back.\n\
+            Example: lexicat delete --now 6 --id greeting --lang en < one.json > two.json",
     );
     arguments::with_edit(alloc, command)
 }

@@ -49,7 +49,8 @@ fn put_of_words_with_a_hyphen(rt: HostRuntime) -> Result<(), Fail> {
         is_answered(
             &ran,
             0,
-            "{\"cells\":[[\"-x\",\"en\",5,\"0000000001\",0,[\"-x\"]]],\"kind\":\"site\",\"site\":\"0000000001\",\"version\":2}\n"
+            "{\"cells\":[[\"-x\",\"en\",5,\"0000000001\",0,[\"-x\"]]],\"kind\":\"site\",\
+                \"site\":\"0000000001\",\"version\":2}\n"
         )
     );
     Ok(())
@@ -63,8 +64,8 @@ fn delete_and_status(rt: HostRuntime) -> Result<(), Fail> {
         &["delete", "--now", "3", "--id", "m", "--lang", "en"],
         ONE,
     )?;
-    let deleted =
-        "{\"cells\":[[\"m\",\"en\",5,\"0000000001\",1,null]],\"kind\":\"site\",\"site\":\"0000000001\",\"version\":2}\n";
+    let deleted = "{\"cells\":[[\"m\",\"en\",5,\"0000000001\",1,null]],\"kind\":\"site\",\
+            \"site\":\"0000000001\",\"version\":2}\n";
     assert!(rt; is_answered(&ran, 0, deleted));
     let ran = run_on(alloc, &["status"], deleted)?;
     assert!(rt;
@@ -130,7 +131,8 @@ fn take(rt: HostRuntime) -> Result<(), Fail> {
         is_answered(
             &ran,
             0,
-            "{\"cells\":[[\"m\",\"en\",5,\"0000000001\",0,[\"a\"]]],\"kind\":\"site\",\"site\":\"0000000002\",\"version\":2}\n"
+            "{\"cells\":[[\"m\",\"en\",5,\"0000000001\",0,[\"a\"]]],\"kind\":\"site\",\
+                \"site\":\"0000000002\",\"version\":2}\n"
         )
     );
     Ok(())
@@ -145,7 +147,9 @@ fn sync(rt: HostRuntime) -> Result<(), Fail> {
         is_answered(
             &ran,
             0,
-            "{\"cells\":[[\"m\",\"en\",7,\"0000000003\",0,null]],\"kind\":\"site\",\"site\":\"0000000001\",\"version\":2}\n{\"cells\":[[\"m\",\"en\",7,\"0000000003\",0,null]],\"kind\":\"site\",\"site\":\"0000000002\",\"version\":2}\n"
+            "{\"cells\":[[\"m\",\"en\",7,\"0000000003\",0,null]],\"kind\":\"site\",\
+                \"site\":\"0000000001\",\"version\":2}\n{\"cells\":[[\"m\",\"en\",7,\
+                \"0000000003\",0,null]],\"kind\":\"site\",\"site\":\"0000000002\",\"version\":2}\n"
         )
     );
     Ok(())
@@ -154,13 +158,17 @@ fn sync(rt: HostRuntime) -> Result<(), Fail> {
 #[test]
 fn sync_over_versions(rt: HostRuntime) -> Result<(), Fail> {
     let input =
-        "{\"cells\":[[\"m\",\"en\",5,1,0,[\"a\"]]],\"kind\":\"site\",\"site\":1,\"version\":1}\n{\"cells\":[[\"m\",\"en\",5,\"paris\",0,[\"b\"]]],\"kind\":\"site\",\"site\":\"paris\",\"version\":2}\n";
+        "{\"cells\":[[\"m\",\"en\",5,1,0,[\"a\"]]],\"kind\":\"site\",\"site\":1,\"version\":1}\n\
+            {\"cells\":[[\"m\",\"en\",5,\"paris\",0,[\"b\"]]],\"kind\":\"site\",\
+            \"site\":\"paris\",\"version\":2}\n";
     let ran = run_on(rt.alloc(), &["sync"], input)?;
     assert!(rt;
         is_answered(
             &ran,
             0,
-            "{\"cells\":[[\"m\",\"en\",5,\"paris\",0,[\"b\"]]],\"kind\":\"site\",\"site\":\"0000000001\",\"version\":2}\n{\"cells\":[[\"m\",\"en\",5,\"paris\",0,[\"b\"]]],\"kind\":\"site\",\"site\":\"paris\",\"version\":2}\n"
+            "{\"cells\":[[\"m\",\"en\",5,\"paris\",0,[\"b\"]]],\"kind\":\"site\",\
+                \"site\":\"0000000001\",\"version\":2}\n{\"cells\":[[\"m\",\"en\",5,\"paris\",0,\
+                [\"b\"]]],\"kind\":\"site\",\"site\":\"paris\",\"version\":2}\n"
         )
     );
     Ok(())

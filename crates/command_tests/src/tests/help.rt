@@ -41,7 +41,7 @@ const VERSION: &[&[&str]] = &[&["--version"], &["-V"]];
 fn version(rt: HostRuntime) -> Result<(), Fail> {
     for words in VERSION {
         let ran = run_words(rt.alloc(), words)?;
-        assert!(rt; is_answered(&ran, 0, "lexicat 0.2.0\n"), "{words:?}");
+        assert!(rt; is_answered(&ran, 0, "lexicat 0.3.0\n"), "{words:?}");
     }
     Ok(())
 }
@@ -72,6 +72,9 @@ const EXAMPLES: &[(&str, &str)] = &[
     ("bundle", "Example: lexicat bundle --default "),
     ("missing", "Example: lexicat missing --lang "),
     ("update", "| lexicat update --now 8 "),
+    ("outdated", "Example: lexicat outdated --lang "),
+    ("changes", "| lexicat changes"),
+    ("explain", "Example: lexicat explain "),
     ("summary", "| lexicat summary "),
     ("delta", "| lexicat delta "),
     ("take", "| lexicat take "),
@@ -92,11 +95,11 @@ fn examples(rt: HostRuntime) -> Result<(), Fail> {
     Ok(())
 }
 
-/// `help` is the help of the program, which leads to the table of refusals.
+/// `help` is the help of the program, which leads to what explains refusals.
 #[test]
 fn of_the_program(rt: HostRuntime) -> Result<(), Fail> {
     let ran = run_words(rt.alloc(), &["--help"])?;
-    assert!(rt; has_text(&ran.output, "of the table in 'man lexicat'"));
+    assert!(rt; has_text(&ran.output, "'lexicat explain N' says what causes it"));
     let asked = run_words(rt.alloc(), &["help"])?;
     assert!(rt; asked.output.as_slice() == ran.output.as_slice());
     Ok(())
@@ -109,6 +112,7 @@ const WARNINGS: &[(&str, &str)] = &[
     ("delta", DOCUMENT_1_ENDS),
     ("take", DOCUMENT_1_ENDS),
     ("sync", DOCUMENT_1_ENDS),
+    ("changes", DOCUMENT_1_ENDS),
     (
         "update",
         "Documents 1 and 2 of the input end at the first and the second LF",

@@ -21,7 +21,10 @@ fn program<'a>(alloc: Global, id: Option<&'a str>) -> Result<Command<'a>, Fail> 
     )
 }
 
-/// The status of these matches, or 98 where something was written.
+const USAGE: &str =
+    "error: no command takes these arguments together\n\nFor more information, try '--help'.\n";
+
+/// The status of these matches, or 98 where the output has something, or another line was told.
 fn status_of(alloc: Global, matches: &ArgMatches<'_>) -> u8 {
     let mut reader = Tape::failing("", 0, 0);
     let mut writer = Page::new(alloc);
@@ -33,7 +36,7 @@ fn status_of(alloc: Global, matches: &ArgMatches<'_>) -> u8 {
         &mut Output::new(&mut writer),
         &mut Output::new(&mut faults),
     );
-    if writer.bytes.is_empty() && faults.bytes.is_empty() {
+    if writer.bytes.is_empty() && faults.bytes.as_slice() == USAGE.as_bytes() {
         status
     } else {
         98
@@ -59,7 +62,7 @@ const WORDS: &[(&[&str], Option<&str>)] = &[
     (&["pick"], None),
 ];
 
-/// A usage fault, and nothing is written.
+/// A usage fault, which is told, and nothing is written to the output.
 #[test]
 fn usage(rt: HostRuntime) -> Result<(), Fail> {
     for (words, id) in WORDS {

@@ -218,6 +218,113 @@ fn lenient(rt: HostRuntime) -> Result<(), Fail> {
     all_picked(&rt, LENIENT)
 }
 
+const WIDENED: &[(&[&str], u8, &str)] = &[
+    (&["pick", "en", "en-US", "fr"], 1, "nothing\n"),
+    (
+        &["pick", "--widen", "en", "en-US", "fr"],
+        0,
+        "matched en-us\n",
+    ),
+    (
+        &[
+            "pick",
+            "--widen",
+            "fr-FR, fr;q=0.9, en;q=0.7",
+            "en",
+            "fr-CA",
+        ],
+        0,
+        "matched fr-ca\n",
+    ),
+    (
+        &["pick", "--widen", "de, en;q=0.5", "en-US", "de-CH", "de-AT"],
+        0,
+        "matched de-at\n",
+    ),
+    (
+        &["pick", "--widen", "en, en-US;q=0", "en-US", "en-GB"],
+        0,
+        "matched en-gb\n",
+    ),
+    (
+        &["pick", "--widen", "de-AT, de;q=0.5", "de-CH", "de"],
+        0,
+        "matched de\n",
+    ),
+    (&["pick", "--widen", "zh-Hant", "zh-TW"], 1, "nothing\n"),
+    (
+        &["pick", "--widen", "--default", "fr", "*", "de", "fr"],
+        0,
+        "default fr\n",
+    ),
+    (&["pick", "--widen", "*", "de"], 1, "nothing\n"),
+    (
+        &[
+            "pick",
+            "--widen",
+            "--scheme",
+            "extended",
+            "de-*-DE",
+            "de-Latn-DE",
+        ],
+        0,
+        "matched de-latn-de\n",
+    ),
+    (
+        &["pick", "--widen", "--default", "en", "ja", "@none"],
+        1,
+        "nothing\n",
+    ),
+];
+
+/// A language finds its regions.
+#[test]
+fn widened(rt: HostRuntime) -> Result<(), Fail> {
+    all_picked(&rt, WIDENED)
+}
+
+const ALL: &[(&[&str], u8, &str)] = &[
+    (
+        &[
+            "pick",
+            "--all",
+            "da, en-gb;q=0.8, en;q=0.7",
+            "en",
+            "da-DK",
+            "en-GB-oed",
+            "@none",
+            "en",
+        ],
+        0,
+        "filter 4\nda-dk 1000\nen-gb-oed 800\nen 700\nen 700\n",
+    ),
+    (&["pick", "--all", "ja", "en"], 1, "filter 0\n"),
+    (
+        &[
+            "pick",
+            "--all",
+            "--scheme",
+            "extended",
+            "de-*-DE",
+            "de-Latn-DE",
+            "de",
+        ],
+        0,
+        "filter 1\nde-latn-de 1000\n",
+    ),
+    (
+        &["pick", "--all", "--lenient", "en_US, fr", "EN", "FR-ca"],
+        0,
+        "filter 1\nfr-ca 1000\n",
+    ),
+];
+
+/// All tags that fit, best first.
+#[test]
+fn all(rt: HostRuntime) -> Result<(), Fail> {
+    all_picked(&rt, ALL)
+}
+
 const REFUSED_WITH_OPTIONS: &[(&[&str], &str)] = &[
     (
         &["pick", "--default", "e", "en;q=2", "e"],
@@ -238,6 +345,18 @@ const REFUSED_WITH_OPTIONS: &[(&[&str], &str)] = &[
     (
         &["pick", "--lenient", "en_US", "en_US"],
         "refused 3: subtag at 0\n",
+    ),
+    (
+        &["pick", "--widen", "--default", "e", "en;q=2", "e"],
+        "refused 4: tag is not well-formed\n",
+    ),
+    (
+        &["pick", "--all", "en;q=2", "e"],
+        "refused 9: field element at 0\n",
+    ),
+    (
+        &["pick", "--all", "en", "fr-", "e"],
+        "refused 3: subtag at 3\n",
     ),
 ];
 

@@ -56,6 +56,56 @@ fn bundles(rt: HostRuntime) -> Result<(), Fail> {
     Ok(())
 }
 
+/// A label of a region alone.
+const REGIONS: &str =
+    r#"{"cells":[["m","de-at",1,"paris",0,["Servus"]],["m","en",1,"paris",1,["Hello"]],["n","de-latn-de",1,"paris",2,["Hallo"]],["o","de",1,"paris",3,["Tag"]],["o","de-ch",1,"paris",4,["Salue"]]],"kind":"site","site":"paris","version":2}"#;
+
+const WIDENED: &[(&[&str], u8, &str)] = &[
+    (&["bundle", "de"], 0, r#"{"o":{"de":"Tag"}}"#),
+    (
+        &["bundle", "--widen", "de"],
+        0,
+        r#"{"m":{"de-at":"Servus"},"n":{"de-latn-de":"Hallo"},"o":{"de":"Tag"}}"#,
+    ),
+    (
+        &["bundle", "--widen", "--default", "en", "de, de-AT;q=0"],
+        0,
+        r#"{"m":{"en":"Hello"},"n":{"de-latn-de":"Hallo"},"o":{"de":"Tag"}}"#,
+    ),
+    (
+        &["bundle", "--widen", "--scheme", "extended", "de-*-DE"],
+        0,
+        r#"{"n":{"de-latn-de":"Hallo"},"o":{"de":"Tag"}}"#,
+    ),
+    (
+        &["lookup", "--id", "m", "--widen", "de, en;q=0.5"],
+        0,
+        "matched de-at [\"Servus\"]",
+    ),
+    (
+        &["lookup", "--id", "m", "de, en;q=0.5"],
+        0,
+        "matched en [\"Hello\"]",
+    ),
+    (&["lookup", "--id", "m", "--widen", "*"], 1, "nothing"),
+    (
+        &["lookup", "--id", "n", "--widen", "--default", "de", "ja"],
+        1,
+        "nothing",
+    ),
+];
+
+/// A language finds its regions, and a default does not.
+#[test]
+fn widened(rt: HostRuntime) -> Result<(), Fail> {
+    for (words, status, text) in WIDENED {
+        let ran = run_on(rt.alloc(), words, REGIONS)?;
+        let line = format!(in rt.alloc(); "{text}\n")?;
+        assert!(rt; is_answered(&ran, *status, line.as_str()), "{words:?}");
+    }
+    Ok(())
+}
+
 const MISSING: &[(&str, &str, u8, &str)] = &[
     (
         "de",
@@ -82,6 +132,38 @@ fn missing(rt: HostRuntime) -> Result<(), Fail> {
         let ran = run_on(rt.alloc(), &["missing", "--lang", lang], input)?;
         let line = format!(in rt.alloc(); "{text}\n")?;
         assert!(rt; is_answered(&ran, *status, line.as_str()), "{lang}");
+    }
+    Ok(())
+}
+
+/// Labels of several times, and a deletion.
+const TIMES: &str =
+    r#"{"cells":[["m","de",5,"paris",0,["m-de"]],["m","en",7,"paris",0,["m-en"]],["m","fr",7,"paris",1,["m-fr"]],["n","de",9,"paris",0,["n-de"]],["n","en",5,"paris",1,["n-en"]],["o","en",9,"paris",1,["o-en"]],["p","de",5,"paris",2,["p-de"]],["p","en",9,"paris",2,null]],"kind":"site","site":"paris","version":2}"#;
+
+/// A language, its source, and the messages to look at again.
+const OUTDATED: &[(&str, &str, u8, &str)] = &[
+    (
+        "de",
+        "en",
+        0,
+        r#"{"m":{"de":"m-de","en":"m-en","fr":"m-fr"}}"#,
+    ),
+    ("EN", "de", 0, r#"{"n":{"de":"n-de","en":"n-en"}}"#),
+    ("fr", "en", 1, "{}"),
+    ("en", "en", 1, "{}"),
+    ("de", "en-us", 1, "{}"),
+];
+
+#[test]
+fn outdated(rt: HostRuntime) -> Result<(), Fail> {
+    for (lang, source, status, text) in OUTDATED {
+        let words = ["outdated", "--lang", lang, "--source", source];
+        let ran = run_on(rt.alloc(), words.as_slice(), TIMES)?;
+        let line = format!(in rt.alloc(); "{text}\n")?;
+        assert!(rt;
+            is_answered(&ran, *status, line.as_str()),
+            "{lang} {source}"
+        );
     }
     Ok(())
 }
@@ -213,6 +295,7 @@ fn no_site(rt: HostRuntime) -> Result<(), Fail> {
     for words in [
         ["bundle", "en", "--default=en"],
         ["missing", "--lang", "en"],
+        ["outdated", "--lang=en", "--source=de"],
     ] {
         let ran = run_on(rt.alloc(), words.as_slice(), "{}")?;
         assert!(rt;
@@ -254,9 +337,25 @@ const WORDS_FIRST: &[(&[&str], u8, &str)] = &[
     (&["missing", "--lang", "en-"], 3, "refused 3: subtag at 3\n"),
     (&["missing", "--lang", "en"], 4, "refused 24: read fault\n"),
     (&["update", "--now", "6"], 4, "refused 24: read fault\n"),
+    (
+        &["outdated", "--lang", "en-", "--source", "e"],
+        3,
+        "refused 3: subtag at 3\n",
+    ),
+    (
+        &["outdated", "--source", "e", "--lang", "en"],
+        3,
+        "refused 4: tag is not well-formed\n",
+    ),
+    (
+        &["outdated", "--lang", "en", "--source", "de"],
+        4,
+        "refused 24: read fault\n",
+    ),
 ];
 
-/// The words come before the input, whose every read fails here: the default, then the field.
+/// The words come before the input, whose every read fails here: the default, then the field; the
+/// language, then its source.
 #[test]
 fn words_first(rt: HostRuntime) -> Result<(), Fail> {
     for (words, status, line) in WORDS_FIRST {

@@ -37,6 +37,18 @@ const WORDS: &[&[&str]] = &[
     &["pick", "--lenient", "--lenient", "en", "en"],
     &["pick", "--default", "en", "--default", "en", "en", "en"],
     &["pick", "--default", "en", "en"],
+    &["pick", "--all", "en"],
+    &["pick", "--all=x", "en", "en"],
+    &["pick", "--all", "--default", "en", "en", "en"],
+    &["pick", "--widen", "--all", "en", "en"],
+    &["pick", "--widen", "--widen", "en", "en"],
+    &["explain"],
+    &["explain", "0"],
+    &["explain", "30"],
+    &["explain", "+1"],
+    &["explain", "01"],
+    &["explain", "one"],
+    &["explain", "1", "2"],
 ];
 
 #[test]
@@ -101,6 +113,19 @@ const WORDS_OF_DOCUMENTS: &[&[&str]] = &[
     &["missing", "en"],
     &["update"],
     &["update", "--now", "six"],
+    &["filter", "--id", "m", "--widen", "en"],
+    &["filter", "--id", "m", "--all", "en"],
+    &["outdated", "--lang", "en"],
+    &["outdated", "--source", "en"],
+    &["outdated", "--lang", "en", "--source", "de", "fr"],
+    &["changes", "a"],
+    &["changes", "--now", "5"],
+    &["take", "--not-after"],
+    &["take", "--not-after", "-1"],
+    &["take", "--not-after", "18446744073709551616"],
+    &["take", "--not-after", "5", "--not-after", "5"],
+    &["sync", "--not-after", "five"],
+    &["delta", "--not-after", "5"],
 ];
 
 /// Words that the other commands do not take, or lack.

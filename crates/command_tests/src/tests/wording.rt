@@ -112,6 +112,11 @@ const TAKEN: &[&[&str]] = &[
     ],
     &["lookup", "--id", "m", "--default", "@none", ""],
     &["import", "--now", "0"],
+    &["take", "--not-after", "+5"],
+    &["sync", "--not-after", "18446744073709551615"],
+    &["lookup", "--id", "m", "--widen", "en"],
+    &["bundle", "--widen", "--scheme", "extended", "de-*-DE"],
+    &["outdated", "--lang", "EN", "--source", "@none"],
 ];
 
 #[test]
@@ -126,7 +131,9 @@ fn words_are_taken(rt: HostRuntime) -> Result<(), Fail> {
 /// Each command that reads tells that the first read failed.
 #[test]
 fn commands_that_read(rt: HostRuntime) -> Result<(), Fail> {
-    for name in ["status", "export", "summary", "delta", "take", "sync"] {
+    for name in [
+        "status", "export", "summary", "delta", "take", "sync", "changes",
+    ] {
         let ran = run_words(rt.alloc(), &[name])?;
         assert!(rt; is_refused(&ran, 4, READ_FAULT), "{name}");
     }

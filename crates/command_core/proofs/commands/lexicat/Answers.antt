@@ -10,4 +10,5 @@ returns c =
     let sites = c.in_ok-sites.ensures ∙ ap (λ (it : App). sites_app it schemes) c.in_ok-bare.ensures in
     let labels = c.in_ok-labels.ensures ∙ ap labels_app sites in
     let questions = c.in_ok-questions.ensures ∙ ap (λ (it : App). questions_app it schemes) labels in
-    IfOk-weaker c.with_exchange.result _ _ (λ r h. h ∙ ap exchange_app questions) c.with_exchange.ensures
+    IfOk-weaker c.with_exchange.result _ _ (λ r h. h ∙ ap (λ (it : App). exchange_app it c.args.numbers) questions)
+    c.with_exchange.ensures

@@ -1,3 +1,4 @@
+use Rattle.command_core.specs.Streams.{reads, streams, writes}
 use Rattle.command_core.specs.Values.{task_values}
 use Rattle.command_core.proofs.ActsLemmas.{treated}
 use Rattle.command_core.proofs.dispatch.perform.Goals as goal
@@ -10,7 +11,10 @@ returns-in-Replay g c = rw c.in-Replay.is c.replay.ensures
 
 pub returns-in_default : goal.returns-in_default
 returns-in_default g c =
+    let run = streams
+    (reads g.R.Source.remaining g.R.Source.failed c.args.reader.now c.answer.new.reader)
+    (writes g.W.Sink.contents g.W.Sink.failed c.args.writer.now c.finish.new.writer)
+    (writes g.F.Sink.contents g.F.Sink.failed c.args.faults.now c.finish.new.faults) in
     record {
-      acts = treated g.R.Source.remaining g.R.Source.failed g.W.Sink.contents g.W.Sink.failed g.F.Sink.contents g.F.Sink.failed (task_values c.args.task)
-          c.args.reader.now c.answer.new.reader c.args.writer.now c.finish.new.writer c.args.faults.now c.finish.new.faults c.finish.result c.answer.result c.answer.ensures c.finish.ensures.ends;
+      acts = treated (task_values c.args.task) run c.finish.result c.answer.result c.answer.ensures c.finish.ensures.ends;
     }

@@ -1,5 +1,5 @@
 use Rattle.std.proofs.Common.{◌∙◌, ◌++◌, ap, append_assoc, sym}
-use Rattle.docs_core.proofs.Streams.{Appends-then}
+use Rattle.json_docs.proofs.Streams.{Appends-then}
 use Rattle.command_core.proofs.output.write_both.Goals as goal
 
 pub returns-in_err-write_out-clause-front : goal.returns-in_err-write_out-clause-front
