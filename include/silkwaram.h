@@ -22,6 +22,7 @@
  * - A handle is used by one call at a time, whatever the call; threads that work at once take a handle each, by
  *   sw_site_share. A handle passes from one thread to another by a lock, or by a thread's start or end. It is not
  *   copied: two copies count as one handle, and only one of them may be used from then on.
+ * - Of the handles of one site one edits, and the others ask: two that both edit would be two sites of one name.
  * - A handle begins as zeros (`sw_site site = {0};`), and then is changed by these calls alone.
  * - The thread has 80 KiB of stack left for a call (docs/LIBRARY.md has what each takes); a smaller one may overflow.
  * - No call is made from a signal handler. After a fork the child opens sites of its own.
@@ -37,7 +38,7 @@ extern "C" {
 #endif
 
 /* The version of this header: 10000 * major + 100 * minor + patch. sw_version has that of the library. */
-#define SW_VERSION 200
+#define SW_VERSION 300
 
 /* How a field is read: the sum of these. Any other bit is SW_USAGE.
  * Without SW_EXTENDED a field is an Accept-Language field (RFC 9110 section 12.5.4): basic ranges with weights. With it
@@ -46,6 +47,10 @@ extern "C" {
  * usable); without it they are refused (9). */
 #define SW_EXTENDED 1u
 #define SW_LENIENT 2u
+/* With SW_WIDEN, which is of sw_pick, sw_site_lookup, sw_site_text and sw_site_bundle alone, a range also finds the
+ * languages that it matches, as `en` finds en-us, before the next range is tried; the default is not widened. This is
+ * the project's own, and no part of RFC 4647. */
+#define SW_WIDEN 4u
 
 /* The statuses, which are those of the command `lexicat`. */
 #define SW_FOUND 0     /* there is an answer, or it is done */
@@ -133,6 +138,112 @@ int32_t sw_site_filter(sw_site *site, uint32_t flags, const uint8_t *id, size_t 
  *   SW_USAGE, SW_REFUSED   as sw_site_lookup, without the id */
 int32_t sw_site_bundle(sw_site *site, uint32_t flags, const uint8_t *field, size_t field_len, const uint8_t *dflt,
                        size_t dflt_len, uint8_t *out, size_t out_len, sw_told *told);
+
+/* ---- Sites that are made and edited.
+ *
+ * An edit changes the site in place where its handle is the only one of it. Where the site is shared, the handle gets a
+ * copy of its own first, in the time and memory of the site, and the others keep what they had: no edit is seen through
+ * another handle. So a server publishes a new state by sharing the edited handle anew.
+ * `now` is the time of an edit, by custom in milliseconds since 1970. The stamp of an edit is later than all that the
+ * site has, so a clock that is set back does no harm; a time far ahead does (docs/RECIPES.md).
+ * A refused call leaves the site as it was. */
+
+/* Makes the empty site of a name, of 1 to 16 bytes of a to z, 0 to 9 and "-", in a handle. If the handle is open, its
+ * old site is let go once the new one is made.
+ *   SW_FOUND     the site is made
+ *   SW_REFUSED   the name (27) */
+int32_t sw_site_new(const uint8_t *name, size_t name_len, sw_site *site, sw_told *told);
+
+/* Puts a label of one text for the message `id` in the language `lang`, or replaces the one that is there.
+ *   SW_FOUND     done
+ *   SW_USAGE     the handle is not open
+ *   SW_REFUSED   first the id (10, also if it is not UTF-8), then the language (1 to 4), then the text (18 if it is not
+ *                UTF-8, by its place in told->offset; 11 if it is over 65,535 bytes), then the edit (14: no stamp is
+ *                left) */
+int32_t sw_site_put(sw_site *site, uint64_t now, const uint8_t *id, size_t id_len, const uint8_t *lang,
+                    size_t lang_len, const uint8_t *text, size_t text_len, sw_told *told);
+
+/* Deletes the label of a message in a language, whether there is one or not: a later edit of another site brings it
+ * back, an earlier one does not.
+ *   SW_FOUND, SW_USAGE, SW_REFUSED   as sw_site_put, without the text */
+int32_t sw_site_delete(sw_site *site, uint64_t now, const uint8_t *id, size_t id_len, const uint8_t *lang,
+                       size_t lang_len, sw_told *told);
+
+/* Joins what the site of another handle has: of each label the later edit. The two handles are two, though they may be
+ * of one site. The site is copied for it, and the copy is kept.
+ *   SW_FOUND     done
+ *   SW_USAGE     one of the handles is not open
+ *   SW_REFUSED   two different edits of one label have one stamp (13) */
+int32_t sw_site_merge(sw_site *site, sw_site *other, sw_told *told);
+
+/* Takes the document of a delta for this site, which another site made with sw_site_delta. If `not_after` is not 0 no
+ * time of the delta may be greater: a limit of a day ahead of the clock keeps times far ahead out. The site is copied
+ * for it.
+ *   SW_FOUND     done
+ *   SW_USAGE     the handle is not open
+ *   SW_REFUSED   first the delta (as sw_site_open reports a document), then a time of it (29, by its row in told->row),
+ *                then a delta for another site (15), then two edits of one label with one stamp (13) */
+int32_t sw_site_take(sw_site *site, const uint8_t *delta, size_t delta_len, uint64_t not_after, sw_told *told);
+
+/* Puts the labels of language maps, as {"greeting":{"fr":"Bonjour"}}, all or none: as the command `import`. A label may
+ * have several texts, and one that the site has already is put again. The site is copied for it.
+ *   SW_FOUND     done
+ *   SW_USAGE     the handle is not open
+ *   SW_REFUSED   the maps (18 to 20, 22; 1 to 4, 10 to 12 in a row of them), then a label for which no stamp is left
+ *                (14) */
+int32_t sw_site_import(sw_site *site, uint64_t now, const uint8_t *maps, size_t maps_len, sw_told *told);
+
+/* Makes the changes from old language maps to new ones, all or none: as the command `update`. What the new maps leave
+ * out is deleted, what both have alike stays. The site is copied for it.
+ *   SW_FOUND, SW_USAGE, SW_REFUSED   as sw_site_import, the old maps first */
+int32_t sw_site_update(sw_site *site, uint64_t now, const uint8_t *old_maps, size_t old_len, const uint8_t *new_maps,
+                       size_t new_len, sw_told *told);
+
+/* ---- What the commands print of a site: `write` its document, which sw_site_open reads as this site; `summary` and
+ * `delta` the documents for an exchange, `status` one line. The answer is made anew by each call, and then copied: for
+ * a large site pass a buffer that has room, say an eighth more than the document had before.
+ *   SW_FOUND     there is an answer
+ *   SW_USAGE     the handle is not open
+ *   SW_REFUSED   of sw_site_delta alone: the summary (18 to 21, 27, 28; 10, or 1 to 4, in a row of it), as sw_site_open
+ *                reports a document */
+int32_t sw_site_write(sw_site *site, uint8_t *out, size_t out_len, sw_told *told);
+int32_t sw_site_summary(sw_site *site, uint8_t *out, size_t out_len, sw_told *told);
+int32_t sw_site_status(sw_site *site, uint8_t *out, size_t out_len, sw_told *told);
+int32_t sw_site_delta(sw_site *site, const uint8_t *summary, size_t summary_len, uint8_t *out, size_t out_len,
+                      sw_told *told);
+
+/* The language maps of all labels, of the messages that lack a language, and of those whose label in `lang` is older
+ * than that in `source`; and what changed from a site to that of another handle, as `changes N` and N lines. They are
+ * what the commands `export`, `missing`, `outdated` and `changes` print.
+ *   SW_FOUND     there is at least one; of sw_site_export always
+ *   SW_NOTHING   there is none; the answer is `{}` or `changes 0`
+ *   SW_USAGE     a handle is not open
+ *   SW_REFUSED   `lang`, then `source` (1 to 4) */
+int32_t sw_site_export(sw_site *site, uint8_t *out, size_t out_len, sw_told *told);
+int32_t sw_site_missing(sw_site *site, const uint8_t *lang, size_t lang_len, uint8_t *out, size_t out_len,
+                        sw_told *told);
+int32_t sw_site_outdated(sw_site *site, const uint8_t *lang, size_t lang_len, const uint8_t *source, size_t source_len,
+                         uint8_t *out, size_t out_len, sw_told *told);
+int32_t sw_site_changes(sw_site *site, sw_site *other, uint8_t *out, size_t out_len, sw_told *told);
+
+/* ---- Without a site. */
+
+/* All of some languages that a field takes, best first (RFC 4647 section 3.3). `tags` as in sw_pick. The answer has the
+ * line `filter N`, then N lines `TAG WEIGHT`, with their LFs: each tag as it is in `tags`, the weight in thousandths.
+ * By weight, then by the place of the item in the field, the tag in lower case and its place; a tag that is there twice
+ * is answered twice, and `@none` never.
+ *   SW_FOUND     there is at least one
+ *   SW_NOTHING   there is none; the answer is the line `filter 0`
+ *   SW_REFUSED   first the field (8, 9), then the tags in their order (1 to 4; a line without bytes is 1) */
+int32_t sw_filter(uint32_t flags, const uint8_t *field, size_t field_len, const uint8_t *tags, size_t tags_len,
+                  uint8_t *out, size_t out_len, sw_told *told);
+
+/* What a refusal means, by its number: a sentence on what was wanted, without an end mark, of at most 255 bytes.
+ *   SW_FOUND     there is one
+ *   SW_NOTHING   no refusal has this number; told->len is 0 */
+int32_t sw_refusal(uint32_t number, uint8_t *out, size_t out_len, sw_told *told);
+
+/* ---- Handles. */
 
 /* Makes `other` one more handle of an equal site, for another thread. The memory of the site is shared, not copied
  * (measured, not proved). If `other` is open, its old site is let go. Each of the two handles is freed by itself, in

@@ -1,91 +1,397 @@
 <?php
-// Silkwaram's library from PHP, by FFI (ffi.enable has to allow it; PHP 7.4 or later).
+// Silkwaram's library from PHP, by FFI (ffi.enable has to allow it; PHP 7.4 or later, of 64 bits).
 
+/** What is refused: the number is the code, docs/REFUSALS.md has each. */
 final class Refused extends RuntimeException
 {
+    /** The place in the refused text, in bytes from 0 (of 3, 9 and 18; else 0). */
+    public int $offset;
+    /** The row of a document, from 0, where the refusal is of a row (else 0). */
+    public int $row;
+
+    public function __construct(int $number, int $offset, int $row, string $meaning)
+    {
+        parent::__construct("refused $number at $offset, row $row: $meaning", $number);
+        $this->offset = $offset;
+        $this->row = $row;
+    }
 }
 
-final class Silkwaram
+/** The calls of the library, each made with room for its answer. */
+final class SilkwaramCalls
 {
     // (as silkwaram.h has them; FFI reads no preprocessor's lines)
     private const DECLARED = '
         typedef struct { size_t len, offset, row, count; uint32_t number; } sw_told;
         typedef struct { void *held; } sw_site;
+        uint32_t sw_version(void);
         int32_t sw_pick(uint32_t flags, const char *field, size_t field_len, const char *tags,
                         size_t tags_len, const char *dflt, size_t dflt_len, char *out,
                         size_t out_len, sw_told *told);
+        int32_t sw_filter(uint32_t flags, const char *field, size_t field_len, const char *tags,
+                        size_t tags_len, char *out, size_t out_len, sw_told *told);
+        int32_t sw_refusal(uint32_t number, char *out, size_t out_len, sw_told *told);
         int32_t sw_site_open(const char *text, size_t text_len, sw_site *site, sw_told *told);
+        int32_t sw_site_new(const char *name, size_t name_len, sw_site *site, sw_told *told);
         int32_t sw_site_lookup(sw_site *site, uint32_t flags, const char *id, size_t id_len,
                         const char *field, size_t field_len, const char *dflt, size_t dflt_len,
                         char *out, size_t out_len, sw_told *told);
+        int32_t sw_site_text(sw_site *site, uint32_t flags, const char *id, size_t id_len,
+                        const char *field, size_t field_len, const char *dflt, size_t dflt_len,
+                        size_t place, char *out, size_t out_len, sw_told *told);
+        int32_t sw_site_filter(sw_site *site, uint32_t flags, const char *id, size_t id_len,
+                        const char *field, size_t field_len, char *out, size_t out_len,
+                        sw_told *told);
+        int32_t sw_site_bundle(sw_site *site, uint32_t flags, const char *field, size_t field_len,
+                        const char *dflt, size_t dflt_len, char *out, size_t out_len,
+                        sw_told *told);
+        int32_t sw_site_put(sw_site *site, uint64_t now, const char *id, size_t id_len,
+                        const char *lang, size_t lang_len, const char *text, size_t text_len,
+                        sw_told *told);
+        int32_t sw_site_delete(sw_site *site, uint64_t now, const char *id, size_t id_len,
+                        const char *lang, size_t lang_len, sw_told *told);
+        int32_t sw_site_import(sw_site *site, uint64_t now, const char *maps, size_t maps_len,
+                        sw_told *told);
+        int32_t sw_site_update(sw_site *site, uint64_t now, const char *old_maps, size_t old_len,
+                        const char *new_maps, size_t new_len, sw_told *told);
+        int32_t sw_site_take(sw_site *site, const char *delta, size_t delta_len,
+                        uint64_t not_after, sw_told *told);
+        int32_t sw_site_merge(sw_site *site, sw_site *other, sw_told *told);
+        int32_t sw_site_write(sw_site *site, char *out, size_t out_len, sw_told *told);
+        int32_t sw_site_export(sw_site *site, char *out, size_t out_len, sw_told *told);
+        int32_t sw_site_summary(sw_site *site, char *out, size_t out_len, sw_told *told);
+        int32_t sw_site_status(sw_site *site, char *out, size_t out_len, sw_told *told);
+        int32_t sw_site_missing(sw_site *site, const char *lang, size_t lang_len, char *out,
+                        size_t out_len, sw_told *told);
+        int32_t sw_site_outdated(sw_site *site, const char *lang, size_t lang_len,
+                        const char *source, size_t source_len, char *out, size_t out_len,
+                        sw_told *told);
+        int32_t sw_site_delta(sw_site *site, const char *summary, size_t summary_len, char *out,
+                        size_t out_len, sw_told *told);
+        int32_t sw_site_changes(sw_site *site, sw_site *other, char *out, size_t out_len,
+                        sw_told *told);
+        int32_t sw_site_share(sw_site *site, sw_site *other);
         void sw_site_free(sw_site *site);';
+    private const FIRST_ROOM = 1024;
+
+    /** The libraries that are loaded, by name: handles of one library fit one another. */
+    private static array $loaded = [];
 
     private FFI $calls;
-    private FFI\CData $site;
     private FFI\CData $told;
+
+    public static function of(string $library): self
+    {
+        return self::$loaded[$library] ??= new self($library);
+    }
+
+    private function __construct(string $library)
+    {
+        $this->calls = FFI::cdef(self::DECLARED, $library);
+        $this->told = $this->calls->new('sw_told');
+    }
+
+    /** The version, as 10000 * major + 100 * minor + patch. */
+    public function version(): int
+    {
+        return $this->calls->sw_version();
+    }
+
+    /** A handle that is not open. */
+    public function handle(): FFI\CData
+    {
+        return $this->calls->new('sw_site');
+    }
+
+    public function free(FFI\CData $site): void
+    {
+        $this->calls->sw_site_free(FFI::addr($site));
+    }
+
+    public function share(FFI\CData $site, FFI\CData $other): void
+    {
+        if ($this->calls->sw_site_share(FFI::addr($site), FFI::addr($other)) !== 0) {
+            throw new RuntimeException('the site cannot be shared');
+        }
+    }
+
+    /** Makes a call that has no answer. Texts are passed with their lengths. */
+    public function act(string $name, ...$given): void
+    {
+        $this->check($this->calls->$name(...[...self::words($given), FFI::addr($this->told)]));
+    }
+
+    /** Makes a call with some room, and once more with what its answer needs: the text, and whether it was found. */
+    public function ask(string $name, ...$given): array
+    {
+        $words = self::words($given);
+        $room = self::FIRST_ROOM;
+        while (true) {
+            $out = $this->calls->new("char[$room]");
+            $status = $this->check($this->calls->$name(...[...$words, $out, $room, FFI::addr($this->told)]));
+            if ($this->told->len <= $room) {
+                return [FFI::string($out, $this->told->len), $status === 0];
+            }
+            $room = $this->told->len;
+        }
+    }
+
+    private static function words(array $given): array
+    {
+        $words = [];
+        foreach ($given as $word) {
+            if ($word instanceof FFI\CData) {
+                $words[] = FFI::addr($word);
+            } elseif (is_string($word)) {
+                array_push($words, $word, strlen($word));
+            } else {
+                $words[] = $word;
+            }
+        }
+        return $words;
+    }
+
+    private function check(int $status): int
+    {
+        if ($status === 2) {
+            throw new InvalidArgumentException('an unknown flag');
+        }
+        if ($status === 5) {
+            throw new RuntimeException('out of memory');
+        }
+        if ($status > 1) {
+            [$number, $offset, $row] = [$this->told->number, $this->told->offset, $this->told->row];
+            throw new Refused($number, $offset, $row, $this->ask('sw_refusal', $number)[0]);
+        }
+        return $status;
+    }
+}
+
+/** A site that is open, and questions about tags alone. */
+final class Silkwaram
+{
+    public const EXTENDED = 1;
+    public const LENIENT = 2;
+    public const WIDEN = 4;
+
+    private SilkwaramCalls $calls;
+    private FFI\CData $site;
 
     /** Opens the site that a document holds. */
     public function __construct(string $document, string $library = 'libsilkwaram.so.0')
     {
-        $this->calls = FFI::cdef(self::DECLARED, $library);
-        $this->site = $this->calls->new('sw_site');
-        $this->told = $this->calls->new('sw_told');
-        $this->check($this->calls->sw_site_open(
-            $document, strlen($document), FFI::addr($this->site), FFI::addr($this->told)
-        ));
+        $this->calls = SilkwaramCalls::of($library);
+        $this->site = $this->calls->handle();
+        $this->calls->act('sw_site_open', $document, $this->site);
+    }
+
+    /** The empty site of a name. */
+    public static function named(string $name, string $library = 'libsilkwaram.so.0'): self
+    {
+        $made = (new ReflectionClass(self::class))->newInstanceWithoutConstructor();
+        $made->calls = SilkwaramCalls::of($library);
+        $made->site = $made->calls->handle();
+        $made->calls->act('sw_site_new', $name, $made->site);
+        return $made;
     }
 
     public function __destruct()
     {
         if (isset($this->site)) {
-            $this->calls->sw_site_free(FFI::addr($this->site));
+            $this->calls->free($this->site);
         }
     }
+
+    /** A clone is one more handle of the site: it keeps what it holds where this one is edited. */
+    public function __clone()
+    {
+        $other = $this->calls->handle();
+        $this->calls->share($this->site, $other);
+        $this->site = $other;
+    }
+
+    public function version(): int
+    {
+        return $this->calls->version();
+    }
+
+    // Which tags a reader takes.
 
     /** The tag that a reader gets, or null. */
     public function pick(string $field, array $tags, string $default = '', int $flags = 0): ?string
     {
-        $lines = $tags ? implode("\n", $tags) . "\n" : '';
-        return $this->answer(fn ($out, $room) => $this->calls->sw_pick(
-            $flags, $field, strlen($field), $lines, strlen($lines), $default, strlen($default),
-            $out, $room, FFI::addr($this->told)
-        ));
+        [$tag, $isFound] = $this->calls->ask('sw_pick', $flags, $field, self::lines($tags), $default);
+        return $isFound ? $tag : null;
     }
+
+    /** The tags that a reader takes, best first, each with its weight in thousandths. */
+    public function filterTags(string $field, array $tags, int $flags = 0): array
+    {
+        return self::rows($this->calls->ask('sw_filter', $flags, $field, self::lines($tags))[0], 2);
+    }
+
+    // What a reader gets.
 
     /** The label of a message that a reader gets: its language and its texts, or null. */
     public function lookup(string $id, string $field, string $default = '', int $flags = 0): ?array
     {
-        $line = $this->answer(fn ($out, $room) => $this->calls->sw_site_lookup(
-            FFI::addr($this->site), $flags, $id, strlen($id), $field, strlen($field),
-            $default, strlen($default), $out, $room, FFI::addr($this->told)
-        ));
-        if ($line === null) {
+        [$line, $isFound] = $this->calls->ask('sw_site_lookup', $this->site, $flags, $id, $field, $default);
+        if (!$isFound) {
             return null;
         }
         [, $language, $label] = explode(' ', $line, 3);
         return ['language' => $language, 'texts' => json_decode($label)];
     }
 
-    /** Asks with some room, and once more with what the answer needs. */
-    private function answer(callable $ask): ?string
+    /** One text of that label, or null. */
+    public function text(
+        string $id,
+        string $field,
+        string $default = '',
+        int $place = 0,
+        int $flags = 0
+    ): ?string {
+        [$text, $isFound] = $this->calls->ask(
+            'sw_site_text', $this->site, $flags, $id, $field, $default, $place
+        );
+        return $isFound ? $text : null;
+    }
+
+    /** The labels of a message that a reader takes, best first: language, weight, texts. */
+    public function filter(string $id, string $field, int $flags = 0): array
     {
-        $room = 1024;
-        while (true) {
-            $out = $this->calls->new("char[$room]");
-            $status = $this->check($ask($out, $room));
-            if ($this->told->len <= $room) {
-                return $status === 0 ? FFI::string($out, $this->told->len) : null;
-            }
-            $room = $this->told->len;
+        $lines = $this->calls->ask('sw_site_filter', $this->site, $flags, $id, $field)[0];
+        return array_map(
+            fn ($row) => [$row[0], (int) $row[1], json_decode($row[2])],
+            self::rows($lines, 3)
+        );
+    }
+
+    /** All labels of one reader, by message and language. */
+    public function bundle(string $field, string $default = '', int $flags = 0): array
+    {
+        return $this->maps('sw_site_bundle', $flags, $field, $default);
+    }
+
+    // What a translator or an editor asks.
+
+    public function export(): array
+    {
+        return $this->maps('sw_site_export');
+    }
+
+    public function missing(string $lang): array
+    {
+        return $this->maps('sw_site_missing', $lang);
+    }
+
+    public function outdated(string $lang, string $source): array
+    {
+        return $this->maps('sw_site_outdated', $lang, $source);
+    }
+
+    /** The cells that differ in another site: id, language, before, after. */
+    public function changes(self $after): array
+    {
+        $other = clone $after;
+        $lines = explode("\n", $this->calls->ask('sw_site_changes', $this->site, $other->site)[0]);
+        return array_map(
+            fn ($line) => json_decode($line, true, 512, JSON_BIGINT_AS_STRING),
+            array_slice($lines, 1, -1)
+        );
+    }
+
+    /** The status line. */
+    public function status(): string
+    {
+        return rtrim($this->calls->ask('sw_site_status', $this->site)[0], "\n");
+    }
+
+    /** The document of the site. */
+    public function document(): string
+    {
+        return $this->calls->ask('sw_site_write', $this->site)[0];
+    }
+
+    // Edits. `now` is the time in milliseconds, and that of the clock where it is null.
+
+    public function put(string $id, string $lang, string $text, ?int $now = null): void
+    {
+        $this->calls->act('sw_site_put', $this->site, self::moment($now), $id, $lang, $text);
+    }
+
+    public function delete(string $id, string $lang, ?int $now = null): void
+    {
+        $this->calls->act('sw_site_delete', $this->site, self::moment($now), $id, $lang);
+    }
+
+    /** Puts each label of language maps: all of them or none. */
+    public function import(array $maps, ?int $now = null): void
+    {
+        $this->calls->act('sw_site_import', $this->site, self::moment($now), self::json($maps));
+    }
+
+    /** Makes the edits by which language maps became what they are now: all of them or none. */
+    public function update(array $old, array $new, ?int $now = null): void
+    {
+        $this->calls->act(
+            'sw_site_update', $this->site, self::moment($now), self::json($old), self::json($new)
+        );
+    }
+
+    // Exchange.
+
+    public function summary(): string
+    {
+        return $this->calls->ask('sw_site_summary', $this->site)[0];
+    }
+
+    public function deltaFor(string $summary): string
+    {
+        return $this->calls->ask('sw_site_delta', $this->site, $summary)[0];
+    }
+
+    /** Joins a delta; a cell after the time `notAfter` refuses it, where that is not 0. */
+    public function take(string $delta, int $notAfter = 0): void
+    {
+        $this->calls->act('sw_site_take', $this->site, $delta, $notAfter);
+    }
+
+    public function merge(self $other): void
+    {
+        if ($other !== $this) {
+            $this->calls->act('sw_site_merge', $this->site, $other->site);
         }
     }
 
-    private function check(int $status): int
+    private static function moment(?int $now): int
     {
-        if ($status > 1) {
-            $number = $this->told->number;
-            throw new Refused("status $status, refused $number at {$this->told->offset}", $number);
-        }
-        return $status;
+        return $now ?? (int) (microtime(true) * 1000);
+    }
+
+    private static function lines(array $tags): string
+    {
+        return $tags ? implode("\n", $tags) . "\n" : '';
+    }
+
+    /** The lines after the first, each in its parts. */
+    private static function rows(string $lines, int $parts): array
+    {
+        return array_map(
+            fn ($line) => explode(' ', $line, $parts),
+            array_slice(explode("\n", $lines), 1, -1)
+        );
+    }
+
+    private static function json(array $maps): string
+    {
+        // (an empty array would be a list)
+        $made = (object) array_map(fn ($labels) => (object) $labels, $maps);
+        return json_encode($made, JSON_UNESCAPED_UNICODE | JSON_THROW_ON_ERROR);
+    }
+
+    private function maps(string $name, ...$given): array
+    {
+        return json_decode($this->calls->ask($name, $this->site, ...$given)[0], true);
     }
 }

@@ -135,7 +135,8 @@ static void long_fields(void) {
 }
 
 static void unknown_flags(sw_site *site) {
-  for (int bit = 2; bit < 32; bit++) {
+  FILTER(site, SW_WIDEN, T("m"), T("en"), nothing_told(SW_USAGE));
+  for (int bit = 3; bit < 32; bit++) {
     uint32_t flags = (uint32_t)1 << bit | (bit % 2 ? SW_LENIENT : 0u);
     PICK(flags, T("e n"), T("e n"), NO_TEXT, nothing_told(SW_USAGE));
     LOOKUP(site, flags, T("@"), T("en"), NO_TEXT, nothing_told(SW_USAGE));

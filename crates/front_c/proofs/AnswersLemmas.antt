@@ -1,26 +1,30 @@
 -- What is told of a question, and of a document that finds no memory.
 use Rattle.std.proofs.Common.{◌≡◌, refl, inl, inr, ℕ, ℤ, Option, Some}
 use Rattle.cata_core.specs.Sites.{SiteState}
-use Rattle.docs_core.specs.ReadsAs.{no_memory}
+use Rattle.site_docs.specs.ReadsAs.{no_memory}
 use Rattle.front_core.specs.Fields.{FieldText}
 use Rattle.front_core.specs.Site.{RefusesOpening}
 use Rattle.front_core.specs.declared.fault.FrontFault.{FrontFault}
 use Rattle.front_core.specs.declared.fault.FrontFault.TheVariants as fault
 use Rattle.front_c.specs.Answers.{Ends, Tells, TellsAsked, Text}
-use Rattle.front_c.specs.Questions.{field_of}
 use Rattle.front_c.specs.Telling.{TellsRefusal}
 use Rattle.front_c.specs.declared.told.Told.{Told}
 
 -- a question that can be asked is told as it is answered
-pub is_asked : {A : Type 0} → (site : Option SiteState) (flags : ℕ) (field : Text) (Is : SiteState → FieldText → A → Type 0) (Refuses : FieldText → FrontFault → Type 0) (As : A → Ends)
-    → (s : SiteState) (read : FieldText) (old new : Text) (told : Told) (status : ℤ)
-    → site ≡ Some s → Some read ≡ field_of flags field → Tells (Is s read) (Refuses read) As old new told status
-    → TellsAsked site flags field Is Refuses As old new told status
-is_asked site flags field Is Refuses As s read old new told status is_open known h = rw is_open rw (← known) h
+pub is_asked : {A : Type 0} → (site : Option SiteState) (given : Option FieldText)
+    (Is : SiteState → FieldText → A → Type 0) (Refuses : FieldText → FrontFault → Type 0)
+    (As : A → Ends) → (s : SiteState) (read : FieldText) (old new : Text) (told : Told)
+    (status : ℤ) → site ≡ Some s → Some read ≡ given
+    → Tells (Is s read) (Refuses read) As old new told status
+    → TellsAsked site given Is Refuses As old new told status
+is_asked site given Is Refuses As s read old new told status is_open known h =
+    rw is_open rw (← known) h
 
 -- a refusal that is told is told
-pub refused_tells : {A : Type 0} → (Is : A → Type 0) (Refuses : FrontFault → Type 0) (As : A → Ends) → (fault : FrontFault) (out : Text) (told : Told) (status : ℤ)
-    → Refuses fault → TellsRefusal fault out out told status → Tells Is Refuses As out out told status
+pub refused_tells : {A : Type 0} → (Is : A → Type 0) (Refuses : FrontFault → Type 0) (As : A → Ends)
+    → (fault : FrontFault) (out : Text) (told : Told) (status : ℤ)
+    → Refuses fault → TellsRefusal fault out out told status
+    → Tells Is Refuses As out out told status
 refused_tells Is Refuses As fault out told status refuses tells = inr (fault, refuses, tells)
 
 -- memory may end before any document is read

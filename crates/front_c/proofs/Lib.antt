@@ -1,4 +1,5 @@
 pub mod AnswersLemmas
+pub mod EditingLemmas
 pub mod HandleSteps
 pub mod Options
 pub mod Values

@@ -1,7 +1,7 @@
 -- What the calls answer C (project rules).
 use Rattle.std.specs.Prelude.{◌≡◌, ◌⊎◌, ℕ, ℤ, List, Option, Some, MatchOption}
 use Rattle.cata_core.specs.Sites.{SiteState}
-use Rattle.docs_core.specs.ReadsAs.{ReadsAsSite}
+use Rattle.site_docs.specs.ReadsAs.{ReadsAsSite}
 use Rattle.front_core.specs.Questions.{AreBundleMaps, IsFilterLines, IsLookupLine, IsLookupText}
 use Rattle.front_core.specs.Questions.{RefusesBundle, RefusesFilterLines, RefusesLookup}
 use Rattle.front_core.specs.Questions.{RefusesLookupLine}
@@ -15,7 +15,7 @@ use Rattle.front_core.specs.declared.answer.LabelText.{LabelText}
 use Rattle.front_core.specs.declared.answer.LabelText.TheVariants as label
 use Rattle.front_core.specs.declared.tag_pick.Picked.{Picked}
 use Rattle.front_core.specs.declared.tag_pick.Picked.TheVariants as picked
-use Rattle.front_c.specs.Questions.{asked, default_of, field_of}
+use Rattle.front_c.specs.Questions.{asked, default_of, field_of, lookup_field_of}
 use Rattle.front_c.specs.Statuses.{found, out_of_memory, status_of_outcome, status_of_refusal}
 use Rattle.front_c.specs.Statuses.{usage}
 use Rattle.front_c.specs.Telling.{TellsNothing, TellsRefusal, TellsText, TellsUsage, answered}
@@ -52,29 +52,39 @@ TellsLabelText label.Nothing = TellsNothing 0
 
 abbrev pub TellsPick : ℕ → Text → Text → Text → Ends
 TellsPick flags field tags default old new told status =
-    MatchOption (field_of flags field) (TellsUsage old new told status)
-    (λ read. Tells (IsPickedTag read (default_of default) (lines_of tags)) (RefusesPick read (default_of default) (lines_of tags)) TellsPicked old new told status)
+    MatchOption (lookup_field_of flags field) (TellsUsage old new told status)
+    (λ read. Tells (IsPickedTag read (default_of default) (lines_of tags))
+    (RefusesPick read (default_of default) (lines_of tags)) TellsPicked old new told status)
 
 -- a question to a site: told as usage where it cannot be asked
-abbrev pub TellsAsked : {A : Type 0} → Option SiteState → ℕ → Text → (SiteState → FieldText → A → Type 0) → (FieldText → FrontFault → Type 0) → (A → Ends) → Ends
-TellsAsked site flags field Is Refuses As old new told status =
-    MatchOption (asked site (field_of flags field)) (TellsUsage old new told status) (λ it. Tells (Is it.0 it.1) (Refuses it.1) As old new told status)
+abbrev pub TellsAsked : {A : Type 0} → Option SiteState → Option FieldText
+    → (SiteState → FieldText → A → Type 0) → (FieldText → FrontFault → Type 0) → (A → Ends) → Ends
+TellsAsked site read Is Refuses As old new told status =
+    MatchOption (asked site read) (TellsUsage old new told status)
+    (λ it. Tells (Is it.0 it.1) (Refuses it.1) As old new told status)
 
 abbrev pub TellsLookup : Option SiteState → ℕ → Text → Text → Text → Ends
 TellsLookup site flags id field default =
-    TellsAsked site flags field (λ s read. IsLookupLine s.cells id read (default_of default)) (λ read. RefusesLookupLine id read (default_of default)) TellsAnswer
+    TellsAsked site (lookup_field_of flags field)
+    (λ s read. IsLookupLine s.cells id read (default_of default))
+    (λ read. RefusesLookupLine id read (default_of default)) TellsAnswer
 
 abbrev pub TellsLookupText : Option SiteState → ℕ → Text → Text → Text → ℕ → Ends
 TellsLookupText site flags id field default place =
-    TellsAsked site flags field (λ s read. IsLookupText s.cells id read (default_of default) place) (λ read. RefusesLookup id read (default_of default)) TellsLabelText
+    TellsAsked site (lookup_field_of flags field)
+    (λ s read. IsLookupText s.cells id read (default_of default) place)
+    (λ read. RefusesLookup id read (default_of default)) TellsLabelText
 
 abbrev pub TellsFilter : Option SiteState → ℕ → Text → Text → Ends
 TellsFilter site flags id field =
-    TellsAsked site flags field (λ s read. IsFilterLines s.cells id read) (λ read. RefusesFilterLines id read) TellsAnswer
+    TellsAsked site (field_of flags field) (λ s read. IsFilterLines s.cells id read)
+    (λ read. RefusesFilterLines id read) TellsAnswer
 
 abbrev pub TellsBundle : Option SiteState → ℕ → Text → Text → Ends
 TellsBundle site flags field default =
-    TellsAsked site flags field (λ s read. AreBundleMaps s.cells read (default_of default)) (λ read. RefusesBundle read (default_of default)) TellsAnswer
+    TellsAsked site (lookup_field_of flags field)
+    (λ s read. AreBundleMaps s.cells read (default_of default))
+    (λ read. RefusesBundle read (default_of default)) TellsAnswer
 
 -- the handle holds the site of the document, or is as it was where the document is refused or
 -- memory ended

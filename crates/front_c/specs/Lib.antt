@@ -1,4 +1,5 @@
 pub mod Answers
+pub mod Editing
 pub mod Handles
 pub mod Held
 pub mod Questions

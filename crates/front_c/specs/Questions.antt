@@ -4,11 +4,18 @@ use Rattle.nego_core.specs.declared.field.Malformed.{Malformed}
 use Rattle.nego_core.specs.declared.field.Malformed.TheVariants.{Refused, PassedOver}
 use Rattle.nego_core.specs.declared.scheme.Scheme.{Scheme}
 use Rattle.nego_core.specs.declared.scheme.Scheme.TheVariants.{Basic, Extended}
+use Rattle.nego_core.specs.declared.widening.Widening.TheVariants.{By, Off}
 use Rattle.cata_core.specs.Sites.{SiteState}
 use Rattle.front_core.specs.Fields.{FieldText}
 
 abbrev pub field : Scheme → Malformed → List ℕ → FieldText
-field scheme malformed text = record { scheme = scheme; malformed = malformed; text = text }
+field scheme malformed text =
+    record { scheme = scheme; malformed = malformed; widening = Off; text = text }
+
+-- the same for a widened lookup
+abbrev pub widened : Scheme → Malformed → List ℕ → FieldText
+widened scheme malformed text =
+    record { scheme = scheme; malformed = malformed; widening = By scheme; text = text }
 
 -- how a field is read under these flags: 1 is the extended scheme, 2 passes malformed elements
 -- over, 3 is both
@@ -20,10 +27,23 @@ field_of flags text =
     else if flags == 3 then Some (field Extended PassedOver text)
     else None
 
+-- how the field of a lookup is read under these flags: 4 widens the lookup besides
+abbrev pub lookup_field_of : ℕ → List ℕ → Option FieldText
+lookup_field_of flags text =
+    if flags == 4 then Some (widened Basic Refused text)
+    else if flags == 5 then Some (widened Extended Refused text)
+    else if flags == 6 then Some (widened Basic PassedOver text)
+    else if flags == 7 then Some (widened Extended PassedOver text)
+    else field_of flags text
+
 -- an empty default is none
 abbrev pub default_of : List ℕ → Option (List ℕ)
 default_of [] = None
 default_of (byte ∷ rest) = Some (byte ∷ rest)
+
+-- a limit of 0 is none
+abbrev pub limit_of : ℕ → Option ℕ
+limit_of limit = if limit == 0 then None else Some limit
 
 -- a question to a site can be asked where the handle is open and the flags are known
 abbrev pub asked : Option SiteState → Option FieldText → Option (SiteState × FieldText)

@@ -6,6 +6,11 @@
 //!   and [`sw_site_free`] lets it go.
 //! - [`sw_site_lookup`], [`sw_site_text`], [`sw_site_filter`] and [`sw_site_bundle`] put questions
 //!   to a site.
+//! - [`sw_site_new`] makes a site; [`sw_site_put`], [`sw_site_delete`], [`sw_site_import`] and
+//!   [`sw_site_update`] edit one, [`sw_site_take`] and [`sw_site_merge`] join edits of others, and
+//!   all of these leave the other handles of it as they are.
+//! - [`sw_site_write`], [`sw_site_summary`], [`sw_site_status`] and [`sw_site_delta`] write it.
+//! - [`sw_filter`] filters tags, [`sw_refusal`] says what a refusal means.
 //! - [`sw_version`] is the version.
 //!
 //! Each of them returns a status, that of the command for the same question, and reports the rest
@@ -14,17 +19,24 @@
 //! reported length are as with room.
 //!
 //! The flags of a question are 1, by which its field is a list of extended ranges (RFC 4647 section
-//! 2.2), and 2, by which malformed elements of the field are skipped. A question with any other
-//! flag, or to a handle that is not open, has status 2.
+//! 2.2), 2, by which malformed elements of the field are skipped, and, where it is a lookup, 4, by
+//! which a range also finds the languages that it matches. A question with any other flag, or to a
+//! handle that is not open, has status 2.
 #![tactic(auto)]
 
 ghost use Rattle.std.specs.Prelude.{◌≡◌, None, Some, IfSome};
 ghost use denote.RawPtr.{null_ptr};
 ghost use Rattle.front_c.specs.Answers.{TellsBundle, TellsFilter, TellsLookup, TellsLookupText};
 ghost use Rattle.front_c.specs.Answers.{TellsOpened, TellsPick, TellsShared};
+ghost use Rattle.front_c.specs.Editing.{IsHeld, TellsChanges, TellsDeleted, TellsDelta};
+ghost use Rattle.front_c.specs.Editing.{TellsDocument, TellsExport, TellsImported, TellsMissing};
+ghost use Rattle.front_c.specs.Editing.{TellsOutdated, TellsUpdated};
+ghost use Rattle.front_c.specs.Editing.{TellsMeaning, TellsMerged, TellsNew, TellsPut, TellsStatus};
+ghost use Rattle.front_c.specs.Editing.{TellsSummary, TellsTagFilter, TellsTaken};
 ghost use Rattle.front_c.specs.Handles.{site_of};
 
 mod answers;
+mod editing;
 mod question;
 mod raw_box;
 mod site_handle;
@@ -34,12 +46,16 @@ mod telling;
 mod tests;
 mod told;
 
-use crate::answers::{tell_bundle, tell_filter, tell_lookup, tell_lookup_text, tell_pick};
-use crate::question::field_of;
+use crate::answers::{
+    tell_bundle, tell_changes, tell_delta, tell_document, tell_export, tell_filter, tell_lookup,
+    tell_lookup_text, tell_missing, tell_outdated, tell_pick, tell_status, tell_summary,
+    tell_tag_filter,
+};
+use crate::question::{field_of, limit_of, lookup_field_of};
 use crate::raw_box::RawBox;
-use crate::telling::{tell_refusal, tell_usage};
+use crate::telling::{tell_done, tell_edit, tell_meaning, tell_refusal, tell_usage};
 use cata_core::Site;
-use front_core::{FrontFault, open_site};
+use front_core::{FrontFault, new_site, open_site};
 pub use site_handle::{SiteBlock, SiteHandle};
 use std::alloc::Global;
 use std::mem;
@@ -64,7 +80,7 @@ pub extern "C" fn sw_pick(
 ) -> i32
     ensures { TellsPick flags field.now tags.now default.now out.old out.new told.new result }
 {
-    let Some(field) = field_of(flags, field) else {
+    let Some(field) = lookup_field_of(flags, field) else {
         return tell_usage(told);
     };
     tell_pick(alloc, field, tags, default, out, told)
@@ -74,7 +90,6 @@ pub extern "C" fn sw_pick(
 /// the new one is read, and kept where the document is refused (1 to 4, 10 to 12, 18 to 21, 27, 28)
 /// or memory ends (26).
 #[unsafe(no_mangle)]
-#[tactic(auto, using(crate::proofs::AnswersLemmas::no_memory_to_open))]
 pub extern "C" fn sw_site_open(
     alloc: Global,
     text: &[u8],
@@ -83,16 +98,353 @@ pub extern "C" fn sw_site_open(
 ) -> i32
     ensures { TellsOpened text.now (site_of site.old) (site_of site.new) told.new result }
 {
-    let read = match open_site(alloc, text) {
-        Ok(read) => read,
-        Err(fault) => return tell_refusal(&fault, told),
+    match open_site(alloc, text) {
+        Ok(read) => hold(alloc, read, site, told),
+        Err(fault) => tell_refusal(&fault, told),
+    }
+}
+
+/// Makes the empty site of a name in a handle. Where the handle is open its old site is let go once
+/// the new one is made, and kept where the name is refused (27) or memory ends (26).
+#[unsafe(no_mangle)]
+pub extern "C" fn sw_site_new(
+    alloc: Global,
+    name: &[u8],
+    site: &mut SiteHandle,
+    told: &mut Told,
+) -> i32
+    ensures { TellsNew name.now (site_of site.old) (site_of site.new) told.new result }
+{
+    match new_site(alloc, name) {
+        Ok(made) => hold(alloc, made, site, told),
+        Err(fault) => tell_refusal(&fault, told),
+    }
+}
+
+/// Puts a label of one text at the time `now`, in milliseconds since 1970 by custom. The other
+/// handles of the site keep what they had.
+///
+/// Refused, and then the site is as it was, are the id (10), the language (1 to 4), the text (18
+/// where it is not UTF-8, 11 where it is too long), then the edit if no stamp is left for it (14).
+#[unsafe(no_mangle)]
+pub extern "C" fn sw_site_put(
+    alloc: Global,
+    site: &mut SiteHandle,
+    now: u64,
+    id: &[u8],
+    lang: &[u8],
+    text: &[u8],
+    told: &mut Told,
+) -> i32
+    ensures { TellsPut now id.now lang.now text.now (site_of site.old) (site_of site.new) told.new
+        result }
+{
+    if !site.is_open() {
+        return tell_usage(told);
+    }
+    let held = site.site();
+    tell_edit(editing::put(alloc, held, now, id, lang, text), told)
+}
+
+/// Deletes a label at the time `now`. Refused as [`sw_site_put`] is, without the text.
+#[unsafe(no_mangle)]
+pub extern "C" fn sw_site_delete(
+    alloc: Global,
+    site: &mut SiteHandle,
+    now: u64,
+    id: &[u8],
+    lang: &[u8],
+    told: &mut Told,
+) -> i32
+    ensures { TellsDeleted now id.now lang.now (site_of site.old) (site_of site.new) told.new result }
+{
+    if !site.is_open() {
+        return tell_usage(told);
+    }
+    let held = site.site();
+    tell_edit(editing::delete(alloc, held, now, id, lang), told)
+}
+
+/// Joins what the site of another handle has, in a copy of the site.
+///
+/// Refused, and then the site is as it was, where one stamp has two labels (13).
+#[unsafe(no_mangle)]
+pub extern "C" fn sw_site_merge(
+    alloc: Global,
+    site: &mut SiteHandle,
+    other: &mut SiteHandle,
+    told: &mut Told,
+) -> i32
+    ensures other { other.new.value ≡ other.old.value }
+    ensures merged { TellsMerged (site_of other.old) (site_of site.old) (site_of site.new) told.new
+        result }
+{
+    if !other.is_open() {
+        return tell_usage(told);
+    }
+    if !site.is_open() {
+        return tell_usage(told);
+    }
+    let cells = other.site();
+    let held = site.site();
+    tell_edit(editing::merge(alloc, held, cells), told)
+}
+
+/// Takes the document of a delta for the site. Where `not_after` is not 0 no time of the delta may
+/// be greater.
+///
+/// Refused are the delta (18 to 21, 27, 28; 10 to 12, or 1 to 4, in a row of it), a time of it
+/// (29), then a delta for another site (15), and one stamp with two labels (13): then the site is
+/// as it was. The site is copied for it.
+#[unsafe(no_mangle)]
+pub extern "C" fn sw_site_take(
+    alloc: Global,
+    site: &mut SiteHandle,
+    delta: &[u8],
+    not_after: u64,
+    told: &mut Told,
+) -> i32
+    ensures { TellsTaken delta.now not_after (site_of site.old) (site_of site.new) told.new result }
+{
+    if !site.is_open() {
+        return tell_usage(told);
+    }
+    let held = site.site();
+    tell_edit(editing::take(alloc, held, delta, limit_of(not_after)), told)
+}
+
+/// Puts the labels of language maps at the time `now`, all or none, as the command `import` does.
+///
+/// Refused, and then the site is as it was, are the maps (18 to 20, 22; 1 to 4 or 10 to 12 in a row
+/// of them), then a label for which no stamp is left (14).
+#[unsafe(no_mangle)]
+pub extern "C" fn sw_site_import(
+    alloc: Global,
+    site: &mut SiteHandle,
+    now: u64,
+    maps: &[u8],
+    told: &mut Told,
+) -> i32
+    ensures { TellsImported now maps.now (site_of site.old) (site_of site.new) told.new result }
+{
+    if !site.is_open() {
+        return tell_usage(told);
+    }
+    let held = site.site();
+    tell_edit(editing::import(alloc, held, now, maps), told)
+}
+
+/// Makes the changes from old language maps to new ones at the time `now`, all or none, as the
+/// command `update` does. Refused as [`sw_site_import`] is, the old maps first.
+#[unsafe(no_mangle)]
+pub extern "C" fn sw_site_update(
+    alloc: Global,
+    site: &mut SiteHandle,
+    now: u64,
+    old: &[u8],
+    new: &[u8],
+    told: &mut Told,
+) -> i32
+    ensures { TellsUpdated now old.now new.now (site_of site.old) (site_of site.new) told.new
+        result }
+{
+    if !site.is_open() {
+        return tell_usage(told);
+    }
+    let held = site.site();
+    tell_edit(editing::update(alloc, held, now, old, new), told)
+}
+
+/// Answers the document of the site, which [`sw_site_open`] reads as this site.
+#[unsafe(no_mangle)]
+pub extern "C" fn sw_site_write(
+    alloc: Global,
+    site: &mut SiteHandle,
+    out: &mut [u8],
+    told: &mut Told,
+) -> i32
+    ensures site { site.new.value ≡ site.old.value }
+    ensures answer { TellsDocument (site_of site.old) out.old out.new told.new result }
+{
+    if !site.is_open() {
+        return tell_usage(told);
+    }
+    let held = site.site();
+    tell_document(alloc, held, out, told)
+}
+
+/// Answers the document of the site's summary, as the command `summary` prints it.
+#[unsafe(no_mangle)]
+pub extern "C" fn sw_site_summary(
+    alloc: Global,
+    site: &mut SiteHandle,
+    out: &mut [u8],
+    told: &mut Told,
+) -> i32
+    ensures site { site.new.value ≡ site.old.value }
+    ensures answer { TellsSummary (site_of site.old) out.old out.new told.new result }
+{
+    if !site.is_open() {
+        return tell_usage(told);
+    }
+    let held = site.site();
+    tell_summary(alloc, held, out, told)
+}
+
+/// Answers the line of the command `status`.
+#[unsafe(no_mangle)]
+pub extern "C" fn sw_site_status(
+    alloc: Global,
+    site: &mut SiteHandle,
+    out: &mut [u8],
+    told: &mut Told,
+) -> i32
+    ensures site { site.new.value ≡ site.old.value }
+    ensures answer { TellsStatus (site_of site.old) out.old out.new told.new result }
+{
+    if !site.is_open() {
+        return tell_usage(told);
+    }
+    let held = site.site();
+    tell_status(alloc, held, out, told)
+}
+
+/// Answers the document of the delta of what a summary lacks, as the command `delta` prints it.
+///
+/// Refused is the summary (10, 1 to 4, 18 to 21, 27, 28).
+#[unsafe(no_mangle)]
+pub extern "C" fn sw_site_delta(
+    alloc: Global,
+    site: &mut SiteHandle,
+    summary: &[u8],
+    out: &mut [u8],
+    told: &mut Told,
+) -> i32
+    ensures site { site.new.value ≡ site.old.value }
+    ensures answer { TellsDelta (site_of site.old) summary.now out.old out.new told.new result }
+{
+    if !site.is_open() {
+        return tell_usage(told);
+    }
+    let held = site.site();
+    tell_delta(alloc, held, summary, out, told)
+}
+
+/// Answers the language maps of all labels, as the command `export` prints them.
+#[unsafe(no_mangle)]
+pub extern "C" fn sw_site_export(
+    alloc: Global,
+    site: &mut SiteHandle,
+    out: &mut [u8],
+    told: &mut Told,
+) -> i32
+    ensures site { site.new.value ≡ site.old.value }
+    ensures answer { TellsExport (site_of site.old) out.old out.new told.new result }
+{
+    if !site.is_open() {
+        return tell_usage(told);
+    }
+    let held = site.site();
+    tell_export(alloc, held, out, told)
+}
+
+/// Answers the language maps of the messages that lack a language, as the command `missing` prints
+/// them. Refused is the language (1 to 4).
+#[unsafe(no_mangle)]
+pub extern "C" fn sw_site_missing(
+    alloc: Global,
+    site: &mut SiteHandle,
+    lang: &[u8],
+    out: &mut [u8],
+    told: &mut Told,
+) -> i32
+    ensures site { site.new.value ≡ site.old.value }
+    ensures answer { TellsMissing (site_of site.old) lang.now out.old out.new told.new result }
+{
+    if !site.is_open() {
+        return tell_usage(told);
+    }
+    let held = site.site();
+    tell_missing(alloc, held, lang, out, told)
+}
+
+/// Answers the language maps of the messages whose label in a language is older than that in the
+/// source language, as the command `outdated` prints them. Refused are the language, then the
+/// source (1 to 4).
+#[unsafe(no_mangle)]
+pub extern "C" fn sw_site_outdated(
+    alloc: Global,
+    site: &mut SiteHandle,
+    lang: &[u8],
+    source: &[u8],
+    out: &mut [u8],
+    told: &mut Told,
+) -> i32
+    ensures site { site.new.value ≡ site.old.value }
+    ensures answer { TellsOutdated (site_of site.old) lang.now source.now out.old out.new told.new
+        result }
+{
+    if !site.is_open() {
+        return tell_usage(told);
+    }
+    let held = site.site();
+    tell_outdated(alloc, held, lang, source, out, told)
+}
+
+/// Answers what changed from the site to that of another handle, as the command `changes` prints
+/// it.
+#[unsafe(no_mangle)]
+pub extern "C" fn sw_site_changes(
+    alloc: Global,
+    site: &mut SiteHandle,
+    other: &mut SiteHandle,
+    out: &mut [u8],
+    told: &mut Told,
+) -> i32
+    ensures site { site.new.value ≡ site.old.value }
+    ensures other { other.new.value ≡ other.old.value }
+    ensures answer { TellsChanges (site_of site.old) (site_of other.old) out.old out.new told.new
+        result }
+{
+    if !other.is_open() {
+        return tell_usage(told);
+    }
+    if !site.is_open() {
+        return tell_usage(told);
+    }
+    let after = other.site();
+    let before = site.site();
+    tell_changes(alloc, before, after, out, told)
+}
+
+/// Filters tags, one on a line, by a field (RFC 4647, sections 3.3.1 and 3.3.2): `filter N`, then N
+/// lines `TAG WEIGHT`, with each tag as it was passed in.
+///
+/// Refused are the field (8, 9), then the tags in their order (1 to 4; a line without bytes is 1).
+#[unsafe(no_mangle)]
+pub extern "C" fn sw_filter(
+    alloc: Global,
+    flags: u32,
+    field: &[u8],
+    tags: &[u8],
+    out: &mut [u8],
+    told: &mut Told,
+) -> i32
+    ensures { TellsTagFilter flags field.now tags.now out.old out.new told.new result }
+{
+    let Some(field) = field_of(flags, field) else {
+        return tell_usage(told);
     };
-    let Some(opened) = handle_of(alloc, read) else {
-        return tell_refusal(&FrontFault::NoMemory, told);
-    };
-    close(alloc, mem::replace(site, opened));
-    *told = Told::answered(0, 0);
-    status::FOUND
+    tell_tag_filter(alloc, field, tags, out, told)
+}
+
+/// Answers in a sentence, without an end mark, what was wanted where this refusal comes; nothing
+/// for a number that no refusal has.
+#[unsafe(no_mangle)]
+pub extern "C" fn sw_refusal(number: u32, out: &mut [u8], told: &mut Told) -> i32
+    ensures { TellsMeaning number out.old out.new told.new result }
+{
+    tell_meaning(number, out, told)
 }
 
 /// Looks up the label of a message for a field (RFC 4647 section 3.4), or that of the default, and
@@ -111,9 +463,10 @@ pub extern "C" fn sw_site_lookup(
     told: &mut Told,
 ) -> i32
     ensures site { site.new.value ≡ site.old.value }
-    ensures answer { TellsLookup (site_of site.old) flags id.now field.now default.now out.old out.new told.new result }
+    ensures answer { TellsLookup (site_of site.old) flags id.now field.now default.now out.old
+        out.new told.new result }
 {
-    let Some(field) = field_of(flags, field) else {
+    let Some(field) = lookup_field_of(flags, field) else {
         return tell_usage(told);
     };
     if !site.is_open() {
@@ -140,9 +493,10 @@ pub extern "C" fn sw_site_text(
     told: &mut Told,
 ) -> i32
     ensures site { site.new.value ≡ site.old.value }
-    ensures answer { TellsLookupText (site_of site.old) flags id.now field.now default.now place out.old out.new told.new result }
+    ensures answer { TellsLookupText (site_of site.old) flags id.now field.now default.now place
+        out.old out.new told.new result }
 {
-    let Some(field) = field_of(flags, field) else {
+    let Some(field) = lookup_field_of(flags, field) else {
         return tell_usage(told);
     };
     if !site.is_open() {
@@ -167,7 +521,8 @@ pub extern "C" fn sw_site_filter(
     told: &mut Told,
 ) -> i32
     ensures site { site.new.value ≡ site.old.value }
-    ensures answer { TellsFilter (site_of site.old) flags id.now field.now out.old out.new told.new result }
+    ensures answer { TellsFilter (site_of site.old) flags id.now field.now out.old out.new told.new
+        result }
 {
     let Some(field) = field_of(flags, field) else {
         return tell_usage(told);
@@ -194,9 +549,10 @@ pub extern "C" fn sw_site_bundle(
     told: &mut Told,
 ) -> i32
     ensures site { site.new.value ≡ site.old.value }
-    ensures answer { TellsBundle (site_of site.old) flags field.now default.now out.old out.new told.new result }
+    ensures answer { TellsBundle (site_of site.old) flags field.now default.now out.old out.new
+        told.new result }
 {
-    let Some(field) = field_of(flags, field) else {
+    let Some(field) = lookup_field_of(flags, field) else {
         return tell_usage(told);
     };
     if !site.is_open() {
@@ -241,9 +597,20 @@ pub extern "C" fn sw_site_free(alloc: Global, site: &mut SiteHandle)
 /// patch number, added up.
 #[unsafe(no_mangle)]
 pub extern "C" fn sw_version() -> u32
-    ensures { result ≡ 200 }
+    ensures { result ≡ 300 }
 {
-    200
+    300
+}
+
+/// Puts a site into a handle, and lets the old one of the handle go.
+fn hold(alloc: Global, held: Site, site: &mut SiteHandle, told: &mut Told) -> i32
+    ensures { IsHeld held (site_of site.old) (site_of site.new) told.new result }
+{
+    let Some(opened) = handle_of(alloc, held) else {
+        return tell_refusal(&FrontFault::NoMemory, told);
+    };
+    close(alloc, mem::replace(site, opened));
+    tell_done(told)
 }
 
 /// A handle of this site, or none where memory ends.

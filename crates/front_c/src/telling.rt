@@ -1,12 +1,13 @@
 //! Answers and refusals, reported to C.
-ghost use Rattle.std.specs.Prelude.{◌≡◌, ◌≤◌, ◌++◌, length, drop};
+ghost use Rattle.std.specs.Prelude.{◌≡◌, ◌≤◌, ◌++◌, MatchResult, length, drop};
 ghost use Rattle.front_c.specs.Answers.{TellsAnswer, TellsLabelText, TellsPicked};
+ghost use Rattle.front_c.specs.Editing.{TellsDone, TellsFault, TellsMeaning};
 ghost use Rattle.front_c.specs.Statuses.{nothing, status_of_refusal, usage};
 ghost use Rattle.front_c.specs.Telling.{IsPutInto, TellsText, answered, refused};
 
 use crate::status;
 use crate::told::Told;
-use front_core::{Answer, FrontFault, LabelText, Picked};
+use front_core::{Answer, FrontFault, LabelText, Picked, explain};
 
 /// Reports the tag that a pick finds; the count is 1 where it is the default.
 pub(crate) fn tell_picked(picked: Picked<'_>, out: &mut [u8], told: &mut Told) -> i32
@@ -54,6 +55,39 @@ pub(crate) fn tell_refusal(fault: &FrontFault, told: &mut Told) -> i32
 {
     *told = Told::refused(fault);
     status::of_refusal(fault)
+}
+
+/// Reports what an edit came to.
+pub(crate) fn tell_edit(edit: Result<(), FrontFault>, told: &mut Told) -> i32
+    ensures { MatchResult edit (λ _. TellsDone told.new result)
+        (λ fault. TellsFault fault told.new result) }
+{
+    match edit {
+        Ok(()) => tell_done(told),
+        Err(fault) => tell_refusal(&fault, told),
+    }
+}
+
+/// Reports that a call without an answer is done.
+pub(crate) fn tell_done(told: &mut Told) -> i32
+    ensures { TellsDone told.new result }
+{
+    *told = Told::answered(0, 0);
+    status::FOUND
+}
+
+/// Reports what the refusal of a number means.
+pub(crate) fn tell_meaning(number: u32, out: &mut [u8], told: &mut Told) -> i32
+    ensures { TellsMeaning number out.old out.new told.new result }
+{
+    let explained = match u8::try_from(number) {
+        Ok(number) => explain(number),
+        Err(_) => None,
+    };
+    match explained {
+        Some(refusal) => tell_text(refusal.meaning.as_bytes(), 0, status::FOUND, out, told),
+        None => tell_nothing(0, told),
+    }
 }
 
 /// Reports that nothing was found.

@@ -1,14 +1,14 @@
 """The shared library, and its calls as `silkwaram.h` declares them."""
 import ctypes
 import os
-from ctypes import POINTER, c_char_p, c_int32, c_size_t, c_uint32
+from ctypes import POINTER, c_char_p, c_int32, c_size_t, c_uint32, c_uint64
 from typing import Callable, NamedTuple, Tuple
 
 NAME = "libsilkwaram.so.0"
 FIRST_ROOM = 1024
 
 FOUND, NOTHING, USAGE, REFUSED, NO_MEMORY = 0, 1, 2, 3, 5
-EXTENDED, LENIENT = 1, 2
+EXTENDED, LENIENT, WIDEN = 1, 2, 4
 
 
 class Told(ctypes.Structure):
@@ -42,16 +42,34 @@ class Answer(NamedTuple):
 
 
 _TEXT = [c_char_p, c_size_t]
-_OUT = [c_char_p, c_size_t, POINTER(Told)]
+_TOLD = [POINTER(Told)]
+_OUT = [c_char_p, c_size_t, *_TOLD]
 _SITE = [POINTER(Handle)]
 _CALLS = {
     "sw_version": (c_uint32, []),
     "sw_pick": (c_int32, [c_uint32, *_TEXT * 3, *_OUT]),
-    "sw_site_open": (c_int32, [*_TEXT, *_SITE, POINTER(Told)]),
+    "sw_filter": (c_int32, [c_uint32, *_TEXT * 2, *_OUT]),
+    "sw_refusal": (c_int32, [c_uint32, *_OUT]),
+    "sw_site_open": (c_int32, [*_TEXT, *_SITE, *_TOLD]),
+    "sw_site_new": (c_int32, [*_TEXT, *_SITE, *_TOLD]),
     "sw_site_lookup": (c_int32, [*_SITE, c_uint32, *_TEXT * 3, *_OUT]),
     "sw_site_text": (c_int32, [*_SITE, c_uint32, *_TEXT * 3, c_size_t, *_OUT]),
     "sw_site_filter": (c_int32, [*_SITE, c_uint32, *_TEXT * 2, *_OUT]),
     "sw_site_bundle": (c_int32, [*_SITE, c_uint32, *_TEXT * 2, *_OUT]),
+    "sw_site_put": (c_int32, [*_SITE, c_uint64, *_TEXT * 3, *_TOLD]),
+    "sw_site_delete": (c_int32, [*_SITE, c_uint64, *_TEXT * 2, *_TOLD]),
+    "sw_site_import": (c_int32, [*_SITE, c_uint64, *_TEXT, *_TOLD]),
+    "sw_site_update": (c_int32, [*_SITE, c_uint64, *_TEXT * 2, *_TOLD]),
+    "sw_site_take": (c_int32, [*_SITE, *_TEXT, c_uint64, *_TOLD]),
+    "sw_site_merge": (c_int32, [*_SITE, *_SITE, *_TOLD]),
+    "sw_site_write": (c_int32, [*_SITE, *_OUT]),
+    "sw_site_export": (c_int32, [*_SITE, *_OUT]),
+    "sw_site_summary": (c_int32, [*_SITE, *_OUT]),
+    "sw_site_status": (c_int32, [*_SITE, *_OUT]),
+    "sw_site_missing": (c_int32, [*_SITE, *_TEXT, *_OUT]),
+    "sw_site_outdated": (c_int32, [*_SITE, *_TEXT * 2, *_OUT]),
+    "sw_site_delta": (c_int32, [*_SITE, *_TEXT, *_OUT]),
+    "sw_site_changes": (c_int32, [*_SITE, *_SITE, *_OUT]),
     "sw_site_share": (c_int32, [*_SITE, *_SITE]),
     "sw_site_free": (None, [*_SITE]),
 }
@@ -86,9 +104,9 @@ def _loaded(path: str) -> ctypes.CDLL:
 library = _loaded(_path())
 
 
-def answered(call: Call) -> Answer:
+def answered(call: Call, room: int = FIRST_ROOM) -> Answer:
     """Makes the call with room for its answer: once more where that room was too small."""
-    told, room = Told(), FIRST_ROOM
+    told = Told()
     while True:
         out = ctypes.create_string_buffer(room)
         status = call(out, room, told)

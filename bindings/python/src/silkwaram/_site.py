@@ -1,99 +1,20 @@
-"""Picks, and sites that are open."""
+"""Sites that are open: their labels, edits of them, and what they exchange."""
 import ctypes
 import json
-import mmap
-import operator
 import threading
 from types import TracebackType
-from typing import Any, Dict, Iterable, List, NamedTuple, NoReturn, Optional, Type, Union
+from typing import Any, List, Mapping, NoReturn, Optional, Type, Union
 
-from ._library import EXTENDED, LENIENT, NOTHING, USAGE, Answer, Handle, Told, answered, library
+from . import _answers
+from ._answers import Change, Choice, Label, LanguageMaps, Status
+from ._arguments import Text, flags, given_or, limit, moment, words
+from ._arguments import place as counted_place
+from ._library import FIRST_ROOM, NOTHING, USAGE, Answer, Handle, Told, answered, library
 from ._refusals import NOT_JSON, Refused, checked
 
-# A text, or its bytes. (Other objects with the buffer protocol are taken too.)
-Text = Union[str, bytes, bytearray, memoryview, mmap.mmap]
-MAX_PLACE: int = 2 ** (8 * ctypes.sizeof(ctypes.c_size_t)) - 1
+# Language maps: their JSON text, or what `json.dumps` makes it of.
+Maps = Union[Text, Mapping[str, Any]]
 MAX_NAME = 255
-
-
-class Label(NamedTuple):
-    """The label of a message: its language, its texts, and whether it is that of the default."""
-
-    language: str
-    texts: List[str]
-    is_default: bool
-
-
-class Choice(NamedTuple):
-    """A label that a reader takes, with its weight in thousandths."""
-
-    language: str
-    weight: int
-    texts: List[str]
-
-
-def _wrong_type(name: str, wanted: str, value: object) -> TypeError:
-    return TypeError(f"{name} must be {wanted}, not {type(value).__name__}")
-
-
-def _bytes(name: str, value: Any) -> bytes:
-    """The bytes of an argument: of a buffer a copy, which nobody can change during the call."""
-    if isinstance(value, bytes):
-        return value
-    if isinstance(value, str):
-        # (half a surrogate pair is not UTF-8 then, and is refused as such)
-        return value.encode("utf-8", "surrogatepass")
-    try:
-        view = memoryview(value)
-    except TypeError:
-        raise _wrong_type(name, "str or bytes-like", value) from None
-    with view:
-        return view.tobytes()
-
-
-def _words(**texts: Any) -> List[Any]:
-    """The arguments as the calls take them, each with its length."""
-    words: List[Any] = []
-    for name, text in texts.items():
-        given = _bytes(name, text)
-        words += [given, len(given)]
-    return words
-
-
-def _or(text: Optional[Text], without: str) -> Text:
-    return without if text is None else text
-
-
-def _lines(tags: Iterable[str]) -> str:
-    """The tags, one on a line."""
-    if isinstance(tags, (str, bytes, bytearray, memoryview)):
-        raise _wrong_type("tags", "an iterable of str", tags)
-    try:
-        given = iter(tags)
-    except TypeError:
-        raise _wrong_type("tags", "an iterable of str", tags) from None
-    lines = []
-    for at, tag in enumerate(given):
-        if not isinstance(tag, str):
-            raise _wrong_type(f"tags[{at}]", "str", tag)
-        # (an LF would part a tag in two: a zero byte is refused as the LF would be)
-        lines.append(tag.replace("\n", "\0") + "\n")
-    return "".join(lines)
-
-
-def _place(place: int) -> int:
-    """The place as the call takes it. (No label has a text at the last one.)"""
-    try:
-        counted = operator.index(place)
-    except TypeError:
-        raise _wrong_type("place", "int", place) from None
-    if counted < 0:
-        raise ValueError("place counts from 0")
-    return min(counted, MAX_PLACE)
-
-
-def _flags(extended: bool, lenient: bool) -> int:
-    return EXTENDED * bool(extended) | LENIENT * bool(lenient)
 
 
 def _may_be_name(document: Text) -> bool:
@@ -101,32 +22,9 @@ def _may_be_name(document: Text) -> bool:
     return isinstance(document, str) and 0 < len(document) <= MAX_NAME and "{" not in document
 
 
-def pick(
-    field: Optional[Text],
-    tags: Iterable[str],
-    *,
-    default: Optional[Text] = None,
-    extended: bool = False,
-    lenient: bool = False,
-) -> Optional[str]:
-    """Returns the tag that a reader gets, as it is in `tags`, or None (RFC 4647 section 3.4).
-
-    `field` is what the Accept-Language header has; None, where there is none, counts as `*`. The
-    default is answered where nothing else is, if it is among the tags and the field does not refuse
-    it. With `extended` the field is a list of extended ranges without weights; with `lenient` its
-    malformed elements are skipped.
-
-    Refused: the default (1 to 4), the field (8, 9), the tags in their order (1 to 4).
-    """
-    words = _words(field=_or(field, "*"), tags=_lines(tags), default=_or(default, ""))
-    flags = _flags(extended, lenient)
-
-    def asked(out: "ctypes.Array[ctypes.c_char]", room: int, told: Told) -> int:
-        status: int = library.sw_pick(flags, *words, out, room, told)
-        return status
-
-    answer = checked(answered(asked))
-    return None if answer.status == NOTHING else answer.text.decode()
+def _json_text(maps: Maps) -> Text:
+    """The text of language maps."""
+    return json.dumps(maps, ensure_ascii=False) if isinstance(maps, Mapping) else maps
 
 
 class _Held(Handle):
@@ -139,19 +37,27 @@ class _Held(Handle):
 class Site:
     """A site that is open: what its messages say, in which languages.
 
-    It is opened by `Site.open`, and closed by `close`, by the end of a `with` block, or when it is
-    not used any more. A copy of it is a `share`; it is neither copied deeply nor pickled.
+    It is opened by `Site.open`, or made by `Site.new`, and closed by `close`, by the end of a
+    `with` block, or when it is not used any more. A copy of it is a `share`; it is neither copied
+    deeply nor pickled.
 
-    Threads: any thread may ask a site. The questions to one `Site` wait for each other; threads
-    that are to ask at once take a `Site` each, by `share`, which copies nothing. After a fork the
-    child opens its own.
+    Edits (`put`, `delete`, `import_maps`, `update`) and exchanges (`take`, `merge`) change the open
+    site alone: `to_bytes` gives its document, and `silkwaram.edit` keeps a file of it. An edit that
+    is refused leaves the site as it was. Shares keep what they held. Edit by one `Site`, and ask by
+    the others: two that both edit would be two sites of one name.
+
+    Threads: any thread may ask a site. The calls to one `Site` wait for each other; threads that
+    are to ask at once take a `Site` each, by `share`, which copies nothing. After a fork the child
+    opens its own.
     """
 
     def __init__(self) -> None:
-        """Makes a site that is closed. Call `Site.open`."""
+        """Makes a site that is closed. Call `Site.open` or `Site.new`."""
         self._handle = _Held()
         # (held by a call that uses the handle, and by one that reads a document)
         self._lock, self._reading = threading.RLock(), threading.RLock()
+        # (how large the documents of this site were so far)
+        self._size = 0
 
     @classmethod
     def open(cls, document: Text) -> "Site":
@@ -163,6 +69,17 @@ class Site:
         site.reload(document)
         return site
 
+    @classmethod
+    def new(cls, name: Text) -> "Site":
+        """Returns the empty site of a name, of 1 to 16 of a to z, 0 to 9 and "-" (else 27).
+
+        No two sites that exchange may have one name.
+        """
+        site, told = cls(), Told()
+        status = library.sw_site_new(*words(name=name), site._handle, told)
+        checked(Answer(status, told, b""))
+        return site
+
     def reload(self, document: Text) -> None:
         """Reads a document in place of the site, which stays where the document is refused.
 
@@ -171,16 +88,17 @@ class Site:
 
         Refused: as by `open`.
         """
-        words = _words(document=document)
+        texts = words(document=document)
         handle, told = _Held(), Told()
         with self._reading:
-            status = library.sw_site_open(*words, handle, told)
+            status = library.sw_site_open(*texts, handle, told)
             if told.number == NOT_JSON and _may_be_name(document):
                 raise Refused(NOT_JSON, wanted="the document itself, not its name")
             checked(Answer(status, told, b""), of_document=True)
             with self._lock:
                 # (the old site is let go after that, with `handle`)
                 handle, self._handle = self._handle, handle
+                self._size = len(texts[0])
 
     def share(self) -> "Site":
         """Returns one more `Site` of the same site, for another thread. The memory is shared."""
@@ -191,9 +109,11 @@ class Site:
         return other
 
     def close(self) -> None:
-        """Lets the site go. Questions are ValueErrors then, and closing it again does nothing."""
+        """Lets the site go. Calls are ValueErrors then, and closing it again does nothing."""
         with self._lock:
             library.sw_site_free(self._handle)
+
+    # What a reader gets.
 
     def lookup(
         self,
@@ -203,6 +123,7 @@ class Site:
         default: Optional[Text] = None,
         extended: bool = False,
         lenient: bool = False,
+        widen: bool = False,
     ) -> Optional[Label]:
         """Returns the label of a message that a reader gets, or None (RFC 4647 section 3.4).
 
@@ -210,12 +131,9 @@ class Site:
 
         Refused: the id (10), the default (1 to 4), the field (8, 9).
         """
-        words = _words(id=id, field=_or(field, "*"), default=_or(default, ""))
-        answer = self._ask(library.sw_site_lookup, _flags(extended, lenient), words)
-        if answer.status == NOTHING:
-            return None
-        how, language, label = answer.text.decode().split(" ", 2)
-        return Label(language, json.loads(label), how == "default")
+        texts = words(id=id, field=given_or(field, "*"), default=given_or(default, ""))
+        answer = self._ask(library.sw_site_lookup, flags(extended, lenient, widen), *texts)
+        return None if answer.status == NOTHING else _answers.label(answer.text.decode())
 
     def text(
         self,
@@ -226,11 +144,12 @@ class Site:
         place: int = 0,
         extended: bool = False,
         lenient: bool = False,
+        widen: bool = False,
     ) -> Optional[str]:
         """Returns the text at a place, from 0, of the label that `lookup` finds, or None."""
-        words = _words(id=id, field=_or(field, "*"), default=_or(default, ""))
-        words.append(_place(place))
-        answer = self._ask(library.sw_site_text, _flags(extended, lenient), words)
+        texts = words(id=id, field=given_or(field, "*"), default=given_or(default, ""))
+        how = flags(extended, lenient, widen)
+        answer = self._ask(library.sw_site_text, how, *texts, counted_place(place))
         return None if answer.status == NOTHING else answer.text.decode()
 
     def filter(
@@ -240,13 +159,9 @@ class Site:
 
         Refused: the id (10), the field (8, 9).
         """
-        words = _words(id=id, field=_or(field, "*"))
-        answer = self._ask(library.sw_site_filter, _flags(extended, lenient), words)
-        choices = []
-        for line in answer.text.decode().split("\n")[1:-1]:
-            language, weight, label = line.split(" ", 2)
-            choices.append(Choice(language, int(weight), json.loads(label)))
-        return choices
+        texts = words(id=id, field=given_or(field, "*"))
+        answer = self._ask(library.sw_site_filter, flags(extended, lenient), *texts)
+        return _answers.choices(answer.text.decode())
 
     def bundle(
         self,
@@ -255,7 +170,8 @@ class Site:
         default: Optional[Text] = None,
         extended: bool = False,
         lenient: bool = False,
-    ) -> Dict[str, Dict[str, Union[str, List[str]]]]:
+        widen: bool = False,
+    ) -> LanguageMaps:
         """Returns all labels of one reader: of each message the one that `lookup` finds.
 
         It is under its language; a label of one text is that text, one of several a list. The time
@@ -264,24 +180,158 @@ class Site:
 
         Refused: the default (1 to 4), the field (8, 9).
         """
-        words = _words(field=_or(field, "*"), default=_or(default, ""))
-        answer = self._ask(library.sw_site_bundle, _flags(extended, lenient), words)
-        maps: Dict[str, Dict[str, Union[str, List[str]]]] = json.loads(answer.text)
+        texts = words(field=given_or(field, "*"), default=given_or(default, ""))
+        how = flags(extended, lenient, widen)
+        return self._maps(library.sw_site_bundle, how, *texts)
+
+    # What a translator or an editor asks.
+
+    def export(self) -> LanguageMaps:
+        """Returns all labels, by message and language."""
+        return self._maps(library.sw_site_export)
+
+    def missing(self, lang: Text) -> LanguageMaps:
+        """Returns the messages that have labels, but none in just this language, with all of these.
+
+        Refused: the language (1 to 4).
+        """
+        return self._maps(library.sw_site_missing, *words(lang=lang))
+
+    def outdated(self, lang: Text, source: Text) -> LanguageMaps:
+        """Returns the messages whose label in `source` was edited at a later time than in `lang`.
+
+        They come with all their labels; only messages with a label in both languages count.
+
+        Refused: the language, then the source (1 to 4).
+        """
+        return self._maps(library.sw_site_outdated, *words(lang=lang, source=source))
+
+    def changes(self, after: "Site") -> List[Change]:
+        """Returns the cells in which another site differs from this one, in the order of their keys.
+
+        `after` may be a share that was taken before an edit, or any other site.
+        """
+        with after.share() as other:
+            answer = self._ask(library.sw_site_changes, other._handle)
+        return _answers.changes(answer.text.decode())
+
+    def status(self) -> Status:
+        """Returns the name of the site, how large it is, and its latest stamp."""
+        return _answers.status(self._ask(library.sw_site_status).text.decode())
+
+    def to_bytes(self) -> bytes:
+        """Returns the document of the site, which `Site.open` and the command read."""
+        return self._document(library.sw_site_write)
+
+    # Edits.
+
+    def put(self, id: Text, lang: Text, text: Text, now: Optional[int] = None) -> None:
+        """Puts a label of one text, which takes the place of the label that is there.
+
+        `now` is the time of the edit, in milliseconds where all sites count so; None is the clock.
+        Labels of several texts are put by `import_maps` and `update`.
+
+        Refused: the id (10), the language (1 to 4), the text (18, 11); 14 where the site already
+        has a stamp so late that no edit comes after it.
+        """
+        self._edit(library.sw_site_put, moment(now), *words(id=id, lang=lang, text=text))
+
+    def delete(self, id: Text, lang: Text, now: Optional[int] = None) -> None:
+        """Deletes a label. The deletion is kept, so that no older label comes back.
+
+        Refused: as by `put`, without the text.
+        """
+        self._edit(library.sw_site_delete, moment(now), *words(id=id, lang=lang))
+
+    def import_maps(self, maps: Maps, now: Optional[int] = None) -> None:
+        """Puts each label of language maps, a dict or their JSON text: all of them or none.
+
+        A label that is there already is put too, with a new stamp; `update` puts only what differs.
+
+        Refused: 18 to 20 and 22 for the text, 1 to 4 and 10 to 12 for a label of it; 14.
+        """
+        texts = words(maps=_json_text(maps))
+        self._edit(library.sw_site_import, moment(now), *texts, of_document=True)
+
+    def update(self, old: Maps, new: Maps, now: Optional[int] = None) -> None:
+        """Makes the edits by which language maps as they were became what they are now, all or none.
+
+        A label that `new` has, and `old` has not or has otherwise, is put; one that only `old` has
+        is deleted. All else stays, so what others have edited since is not overridden.
+
+        Refused: as by `import_maps`, the old ones before the new ones.
+        """
+        texts = words(old=_json_text(old), new=_json_text(new))
+        self._edit(library.sw_site_update, moment(now), *texts, of_document=True)
+
+    # Exchange.
+
+    def summary(self) -> bytes:
+        """Returns the summary by which another site finds what this one lacks."""
+        return self._document(library.sw_site_summary)
+
+    def delta_for(self, summary: Text) -> bytes:
+        """Returns the cells that the owner of a summary lacks, for its `take`.
+
+        Refused: 18 to 21, 27 and 28 for the summary, 1 to 4 and 10 for a field of a row.
+        """
+        return self._ask(library.sw_site_delta, *words(summary=summary), of_document=True).text
+
+    def take(self, delta: Text, not_after: Optional[int] = None) -> None:
+        """Joins the cells of a delta that was made for this site. It may come twice, or late.
+
+        `not_after` is the latest time that is taken: a clock that is wrong somewhere, or a
+        stranger, else ends all editing by a time far ahead. None is no limit.
+
+        Refused: 18 to 21, 27 and 28 for the delta, 1 to 4 and 10 to 12 for a field of a row; 29
+        where a cell is after the limit; 15 where the delta is for another site; 13 where one stamp
+        has two labels. If memory runs out, each cell is that of before or that of the join; taking
+        the delta again gives the join.
+        """
+        texts = words(delta=delta)
+        self._edit(library.sw_site_take, *texts, limit(not_after), of_document=True)
+
+    def merge(self, other: "Site") -> None:
+        """Joins the cells of another site, which stays as it is: all of them or none.
+
+        Refused: 13 where one stamp has two labels.
+        """
+        if other is self:
+            return
+        with other.share() as taken:
+            self._edit(library.sw_site_merge, taken._handle)
+
+    def _maps(self, call: Any, *given: Any) -> LanguageMaps:
+        maps: LanguageMaps = json.loads(self._ask(call, *given).text)
         return maps
 
-    def _ask(self, call: Any, flags: int, words: List[Any]) -> Answer:
+    def _document(self, call: Any) -> bytes:
+        """A document of the site, with room for it to have grown, as a second call makes it anew."""
+        text = self._ask(call, room=FIRST_ROOM + self._size + self._size // 8).text
+        self._size = max(self._size, len(text))
+        return text
+
+    def _ask(
+        self, call: Any, *given: Any, of_document: bool = False, room: int = FIRST_ROOM
+    ) -> Answer:
         def asked(out: "ctypes.Array[ctypes.c_char]", room: int, told: Told) -> int:
-            status: int = call(self._handle, flags, *words, out, room, told)
+            status: int = call(self._handle, *given, out, room, told)
             return status
 
         with self._lock:
-            answer = answered(asked)
-        return self._checked(answer)
+            answer = answered(asked, room)
+        return self._checked(answer, of_document)
 
-    def _checked(self, answer: Answer) -> Answer:
+    def _edit(self, call: Any, *given: Any, of_document: bool = False) -> None:
+        told = Told()
+        with self._lock:
+            status = call(self._handle, *given, told)
+        self._checked(Answer(status, told, b""), of_document)
+
+    def _checked(self, answer: Answer, of_document: bool = False) -> Answer:
         if answer.status == USAGE:
             raise ValueError("the site is closed")
-        return checked(answer)
+        return checked(answer, of_document)
 
     def __copy__(self) -> "Site":
         return self.share()

@@ -1,7 +1,9 @@
-use Rattle.std.proofs.Common.{rules, inr, refl}
-use Rattle.front_core.specs.declared.fault.FrontFault.TheVariants as fault
-use Rattle.front_c.proofs.AnswersLemmas.{no_memory_to_open}
+use Rattle.std.proofs.Common.{rules}
+use Rattle.front_c.specs.Handles.{site_of}
+use Rattle.front_c.proofs.EditingLemmas.{opened}
 use Rattle.front_c.proofs.sw_site_open.Goals as goal
 
-pub returns-in_default : goal.returns-in_default
-returns-in_default c = inr (fault.NoMemory, no_memory_to_open c.args.text.now, refl, search rules, search rules)
+pub returns-in-Ok : goal.returns-in-Ok
+returns-in-Ok c =
+    opened c.args.text.now c.in-Ok.read (site_of c.args.site.now) (site_of c.hold.new.site)
+    c.hold.new.told _ c.in-Ok.ensures (search rules)

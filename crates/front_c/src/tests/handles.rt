@@ -71,6 +71,6 @@ fn a_closed_handle_is_let_go_without_effect(rt: HostRuntime) -> Result<(), Fail>
 
 #[test]
 fn the_version_is_a_number(rt: HostRuntime) -> Result<(), Fail> {
-    assert_eq!(rt; sw_version(), 200);
+    assert_eq!(rt; sw_version(), 300);
     Ok(())
 }

@@ -65,7 +65,7 @@ fn flags_say_how_the_field_is_read(rt: HostRuntime) -> Result<(), Fail> {
 
 #[test]
 fn any_other_flag_is_unknown(rt: HostRuntime) -> Result<(), Fail> {
-    for flags in [4, 5, 8, 0x8000_0000] {
+    for flags in [8, 9, 16, 0x8000_0000] {
         assert!(rt; picked(&rt, flags, b"en", b"en", b"", AMPLE).is(2, answer(0), b""));
     }
     Ok(())

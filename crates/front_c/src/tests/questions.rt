@@ -94,9 +94,11 @@ fn a_question_to_a_closed_handle_is_usage(rt: HostRuntime) -> Result<(), Fail> {
 #[test]
 fn an_unknown_flag_is_usage(rt: HostRuntime) -> Result<(), Fail> {
     let mut site = site(&rt);
-    for ended in asked(&rt, &mut site, 4, b"m", b"en") {
+    for ended in asked(&rt, &mut site, 8, b"m", b"en") {
         assert!(rt; ended.is(2, answer(0), b""));
     }
+    let ended = filtered(&rt, &mut site, 4, b"m", b"en", AMPLE);
+    assert!(rt; ended.is(2, answer(0), b""));
     close(rt.alloc(), site);
     Ok(())
 }

@@ -4,4 +4,5 @@ use Rattle.front_c.proofs.AnswersLemmas.{refused_tells}
 use Rattle.front_c.proofs.answers.tell_pick.Goals as goal
 
 pub returns-in-Err : goal.returns-in-Err
-returns-in-Err c = refused_tells _ _ TellsPicked c.in-Err.fault _ _ _ (rw (← c.default_of.ensures) c.in-Err.ensures) (search rules)
+returns-in-Err c = refused_tells _ _ TellsPicked c.in-Err.fault _ _ _
+    (rw (← c.default_of.ensures) c.in-Err.ensures) (search rules)

@@ -1,0 +1,468 @@
+"""Edits and exchanges, over the library that SILKWARAM_LIBRARY names, or that the loader finds.
+
+    SILKWARAM_LIBRARY=build/lib/libsilkwaram.so PYTHONPATH=bindings/python/src \
+        python3 -m unittest discover -s bindings/python/tests
+"""
+import fcntl
+import json
+import multiprocessing
+import os
+import stat
+import tempfile
+import threading
+import time
+import unittest
+from unittest import mock
+
+import silkwaram
+from silkwaram import Cell, Change, Refused, Site, Stamp, Status, TagChoice, edit, filter_tags, pick
+
+# What the examples of docs/COMMAND.md begin with.
+PARIS = json.dumps(
+    {
+        "cells": [
+            ["m", "en", 5, "paris", 0, ["Hello"]],
+            ["m", "fr", 5, "paris", 1, ["Salut"]],
+            ["n", "de", 5, "paris", 2, None],
+        ],
+        "kind": "site",
+        "site": "paris",
+        "version": 2,
+    }
+)
+
+
+def cells(site):
+    """The rows of the site's document."""
+    return json.loads(site.to_bytes())["cells"]
+
+
+def refusal(call):
+    """What a call that is refused raises."""
+    try:
+        call()
+    except Refused as fault:
+        return fault
+    raise AssertionError("not refused")
+
+
+class Tags(unittest.TestCase):
+    def test_all_tags_that_fit_best_first(self):
+        field, tags = "da, en-gb;q=0.8, en;q=0.7", ["en", "da-DK", "en-GB-oed", "@none", "EN"]
+        self.assertEqual(
+            filter_tags(field, tags),
+            [
+                TagChoice("da-DK", 1000),
+                TagChoice("en-GB-oed", 800),
+                TagChoice("en", 700),
+                TagChoice("EN", 700),
+            ],
+        )
+
+    def test_no_tag_fits(self):
+        self.assertEqual(filter_tags("ja", ["en"]), [])
+        self.assertEqual(filter_tags("ja", []), [])
+
+    def test_extended_ranges(self):
+        self.assertEqual(
+            filter_tags("de-*-DE", ["de-Latn-DE", "de"], extended=True),
+            [TagChoice("de-Latn-DE", 1000)],
+        )
+
+    def test_refusals_in_order(self):
+        self.assertEqual(refusal(lambda: filter_tags("e n", ["e n"])).number, 9)
+        fault = refusal(lambda: filter_tags("en", ["en", "e_n"]))
+        self.assertEqual((fault.number, fault.offset), (3, 0))
+
+    def test_a_language_finds_its_regions(self):
+        for field, tags, wanted in [
+            ("en", ["en-US", "fr"], "en-US"),
+            ("fr-FR, fr;q=0.9, en;q=0.7", ["en", "fr-CA"], "fr-CA"),
+            ("de, en;q=0.5", ["en-US", "de-CH", "de-AT"], "de-AT"),
+            ("en, en-US;q=0", ["en-US", "en-GB"], "en-GB"),
+            ("de-AT, de;q=0.5", ["de-CH", "de"], "de"),
+            ("zh-Hant", ["zh-TW"], None),
+            ("*", ["de"], None),
+        ]:
+            with self.subTest(field=field):
+                self.assertEqual(pick(field, tags, widen=True), wanted)
+        self.assertIsNone(pick("en", ["en-US", "fr"]))
+
+
+class Edits(unittest.TestCase):
+    def setUp(self):
+        self.site = Site.open(PARIS)
+        self.addCleanup(self.site.close)
+
+    def test_a_new_site(self):
+        with Site.new("tokyo") as site:
+            self.assertEqual(
+                site.to_bytes(), b'{"cells":[],"kind":"site","site":"tokyo","version":2}\n'
+            )
+            self.assertEqual(site.status(), Status("tokyo", 0, 0, None))
+        self.assertEqual(refusal(lambda: Site.new("Tokyo")).number, 27)
+
+    def test_a_put(self):
+        self.site.put("m", "FR", "Bonjour", now=6)
+        self.assertEqual(cells(self.site)[1], ["m", "fr", 6, "paris", 0, ["Bonjour"]])
+        self.assertEqual(self.site.text("m", "fr"), "Bonjour")
+
+    def test_a_put_at_an_earlier_time_is_the_latest_all_the_same(self):
+        self.site.put("m", "fr", "Bonjour", now=1)
+        self.assertEqual(cells(self.site)[1], ["m", "fr", 5, "paris", 3, ["Bonjour"]])
+
+    def test_a_delete(self):
+        self.site.delete("m", "en", now=6)
+        self.assertEqual(cells(self.site)[0], ["m", "en", 6, "paris", 0, None])
+        self.assertIsNone(self.site.text("m", "en"))
+
+    def test_the_time_of_the_clock(self):
+        before = time.time_ns() // 1_000_000
+        self.site.put("m", "fr", "Bonjour")
+        after = time.time_ns() // 1_000_000
+        self.assertTrue(before <= self.site.status().last.time <= after)
+
+    def test_labels_of_several_texts(self):
+        self.site.import_maps({"m": {"en": ["a", "b"]}, "größe": {"ja": "サイズ"}}, now=7)
+        self.assertEqual(
+            cells(self.site),
+            [
+                ["größe", "ja", 7, "paris", 0, ["サイズ"]],
+                ["m", "en", 7, "paris", 1, ["a", "b"]],
+                ["m", "fr", 5, "paris", 1, ["Salut"]],
+                ["n", "de", 5, "paris", 2, None],
+            ],
+        )
+
+    def test_an_update(self):
+        old, new = {"m": {"en": "Helo"}}, '{"m":{"en":"Helo","ja":"x"}}'
+        self.site.update(old, new, now=6)
+        self.assertIn(["m", "ja", 6, "paris", 0, ["x"]], cells(self.site))
+        self.assertIn(["m", "en", 5, "paris", 0, ["Hello"]], cells(self.site))
+        self.assertEqual(len(cells(self.site)), 4)
+
+    def test_edits_that_are_refused_leave_the_site(self):
+        before = self.site.to_bytes()
+        for call, number in [
+            (lambda: self.site.put("@m", "e n", b"\xff", now=6), 10),
+            (lambda: self.site.put("m", "e n", b"\xff", now=6), 3),
+            (lambda: self.site.put("m", "en", b"ab\xff", now=6), 18),
+            (lambda: self.site.put("m", "en", "x" * 65536, now=6), 11),
+            (lambda: self.site.delete("", "en", now=6), 10),
+            (lambda: self.site.import_maps('{"m":{"en":"a","EN":"b"}}', now=6), 22),
+            (lambda: self.site.import_maps('{"m":{"en":"a"},"n":{"e":"b"}}', now=6), 4),
+            (lambda: self.site.import_maps("[]", now=6), 20),
+            (lambda: self.site.update("{", "{}", now=6), 19),
+            (lambda: self.site.update("{}", "{", now=6), 19),
+            (lambda: self.site.take("{}"), 20),
+        ]:
+            with self.subTest(number=number):
+                self.assertEqual(refusal(call).number, number)
+                self.assertEqual(self.site.to_bytes(), before)
+        fault = refusal(lambda: self.site.put("m", "en", b"ab\xff", now=6))
+        self.assertEqual(fault.offset, 2)
+
+    def test_no_stamp_is_left(self):
+        self.site.put("m", "en", "last", now=2**64 - 1)
+        document = json.loads(self.site.to_bytes())
+        document["cells"][0][4] = 2**32 - 1
+        with Site.open(json.dumps(document)) as site:
+            before = site.to_bytes()
+            for call in (
+                lambda: site.put("m", "en", "x", now=1),
+                lambda: site.delete("m", "en", now=1),
+                lambda: site.import_maps({"m": {"en": "x"}}, now=1),
+                lambda: site.update({}, {"m": {"en": "x"}}, now=1),
+            ):
+                self.assertEqual(refusal(call).number, 14)
+                self.assertEqual(site.to_bytes(), before)
+
+    def test_a_share_keeps_what_it_held(self):
+        with self.site.share() as share:
+            self.site.put("m", "en", "Good day", now=6)
+            self.assertEqual(share.text("m", "en"), "Hello")
+            self.assertEqual(self.site.text("m", "en"), "Good day")
+
+    def test_wrong_types(self):
+        site, wanted = self.site, "must be str or bytes-like, not"
+        for ask, message in [
+            (lambda: site.put(None, "en", "x"), f"id {wanted} NoneType"),
+            (lambda: site.put("m", 5, "x"), f"lang {wanted} int"),
+            (lambda: site.put("m", "en", ["x"]), f"text {wanted} list"),
+            (lambda: site.put("m", "en", "x", now="5"), "now must be int, not str"),
+            (lambda: site.put("m", "en", "x", now=5.0), "now must be int, not float"),
+            (lambda: site.delete("m", None), f"lang {wanted} NoneType"),
+            (lambda: site.import_maps(["m"]), f"maps {wanted} list"),
+            (lambda: site.update({}, 5), f"new {wanted} int"),
+            (lambda: site.take(5), f"delta {wanted} int"),
+            (lambda: site.take("", not_after="1"), "not_after must be int, not str"),
+            (lambda: site.delta_for(None), f"summary {wanted} NoneType"),
+            (lambda: site.missing(None), f"lang {wanted} NoneType"),
+            (lambda: site.outdated("en", 5), f"source {wanted} int"),
+            (lambda: Site.new(5), f"name {wanted} int"),
+        ]:
+            with self.subTest(message=message), self.assertRaises(TypeError) as it:
+                ask()
+            self.assertEqual(str(it.exception), message)
+        for ask in (
+            lambda: site.put("m", "en", "x", now=-1),
+            lambda: site.put("m", "en", "x", now=2**64),
+            lambda: site.take("", not_after=0),
+        ):
+            with self.assertRaises(ValueError) as it:
+                ask()
+            self.assertNotIsInstance(it.exception, Refused)
+
+    def test_a_site_that_is_closed(self):
+        site = Site.open(PARIS)
+        site.close()
+        for call in (
+            lambda: site.put("m", "en", "x"),
+            lambda: site.delete("m", "en"),
+            lambda: site.import_maps({}),
+            lambda: site.update({}, {}),
+            lambda: site.take("{}"),
+            lambda: site.merge(self.site),
+            lambda: self.site.merge(site),
+            lambda: site.changes(self.site),
+            lambda: self.site.changes(site),
+            site.to_bytes,
+            site.export,
+            site.summary,
+            site.status,
+            lambda: site.missing("en"),
+            lambda: site.outdated("en", "fr"),
+            lambda: site.delta_for("{}"),
+        ):
+            with self.assertRaisesRegex(ValueError, "^the site is closed$"):
+                call()
+
+
+class Reports(unittest.TestCase):
+    def test_an_export(self):
+        with Site.open(PARIS) as site:
+            self.assertEqual(site.export(), {"m": {"en": "Hello", "fr": "Salut"}})
+
+    def test_the_status(self):
+        with Site.open(PARIS) as site:
+            self.assertEqual(site.status(), Status("paris", 3, 2, Stamp(5, "paris", 2)))
+
+    def test_what_is_missing(self):
+        with Site.open(PARIS) as site:
+            self.assertEqual(site.missing("de"), {"m": {"en": "Hello", "fr": "Salut"}})
+            self.assertEqual(site.missing("EN"), {})
+            self.assertEqual(refusal(lambda: site.missing("e")).number, 4)
+
+    def test_what_is_outdated(self):
+        with Site.new("paris") as site:
+            for name, language, now in [
+                ("m", "de", 5),
+                ("n", "en", 5),
+                ("m", "en", 7),
+                ("m", "fr", 7),
+                ("n", "de", 9),
+                ("o", "en", 9),
+            ]:
+                site.put(name, language, f"{name}-{language}", now=now)
+            for lang, source, wanted in [
+                ("de", "en", {"m": {"de": "m-de", "en": "m-en", "fr": "m-fr"}}),
+                ("EN", "de", {"n": {"de": "n-de", "en": "n-en"}}),
+                ("fr", "en", {}),
+                ("en", "en", {}),
+            ]:
+                self.assertEqual(site.outdated(lang, source), wanted)
+            self.assertEqual(refusal(lambda: site.outdated("e n", "e")).number, 3)
+
+    def test_what_changed(self):
+        after = json.loads(PARIS)
+        after["cells"] = [
+            ["m", "en", 5, "paris", 0, ["Hello"]],
+            ["m", "fr", 9, "tokyo", 0, None],
+            ["n", "de", 7, "tokyo", 0, ["a", "b"]],
+        ]
+        before = json.loads(PARIS)
+        del before["cells"][2]
+        with Site.open(json.dumps(before)) as one, Site.open(json.dumps(after)) as other:
+            self.assertEqual(
+                one.changes(other),
+                [
+                    Change(
+                        "m",
+                        "fr",
+                        Cell(Stamp(5, "paris", 1), ["Salut"]),
+                        Cell(Stamp(9, "tokyo", 0), None),
+                    ),
+                    Change("n", "de", None, Cell(Stamp(7, "tokyo", 0), ["a", "b"])),
+                ],
+            )
+            self.assertEqual(one.changes(one), [])
+
+
+class Exchanges(unittest.TestCase):
+    def setUp(self):
+        self.paris, self.tokyo = Site.open(PARIS), Site.new("tokyo")
+        self.addCleanup(self.paris.close)
+        self.addCleanup(self.tokyo.close)
+
+    def test_sites_that_were_edited_apart(self):
+        self.tokyo.put("m", "ja", "こんにちは", now=7)
+        for one, other in [(self.paris, self.tokyo), (self.tokyo, self.paris)]:
+            delta = one.delta_for(other.summary())
+            other.take(delta)
+            other.take(delta)
+        self.assertEqual(cells(self.paris), cells(self.tokyo))
+        self.assertEqual(self.paris.changes(self.tokyo), [])
+        self.assertEqual(len(cells(self.paris)), 4)
+
+    def test_a_merge(self):
+        self.tokyo.put("m", "en", "Good day", now=7)
+        self.tokyo.merge(self.paris)
+        self.assertEqual(self.tokyo.export(), {"m": {"en": "Good day", "fr": "Salut"}})
+        self.assertEqual(self.paris.export(), {"m": {"en": "Hello", "fr": "Salut"}})
+        before = self.tokyo.to_bytes()
+        self.tokyo.merge(self.tokyo)
+        self.tokyo.merge(self.paris)
+        self.assertEqual(self.tokyo.to_bytes(), before)
+
+    def test_merges_that_cross(self):
+        def merge(one, other):
+            for _ in range(200):
+                one.merge(other)
+
+        threads = [
+            threading.Thread(target=merge, args=it)
+            for it in [(self.paris, self.tokyo), (self.tokyo, self.paris)]
+        ]
+        for thread in threads:
+            thread.start()
+        for thread in threads:
+            thread.join(60)
+        self.assertFalse(any(thread.is_alive() for thread in threads))
+        self.assertEqual(cells(self.paris), cells(self.tokyo))
+
+    def test_deltas_that_are_refused(self):
+        self.tokyo.put("m", "ja", "x", now=101)
+        delta = self.tokyo.delta_for(self.paris.summary())
+        before = self.paris.to_bytes()
+        fault = refusal(lambda: self.paris.take(delta, not_after=100))
+        self.assertEqual((fault.number, fault.row), (29, 0))
+        self.assertEqual(str(fault), "refused 29: time is ahead in row 0")
+        self.assertEqual(refusal(lambda: self.tokyo.take(delta, not_after=100)).number, 29)
+        self.assertEqual(refusal(lambda: self.tokyo.take(delta)).number, 15)
+        self.assertEqual(self.paris.to_bytes(), before)
+        self.paris.take(delta, not_after=101)
+        self.assertEqual(self.paris.text("m", "ja"), "x")
+
+    def test_one_stamp_of_two_labels(self):
+        other = PARIS.replace("Salut", "Bonjour")
+        with Site.open(other) as site:
+            before = self.paris.to_bytes()
+            self.assertEqual(refusal(lambda: self.paris.merge(site)).number, 13)
+            self.assertEqual(self.paris.to_bytes(), before)
+
+    def test_a_summary_that_is_refused(self):
+        self.assertEqual(refusal(lambda: self.paris.delta_for(PARIS)).number, 20)
+
+
+class Files(unittest.TestCase):
+    def setUp(self):
+        folder = tempfile.TemporaryDirectory()
+        self.addCleanup(folder.cleanup)
+        self.folder, self.path = folder.name, os.path.join(folder.name, "paris.json")
+        with open(self.path, "w", encoding="utf-8") as it:
+            it.write(PARIS)
+
+    def labels(self):
+        with open(self.path, "rb") as it, Site.open(it.read()) as site:
+            return site.export()
+
+    def names(self):
+        return sorted(os.listdir(self.folder))
+
+    def test_an_edit_of_the_file(self):
+        os.chmod(self.path, 0o640)
+        with edit(self.path) as site:
+            site.put("m", "fr", "Bonjour")
+        self.assertEqual(self.labels(), {"m": {"en": "Hello", "fr": "Bonjour"}})
+        self.assertEqual(stat.S_IMODE(os.stat(self.path).st_mode), 0o640)
+        self.assertEqual(self.names(), ["paris.json", "paris.json.lock"])
+
+    def test_a_block_that_fails(self):
+        with self.assertRaisesRegex(RuntimeError, "^of the caller$"), edit(self.path) as site:
+            site.put("m", "fr", "Bonjour")
+            raise RuntimeError("of the caller")
+        with open(self.path, encoding="utf-8") as it:
+            self.assertEqual(it.read(), PARIS)
+        self.assertEqual(self.names(), ["paris.json", "paris.json.lock"])
+
+    def test_a_file_that_cannot_be_written(self):
+        full = OSError(28, "No space left on device")
+        with mock.patch.object(silkwaram._edit.os, "fsync", side_effect=full):
+            with self.assertRaises(OSError), edit(self.path) as site:
+                site.put("m", "fr", "Bonjour")
+        with open(self.path, encoding="utf-8") as it:
+            self.assertEqual(it.read(), PARIS)
+        self.assertEqual(self.names(), ["paris.json", "paris.json.lock"])
+
+    def test_a_site_that_stays_the_same_is_not_written(self):
+        with edit(self.path) as site:
+            site.put("m", "fr", "Bonjour", now=6)
+        before = os.stat(self.path).st_ino
+        with edit(self.path):
+            pass
+        self.assertEqual(os.stat(self.path).st_ino, before)
+
+    def test_a_file_that_is_not_there(self):
+        path = os.path.join(self.folder, "tokyo.json")
+        with self.assertRaises(FileNotFoundError), edit(path):
+            pass
+        with edit(path, create="tokyo") as site:
+            site.put("m", "ja", "x")
+        with edit(path, create="osaka") as site:
+            self.assertEqual(site.status().site, "tokyo")
+
+    def test_a_file_that_is_no_site(self):
+        with open(self.path, "w", encoding="utf-8") as it:
+            it.write("{}")
+        with self.assertRaises(Refused), edit(self.path):
+            pass
+
+    def test_a_link_stays_a_link(self):
+        link = os.path.join(self.folder, "link.json")
+        os.symlink(self.path, link)
+        with edit(link) as site:
+            site.put("m", "fr", "Bonjour")
+        self.assertTrue(os.path.islink(link))
+        self.assertEqual(self.labels()["m"]["fr"], "Bonjour")
+
+    def test_a_lock_that_another_holds(self):
+        with open(self.path + ".lock", "ab") as lock:
+            fcntl.flock(lock, fcntl.LOCK_EX)
+            with self.assertRaises(TimeoutError), edit(self.path, wait=0.05):
+                pass
+        with edit(self.path, wait=0.05):
+            pass
+
+    def test_writers_in_several_processes(self):
+        writers = [
+            multiprocessing.get_context("spawn").Process(target=write, args=(self.path, at))
+            for at in range(3)
+        ]
+        for it in writers:
+            it.start()
+        for it in writers:
+            it.join(60)
+        self.assertEqual([it.exitcode for it in writers], [0, 0, 0])
+        wanted = {f"w{at}-{edited}" for at in range(3) for edited in range(20)} | {"m"}
+        self.assertEqual(set(self.labels()), wanted)
+
+
+def write(path, at):
+    """What one of several writers does."""
+    for edited in range(20):
+        with edit(path) as site:
+            site.put(f"w{at}-{edited}", "en", "x")
+
+
+if __name__ == "__main__":
+    unittest.main()

@@ -1,0 +1,224 @@
+/* Refuses each allocation of each edit, exchange and report in turn, alone and with all that come behind it. A call has
+ * to end as with ample memory, or with status 5 and 26, nothing written and the site as it was; after sw_site_take a
+ * repeat has to give the join. A share that was taken before keeps what it held.
+ * It is linked with the archive, so that malloc and realloc are those of this file (--wrap). */
+#include <errno.h>
+#include <limits.h>
+
+#include "questions.h"
+
+#define PARIS                                                                                                        \
+  "{\"cells\":[[\"m\",\"en\",6,\"paris\",0,[\"Hello\",\"Hi\"]],[\"m\",\"zh-hant-cn-x-private1-private2\",5,\"paris\"," \
+  "1,[\"a\"]],[\"n\",\"de\",5,\"paris\",2,[\"b\"]]],\"kind\":\"site\",\"site\":\"paris\",\"version\":2}\n"
+#define OSLO                                                                                                     \
+  "{\"cells\":[[\"" LONG_ID "\",\"nb\",7,\"oslo\",0,[\"x\"]],[\"m\",\"en\",8,\"oslo\",0,[\"Good day\"]]],\"kind\":" \
+  "\"site\",\"site\":\"oslo\",\"version\":2}\n"
+#define LONG_ID "a-message-id-that-has-more-than-32-bytes"
+#define DELTA                                                                                                    \
+  "{\"cells\":[[\"" LONG_ID "\",\"nb\",7,\"oslo\",0,[\"x\"]],[\"m\",\"en\",8,\"oslo\",0,[\"Good day\"]]],\"kind\":" \
+  "\"delta\",\"to\":\"paris\",\"version\":2}\n"
+#define SUMMARY "{\"kind\":\"summary\",\"owner\":\"oslo\",\"stamps\":[[\"m\",\"en\",5,\"paris\",0]],\"version\":2}\n"
+#define MAPS "{\"" LONG_ID "\":{\"nb\":\"x\"},\"m\":{\"en\":[\"one\",\"two\"],\"fr\":\"Bonjour\"}}"
+
+enum { ROOM = 1024 };
+
+static unsigned long allocations, first_refused = ULONG_MAX, last_refused;
+static unsigned long all_allocations;
+
+void *__real_malloc(size_t size);
+void *__real_realloc(void *held, size_t size);
+
+static int is_refused(void) {
+  allocations++;
+  if (allocations < first_refused || allocations > last_refused) return 0;
+  errno = ENOMEM;
+  return 1;
+}
+
+void *__wrap_malloc(size_t size) { return is_refused() ? NULL : __real_malloc(size); }
+
+void *__wrap_realloc(void *held, size_t size) { return is_refused() ? NULL : __real_realloc(held, size); }
+
+/* A site, a share of it and another site, and what a call ended with. */
+typedef struct {
+  sw_site site, share, other;
+  int32_t status;
+  sw_told told;
+  uint8_t out[ROOM];
+} trial;
+
+/* A document, as sw_site_write has it. */
+typedef struct {
+  uint8_t bytes[ROOM];
+  size_t len;
+} document;
+
+typedef void act(trial *);
+
+static void makes(trial *it) { it->status = sw_site_new(BYTES(T("lyon")), &it->site, &it->told); }
+
+static void puts_long(trial *it) {
+  it->status = sw_site_put(&it->site, 9, BYTES(T(LONG_ID)), BYTES(T("zh-Hant-CN-x-private1-private2")),
+                           BYTES(T("some text")), &it->told);
+}
+
+static void puts_held(trial *it) {
+  it->status = sw_site_put(&it->site, 9, BYTES(T("m")), BYTES(T("en")), BYTES(T("Good day")), &it->told);
+}
+
+static void deletes(trial *it) {
+  it->status = sw_site_delete(&it->site, 9, BYTES(T(LONG_ID)), BYTES(T("en")), &it->told);
+}
+
+static void imports(trial *it) { it->status = sw_site_import(&it->site, 9, BYTES(T(MAPS)), &it->told); }
+
+static void updates(trial *it) {
+  it->status = sw_site_update(&it->site, 9, BYTES(T("{\"m\":{\"en\":[\"Hello\",\"Hi\"]}}")), BYTES(T(MAPS)), &it->told);
+}
+
+static void takes(trial *it) { it->status = sw_site_take(&it->site, BYTES(T(DELTA)), 100, &it->told); }
+
+static void merges(trial *it) { it->status = sw_site_merge(&it->site, &it->other, &it->told); }
+
+static void writes(trial *it) { it->status = sw_site_write(&it->site, it->out, ROOM, &it->told); }
+
+static void exports(trial *it) { it->status = sw_site_export(&it->site, it->out, ROOM, &it->told); }
+
+static void sums_up(trial *it) { it->status = sw_site_summary(&it->site, it->out, ROOM, &it->told); }
+
+static void reports(trial *it) { it->status = sw_site_status(&it->site, it->out, ROOM, &it->told); }
+
+static void misses(trial *it) {
+  it->status = sw_site_missing(&it->site, BYTES(T("fr")), it->out, ROOM, &it->told);
+}
+
+static void dates(trial *it) {
+  it->status = sw_site_outdated(&it->site, BYTES(T("zh-Hant-CN-x-private1-private2")), BYTES(T("en")), it->out, ROOM,
+                                &it->told);
+}
+
+static void answers_summary(trial *it) {
+  it->status = sw_site_delta(&it->site, BYTES(T(SUMMARY)), it->out, ROOM, &it->told);
+}
+
+static void compares(trial *it) { it->status = sw_site_changes(&it->site, &it->other, it->out, ROOM, &it->told); }
+
+static void filters(trial *it) {
+  it->status = sw_filter(0, BYTES(T("da, zh-Hant-CN-x-private1-private2;q=0.8")),
+                         BYTES(T("da\nzh-Hant-CN-x-private1-private2-more\n")), it->out, ROOM, &it->told);
+}
+
+/* Each call, whether it changes the site, and whether a refusal may leave some cells joined. */
+static const struct {
+  const char *name;
+  act *call;
+  int edits, may_join;
+} CALLS[] = {
+    {"sw_site_new", makes, 1, 0},        {"sw_site_put, new", puts_long, 1, 0},   {"sw_site_put", puts_held, 1, 0},
+    {"sw_site_delete", deletes, 1, 0},   {"sw_site_import", imports, 1, 0},       {"sw_site_update", updates, 1, 0},
+    {"sw_site_take", takes, 1, 1},       {"sw_site_merge", merges, 1, 0},         {"sw_site_write", writes, 0, 0},
+    {"sw_site_export", exports, 0, 0},   {"sw_site_summary", sums_up, 0, 0},      {"sw_site_status", reports, 0, 0},
+    {"sw_site_missing", misses, 0, 0},   {"sw_site_outdated", dates, 0, 0},       {"sw_site_delta", answers_summary, 0, 0},
+    {"sw_site_changes", compares, 0, 0}, {"sw_filter", filters, 0, 0},
+};
+
+/* Whether the sites are shared, so that an edit makes a copy. */
+enum { ALONE, SHARED, WAYS };
+
+static document written(sw_site *site) {
+  document it;
+  sw_told told;
+  if (sw_site_write(site, it.bytes, ROOM, &told) != SW_FOUND || told.len > ROOM) exit(3);
+  it.len = told.len;
+  return it;
+}
+
+static int equal(const document *one, const document *other) {
+  return one->len == other->len && !memcmp(one->bytes, other->bytes, one->len);
+}
+
+static void begin(trial *it, int way) {
+  sw_told told;
+  memset(it, 0, sizeof *it);
+  if (sw_site_open(BYTES(T(PARIS)), &it->site, &told) || sw_site_open(BYTES(T(OSLO)), &it->other, &told)) exit(3);
+  if (way == SHARED && sw_site_share(&it->site, &it->share)) exit(3);
+  memset(it->out, UNTOUCHED, ROOM);
+}
+
+static void end(trial *it) {
+  sw_site_free(&it->site);
+  sw_site_free(&it->share);
+  sw_site_free(&it->other);
+}
+
+/* Makes the call with the allocations from the n-th on refused, up to the last-th. */
+static void try(act *call, trial *it, unsigned long n, unsigned long last) {
+  memset(&it->told, 0, sizeof it->told);
+  allocations = 0;
+  first_refused = n;
+  last_refused = last;
+  call(it);
+  first_refused = ULONG_MAX;
+}
+
+static int same(const trial *one, const trial *other) {
+  return one->status == other->status && same_told(&one->told, &other->told) && !memcmp(one->out, other->out, ROOM);
+}
+
+/* Whether the sites that no edit is of are as they were. */
+static int others_are_kept(trial *it, const document *paris, const document *oslo) {
+  document share, other = written(&it->other);
+  if (it->share.held) {
+    share = written(&it->share);
+    if (!equal(&share, paris)) return 0;
+  }
+  return equal(&other, oslo);
+}
+
+static unsigned refuse_each(unsigned of, int way) {
+  trial ample, it;
+  begin(&ample, way);
+  document paris = written(&ample.site), oslo = written(&ample.other);
+  try(CALLS[of].call, &ample, ULONG_MAX, 0);
+  unsigned long count = allocations;
+  document wanted = written(&ample.site);
+  unsigned wrong = ample.status != SW_FOUND || (CALLS[of].edits ? equal(&wanted, &paris) : !equal(&wanted, &paris));
+  for (unsigned long n = 1; n <= count; n++)
+    for (int all = 0; all < 2; all++) {
+      begin(&it, way);
+      try(CALLS[of].call, &it, n, all ? ULONG_MAX : n);
+      int32_t status = it.status;
+      sw_told none = {.number = 26};
+      document now = written(&it.site);
+      int is_well = others_are_kept(&it, &paris, &oslo);
+      if (status == SW_NO_MEMORY)
+        is_well = is_well && same_told(&it.told, &none) && is_untouched(it.out, ROOM) &&
+                  (CALLS[of].may_join || equal(&now, &paris));
+      else
+        is_well = is_well && same(&it, &ample) && equal(&now, &wanted);
+      try(CALLS[of].call, &it, ULONG_MAX, 0);
+      now = written(&it.site);
+      /* (an edit that was made already takes a further stamp, so a repeat counts where it was refused) */
+      if (it.status != SW_FOUND || (status == SW_NO_MEMORY && !equal(&now, &wanted))) is_well = 0;
+      if (!is_well) {
+        wrong++;
+        fprintf(stderr, "refused_edits: %s%s: allocation %lu%s: status %d\n", CALLS[of].name,
+                way == SHARED ? ", shared" : "", n, all ? " and on" : "", status);
+      }
+      end(&it);
+    }
+  if (count == 0) wrong++;
+  if (wrong) fprintf(stderr, "refused_edits: %s: status %d, %lu allocations\n", CALLS[of].name, ample.status, count);
+  all_allocations += count;
+  end(&ample);
+  return wrong;
+}
+
+int main(void) {
+  unsigned wrong = 0;
+  for (unsigned of = 0; of < sizeof CALLS / sizeof *CALLS; of++)
+    for (int way = 0; way < WAYS; way++) wrong += refuse_each(of, way);
+  printf("refused_edits: %lu allocations of %zu calls, each alone and with all behind it; %u wrong\n", all_allocations,
+         sizeof CALLS / sizeof *CALLS, wrong);
+  return wrong != 0;
+}
