@@ -1,0 +1,572 @@
+// Silkwaram for pages and for Node: which language, and which label, a reader gets, and sites that are edited and
+// exchanged. silkwaram.d.ts says what each call takes and answers, docs/BROWSER.md leads in.
+//
+// The calls are those of silkwaram.h, in a module of WebAssembly. Pointers and sizes have 64 bits there, so they are
+// BigInts here. A call may let the memory grow, which detaches every view of it: views are made where they are used.
+
+const EXTENDED = 1;
+const LENIENT = 2;
+const WIDEN = 4;
+const SCHEMES = { basic: 0, extended: EXTENDED };
+
+const FOUND = 0;
+const NOTHING = 1;
+const USAGE = 2;
+
+const OUT_OF_MEMORY = 26;
+const WITH_OFFSET = [3, 9, 18];
+// The refusals that may be of a row of a document, and the calls that read one.
+const IN_ROWS = [1, 2, 3, 4, 10, 11, 12, 13, 20, 21, 27, 29];
+const READERS = ['open', 'import', 'update', 'take', 'merge', 'delta'].map((it) => `sw_site_${it}`);
+
+// Bytes of `sw_told` and of a handle, and of the room that is kept for the texts and the answer of a call.
+const TOLD = 40;
+const HANDLE = 8;
+const ROOM = 32768;
+const LARGEST_MOMENT = 2n ** 64n - 1n;
+
+const NEEDED = 'WebAssembly with SIMD and bulk memory, and BigInt at its border';
+
+/** What is thrown where something is refused. */
+export class Refused extends Error {
+  constructor(number, offset, row, meaning) {
+    const at = offset === null ? '' : ` at byte ${offset}`;
+    const of = row === null ? '' : ` in row ${row}`;
+    super(`refused ${number}${meaning ? `: ${meaning}` : ''}${at}${of}`);
+    this.name = 'Refused';
+    this.number = number;
+    this.offset = offset;
+    this.row = row;
+  }
+}
+
+function wrongType(name, wanted) {
+  return new TypeError(`${name} must be ${wanted}`);
+}
+
+function optionsOf(options) {
+  if (options === undefined) return {};
+  if (options === null || typeof options !== 'object') throw wrongType('options', 'an object');
+  return options;
+}
+
+function isOn(options, name) {
+  const given = options[name];
+  if (given !== undefined && typeof given !== 'boolean') throw wrongType(name, 'a boolean');
+  return given === true;
+}
+
+function flagsOf(options) {
+  const { scheme = 'basic' } = options;
+  if (!Object.hasOwn(SCHEMES, scheme)) throw wrongType('scheme', '"basic" or "extended"');
+  return SCHEMES[scheme] | (isOn(options, 'lenient') ? LENIENT : 0);
+}
+
+function lookupFlagsOf(options) {
+  return flagsOf(options) | (isOn(options, 'widen') ? WIDEN : 0);
+}
+
+function textOf(given, name) {
+  if (typeof given === 'string' || given instanceof Uint8Array) return given;
+  throw wrongType(name, 'a string or a Uint8Array');
+}
+
+// A request without the header has `*` as its field.
+function fieldOf(given) {
+  return given === undefined || given === null ? '*' : textOf(given, 'field');
+}
+
+function defaultOf(options) {
+  const given = options.default;
+  return given === undefined || given === null ? '' : textOf(given, 'default');
+}
+
+// A line for each tag. An LF in a tag would make two tags of it: it becomes a zero, which no tag has.
+function linesOf(tags) {
+  if (!Array.isArray(tags)) throw wrongType('tags', 'an array of strings');
+  return tags
+    .map((tag, at) => {
+      if (typeof tag !== 'string') throw wrongType(`tags[${at}]`, 'a string');
+      return `${tag.replaceAll('\n', '\0')}\n`;
+    })
+    .join('');
+}
+
+function whole(given, name, largest) {
+  if (typeof given === 'bigint') {
+    if (given >= 0n && given <= largest) return given;
+  } else if (typeof given !== 'number') {
+    throw wrongType(name, 'a number or a bigint');
+  } else if (Number.isSafeInteger(given) && given >= 0) {
+    return BigInt(given);
+  }
+  throw new RangeError(`${name} must be a whole number from 0, and a bigint where it passes 2^53`);
+}
+
+function nowOf(options) {
+  return whole(options.now ?? Date.now(), 'now', LARGEST_MOMENT);
+}
+
+function placeOf({ place = 0 }) {
+  return whole(place, 'place', LARGEST_MOMENT);
+}
+
+// Language maps: an object as `export` answers it, or their text.
+function mapsOf(given, name) {
+  if (typeof given === 'string' || given instanceof Uint8Array) return given;
+  if (given !== null && typeof given === 'object') return JSON.stringify(given);
+  throw wrongType(name, 'an object, a string or a Uint8Array');
+}
+
+// A number of JavaScript where it keeps its value, else a BigInt.
+function exact(digits) {
+  const number = Number(digits);
+  return Number.isSafeInteger(number) ? number : BigInt(digits);
+}
+
+// Reads JSON whose numbers may pass 2^53. These come as strings, for `exact`.
+function parseExact(text) {
+  return JSON.parse(text.replace(/"(?:[^"\\]|\\.)*"|\d{16,}/g, (it) => (it[0] === '"' ? it : `"${it}"`)));
+}
+
+function stampOf(time, site, count) {
+  return { time: exact(time), site, count: exact(count) };
+}
+
+function labelOf(line) {
+  const [, how, language, texts] = /^(matched|default) (\S+) (.*)\n$/s.exec(line);
+  return { language, texts: JSON.parse(texts), isDefault: how === 'default' };
+}
+
+function choiceOf(line) {
+  const [, language, weight, texts] = /^(\S+) (\d+) (.*)$/s.exec(line);
+  return { language, weight: Number(weight), texts: JSON.parse(texts) };
+}
+
+function pickedOf(line) {
+  const at = line.lastIndexOf(' ');
+  return { tag: line.slice(0, at), weight: Number(line.slice(at + 1)) };
+}
+
+function cellOf(given) {
+  if (given === null) return null;
+  const [time, site, count, texts] = given;
+  return { ...stampOf(time, site, count), texts };
+}
+
+function changeOf(line) {
+  const [id, language, before, after] = parseExact(line);
+  return { id, language, before: cellOf(before), after: cellOf(after) };
+}
+
+function statusOf(line) {
+  const [, site, cells, labels, last] = /^site (\S+) cells (\d+) labels (\d+) last (.*)\n$/s.exec(line);
+  return {
+    site,
+    cells: Number(cells),
+    labels: Number(labels),
+    last: last === 'none' ? null : stampOf(...last.split(' ')),
+  };
+}
+
+// The lines of an answer without the first, which counts them.
+function linesIn(answer) {
+  return answer.split('\n').slice(1, -1);
+}
+
+const ENCODER = new TextEncoder();
+const DECODER = new TextDecoder('utf-8', { ignoreBOM: true });
+const LONE_SURROGATE = /\p{Surrogate}/u;
+
+function isWellFormed(text) {
+  return text.isWellFormed ? text.isWellFormed() : !LONE_SURROGATE.test(text);
+}
+
+// UTF-8, with half of a surrogate pair as if it were a code point: the library refuses these three bytes, where a
+// U+FFFD in their place would be another text.
+function encodeHalves(text) {
+  const bytes = [];
+  for (const it of text) {
+    const point = it.codePointAt(0);
+    if (it.length === 1 && point >= 0xd800 && point < 0xe000) {
+      bytes.push(0xe0 | (point >> 12), 0x80 | ((point >> 6) & 0x3f), 0x80 | (point & 0x3f));
+    } else {
+      bytes.push(...ENCODER.encode(it));
+    }
+  }
+  return Uint8Array.from(bytes);
+}
+
+// The most bytes that a text takes.
+function mostBytes(text) {
+  return typeof text === 'string' ? 3 * text.length : text.length;
+}
+
+// The module, and the calls that it exports.
+class Calls {
+  #exports;
+  #room;
+  #failure = null;
+
+  constructor(exports) {
+    this.#exports = exports;
+    this.#room = this.#allocated(TOLD + ROOM);
+  }
+
+  #allocated(bytes) {
+    const at = this.#exports.allocate(BigInt(bytes));
+    if (at === 0n) throw this.#refused({ number: OUT_OF_MEMORY });
+    return Number(at);
+  }
+
+  #bytes(at, count) {
+    return new Uint8Array(this.#exports.memory.buffer, at, count);
+  }
+
+  // Writes a text, and returns how many bytes it has.
+  #put(text, at) {
+    if (typeof text === 'string') {
+      if (isWellFormed(text)) return ENCODER.encodeInto(text, this.#bytes(at, mostBytes(text))).written;
+      text = encodeHalves(text);
+    }
+    this.#bytes(at, text.length).set(text);
+    return text.length;
+  }
+
+  // Runs a function with room for so many bytes: that which is kept, where it is enough.
+  #within(bytes, used) {
+    if (bytes <= ROOM) return used(this.#room + TOLD, ROOM);
+    const at = this.#allocated(bytes);
+    try {
+      return used(at, bytes);
+    } finally {
+      this.#exports.release(BigInt(at));
+    }
+  }
+
+  #status(name, words) {
+    const call = this.#exports[name];
+    if (call === undefined) throw new Error(`this silkwaram.wasm has no ${name}`);
+    if (this.#failure) throw new Error('the module has stopped: load it again', { cause: this.#failure });
+    try {
+      return call(...words, BigInt(this.#room));
+    } catch (failure) {
+      // (a trap: what it left in memory is not known)
+      this.#failure = failure;
+      throw failure;
+    }
+  }
+
+  // Makes a call, and returns what it told; what is refused is thrown.
+  #call(name, words) {
+    const status = this.#status(name, words);
+    const told = { name, status, ...this.#told() };
+    if (status === FOUND || status === NOTHING) return told;
+    if (status === USAGE) throw new Error('the site is closed, or the module does not know an option');
+    throw this.#refused(told);
+  }
+
+  #told() {
+    const view = new DataView(this.#exports.memory.buffer, this.#room, TOLD);
+    const [length, offset, row, count] = [0, 8, 16, 24].map((at) => Number(view.getBigUint64(at, true)));
+    return { length, offset, row, count, number: view.getUint32(32, true) };
+  }
+
+  // The words of a call with its texts in the module's memory, from `at`, and where these end.
+  #placed(words, at) {
+    const placed = [];
+    for (const word of words) {
+      if (typeof word === 'string' || word instanceof Uint8Array) {
+        const count = this.#put(word, at);
+        placed.push(BigInt(at), BigInt(count));
+        at += count;
+      } else {
+        placed.push(word);
+      }
+    }
+    return [placed, at];
+  }
+
+  #texts(words) {
+    return words.filter((it) => typeof it === 'string' || it instanceof Uint8Array);
+  }
+
+  // Calls what answers nothing but its status. `words` are numbers, BigInts and texts, in the order of the header.
+  done(name, ...words) {
+    const most = this.#texts(words).reduce((sum, it) => sum + mostBytes(it), 0);
+    this.#within(most, (at) => this.#call(name, this.#placed(words, at)[0]));
+  }
+
+  // Calls what answers a text, in the room that is kept or in as much as the answer needs. Returns what it told, and
+  // what `read` makes of the bytes.
+  #asked(name, words, read) {
+    const most = this.#texts(words).reduce((sum, it) => sum + mostBytes(it), 0);
+    return this.#within(most + ROOM / 2, (at, bytes) => {
+      const [placed, end] = this.#placed(words, at);
+      const room = at + bytes - end;
+      const told = this.#call(name, [...placed, BigInt(end), BigInt(room)]);
+      if (told.length <= room) return [told, read(this.#bytes(end, told.length))];
+      return this.#within(told.length, (out, size) => {
+        const again = this.#call(name, [...placed, BigInt(out), BigInt(size)]);
+        return [again, read(this.#bytes(out, again.length))];
+      });
+    });
+  }
+
+  // The text that a call answers; null where it found nothing.
+  text(name, ...words) {
+    const [told, text] = this.#asked(name, words, (bytes) => DECODER.decode(bytes));
+    return told.status === NOTHING ? null : text;
+  }
+
+  // A copy of the bytes that a call answers.
+  bytes(name, ...words) {
+    return this.#asked(name, words, (bytes) => bytes.slice())[1];
+  }
+
+  #refused({ name, number, offset, row }) {
+    return new Refused(
+      number,
+      WITH_OFFSET.includes(number) ? offset : null,
+      READERS.includes(name) && IN_ROWS.includes(number) ? row : null,
+      this.meaning(number),
+    );
+  }
+
+  // What a number of a refusal means, or null.
+  meaning(number) {
+    if (this.#failure || !this.#room || !this.#exports.sw_refusal) return null;
+    const at = this.#room + TOLD;
+    const status = this.#exports.sw_refusal(number, BigInt(at), BigInt(ROOM), BigInt(this.#room));
+    return status === FOUND ? DECODER.decode(this.#bytes(at, this.#told().length)) : null;
+  }
+
+  version() {
+    return this.#exports.sw_version();
+  }
+
+  has(name) {
+    return name in this.#exports;
+  }
+
+  memory() {
+    return { used: Number(this.#exports.bytes_in_use()), whole: this.#exports.memory.buffer.byteLength };
+  }
+
+  // A handle of no site.
+  handle() {
+    const at = this.#allocated(HANDLE);
+    this.#bytes(at, HANDLE).fill(0);
+    return BigInt(at);
+  }
+
+  letGo(handle) {
+    this.#exports.sw_site_free(handle);
+  }
+
+  forget(handle) {
+    if (this.#failure) return;
+    this.letGo(handle);
+    this.#exports.release(handle);
+  }
+}
+
+function siteClass(calls) {
+  const forgotten = new FinalizationRegistry((handle) => calls.forget(handle));
+
+  return class Site {
+    #handle = calls.handle();
+
+    constructor() {
+      forgotten.register(this, this.#handle);
+    }
+
+    static open(document) {
+      const site = new Site();
+      site.reload(document);
+      return site;
+    }
+
+    static new(name) {
+      const site = new Site();
+      calls.done('sw_site_new', textOf(name, 'name'), site.#handle);
+      return site;
+    }
+
+    reload(document) {
+      calls.done('sw_site_open', textOf(document, 'document'), this.#handle);
+    }
+
+    share() {
+      const other = new Site();
+      calls.done('sw_site_share', this.#handle, other.#handle);
+      return other;
+    }
+
+    close() {
+      calls.letGo(this.#handle);
+    }
+
+    lookup(id, field, options) {
+      const given = optionsOf(options);
+      const line = calls.text(
+        'sw_site_lookup', this.#handle, lookupFlagsOf(given), textOf(id, 'id'), fieldOf(field), defaultOf(given),
+      );
+      return line === null ? null : labelOf(line);
+    }
+
+    text(id, field, options) {
+      const given = optionsOf(options);
+      const words = [lookupFlagsOf(given), textOf(id, 'id'), fieldOf(field), defaultOf(given), placeOf(given)];
+      return calls.text('sw_site_text', this.#handle, ...words);
+    }
+
+    texts(id, field, options) {
+      return this.lookup(id, field, options)?.texts ?? null;
+    }
+
+    filter(id, field, options) {
+      const flags = flagsOf(optionsOf(options));
+      const lines = calls.text('sw_site_filter', this.#handle, flags, textOf(id, 'id'), fieldOf(field));
+      return lines === null ? [] : linesIn(lines).map(choiceOf);
+    }
+
+    bundle(field, options) {
+      const given = optionsOf(options);
+      const words = [lookupFlagsOf(given), fieldOf(field), defaultOf(given)];
+      const document = calls.text('sw_site_bundle', this.#handle, ...words);
+      return document === null ? {} : JSON.parse(document);
+    }
+
+    put(id, lang, text, options) {
+      const now = nowOf(optionsOf(options));
+      const words = [textOf(id, 'id'), textOf(lang, 'lang'), textOf(text, 'text')];
+      calls.done('sw_site_put', this.#handle, now, ...words);
+    }
+
+    delete(id, lang, options) {
+      const now = nowOf(optionsOf(options));
+      calls.done('sw_site_delete', this.#handle, now, textOf(id, 'id'), textOf(lang, 'lang'));
+    }
+
+    importMaps(maps, options) {
+      calls.done('sw_site_import', this.#handle, nowOf(optionsOf(options)), mapsOf(maps, 'maps'));
+    }
+
+    update(before, after, options) {
+      const words = [mapsOf(before, 'before'), mapsOf(after, 'after')];
+      calls.done('sw_site_update', this.#handle, nowOf(optionsOf(options)), ...words);
+    }
+
+    take(delta, options) {
+      const { notAfter = 0 } = optionsOf(options);
+      const limit = whole(notAfter, 'notAfter', LARGEST_MOMENT);
+      calls.done('sw_site_take', this.#handle, textOf(delta, 'delta'), limit);
+    }
+
+    merge(other) {
+      const handle = Site.#handleOf(other);
+      // (a call may not be given one handle twice, and a site has what it holds)
+      if (other === this) this.status();
+      else calls.done('sw_site_merge', this.#handle, handle);
+    }
+
+    write() {
+      return calls.text('sw_site_write', this.#handle);
+    }
+
+    toBytes() {
+      return calls.bytes('sw_site_write', this.#handle);
+    }
+
+    export() {
+      return JSON.parse(calls.text('sw_site_export', this.#handle));
+    }
+
+    summary() {
+      return calls.text('sw_site_summary', this.#handle);
+    }
+
+    deltaFor(summary) {
+      return calls.text('sw_site_delta', this.#handle, textOf(summary, 'summary'));
+    }
+
+    status() {
+      return statusOf(calls.text('sw_site_status', this.#handle));
+    }
+
+    missing(lang) {
+      return JSON.parse(calls.text('sw_site_missing', this.#handle, textOf(lang, 'lang')) ?? '{}');
+    }
+
+    outdated(lang, source) {
+      const words = [textOf(lang, 'lang'), textOf(source, 'source')];
+      return JSON.parse(calls.text('sw_site_outdated', this.#handle, ...words) ?? '{}');
+    }
+
+    changes(after) {
+      const handle = Site.#handleOf(after);
+      // (as in `merge`)
+      if (after === this) return this.status() && [];
+      const lines = calls.text('sw_site_changes', this.#handle, handle);
+      return lines === null ? [] : linesIn(lines).map(changeOf);
+    }
+
+    [Symbol.dispose ?? Symbol('dispose')]() {
+      this.close();
+    }
+
+    // (a site of another load has its handle in another memory)
+    static #handleOf(given) {
+      if (typeof given === 'object' && given !== null && #handle in given) return given.#handle;
+      throw wrongType('other', 'a Site of the same load()');
+    }
+  };
+}
+
+// The bytes of a module, from wherever it is.
+async function bytesOf(source) {
+  if (source instanceof ArrayBuffer || ArrayBuffer.isView(source)) return source;
+  const url = new URL(source, globalThis.location?.href ?? import.meta.url);
+  if (url.protocol === 'file:') {
+    const { readFile } = await import('node:fs/promises');
+    return readFile(url);
+  }
+  const response = await fetch(url);
+  if (!response.ok) throw new Error(`${url}: ${response.status} ${response.statusText}`);
+  return response.arrayBuffer();
+}
+
+async function instanceOf(source) {
+  if (typeof WebAssembly !== 'object' || typeof BigInt !== 'function') {
+    throw new Error(`this engine cannot run silkwaram.wasm, which needs ${NEEDED}`);
+  }
+  const module = source instanceof WebAssembly.Module ? source : null;
+  const bytes = module ?? (await bytesOf(source));
+  try {
+    return new WebAssembly.Instance(module ?? (await WebAssembly.compile(bytes)), {});
+  } catch (cause) {
+    if (!(cause instanceof WebAssembly.CompileError)) throw cause;
+    throw new Error(`this engine cannot run silkwaram.wasm, which needs ${NEEDED}`, { cause });
+  }
+}
+
+/** Loads the module: from beside this file, or from a URL, its bytes, or a compiled WebAssembly.Module. */
+export async function load(source = new URL('./silkwaram.wasm', import.meta.url)) {
+  const calls = new Calls((await instanceOf(source)).exports);
+  return {
+    version: calls.version(),
+    pick(field, tags, options) {
+      const given = optionsOf(options);
+      return calls.text('sw_pick', lookupFlagsOf(given), fieldOf(field), linesOf(tags), defaultOf(given));
+    },
+    filter(field, tags, options) {
+      const lines = calls.text('sw_filter', flagsOf(optionsOf(options)), fieldOf(field), linesOf(tags));
+      return lines === null ? [] : linesIn(lines).map(pickedOf);
+    },
+    has: (name) => calls.has(name),
+    refusal: (number) => calls.meaning(number),
+    memory: () => calls.memory(),
+    Site: siteClass(calls),
+  };
+}

@@ -1,0 +1,65 @@
+// An exchange with the server: what it lacks is sent, what it has is taken. Each step may be lost, or done twice.
+
+const DAY = 24 * 60 * 60 * 1000;
+const MOST_WAIT = 20000;
+
+/** Where the server cannot be reached, or does not answer as it should. */
+export class Away extends Error {}
+
+/** Where the server refused what it was sent. */
+export class ServerRefused extends Error {}
+
+async function ask(path, body) {
+  const how = body === undefined ? {} : { method: 'POST', headers: { 'Content-Type': 'application/json' }, body };
+  let answer, text;
+  try {
+    answer = await fetch(path, { ...how, cache: 'no-store', signal: AbortSignal.timeout(MOST_WAIT) });
+    text = await answer.text();
+  } catch (cause) {
+    throw new Away('no answer', { cause });
+  }
+  if (answer.status === 422) throw new ServerRefused(JSON.parse(text).words);
+  if (!answer.ok) throw new Away(`status ${answer.status}`);
+  return text;
+}
+
+/** How many labels and deletions a delta has. */
+export function cellsIn(delta) {
+  return JSON.parse(delta).cells.length;
+}
+
+/** A delta is not taken where it has a time of more than a day ahead: no later edit could come after it. */
+export function limit() {
+  return Date.now() + DAY;
+}
+
+// Where the library cannot take a delta, the server joins the whole site with its own. What was edited meanwhile is in
+// neither answer: then it is done again.
+async function join(site) {
+  for (;;) {
+    const before = site.write();
+    const known = await ask('summary');
+    const sent = cellsIn(site.deltaFor(known));
+    const had = site.summary();
+    const joined = await ask('site', before);
+    if (site.write() !== before) continue;
+    site.reload(joined);
+    return { sent, received: cellsIn(site.deltaFor(had)), summary: site.summary() };
+  }
+}
+
+/**
+ * Exchanges a site with the server. Returns how many cells were sent and received, and the summary of what the server
+ * has then.
+ */
+export async function exchange(sw, site) {
+  if (!sw.has('sw_site_take')) return join(site);
+  let summary = await ask('summary');
+  const delta = site.deltaFor(summary);
+  const sent = cellsIn(delta);
+  if (sent > 0) summary = await ask('delta', delta);
+  const answer = await ask('summary', site.summary());
+  const received = cellsIn(answer);
+  if (received > 0) site.take(answer, { notAfter: limit() });
+  return { sent, received, summary };
+}

@@ -1,0 +1,142 @@
+#!/usr/bin/env python3
+"""Prints questions with the command's answers, as JSON, for answers.mjs.
+
+usage: questions.py LEXICAT HEADER COUNT
+
+The questions are those that scripts/library-check asks the library for C: COUNT of each call. Where the header and the
+command know of widening a third of them are widened, and where they have it tags are filtered too.
+"""
+import base64
+import concurrent.futures
+import importlib.util
+import json
+import os
+import random
+import re
+import subprocess
+import sys
+
+sys.dont_write_bytecode = True
+WIDEN = 4
+CALLS = ("open", "pick", "lookup", "text", "filter", "bundle")
+HERE = os.path.dirname(os.path.realpath(__file__))
+
+
+def library_questions():
+    path = f"{HERE}/../library_check/questions.py"
+    made = importlib.util.module_from_spec(importlib.util.spec_from_file_location("library_questions", path))
+    made.__spec__.loader.exec_module(made)
+    return made
+
+
+def label(line):
+    how, language, texts = line.decode().rstrip("\n").split(" ", 2)
+    return {"language": language, "texts": json.loads(texts), "isDefault": how == "default"}
+
+
+def choices(lines):
+    for line in lines.decode().split("\n")[1:-1]:
+        language, weight, texts = line.split(" ", 2)
+        yield {"language": language, "weight": int(weight), "texts": json.loads(texts)}
+
+
+def answer_in_javascript(asked, known):
+    """What silkwaram.mjs has to answer where the library answers `known`."""
+    if known.status > 2:
+        has_row = asked.call == "open" and known.number in (1, 2, 3, 4, 10, 11, 12, 20, 21, 27)
+        return {"number": known.number, "offset": known.offset if known.number in (3, 9, 18) else None,
+                "row": known.row if has_row else None}
+    if asked.call == "open":
+        return None
+    if asked.call == "filter":
+        return list(choices(known.answer))
+    if asked.call == "bundle":
+        return json.loads(known.answer)
+    if known.status == 1:
+        return None
+    return label(known.answer) if asked.call == "lookup" else known.answer.decode()
+
+
+def question(of, asked):
+    """A question as answers.mjs takes it: the call, what it is given, and its options."""
+    options = {"scheme": "extended" if asked.flags & of.EXTENDED else "basic",
+               "lenient": bool(asked.flags & of.LENIENT)}
+    if asked.flags & WIDEN:
+        options["widen"] = True
+    if asked.call == "open":
+        return ["open", base64.b64encode(asked.texts[0]).decode()]
+    texts = [it.decode() for it in asked.texts]
+    if asked.call == "pick":
+        read, lines, options["default"] = texts
+        return ["pick", read, re.sub(r"\n\Z", "", lines).split("\n"), options]
+    if asked.call == "bundle":
+        read, options["default"] = texts
+        return ["bundle", read, options]
+    name, read, *rest = texts
+    if rest:
+        options["default"] = rest[0]
+    if asked.call == "text":
+        options["place"] = str(asked.place)
+    return [asked.call, name, read, options]
+
+
+def tag_filter(of, lexicat, rng):
+    """A question to `filter` of silkwaram.mjs, and what `pick --all` answers."""
+    flags = rng.choice([0, of.EXTENDED, of.LENIENT, of.EXTENDED | of.LENIENT])
+    read = of.field(rng, flags & of.EXTENDED)
+    tags = [of.one_of(rng, of.TAGS, of.BAD_TAGS if rng.random() < 0.2 else of.TAGS) for _ in range(rng.randint(1, 8))]
+    tags = [it.swapcase() if rng.random() < 0.3 and it != "@none" else it for it in tags]
+    options = {"scheme": "extended" if flags & of.EXTENDED else "basic", "lenient": bool(flags & of.LENIENT)}
+    asked = of.Question("pick", flags, (read.encode(), b"", b""), 0, None)
+    words = ["pick", "--all", *of.options(asked, read.encode(), b""), *[it.encode() for it in tags]]
+    status, lines, told = of.run(lexicat, words)
+    if status > 1:
+        known = of.refused(status, told)
+        answer = {"number": known.number, "offset": known.offset if known.number in (3, 9) else None, "row": None}
+        return [["filterTags", read, tags, options], answer]
+    rest, answer = list(tags), []
+    for line in lines.decode().split("\n")[1:-1]:
+        found, weight = line.split(" ")
+        # (the module answers each tag as it was given; of equal ones the first comes first)
+        tag = next(it for it in rest if it.lower() == found)
+        rest.remove(tag)
+        answer.append({"tag": tag, "weight": int(weight)})
+    return [["filterTags", read, tags, options], answer]
+
+
+def widened(of, asked):
+    """The questions, a third of them widened, as the command is asked them then."""
+    plain = of.options
+    of.options = lambda it, *texts: ["--widen"] * bool(it.flags & WIDEN) + plain(it, *texts)
+    rng = random.Random(3)
+    calls = ("pick", "lookup", "text", "bundle")
+    return [it._replace(flags=it.flags | WIDEN) if it.call in calls and rng.random() < 0.33 else it for it in asked]
+
+
+def has(header, word, lexicat, option):
+    """Whether the header has a word, and the command `pick` an option."""
+    with open(header, encoding="utf-8") as file:
+        is_declared = word in file.read()
+    return is_declared and subprocess.run([lexicat, "pick", option, "en", "en"], capture_output=True).returncode == 0
+
+
+def main(words):
+    lexicat, header, count = words
+    of = library_questions()
+    asked = of.questions(int(count))
+    if has(header, "SW_WIDEN", lexicat, "--widen"):
+        asked = widened(of, asked)
+    with concurrent.futures.ThreadPoolExecutor(os.cpu_count()) as pool:
+        opens = [it for it in asked if it.call == "open"]
+        opened = dict(zip(opens, pool.map(lambda it: of.wanted(lexicat, it), opens)))
+        asked = of.with_sites(asked, opened)
+        known = list(pool.map(lambda it: opened.get(it) or of.wanted(lexicat, it), asked))
+    made = [[question(of, it), answer_in_javascript(it, its)] for it, its in zip(asked, known) if it.call in CALLS]
+    if has(header, " sw_filter(", lexicat, "--all"):
+        rng = random.Random(2)
+        made += [tag_filter(of, lexicat, rng) for _ in range(int(count))]
+    json.dump(made, sys.stdout)
+
+
+if __name__ == "__main__":
+    main(sys.argv[1:])
