@@ -2,9 +2,9 @@
 """Compares what nginx answers with what `lexicat pick` answers for the same fields.
 
 usage: nginx_check.py LEXICAT SERVER REQUESTS FOLDER
-           asks SERVER/strict and SERVER/lenient, by curl, with files in FOLDER
+           asks SERVER/strict, SERVER/lenient and SERVER/wide, by curl, with files in FOLDER
        nginx_check.py --print COUNT SERVER
-           prints COUNT requests to each of the two, as a configuration for curl
+           prints COUNT requests to each of the three, as a configuration for curl
 
 It makes always the same fields. A field that is refused (8, 9) counts as "*", which is what the
 module makes of it.
@@ -16,6 +16,8 @@ import sys
 
 TAGS = ["en", "fr", "de-CH", "zh-Hant"]
 DEFAULT = "en"
+# The locations, with the options by which the command answers the same.
+LOCATIONS = {"strict": [], "lenient": ["--lenient"], "wide": ["--widen"]}
 FIELDS = 200
 RANGES = (
     "en en-GB en-US fr fr-CA FR-ch de de-CH de-CH-1996 DE-AT zh zh-Hant zh-Hant-TW zh-Hans-CN ja"
@@ -68,8 +70,8 @@ def configuration(server, questions):
 
 
 def questions_of(count):
-    """So many fields, each of them in both locations."""
-    return [(path, asked) for asked in fields(count) for path in ("strict", "lenient")]
+    """So many fields, each of them in every location."""
+    return [(path, asked) for asked in fields(count) for path in LOCATIONS]
 
 
 def main():
@@ -79,8 +81,7 @@ def main():
     lexicat, server, requests, folder = sys.argv[1:]
     questions = questions_of(FIELDS)
     wanted = {
-        (path, asked): picked(lexicat, asked, *(["--lenient"] if path == "lenient" else []))
-        for path, asked in questions
+        (path, asked): picked(lexicat, asked, *LOCATIONS[path]) for path, asked in questions
     }
     rng = random.Random(9110)
     asked = [rng.choice(questions) for _ in range(int(requests) - len(questions))] + questions

@@ -19,6 +19,7 @@ typedef struct {
     ngx_str_t                       tags;    /* each with an LF after it */
     ngx_str_t                       dflt;
     ngx_flag_t                      lenient;
+    ngx_flag_t                      widen;
     ngx_uint_t                      checked; /* whether dflt is in tags */
 } ngx_http_silkwaram_loc_conf_t;
 
@@ -75,6 +76,13 @@ static ngx_command_t  ngx_http_silkwaram_commands[] = {
       ngx_conf_set_flag_slot,
       NGX_HTTP_LOC_CONF_OFFSET,
       offsetof(ngx_http_silkwaram_loc_conf_t, lenient),
+      NULL },
+
+    { ngx_string("silkwaram_widen"),
+      NGX_HTTP_MAIN_CONF|NGX_HTTP_SRV_CONF|NGX_HTTP_LOC_CONF|NGX_CONF_FLAG,
+      ngx_conf_set_flag_slot,
+      NGX_HTTP_LOC_CONF_OFFSET,
+      offsetof(ngx_http_silkwaram_loc_conf_t, widen),
       NULL },
 
       ngx_null_command
@@ -223,7 +231,11 @@ static int32_t
 ngx_http_silkwaram_pick(ngx_http_silkwaram_loc_conf_t *conf, ngx_str_t *field,
     u_char *lang, sw_told *told)
 {
-    return sw_pick(conf->lenient ? SW_LENIENT : 0, field->data, field->len,
+    uint32_t  flags;
+
+    flags = (conf->lenient ? SW_LENIENT : 0) | (conf->widen ? SW_WIDEN : 0);
+
+    return sw_pick(flags, field->data, field->len,
                    conf->tags.data, conf->tags.len,
                    conf->dflt.data, conf->dflt.len,
                    lang, NGX_HTTP_SILKWARAM_TAG_LEN, told);
@@ -356,6 +368,7 @@ ngx_http_silkwaram_create_loc_conf(ngx_conf_t *cf)
      */
 
     conf->lenient = NGX_CONF_UNSET;
+    conf->widen = NGX_CONF_UNSET;
 
     return conf;
 }
@@ -374,6 +387,7 @@ ngx_http_silkwaram_merge_loc_conf(ngx_conf_t *cf, void *parent, void *child)
     ngx_conf_merge_str_value(conf->tags, prev->tags, "");
     ngx_conf_merge_str_value(conf->dflt, prev->dflt, "");
     ngx_conf_merge_value(conf->lenient, prev->lenient, 0);
+    ngx_conf_merge_value(conf->widen, prev->widen, 0);
 
     /* once, however many locations inherit the two */
 

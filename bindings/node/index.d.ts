@@ -28,6 +28,12 @@ export interface FieldOptions {
 export interface LookupOptions extends FieldOptions {
   /** The language for readers who get no other, where there is a label in it. */
   default?: Text | null;
+  /**
+   * Lets a language find its regions, as `en` finds `en-US`, which RFC 4647's lookup does not.
+   *
+   * @default false
+   */
+  widen?: boolean;
 }
 
 export interface TextOptions extends LookupOptions {
@@ -51,6 +57,12 @@ export interface Choice {
   language: string;
   weight: number;
   texts: string[];
+}
+
+/** A tag that a reader takes, with its weight in thousandths. */
+export interface TagChoice {
+  tag: string;
+  weight: number;
 }
 
 /** The label of each message under its language: a text, or a list where it has several. */
@@ -77,6 +89,14 @@ export interface Refused extends Error {
  * Refused: the default (1 to 4), the field (8, 9), the tags in their order (1 to 4).
  */
 export function pick(field: Field, tags: readonly string[], options?: LookupOptions): string | null;
+
+/**
+ * Returns the tags that a reader takes, best first, as they are in `tags` (RFC 4647 section 3.3). A
+ * tag that stands twice is answered twice.
+ *
+ * Refused: the field (8, 9), the tags in their order (1 to 4).
+ */
+export function filter(field: Field, tags: readonly string[], options?: FieldOptions): TagChoice[];
 
 /**
  * A site that is open: what its messages say, in which languages. `Site.open` opens it. It is

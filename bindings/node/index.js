@@ -6,6 +6,7 @@ const { refusedDocument, refusedQuestion } = require('./refusals.js');
 // As silkwaram.h has them.
 const EXTENDED = 1;
 const LENIENT = 2;
+const WIDEN = 4;
 const SCHEMES = { basic: 0, extended: EXTENDED };
 
 function wrongType(name, wanted) {
@@ -22,6 +23,13 @@ function flagsOf({ scheme = 'basic', lenient = false }) {
   if (!Object.hasOwn(SCHEMES, scheme)) throw wrongType('scheme', '"basic" or "extended"');
   if (typeof lenient !== 'boolean') throw wrongType('lenient', 'a boolean');
   return SCHEMES[scheme] | (lenient ? LENIENT : 0);
+}
+
+// The flags of a lookup, which may be widened.
+function lookupFlagsOf(given) {
+  const { widen = false } = given;
+  if (typeof widen !== 'boolean') throw wrongType('widen', 'a boolean');
+  return flagsOf(given) | (widen ? WIDEN : 0);
 }
 
 function placeOf({ place = 0 }) {
@@ -47,9 +55,19 @@ function choiceOf(line) {
   return { language, weight: Number(weight), texts: JSON.parse(texts) };
 }
 
+function tagChoiceOf(line) {
+  const [, tag, weight] = /^(.*) (\d+)$/s.exec(line);
+  return { tag, weight: Number(weight) };
+}
+
 function pick(field, tags, options) {
   const given = optionsOf(options);
-  return answered(library.pick(flagsOf(given), field, tags, given.default));
+  return answered(library.pick(lookupFlagsOf(given), field, tags, given.default));
+}
+
+function filter(field, tags, options) {
+  const lines = answered(library.filterTags(flagsOf(optionsOf(options)), field, tags));
+  return lines === null ? [] : lines.split('\n').slice(1, -1).map(tagChoiceOf);
 }
 
 class Site {
@@ -78,14 +96,14 @@ class Site {
 
   lookup(id, field, options) {
     const given = optionsOf(options);
-    const line = answered(library.lookup(this.#held, flagsOf(given), id, field, given.default));
+    const line = answered(library.lookup(this.#held, lookupFlagsOf(given), id, field, given.default));
     return line === null ? null : labelOf(line);
   }
 
   text(id, field, options) {
     const given = optionsOf(options);
     return answered(
-      library.text(this.#held, flagsOf(given), id, field, given.default, placeOf(given)),
+      library.text(this.#held, lookupFlagsOf(given), id, field, given.default, placeOf(given)),
     );
   }
 
@@ -100,7 +118,7 @@ class Site {
 
   bundle(field, options) {
     const given = optionsOf(options);
-    const document = answered(library.bundle(this.#held, flagsOf(given), field, given.default));
+    const document = answered(library.bundle(this.#held, lookupFlagsOf(given), field, given.default));
     return document === null ? {} : JSON.parse(document);
   }
 
@@ -110,4 +128,4 @@ class Site {
   }
 }
 
-module.exports = { Site, pick };
+module.exports = { Site, filter, pick };

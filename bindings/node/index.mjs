@@ -1,3 +1,3 @@
 import silkwaram from './index.js';
 
-export const { Site, pick } = silkwaram;
+export const { Site, filter, pick } = silkwaram;

@@ -11,13 +11,18 @@ const TEXTS = {
   10: 'message id',
   11: 'text INDEX is over 65535 bytes',
   12: 'label has COUNT texts',
+  13: 'stamp TIME SITE COUNT used twice, cell PLACE',
+  14: 'clock is spent',
+  15: 'delta is for site ADDRESSEE',
   18: 'not UTF-8 at OFFSET',
   19: 'not JSON',
   20: 'shape',
   21: 'cell order',
+  22: 'language repeated',
   26: 'out of memory',
   27: 'site name',
   28: 'version unknown',
+  29: 'time is ahead',
 };
 // What is wanted, where a text does not say it.
 const WANTED = {
@@ -29,7 +34,7 @@ const WANTED = {
   28: '1 or 2',
 };
 const WITH_OFFSET = [3, 9, 18];
-const IN_ROWS = [1, 2, 3, 4, 10, 11, 12, 20, 21, 27];
+const IN_ROWS = [1, 2, 3, 4, 10, 11, 12, 20, 21, 22, 27, 29];
 const NOT_JSON = 19;
 
 // (The library reports neither the INDEX of 11 nor the COUNT of 12.)

@@ -375,6 +375,11 @@ static int32_t ask_pick(const question *it, uint8_t *out, size_t room, sw_told *
                    it->dflt.len, out, room, told);
 }
 
+static int32_t ask_filter_tags(const question *it, uint8_t *out, size_t room, sw_told *told)
+{
+    return sw_filter(it->flags, it->field.bytes, it->field.len, it->tags.bytes, it->tags.len, out, room, told);
+}
+
 static int32_t ask_lookup(const question *it, uint8_t *out, size_t room, sw_told *told)
 {
     return sw_site_lookup(&it->of->site, it->flags, it->id.bytes, it->id.len, it->field.bytes, it->field.len,
@@ -407,6 +412,18 @@ static napi_value call_pick(napi_env env, napi_callback_info info)
     if (take_arguments(env, info, given) && take_flags(env, given[0], &it) && take_field(env, given[1], &it) &&
         take_tags(env, given[2], &it) && take_default(env, given[3], &it))
         answer = answered(env, ask_pick, &it);
+    forget(&it);
+    return answer;
+}
+
+/* filterTags(flags, field, tags): the lines of `pick --all`, each tag as it was given, or null */
+static napi_value call_filterTags(napi_env env, napi_callback_info info)
+{
+    napi_value given[MOST_ARGUMENTS], answer = NULL;
+    question it = {0};
+    if (take_arguments(env, info, given) && take_flags(env, given[0], &it) && take_field(env, given[1], &it) &&
+        take_tags(env, given[2], &it))
+        answer = answered(env, ask_filter_tags, &it);
     forget(&it);
     return answer;
 }
@@ -551,8 +568,8 @@ static bool has_version(napi_env env)
 NAPI_MODULE_INIT()
 {
     static const napi_property_descriptor calls[] = {
-        CALL(pick), CALL(make), CALL(open), CALL(share), CALL(close), CALL(lookup), CALL(text), CALL(filter),
-        CALL(bundle),
+        CALL(pick), CALL(filterTags), CALL(make), CALL(open), CALL(share), CALL(close), CALL(lookup), CALL(text),
+        CALL(filter), CALL(bundle),
     };
     if (!has_version(env)) return NULL;
     if (!is_ok(env, napi_define_properties(env, exports, sizeof calls / sizeof *calls, calls))) return NULL;

@@ -4,12 +4,12 @@
 //
 // usage: node questions.js PACKAGE LEXICAT COUNT
 //
-// It makes COUNT questions, always the same ones, a fifth for each call, over one site.
+// It makes COUNT questions, always the same ones, a sixth for each call, over one site.
 const assert = require('node:assert/strict');
 const { spawnSync } = require('node:child_process');
 
 const [folder, lexicat, count] = process.argv.slice(2);
-const { Site, pick } = require(folder);
+const { Site, filter, pick } = require(folder);
 
 const TAGS = ('en en-GB en-US fr fr-CA FR-ch de de-DE de-AT de-Latn-DE-1996 pt-BR pt sr-Latn zh-Hant-TW ' +
   'zh-Hans zh ja i-klingon x-private @none').split(' ');
@@ -21,7 +21,8 @@ const WEIGHTS = ['', '', ';q=0.5', ';q=0.8', '; Q=0.123', ';q=0', ';q=1.000'];
 const IDS = ['greeting', 'news.title', 'a', 'größe', '-x', 'x'.repeat(128), 'm 1'];
 const BAD_IDS = ['', '@context', 'x'.repeat(129), 'a\tb'];
 const TEXTS = ['Hello', '', 'with "quotes"', 'two\nlines', 'こんにちは', '\\', '😀', 'x'.repeat(300)];
-const CALLS = ['pick', 'lookup', 'text', 'filter', 'bundle'];
+const CALLS = ['pick', 'filterTags', 'lookup', 'text', 'filter', 'bundle'];
+const FILTERS = ['filterTags', 'filter'];
 
 let state = 4647;
 
@@ -53,6 +54,7 @@ function questionOf(call) {
     call,
     scheme,
     lenient: below(3) === 0,
+    widen: !FILTERS.includes(call) && below(3) === 0,
     default: one([undefined, undefined, one(TAGS), one(TAGS), one(BAD_TAGS.slice(1))]),
     field: fieldOf(scheme),
     id: below(15) === 0 ? one(BAD_IDS) : one(IDS),
@@ -83,12 +85,20 @@ function makeDocument() {
   return imported.line;
 }
 
-function wordsOf({ call, scheme, lenient, default: fallback, field, id, tags }) {
-  const words = [call === 'text' ? 'lookup' : call, '--scheme', scheme];
+// The command by which each call is asked, and whether that is about tags alone.
+const COMMANDS = { filterTags: ['pick', '--all'], text: ['lookup'] };
+
+function isOfTags(call) {
+  return call === 'pick' || call === 'filterTags';
+}
+
+function wordsOf({ call, scheme, lenient, widen, default: fallback, field, id, tags }) {
+  const words = [...(COMMANDS[call] ?? [call]), '--scheme', scheme];
   if (lenient) words.push('--lenient');
-  if (fallback !== undefined && call !== 'filter') words.push(`--default=${fallback}`);
+  if (widen) words.push('--widen');
+  if (fallback !== undefined && !FILTERS.includes(call)) words.push(`--default=${fallback}`);
   if (['lookup', 'text', 'filter'].includes(call)) words.push(`--id=${id}`);
-  return [...words, '--', field, ...(call === 'pick' ? tags : [])];
+  return [...words, '--', field, ...(isOfTags(call) ? tags : [])];
 }
 
 function labelIn(line) {
@@ -103,11 +113,18 @@ function choiceIn(line) {
   return { language, weight: Number(weight), texts };
 }
 
+function tagChoiceIn(line) {
+  const [tag, weight] = line.split(' ');
+  return { tag, weight: Number(weight) };
+}
+
 // What the package has to answer, by the line that the command prints.
 function answerIn(question, line) {
   switch (question.call) {
     case 'filter':
       return line.split('\n').slice(1, -1).map(choiceIn);
+    case 'filterTags':
+      return line.split('\n').slice(1, -1).map(tagChoiceIn);
     case 'bundle':
       return JSON.parse(line);
     case 'pick':
@@ -120,7 +137,7 @@ function answerIn(question, line) {
 }
 
 function wanted(question, document) {
-  const { status, line, told } = run(wordsOf(question), question.call === 'pick' ? '' : document);
+  const { status, line, told } = run(wordsOf(question), isOfTags(question.call) ? '' : document);
   if (status < 2) return answerIn(question, line);
   const [, number, offset] = /^refused (\d+): .*?(?: at (\d+))?\n$/.exec(told);
   return { number: Number(number), offset: offset === undefined ? null : Number(offset), row: null };
@@ -131,6 +148,8 @@ function asked({ call, field, id, tags, ...options }, site) {
     case 'pick':
       // (the command prints a tag in lower case)
       return pick(field, tags, options)?.toLowerCase() ?? null;
+    case 'filterTags':
+      return filter(field, tags, options).map(({ tag, weight }) => ({ tag: tag.toLowerCase(), weight }));
     case 'bundle':
       return site.bundle(field, options);
     default:

@@ -1,10 +1,13 @@
 // What scripts/node-check has the TypeScript compiler read: uses of the package that are right, and after
 // each `@ts-expect-error` one that is wrong.
-import { Bundle, Choice, Label, Refused, Site, pick } from 'silkwaram';
+import { Bundle, Choice, Label, Refused, Site, TagChoice, filter, pick } from 'silkwaram';
 import { languages } from 'silkwaram/express';
 
 const tag: string | null = pick('fr', ['en'] as const, { default: 'en', scheme: 'basic', lenient: true });
-pick(undefined, ['en'], { default: null });
+pick(undefined, ['en'], { default: null, widen: true });
+const tags: TagChoice[] = filter('fr', ['en'], { lenient: true });
+// @ts-expect-error
+filter('fr', ['en'], { widen: true });
 // @ts-expect-error
 pick('fr', 'en');
 // @ts-expect-error
@@ -35,4 +38,4 @@ const language: string | null | undefined = req.language;
 // @ts-expect-error
 languages({ tags: ['en'] });
 
-export { bundle, choices, label, language, number, tag, text, texts };
+export { bundle, choices, label, language, number, tag, tags, text, texts };

@@ -2,7 +2,7 @@
 
 const assert = require('node:assert/strict');
 const test = require('node:test');
-const { pick } = require('..');
+const { filter, pick } = require('..');
 
 test('the header of RFC 9110 section 12.5.4 takes Danish, then British English', () => {
   const field = 'da, en-gb;q=0.8, en;q=0.7';
@@ -140,5 +140,31 @@ test('the package gives the same to import and to require', async () => {
   const module = await import('../index.mjs');
   assert.equal(module.pick, pick);
   assert.equal(module.Site, require('..').Site);
-  assert.deepEqual(Object.keys(module).sort(), ['Site', 'pick']);
+  assert.deepEqual(Object.keys(module).sort(), ['Site', 'filter', 'pick']);
+});
+
+test('a language finds its regions where that is asked for', () => {
+  const widen = { widen: true };
+  assert.equal(pick('en', ['en-US', 'fr']), null);
+  assert.equal(pick('en', ['en-US', 'fr'], widen), 'en-US');
+  assert.equal(pick('de, en;q=0.5', ['en-US', 'de-CH', 'de-AT'], widen), 'de-AT');
+  assert.equal(pick('en, en-US;q=0', ['en-US', 'en-GB'], widen), 'en-GB');
+  assert.equal(pick('*', ['de'], widen), null);
+  assert.throws(() => pick('en', ['en'], { widen: 1 }), { message: 'widen must be a boolean' });
+});
+
+test('all tags that fit, best first', () => {
+  const tags = ['en', 'da-DK', 'en-GB-oed', '@none', 'EN'];
+  assert.deepEqual(filter('da, en-gb;q=0.8, en;q=0.7', tags), [
+    { tag: 'da-DK', weight: 1000 },
+    { tag: 'en-GB-oed', weight: 800 },
+    { tag: 'en', weight: 700 },
+    { tag: 'EN', weight: 700 },
+  ]);
+  assert.deepEqual(filter('ja', ['en']), []);
+  assert.deepEqual(filter('de-*-DE', ['de-Latn-DE', 'de'], { scheme: 'extended' }), [
+    { tag: 'de-Latn-DE', weight: 1000 },
+  ]);
+  assert.throws(() => filter('e n', ['e_n']), { number: 9, offset: 0 });
+  assert.throws(() => filter('en', ['en', 'e_n']), { number: 3, offset: 0 });
 });
