@@ -13,7 +13,7 @@ SOURCES := crates.txt $(shell find crates \
 	\( -name out -o -name '*_tests' -o -name 'example_*' -o -name bench \) -prune \
 	-o -type f \( -name '*.rt' -o -name '*.antt' \) -print)
 
-.PHONY: all help try try-session library demo test test-alone check-docs \
+.PHONY: all help try try-session library browser demo test test-alone check-docs \
 	bench bench-documents bench-front install install-command install-library uninstall dist clean
 
 .DEFAULT_GOAL := all
@@ -52,6 +52,14 @@ library: build/lib/libsilkwaram.a
 
 build/lib/libsilkwaram.a: $(SOURCES) include/silkwaram.h scripts/library
 	RT='$(RT)' scripts/library
+
+#: make browser       the library for browsers and Node, as WebAssembly, in build/browser
+#:                    (docs/BROWSER.md): a minute or two more than the library
+browser: build/browser/silkwaram.wasm
+
+build/browser/silkwaram.wasm: $(SOURCES) include/silkwaram.h scripts/browser scripts/archive \
+		$(wildcard bindings/browser/*)
+	RT='$(RT)' scripts/browser
 
 #: make test          the whole gate: one to two and a half hours on four processors
 # The program that the compiler has to refuse; every proof, from nothing where this machine has not
@@ -138,8 +146,8 @@ uninstall:
 	rm -f "$(INCLUDE)/silkwaram.h" "$(LIB)/pkgconfig/silkwaram.pc"
 	rm -f "$(LIB)/libsilkwaram.a" "$(LIB)"/libsilkwaram.so*
 
-#: make dist          a tarball, Debian packages and a wheel for Python, for those who have no Rattle
-#:                    kit, in build/dist: some minutes more than the library
+#: make dist          tarballs, one of them for browsers, Debian packages and a wheel for Python, for
+#:                    those who have no Rattle kit, in build/dist: some minutes more than the library
 dist:
 	RT='$(RT)' scripts/dist
 

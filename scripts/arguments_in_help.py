@@ -11,13 +11,14 @@ import subprocess
 import sys
 from collections import namedtuple
 
+sys.dont_write_bytecode = True
+import help_forms  # noqa: E402
+
 ROOT = os.path.dirname(os.path.dirname(os.path.abspath(__file__)))
 
-# An option without its two hyphens; the name of its value and the words that this may be, if any.
-Option = namedtuple("Option", "name value words is_required")
-# Another argument, by the name that the help has for it.
+# An argument that is no option, and whether it repeats.
 Argument = namedtuple("Argument", "name repeats")
-# What a command takes, or what is said of it.
+# What is said of a command.
 Form = namedtuple("Form", "options arguments")
 
 faults = []
@@ -33,34 +34,6 @@ def read(path):
         return file.read()
 
 
-def section(text, name):
-    """Returns the lines of a section of a help text, one for each argument."""
-    found = re.search(rf"^{name}:\n((?: .*\n|\n(?= ))*)", text, re.M)
-    return re.sub(r"\n {10,}", " ", found[1]).split("\n") if found else []
-
-
-def form_in_help(text):
-    """Returns what a command takes, by its help."""
-    usage = re.search(r"^Usage: lexicat \w+(.*)$", text, re.M)[1]
-    options, arguments = [], []
-    for line in section(text, "Options"):
-        shown = re.match(r" +(?:-\w, )?--(\w+)(?: <(\w+)>)?", line)
-        if shown and shown[1] != "help":
-            words = re.search(r"\[possible values: ([^]]*)\]", line)
-            required = bool(re.search(rf"--{shown[1]} <", usage))
-            options.append(
-                Option(shown[1], shown[2], words[1].split(", ") if words else [], required)
-            )
-    for line in section(text, "Arguments"):
-        shown = re.match(r" +<(\w+)>(\.\.\.)?", line)
-        if shown:
-            arguments.append(Argument(shown[1], bool(shown[2])))
-    in_usage = re.findall(r"(?<!-)(?<!\w )<(\w+)>", re.sub(r"--\w+ <\w+>", "", usage))
-    if in_usage != [argument.name for argument in arguments]:
-        fault(f"help: its usage has other arguments:{usage}")
-    return Form(options, arguments)
-
-
 def forms_in_manual():
     """Returns what the synopsis of the manual's page says of each command."""
     forms = {}
@@ -68,7 +41,7 @@ def forms_in_manual():
     for part in re.split(r"^\.Nm\n", synopsis, flags=re.M):
         options, arguments, commands = [], [], []
         for line in part.splitlines():
-            option = re.match(r"\.(Op )?Fl -(\w+)(?: Ar (\w+))?$", line)
+            option = re.match(r"\.(Op )?Fl -([\w-]+)(?: Ar (\w+))?$", line)
             if line.startswith(".Cm "):
                 commands = line[len(".Cm "):].split(" | ")
             elif option:
@@ -87,8 +60,8 @@ def forms_in_reference():
     for line in re.findall(r"^lexicat ([a-z]+(?: .*)?)$", read("docs/COMMAND.md"), re.M):
         command, _, rest = line.partition(" ")
         options, arguments = [], []
-        for given in re.findall(r"\[--\w+[^]]*\]|--\w+ \S+|\S+", rest):
-            option = re.match(r"(\[)?--(\w+)(?: ([^\s\]]+))?", given)
+        for given in re.findall(r"\[--[\w-]+[^]]*\]|--[\w-]+ \S+|\S+", rest):
+            option = re.match(r"(\[)?--([\w-]+)(?: ([^\s\]]+))?", given)
             if option:
                 options.append((option[2], option[3], not option[1]))
             elif not given.startswith("["):
@@ -111,33 +84,21 @@ def bash_offers(*words):
 
 def forms_in_zsh():
     """Returns what the completion of zsh says of each command."""
-    text = read("completions/_lexicat")
-    known = {}
-    for variable, name, value, rest in re.findall(
-        r"^    (\w+)=\('--(\w+)(=?)\[[^]]*\](.*)'\)$", text, re.M
-    ):
-        known["$" + variable] = zsh_option(name, value, rest)
     forms = {}
-    for commands, given in re.findall(r"^        ([a-z |]+)\) _arguments (.*) ;;$", text, re.M):
+    for commands, given in re.findall(
+        r"^        ([a-z |]+)\) _arguments \$help ?(.*) ;;$", read("completions/_lexicat"), re.M
+    ):
         options, arguments = [], []
-        for word in re.findall(r"'[^']*'|\$\w+", given):
-            inline = re.match(r"'--(\w+)(=?)\[[^]]*\](.*)'", word)
-            other = re.match(r"'([1*]):(\w+):\{true\}'", word)
-            if word in known:
-                options.append(known[word])
-            elif inline:
-                options.append(zsh_option(*inline.groups()))
+        for word in re.findall(r"'(?:[^']|'\\'')*'", given):
+            option = re.match(r"'--([\w-]+)(=?)\[(?:\\.|[^]\\])*\](?::\w+:)?(?:\(([^)]*)\))?'$", word)
+            other = re.match(r"'([1*]):(\w+):(\{true\}|\(.*\))'$", word)
+            if option:
+                options.append((option[1], option[2] == "=", (option[3] or "").split()))
             elif other:
                 arguments.append(Argument(other[2].upper(), other[1] == "*"))
         for command in commands.split(" | "):
             forms[command] = Form(options, arguments)
     return forms
-
-
-def zsh_option(name, value, rest):
-    """Returns an option with whether it takes a value, and the words that this may be."""
-    words = re.search(r":\(([^)]*)\)$", rest)
-    return name, value == "=", words[1].split() if words else []
 
 
 def options_in_fish():
@@ -147,7 +108,9 @@ def options_in_fish():
         r"^complete -c lexicat -n '__fish_seen_subcommand_from ([a-z ]*)' (.*)$",
         read("completions/lexicat.fish"), re.M,
     ):
-        name = re.search(r"-l (\w+)", rest)[1]
+        if "-l " not in rest:
+            continue
+        name = re.search(r"-l ([\w-]+)", rest)[1]
         words = re.search(r"-a '([^']*)'", rest)
         for command in commands.split():
             options.setdefault(command, []).append(
@@ -162,23 +125,19 @@ def compare(what, command, said, shown):
 
 
 def check(lexicat):
-    def help_of(*words):
-        return subprocess.run(
-            [lexicat, *words, "--help"], capture_output=True, text=True, check=True
-        ).stdout
-
-    commands = re.findall(r"^  ([a-z]+) ", "\n".join(section(help_of(), "Commands")), re.M)
+    commands = [name for name, _ in help_forms.commands_of(lexicat)]
     manual, reference = forms_in_manual(), forms_in_reference()
     zsh, fish = forms_in_zsh(), options_in_fish()
     nothing = Form([], [])
     for command in commands:
-        form = form_in_help(help_of(command))
+        form = help_forms.form_of(help_forms.help_of(lexicat, command))
         named = [(option.name, option.value, option.is_required) for option in form.options]
         taking = [(option.name, bool(option.value), option.words) for option in form.options]
         alternatives = [
             (option.name, "|".join(option.words) or option.value, option.is_required)
             for option in form.options
         ]
+        arguments = [Argument(it.name, it.repeats) for it in form.arguments]
         for what, said, options in [
             ("man", manual, named), ("docs/COMMAND.md", reference, alternatives),
             ("zsh", zsh, taking),
@@ -186,10 +145,12 @@ def check(lexicat):
             if command not in said:
                 fault(f"{what}: no {command}")
             compare(what, command, said.get(command, nothing).options, options)
-            compare(what, command, said.get(command, nothing).arguments, form.arguments)
+            compare(what, command, said.get(command, nothing).arguments, arguments)
         compare("fish", command, sorted(fish.get(command, [])), sorted(taking))
         offered = set(bash_offers(command))
-        compare("bash", command, offered, {f"--{o.name}" for o in form.options} | {"--help", "-h"})
+        words = {word for argument in form.arguments for word in argument.words}
+        options = {f"--{o.name}" for o in form.options}
+        compare("bash", command, offered, words | options | {"--help", "-h"})
         for option in form.options:
             # (behind a flag the options stand open again)
             wanted = set(option.words) if option.value else offered

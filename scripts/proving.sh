@@ -9,6 +9,10 @@ if ! command -v "$rt" > /dev/null; then
 fi
 logs=$PWD/build/proofs
 
+kit() { # the folder of the kit that rt is of
+    dirname "$(dirname "$(readlink -f "$(command -v "$rt")")")"
+}
+
 # The first line of a crate's log: a sum of the kit's name and of the crate's files.
 sum_line() { # CRATE
     {

@@ -1,0 +1,61 @@
+"""Reads what the command's own help says of its commands and their arguments."""
+import re
+import subprocess
+from collections import namedtuple
+
+# An option without its two hyphens; the name of its value and the words that this may be, if any;
+# whether it has to be given; what it is for.
+Option = namedtuple("Option", "name value words is_required help")
+# Another argument, by the name that the help has for it, and the words that it may be, if any.
+Argument = namedtuple("Argument", "name repeats words")
+# What a command takes, and what it is for.
+Form = namedtuple("Form", "about options arguments")
+
+
+def help_of(lexicat, *words):
+    """Returns what `--help` prints behind these words."""
+    run = subprocess.run(
+        [lexicat, *words, "--help"], capture_output=True, text=True, check=True
+    )
+    return run.stdout
+
+
+def section(text, name):
+    """Returns the lines of a section of a help text, one for each argument."""
+    found = re.search(rf"^{name}:\n((?: .*\n|\n(?= ))*)", text, re.M)
+    return re.sub(r"\n {10,}", " ", found[1]).split("\n") if found else []
+
+
+def commands_of(lexicat):
+    """Returns the name of each command with what it is for, in the order of the help."""
+    lines = "\n".join(section(help_of(lexicat), "Commands"))
+    return re.findall(r"^  ([a-z]+) +(.*)$", lines, re.M)
+
+
+def words_of(line):
+    """Returns the words that a value may be, and the line without them."""
+    found = re.search(r" *\[possible values: ([^]]*)\]", line)
+    if not found:
+        return [], line
+    return found[1].split(", "), line.replace(found[0], "")
+
+
+def form_of(text):
+    """Returns what a command takes, by its help."""
+    usage = re.search(r"^Usage: lexicat \w+(.*)$", text, re.M)[1]
+    options, arguments = [], []
+    for line in section(text, "Options"):
+        words, line = words_of(line)
+        shown = re.match(r" +(?:-\w, )?--([\w-]+)(?: <(\w+)>)? *(.*)$", line)
+        if shown and shown[1] != "help":
+            required = bool(re.search(rf"--{shown[1]} <", usage))
+            options.append(Option(shown[1], shown[2], words, required, shown[3]))
+    for line in section(text, "Arguments"):
+        words, line = words_of(line)
+        shown = re.match(r" +<(\w+)>(\.\.\.)?", line)
+        if shown:
+            arguments.append(Argument(shown[1], bool(shown[2]), words))
+    in_usage = re.findall(r"(?<!-)(?<!\w )<(\w+)>", re.sub(r"--[\w-]+ <\w+>", "", usage))
+    if in_usage != [argument.name for argument in arguments]:
+        raise ValueError(f"the usage has other arguments:{usage}")
+    return Form(text.split("\n")[0], options, arguments)
