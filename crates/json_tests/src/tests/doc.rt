@@ -1,6 +1,6 @@
 //! Documents as bytes.
 
-use docs_core::Doc;
+use json_docs::Doc;
 use std::test::Fail;
 
 #[test]

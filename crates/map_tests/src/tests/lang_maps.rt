@@ -1,8 +1,9 @@
 //! Language maps: what is written of them, and which texts are refused.
 
 use cell_core::{CellFault, Label, MessageId};
-use docs_core::{DocCause, DocFault, FieldFault, LangMaps, Spot, read_langmaps, write_langmaps};
+use json_docs::{DocCause, DocFault, FieldFault, Spot};
 use lang_core::{Lang, LangFault};
+use map_docs::{LangMaps, read_langmaps, write_langmaps};
 use std::alloc::Global;
 use std::process::Abort;
 use std::test::Fail;

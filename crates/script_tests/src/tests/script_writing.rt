@@ -2,9 +2,10 @@
 
 use cata_core::Step;
 use cell_core::MessageId;
-use docs_core::{Doc, DocCause, DocFault, Script, Spot, read_script, write_script};
+use json_docs::{Doc, DocCause, DocFault, Spot};
 use lang_core::Lang;
 use nego_core::{Malformed, PriorityList, Scheme};
+use script_docs::{Script, read_script, write_script};
 use std::alloc::Global;
 use std::process::Abort;
 use std::test::Fail;

@@ -1,9 +1,8 @@
 //! Documents as they are written, and other spellings of them.
 
 use cell_core::CellFault;
-use docs_core::{
-    Doc, DocCause, DocFault, FieldFault, Spot, read_delta, read_site, write_delta, write_site,
-};
+use json_docs::{Doc, DocCause, DocFault, FieldFault, Spot};
+use site_docs::{read_delta, read_site, write_delta, write_site};
 use std::alloc::Global;
 use std::process::Abort;
 

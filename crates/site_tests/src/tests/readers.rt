@@ -1,8 +1,9 @@
 //! Which bytes are refused as documents, and why.
 
 use cell_core::CellFault;
-use docs_core::{DocCause, DocFault, FieldFault, Spot, read_delta, read_site, read_summary};
+use json_docs::{DocCause, DocFault, FieldFault, Spot};
 use lang_core::LangFault;
+use site_docs::{read_delta, read_site, read_summary};
 use std::alloc::Global;
 use std::process::Abort;
 

@@ -2,7 +2,7 @@
 
 use cata_core::{CataFault, PlayFault};
 use cell_core::{CellFault, SiteName, Stamp};
-use docs_core::{DocCause, DocFault, FieldFault, Spot};
+use json_docs::{DocCause, DocFault, FieldFault, Spot};
 use lang_core::LangFault;
 use nego_core::NegoFault;
 use std::fmt::InlineText;

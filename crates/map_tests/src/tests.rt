@@ -1,0 +1,3 @@
+//! What no contract says: spellings of language maps.
+
+mod lang_maps;

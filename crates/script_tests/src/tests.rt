@@ -1,0 +1,3 @@
+//! What no contract says: spellings of scripts.
+
+mod script_writing;

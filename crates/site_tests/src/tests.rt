@@ -1,0 +1,4 @@
+//! What no contract says: documents of sites as they are written, and other spellings of them.
+
+mod as_written;
+mod readers;
