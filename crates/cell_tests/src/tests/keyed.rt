@@ -41,6 +41,11 @@ fn assert_same(rt: &impl Abort, a: &Keyed<Lang, Cell>, b: &Keyed<Lang, Cell>) {
     }
 }
 
+/// A deletion at 7.
+fn deletion(rt: &impl Abort) -> Cell {
+    deleted(stamp(rt, 7, "0000000001", 0))
+}
+
 /// Appends the entry where its key is greater than all others.
 fn is_pushed(map: &mut Keyed<Lang, Cell>, key: Lang, cell: Cell) -> bool {
     map.is_above_all(&key) && map.push(key, cell).is_ok()
@@ -49,8 +54,7 @@ fn is_pushed(map: &mut Keyed<Lang, Cell>, key: Lang, cell: Cell) -> bool {
 #[test]
 fn appends_a_key_above_all(rt: HostRuntime) {
     let mut map = one(&rt, rt.alloc(), "en", "a");
-    let cell = deleted(stamp(&rt, 7, "0000000001", 0));
-    assert!(rt; is_pushed(&mut map, lang(&rt, rt.alloc(), "fr"), cell));
+    assert!(rt; is_pushed(&mut map, lang(&rt, rt.alloc(), "fr"), deletion(&rt)));
     assert_same(
         &rt,
         &map,
@@ -62,9 +66,8 @@ fn appends_a_key_above_all(rt: HostRuntime) {
 #[test]
 fn appends_no_key_below_or_at_another(rt: HostRuntime) {
     let mut map = one(&rt, rt.alloc(), "en", "a");
-    let stamp = stamp(&rt, 7, "0000000001", 0);
-    assert!(rt; !is_pushed(&mut map, lang(&rt, rt.alloc(), "de"), deleted(stamp)));
-    assert!(rt; !is_pushed(&mut map, lang(&rt, rt.alloc(), "en"), deleted(stamp)));
+    assert!(rt; !is_pushed(&mut map, lang(&rt, rt.alloc(), "de"), deletion(&rt)));
+    assert!(rt; !is_pushed(&mut map, lang(&rt, rt.alloc(), "en"), deletion(&rt)));
     assert_same(&rt, &map, &one(&rt, rt.alloc(), "en", "a"));
 }
 
