@@ -77,11 +77,15 @@ fn a_site_of_version_1(rt: HostRuntime) -> Result<(), Fail> {
     assert_changes(&rt, rt.alloc(), OLD, EMPTY, OF_OLD)
 }
 
+/// One of two documents is not JSON.
+fn assert_not_json(rt: &impl Abort, alloc: Global, before: &[u8], after: &[u8], document: u8) {
+    let refused = changes_document(alloc, before, after).err();
+    let cause = DocCause::NotJson;
+    assert_eq!(rt; refused, Some(DocFault { document, cause }));
+}
+
 #[test]
 fn documents_are_read_in_order(rt: HostRuntime) {
-    let cause = DocCause::NotJson;
-    let refused = changes_document(rt.alloc(), b"{", b"{").err();
-    assert_eq!(rt; refused, Some(DocFault { document: 1, cause }));
-    let refused = changes_document(rt.alloc(), EMPTY.as_bytes(), b"{").err();
-    assert_eq!(rt; refused, Some(DocFault { document: 2, cause }));
+    assert_not_json(&rt, rt.alloc(), b"{", b"{", 1);
+    assert_not_json(&rt, rt.alloc(), EMPTY.as_bytes(), b"{", 2);
 }

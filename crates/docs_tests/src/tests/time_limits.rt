@@ -33,9 +33,9 @@ const CLASHING: &str =
     "{\"cells\":[[\"m\",\"en\",101,\"c\",0,[\"z\"]]],\"kind\":\"site\",\"site\":\"b\",\"version\":2}\n";
 
 fn is_refused<T: Drop>(answer: Result<T, DocFault>, line: &str) -> bool {
-    match answer {
-        Ok(_) => false,
-        Err(fault) => InlineText::<80>::of(&fault).as_str() == line,
+    match answer.err() {
+        Some(fault) => InlineText::<80>::of(&fault).as_str() == line,
+        None => false,
     }
 }
 
