@@ -14,7 +14,7 @@ use Rattle.cata_core.proofs.UniqueAnswers.{one_by}
 use Rattle.nego_core.specs.declared.field.Malformed.TheVariants.{Refused}
 use Rattle.nego_core.specs.declared.scheme.Scheme.TheVariants.{Basic}
 use Rattle.nego_core.proofs.FieldUnique.{one_items}
-use Rattle.json_docs.specs.Checks.{AreJson, Check}
+use Rattle.json_docs.specs.Checks.{AllPass, AreJson, Check}
 use Rattle.site_docs.specs.ReadsAs.{Reads, ReadsAsDelta, ReadsAsSite, ReadsAsSummary}
 use Rattle.site_docs.specs.Rising.{AreEntries}
 use Rattle.site_docs.specs.SiteDocuments.{IsDeltaDocument, IsSiteDocument, IsSummaryDocument}
@@ -31,7 +31,8 @@ use Rattle.docs_core.specs.Replays.{IsPlayed, Replays}
 inside : {A : Type 0} (x y : A) → Some x ≡ Some y → x ≡ y
 inside {A} x y is = ap (λ (o : Option A). unwrap_or o x) is
 
-same_some : {A : Type 0} (xs ys : List A) → map Some xs ≡ map Some ys → xs ≡ ys
+-- lists whose values are the same are one
+pub same_some : {A : Type 0} (xs ys : List A) → map Some xs ≡ map Some ys → xs ≡ ys
 same_some [] [] is = refl
 same_some [] (y ∷ ys) is = cc
 same_some (x ∷ xs) [] is = cc
@@ -55,6 +56,14 @@ pub read_is : {X : Type 0} (checks : Data → List Check) (Is : Data → X → T
 read_is checks Is bytes d x json reads =
     let same : reads.0 ≡ d = inside reads.0 d (sym reads.1.1 ∙ json.1) in
     subst (λ e. Is e x) same reads.3
+
+-- and they pass the tests
+pub read_passes : {X : Type 0} (checks : Data → List Check) (Is : Data → X → Type 0)
+    (bytes : List ℕ) (d : Data) (x : X) → AreJson bytes d → Reads checks Is bytes x
+    → AllPass (checks d)
+read_passes checks Is bytes d x json reads =
+    let same : reads.0 ≡ d = inside reads.0 d (sym reads.1.1 ∙ json.1) in
+    subst (λ e. AllPass (checks e)) same reads.2
 
 site_is : (d : Data) (s t : SiteState) → IsSiteDocument d s → IsSiteDocument d t → s ≡ t
 site_is d s t p q =

@@ -11,6 +11,7 @@ pub mod LooksUp
 pub mod Made
 pub mod Missing
 pub mod OldRows
+pub mod OldSites
 pub mod Outdated
 pub mod Replays
 pub mod Revised

@@ -1,0 +1,5 @@
+use Rattle.docs_core.proofs.OldSitesLemmas.{sync_migrated}
+use Rattle.docs_core.proofs.migration.a_sync_gives_the_migrated_join.Goals as goal
+
+pub returns : goal.returns
+returns c = sync_migrated

@@ -1,0 +1,34 @@
+-- Data of version 1 whose numbers fit and whose keys rise: times of 64 bits, sites and counts of
+-- 32. Own rule.
+use Rattle.std.specs.Prelude.{◌≡◌, ℕ, ◌<◌, ◌^◌, All, Some, ⊤}
+use Rattle.std.specs.FinMap.Entries.{find}
+use Rattle.cell_core.specs.Maps.{IsMap}
+use Rattle.cell_core.specs.Migration.{IsOldStamp, OldStamp}
+use Rattle.cata_core.specs.Entries.{EntryKey, key_cmp}
+use Rattle.cata_core.specs.Migration.{IsOldMap, OldDelta, OldSite, OldStamps, OldSummary}
+use Rattle.cata_core.specs.OldSteps.{OldEdit, OldStep}
+use Rattle.docs_core.specs.OldRows.{OldScript}
+
+pub record AreOldStamps (told : OldStamps) : Type 0 where
+  pub map : IsMap key_cmp told
+  pub stamps : (k : EntryKey) (s : OldStamp) → find key_cmp k told ≡ Some s → IsOldStamp s
+
+pub record IsOldSite (site : OldSite) : Type 0 where
+  pub number_fits : site.number < 2 ^ 32
+  pub cells : IsOldMap site.cells
+
+pub record IsOldDelta (delta : OldDelta) : Type 0 where
+  pub addressee_fits : delta.addressee < 2 ^ 32
+  pub cells : IsOldMap delta.cells
+
+pub record IsOldSummary (summary : OldSummary) : Type 0 where
+  pub owner_fits : summary.owner < 2 ^ 32
+  pub stamps : AreOldStamps summary.stamps
+
+-- an edit has such a stamp
+abbrev pub IsOldStep : OldStep → Type 0
+IsOldStep (OldEdit site edit) = IsOldStamp edit.1.stamp
+IsOldStep _ = ⊤
+
+abbrev pub IsOldScript : OldScript → Type 0
+IsOldScript script = All IsOldStep script.steps
