@@ -255,7 +255,7 @@ impl From<PlayFault> for DocFault {
     }
 }
 
-// The row after a refusal's text, where it names one.
+/// The row after a refusal's text, where it names one.
 #[derive(Clone, Copy)]
 struct InRow(Option<usize>);
 
@@ -268,7 +268,7 @@ impl fmt::Display for InRow {
     }
 }
 
-// The end of a refusal's line: the input document, where it names one.
+/// The end of a refusal's line: the input document, where it names one.
 #[derive(Clone, Copy)]
 struct OfDocument(u8);
 

@@ -44,7 +44,8 @@ pub(crate) fn labels_of(alloc: Global, rows: Rows) -> Result<LangMaps, DocCause>
     Ok(maps)
 }
 
-// Appends the labels of a row to those of smaller messages; a name that begins with "@" is skipped.
+/// Appends the labels of a row to those of smaller messages; a name that begins with "@" is
+/// skipped.
 fn add_row(
     alloc: Global,
     maps: &mut LangMaps,
@@ -63,7 +64,7 @@ fn add_row(
     add_message(alloc, maps, row, name, keys)
 }
 
-// Whether the name begins with "@".
+/// Whether the name begins with "@".
 fn is_marked(name: &String) -> bool
     ensures { result ≡ is_marked (string_bytes name.now) }
 {
@@ -73,7 +74,7 @@ fn is_marked(name: &String) -> bool
     }
 }
 
-// Appends the labels of a message to those of smaller messages.
+/// Appends the labels of a message to those of smaller messages.
 fn add_message(
     alloc: Global,
     maps: &mut LangMaps,
@@ -97,7 +98,7 @@ fn add_message(
     Ok(())
 }
 
-// The id that a name is.
+/// The id that a name is.
 fn id_of_name(row: usize, name: String) -> Result<MessageId, DocCause>
     ensures { MatchResult result (λ id. IsMessageId (string_bytes name) × (id ≡ string_bytes name))
         (λ e. (¬ (IsMessageId (string_bytes name))) × (e ≡ Field row (Cell IdRefused))) }
@@ -111,7 +112,7 @@ fn id_of_name(row: usize, name: String) -> Result<MessageId, DocCause>
     }
 }
 
-// The languages of a language map, each with its label where it has one.
+/// The languages of a language map, each with its label where it has one.
 fn languages_of(
     alloc: Global,
     row: usize,
@@ -128,7 +129,7 @@ fn languages_of(
     Ok(found)
 }
 
-// Appends a key of a language map.
+/// Appends a key of a language map.
 fn add_key(
     alloc: Global,
     found: &mut BTreeMap<Lang, Option<Label>>,
@@ -156,7 +157,7 @@ fn add_key(
     Ok(())
 }
 
-// The label of some strings; none where there is no string.
+/// The label of some strings; none where there is no string.
 fn label_of(row: usize, strings: Vec<String>) -> Result<Option<Label>, DocCause>
     ensures { let texts = map string_bytes strings.items in MatchResult result
         (λ label. IsLabelOrNone texts × IsOneLabel texts label)
@@ -171,7 +172,7 @@ fn label_of(row: usize, strings: Vec<String>) -> Result<Option<Label>, DocCause>
     }
 }
 
-// Appends the labels that were found to those of smaller messages.
+/// Appends the labels that were found to those of smaller messages.
 fn push_languages(
     alloc: Global,
     maps: &mut LangMaps,

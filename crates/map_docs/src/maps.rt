@@ -54,7 +54,7 @@ impl LangMaps {
         }
     }
 
-    // No label yet, with room for this many.
+    /// No label yet, with room for this many.
     pub(crate) fn with_capacity(alloc: Global, count: usize) -> Result<LangMaps, AllocError>
         ensures { IfOk result (λ maps. maps ≡ []) }
     {

@@ -26,7 +26,7 @@ use json_docs::{
 use std::alloc::{AllocError, Global};
 use std::collections::BTreeMap;
 
-// How deep the value of a key nests at most.
+/// How deep the value of a key nests at most.
 const KEY_DEPTH: usize = MOST_DEPTH - 2;
 
 /// The rows of the document in byte order of their names, or none where it is no object. Of two
@@ -48,7 +48,7 @@ pub(crate) fn read_rows(alloc: Global, text: &str) -> Result<Option<Rows>, DocCa
     }
 }
 
-// The rows of the object whose brace was read, where nothing follows it.
+/// The rows of the object whose brace was read, where nothing follows it.
 fn read_rest(alloc: Global, reader: &mut Reader<'_>) -> Result<Rows, DocCause>
     requires { are_in_range reader.old ≡ true }
     ensures { MatchResult result
@@ -64,15 +64,15 @@ fn read_rest(alloc: Global, reader: &mut Reader<'_>) -> Result<Rows, DocCause>
 
 /// The values of an object's members.
 trait MemberValue: Sized {
-    // What a contract sees of it.
+    /// What a contract sees of it.
     ghost Plain: { Type 0 };
 
     ghost seen_of: { Self → Plain };
 
-    // What it is of a value.
+    /// What it is of a value.
     ghost in_data: { Data → Plain };
 
-    // How deep it nests at most.
+    /// How deep it nests at most.
     ghost most_depth: { ℕ };
 
     /// Reads the next value.
@@ -85,7 +85,7 @@ trait MemberValue: Sized {
         ensures shorter { OnOk result (length reader.new < length reader.old) };
 }
 
-// Reads the members of an object whose brace was read, in byte order of their names.
+/// Reads the members of an object whose brace was read, in byte order of their names.
 fn read_members<V: MemberValue + Drop>(
     alloc: Global,
     reader: &mut Reader<'_>,
@@ -135,7 +135,7 @@ impl MemberValue for Strings {
     }
 }
 
-// Reads the value of a row: the keys of an object. What is no object is skipped.
+/// Reads the value of a row: the keys of an object. What is no object is skipped.
 fn read_keys(alloc: Global, reader: &mut Reader<'_>) -> Result<Option<Keys>, DocCause>
     requires { are_in_range reader.old ≡ true }
     ensures read { MatchResult result
@@ -166,7 +166,7 @@ fn read_keys(alloc: Global, reader: &mut Reader<'_>) -> Result<Option<Keys>, Doc
     }
 }
 
-// The members as a list.
+/// The members as a list.
 fn keys_of(alloc: Global, members: BTreeMap<String, Strings>) -> Result<Keys, AllocError>
     ensures { IfOk result (λ keys. keys.items ≡ members.entries) }
 {
@@ -177,7 +177,7 @@ fn keys_of(alloc: Global, members: BTreeMap<String, Strings>) -> Result<Keys, Al
     Ok(keys)
 }
 
-// Skips the items of an array whose opening bracket was read.
+/// Skips the items of an array whose opening bracket was read.
 fn pass_items(reader: &mut Reader<'_>) -> Result<(), DocCause>
     requires { are_in_range reader.old ≡ true }
     ensures read { MatchResult result
@@ -195,7 +195,7 @@ fn pass_items(reader: &mut Reader<'_>) -> Result<(), DocCause>
     Ok(())
 }
 
-// The strings of a value: a string, null, or an array of strings and nulls.
+/// The strings of a value: a string, null, or an array of strings and nulls.
 fn strings_of(alloc: Global, value: &Value<'_>) -> Result<Strings, AllocError>
     requires { IsRead (value_view value.now) }
     ensures { IfOk result (λ strings. strings_seen strings ≡ strings_in (seen value.now)) }
@@ -212,7 +212,7 @@ fn strings_of(alloc: Global, value: &Value<'_>) -> Result<Strings, AllocError>
     }
 }
 
-// The text alone, with room for no other: so the label that is made of it holds it in place.
+/// The text alone, with room for no other: so the label that is made of it holds it in place.
 fn one_string(alloc: Global, text: &str) -> Result<Vec<String>, AllocError>
     ensures { IfOk result (λ strings. map string_bytes strings.items ≡ text.now ∷ []) }
 {
@@ -221,7 +221,7 @@ fn one_string(alloc: Global, text: &str) -> Result<Vec<String>, AllocError>
     Ok(strings)
 }
 
-// The strings of an array without its nulls, where it has nothing else.
+/// The strings of an array without its nulls, where it has nothing else.
 fn strings_of_items(alloc: Global, items: &[Value<'_>]) -> Result<Strings, AllocError>
     requires { AreRead items.now }
     ensures { IfOk result (λ strings. strings_seen strings ≡ strings_of (map seen items.now)) }
@@ -235,7 +235,7 @@ fn strings_of_items(alloc: Global, items: &[Value<'_>]) -> Result<Strings, Alloc
     Ok(Some(strings))
 }
 
-// Adds the text of an item, where it is one, and says whether it is a string or null.
+/// Adds the text of an item, where it is one, and says whether it is a string or null.
 fn add_string(
     alloc: Global,
     strings: &mut Vec<String>,

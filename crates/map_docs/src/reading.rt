@@ -39,7 +39,7 @@ pub fn langmaps_of_document(alloc: Global, document: u8, bytes: &[u8]) -> Result
     }
 }
 
-// The labels of a document, or why it is refused.
+/// The labels of a document, or why it is refused.
 fn langmaps_in(alloc: Global, bytes: &[u8]) -> Result<LangMaps, DocCause>
     ensures { MatchResult result (AreLangMaps bytes.now) (OrMemory NoMemory (RefusesLangMaps bytes.now)) }
 {

@@ -58,7 +58,7 @@ pub fn close_labels(mut draft: Writer, current: Option<&MessageId>) -> Result<Do
     finish(draft)
 }
 
-// Closes the current message and the outer object.
+/// Closes the current message and the outer object.
 fn close_objects(out: &mut Writer, current: Option<&MessageId>) -> Result<(), AllocError>
     ensures { OnOk result (Adds out.old out.new (labels_tokens (option_map (λ id. id.now) current.entry) [])) }
 {
@@ -84,7 +84,7 @@ pub fn write_label(
     write_language(out, label.texts())
 }
 
-// Closes the current message and opens this one, unless they are the same.
+/// Closes the current message and opens this one, unless they are the same.
 fn open_message(
     out: &mut Writer,
     current: Option<&MessageId>,
@@ -104,7 +104,7 @@ fn open_message(
     out.begin_object()
 }
 
-// Adds the texts of a label: one as a string, several as an array.
+/// Adds the texts of a label: one as a string, several as an array.
 fn write_language(out: &mut Writer, texts: &[String]) -> Result<(), AllocError>
     ensures { OnOk result (Adds out.old out.new (value_tokens (language_value (texts_of texts.now)))) }
 {

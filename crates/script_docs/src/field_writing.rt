@@ -12,8 +12,8 @@ use std::alloc::{AllocError, Global};
 /// The weight of an item that is written without one.
 const FULL_WEIGHT: u16 = 1000;
 
-/// The items with a comma between each two, if that reads as the list under the scheme; none where no
-/// field does.
+/// The items with a comma between each two, if that reads as the list under the scheme; none where
+/// no field does.
 ///
 /// A list does not say under which scheme it was read: so its field is read back.
 pub fn field_of(
@@ -29,7 +29,7 @@ pub fn field_of(
     if same { Ok(Some(field)) } else { Ok(None) }
 }
 
-// Whether the field reads as the list.
+/// Whether the field reads as the list.
 fn reads_as(
     alloc: Global,
     scheme: Scheme,
@@ -45,7 +45,7 @@ fn reads_as(
     }
 }
 
-// A field that is refused reads as no list.
+/// A field that is refused reads as no list.
 fn no_list(fault: NegoFault) -> Result<bool, AllocError>
     ensures { IfOk result (λ same. (same ≡ false) × (fault ≢ NoMemory)) }
 {
@@ -55,7 +55,7 @@ fn no_list(fault: NegoFault) -> Result<bool, AllocError>
     }
 }
 
-// The items with commas between them.
+/// The items with commas between them.
 fn joined_items(alloc: Global, items: &[Item]) -> Result<String, AllocError>
     ensures { IfOk result (λ text. string_bytes text ≡ field_text items.now) }
 {
@@ -68,7 +68,7 @@ fn joined_items(alloc: Global, items: &[Item]) -> Result<String, AllocError>
     Ok(text)
 }
 
-// Adds the items, each after a comma.
+/// Adds the items, each after a comma.
 fn push_others(text: &mut String, items: &[Item]) -> Result<(), AllocError>
     ensures { OnOk result (string_bytes text.new
         ≡ string_bytes text.old ++ flat_map (λ i. (44 ∷ []) ++ item_text i) items.now) }
@@ -80,7 +80,7 @@ fn push_others(text: &mut String, items: &[Item]) -> Result<(), AllocError>
     Ok(())
 }
 
-// Adds the range, and its weight if that is not full.
+/// Adds the range, and its weight if that is not full.
 fn push_item(text: &mut String, item: &Item) -> Result<(), AllocError>
     ensures { OnOk result (string_bytes text.new ≡ string_bytes text.old ++ item_text item.now) }
 {
@@ -88,7 +88,7 @@ fn push_item(text: &mut String, item: &Item) -> Result<(), AllocError>
     push_weight(text, item.weight())
 }
 
-// Adds the weight, unless it is full.
+/// Adds the weight, unless it is full.
 fn push_weight(text: &mut String, weight: u16) -> Result<(), AllocError>
     requires { weight ≤ 1000 }
     ensures { OnOk result (string_bytes text.new ≡ string_bytes text.old ++ weight_text weight) }
@@ -100,7 +100,7 @@ fn push_weight(text: &mut String, weight: u16) -> Result<(), AllocError>
     push_fraction(text, weight)
 }
 
-// Writes the fraction of a weight below 1000, in thousandths.
+/// Writes the fraction of a weight below 1000, in thousandths.
 fn push_fraction(text: &mut String, weight: u16) -> Result<(), AllocError>
     requires { weight < 1000 }
     ensures { OnOk result (string_bytes text.new ≡ string_bytes text.old ++ fraction_text weight) }
@@ -113,7 +113,7 @@ fn push_fraction(text: &mut String, weight: u16) -> Result<(), AllocError>
     push_tens(text, weight % 100)
 }
 
-// Adds the digits after the first.
+/// Adds the digits after the first.
 fn push_tens(text: &mut String, rest: u16) -> Result<(), AllocError>
     requires { rest < 100 }
     ensures { OnOk result (string_bytes text.new ≡ string_bytes text.old ++ tens_text rest) }
@@ -125,7 +125,7 @@ fn push_tens(text: &mut String, rest: u16) -> Result<(), AllocError>
     push_ones(text, rest % 10)
 }
 
-// Adds the digit after the second.
+/// Adds the digit after the second.
 fn push_ones(text: &mut String, rest: u16) -> Result<(), AllocError>
     requires { rest < 10 }
     ensures { OnOk result (string_bytes text.new ≡ string_bytes text.old ++ ones_text rest) }
@@ -136,7 +136,7 @@ fn push_ones(text: &mut String, rest: u16) -> Result<(), AllocError>
     push_digit(text, rest)
 }
 
-// Adds a digit.
+/// Adds a digit.
 fn push_digit(text: &mut String, digit: u16) -> Result<(), AllocError>
     requires { digit < 10 }
     ensures { OnOk result (string_bytes text.new ≡ string_bytes text.old ++ (48 + digit) ∷ []) }

@@ -37,7 +37,7 @@ pub fn read_script(alloc: Global, bytes: &[u8]) -> Result<Script, DocFault>
     }
 }
 
-// The script of a document, or why it is refused.
+/// The script of a document, or why it is refused.
 fn script_from(alloc: Global, bytes: &[u8]) -> Result<Script, DocCause>
     ensures { MatchResult result (ReadsAsScript bytes.now) (OrMemory NoMemory (RefusesScript bytes.now)) }
 {
@@ -48,7 +48,7 @@ fn script_from(alloc: Global, bytes: &[u8]) -> Result<Script, DocCause>
     }
 }
 
-// Reads the steps, and answers how many sites there are.
+/// Reads the steps, and answers how many sites there are.
 fn read_steps(alloc: Global, bytes: &[u8], steps: &mut Steps) -> Result<usize, DocCause>
     ensures { MatchResult result
         (λ sites. (d : Data) × AreJson bytes.now d × AllPass (script_checks d) × IsSiteCount sites × (sites_in (subject_data kind.Script d) ≡ Some sites)
@@ -69,7 +69,7 @@ fn read_steps(alloc: Global, bytes: &[u8], steps: &mut Steps) -> Result<usize, D
     }
 }
 
-// How many sites there are.
+/// How many sites there are.
 fn site_count(subject: Subject) -> Result<usize, DocCause>
     ensures { (d : Data) → IsSubject subject d → MatchResult result
         (λ sites. IsSiteCount sites × (sites_in d ≡ Some sites))
@@ -83,7 +83,7 @@ fn site_count(subject: Subject) -> Result<usize, DocCause>
     }
 }
 
-// The number of sites, where a script may have as many.
+/// The number of sites, where a script may have as many.
 fn count_of(number: u64) -> Result<usize, DocCause>
     ensures { MatchResult result
         (λ sites. IsSiteCount sites × (count_of number ≡ Some sites))

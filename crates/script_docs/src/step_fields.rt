@@ -61,7 +61,7 @@ pub fn read_step(alloc: Global, place: usize, row: StepRow<'_, '_>) -> Result<St
     }
 }
 
-// The fields of an edit.
+/// The fields of an edit.
 fn read_edit(
     alloc: Global,
     place: usize,
@@ -80,7 +80,7 @@ fn read_edit(
     })
 }
 
-// The fields of a filter.
+/// The fields of a filter.
 fn read_filter(
     alloc: Global,
     place: usize,
@@ -103,7 +103,7 @@ fn read_filter(
     })
 }
 
-// The fields of a lookup.
+/// The fields of a lookup.
 fn read_lookup(
     alloc: Global,
     place: usize,

@@ -60,7 +60,7 @@ pub fn write_step(
     }
 }
 
-// Adds the row of an edit.
+/// Adds the row of an edit.
 fn write_edit(out: &mut Writer, place: usize, site: usize, edit: &Edit) -> Result<(), DocCause>
     ensures ok { OnOk result (WritesStep (EditStep site edit.now) out.old out.new) }
     ensures err { IfErr result (RefusesStep place (EditStep site edit.now)) }
@@ -72,7 +72,7 @@ fn write_edit(out: &mut Writer, place: usize, site: usize, edit: &Edit) -> Resul
     Ok(())
 }
 
-// Adds the row of a merge.
+/// Adds the row of a merge.
 fn write_merge(out: &mut Writer, place: usize, into: usize, source: usize) -> Result<(), DocCause>
     ensures ok { OnOk result (WritesStep (Merge into source) out.old out.new) }
     ensures err { IfErr result (RefusesStep place (Merge into source)) }
@@ -80,7 +80,7 @@ fn write_merge(out: &mut Writer, place: usize, into: usize, source: usize) -> Re
     write_pair(out, place, "merge", into, source)
 }
 
-// Adds the row of a filter.
+/// Adds the row of a filter.
 fn write_filter(
     alloc: Global,
     out: &mut Writer,
@@ -101,7 +101,7 @@ fn write_filter(
     Ok(())
 }
 
-// Adds the row of a lookup.
+/// Adds the row of a lookup.
 fn write_lookup(
     alloc: Global,
     out: &mut Writer,
@@ -122,7 +122,7 @@ fn write_lookup(
     Ok(())
 }
 
-// Adds the row of a question for all cells.
+/// Adds the row of a question for all cells.
 fn write_cells(out: &mut Writer, place: usize, site: usize) -> Result<(), DocCause>
     ensures ok { OnOk result (WritesStep (AskCells site) out.old out.new) }
     ensures err { IfErr result (RefusesStep place (AskCells site)) }
@@ -130,7 +130,7 @@ fn write_cells(out: &mut Writer, place: usize, site: usize) -> Result<(), DocCau
     write_single(out, place, "cells", site)
 }
 
-// Adds the row of a told summary.
+/// Adds the row of a told summary.
 fn write_tell(out: &mut Writer, place: usize, site: usize) -> Result<(), DocCause>
     ensures ok { OnOk result (WritesStep (Tell site) out.old out.new) }
     ensures err { IfErr result (RefusesStep place (Tell site)) }
@@ -138,7 +138,7 @@ fn write_tell(out: &mut Writer, place: usize, site: usize) -> Result<(), DocCaus
     write_single(out, place, "tell", site)
 }
 
-// Adds the row of a post.
+/// Adds the row of a post.
 fn write_post(out: &mut Writer, place: usize, site: usize, told: usize) -> Result<(), DocCause>
     ensures ok { OnOk result (WritesStep (Post site told) out.old out.new) }
     ensures err { IfErr result (RefusesStep place (Post site told)) }
@@ -146,7 +146,7 @@ fn write_post(out: &mut Writer, place: usize, site: usize, told: usize) -> Resul
     write_pair(out, place, "post", site, told)
 }
 
-// Adds the row of a delivery.
+/// Adds the row of a delivery.
 fn write_deliver(out: &mut Writer, place: usize, post: usize) -> Result<(), DocCause>
     ensures ok { OnOk result (WritesStep (Deliver post) out.old out.new) }
     ensures err { IfErr result (RefusesStep place (Deliver post)) }
@@ -154,7 +154,7 @@ fn write_deliver(out: &mut Writer, place: usize, post: usize) -> Result<(), DocC
     write_single(out, place, "deliver", post)
 }
 
-// Adds a step of one number.
+/// Adds a step of one number.
 fn write_single(out: &mut Writer, place: usize, word: &str, first: usize) -> Result<(), DocCause>
     ensures ok { OnOk result (FitsMember first × Adds out.old out.new (value_tokens (single_value word.now first))) }
     ensures err { IfErr result (RefusesRow place (FitsMember first)) }
@@ -166,7 +166,7 @@ fn write_single(out: &mut Writer, place: usize, word: &str, first: usize) -> Res
     Ok(())
 }
 
-// Adds a step of two numbers.
+/// Adds a step of two numbers.
 fn write_pair(
     out: &mut Writer,
     place: usize,
@@ -187,7 +187,7 @@ fn write_pair(
     Ok(())
 }
 
-// The number, where it is of 32 bits.
+/// The number, where it is of 32 bits.
 fn number_of(place: usize, number: usize) -> Result<u64, DocCause>
     ensures ok { IfOk result (λ n. FitsMember number × (n ≡ number)) }
     ensures err { IfErr result (λ cause. (¬ (FitsMember number)) × (cause ≡ Shape (spot.Row place))) }
@@ -199,7 +199,7 @@ fn number_of(place: usize, number: usize) -> Result<u64, DocCause>
     }
 }
 
-// No document has the step at this place.
+/// No document has the step at this place.
 fn no_row(place: usize) -> DocCause
     ensures { result ≡ Shape (spot.Row place) }
 {
@@ -208,7 +208,7 @@ fn no_row(place: usize) -> DocCause
     }
 }
 
-// Adds `[WORD, NUMBER]`.
+/// Adds `[WORD, NUMBER]`.
 fn single_row(out: &mut Writer, word: &str, number: u64) -> Result<(), AllocError>
     ensures { OnOk result (Adds out.old out.new (value_tokens (single_value word.now number))) }
 {
@@ -218,7 +218,7 @@ fn single_row(out: &mut Writer, word: &str, number: u64) -> Result<(), AllocErro
     out.end_array()
 }
 
-// Adds `[WORD, FIRST, SECOND]`.
+/// Adds `[WORD, FIRST, SECOND]`.
 fn pair_row(out: &mut Writer, word: &str, first: u64, second: u64) -> Result<(), AllocError>
     ensures { OnOk result (Adds out.old out.new (value_tokens (pair_value word.now first second))) }
 {
@@ -229,7 +229,7 @@ fn pair_row(out: &mut Writer, word: &str, first: u64, second: u64) -> Result<(),
     out.end_array()
 }
 
-// Adds `["edit", SITE, CELL]`, with the row of the cell.
+/// Adds `["edit", SITE, CELL]`, with the row of the cell.
 fn edit_row(out: &mut Writer, site: u64, edit: &Edit) -> Result<(), AllocError>
     ensures tokens { OnOk result (Adds out.old out.new (value_tokens (edit_value site (row_of edit.now) edit.now.1.label))) }
     ensures kept { OnOk result (IsKeptCell edit.now) }
@@ -241,7 +241,7 @@ fn edit_row(out: &mut Writer, site: u64, edit: &Edit) -> Result<(), AllocError>
     out.end_array()
 }
 
-// Adds `["filter", SITE, ID, SCHEME, FIELD]`.
+/// Adds `["filter", SITE, ID, SCHEME, FIELD]`.
 fn filter_row(
     out: &mut Writer,
     site: u64,
@@ -261,7 +261,7 @@ fn filter_row(
     out.end_array()
 }
 
-// Adds `["lookup", SITE, ID, FIELD, DEFAULT]`; no default is null.
+/// Adds `["lookup", SITE, ID, FIELD, DEFAULT]`; no default is null.
 fn lookup_row(
     out: &mut Writer,
     site: u64,
@@ -285,7 +285,7 @@ fn lookup_row(
     out.end_array()
 }
 
-// The name of a scheme.
+/// The name of a scheme.
 fn scheme_text(scheme: Scheme) -> &'static str
     ensures { result.now ≡ scheme_text scheme }
 {

@@ -75,7 +75,7 @@ pub fn step_of<'v, 't>(version: Version, value: &'v Value<'t>) -> Option<StepRow
     step_after(version, word, parts)
 }
 
-// What the word says of the parts after it.
+/// What the word says of the parts after it.
 fn step_after<'v, 't>(
     version: Version,
     word: Word,
@@ -112,7 +112,7 @@ fn step_after<'v, 't>(
     }
 }
 
-// The edit of these parts, where they have its shape.
+/// The edit of these parts, where they have its shape.
 fn edit_of<'v, 't>(version: Version, parts: &'v [Value<'t>]) -> Option<StepRow<'v, 't>>
     requires { AreRead parts.now }
     ensures step { option_map text_of result ≡ edit_of version (map seen parts.now) }
@@ -126,7 +126,7 @@ fn edit_of<'v, 't>(version: Version, parts: &'v [Value<'t>]) -> Option<StepRow<'
     Some(StepRow::Edit { site, cell })
 }
 
-// The filter of these parts, where they have its shape.
+/// The filter of these parts, where they have its shape.
 fn filter_of<'v, 't>(parts: &'v [Value<'t>]) -> Option<StepRow<'v, 't>>
     ensures step { option_map text_of result ≡ filter_of (map seen parts.now) }
     ensures texts { IfSome result HasTexts }
@@ -142,7 +142,7 @@ fn filter_of<'v, 't>(parts: &'v [Value<'t>]) -> Option<StepRow<'v, 't>>
     })
 }
 
-// The lookup of these parts, where they have its shape.
+/// The lookup of these parts, where they have its shape.
 fn lookup_of<'v, 't>(parts: &'v [Value<'t>]) -> Option<StepRow<'v, 't>>
     requires { AreRead parts.now }
     ensures step { option_map text_of result ≡ lookup_of (map seen parts.now) }
@@ -159,7 +159,7 @@ fn lookup_of<'v, 't>(parts: &'v [Value<'t>]) -> Option<StepRow<'v, 't>>
     })
 }
 
-// The text of a default; none for null.
+/// The text of a default; none for null.
 fn default_of<'t>(value: &Value<'t>) -> Option<Option<&'t str>>
     requires { IsRead (value_view value.now) }
     ensures { option_map (λ o. option_map (λ s. s.now) o) result ≡ default_in (seen value.now) }
@@ -171,7 +171,7 @@ fn default_of<'t>(value: &Value<'t>) -> Option<Option<&'t str>>
     Some(Some(text))
 }
 
-// The number, where it is the only part.
+/// The number, where it is the only part.
 fn one_of(parts: &[Value<'_>]) -> Option<u32>
     ensures { (step : ℕ → StepText) → option_map step result ≡ one_of step (map seen parts.now) }
 {
@@ -181,7 +181,7 @@ fn one_of(parts: &[Value<'_>]) -> Option<u32>
     u32_of(number)
 }
 
-// The two numbers, where they are the only parts.
+/// The two numbers, where they are the only parts.
 fn two_of(parts: &[Value<'_>]) -> Option<(u32, u32)>
     ensures { (step : ℕ → ℕ → StepText) → option_map (λ p. step p.0 p.1) result ≡ two_of step (map seen parts.now) }
 {
@@ -191,7 +191,7 @@ fn two_of(parts: &[Value<'_>]) -> Option<(u32, u32)>
     Some((u32_of(first)?, u32_of(second)?))
 }
 
-// The word that the text is, where it is one.
+/// The word that the text is, where it is one.
 fn word_of(text: &str) -> Option<Word>
     ensures { result ≡ word_of text.now }
 {
@@ -216,7 +216,7 @@ fn word_of(text: &str) -> Option<Word>
     }
 }
 
-// The scheme that the text names, where it names one.
+/// The scheme that the text names, where it names one.
 fn scheme_of(text: &str) -> Option<Scheme>
     ensures { result ≡ scheme_of text.now }
 {

@@ -15,8 +15,8 @@ use json_docs::{Doc, DocCause, DocFault};
 use site_docs::finish;
 use std::alloc::{AllocError, Global};
 
-/// The document of a script, version 2: a row for each step, and a priority list as its items with a
-/// comma between each two. It reads as this script.
+/// The document of a script, version 2: a row for each step, and a priority list as its items with
+/// a comma between each two. It reads as this script.
 ///
 /// Refused is the first step that no document can have, in its row (20): the number of a site, a
 /// told summary or a post is over 32 bits, or no field under the scheme of a question gives its
@@ -31,7 +31,7 @@ pub fn write_script(alloc: Global, script: &Script) -> Result<Doc, DocFault>
     }
 }
 
-// The document of a script, or the refusal of its first step that no document can have.
+/// The document of a script, or the refusal of its first step that no document can have.
 fn script_document(alloc: Global, script: &Script) -> Result<Doc, DocCause>
     ensures ok { IfOk result (IsScriptText script.now) }
     ensures err { IfErr result (RefusesWriting script.now.steps) }
@@ -41,7 +41,7 @@ fn script_document(alloc: Global, script: &Script) -> Result<Doc, DocCause>
     Ok(doc)
 }
 
-// A script's document with all its steps, not yet closed.
+/// A script's document with all its steps, not yet closed.
 fn steps_draft(alloc: Global, script: &Script) -> Result<Writer, DocCause>
     ensures ok { IfOk result (λ draft. HasRows draft script.now.sites script.now.steps) }
     ensures count { IfOk result (λ _. IsSiteCount script.now.sites) }
@@ -55,7 +55,7 @@ fn steps_draft(alloc: Global, script: &Script) -> Result<Writer, DocCause>
     Ok(draft)
 }
 
-// Opens a script's document, with no row yet.
+/// Opens a script's document, with no row yet.
 fn open_steps(alloc: Global, sites: usize) -> Result<Writer, AllocError>
     ensures { IfOk result (λ draft. HoldsSteps draft sites []) }
 {
@@ -70,7 +70,7 @@ fn open_steps(alloc: Global, sites: usize) -> Result<Writer, AllocError>
     Ok(draft)
 }
 
-// Closes a script's document after its rows.
+/// Closes a script's document after its rows.
 fn close_steps(mut draft: Writer) -> Result<Doc, AllocError>
     ensures text { (sites : ℕ) (rows : List Data) → HoldsSteps draft sites rows
         → IfOk result (λ doc. doc ≡ text (script_value sites rows)) }
@@ -80,7 +80,7 @@ fn close_steps(mut draft: Writer) -> Result<Doc, AllocError>
     finish(draft)
 }
 
-// Closes the rows, and adds the version.
+/// Closes the rows, and adds the version.
 fn end_steps(draft: &mut Writer) -> Result<(), AllocError>
     ensures { OnOk result (Adds draft.old draft.new (end_array ∷ version_tokens)) }
 {

@@ -41,7 +41,7 @@ pub fn ask_document(
     Ok(answer)
 }
 
-// The lines of the answer, and whether anything was found.
+/// The lines of the answer, and whether anything was found.
 fn answer_of(
     alloc: Global,
     catalogue: &Catalogue,
@@ -60,7 +60,7 @@ fn answer_of(
     }
 }
 
-// The lines of a filter, and whether they have a label.
+/// The lines of a filter, and whether they have a label.
 fn filter_answer(
     alloc: Global,
     catalogue: &Catalogue,
@@ -75,7 +75,7 @@ fn filter_answer(
     Ok((lines, entries.len() != 0))
 }
 
-// Whether a lookup found a label.
+/// Whether a lookup found a label.
 fn is_found(reply: &LentReply<'_>) -> bool
     ensures { result ≡ is_found (reply_of reply.now) }
 {

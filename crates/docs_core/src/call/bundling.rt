@@ -36,8 +36,8 @@ pub fn bundle_document(
     bundle_document_by(alloc, site, list, Widening::Off, default)
 }
 
-/// The same by a lookup that may be widened: then a range also finds the languages of a message that
-/// it matches, as `en` finds `en-us`.
+/// The same by a lookup that may be widened: then a range also finds the languages of a message
+/// that it matches, as `en` finds `en-us`.
 ///
 /// Refusals: a reader's with document 1. Out of memory (26) may come before.
 pub fn bundle_document_by(
@@ -72,8 +72,8 @@ pub fn write_bundle(
     write_bundle_by(alloc, catalogue, list, Widening::Off, default)
 }
 
-/// The same by a lookup that may be widened: what [`bundle_document_by`] gives for the document of a
-/// catalogue in memory.
+/// The same by a lookup that may be widened: what [`bundle_document_by`] gives for the document of
+/// a catalogue in memory.
 ///
 /// Out of memory is the only refusal (26).
 pub fn write_bundle_by(
@@ -100,7 +100,7 @@ pub fn write_bundle_by(
     Ok((doc, current.is_some()))
 }
 
-// The language that was answered, with its label.
+/// The language that was answered, with its label.
 fn answered(reply: LentReply<'_>) -> Option<(&Lang, &Label)>
     ensures { lent_pair result ≡ answered (reply_of reply.entry) }
 {

@@ -59,7 +59,7 @@ pub fn changes_lines(
     Ok((written.into_doc(), count != 0))
 }
 
-// How many keys changed; there is no memory for more than 128 bits count.
+/// How many keys changed; there is no memory for more than 128 bits count.
 fn change_count(before: &Catalogue, after: &Catalogue) -> Result<u128, AllocError>
     ensures { IfOk result (λ count. (changes : Changed) → AreChanges before.now after.now changes
         → count ≡ length changes) }
@@ -87,7 +87,7 @@ pub(crate) fn write_change(out: &mut Writer, change: &Change<'_>) -> Result<(), 
     out.end_array()
 }
 
-// Adds `[time, site, count, label]` of a cell, or null where there is none.
+/// Adds `[time, site, count, label]` of a cell, or null where there is none.
 fn write_side(out: &mut Writer, cell: Option<&Cell>) -> Result<(), AllocError>
     ensures { OnOk result (Adds out.old out.new (value_tokens (side_value
         (option_copied cell.entry)))) }
@@ -98,7 +98,7 @@ fn write_side(out: &mut Writer, cell: Option<&Cell>) -> Result<(), AllocError>
     }
 }
 
-// Adds `[time, site, count, label]` of a cell.
+/// Adds `[time, site, count, label]` of a cell.
 fn write_held(out: &mut Writer, cell: &Cell) -> Result<(), AllocError>
     ensures { OnOk result (Adds out.old out.new (value_tokens (side_value (Some cell.now)))) }
 {
@@ -108,7 +108,7 @@ fn write_held(out: &mut Writer, cell: &Cell) -> Result<(), AllocError>
     }
 }
 
-// Adds `[time, site, count, label]`; no label is null.
+/// Adds `[time, site, count, label]`; no label is null.
 fn write_stamped(out: &mut Writer, stamp: Stamp, label: Option<&[String]>) -> Result<(), AllocError>
     ensures { OnOk result (Adds out.old out.new (value_tokens (side_value (Some
         (record {

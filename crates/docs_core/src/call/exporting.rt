@@ -66,7 +66,7 @@ pub(crate) fn write_live(
     Ok((doc, current.is_some()))
 }
 
-// Whether the message is one of these.
+/// Whether the message is one of these.
 fn is_chosen(catalogue: &Catalogue, id: &MessageId, messages: Messages<'_>) -> bool
     ensures { result ≡ is_chosen messages.entry catalogue.now id.now }
 {
@@ -80,7 +80,7 @@ fn is_chosen(catalogue: &Catalogue, id: &MessageId, messages: Messages<'_>) -> b
     }
 }
 
-// Whether both are there, and the first is the lesser.
+/// Whether both are there, and the first is the lesser.
 fn is_before(time: Option<u64>, other: Option<u64>) -> bool
     ensures { result ≡ is_before time other }
 {
@@ -90,7 +90,7 @@ fn is_before(time: Option<u64>, other: Option<u64>) -> bool
     }
 }
 
-// The time of the live label of a message in a language.
+/// The time of the live label of a message in a language.
 fn live_time(catalogue: &Catalogue, id: &MessageId, lang: &Lang) -> Option<u64>
     ensures { result ≡ live_time (id.now, lang.now) catalogue.now }
 {

@@ -44,7 +44,7 @@ pub fn replay<R: Source, W: Sink>(
     write_out(writer, lines.bytes())
 }
 
-// The lines of the script that the source gives.
+/// The lines of the script that the source gives.
 fn read_and_play<R: Source>(alloc: Global, reader: &mut R) -> Result<Doc, DocFault>
     requires { R.failed reader.old ≡ false }
     ensures { MatchResult result
@@ -56,7 +56,7 @@ fn read_and_play<R: Source>(alloc: Global, reader: &mut R) -> Result<Doc, DocFau
     play_script(alloc, bytes)
 }
 
-// The lines of a script. The bytes are given back before it runs.
+/// The lines of a script. The bytes are given back before it runs.
 fn play_script(alloc: Global, bytes: Doc) -> Result<Doc, DocFault>
     ensures { MatchResult result (Replays bytes) (OrMemory no_memory (RefusesReplay bytes)) }
 {
@@ -66,14 +66,14 @@ fn play_script(alloc: Global, bytes: Doc) -> Result<Doc, DocFault>
     Ok(lines)
 }
 
-// The script of a document, whose bytes are given back.
+/// The script of a document, whose bytes are given back.
 fn script_in(alloc: Global, bytes: Doc) -> Result<Script, DocFault>
     ensures { MatchResult result (ReadsAsScript bytes) (OrMemory no_memory (IsOfDocument 1 (RefusesScript bytes))) }
 {
     read_script(alloc, bytes.bytes())
 }
 
-// The answers of the run of a script.
+/// The answers of the run of a script.
 fn answers_of(alloc: Global, script: &Script) -> Result<Answers, PlayFault>
     ensures { MatchResult result (IsPlayed script.now) (OrMemory NoMemory (RefusesRun script.now)) }
 {

@@ -21,7 +21,7 @@ pub fn status_line(alloc: Global, site: &Site) -> Result<Doc, AllocError>
     Ok(Doc::from(line))
 }
 
-// How many cells have a label.
+/// How many cells have a label.
 fn label_count(catalogue: &Catalogue) -> u128
     ensures { result ≡ count_by is_labelled catalogue.now }
 {

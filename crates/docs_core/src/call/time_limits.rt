@@ -96,7 +96,7 @@ pub fn first_row_ahead(cells: &Catalogue, not_after: u64) -> Option<usize>
     None
 }
 
-// The delta of the input document with this number, where its times are in the limit.
+/// The delta of the input document with this number, where its times are in the limit.
 fn delta_until(
     alloc: Global,
     document: u8,
@@ -111,7 +111,7 @@ fn delta_until(
     Ok(delta)
 }
 
-// Whether the times of the document's cells are in the limit, where there is one.
+/// Whether the times of the document's cells are in the limit, where there is one.
 fn check_times(document: u8, cells: &Catalogue, not_after: Option<u64>) -> Result<(), DocFault>
     requires { length cells.now < 2 ^ 64 }
     ensures ok { OnOk result (AreInTime not_after cells.now) }

@@ -92,7 +92,7 @@ pub(crate) struct Revised<'a> {
     new: Option<&'a Label>,
 }
 
-// The least key of both lists, and what is left of them.
+/// The least key of both lists, and what is left of them.
 fn first_revised<'a>(
     old: &'a [KeyedLabel],
     new: &'a [KeyedLabel],
@@ -117,14 +117,14 @@ fn first_revised<'a>(
     }
 }
 
-// The order of two keys.
+/// The order of two keys.
 fn compare(key: &KeyedLabel, other: &KeyedLabel) -> Ordering
     ensures { result ≡ key_cmp (key.now.id, key.now.lang) (other.now.id, other.now.lang) }
 {
     key.id.cmp(&other.id).then(key.lang.cmp(&other.lang))
 }
 
-// A label that was there alone.
+/// A label that was there alone.
 fn removed(was: &KeyedLabel) -> Revised<'_>
     ensures key { key_of result ≡ (was.now.id, was.now.lang) }
     ensures old { old_of result ≡ Some was.now.label }
@@ -137,7 +137,7 @@ fn removed(was: &KeyedLabel) -> Revised<'_>
     }
 }
 
-// A label that is there alone.
+/// A label that is there alone.
 fn added(is: &KeyedLabel) -> Revised<'_>
     ensures key { key_of result ≡ (is.now.id, is.now.lang) }
     ensures old { old_of result ≡ None }
@@ -150,7 +150,7 @@ fn added(is: &KeyedLabel) -> Revised<'_>
     }
 }
 
-// A label that was there and is there.
+/// A label that was there and is there.
 fn kept<'a>(was: &'a KeyedLabel, is: &'a KeyedLabel) -> Revised<'a>
     ensures key { key_of result ≡ (was.now.id, was.now.lang) }
     ensures old { old_of result ≡ Some was.now.label }
@@ -163,7 +163,7 @@ fn kept<'a>(was: &'a KeyedLabel, is: &'a KeyedLabel) -> Revised<'a>
     }
 }
 
-// Makes the change of a key, unless nothing was changed or the site has it already.
+/// Makes the change of a key, unless nothing was changed or the site has it already.
 fn revise(alloc: Global, site: &mut Site, now: u64, revised: &Revised<'_>) -> Result<(), CataFault>
     ensures name { OnOk result (site.new.name ≡ site.old.name) }
     ensures ok { OnOk result (IsRevised now site.old.name revised.now site.old.cells
@@ -184,7 +184,7 @@ fn revise(alloc: Global, site: &mut Site, now: u64, revised: &Revised<'_>) -> Re
     }
 }
 
-// Whether both have the same texts, or neither is there.
+/// Whether both have the same texts, or neither is there.
 fn are_equal(label: Option<&Label>, other: Option<&Label>) -> bool
     ensures { Decides result (option_map (λ l. l.now) label.entry ≡ option_map
         (λ l. l.now) other.entry) }

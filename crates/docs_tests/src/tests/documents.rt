@@ -39,7 +39,7 @@ const DELTA_CUT: &str =
 const TAKEN: &str =
     "{\"cells\":[[\"m\",\"en\",5,\"0000000001\",0,[\"a\"]]],\"kind\":\"site\",\"site\":\"0000000002\",\"version\":2}\n";
 
-// Three sites that hold the deletion which the third made.
+/// Three sites that hold the deletion which the third made.
 const FIRST_HELD: &str =
     "{\"cells\":[[\"m\",\"en\",7,\"0000000003\",0,null]],\"kind\":\"site\",\"site\":\"0000000001\",\"version\":2}\n";
 
@@ -78,7 +78,7 @@ const SUMMARY_AS_1: &str =
 const SPENT: &str =
     "{\"cells\":[[\"m\",\"en\",18446744073709551615,\"b\",0,null]],\"kind\":\"site\",\"site\":\"a\",\"version\":2}";
 
-// Two sites that clash.
+/// Two sites that clash.
 const ONE: &str =
     "{\"cells\":[[\"m\",\"en\",5,\"0000000001\",0,[\"one\"]]],\"kind\":\"site\",\"site\":\"0000000001\",\"version\":2}";
 

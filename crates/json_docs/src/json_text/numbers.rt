@@ -29,21 +29,21 @@ pub fn is_in_range(text: &str) -> bool
     }
 }
 
-// The unsigned whole number of 64 bits that a numeral without a minus is, where it is one.
+/// The unsigned whole number of 64 bits that a numeral without a minus is, where it is one.
 fn positive_whole(numeral: &Numeral<'_>) -> Option<u64>
     ensures { result ≡ option_and_then as_u64 (number_from false numeral.now) }
 {
     numeral.to_u64()
 }
 
-// Whether a numeral without a minus is read.
+/// Whether a numeral without a minus is read.
 fn is_positive_read(numeral: &Numeral<'_>) -> bool
     ensures { result ≡ is_some (number_from false numeral.now) }
 {
     numeral.to_u64().is_some() || numeral.to_float::<f64>(false).is_finite()
 }
 
-// Whether a numeral after a minus is read.
+/// Whether a numeral after a minus is read.
 fn is_negative_read(numeral: &Numeral<'_>) -> bool
     ensures { result ≡ is_some (number_from true numeral.now) }
 {
@@ -55,7 +55,7 @@ fn is_negative_read(numeral: &Numeral<'_>) -> bool
     numeral.to_float::<f64>(true).is_finite()
 }
 
-// Whether the text begins with a minus.
+/// Whether the text begins with a minus.
 fn has_minus(bytes: &[u8]) -> bool
     ensures value { result ≡ (slice_index bytes.now 0 == 45) }
     ensures len { IsTrue result → 0 < length bytes.now }

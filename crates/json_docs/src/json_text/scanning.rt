@@ -26,7 +26,7 @@ pub fn has_numbers_in_range(reader: &mut Reader<'_>) -> bool
     true
 }
 
-// Whether a token, where it is a number, is in range.
+/// Whether a token, where it is a number, is in range.
 fn is_token_in_range(token: Token<'_>) -> bool
     ensures { result ≡ is_token_in_range (token_of token.entry) }
 {

@@ -12,7 +12,7 @@ use std::io::Write;
 
 /// Takes bytes as `std`'s `Write` does, and remembers whether a write failed. There is no flush.
 pub trait Sink {
-    // The bytes that were written so far, where they are known.
+    /// The bytes that were written so far, where they are known.
     ghost contents: { Self → Option (List ℕ) };
 
     ghost failed: { Self → Bool };

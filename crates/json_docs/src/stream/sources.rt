@@ -13,12 +13,12 @@ use std::io::Read;
 /// The most bytes that [`read_all`] accepts.
 pub const MOST_BYTES: usize = 67_108_864;
 
-// The first size of the buffer that `read_all` fills.
+/// The first size of the buffer that `read_all` fills.
 const FIRST_BYTES: usize = 8192;
 
 /// Gives bytes as `std`'s `Read` does, and remembers whether a read failed.
 pub trait Source {
-    // The bytes that reads will give from here on, where they are known.
+    /// The bytes that reads will give from here on, where they are known.
     ghost remaining: { Self → Option (List ℕ) };
 
     ghost failed: { Self → Bool };
@@ -105,7 +105,7 @@ pub fn read_all<S: Source>(alloc: Global, reader: &mut S) -> Result<Doc, DocFaul
     Err(DocFault::of_no_document(DocCause::TooLarge))
 }
 
-// One read into the part of the buffer that is not filled yet.
+/// One read into the part of the buffer that is not filled yet.
 fn read_behind<S: Source>(reader: &mut S, buffer: &mut Vec<u8>, filled: usize) -> io::Result<usize>
     requires { filled ≤ vec_len buffer.old }
     ensures bound { IfOk result (λ count. filled + count ≤ vec_len buffer.new) }
@@ -117,7 +117,7 @@ fn read_behind<S: Source>(reader: &mut S, buffer: &mut Vec<u8>, filled: usize) -
     reader.read(&mut buffer[filled..])
 }
 
-// Doubles the buffer where it is full, up to one byte past the limit.
+/// Doubles the buffer where it is full, up to one byte past the limit.
 fn make_room(buffer: &mut Vec<u8>, filled: usize) -> Result<(), AllocError>
     requires within { filled ≤ vec_len buffer.old }
     requires below { filled ≤ MOST_BYTES }

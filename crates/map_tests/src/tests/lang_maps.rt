@@ -8,7 +8,7 @@ use std::alloc::Global;
 use std::process::Abort;
 use std::test::Fail;
 
-// The first row is no message; languages stand in any order and case.
+/// The first row is no message; languages stand in any order and case.
 const IMPORT: &str = r#"{"@context":{},"m":{"EN":"a","de":null,"fr":["b",null],"@none":"c"}}"#;
 
 const EXPORT: &str = "{\"m\":{\"@none\":\"c\",\"en\":\"a\",\"fr\":\"b\"}}\n";

@@ -25,7 +25,6 @@ use std::alloc::Global;
 /// The name and the cells of a document of this kind, where its members are in the order in which
 /// they are written, it is of version 2, and all its rows pass their tests. Each row is taken from
 /// its tokens.
-/// from its tokens.
 ///
 /// `None` says nothing of the document: it may be valid in another order, it may be refused, or
 /// memory ran out.
@@ -38,7 +37,7 @@ pub fn cells_as_written(alloc: Global, bytes: &[u8], kind: Kind) -> Option<(Site
     cells_of_text(alloc, text, kind)
 }
 
-// The name and the cells of a text.
+/// The name and the cells of a text.
 fn cells_of_text(alloc: Global, text: &str, kind: Kind) -> Option<(SiteName, Catalogue)>
     ensures { IfSome result (λ r. (rest : List Read) × (rows : List Read) × (tokens text.now ≡ begin_object ∷ key (codes "cells") ∷ begin_array ∷ rows) × BeginsRows rows r.1 rest × EndsNamed kind rest r.0) }
 {
@@ -54,7 +53,7 @@ fn cells_of_text(alloc: Global, text: &str, kind: Kind) -> Option<(SiteName, Cat
     Some((name, cells))
 }
 
-// Takes what comes before the rows.
+/// Takes what comes before the rows.
 fn begins_rows(reader: &mut Reader<'_>) -> bool
     ensures { IsTrue result → reader.old ≡ begin_object ∷ key (codes "cells") ∷ begin_array ∷ reader.new }
 {
@@ -63,7 +62,7 @@ fn begins_rows(reader: &mut Reader<'_>) -> bool
         && matches!(reader.next(), Some(Token::BeginArray))
 }
 
-// The cells of the rows, up to and including the closing bracket.
+/// The cells of the rows, up to and including the closing bracket.
 fn next_rows(alloc: Global, reader: &mut Reader<'_>) -> Option<Catalogue>
     ensures { IfSome result (λ cells. BeginsRows reader.old cells reader.new) }
 {
@@ -93,7 +92,7 @@ fn put_above(alloc: Global, cells: &mut Catalogue, entry: CellEntry) -> bool
     }
 }
 
-// The next row.
+/// The next row.
 fn next_entry(alloc: Global, reader: &mut Reader<'_>) -> Option<CellEntry>
     ensures { IfSome result (λ x. BeginsEntry reader.old (entry_by x) reader.new) }
 {
@@ -110,7 +109,7 @@ fn next_entry(alloc: Global, reader: &mut Reader<'_>) -> Option<CellEntry>
     }
 }
 
-// What a row begins with.
+/// What a row begins with.
 fn next_row<'t>(reader: &mut Reader<'t>) -> Option<Row<'t>>
     ensures { IfSome result (λ row. BeginsRow reader.old (row_of row) reader.new) }
 {
@@ -133,7 +132,7 @@ fn next_row<'t>(reader: &mut Reader<'t>) -> Option<Row<'t>>
     })
 }
 
-// The label of a row; null is a deletion.
+/// The label of a row; null is a deletion.
 fn next_label(alloc: Global, reader: &mut Reader<'_>) -> Option<Option<Label>>
     ensures { IfSome result (λ label. BeginsLabel reader.old label reader.new × IsLabelText label) }
 {
@@ -150,7 +149,7 @@ fn next_label(alloc: Global, reader: &mut Reader<'_>) -> Option<Option<Label>>
     }
 }
 
-// Texts, up to and including the closing bracket.
+/// Texts, up to and including the closing bracket.
 fn next_texts(alloc: Global, reader: &mut Reader<'_>) -> Option<Vec<String>>
     ensures { IfSome result (λ texts. BeginsTexts reader.old (map string_bytes texts.items) reader.new) }
 {
@@ -181,7 +180,7 @@ fn push_text(alloc: Global, texts: &mut Vec<String>, text: &str) -> bool
     }
 }
 
-// The name, and the members about it.
+/// The name, and the members about it.
 fn last_members(reader: &mut Reader<'_>, kind: Kind) -> Option<SiteName>
     ensures { IfSome result (λ name. EndsNamed kind reader.old name) }
 {
@@ -198,14 +197,14 @@ fn last_members(reader: &mut Reader<'_>, kind: Kind) -> Option<SiteName>
     }
 }
 
-// Takes the kind.
+/// Takes the kind.
 fn takes_kind(reader: &mut Reader<'_>, kind: Kind) -> bool
     ensures { IsTrue result → reader.old ≡ key (codes "kind") ∷ string (kind_text kind) ∷ reader.new }
 {
     takes_key(reader, "kind") && takes_text(reader, kind.text())
 }
 
-// Takes the version, which is 2, and the end of the text.
+/// Takes the version, which is 2, and the end of the text.
 fn ends_in_version(reader: &mut Reader<'_>) -> bool
     ensures { IsTrue result → (version : List ℕ) × (reader.old ≡ key (codes "version") ∷ number version ∷ end_object ∷ []) × (number_of version ≡ Some (unsigned 2)) }
 {
@@ -215,7 +214,7 @@ fn ends_in_version(reader: &mut Reader<'_>) -> bool
         && reader.next().is_none()
 }
 
-// Takes the name of this member.
+/// Takes the name of this member.
 fn takes_key(reader: &mut Reader<'_>, name: &str) -> bool
     ensures { IsTrue result → reader.old ≡ key name.now ∷ reader.new }
 {
@@ -225,7 +224,7 @@ fn takes_key(reader: &mut Reader<'_>, name: &str) -> bool
     }
 }
 
-// Takes this text.
+/// Takes this text.
 fn takes_text(reader: &mut Reader<'_>, wanted: &str) -> bool
     ensures { IsTrue result → reader.old ≡ string wanted.now ∷ reader.new }
 {
@@ -235,7 +234,7 @@ fn takes_text(reader: &mut Reader<'_>, wanted: &str) -> bool
     }
 }
 
-// The next text.
+/// The next text.
 fn next_text<'t>(reader: &mut Reader<'t>) -> Option<&'t str>
     ensures { IfSome result (λ text. reader.old ≡ string text.now ∷ reader.new) }
 {
@@ -245,7 +244,7 @@ fn next_text<'t>(reader: &mut Reader<'t>) -> Option<&'t str>
     }
 }
 
-// The next number, where it is an unsigned whole number of 64 bits.
+/// The next number, where it is an unsigned whole number of 64 bits.
 fn next_number(reader: &mut Reader<'_>) -> Option<u64>
     ensures { IfSome result (λ n. BeginsNumber reader.old n reader.new) }
 {

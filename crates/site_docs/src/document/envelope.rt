@@ -62,7 +62,7 @@ pub fn close_summary(draft: Writer) -> Result<Doc, AllocError>
     close_rows(draft)
 }
 
-// Closes the rows, and adds the version.
+/// Closes the rows, and adds the version.
 fn close_rows(mut draft: Writer) -> Result<Doc, AllocError>
     ensures text { IfOk result (λ doc. doc ≡ draft.before ++ (print (draft.tokens ++ end_array ∷ version_tokens) ++ 10 ∷ [])) }
     ensures utf8 { IfOk result (λ doc. draft.before ≡ [] → IsUtf8 doc) }
@@ -72,7 +72,7 @@ fn close_rows(mut draft: Writer) -> Result<Doc, AllocError>
     finish(draft)
 }
 
-// Closes the rows, and adds the kind, a name and the version.
+/// Closes the rows, and adds the kind, a name and the version.
 fn close_named(mut draft: Writer, kind: &str, member: &str, name: &str) -> Result<Doc, AllocError>
     ensures text { IfOk result (λ doc. doc ≡ draft.before ++ (print (draft.tokens ++ end_array ∷ (name_tokens (codes "kind") kind.now ++ (name_tokens member.now name.now ++ version_tokens))) ++ 10 ∷ [])) }
     ensures utf8 { IfOk result (λ doc. draft.before ≡ [] → IsUtf8 doc) }
@@ -84,7 +84,7 @@ fn close_named(mut draft: Writer, kind: &str, member: &str, name: &str) -> Resul
     finish(draft)
 }
 
-// Adds a member that is a text.
+/// Adds a member that is a text.
 fn write_name(draft: &mut Writer, member: &str, name: &str) -> Result<(), AllocError>
     ensures { OnOk result (Adds draft.old draft.new (name_tokens member.now name.now)) }
 {
@@ -92,7 +92,7 @@ fn write_name(draft: &mut Writer, member: &str, name: &str) -> Result<(), AllocE
     draft.string(name)
 }
 
-// Adds the version, and closes the document's object.
+/// Adds the version, and closes the document's object.
 fn write_version(draft: &mut Writer) -> Result<(), AllocError>
     ensures { OnOk result (Adds draft.old draft.new version_tokens) }
 {

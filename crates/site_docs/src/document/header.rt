@@ -21,7 +21,7 @@ use json::{Reader, Token, Value};
 use json_docs::{DocCause, MOST_DEPTH, is_scalar, next_name, next_value, text_of, u64_of};
 use std::alloc::Global;
 
-// How deep a member of the outermost object nests at most.
+/// How deep a member of the outermost object nests at most.
 const MEMBER_DEPTH: usize = MOST_DEPTH - 1;
 
 /// What a document is about: the value of `site`, `to`, `owner` or `sites`.
@@ -78,7 +78,7 @@ pub fn read_members<R: Rows>(
     Ok(header)
 }
 
-// Reads the value of a member, whose name was read.
+/// Reads the value of a member, whose name was read.
 fn read_member<R: Rows>(
     alloc: Global,
     reader: &mut Reader<'_>,
@@ -105,7 +105,7 @@ fn read_member<R: Rows>(
     }
 }
 
-// Reads the member `kind`.
+/// Reads the member `kind`.
 fn read_kind(
     alloc: Global,
     reader: &mut Reader<'_>,
@@ -124,7 +124,7 @@ fn read_kind(
     })
 }
 
-// Reads the member `version`.
+/// Reads the member `version`.
 fn read_version(alloc: Global, reader: &mut Reader<'_>, header: Header) -> Result<Header, DocCause>
     requires { are_in_range reader.old ≡ true }
     ensures { MatchResult result
@@ -138,7 +138,7 @@ fn read_version(alloc: Global, reader: &mut Reader<'_>, header: Header) -> Resul
     })
 }
 
-// Reads the member of the subject.
+/// Reads the member of the subject.
 fn read_subject(alloc: Global, reader: &mut Reader<'_>, header: Header) -> Result<Header, DocCause>
     requires { are_in_range reader.old ≡ true }
     ensures { MatchResult result
@@ -152,7 +152,7 @@ fn read_subject(alloc: Global, reader: &mut Reader<'_>, header: Header) -> Resul
     })
 }
 
-// Reads the rows, where the member is an array.
+/// Reads the rows, where the member is an array.
 fn read_array<R: Rows>(
     alloc: Global,
     reader: &mut Reader<'_>,
@@ -197,7 +197,7 @@ fn read_array<R: Rows>(
     }
 }
 
-// Skips the members of an object whose brace was read.
+/// Skips the members of an object whose brace was read.
 fn pass_members(reader: &mut Reader<'_>) -> Result<(), DocCause>
     requires { are_in_range reader.old ≡ true }
     ensures read { MatchResult result
@@ -215,7 +215,7 @@ fn pass_members(reader: &mut Reader<'_>) -> Result<(), DocCause>
     Ok(())
 }
 
-// Skips the value of a member of another name.
+/// Skips the value of a member of another name.
 fn pass_over(reader: &mut Reader<'_>, header: Header) -> Result<Header, DocCause>
     requires { are_in_range reader.old ≡ true }
     ensures { MatchResult result
@@ -231,7 +231,7 @@ fn pass_over(reader: &mut Reader<'_>, header: Header) -> Result<Header, DocCause
     }
 }
 
-// Whether the text is the wanted kind.
+/// Whether the text is the wanted kind.
 fn is_kind(kind: Kind, value: &Value<'_>) -> bool
     ensures { result ≡ is_text (kind_text kind) (as_str (seen value.now)) }
 {
@@ -241,7 +241,7 @@ fn is_kind(kind: Kind, value: &Value<'_>) -> bool
     }
 }
 
-// What a value names as the subject.
+/// What a value names as the subject.
 fn subject_of(value: &Value<'_>) -> Subject
     ensures { IsSubject result (seen value.now) }
 {
@@ -254,7 +254,7 @@ fn subject_of(value: &Value<'_>) -> Subject
     }
 }
 
-// The name that a text is, where it is one.
+/// The name that a text is, where it is one.
 fn name_of(text: &str) -> Subject
     ensures { (d : Data) → as_str d ≡ Some text.now → IsSubject result d }
 {

@@ -31,7 +31,7 @@ pub fn site_from(alloc: Global, bytes: &[u8]) -> Result<Site, DocCause>
     }
 }
 
-// The site of a document whose members may be in any order.
+/// The site of a document whose members may be in any order.
 fn site_of_members(alloc: Global, bytes: &[u8]) -> Result<Site, DocCause>
     ensures { MatchResult result (ReadsAsSite bytes.now) (OrMemory NoMemory (RefusesSite bytes.now)) }
 {
@@ -50,7 +50,7 @@ pub fn delta_from(alloc: Global, bytes: &[u8]) -> Result<Delta, DocCause>
     }
 }
 
-// The delta of a document whose members may be in any order.
+/// The delta of a document whose members may be in any order.
 fn delta_of_members(alloc: Global, bytes: &[u8]) -> Result<Delta, DocCause>
     ensures { MatchResult result (ReadsAsDelta bytes.now) (OrMemory NoMemory (RefusesDelta bytes.now)) }
 {
@@ -68,7 +68,7 @@ pub fn summary_from(alloc: Global, bytes: &[u8]) -> Result<Summary, DocCause>
     Ok(summary.with_owner(owner))
 }
 
-// Reads the rows, and answers the name.
+/// Reads the rows, and answers the name.
 fn read_named<R: Rows>(
     alloc: Global,
     bytes: &[u8],
@@ -86,7 +86,7 @@ fn read_named<R: Rows>(
     }
 }
 
-// The name of the site, as this version writes it.
+/// The name of the site, as this version writes it.
 fn subject_name(version: Version, subject: Subject) -> Result<SiteName, DocCause>
     ensures { (d : Data) → IsSubject subject d → MatchResult result
         (λ name. AllPass (subject_checks version d) × (site_in version d ≡ Some name))
@@ -98,7 +98,7 @@ fn subject_name(version: Version, subject: Subject) -> Result<SiteName, DocCause
     }
 }
 
-// The padded name of a number of 32 bits, in version 1.
+/// The padded name of a number of 32 bits, in version 1.
 fn numbered_name(subject: Subject) -> Result<SiteName, DocCause>
     ensures { (d : Data) → IsSubject subject d → MatchResult result
         (λ name. AllPass (subject_checks One d) × (site_in One d ≡ Some name))
@@ -113,7 +113,7 @@ fn numbered_name(subject: Subject) -> Result<SiteName, DocCause>
     }
 }
 
-// The name, in version 2.
+/// The name, in version 2.
 fn written_name(subject: Subject) -> Result<SiteName, DocCause>
     ensures { (d : Data) → IsSubject subject d → MatchResult result
         (λ name. AllPass (subject_checks Two d) × (site_in Two d ≡ Some name))
@@ -126,7 +126,7 @@ fn written_name(subject: Subject) -> Result<SiteName, DocCause>
     }
 }
 
-// It is no document of its kind.
+/// It is no document of its kind.
 const NO_DOCUMENT: DocCause = DocCause::Shape {
     spot: Spot::Document,
 };

@@ -57,7 +57,7 @@ pub fn read_header<R: Rows>(
     }
 }
 
-// The tested header of a text, whose rows are read as those of version 1 or of version 2.
+/// The tested header of a text, whose rows are read as those of version 1 or of version 2.
 fn read_as<R: Rows>(
     alloc: Global,
     text: &str,
@@ -79,7 +79,7 @@ fn read_as<R: Rows>(
     }
 }
 
-// The members of a text, or none where it is no object.
+/// The members of a text, or none where it is no object.
 fn read_object<R: Rows>(
     alloc: Global,
     text: &str,
@@ -106,7 +106,7 @@ fn read_object<R: Rows>(
     }
 }
 
-// The members of the object whose brace was read, where nothing follows it.
+/// The members of the object whose brace was read, where nothing follows it.
 fn read_rest<R: Rows>(
     alloc: Global,
     reader: &mut Reader<'_>,
@@ -127,7 +127,7 @@ fn read_rest<R: Rows>(
     }
 }
 
-// The header, where it passes its tests.
+/// The header, where it passes its tests.
 fn test_header(header: Header) -> Result<TestedHeader, DocCause>
     ensures { MatchResult result (PassesHeader header) (FailsHeader header) }
 {

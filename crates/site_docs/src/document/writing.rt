@@ -52,7 +52,7 @@ pub fn write_summary(alloc: Global, summary: &Summary) -> Result<Doc, AllocError
     close_summary(draft)
 }
 
-// A site's or a delta's document with all its cells, not yet closed.
+/// A site's or a delta's document with all its cells, not yet closed.
 fn cells_draft(alloc: Global, cells: &Catalogue) -> Result<Writer, AllocError>
     ensures rows { IfOk result (λ draft. HoldsCells draft (cells_values cells.now)) }
     ensures kept { IfOk result (λ _. AreKeptCells cells.now) }
@@ -64,7 +64,7 @@ fn cells_draft(alloc: Global, cells: &Catalogue) -> Result<Writer, AllocError>
     Ok(draft)
 }
 
-// A summary's document with all its stamps, not yet closed.
+/// A summary's document with all its stamps, not yet closed.
 fn stamps_draft(alloc: Global, summary: &Summary) -> Result<Writer, AllocError>
     ensures rows { IfOk result (λ draft. HoldsStamps draft summary.now.owner (stamps_values summary.now.stamps)) }
     ensures owner { IfOk result (λ _. IsSiteName summary.now.owner) }
@@ -79,7 +79,7 @@ fn stamps_draft(alloc: Global, summary: &Summary) -> Result<Writer, AllocError>
     Ok(draft)
 }
 
-// Adds the `STAMP` of a key.
+/// Adds the `STAMP` of a key.
 fn write_told(out: &mut Writer, id: &MessageId, lang: &Lang, stamp: Stamp) -> Result<(), AllocError>
     ensures tokens { OnOk result (Adds out.old out.new (value_tokens (told_value ((id.now, lang.now), stamp)))) }
     ensures kept { OnOk result (IsKeptStamp ((id.now, lang.now), stamp)) }

@@ -18,10 +18,10 @@ use std::alloc::Global;
 
 /// Takes the rows of a document in their order, each only where it passes the tests of a row.
 pub trait Rows {
-    // The tests of a row of this version after those before it, in their order.
+    /// The tests of a row of this version after those before it, in their order.
     ghost Checks: { Version → List Data → Data → List Check };
 
-    // The value is what these rows of this version make.
+    /// The value is what these rows of this version make.
     ghost Holds: { Version → Self → List Data → Type 0 };
 
     /// Forgets all rows.
@@ -73,7 +73,7 @@ pub fn read_rows<R: Rows>(
     Ok(refusal)
 }
 
-// Reads the next row, and takes it where no row was refused before it.
+/// Reads the next row, and takes it where no row was refused before it.
 fn read_row<R: Rows>(
     alloc: Global,
     reader: &mut Reader<'_>,
@@ -94,7 +94,7 @@ fn read_row<R: Rows>(
     take_row(alloc, version, place, &row, rows, refusal)
 }
 
-// Takes a row, unless one was refused before it.
+/// Takes a row, unless one was refused before it.
 fn take_row<R: Rows>(
     alloc: Global,
     version: Version,
@@ -114,7 +114,7 @@ fn take_row<R: Rows>(
     }
 }
 
-// Takes a row, or says why it is refused; out of memory is no refusal.
+/// Takes a row, or says why it is refused; out of memory is no refusal.
 fn take_or_refuse<R: Rows>(
     alloc: Global,
     version: Version,
@@ -136,7 +136,7 @@ fn take_or_refuse<R: Rows>(
     }
 }
 
-// The refusal, unless it is out of memory.
+/// The refusal, unless it is out of memory.
 fn unless_memory(cause: DocCause) -> Result<DocCause, DocCause>
     ensures { MatchResult result (λ e. (e ≡ cause) × (cause ≢ NoMemory)) (λ e. e ≡ NoMemory) }
 {

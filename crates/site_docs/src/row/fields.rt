@@ -81,7 +81,7 @@ pub fn label_of(
     }
 }
 
-// The label of these values, all of them texts.
+/// The label of these values, all of them texts.
 fn label_from(alloc: Global, place: usize, values: &[Value<'_>]) -> Result<Label, DocCause>
     requires { AreTexts values.now }
     ensures { let plain = texts_of values.now in MatchResult result (λ label. IsLabelText (Some plain) × (label ≡ plain))
@@ -94,7 +94,7 @@ fn label_from(alloc: Global, place: usize, values: &[Value<'_>]) -> Result<Label
     }
 }
 
-// Copies of the values that are texts.
+/// Copies of the values that are texts.
 fn copied_texts(alloc: Global, values: &[Value<'_>]) -> Result<Vec<String>, AllocError>
     ensures { IfOk result (λ texts. map string_bytes texts.items ≡ filter_map as_str (map seen values.now)) }
 {

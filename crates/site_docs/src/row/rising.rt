@@ -67,7 +67,7 @@ impl Rows for Summary {
     }
 }
 
-// What a row of a site or a delta is by itself.
+/// What a row of a site or a delta is by itself.
 fn own_cell(
     alloc: Global,
     version: Version,
@@ -87,7 +87,7 @@ fn own_cell(
     cell_entry(alloc, place, cell)
 }
 
-// What a row of a summary is by itself.
+/// What a row of a summary is by itself.
 fn own_stamp(
     alloc: Global,
     version: Version,

@@ -81,14 +81,14 @@ pub fn label_of<'v, 't>(value: &'v Value<'t>) -> Option<Option<&'v [Value<'t>]>>
     }
 }
 
-// Whether all items are texts.
+/// Whether all items are texts.
 fn are_texts(items: &[Value<'_>]) -> bool
     ensures { result ≡ is_some (texts_in (map seen items.now)) }
 {
     each_is_text(items)
 }
 
-// Whether each item is a text.
+/// Whether each item is a text.
 fn each_is_text(items: &[Value<'_>]) -> bool
     ensures { result ≡ list_all (λ item. is_some (as_str (seen item))) items.now }
 {
@@ -109,7 +109,7 @@ pub fn cell_of<'v, 't>(version: Version, value: &'v Value<'t>) -> Option<CellRow
     Some(CellRow { row, texts })
 }
 
-// What a row of either kind begins with.
+/// What a row of either kind begins with.
 fn parts_of<'t>(
     version: Version,
     id: &Value<'t>,

@@ -51,7 +51,7 @@ pub fn write_cell(
     out.end_array()
 }
 
-// What a row of either kind begins with.
+/// What a row of either kind begins with.
 fn write_parts(out: &mut Writer, row: &WrittenRow<'_>) -> Result<(), AllocError>
     ensures { OnOk result (Adds out.old out.new (parts_tokens (row_of row.now))) }
 {
