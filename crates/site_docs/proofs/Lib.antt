@@ -4,6 +4,9 @@ pub mod EnvelopeLemmas
 pub mod FieldsLemmas
 pub mod HeadersLemmas
 pub mod LowerLemmas
+pub mod PiecesLemmas
+pub mod PlainLemmas
+pub mod PlainReads
 pub mod ReadersLemmas
 pub mod RisingLemmas
 pub mod RoundTrip

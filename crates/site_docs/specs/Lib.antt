@@ -8,6 +8,7 @@ pub mod HeaderSeen
 pub mod HeaderTests
 pub mod Headers
 pub mod Kinds
+pub mod Plain
 pub mod ReadsAs
 pub mod Rising
 pub mod Rows

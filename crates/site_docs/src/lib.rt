@@ -10,6 +10,7 @@
 #![tactic(auto)]
 
 mod document;
+mod plain;
 mod row;
 
 pub use document::envelope::finish;

@@ -78,8 +78,8 @@ fn next_rows(alloc: Global, reader: &mut Reader<'_>) -> Option<Catalogue>
     Some(cells)
 }
 
-// Appends the entry, where its key is greater than all others.
-fn put_above(alloc: Global, cells: &mut Catalogue, entry: CellEntry) -> bool
+/// Appends the entry, where its key is greater than all others.
+pub fn put_above(alloc: Global, cells: &mut Catalogue, entry: CellEntry) -> bool
     ensures { IsTrue result → IsAboveAll (entry_by entry).0 cells.old × (cells.new ≡ cells.old ++ entry_by entry ∷ []) }
 {
     let CellEntry { id, lang, cell } = entry;
@@ -167,8 +167,8 @@ fn next_texts(alloc: Global, reader: &mut Reader<'_>) -> Option<Vec<String>>
     Some(texts)
 }
 
-// Appends a copy of the text.
-fn push_text(alloc: Global, texts: &mut Vec<String>, text: &str) -> bool
+/// Appends a copy of the text.
+pub fn push_text(alloc: Global, texts: &mut Vec<String>, text: &str) -> bool
     ensures { IsTrue result → map string_bytes texts.new.items ≡ map string_bytes texts.old.items ++ text.now ∷ [] }
 {
     match String::from_str(alloc, text) {

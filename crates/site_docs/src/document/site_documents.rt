@@ -15,6 +15,7 @@ use crate::document::header::Subject;
 use crate::document::kind::Kind;
 use crate::document::tested_header::read_header;
 use crate::document::version::Version;
+use crate::plain::documents::cells_of_plain;
 use crate::row::arrays::Rows;
 use cata_core::{Catalogue, Delta, Site, Summary};
 use cell_core::SiteName;
@@ -23,6 +24,16 @@ use std::alloc::Global;
 
 /// The site of a document, or why it is refused.
 pub fn site_from(alloc: Global, bytes: &[u8]) -> Result<Site, DocCause>
+    ensures { MatchResult result (ReadsAsSite bytes.now) (OrMemory NoMemory (RefusesSite bytes.now)) }
+{
+    match cells_of_plain(alloc, bytes, Kind::Site) {
+        Some((name, cells)) => Ok(Site::from_catalogue(name, cells)),
+        None => site_of_tokens(alloc, bytes),
+    }
+}
+
+// The site of a document that is in any form.
+fn site_of_tokens(alloc: Global, bytes: &[u8]) -> Result<Site, DocCause>
     ensures { MatchResult result (ReadsAsSite bytes.now) (OrMemory NoMemory (RefusesSite bytes.now)) }
 {
     match cells_as_written(alloc, bytes, Kind::Site) {
@@ -42,6 +53,16 @@ fn site_of_members(alloc: Global, bytes: &[u8]) -> Result<Site, DocCause>
 
 /// The delta of a document, or why it is refused.
 pub fn delta_from(alloc: Global, bytes: &[u8]) -> Result<Delta, DocCause>
+    ensures { MatchResult result (ReadsAsDelta bytes.now) (OrMemory NoMemory (RefusesDelta bytes.now)) }
+{
+    match cells_of_plain(alloc, bytes, Kind::Delta) {
+        Some((to, cells)) => Ok(Delta::from_catalogue(to, cells)),
+        None => delta_of_tokens(alloc, bytes),
+    }
+}
+
+// The delta of a document that is in any form.
+fn delta_of_tokens(alloc: Global, bytes: &[u8]) -> Result<Delta, DocCause>
     ensures { MatchResult result (ReadsAsDelta bytes.now) (OrMemory NoMemory (RefusesDelta bytes.now)) }
 {
     match cells_as_written(alloc, bytes, Kind::Delta) {

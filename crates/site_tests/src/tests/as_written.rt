@@ -14,6 +14,14 @@ const SITE: &str = concat!(
     "\n"
 );
 
+/// A site whose text has no escape.
+const PLAIN: &str = concat!(
+    r#"{"cells":[["m","@none",0,"a",0,null],"#,
+    r#"["m","en",18446744073709551609,"b",4294967295,["é","","x"]],"#,
+    r#"["n","de-1996",10,"a",1,["y"]]],"kind":"site","site":"paris","version":2}"#,
+    "\n"
+);
+
 const EMPTY: &str = "{\"cells\":[],\"kind\":\"site\",\"site\":\"0-z\",\"version\":2}\n";
 
 const DELTA: &str = concat!(
@@ -54,6 +62,12 @@ fn what_is_written_is_read(rt: HostRuntime) {
     assert_written(&rt, rt.alloc(), SITE.trim_end(), SITE);
     assert_written(&rt, rt.alloc(), EMPTY, EMPTY);
     assert!(rt; is_document(rewritten_delta(rt.alloc(), DELTA), DELTA));
+}
+
+#[test]
+fn what_is_written_without_escapes_is_read(rt: HostRuntime) {
+    let texts = [PLAIN, PLAIN.trim_end()];
+    assert_all_written(&rt, rt.alloc(), texts.as_slice(), PLAIN);
 }
 
 /// Blanks and escapes are free, and so is the case of a language.

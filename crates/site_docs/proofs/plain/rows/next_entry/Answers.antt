@@ -1,0 +1,17 @@
+use Rattle.site_docs.specs.EntriesSeen.{entry_by}
+use Rattle.site_docs.specs.RowsSeen.{row_of}
+use Rattle.site_docs.proofs.PlainLemmas.{entry_kept, entry_text}
+use Rattle.site_docs.proofs.plain.rows.next_entry.Goals as goal
+
+pub returns-clause-text : goal.returns-clause-text
+returns-clause-text c =
+    let told = c.in_ok-told.told in
+    let label = c.in_ok-label.label in
+    entry_text (entry_by c.with_label.result) (told.id, told.lang) told.stamp (row_of c.in_ok-row.row) label c.args.text.now c.in_ok-row.rest.now c.in_ok-label.rest.now c.in_ok-rest.rest.now
+    c.in_ok-told.ensures.is c.with_label.ensures c.in_ok-row.ensures c.in_ok-label.ensures.text c.in_ok-rest.ensures
+
+pub returns-clause-kept : goal.returns-clause-kept
+returns-clause-kept c =
+    let told = c.in_ok-told.told in
+    let label = c.in_ok-label.label in
+    entry_kept (entry_by c.with_label.result) (told.id, told.lang) told.stamp (row_of c.in_ok-row.row) label c.in_ok-told.ensures.is c.with_label.ensures c.in_ok-told.ensures.kept c.in_ok-label.ensures.label

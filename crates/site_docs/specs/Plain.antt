@@ -1,0 +1,57 @@
+-- Documents in the form in which they are written, and texts that begin with a part of one. Own
+-- rule.
+use Rattle.std.specs.Prelude.{◌≡◌, ◌<◌, ◌≤◌, ◌+◌, ◌++◌, ◌∷◌, [], ℕ, List, Bool, true, IsUtf8, codes, decimal, get_or, length, take}
+use Rattle.json.specs.Print.{quoted}
+use Rattle.serde_json.specs.Data.{Data, array}
+use Rattle.serde_json.specs.View.{items_of}
+use Rattle.serde_json.specs.Written.{comma_if, compact_text}
+use Rattle.cell_core.specs.SiteNames.{IsSiteName}
+use Rattle.cata_core.specs.Entries.{Entries}
+use Rattle.site_docs.specs.AsWritten.{cells_document}
+use Rattle.site_docs.specs.Documents.{cells_values}
+use Rattle.site_docs.specs.Texts.{text}
+use Rattle.site_docs.specs.Valid.{AreKeptCells}
+use Rattle.site_docs.specs.Values.{Row}
+use Rattle.site_docs.specs.declared.document.kind.Kind.{Kind}
+
+-- the bytes are the text that is written for this name and these cells
+pub record IsPlainText (kind : Kind) (bytes name : List ℕ) (cells : Entries) : Type 0 where
+  pub text : bytes ≡ text (cells_document kind name (cells_values cells))
+  pub utf8 : IsUtf8 bytes
+  pub is_name : IsSiteName name
+  pub kept : AreKeptCells cells
+
+-- ---- parts of such a text
+
+-- the array of the rows
+abbrev pub rows_text : Entries → List ℕ
+rows_text cells = compact_text (array (items_of (cells_values cells)))
+
+-- the text of the items of an array that is still open; `later` says that others stand before them
+abbrev pub open_items : Bool → List Data → List ℕ
+open_items later [] = []
+open_items later (d ∷ ds) = comma_if later ++ (compact_text d ++ open_items true ds)
+
+-- a row as far as its label, and what comes after
+abbrev pub row_before : Row → List ℕ → List ℕ
+row_before row rest =
+    91 ∷ (quoted row.id ++ 44 ∷ (quoted row.language ++ 44 ∷ (decimal row.time ++ 44 ∷ (quoted row.site ++ 44 ∷ (decimal row.count ++ 44 ∷ rest)))))
+
+-- the members behind the rows, and the line feed
+abbrev pub last_members : List ℕ → List ℕ → List ℕ → List ℕ
+last_members kind subject name =
+    44 ∷ (quoted (codes "kind") ++ 58 ∷ (quoted kind ++ 44 ∷ (quoted subject ++ 58 ∷ (quoted name ++ 44 ∷ (quoted (codes "version") ++ 58 ∷ (decimal 2 ++ 125 ∷ 10 ∷ []))))))
+
+-- ---- numbers
+
+-- the digit at this place
+pub record IsDigitAt (bytes : List ℕ) (place digit : ℕ) : Type 0 where
+  pub is : get_or bytes place 0 ≡ 48 + digit
+  pub small : digit < 10
+  pub within : place < length bytes
+
+-- the first bytes, as many as this, are the number in decimal
+pub record IsDecimalFront (bytes : List ℕ) (number len : ℕ) : Type 0 where
+  pub is : take len bytes ≡ decimal number
+  pub within : len ≤ length bytes
+  pub last : (before : ℕ) × (len ≡ before + 1) × (get_or bytes before 0 < 128)

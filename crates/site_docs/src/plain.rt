@@ -1,0 +1,7 @@
+//! The form in which documents of sites and deltas are written, where no text in it has an escape:
+//! read byte by byte, with no token and no value between.
+
+pub(crate) mod documents;
+pub(crate) mod labels;
+pub(crate) mod pieces;
+pub(crate) mod rows;

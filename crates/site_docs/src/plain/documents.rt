@@ -1,0 +1,68 @@
+//! Whole documents of sites and deltas.
+ghost use Rattle.std.specs.Prelude.{◌≡◌, ◌++◌, ◌∷◌, [], IfSome, IsTrue, decimal};
+ghost use Rattle.json.specs.Print.{quoted};
+ghost use Rattle.cell_core.specs.SiteNames.{IsSiteName};
+ghost use Rattle.site_docs.specs.Kinds.{kind_text, subject_of};
+ghost use Rattle.site_docs.specs.Plain.{IsPlainText, last_members};
+
+use crate::document::kind::Kind;
+use crate::plain::pieces::{after, after_text, number_after, text_after};
+use crate::plain::rows::next_cells;
+use cata_core::Catalogue;
+use cell_core::SiteName;
+use json_docs::text_in;
+use std::alloc::Global;
+
+/// The name and the cells of a document of this kind, where the bytes are the text that is written
+/// for them, and no text in it has an escape.
+///
+/// `None` says nothing of the document: it may be valid in another form, it may be refused, or
+/// memory ran out.
+pub fn cells_of_plain(alloc: Global, bytes: &[u8], kind: Kind) -> Option<(SiteName, Catalogue)>
+    ensures { IfSome result (λ r. IsPlainText kind bytes.now r.0 r.1) }
+{
+    let Ok(text) = text_in(bytes) else {
+        return None;
+    };
+    let rest = member_after(text, "{", "cells")?;
+    let (cells, rest) = next_cells(alloc, rest)?;
+    let name = last_name(rest, kind)?;
+    Some((name, cells))
+}
+
+// The name in the members behind the rows.
+fn last_name(text: &str, kind: Kind) -> Option<SiteName>
+    ensures text { IfSome result (λ name. text.now ≡ last_members (kind_text kind) (subject_of kind) name) }
+    ensures name { IfSome result (λ name. IsSiteName name) }
+{
+    let rest = member_after(text, ",", "kind")?;
+    let rest = after_text(rest, "", kind.text())?;
+    let rest = member_after(rest, ",", kind.subject())?;
+    let (name, rest) = text_after(rest, "")?;
+    let rest = member_after(rest, ",", "version")?;
+    if !is_version(rest) {
+        return None;
+    }
+    match SiteName::new(name) {
+        Ok(name) => Some(name),
+        Err(_) => None,
+    }
+}
+
+// Whether the text is the version, which is 2, and the end of the document.
+fn is_version(text: &str) -> bool
+    ensures { IsTrue result → text.now ≡ decimal 2 ++ 125 ∷ 10 ∷ [] }
+{
+    match number_after(text, "") {
+        Some((2, rest)) => rest == "}\n",
+        _ => false,
+    }
+}
+
+// What comes after the literal and the name of this member with its colon.
+fn member_after<'t>(text: &'t str, literal: &str, name: &str) -> Option<&'t str>
+    ensures { IfSome result (λ rest. text.now ≡ literal.now ++ (quoted name.now ++ 58 ∷ rest.now)) }
+{
+    let rest = after_text(text, literal, name)?;
+    after(rest, ":")
+}
