@@ -1,5 +1,5 @@
 -- Pieces of a text.
-use Rattle.std.proofs.Common.{true, ◌≡◌, ◌∙◌, ◌+◌, ◌*◌, ◌/◌, ◌%◌, ◌<◌, ◌≤◌, ◌^◌, ◌++◌, ℕ, suc, List, [], ◌∷◌, take, drop, length, get_or, refl, ap, ap₂, sym, arith, add-one, drop-cons, decimal}
+use Rattle.std.proofs.Common.{true, ◌≡◌, ◌∙◌, ◌+◌, ◌*◌, ◌/◌, ◌%◌, ◌<◌, ◌^◌, ◌++◌, ℕ, suc, List, [], ◌∷◌, take, drop, length, get_or, refl, ap, ap₂, sym, arith, add-one, drop-cons, decimal}
 use Rattle.std.proofs.Math.Seq.{take-suc}
 use Rattle.std.proofs.lemmas.Fmt.{decimal_digit, decimal_step}
 use Rattle.std.proofs.lemmas.List.{get_or-take, length-take-le, take-append-drop}

@@ -1,7 +1,7 @@
 -- Texts that are put together from what is written.
-use Rattle.std.proofs.Common.{◌≡◌, ◌∙◌, ◌<◌, ◌++◌, ℕ, List, [], ◌∷◌, Bool, true, false, codes, decimal, map, length, length-append, refl, ap, ap₂, sym, subst, append_assoc, append-nil, arith}
+use Rattle.std.proofs.Common.{◌≡◌, ◌∙◌, ◌<◌, ◌++◌, ℕ, List, [], ◌∷◌, Bool, true, false, codes, decimal, map, length, length-append, refl, ap, sym, subst, append_assoc, append-nil, arith}
 use Rattle.std.proofs.lemmas.List.{map-append}
-use Rattle.std.specs.Prelude.{Option, None, Some, IsTrue, ◌↔◌, not}
+use Rattle.std.specs.Prelude.{Option, IsTrue, ◌↔◌, not}
 use Rattle.json.specs.Print.{quoted}
 use Rattle.serde_json.specs.Data.{Data, array, string}
 use Rattle.serde_json.specs.View.{items_of}
@@ -29,7 +29,7 @@ items_closed later (d ∷ ds) =
     ap (λ r. comma_if later ++ (compact_text d ++ r)) (items_closed true ds)
     ∙ sym (append_assoc (comma_if later) (compact_text d ++ open_items true ds) (93 ∷ []) ∙ ap (λ r. comma_if later ++ r) (append_assoc (compact_text d) (open_items true ds) (93 ∷ [])))
 
--- some items stand before what is pushed
+-- some items come before what is pushed
 abbrev pub is_later : {X : Type 0} → List X → Bool
 is_later [] = false
 is_later (d ∷ ds) = true
@@ -42,7 +42,7 @@ is_later-push : {X : Type 0} (xs : List X) (x : X) → is_later (xs ++ x ∷ [])
 is_later-push [] x = refl
 is_later-push (y ∷ xs) x = refl
 
--- one item more behind others
+-- one item more after others
 open_later : (ds : List Data) (d : Data) → open_items true (ds ++ d ∷ []) ≡ open_items true ds ++ (44 ∷ compact_text d)
 open_later [] d = ap (λ r. 44 ∷ r) (append-nil (compact_text d))
 open_later (e ∷ ds) d = ap (λ r. 44 ∷ (compact_text e ++ r)) (open_later ds d) ∙ ap (λ r. 44 ∷ r) (sym (append_assoc (compact_text e) (open_items true ds) (44 ∷ compact_text d)))
@@ -70,7 +70,7 @@ array_taken ds text rest after so_far last =
 
 -- ---- labels
 
--- a text behind others
+-- a text after others
 pub text_taken : (ts : List (List ℕ)) (t : List ℕ) (text rest after : List ℕ) → is_later ts ≡ true → text ≡ 91 ∷ (open_items false (map string ts) ++ rest) → rest ≡ 44 ∷ (quoted t ++ after)
     → text ≡ 91 ∷ (open_items false (map string (ts ++ t ∷ [])) ++ after)
 text_taken ts t text rest after later so_far next =
@@ -94,32 +94,32 @@ text_shorter t rest after is =
 -- ---- rows
 
 -- a row is its front, its label and its bracket
-row_taken : (row : Row) (label : Option (List (List ℕ))) (text rest behind after : List ℕ) → text ≡ row_before row rest → rest ≡ compact_text (label_value label) ++ behind → behind ≡ 93 ∷ after
+row_taken : (row : Row) (label : Option (List (List ℕ))) (text rest left after : List ℕ) → text ≡ row_before row rest → rest ≡ compact_text (label_value label) ++ left → left ≡ 93 ∷ after
     → text ≡ compact_text (cell_value row label) ++ after
-row_taken row label text rest behind after first then_label last = first ∙ ap (row_before row) (then_label ∙ ap (λ r. compact_text (label_value label) ++ r) last) ∙ simp append_assoc
+row_taken row label text rest left after first labelled last = first ∙ ap (row_before row) (labelled ∙ ap (λ r. compact_text (label_value label) ++ r) last) ∙ simp append_assoc
 
 abbrev row_by : EntryKey × Stamp → Row
 row_by t = record { id = t.0.0; language = t.0.1; time = t.1.time; site = t.1.site; count = t.1.count }
 
--- the key and the stamp are those of the row, with its language as it stands there
-abbrev pub IsToldAs : EntryKey → Stamp → Row → Type 0
-IsToldAs key stamp row = ◌≡◌ {A = EntryKey × Stamp} (key, stamp) ((row.id, row.language), stamp_of row)
+-- the key and the stamp are those of the row, with its language as it is there
+abbrev pub IsKeyedAs : EntryKey → Stamp → Row → Type 0
+IsKeyedAs key stamp row = ◌≡◌ {A = EntryKey × Stamp} (key, stamp) ((row.id, row.language), stamp_of row)
 
 -- the entry has this label at the key and the stamp
 abbrev pub IsEntryWith : Entry → EntryKey → Stamp → Option (List (List ℕ)) → Type 0
 IsEntryWith e key stamp label = ◌≡◌ {A = Entry} e (key, record { stamp = stamp; label = label })
 
-pub entry_text : (e : Entry) (key : EntryKey) (stamp : Stamp) (row : Row) (label : Option (List (List ℕ))) (text rest behind after : List ℕ) → IsToldAs key stamp row
-    → IsEntryWith e key stamp label → text ≡ row_before row rest → rest ≡ compact_text (label_value label) ++ behind → behind ≡ 93 ∷ after
+pub entry_text : (e : Entry) (key : EntryKey) (stamp : Stamp) (row : Row) (label : Option (List (List ℕ))) (text rest left after : List ℕ) → IsKeyedAs key stamp row
+    → IsEntryWith e key stamp label → text ≡ row_before row rest → rest ≡ compact_text (label_value label) ++ left → left ≡ 93 ∷ after
     → text ≡ compact_text (entry_value e) ++ after
-entry_text e key stamp row label text rest behind after told is first then_label last =
-    row_taken row label text rest behind after first then_label last
-    ∙ sym (ap (λ (x : Entry). compact_text (entry_value x) ++ after) is ∙ ap (λ (t : EntryKey × Stamp). compact_text (cell_value (row_by t) label) ++ after) told)
+entry_text e key stamp row label text rest left after keyed is first labelled last =
+    row_taken row label text rest left after first labelled last
+    ∙ sym (ap (λ (x : Entry). compact_text (entry_value x) ++ after) is ∙ ap (λ (t : EntryKey × Stamp). compact_text (cell_value (row_by t) label) ++ after) keyed)
 
-pub entry_kept : (e : Entry) (key : EntryKey) (stamp : Stamp) (row : Row) (label : Option (List (List ℕ))) → IsToldAs key stamp row → IsEntryWith e key stamp label
+pub entry_kept : (e : Entry) (key : EntryKey) (stamp : Stamp) (row : Row) (label : Option (List (List ℕ))) → IsKeyedAs key stamp row → IsEntryWith e key stamp label
     → IsKept (row.id, row.language) (stamp_of row) → IsLabelText label → IsKeptCell e
-entry_kept e key stamp row label told is kept text =
-    subst IsKeptCell (sym is) (subst (λ (t : EntryKey × Stamp). IsKept t.0 t.1) (sym told) kept, text)
+entry_kept e key stamp row label keyed is kept text =
+    subst IsKeptCell (sym is) (subst (λ (t : EntryKey × Stamp). IsKept t.0 t.1) (sym keyed) kept, text)
 
 -- ---- cells
 
@@ -153,9 +153,9 @@ closed : (cells rows kind_name kind subject name version two : List ℕ)
     ≡ 123 ∷ ((cells ++ 58 ∷ (rows ++ 44 ∷ (kind_name ++ 58 ∷ (kind ++ 44 ∷ (subject ++ 58 ∷ (name ++ 44 ∷ (version ++ 58 ∷ (two ++ 125 ∷ [])))))))) ++ 10 ∷ [])
 closed cells rows kind_name kind subject name version two = simp append_assoc
 
-pub document_taken : (kind : Kind) (text rest behind name : List ℕ) (cells : Entries) → text ≡ 123 ∷ (quoted (codes "cells") ++ 58 ∷ rest) → rest ≡ rows_text cells ++ behind
-    → behind ≡ last_members (kind_text kind) (subject_of kind) name → text ≡ document_text (cells_document kind name (cells_values cells))
-document_taken kind text rest behind name cells first rows last =
+pub document_taken : (kind : Kind) (text rest left name : List ℕ) (cells : Entries) → text ≡ 123 ∷ (quoted (codes "cells") ++ 58 ∷ rest) → rest ≡ rows_text cells ++ left
+    → left ≡ last_members (kind_text kind) (subject_of kind) name → text ≡ document_text (cells_document kind name (cells_values cells))
+document_taken kind text rest left name cells first rows last =
     first
     ∙ ap (λ r. 123 ∷ (quoted (codes "cells") ++ 58 ∷ r)) (rows ∙ ap (λ r. rows_text cells ++ r) last)
     ∙ closed (quoted (codes "cells")) (rows_text cells) (quoted (codes "kind")) (quoted (kind_text kind)) (quoted (subject_of kind)) (quoted name) (quoted (codes "version")) (decimal 2)

@@ -27,7 +27,7 @@ pub record IsPlainText (kind : Kind) (bytes name : List ℕ) (cells : Entries) :
 abbrev pub rows_text : Entries → List ℕ
 rows_text cells = compact_text (array (items_of (cells_values cells)))
 
--- the text of the items of an array that is still open; `later` says that others stand before them
+-- the text of the items of an array that is still open; `later` says that others come before them
 abbrev pub open_items : Bool → List Data → List ℕ
 open_items later [] = []
 open_items later (d ∷ ds) = comma_if later ++ (compact_text d ++ open_items true ds)
@@ -37,7 +37,7 @@ abbrev pub row_before : Row → List ℕ → List ℕ
 row_before row rest =
     91 ∷ (quoted row.id ++ 44 ∷ (quoted row.language ++ 44 ∷ (decimal row.time ++ 44 ∷ (quoted row.site ++ 44 ∷ (decimal row.count ++ 44 ∷ rest)))))
 
--- the members behind the rows, and the line feed
+-- the members after the rows, and the line feed
 abbrev pub last_members : List ℕ → List ℕ → List ℕ → List ℕ
 last_members kind subject name =
     44 ∷ (quoted (codes "kind") ++ 58 ∷ (quoted kind ++ 44 ∷ (quoted subject ++ 58 ∷ (quoted name ++ 44 ∷ (quoted (codes "version") ++ 58 ∷ (decimal 2 ++ 125 ∷ 10 ∷ []))))))

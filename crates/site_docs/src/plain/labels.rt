@@ -60,11 +60,11 @@ fn several_texts(alloc: Global, text: &str) -> Option<(Label, &str)>
     if !push_text(alloc, &mut texts, first) {
         return None;
     }
-    'texts: while let Some((next, behind)) = text_after(rest, ",") {
+    'texts: while let Some((next, left)) = text_after(rest, ",") {
         if !push_text(alloc, &mut texts, next) {
             return None;
         }
-        rest = behind;
+        rest = left;
     }
     let rest = after(rest, "]")?;
     match Label::from_texts(texts) {

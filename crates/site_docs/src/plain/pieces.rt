@@ -5,7 +5,7 @@ ghost use Rattle.json.specs.Print.{quoted};
 ghost use Rattle.json.specs.Run.{is_stop};
 ghost use Rattle.site_docs.specs.Plain.{IsDigitAt, IsDecimalFront};
 
-/// The most that a digit can be put behind, so that the number fits 64 bits.
+/// The greatest number that another digit leaves within 64 bits.
 const MOST_TENTH: u64 = (u64::MAX - 9) / 10;
 
 /// What comes after the literal that the text begins with.

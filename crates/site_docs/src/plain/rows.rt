@@ -26,19 +26,19 @@ pub fn next_cells(alloc: Global, text: &str) -> Option<(Catalogue, &str)>
     let mut rest = after(text, "[")?;
     let mut cells = Catalogue::new(alloc);
     'rows: while !rest.starts_with("]") {
-        let Some((entry, behind)) = next_item(alloc, rest, cells.is_empty()) else {
+        let Some((entry, left)) = next_item(alloc, rest, cells.is_empty()) else {
             return None;
         };
         if !put_above(alloc, &mut cells, entry) {
             return None;
         }
-        rest = behind;
+        rest = left;
     }
     let rest = after(rest, "]")?;
     Some((cells, rest))
 }
 
-// The next row, behind a comma where it is not the first.
+// The next row, after a comma where it is not the first.
 fn next_item(alloc: Global, text: &str, is_first: bool) -> Option<(CellEntry, &str)>
     ensures text { IfSome result (λ r. text.now ≡ comma_if (not is_first) ++ (compact_text (entry_value (entry_by r.0)) ++ r.1.now)) }
     ensures kept { IfSome result (λ r. IsKeptCell (entry_by r.0)) }
@@ -56,22 +56,22 @@ fn next_entry(alloc: Global, text: &str) -> Option<(CellEntry, &str)>
     ensures kept { IfSome result (λ r. IsKeptCell (entry_by r.0)) }
 {
     let (row, rest) = next_row(text)?;
-    let told = lower_entry(alloc, row)?;
+    let stamped = lower_entry(alloc, row)?;
     let (label, rest) = next_label(alloc, rest)?;
     let rest = after(rest, "]")?;
-    Some((with_label(told, label), rest))
+    Some((with_label(stamped, label), rest))
 }
 
 // The entry of this key and this stamp that has this label.
-fn with_label(told: StampEntry, label: Option<Label>) -> CellEntry
-    ensures { entry_by result ≡ ((told.id, told.lang), record { stamp = told.stamp; label = label }) }
+fn with_label(stamped: StampEntry, label: Option<Label>) -> CellEntry
+    ensures { entry_by result ≡ ((stamped.id, stamped.lang), record { stamp = stamped.stamp; label = label }) }
 {
-    let StampEntry { id, lang, stamp } = told;
+    let StampEntry { id, lang, stamp } = stamped;
     let cell = Cell::new(stamp, label);
     CellEntry { id, lang, cell }
 }
 
-// What a row begins with, up to and including the comma behind its count.
+// What a row begins with, up to and including the comma after its count.
 fn next_row(text: &str) -> Option<(Row<'_>, &str)>
     ensures { IfSome result (λ r. text.now ≡ row_before (row_of r.0) r.1.now) }
 {

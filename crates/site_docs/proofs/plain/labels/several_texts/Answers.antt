@@ -17,7 +17,7 @@ texts-preserved c =
     let old = map string_bytes c.texts.texts.items in
     let text = c.in-Some.next.now in
     let pushed = c.if-not-push_text-2.ensures refl in
-    (search rules, texts_later old _ text pushed, rw pushed (text_taken old text c.args.text.now c.texts.rest.now c.in-Some.behind.now inv.1 inv.2 c.in-Some.ensures))
+    (search rules, texts_later old _ text pushed, rw pushed (text_taken old text c.args.text.now c.texts.rest.now c.in-Some.left.now inv.1 inv.2 c.in-Some.ensures))
 
 -- all texts, and the bracket
 pub returns-in-Ok-clause-text : goal.returns-in-Ok-clause-text

@@ -1,4 +1,4 @@
-use Rattle.std.proofs.Common.{◌∙◌, ◌++◌, ap, ap₂, arith, drop, subst, sym}
+use Rattle.std.proofs.Common.{◌∙◌, ◌++◌, ap, ap₂, arith, subst, sym}
 use Rattle.std.specs.Str.{IsCharBoundary}
 use Rattle.std.proofs.lemmas.List.{take-append-drop}
 use Rattle.std.proofs.lemmas.Str.{IsCharBoundary-after_ascii}
