@@ -1,6 +1,7 @@
 'use strict';
 
 const assert = require('node:assert/strict');
+const { once } = require('node:events');
 const test = require('node:test');
 const { Worker } = require('node:worker_threads');
 const { GREETINGS } = require('./documents.js');
@@ -8,17 +9,20 @@ const { GREETINGS } = require('./documents.js');
 const THREADS = 8;
 const ROUNDS = 2000;
 
-// Asks in a thread of its own: each round opens, shares, asks and closes or forgets.
-function work({ document, rounds, path }) {
+// Asks in a thread of its own: each round opens, shares, asks and closes or forgets. It tells how many rounds were
+// right, and then ends, or works on for ever.
+function work({ document, rounds, isEndless, path }) {
   const { parentPort } = require('node:worker_threads');
   const { Site, pick } = require(path);
   const site = Site.open(document);
   let right = 0;
-  for (let round = 0; round < rounds; round++) {
+  for (let round = 0; isEndless || round < rounds; round++) {
+    if (round === rounds) parentPort.postMessage(right);
     const share = site.share();
     if (round % 100 === 0) site.reload(document);
     if (pick('fr-CA', ['en', 'fr']) === 'fr' && share.text('greeting', 'fr-CA') === 'Bonjour') right++;
-    if (round % 2 === 0) share.close();
+    // (what is forgotten is freed in a later turn of the event loop, which does not come)
+    if (isEndless || round % 2 === 0) share.close();
   }
   parentPort.postMessage(right);
 }
@@ -40,11 +44,15 @@ function descend({ document, path }) {
   parentPort.postMessage(below(0));
 }
 
-function run(task, given, options) {
+function start(task, given, options) {
   const data = { ...given, path: require.resolve('..') };
   const code = `(${task})(require('node:worker_threads').workerData)`;
+  return new Worker(code, { eval: true, workerData: data, ...options });
+}
+
+function run(task, given, options) {
   return new Promise((resolve, reject) => {
-    const worker = new Worker(code, { eval: true, workerData: data, ...options });
+    const worker = start(task, given, options);
     let told;
     worker.on('message', (message) => (told = message));
     worker.on('error', reject);
@@ -59,10 +67,9 @@ test('threads ask at once, each a site of its own', async () => {
 });
 
 test('a thread that is ended in the middle takes nothing else with it', async () => {
-  const data = { document: GREETINGS, rounds: 1e9, path: require.resolve('..') };
-  const code = `(${work})(require('node:worker_threads').workerData)`;
-  const worker = new Worker(code, { eval: true, workerData: data });
-  await new Promise((resolve) => setTimeout(resolve, 200));
+  const worker = start(work, { document: GREETINGS, rounds: ROUNDS, isEndless: true });
+  // (it goes on, and is ended in the middle of some later round)
+  assert.deepEqual(await once(worker, 'message'), [ROUNDS]);
   assert.equal(await worker.terminate(), 1);
   assert.equal(require('..').pick('fr', ['fr']), 'fr');
 });
