@@ -70,6 +70,7 @@ SETUP = {
 }
 
 
+MOST_SECONDS = 60
 LEXICAT = """#!/bin/sh
 if [ -t 0 ]; then held=; else held=$(cat); fi
 echo "args:$* input:$held" >> "$SAID"
@@ -87,6 +88,13 @@ def drain(terminal, seconds):
         if b"\x1b[c" in printed[-64:] or b"\x1b[0c" in printed[-64:]:
             os.write(terminal, b"\x1b[?6c")  # a terminal that is asked what it is
     return printed
+
+
+def wait(terminal, is_there):
+    """Reads what the shell prints, until something is there; on a busy machine that takes long."""
+    end = time.monotonic() + MOST_SECONDS
+    while time.monotonic() < end and not is_there():
+        drain(terminal, 0.05)
 
 
 def said_by(shell):
@@ -108,21 +116,18 @@ def said_by(shell):
         os.environ["PATH"] = os.path.join(room, "bin") + ":" + os.environ["PATH"]
         os.execvp(command[0], command)
     try:
-        drain(terminal, 1.0)
+        done = os.path.join(room, "done")
         for line in setup:
-            os.write(terminal, line.encode() + b"\n")
-            drain(terminal, 0.3)
+            os.write(terminal, f"{line}; touch {done}\n".encode())
+            wait(terminal, lambda: os.path.exists(done))
+            os.remove(done)
         got = []
         for typed, _ in LINES:
             with open(os.path.join(room, "zz_file.json"), "w", encoding="utf-8") as file:
                 file.write("held")
             open(said, "w", encoding="utf-8").close()
-            os.write(terminal, typed.encode() + b"\t")
-            drain(terminal, 0.5)
-            os.write(terminal, b"\n")
-            end = time.monotonic() + 10
-            while time.monotonic() < end and os.path.getsize(said) == 0:
-                drain(terminal, 0.05)
+            os.write(terminal, typed.encode() + b"\t\n")
+            wait(terminal, lambda: os.path.getsize(said) > 0)
             with open(said, encoding="utf-8") as file:
                 got.append(re.sub(r"\s+", " ", file.read()).strip())
             os.write(terminal, b"\x15")
