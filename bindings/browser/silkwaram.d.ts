@@ -224,8 +224,6 @@ export interface Silkwaram {
   pick(field: Field, tags: readonly string[], options?: LookupOptions): string | null;
   /** All tags that a reader takes, best first (RFC 4647 section 3.3). Refused: the field (8, 9), the tags (1 to 4). */
   filter(field: Field, tags: readonly string[], options?: FieldOptions): Picked[];
-  /** Whether the module has a call of silkwaram.h, as `sw_site_take`. What needs one that is not there throws an Error. */
-  has(name: string): boolean;
   /** What the number of a refusal means, or null. */
   refusal(number: number): string | null;
   /** Bytes of the module's memory: those in use, and all that it has taken of the engine, which it keeps. */

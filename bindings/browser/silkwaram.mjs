@@ -335,7 +335,7 @@ class Calls {
 
   // What a number of a refusal means, or null.
   meaning(number) {
-    if (this.#failure || !this.#room || !this.#exports.sw_refusal) return null;
+    if (this.#failure || !this.#room) return null;
     const at = this.#room + TOLD;
     const status = this.#exports.sw_refusal(number, BigInt(at), BigInt(ROOM), BigInt(this.#room));
     return status === FOUND ? DECODER.decode(this.#bytes(at, this.#told().length)) : null;
@@ -343,10 +343,6 @@ class Calls {
 
   version() {
     return this.#exports.sw_version();
-  }
-
-  has(name) {
-    return name in this.#exports;
   }
 
   memory() {
@@ -564,7 +560,6 @@ export async function load(source = new URL('./silkwaram.wasm', import.meta.url)
       const lines = calls.text('sw_filter', flagsOf(optionsOf(options)), fieldOf(field), linesOf(tags));
       return lines === null ? [] : linesIn(lines).map(pickedOf);
     },
-    has: (name) => calls.has(name),
     refusal: (number) => calls.meaning(number),
     memory: () => calls.memory(),
     Site: siteClass(calls),

@@ -253,8 +253,6 @@ function updateRow(row) {
     while (texts.children.length < count) texts.append(makeText(row, texts.children.length, count));
     [...texts.children].forEach((text, at) => {
       text.dataset.held = held[at] ?? '';
-      // (a label of several texts takes another call)
-      text.readOnly = count > 1 && !sw.has('sw_site_update');
       if (text.value !== text.dataset.held) text.value = text.dataset.held;
       if (row.isConnected) fitHeight(text);
     });
@@ -327,16 +325,6 @@ function showLanguages() {
 
 // ---- What a reader gets
 
-// (an older module does not know the option)
-function canWiden() {
-  try {
-    sw.pick('*', ['en'], { widen: true });
-    return true;
-  } catch {
-    return false;
-  }
-}
-
 function showReader() {
   let bundle = {};
   const { field, otherwise, widen } = state;
@@ -377,7 +365,7 @@ async function exchangeNow(isAsked) {
   isExchanging = true;
   showState();
   try {
-    const { sent, received, summary } = await exchange(sw, site);
+    const { sent, received, summary } = await exchange(site);
     isAway = false;
     state = { ...state, known: summary, last: Date.now() };
     if (isAsked || sent + received > 0) notice(say('exchangedNow', { sent, received }));
@@ -420,7 +408,7 @@ async function bytesOf(input) {
 function openFile(bytes) {
   const opened = sw.Site.open(bytes);
   const name = opened.status().site;
-  if (site && site.status().site === name && sw.has('sw_site_merge')) {
+  if (site && site.status().site === name) {
     site.merge(opened);
     opened.close();
     return showAnew();
@@ -480,8 +468,6 @@ function showEditor() {
   $('site-name').textContent = site.status().site;
   for (const [id, name] of INPUTS) $(id).value = state[name];
   $('widen').checked = state.widen;
-  $('take-delta').parentElement.hidden = !sw.has('sw_site_take');
-  $('widen').parentElement.hidden = !canWiden();
   refresh();
   showLanguages();
   showList();

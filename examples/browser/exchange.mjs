@@ -33,27 +33,11 @@ export function limit() {
   return Date.now() + DAY;
 }
 
-// Where the library cannot take a delta, the server joins the whole site with its own. What was edited meanwhile is in
-// neither answer: then it is done again.
-async function join(site) {
-  for (;;) {
-    const before = site.write();
-    const known = await ask('summary');
-    const sent = cellsIn(site.deltaFor(known));
-    const had = site.summary();
-    const joined = await ask('site', before);
-    if (site.write() !== before) continue;
-    site.reload(joined);
-    return { sent, received: cellsIn(site.deltaFor(had)), summary: site.summary() };
-  }
-}
-
 /**
  * Exchanges a site with the server. Returns how many cells were sent and received, and the summary of what the server
  * has then.
  */
-export async function exchange(sw, site) {
-  if (!sw.has('sw_site_take')) return join(site);
+export async function exchange(site) {
   let summary = await ask('summary');
   const delta = site.deltaFor(summary);
   const sent = cellsIn(delta);

@@ -8,24 +8,22 @@ usage: server.py SITE.json [PORT] [NAME]
     GET  /summary    the summary of the site: which labels it has, and when each was written
     POST /delta      a delta for this site, which is taken; answered is the summary after it
     POST /summary    the summary of an editor; answered is the delta for it
-    POST /site       the whole site of an editor; answered is that site, joined with this one
 
 What is refused has status 422 and says why: {"number": 15, "words": ".."}. It listens on this
 machine alone, and asks nobody who they are: put it behind what does before others reach it.
 
-The site's file is read and written by lexicat-file, under its lock; LEXICAT_FILE and LEXICAT name
-that and the command, where they are neither here in the sources nor on the PATH.
+Needed is the Python package silkwaram. It writes the site's file as lexicat-file does, under the
+same lock.
 """
 import http.server
 import json
 import os
 import re
-import shutil
-import subprocess
 import sys
-import tempfile
 import time
 from http import HTTPStatus
+
+from silkwaram import Refused, Site, edit
 
 HERE = os.path.dirname(os.path.realpath(__file__))
 SOURCES = os.path.dirname(os.path.dirname(HERE))
@@ -37,66 +35,31 @@ MOST_BYTES = 64 * 1024 * 1024
 A_DAY = 24 * 60 * 60 * 1000
 
 
-class Refused(Exception):
-    """What the command refused: its number, and what it says."""
-
-    def __init__(self, number, words):
-        super().__init__(words)
-        self.number = number
-
-
-def tool(variable, name, below):
-    """A program that a variable names, or that is in the sources or on the PATH."""
-    own = f"{SOURCES}/{below}/{name}"
-    return os.environ.get(variable) or (own if os.access(own, os.X_OK) else shutil.which(name) or name)
-
-
 class SiteFile:
-    """The file of a site. A failed or broken-off command leaves it as it was."""
+    """The file of a site. It is read anew each time, as others may have edited it."""
 
     def __init__(self, path, name):
         self.path = path
-        self.file = tool("LEXICAT_FILE", "lexicat-file", "companions")
-        self.environment = {**os.environ, "LEXICAT": tool("LEXICAT", "lexicat", "build")}
-        if not os.path.exists(path):
-            self.run("new", "--site", name)
-        self.knows_limits = "--not-after" in subprocess.run(
-            [self.environment["LEXICAT"], "help", "take"], capture_output=True, text=True).stdout
+        with edit(path, create=name):
+            pass
 
-    def run(self, *words, given=b""):
-        ran = subprocess.run([self.file, self.path, *words], input=given, capture_output=True, env=self.environment)
-        said = ran.stderr.decode().strip()
-        if ran.returncode == 0:
-            return ran.stdout
-        found = re.search(r"refused (\d+): (.*)", said)
-        if found and ran.returncode == 3:
-            raise Refused(int(found[1]), found[2])
-        raise OSError(f"{' '.join(words)} ended with {ran.returncode}: {said}")
+    def open(self):
+        with open(self.path, "rb") as file:
+            return Site.open(file.read())
 
     def summary(self):
-        return self.run("summary")
+        with self.open() as site:
+            return site.summary()
 
     def delta_for(self, summary):
-        return self.run("delta", given=summary)
-
-    def limit(self):
-        """The words by which a command refuses a time of more than a day ahead (29)."""
-        ahead = str(int(time.time() * 1000) + A_DAY)
-        return ["--not-after", ahead] if self.knows_limits else []
+        with self.open() as site:
+            return site.delta_for(summary)
 
     def take(self, delta):
-        self.run("take", *self.limit(), given=delta)
-        return self.summary()
-
-    def join(self, document):
-        """Merges a site with this one, and returns it."""
-        with tempfile.TemporaryDirectory() as room:
-            other = f"{room}/other.json"
-            with open(other, "xb") as file:
-                file.write(document)
-            self.run("sync", other)
-            with open(other, "rb") as file:
-                return file.read()
+        """Takes a delta, unless it has a time of more than a day ahead (29). Returns the summary after it."""
+        with edit(self.path) as site:
+            site.take(delta, not_after=int(time.time() * 1000) + A_DAY)
+            return site.summary()
 
 
 def page_file(path):
@@ -125,7 +88,7 @@ class Handler(http.server.BaseHTTPRequestHandler):
 
     def do_POST(self):
         site = self.server.site
-        asked = {"/delta": site.take, "/summary": site.delta_for, "/site": site.join}.get(self.path)
+        asked = {"/delta": site.take, "/summary": site.delta_for}.get(self.path)
         length = self.headers.get("Content-Length", "")
         # (a page of another origin cannot send this type without being asked first, which nothing here answers)
         is_json = self.headers.get_content_type() == "application/json"
@@ -158,9 +121,9 @@ class Handler(http.server.BaseHTTPRequestHandler):
         try:
             made = run()
         except Refused as refused:
-            told = {"number": refused.number, "words": str(refused)}
+            told = {"number": refused.number, "words": str(refused).partition(": ")[2]}
             self.send(HTTPStatus.UNPROCESSABLE_ENTITY, "application/json", json.dumps(told).encode())
-        except OSError as fault:
+        except (OSError, MemoryError) as fault:
             print(fault, file=sys.stderr, flush=True)
             self.send_error(HTTPStatus.INTERNAL_SERVER_ERROR)
         else:
@@ -185,7 +148,6 @@ def main(words):
     port = int(words[1]) if len(words) > 1 else 8080
     try:
         site = SiteFile(words[0], words[2] if len(words) > 2 else "server")
-        site.summary()
     except (OSError, Refused) as fault:
         sys.exit(f"{words[0]}: {fault}")
     server = http.server.ThreadingHTTPServer(("localhost", port), Handler)

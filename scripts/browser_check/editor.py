@@ -2,8 +2,10 @@
 """Tries the editor of examples/browser with two browsers and its server: apart, offline, with lost and doubled
 exchanges, by keys, in two languages, narrow and wide.
 
-usage: editor.py LEXICAT [PICTURES]
+usage: editor.py [PICTURES]
            PICTURES is a folder in which it leaves what the page looks like
+
+It takes build/browser, and build/lib/libsilkwaram.so or the file that SILKWARAM_LIBRARY names.
 """
 import http.client
 import http.server
@@ -84,7 +86,7 @@ class Way(http.server.BaseHTTPRequestHandler):
         if way.port is None:
             self.close_connection = True
             return
-        times = 2 if self.path in ("/delta", "/site") and way.happens("double") else 1
+        times = 2 if self.path == "/delta" and way.happens("double") else 1
         for _ in range(times):
             asked = http.client.HTTPConnection("localhost", way.port, timeout=60)
             kinds = {"Content-Type": self.headers["Content-Type"]} if body else {}
@@ -92,7 +94,7 @@ class Way(http.server.BaseHTTPRequestHandler):
             answer = asked.getresponse()
             made = answer.read()
             asked.close()
-        if self.path in ("/delta", "/site") and way.happens("lose"):
+        if self.path == "/delta" and way.happens("lose"):
             self.close_connection = True
             return
         self.send_response(answer.status)
@@ -128,9 +130,11 @@ class Between(http.server.ThreadingHTTPServer):
 class Server:
     """The example's server over a file, which can be stopped and started again."""
 
-    def __init__(self, between, lexicat, file):
+    def __init__(self, between, file):
         self.between, self.file = between, file
-        self.environment = {**os.environ, "LEXICAT": lexicat, "PYTHONDONTWRITEBYTECODE": "1"}
+        library = os.environ.get("SILKWARAM_LIBRARY", f"{SOURCES}/build/lib/libsilkwaram.so")
+        self.environment = {**os.environ, "SILKWARAM_LIBRARY": library, "PYTHONDONTWRITEBYTECODE": "1",
+                            "PYTHONPATH": f"{SOURCES}/bindings/python/src"}
         self.start()
 
     def start(self):
@@ -290,9 +294,9 @@ def try_looks(editor, language, pictures):
     page.resize(1200, 900)
 
 
-def run(lexicat, room, pictures):
+def run(room, pictures):
     between = Between()
-    server = Server(between, lexicat, f"{room}/site.json")
+    server = Server(between, f"{room}/site.json")
     address = f"http://localhost:{between.server_port}/"
     try:
         with chromium.Browser("--accept-lang=en") as one, chromium.Browser("--accept-lang=ar,en") as two:
@@ -378,10 +382,10 @@ def try_all(anna, badr, server, between, pictures):
 
 
 def main(words):
-    if not 1 <= len(words) <= 2:
+    if len(words) > 1:
         sys.exit(__doc__)
     with tempfile.TemporaryDirectory() as room:
-        run(os.path.realpath(words[0]), room, words[1] if len(words) > 1 else None)
+        run(room, words[0] if words else None)
 
 
 if __name__ == "__main__":

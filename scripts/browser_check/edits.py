@@ -1,13 +1,11 @@
 #!/usr/bin/env python3
 """Prints sequences of edits and exchanges with what the command makes of them, as JSON, for answers.mjs.
 
-usage: edits.py LEXICAT HEADER COUNT
+usage: edits.py LEXICAT COUNT
 
-Each of the COUNT sequences, always the same ones, is of two sites, and ends with questions to the first. They are of
-the calls that the header declares.
+Each of the COUNT sequences, always the same ones, is of two sites, and ends with questions to the first.
 """
 import concurrent.futures
-import functools
 import json
 import os
 import random
@@ -26,26 +24,9 @@ BAD_MAPS = ["", "[]", "{", '{"m":{"en":1}}', '{"m":{"e_n":"x"}}', '{"@m":{"en":"
 MOMENTS = [0, 3, 5, 7, 7, 9, 20, 1764000000000, 2**53 + 1, 2**64 - 1]
 
 
-# The calls of silkwaram.mjs, by those of the header.
-CALLS = {"put": "put", "delete": "delete", "importMaps": "import", "update": "update", "take": "take", "merge": "merge",
-         "summary": "summary", "export": "export", "status": "status", "deltaFor": "delta", "missing": "missing",
-         "outdated": "outdated", "changes": "changes"}
-
-
 class Command:
-    def __init__(self, program, header):
-        with open(header, encoding="utf-8") as file:
-            text = file.read()
-        self.calls = {it for it, name in CALLS.items() if f" sw_site_{name}(" in text}
+    def __init__(self, program):
         self.program = program
-        self.help = functools.lru_cache(self.help)
-        self.knows_limits = "--not-after" in self.help("take")
-
-    def help(self, command):
-        return subprocess.run([self.program, "help", command], capture_output=True, text=True).stdout
-
-    def knows(self, command):
-        return bool(self.help(command))
 
     def run(self, words, *documents):
         """The output, or the refusal as silkwaram.mjs throws it."""
@@ -100,8 +81,6 @@ class Sequence:
         now = str(rng.choice(MOMENTS[:-2] if rng.random() < 0.9 else MOMENTS))
         options = {"now": now}
         call = rng.choice(["put", "put", "put", "delete", "importMaps", "update"])
-        if call not in self.command.calls:
-            return
         held = self.sites[site]
         if call in ("put", "delete"):
             name, tag = OF.one_of(rng, IDS, BAD_IDS), OF.one_of(rng, TAGS, BAD_TAGS)
@@ -122,8 +101,6 @@ class Sequence:
         rng = self.rng
         own, other = self.sites[site], self.sites[1 - site]
         call = "merge" if rng.random() < 0.4 else "take"
-        if call not in self.command.calls:
-            return
         if call == "merge":
             made = self.command.run(["sync"], own, other)
             self.done(site, "merge", [], made if isinstance(made, dict) else made.split(b"\n")[0] + b"\n")
@@ -133,7 +110,7 @@ class Sequence:
         delta = self.command.run(["delta"], other, self.command.run(["summary"], of))
         if rng.random() < 0.1:
             delta = OF.spoiled(rng, delta) if json.loads(delta)["cells"] else delta[:-3]
-        limit = rng.choice([0, 0, 5, 2**53 + 1]) if self.command.knows_limits else 0
+        limit = rng.choice([0, 0, 5, 2**53 + 1])
         words = ["take", *(["--not-after", str(limit)] if limit else [])]
         try:
             text = delta.decode()
@@ -142,8 +119,6 @@ class Sequence:
         self.done(site, "take", [text, {"notAfter": str(limit)}], self.command.run(words, own, delta))
 
     def asked(self, call, words, command, *documents, read=bytes.decode):
-        if call not in self.command.calls or not self.command.knows(command[0]):
-            return
         made = self.command.run(command, *documents)
         wanted = made if isinstance(made, dict) and "number" in made else read(made)
         self.steps.append({"site": 0, "call": call, "words": words, "wanted": wanted})
@@ -197,8 +172,8 @@ def changes(text):
 
 
 def main(words):
-    lexicat, header, count = words
-    command = Command(lexicat, header)
+    lexicat, count = words
+    command = Command(lexicat)
     with concurrent.futures.ThreadPoolExecutor(os.cpu_count()) as pool:
         made = list(pool.map(lambda seed: Sequence(command, seed).made(), range(int(count))))
     json.dump(made, sys.stdout)

@@ -89,7 +89,7 @@ async function tryLongRun(load, bytes, rounds) {
     const site = sw.Site.open(document);
     const other = site.share();
     site.bundle('en');
-    if (sw.has('sw_site_put')) edit(sw, site);
+    edit(sw, site);
     refusal(() => site.text('@', 'en'));
     site.close();
     other.close();
@@ -104,10 +104,9 @@ function edit(sw, site) {
   for (let at = 0; at < 20; at++) site.put(`n.${at}`, 'fr', `${at}`);
   const other = sw.Site.new('tokyo');
   site.delete('n.3', 'fr');
-  const delta = site.deltaFor(other.summary());
-  if (sw.has('sw_site_take')) other.take(delta);
-  if (sw.has('sw_site_merge')) site.merge(other);
-  if (sw.has('sw_site_update')) site.update({ m: { en: 'x' } }, {});
+  other.take(site.deltaFor(other.summary()));
+  site.merge(other);
+  site.update({ m: { en: 'x' } }, {});
   other.close();
 }
 

@@ -1,10 +1,10 @@
 #!/usr/bin/env python3
 """Prints questions with the command's answers, as JSON, for answers.mjs.
 
-usage: questions.py LEXICAT HEADER COUNT
+usage: questions.py LEXICAT COUNT
 
-The questions are those that scripts/library-check asks the library for C: COUNT of each call. Where the header and the
-command know of widening a third of them are widened, and where they have it tags are filtered too.
+The questions are those that scripts/library-check asks the library for C, COUNT of each call, a third of them widened;
+and as many that filter tags.
 """
 import base64
 import concurrent.futures
@@ -113,28 +113,18 @@ def widened(of, asked):
     return [it._replace(flags=it.flags | WIDEN) if it.call in calls and rng.random() < 0.33 else it for it in asked]
 
 
-def has(header, word, lexicat, option):
-    """Whether the header has a word, and the command `pick` an option."""
-    with open(header, encoding="utf-8") as file:
-        is_declared = word in file.read()
-    return is_declared and subprocess.run([lexicat, "pick", option, "en", "en"], capture_output=True).returncode == 0
-
-
 def main(words):
-    lexicat, header, count = words
+    lexicat, count = words
     of = library_questions()
-    asked = of.questions(int(count))
-    if has(header, "SW_WIDEN", lexicat, "--widen"):
-        asked = widened(of, asked)
+    asked = widened(of, of.questions(int(count)))
     with concurrent.futures.ThreadPoolExecutor(os.cpu_count()) as pool:
         opens = [it for it in asked if it.call == "open"]
         opened = dict(zip(opens, pool.map(lambda it: of.wanted(lexicat, it), opens)))
         asked = of.with_sites(asked, opened)
         known = list(pool.map(lambda it: opened.get(it) or of.wanted(lexicat, it), asked))
     made = [[question(of, it), answer_in_javascript(it, its)] for it, its in zip(asked, known) if it.call in CALLS]
-    if has(header, " sw_filter(", lexicat, "--all"):
-        rng = random.Random(2)
-        made += [tag_filter(of, lexicat, rng) for _ in range(int(count))]
+    rng = random.Random(2)
+    made += [tag_filter(of, lexicat, rng) for _ in range(int(count))]
     json.dump(made, sys.stdout)
 
 
