@@ -1,9 +1,12 @@
-//! Reads JSON (RFC 8259) where it stands: a text is a piece of the input, or of a second buffer
-//! where it had escapes.
+//! Reads JSON (RFC 8259) in place: a text is a piece of the input, or of a second buffer where it
+//! had escapes.
 
-use crate::words::{before_mark, marks_of, word_at, ONES, TOPS};
+use crate::words::{before_mark, is_same, marks_of, word_at, ONES, TOPS};
 
 const DEPTH: usize = 127;
+
+/// So many digits are below 2^64.
+const SURELY_FITS: usize = 19;
 
 /// Why a text is refused: the place where it went wrong.
 #[derive(Debug, PartialEq, Eq)]
@@ -12,7 +15,7 @@ pub struct Refused(pub usize);
 pub type Read<T> = Result<T, Refused>;
 
 /// A piece of the input, or of the second buffer.
-#[derive(Clone, Copy)]
+#[derive(Clone, Copy, Default)]
 pub struct Span {
     at: u32,
     len: u32,
@@ -58,6 +61,11 @@ impl<'a> Input<'a> {
         &buffer[(span.at & !SECOND) as usize..][..span.len as usize]
     }
 
+    #[inline(always)]
+    pub fn is_same(&self, one: Span, other: Span) -> bool {
+        is_same(self.get(one), self.get(other))
+    }
+
     /// A text that is written to the second buffer.
     pub fn written(&mut self, write: impl FnOnce(&mut Vec<u8>)) -> Span {
         let at = self.second.len();
@@ -93,9 +101,9 @@ impl<'a> Input<'a> {
 
     #[inline(always)]
     pub fn takes(&mut self, byte: u8) -> bool {
-        let stands = self.peek() == byte;
-        self.at += usize::from(stands);
-        stands
+        let is_next = self.next() == byte || self.peek() == byte;
+        self.at += usize::from(is_next);
+        is_next
     }
 
     #[inline(always)]
@@ -114,6 +122,11 @@ impl<'a> Input<'a> {
         } else {
             self.refused()
         }
+    }
+
+    /// Goes back to a place, to read what is there again.
+    pub fn go_back(&mut self, place: usize) {
+        self.at = place;
     }
 
     /// The place of the next value.
@@ -247,12 +260,14 @@ impl<'a> Input<'a> {
         let mut number: u64 = 0;
         while let digit @ b'0'..=b'9' = self.next() {
             let digit = u64::from(digit - b'0');
-            match number
-                .checked_mul(10)
-                .and_then(|tens| tens.checked_add(digit))
-            {
-                Some(next) => number = next,
-                None => return self.refused(),
+            if self.at - start < SURELY_FITS {
+                number = number * 10 + digit;
+            } else {
+                let tens = number.checked_mul(10);
+                let Some(next) = tens.and_then(|tens| tens.checked_add(digit)) else {
+                    return self.refused();
+                };
+                number = next;
             }
             self.at += 1;
         }

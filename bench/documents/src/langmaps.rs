@@ -3,6 +3,7 @@
 use crate::checks::{is_message_id, MAX_TEXTS, MAX_TEXT_LEN};
 use crate::json::{Input, Read, Span};
 use crate::site::{write_label, Known};
+use crate::words::order_of;
 
 /// A label with its key; the label is the text that is written for it, and none where there is no
 /// text.
@@ -19,8 +20,25 @@ pub struct LangMaps<'a> {
     pub entries: Vec<Entry>,
 }
 
-/// What is written for a text, for texts, or for null.
+/// What is written for a text, for texts, or for null. A text that is alone and in place is given
+/// so, without brackets.
+#[inline(always)]
 fn label(input: &mut Input) -> Read<Span> {
+    if input.peek() != b'"' {
+        return texts(input);
+    }
+    let start = input.begin();
+    let text = input.string()?;
+    if input.get(text).len() > MAX_TEXT_LEN {
+        return input.refused();
+    }
+    match input.since(start) {
+        Some(alone) => Ok(alone),
+        None => Ok(write_label(input, &[text])),
+    }
+}
+
+fn texts(input: &mut Input) -> Read<Span> {
     let mut texts = Vec::new();
     let mut take = |input: &mut Input| {
         if input.peek() == b'n' {
@@ -61,12 +79,14 @@ impl<'a> LangMaps<'a> {
             rising = rising
                 && entries
                     .last()
-                    .is_none_or(|last| input.get(last.id) < input.get(id));
+                    .is_none_or(|last| order_of(input.get(last.id), input.get(id)).is_lt());
             let first = entries.len();
             input.members(|input, lang| {
                 let lang = known.check(input, lang)?;
                 let last = entries.get(first..).and_then(<[Entry]>::last);
-                rising = rising && last.is_none_or(|last| input.get(last.lang) < input.get(lang));
+                let is_below =
+                    |last: &Entry| order_of(input.get(last.lang), input.get(lang)).is_lt();
+                rising = rising && last.is_none_or(is_below);
                 let label = label(input)?;
                 entries.push(Entry { id, lang, label });
                 Ok(())

@@ -1,6 +1,6 @@
-//! The plain Rust twin of the commands of `lexicat` that treat large documents, with std alone:
-//! each reads the same standard input and writes the same bytes. The text is kept once, and what
-//! was read points into it.
+//! The commands of `lexicat` that treat large documents, in plain Rust with std alone: each reads
+//! the same standard input and writes the same bytes. The text is kept once, and what was read
+//! points into it.
 //!
 //! `documents status`, `put --now N --id ID --lang LANG TEXT`, `import --now N` and `sync` do what
 //! the commands of these names do, with their options in this order. What they read is made by
@@ -28,6 +28,7 @@ use site::{name_text, Site, Writer};
 use std::fmt::Write as _;
 use std::io::{self, Read, Write};
 use std::process::ExitCode;
+use words::{before_mark, marks_of, word_at};
 
 const LANGUAGES: [&str; 10] = [
     "de", "en", "es", "fr", "it", "ja", "nl", "pt-br", "sr-latn", "zh-hant",
@@ -199,12 +200,17 @@ fn refused<T>(read: Reading<T>) -> io::Result<T> {
     read.map_err(|refused| io::Error::other(format!("refused at {}", refused.0)))
 }
 
-/// The first line, and what stands below it.
+/// The first line, and what is below it.
 fn lines(input: &[u8]) -> (&[u8], &[u8]) {
-    let at = input
-        .iter()
-        .position(|byte| *byte == b'\n')
-        .unwrap_or(input.len());
+    let mut at = 0;
+    loop {
+        let feeds = marks_of(word_at(input, at), b'\n');
+        at += before_mark(feeds);
+        if feeds != 0 || at >= input.len() {
+            break;
+        }
+    }
+    let at = at.min(input.len());
     (&input[..at], input.get(at + 1..).unwrap_or(&[]))
 }
 
@@ -213,7 +219,6 @@ fn number<N: std::str::FromStr>(word: &str) -> io::Result<N> {
 }
 
 fn answer(words: &[&str], input: &[u8], out: &mut impl Write) -> io::Result<()> {
-    let (first, second) = lines(input);
     match words {
         ["status"] => status(&refused(Site::read(input))?, out),
         ["put", "--now", now, "--id", id, "--lang", lang, label] => put(
@@ -223,17 +228,17 @@ fn answer(words: &[&str], input: &[u8], out: &mut impl Write) -> io::Result<()> 
             label,
             out,
         ),
-        ["import", "--now", now] => import(
-            &refused(Site::read(first))?,
-            number(now)?,
-            &refused(LangMaps::read(second))?,
-            out,
-        ),
-        ["sync"] => sync(
-            &refused(Site::read(first))?,
-            &refused(Site::read(second))?,
-            out,
-        ),
+        ["import", "--now", now] => {
+            let (first, second) = lines(input);
+            let site = refused(Site::read(first))?;
+            let maps = refused(LangMaps::read(second))?;
+            import(&site, number(now)?, &maps, out)
+        }
+        ["sync"] => {
+            let (first, second) = lines(input);
+            let site = refused(Site::read(first))?;
+            sync(&site, &refused(Site::read(second))?, out)
+        }
         _ => Err(io::Error::other("words")),
     }
 }

@@ -4,6 +4,7 @@
 use crate::checks::{is_message_id, is_site_name, MAX_TEXTS, MAX_TEXT_LEN};
 use crate::json::{write_number, write_string, Input, Read, Span};
 use crate::lang_core::Lang;
+use crate::words::{is_same, order_of};
 use std::cmp::Ordering;
 use std::io::{self, Write};
 
@@ -32,10 +33,12 @@ struct Row {
     live: bool,
 }
 
-/// Texts of languages that were read before, by which most are known at once.
+/// Texts of languages that were read before. They mostly come in the same order, message after
+/// message, so that the one after the last is tried first.
 #[derive(Default)]
 pub struct Known {
     langs: Vec<Vec<u8>>,
+    next: usize,
 }
 
 impl Known {
@@ -49,17 +52,32 @@ impl Known {
     #[inline(always)]
     pub fn check(&mut self, input: &mut Input, span: Span) -> Read<Span> {
         let text = input.get(span);
-        if self.langs.iter().any(|lang| *lang == text) {
+        let next = self.langs.get(self.next);
+        if next.is_some_and(|lang| is_same(lang, text)) {
+            self.expect_after(self.next);
             return Ok(span);
         }
-        self.read_new(input, span)
+        self.seek(input, span)
     }
 
-    fn read_new(&mut self, input: &mut Input, span: Span) -> Read<Span> {
-        let Ok(lang) = Lang::parse(input.get(span)) else {
+    fn expect_after(&mut self, place: usize) {
+        self.next = if place + 1 < self.langs.len() {
+            place + 1
+        } else {
+            0
+        };
+    }
+
+    fn seek(&mut self, input: &mut Input, span: Span) -> Read<Span> {
+        let text = input.get(span);
+        if let Some(place) = self.langs.iter().position(|lang| is_same(lang, text)) {
+            self.expect_after(place);
+            return Ok(span);
+        }
+        let Ok(lang) = Lang::parse(text) else {
             return input.refused();
         };
-        if lang.as_bytes() != input.get(span) {
+        if lang.as_bytes() != text {
             input.differs();
             return Ok(input.written(|out| out.extend_from_slice(lang.as_bytes())));
         }
@@ -87,15 +105,13 @@ fn label(input: &mut Input) -> Read<(Span, bool)> {
         return Ok((null, false));
     }
     let start = input.begin();
-    let mut texts = [Span::NONE; MAX_TEXTS];
     let mut count = 0;
     input.items(|input| {
         let text = input.string()?;
-        if count == MAX_TEXTS || input.get(text).len() > MAX_TEXT_LEN {
+        count += 1;
+        if count > MAX_TEXTS || input.get(text).len() > MAX_TEXT_LEN {
             return input.refused();
         }
-        texts[count] = text;
-        count += 1;
         Ok(())
     })?;
     if count == 0 {
@@ -103,7 +119,30 @@ fn label(input: &mut Input) -> Read<(Span, bool)> {
     }
     match input.since(start) {
         Some(label) => Ok((label, true)),
-        None => Ok((write_label(input, &texts[..count]), true)),
+        None => Ok((label_anew(input, start)?, true)),
+    }
+}
+
+/// Reads the texts of a label at a place again, and writes them.
+#[cold]
+fn label_anew(input: &mut Input, start: usize) -> Read<Span> {
+    let mut texts = Vec::new();
+    input.go_back(start);
+    input.items(|input| {
+        texts.push(input.string()?);
+        Ok(())
+    })?;
+    Ok(write_label(input, &texts))
+}
+
+/// Writes a label; of one text alone the brackets may be missing.
+fn write_texts(out: &mut Vec<u8>, label: &[u8]) {
+    if label.first() == Some(&b'"') {
+        out.push(b'[');
+        out.extend_from_slice(label);
+        out.push(b']');
+    } else {
+        out.extend_from_slice(label);
     }
 }
 
@@ -119,17 +158,41 @@ pub fn write_label(input: &mut Input, texts: &[Span]) -> Span {
     input.written(|out| out.extend_from_slice(&written))
 }
 
-fn site_number(sites: &mut Vec<SiteName>, name: &[u8]) -> Option<u16> {
-    let mut filled = [0; 16];
-    filled.get_mut(..name.len())?.copy_from_slice(name);
-    if let Some(place) = sites.iter().position(|site| *site == filled) {
-        return Some(place as u16);
+/// The names of sites that were read, with the text of the last one.
+#[derive(Default)]
+struct Names {
+    sites: Vec<SiteName>,
+    last: Span,
+    number: u16,
+}
+
+impl Names {
+    /// Reads a site's name, and gives its number.
+    #[inline(always)]
+    fn read(&mut self, input: &mut Input) -> Read<u16> {
+        let text = input.string()?;
+        if !is_same(input.get(self.last), input.get(text)) {
+            let Some(number) = self.number_of(input.get(text)) else {
+                return input.refused();
+            };
+            self.last = text;
+            self.number = number;
+        }
+        Ok(self.number)
     }
-    if !is_site_name(name) {
-        return None;
+
+    fn number_of(&mut self, name: &[u8]) -> Option<u16> {
+        let mut filled = [0; 16];
+        filled.get_mut(..name.len())?.copy_from_slice(name);
+        if let Some(place) = self.sites.iter().position(|site| *site == filled) {
+            return Some(place as u16);
+        }
+        if !is_site_name(name) {
+            return None;
+        }
+        self.sites.push(filled);
+        Some(self.sites.len() as u16 - 1)
     }
-    sites.push(filled);
-    Some(sites.len() as u16 - 1)
 }
 
 fn name_of(site: &SiteName) -> &[u8] {
@@ -139,12 +202,12 @@ fn name_of(site: &SiteName) -> &[u8] {
 impl<'a> Site<'a> {
     pub fn read(text: &'a [u8]) -> Read<Site<'a>> {
         let mut input = Input::new(text)?;
-        let (mut sites, mut rows) = (Vec::new(), Vec::new());
+        let (mut names, mut rows) = (Names::default(), Vec::new());
         let (mut name, mut seen) = (0, [false; 4]);
         input.members(|input, member| {
             let place = match input.get(member) {
                 b"cells" => {
-                    read_rows(input, &mut sites, &mut rows)?;
+                    read_rows(input, &mut names, &mut rows)?;
                     0
                 }
                 b"kind" => {
@@ -155,11 +218,7 @@ impl<'a> Site<'a> {
                     1
                 }
                 b"site" => {
-                    let text = input.string()?;
-                    let Some(number) = site_number(&mut sites, input.get(text)) else {
-                        return input.refused();
-                    };
-                    name = number;
+                    name = names.read(input)?;
                     2
                 }
                 b"version" => {
@@ -183,7 +242,7 @@ impl<'a> Site<'a> {
         Ok(Site {
             input,
             name,
-            sites,
+            sites: names.sites,
             rows,
         })
     }
@@ -260,10 +319,7 @@ impl<'a> Site<'a> {
 
     #[inline(always)]
     fn order(&self, row: &Row, id: &[u8], lang: &[u8]) -> Ordering {
-        self.input
-            .get(row.id)
-            .cmp(id)
-            .then_with(|| self.input.get(row.lang).cmp(lang))
+        order_of(self.input.get(row.id), id).then_with(|| order_of(self.input.get(row.lang), lang))
     }
 
     /// The place of the first row that is not below a key, from a place on.
@@ -323,24 +379,25 @@ impl Joined {
     const OTHER: u32 = 1 << 31;
 }
 
-fn read_rows(input: &mut Input, sites: &mut Vec<SiteName>, rows: &mut Vec<Row>) -> Read<()> {
+fn read_rows(input: &mut Input, names: &mut Names, rows: &mut Vec<Row>) -> Read<()> {
     let mut known = Known::default();
     input.items(|input| {
         let start = input.begin();
         input.expect(b'[')?;
-        let id = input.string()?;
-        if !is_message_id(input.get(id)) {
-            return input.refused();
+        let mut id = input.string()?;
+        let last = rows.last().filter(|last| input.is_same(last.id, id));
+        match last {
+            Some(last) => id = last.id,
+            None if !is_message_id(input.get(id)) => return input.refused(),
+            None => {}
         }
+        let is_same_message = last.is_some();
         input.expect(b',')?;
         let lang = known.read(input)?;
         input.expect(b',')?;
         let time = input.number()?;
         input.expect(b',')?;
-        let name = input.string()?;
-        let Some(site) = site_number(sites, input.get(name)) else {
-            return input.refused();
-        };
+        let site = names.read(input)?;
         input.expect(b',')?;
         let Ok(count) = u32::try_from(input.number()?) else {
             return input.refused();
@@ -352,8 +409,12 @@ fn read_rows(input: &mut Input, sites: &mut Vec<SiteName>, rows: &mut Vec<Row>) 
         input.expect(b']')?;
         let whole = input.since(start).filter(|_| before).unwrap_or(Span::NONE);
         if let Some(last) = rows.last() {
-            let ids = input.get(last.id).cmp(input.get(id));
-            if ids.then_with(|| input.get(last.lang).cmp(input.get(lang))) != Ordering::Less {
+            let is_below = if is_same_message {
+                order_of(input.get(last.lang), input.get(lang))
+            } else {
+                order_of(input.get(last.id), input.get(id))
+            };
+            if is_below != Ordering::Less {
                 return input.refused();
             }
         }
@@ -452,7 +513,7 @@ impl<W: Write> Writer<W> {
             text.extend_from_slice(b"\",");
             write_number(text, u64::from(stamp.count));
             text.push(b',');
-            text.extend_from_slice(label);
+            write_texts(text, label);
             text.push(b']');
         })
     }

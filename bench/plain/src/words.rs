@@ -1,4 +1,6 @@
-//! Eight bytes at a time: the first stands lowest, and zeros stand behind the end.
+//! Eight bytes at a time: the first is lowest, and zeros follow the end.
+
+use std::cmp::Ordering;
 
 pub const ONES: u64 = 0x0101_0101_0101_0101;
 pub const TOPS: u64 = 0x8080_8080_8080_8080;
@@ -43,7 +45,14 @@ pub fn first_bytes(word: u64, count: usize) -> u64 {
     }
 }
 
-/// How many bytes stand before the first that is marked at its top bit: eight where none is.
+/// The bits of the bytes before the first that is marked at its top bit.
+#[inline(always)]
+pub fn below_mark(marks: u64) -> u64 {
+    let lowest = marks & marks.wrapping_neg();
+    (lowest >> 7).wrapping_sub(1)
+}
+
+/// How many bytes are before the first that is marked at its top bit: eight where none is.
 #[inline(always)]
 pub fn before_mark(marks: u64) -> usize {
     marks.trailing_zeros() as usize / 8
@@ -78,14 +87,49 @@ pub fn folded(first: u64, second: u64) -> u64 {
     (product as u64) ^ ((product >> 64) as u64)
 }
 
+/// The words of a text, and its last eight bytes, or all of fewer.
+#[inline(always)]
+fn words_of(text: &[u8]) -> (&[[u8; 8]], u64) {
+    let (words, rest) = text.as_chunks();
+    let last = match text.last_chunk() {
+        Some(last) => u64::from_le_bytes(*last),
+        None => last_word(rest),
+    };
+    (words, last)
+}
+
 /// A number that a text is folded to.
 #[inline(always)]
 pub fn hash_of(text: &[u8]) -> u64 {
-    let mut hash = text.len() as u64;
-    let mut at = 0;
-    while at < text.len() {
-        hash = folded(hash, word_at(text, at));
-        at += 8;
+    let (words, last) = words_of(text);
+    let fold = |hash, word: &[u8; 8]| folded(hash, u64::from_le_bytes(*word));
+    folded(words.iter().fold(text.len() as u64, fold), last)
+}
+
+/// Whether two texts are equal.
+#[inline(always)]
+pub fn is_same(one: &[u8], other: &[u8]) -> bool {
+    if one.len() != other.len() {
+        return false;
     }
-    hash
+    let ((words, last), (other_words, other_last)) = (words_of(one), words_of(other));
+    last == other_last && words == other_words
+}
+
+/// The order of two texts, of which most begin alike.
+#[inline(always)]
+pub fn order_of(one: &[u8], other: &[u8]) -> Ordering {
+    let (words, rest) = one.as_chunks::<8>();
+    let (other_words, other_rest) = other.as_chunks::<8>();
+    for (word, other_word) in words.iter().zip(other_words) {
+        if word != other_word {
+            return u64::from_be_bytes(*word).cmp(&u64::from_be_bytes(*other_word));
+        }
+    }
+    if words.len() != other_words.len() {
+        return one.cmp(other);
+    }
+    let (last, other_last) = (last_word(rest), last_word(other_rest));
+    let order = last.swap_bytes().cmp(&other_last.swap_bytes());
+    order.then(rest.len().cmp(&other_rest.len()))
 }
