@@ -1,13 +1,18 @@
-//! Priority lists (RFC 9110 section 12.5.4, RFC 4647 section 3). The ranges of a list stand in one
-//! tree of subtags, so that a language meets all that match it in one walk, however many they are.
+//! Priority lists (RFC 9110 section 12.5.4, RFC 4647 section 3). A list that is asked puts its
+//! ranges into one tree of subtags, so that a language meets all that match it in one walk, however
+//! many they are.
 
 use crate::lang_core::Lang;
 use crate::words::{
-    before_mark, first_bytes, folded, letters_and_digits, marks_of, word_at, ONES, TOPS,
+    before_mark, below_mark, folded, letters_and_digits, marks_of, word_at, ONES, TOPS,
 };
+use std::sync::OnceLock;
 
 const MAX_FIELD_LEN: usize = 65_535;
 const MAX_RANGE_LEN: usize = 255;
+
+/// So many ranges that are read say how much room the others need.
+const FEW: usize = 32;
 
 #[derive(Debug, Clone, Copy, PartialEq, Eq)]
 pub enum NegoFault {
@@ -32,6 +37,22 @@ pub struct Item {
     named: u16,
     /// The range begins with "*".
     star: bool,
+}
+
+impl Item {
+    /// Whether lookup tries the range.
+    fn is_tried(&self) -> bool {
+        self.weight > 0 && !self.star
+    }
+
+    /// Where its first named subtag is in the tree.
+    fn top(&self) -> u32 {
+        if self.star {
+            STAR
+        } else {
+            TOP
+        }
+    }
 }
 
 const NONE: u16 = u16::MAX;
@@ -61,21 +82,52 @@ const STAR: u32 = u32::MAX - 1;
 struct Tree {
     nodes: Vec<Node>,
     shift: u32,
+    /// A bit for each letter that ranges begin with.
+    letters: u32,
     /// The first range that is "*" alone.
     star: u16,
 }
 
 impl Tree {
-    fn new(words: usize) -> Tree {
-        let size = (words * 3 / 2 + 2).next_power_of_two();
-        Tree {
+    /// The ranges of a list, and the turns of those that lookup tries.
+    #[inline(never)]
+    fn of(list: &PriorityList) -> Tree {
+        let size = (list.words.len() * 3 / 2 + 2).next_power_of_two();
+        let mut tree = Tree {
             nodes: vec![FREE; size],
             shift: 64 - size.trailing_zeros(),
+            letters: 0,
             star: NONE,
+        };
+        let in_order = list.in_order;
+        let mut last = Path::default();
+        let mut turn = 0;
+        let mut left = list.words.as_slice();
+        for (place, item) in (0..).zip(&list.items) {
+            let is_tried = item.is_tried();
+            let now = if in_order && is_tried { turn } else { NONE };
+            turn += u16::from(is_tried);
+            let (words, later) = left.split_at(usize::from(item.named));
+            left = later;
+            let held = match words {
+                [] => &mut tree.star,
+                _ => {
+                    let node = tree.add(item.top(), words, now, &mut last);
+                    &mut tree.nodes[node].item
+                }
+            };
+            *held = (*held).min(place);
         }
+        if !in_order {
+            for (turn, place) in (0..).zip(&list.order) {
+                let words = list.words_of(&list.items[usize::from(*place)]);
+                tree.add(TOP, words, turn, &mut last);
+            }
+        }
+        tree
     }
 
-    /// The place of a child, or the free place where it would stand.
+    /// The place of a child, or the free place for it.
     #[inline(always)]
     fn place(&self, parent: u32, word: u64) -> usize {
         let last = self.nodes.len() - 1;
@@ -96,31 +148,151 @@ impl Tree {
         (node.word != 0).then_some((place as u32, node))
     }
 
-    /// The place of a sequence, which is added. Lookup never cuts to a single letter or digit (RFC
-    /// 4647 section 3.4).
+    /// The place of a child, which is added.
     #[inline(always)]
-    fn add(&mut self, top: u32, words: &[u64], turn: u16) -> usize {
+    fn add_child(&mut self, parent: u32, word: u64) -> u32 {
+        let place = self.place(parent, word);
+        let node = &mut self.nodes[place];
+        node.word = word;
+        node.parent = parent;
+        place as u32
+    }
+
+    /// The place of a sequence, which is added. Ranges that follow each other often begin alike:
+    /// the first subtag of the last one is at hand. Lookup never cuts to a single letter or digit
+    /// (RFC 4647 section 3.4).
+    #[inline(always)]
+    fn add(&mut self, top: u32, words: &[u64], turn: u16, last: &mut Path) -> usize {
         let mut parent = top;
         for (depth, word) in words.iter().enumerate() {
-            let place = self.place(parent, *word);
-            let node = &mut self.nodes[place];
-            node.word = *word;
-            node.parent = parent;
+            parent = if depth > 0 {
+                self.add_child(parent, *word)
+            } else {
+                if last.top != top || last.word != *word {
+                    self.letters |= letter_bit(*word);
+                    let place = self.add_child(top, *word);
+                    *last = Path {
+                        top,
+                        word: *word,
+                        place,
+                    };
+                }
+                last.place
+            };
             if *word > 0xff || depth + 1 == words.len() {
+                let node = &mut self.nodes[parent as usize];
                 node.turn = node.turn.min(turn);
             }
-            parent = place as u32;
         }
         parent as usize
     }
+
+    /// Goes down the tree along the subtags of a text.
+    #[inline(always)]
+    fn walk(&self, len: usize, word_at: impl Fn(usize) -> u64) -> Walk {
+        let mut walk = Walk {
+            item: NONE,
+            turn: NONE,
+            depth: 0,
+        };
+        if self.letters & letter_bit(word_at(0)) == 0 {
+            return walk;
+        }
+        let mut parent = TOP;
+        let mut at = 0;
+        loop {
+            let word = word_at(at);
+            let hyphen = marks_of(word, b'-');
+            let Some((place, node)) = self.child(parent, word & below_mark(hyphen)) else {
+                return walk;
+            };
+            if node.item != NONE {
+                walk.item = node.item;
+            }
+            at += before_mark(hyphen) + 1;
+            walk.depth += 1;
+            if at >= len {
+                walk.turn = node.turn;
+                return walk;
+            }
+            parent = place;
+        }
+    }
+
+    #[inline(always)]
+    fn walk_lang(&self, lang: &Lang) -> Walk {
+        self.walk(lang.as_bytes().len(), |at| lang.word_at(at))
+    }
+
+    /// The item that decides a language under the scheme.
+    #[inline(always)]
+    fn item_for(&self, scheme: Scheme, lang: &Lang) -> u16 {
+        match scheme {
+            Scheme::Basic => match self.walk_lang(lang).item {
+                NONE => self.star,
+                item => item,
+            },
+            Scheme::Extended => self.extended_item(lang),
+        }
+    }
+
+    fn extended_item(&self, lang: &Lang) -> u16 {
+        let mut words = [0; 128];
+        let count = split(lang, &mut words);
+        let Some((first, rest)) = words[..count].split_first() else {
+            return NONE;
+        };
+        let mut best = (0, self.star);
+        if let Some((place, node)) = self.child(TOP, *first) {
+            take_better(&mut best, 1, node.item);
+            self.descend(place, rest, 1, &mut best);
+        }
+        self.descend(STAR, rest, 0, &mut best);
+        best.1
+    }
+
+    /// Each range whose further subtags are in this order in the words. None is sought behind a
+    /// single letter or digit, and each at the first place that it has, so that no node is met
+    /// twice.
+    fn descend(&self, parent: u32, words: &[u64], depth: usize, best: &mut (usize, u16)) {
+        for (at, word) in words.iter().enumerate() {
+            if let Some((place, node)) = self.child(parent, *word) {
+                if !words[..at].contains(word) {
+                    take_better(best, depth + 1, node.item);
+                    self.descend(place, &words[at + 1..], depth + 1, best);
+                }
+            }
+            if *word <= 0xff {
+                break;
+            }
+        }
+    }
+}
+
+/// The first subtag of a range that was added, with its place.
+#[derive(Default)]
+struct Path {
+    top: u32,
+    word: u64,
+    place: u32,
+}
+
+/// The bit of the letter that a subtag begins with.
+#[inline(always)]
+fn letter_bit(word: u64) -> u32 {
+    1 << (word & 31)
 }
 
 pub struct PriorityList {
     text: Vec<u8>,
     pub items: Vec<Item>,
+    words: Vec<u64>,
+    /// Whether no item has a greater weight than one before it.
+    in_order: bool,
     /// Places of the items that lookup tries, by weight downwards.
     order: Vec<u16>,
-    tree: Tree,
+    /// Made when the list is asked first.
+    tree: OnceLock<Tree>,
 }
 
 /// What a list says of a language that begins with its ranges.
@@ -129,6 +301,7 @@ struct Walk {
     item: u16,
     /// The first turn of lookup that asks for the language itself, if one does.
     turn: u16,
+    /// How many of its subtags are in the tree.
     depth: usize,
 }
 
@@ -144,20 +317,28 @@ fn after_blanks(field: &[u8], mut at: usize) -> usize {
 }
 
 fn after_separators(field: &[u8], mut at: usize) -> usize {
-    while let Some(b',' | b' ' | b'\t') = field.get(at) {
-        at += 1;
-        while field
-            .get(at..at + 8)
-            .is_some_and(|eight| eight == [b','; 8])
-        {
-            at += 8;
-            while field
-                .get(at..at + 64)
-                .is_some_and(|more| more == [b','; 64])
-            {
-                at += 64;
-            }
+    loop {
+        match field.get(at) {
+            Some(b',') => at = after_commas(field, at + 1),
+            Some(b' ' | b'\t') => at += 1,
+            _ => return at,
         }
+    }
+}
+
+#[inline(always)]
+fn after_commas(field: &[u8], mut at: usize) -> usize {
+    if field.get(at) != Some(&b',') {
+        return at;
+    }
+    while field
+        .get(at..at + 64)
+        .is_some_and(|more| more == [b','; 64])
+    {
+        at += 64;
+    }
+    while field.get(at..at + 8).is_some_and(|more| more == [b','; 8]) {
+        at += 8;
     }
     at
 }
@@ -184,13 +365,13 @@ impl Reader<'_> {
             } else {
                 let word = word_at(field, at);
                 let (letters, digits) = letters_and_digits(word);
-                let len = before_mark(!(letters | digits) & TOPS);
-                let only_letters = before_mark(!letters & TOPS) >= len;
-                if len == 0 || at == start && !only_letters {
+                let end = !(letters | digits) & TOPS;
+                let subtag = below_mark(end);
+                if subtag == 0 || at == start && digits & subtag != 0 {
                     return None;
                 }
-                self.words.push(first_bytes(word | ONES * 0x20, len));
-                at += len;
+                self.words.push((word | ONES * 0x20) & subtag);
+                at += before_mark(end);
             }
             if at - start > MAX_RANGE_LEN {
                 return None;
@@ -244,6 +425,15 @@ impl Reader<'_> {
         (weight <= 1000 && matches!(field.get(at), None | Some(b','))).then_some((weight, at))
     }
 
+    /// Makes room for what is likely to come, by what was read before a place.
+    #[cold]
+    fn reserve_after(&mut self, at: usize) {
+        let left = self.field.len() - at.min(self.field.len());
+        let more = |count: usize| count * left / at + count;
+        self.items.reserve_exact(more(self.items.len()));
+        self.words.reserve_exact(more(self.words.len()));
+    }
+
     fn read(&mut self) -> Result<(), NegoFault> {
         let mut at = after_separators(self.field, 0);
         while at < self.field.len() {
@@ -252,6 +442,9 @@ impl Reader<'_> {
             };
             self.items.push(item);
             at = after_separators(self.field, end);
+            if self.items.len() == FEW {
+                self.reserve_after(at);
+            }
         }
         Ok(())
     }
@@ -262,7 +455,7 @@ impl PriorityList {
         if field.len() > MAX_FIELD_LEN {
             return Err(NegoFault::FieldTooLong);
         }
-        let few = (field.len() / 8).min(32);
+        let few = (field.len() / 6).min(FEW);
         let (items, words) = (Vec::with_capacity(few), Vec::with_capacity(few));
         let mut reader = Reader {
             field,
@@ -282,49 +475,30 @@ impl PriorityList {
         if scheme == Scheme::Extended {
             cut_stars(&mut text, &mut items);
         }
-        let asked = |item: &Item| item.weight > 0 && !item.star;
         let mut order: Vec<u16> = Vec::with_capacity(items.len());
-        order.extend(
-            (0..)
-                .zip(&items)
-                .filter(|(_, item)| asked(item))
-                .map(|(place, _)| place),
-        );
-        let sorted = items.is_sorted_by(|first, second| first.weight >= second.weight);
-        if !sorted {
+        let tried = (0..).zip(&items).filter(|(_, item)| item.is_tried());
+        order.extend(tried.map(|(place, _)| place));
+        let in_order = items.is_sorted_by(|first, second| first.weight >= second.weight);
+        if !in_order {
             order.sort_by_key(|place| 1000 - items[usize::from(*place)].weight);
-        }
-        let mut tree = Tree::new(words.len());
-        let mut turn = 0;
-        for (place, item) in items.iter().enumerate() {
-            let words = &words[item.words as usize..][..usize::from(item.named)];
-            let now = if sorted && asked(item) { turn } else { NONE };
-            turn += u16::from(asked(item));
-            let held = match words {
-                [] => &mut tree.star,
-                _ => {
-                    let node = tree.add(if item.star { STAR } else { TOP }, words, now);
-                    &mut tree.nodes[node].item
-                }
-            };
-            *held = (*held).min(place as u16);
-        }
-        if !sorted {
-            for (turn, place) in (0..).zip(&order) {
-                let item = &items[usize::from(*place)];
-                tree.add(
-                    TOP,
-                    &words[item.words as usize..][..usize::from(item.named)],
-                    turn,
-                );
-            }
         }
         Ok(PriorityList {
             text,
             items,
+            words,
+            in_order,
             order,
-            tree,
+            tree: OnceLock::new(),
         })
+    }
+
+    #[inline(always)]
+    fn tree(&self) -> &Tree {
+        self.tree.get_or_init(|| Tree::of(self))
+    }
+
+    fn words_of(&self, item: &Item) -> &[u64] {
+        &self.words[item.words as usize..][..usize::from(item.named)]
     }
 
     fn lookup_text(&self, place: u16) -> &[u8] {
@@ -332,89 +506,8 @@ impl PriorityList {
         &self.text[item.at as usize..][..usize::from(item.len)]
     }
 
-    /// Goes down the tree along the subtags of a text.
-    #[inline(always)]
-    fn walk(&self, len: usize, word_at: impl Fn(usize) -> u64) -> Walk {
-        let mut item = NONE;
-        let mut parent = TOP;
-        let (mut at, mut depth) = (0, 0);
-        loop {
-            let word = word_at(at);
-            let length = before_mark(marks_of(word, b'-')).min(len - at);
-            let Some((place, node)) = self.tree.child(parent, first_bytes(word, length)) else {
-                return Walk {
-                    item,
-                    turn: NONE,
-                    depth,
-                };
-            };
-            if node.item != NONE {
-                item = node.item;
-            }
-            at += length + 1;
-            depth += 1;
-            if at >= len {
-                return Walk {
-                    item,
-                    turn: node.turn,
-                    depth,
-                };
-            }
-            parent = place;
-        }
-    }
-
-    #[inline(always)]
-    fn walk_lang(&self, lang: &Lang) -> Walk {
-        self.walk(lang.as_bytes().len(), |at| lang.word_at(at))
-    }
-
     fn is_refusal(&self, item: u16) -> bool {
         item != NONE && self.items[usize::from(item)].weight == 0
-    }
-
-    /// The item that decides a language under the scheme.
-    #[inline(always)]
-    fn item_for(&self, scheme: Scheme, lang: &Lang) -> u16 {
-        match scheme {
-            Scheme::Basic => match self.walk_lang(lang).item {
-                NONE => self.tree.star,
-                item => item,
-            },
-            Scheme::Extended => self.extended_item(lang),
-        }
-    }
-
-    fn extended_item(&self, lang: &Lang) -> u16 {
-        let mut words = [0; 128];
-        let count = split(lang, &mut words);
-        let Some((first, rest)) = words[..count].split_first() else {
-            return NONE;
-        };
-        let mut best = (0, self.tree.star);
-        if let Some((place, node)) = self.tree.child(TOP, *first) {
-            take_better(&mut best, 1, node.item);
-            self.descend(place, rest, 1, &mut best);
-        }
-        self.descend(STAR, rest, 0, &mut best);
-        best.1
-    }
-
-    /// Each range whose further subtags stand in this order in the words. None is sought behind a
-    /// single letter or digit, and each at the first place where it stands, so that no node is met
-    /// twice.
-    fn descend(&self, parent: u32, words: &[u64], depth: usize, best: &mut (usize, u16)) {
-        for (at, word) in words.iter().enumerate() {
-            if let Some((place, node)) = self.tree.child(parent, *word) {
-                if !words[..at].contains(word) {
-                    take_better(best, depth + 1, node.item);
-                    self.descend(place, &words[at + 1..], depth + 1, best);
-                }
-            }
-            if *word <= 0xff {
-                break;
-            }
-        }
     }
 }
 
@@ -431,10 +524,10 @@ fn split(lang: &Lang, words: &mut [u64; 128]) -> usize {
     let (mut at, mut count) = (0, 0);
     while at < len {
         let word = lang.word_at(at);
-        let length = before_mark(marks_of(word, b'-')).min(len - at);
-        words[count] = first_bytes(word, length);
+        let hyphen = marks_of(word, b'-');
+        words[count] = word & below_mark(hyphen);
         count += 1;
-        at += length + 1;
+        at += before_mark(hyphen) + 1;
     }
     count
 }
@@ -476,12 +569,13 @@ fn rank_of(lack: u16, item: u16, lang: &Lang) -> u128 {
 }
 
 pub fn filter(list: &PriorityList, scheme: Scheme, langs: &[Lang]) -> Vec<Pick> {
+    let tree = list.tree();
     let mut ranked: Vec<(u128, usize)> = Vec::with_capacity(langs.len());
     for (place, lang) in langs.iter().enumerate() {
         if lang.is_none() {
             continue;
         }
-        let item = list.item_for(scheme, lang);
+        let item = tree.item_for(scheme, lang);
         if item != NONE && !list.is_refusal(item) {
             ranked.push((
                 rank_of(1000 - list.items[usize::from(item)].weight, item, lang),
@@ -512,12 +606,16 @@ pub enum Found {
 /// Lookup over languages: the one that the earliest turn asks for, and of those of one turn the
 /// longest.
 pub fn lookup(list: &PriorityList, langs: &[Lang]) -> Found {
+    let tree = list.tree();
     let mut found = Found::Nothing;
     let mut best = (NONE, 0);
     for (place, lang) in langs.iter().enumerate() {
-        let walk = list.walk_lang(lang);
-        let better = walk.turn < best.0 || walk.turn == best.0 && walk.depth > best.1;
-        if walk.turn != NONE && better && !list.is_refusal(walk.item) {
+        let walk = tree.walk_lang(lang);
+        if walk.turn == NONE || walk.turn > best.0 {
+            continue;
+        }
+        let better = walk.turn < best.0 || walk.depth > best.1;
+        if better && !list.is_refusal(walk.item) {
             best = (walk.turn, walk.depth);
             found = Found::Matched(place);
         }
@@ -540,7 +638,7 @@ pub fn choose<R>(list: &PriorityList, mut held: impl FnMut(&[u8]) -> Option<R>) 
         let mut candidate = Some(list.lookup_text(*place));
         while let Some(text) = candidate {
             if let Some(found) = held(text) {
-                if !list.is_refusal(list.walk(text.len(), |at| word_at(text, at)).item) {
+                if !list.is_refusal(list.tree().walk(text.len(), |at| word_at(text, at)).item) {
                     return Some(found);
                 }
             }

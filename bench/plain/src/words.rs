@@ -1,7 +1,5 @@
 //! Eight bytes at a time: the first is lowest, and zeros follow the end.
 
-use std::cmp::Ordering;
-
 pub const ONES: u64 = 0x0101_0101_0101_0101;
 pub const TOPS: u64 = 0x8080_8080_8080_8080;
 
@@ -113,23 +111,9 @@ pub fn is_same(one: &[u8], other: &[u8]) -> bool {
         return false;
     }
     let ((words, last), (other_words, other_last)) = (words_of(one), words_of(other));
-    last == other_last && words == other_words
-}
-
-/// The order of two texts, of which most begin alike.
-#[inline(always)]
-pub fn order_of(one: &[u8], other: &[u8]) -> Ordering {
-    let (words, rest) = one.as_chunks::<8>();
-    let (other_words, other_rest) = other.as_chunks::<8>();
+    let mut differing = last ^ other_last;
     for (word, other_word) in words.iter().zip(other_words) {
-        if word != other_word {
-            return u64::from_be_bytes(*word).cmp(&u64::from_be_bytes(*other_word));
-        }
+        differing |= u64::from_le_bytes(*word) ^ u64::from_le_bytes(*other_word);
     }
-    if words.len() != other_words.len() {
-        return one.cmp(other);
-    }
-    let (last, other_last) = (last_word(rest), last_word(other_rest));
-    let order = last.swap_bytes().cmp(&other_last.swap_bytes());
-    order.then(rest.len().cmp(&other_rest.len()))
+    differing == 0
 }
