@@ -3,7 +3,6 @@
 use crate::checks::{is_message_id, MAX_TEXTS, MAX_TEXT_LEN};
 use crate::json::{Input, Read, Span};
 use crate::site::{write_label, Known};
-use crate::words::order_of;
 
 /// A label with its key; the label is the text that is written for it, and none where there is no
 /// text.
@@ -79,13 +78,12 @@ impl<'a> LangMaps<'a> {
             rising = rising
                 && entries
                     .last()
-                    .is_none_or(|last| order_of(input.get(last.id), input.get(id)).is_lt());
+                    .is_none_or(|last| input.get(last.id) < input.get(id));
             let first = entries.len();
             input.members(|input, lang| {
                 let lang = known.check(input, lang)?;
                 let last = entries.get(first..).and_then(<[Entry]>::last);
-                let is_below =
-                    |last: &Entry| order_of(input.get(last.lang), input.get(lang)).is_lt();
+                let is_below = |last: &Entry| input.get(last.lang) < input.get(lang);
                 rising = rising && last.is_none_or(is_below);
                 let label = label(input)?;
                 entries.push(Entry { id, lang, label });

@@ -4,7 +4,7 @@
 use crate::checks::{is_message_id, is_site_name, MAX_TEXTS, MAX_TEXT_LEN};
 use crate::json::{write_number, write_string, Input, Read, Span};
 use crate::lang_core::Lang;
-use crate::words::{is_same, order_of};
+use crate::words::is_same;
 use std::cmp::Ordering;
 use std::io::{self, Write};
 
@@ -319,7 +319,10 @@ impl<'a> Site<'a> {
 
     #[inline(always)]
     fn order(&self, row: &Row, id: &[u8], lang: &[u8]) -> Ordering {
-        order_of(self.input.get(row.id), id).then_with(|| order_of(self.input.get(row.lang), lang))
+        self.input
+            .get(row.id)
+            .cmp(id)
+            .then_with(|| self.input.get(row.lang).cmp(lang))
     }
 
     /// The place of the first row that is not below a key, from a place on.
@@ -410,9 +413,9 @@ fn read_rows(input: &mut Input, names: &mut Names, rows: &mut Vec<Row>) -> Read<
         let whole = input.since(start).filter(|_| before).unwrap_or(Span::NONE);
         if let Some(last) = rows.last() {
             let is_below = if is_same_message {
-                order_of(input.get(last.lang), input.get(lang))
+                input.get(last.lang).cmp(input.get(lang))
             } else {
-                order_of(input.get(last.id), input.get(id))
+                input.get(last.id).cmp(input.get(id))
             };
             if is_below != Ordering::Less {
                 return input.refused();

@@ -2,9 +2,10 @@
 //! texts, and all cells stand in one row by message and language, so that merges and deltas are
 //! walks over numbers.
 
-use crate::cell_core::{Cell, Heap, Names, Places, SiteName, Stamp};
+use crate::cell_core::{Cell, Heap, Index, Names, SiteName, Stamp, Taken, Winner};
 use crate::lang_core::Lang;
 use crate::nego_core::{choose, PriorityList};
+use crate::words::folded;
 use std::cmp::Ordering;
 
 pub type Label = Vec<String>;
@@ -31,14 +32,190 @@ struct Row {
     cell: Cell,
 }
 
+#[inline(always)]
+fn key_of(message: u32, lang: u32) -> u64 {
+    u64::from(message) << 32 | u64::from(lang)
+}
+
 impl Row {
     #[inline(always)]
     fn key(&self) -> u64 {
-        u64::from(self.message) << 32 | u64::from(self.lang)
+        key_of(self.message, self.lang)
     }
 }
 
-#[derive(Debug, Clone)]
+#[inline(always)]
+fn hash_of(key: u64) -> u64 {
+    folded(key, 0)
+}
+
+/// Rows that are gone over, with the numbers that their messages and languages have elsewhere.
+struct Numbered<'a> {
+    rows: &'a [Row],
+    heap: &'a Heap,
+    messages: &'a [u32],
+    langs: &'a [u32],
+}
+
+impl<'a> Numbered<'a> {
+    #[inline(always)]
+    fn row(&self, row: &Row, cell: Cell) -> Row {
+        Row {
+            message: self.messages[row.message as usize],
+            lang: self.langs[row.lang as usize],
+            cell,
+        }
+    }
+
+    /// The number of the next row's message, and one above all where there is no row.
+    #[inline(always)]
+    fn message(&self) -> u32 {
+        self.rows
+            .first()
+            .map_or(u32::MAX, |row| self.messages[row.message as usize])
+    }
+
+    /// Goes past the rows of messages below a number.
+    #[inline(always)]
+    fn rows_before(&mut self, message: u32) -> &'a [Row] {
+        if message == u32::MAX {
+            return std::mem::take(&mut self.rows);
+        }
+        let is_before = |row: &&Row| self.messages[row.message as usize] < message;
+        let count = self.rows.iter().take_while(is_before).count();
+        self.split(count)
+    }
+
+    /// Goes past the rows of the next message.
+    #[inline(always)]
+    fn rows_of_message(&mut self) -> &'a [Row] {
+        let message = self.rows.first().map(|row| row.message);
+        let is_of_it = |row: &&Row| Some(row.message) == message;
+        self.split(self.rows.iter().take_while(is_of_it).count())
+    }
+
+    #[inline(always)]
+    fn split(&mut self, count: usize) -> &'a [Row] {
+        let (before, later) = self.rows.split_at(count);
+        self.rows = later;
+        before
+    }
+}
+
+/// Two catalogues that are joined, message by message.
+struct Joining<'a> {
+    own: Numbered<'a>,
+    others: Numbered<'a>,
+    /// The numbers of the other's sites in the join.
+    sites: &'a [u16],
+    taken: Taken<'a>,
+    rows: Vec<Row>,
+    heap: Heap,
+}
+
+impl<'a> Joining<'a> {
+    /// Takes the own messages that come before the other's next one.
+    #[inline(always)]
+    fn take_own(&mut self) {
+        let rows = self.own.rows_before(self.others.message());
+        let own = &self.own;
+        self.rows
+            .extend(rows.iter().map(|row| own.row(row, row.cell)));
+    }
+
+    /// Takes the other's messages that come before the next own one.
+    #[inline(always)]
+    fn take_others(&mut self) {
+        let rows = self.others.rows_before(self.own.message());
+        let (heap, taken) = (&mut self.heap, &mut self.taken);
+        let (others, sites) = (&self.others, self.sites);
+        self.rows.extend(
+            rows.iter()
+                .map(|row| others.row(row, heap.take(taken, sites, &row.cell))),
+        );
+    }
+
+    /// Joins the rows of a message that is next in both, language by language; refused at an own
+    /// row whose stamp the other has with another label.
+    #[inline(always)]
+    fn take_both(&mut self) -> Result<(), &'a Row> {
+        let message = self.own.message();
+        if message != self.others.message() || message == u32::MAX {
+            return Ok(());
+        }
+        let mut own = self.own.rows_of_message();
+        let mut others = self.others.rows_of_message();
+        while let ([row, later @ ..], [of_other, other_later @ ..]) = (own, others) {
+            let lang = self.own.langs[row.lang as usize];
+            match lang.cmp(&self.others.langs[of_other.lang as usize]) {
+                Ordering::Less => {
+                    self.push_own(message, row);
+                    own = later;
+                }
+                Ordering::Greater => {
+                    self.push_other(message, of_other);
+                    others = other_later;
+                }
+                Ordering::Equal => {
+                    let (cell, other) = (&row.cell, &of_other.cell);
+                    let heap = self.own.heap;
+                    match heap.winner(cell, self.others.heap, other, self.sites) {
+                        Some(Winner::Own) => self.push_own(message, row),
+                        Some(Winner::Other) => self.push_other(message, of_other),
+                        None => return Err(row),
+                    }
+                    (own, others) = (later, other_later);
+                }
+            }
+        }
+        own.iter().for_each(|row| self.push_own(message, row));
+        others.iter().for_each(|row| self.push_other(message, row));
+        Ok(())
+    }
+
+    #[inline(always)]
+    fn push_own(&mut self, message: u32, row: &Row) {
+        self.rows.push(Row {
+            message,
+            lang: self.own.langs[row.lang as usize],
+            cell: row.cell,
+        });
+    }
+
+    #[inline(always)]
+    fn push_other(&mut self, message: u32, row: &Row) {
+        self.rows.push(Row {
+            message,
+            lang: self.others.langs[row.lang as usize],
+            cell: self.heap.take(&mut self.taken, self.sites, &row.cell),
+        });
+    }
+
+    fn finish(mut self) -> (Vec<Row>, Heap) {
+        self.heap.finish(self.taken);
+        (self.rows, self.heap)
+    }
+}
+
+/// Places in order of a number below a bound that each has; those of one number stay in order.
+fn ordered_by(places: &[u32], bound: usize, number: impl Fn(u32) -> u32) -> Vec<u32> {
+    let mut firsts = vec![0_u32; bound + 1];
+    for place in places {
+        firsts[number(*place) as usize + 1] += 1;
+    }
+    for number in 1..firsts.len() {
+        firsts[number] += firsts[number - 1];
+    }
+    let mut ordered = vec![0; places.len()];
+    for place in places {
+        let first = &mut firsts[number(*place) as usize];
+        ordered[*first as usize] = *place;
+        *first += 1;
+    }
+    ordered
+}
+
+#[derive(Debug)]
 pub struct Catalogue {
     langs: Names,
     messages: Names,
@@ -46,8 +223,8 @@ pub struct Catalogue {
     heap: Heap,
     /// Whether numbers and rows are in order.
     settled: bool,
-    /// Rows by key; empty until an edit is applied.
-    places: Places,
+    /// Places of rows by key; empty until an edit is applied.
+    places: Index,
 }
 
 impl Default for Catalogue {
@@ -58,7 +235,7 @@ impl Default for Catalogue {
             rows: Vec::new(),
             heap: Heap::default(),
             settled: true,
-            places: Places::default(),
+            places: Index::default(),
         }
     }
 }
@@ -66,6 +243,18 @@ impl Default for Catalogue {
 impl Catalogue {
     pub fn len(&self) -> usize {
         self.rows.len()
+    }
+
+    /// A copy of a catalogue that is in order, whose cells are found without the index.
+    fn copy(&self) -> Catalogue {
+        assert!(self.settled);
+        Catalogue {
+            langs: self.langs.copy(),
+            messages: self.messages.copy(),
+            rows: self.rows.clone(),
+            heap: self.heap.clone(),
+            ..Catalogue::default()
+        }
     }
 
     /// The cells in order of message and language.
@@ -91,28 +280,39 @@ impl Catalogue {
                 .iter_mut()
                 .for_each(|row| row.lang = numbers[row.lang as usize]);
         }
-        self.rows.sort_by_key(Row::key);
-        self.places = Places::default();
+        let rows = &self.rows;
+        let places: Vec<u32> = (0..rows.len() as u32).collect();
+        let places = ordered_by(&places, self.langs.len(), |place| rows[place as usize].lang);
+        let places = ordered_by(&places, self.messages.len(), |place| {
+            rows[place as usize].message
+        });
+        self.rows = places.iter().map(|place| rows[*place as usize]).collect();
+        self.places = Index::default();
         self.settled = true;
     }
 
-    /// The place of a message and language, added where it is new: then the cell has to be pushed.
-    fn slot(&mut self, id: &str, lang: &Lang) -> (u32, u32, u32) {
+    #[inline(never)]
+    fn fill_places(&mut self) {
+        for (place, row) in self.rows.iter().enumerate() {
+            self.places
+                .find_or_add(hash_of(row.key()), place, |_| false);
+        }
+    }
+
+    /// The place of a message and language, and their numbers. Where the place is new, the row has
+    /// to be pushed.
+    #[inline(always)]
+    fn place(&mut self, id: &str, lang: &Lang) -> (usize, u32, u32) {
         let message = self.messages.add(id.as_bytes());
         let lang = self.langs.add(lang.as_bytes());
-        if self.places.is_full(self.rows.len()) {
-            self.places = Places::of_size(self.rows.len());
-            for (place, row) in self.rows.iter().enumerate() {
-                *self.places.slot(row.key(), |place| self.rows[place].key()) = place as u32;
-            }
+        if self.places.len() < self.rows.len() {
+            self.fill_places();
         }
-        let key = u64::from(message) << 32 | u64::from(lang);
-        let slot = self.places.slot(key, |place| self.rows[place].key());
-        let place = *slot;
-        if place == Places::FREE {
-            *slot = self.rows.len() as u32;
-        }
-        (message, lang, place)
+        let (key, rows) = (key_of(message, lang), &self.rows);
+        let place = self
+            .places
+            .find_or_add(hash_of(key), rows.len(), |place| rows[place].key() == key);
+        (place, message, lang)
     }
 
     fn push(&mut self, row: Row) {
@@ -123,25 +323,22 @@ impl Catalogue {
     }
 
     pub fn apply(&mut self, edit: &Edit) -> Result<(), CataFault> {
-        let cell = self.heap.add(edit.stamp, edit.label.as_deref());
-        let (message, lang, place) = self.slot(&edit.id, &edit.lang);
-        if place == Places::FREE {
+        let cell = self.heap.add(b"", edit.stamp, edit.label.as_deref());
+        let (place, message, lang) = self.place(&edit.id, &edit.lang);
+        let Some(row) = self.rows.get_mut(place) else {
             self.push(Row {
                 message,
                 lang,
                 cell,
             });
             return Ok(());
-        }
-        let held = self.rows[place as usize].cell;
-        match self.heap.order(&held, &self.heap, &cell) {
-            Ordering::Less => self.rows[place as usize].cell = cell,
-            Ordering::Equal if !self.heap.same_label(&held, &self.heap, &cell) => {
-                let key = self.rows[place as usize].key();
+        };
+        match self.heap.stamp(&row.cell).cmp(&edit.stamp) {
+            Ordering::Less => row.cell = cell,
+            Ordering::Equal if !self.heap.same_label(&row.cell, &self.heap, &cell) => {
                 self.settle();
-                let place = self.rows.partition_point(|row| row.key() < key);
                 return Err(CataFault::StampReused {
-                    place,
+                    place: self.place_in_order(&edit.id, &edit.lang),
                     stamp: edit.stamp,
                 });
             }
@@ -150,11 +347,19 @@ impl Catalogue {
         Ok(())
     }
 
+    /// The place of a message and language that have a cell, in a settled catalogue.
+    fn place_in_order(&self, id: &str, lang: &Lang) -> usize {
+        let message = self.messages.find(id.as_bytes()).unwrap_or(u32::MAX);
+        let lang = self.langs.find(lang.as_bytes()).unwrap_or(u32::MAX);
+        let key = key_of(message, lang);
+        self.rows.partition_point(|row| row.key() < key)
+    }
+
     /// Writes a cell over what its key has.
     fn write(&mut self, id: &str, lang: &Lang, stamp: Stamp, label: Option<&[String]>) {
-        let cell = self.heap.add(stamp, label);
-        let (message, lang, place) = self.slot(id, lang);
-        match self.rows.get_mut(place as usize) {
+        let cell = self.heap.add(b"", stamp, label);
+        let (place, message, lang) = self.place(id, lang);
+        match self.rows.get_mut(place) {
             Some(row) => row.cell = cell,
             None => self.push(Row {
                 message,
@@ -164,84 +369,52 @@ impl Catalogue {
         }
     }
 
-    /// The first cell of a settled catalogue that has a stamp and label which another has with
-    /// another label.
-    fn first_clash(&self, other: &Catalogue) -> Option<CataFault> {
-        let messages = other.messages.numbers_in(&self.messages);
-        let langs = other.langs.numbers_in(&self.langs);
-        let mut i = 0;
-        for row in &other.rows {
-            let numbers = (messages[row.message as usize], langs[row.lang as usize]);
-            let (Some(message), Some(lang)) = numbers else {
-                continue;
-            };
-            let key = u64::from(message) << 32 | u64::from(lang);
-            while i < self.rows.len() && self.rows[i].key() < key {
-                i += 1;
-            }
-            let Some(own) = self.rows.get(i).filter(|own| own.key() == key) else {
-                continue;
-            };
-            let equal = self.heap.order(&own.cell, &other.heap, &row.cell) == Ordering::Equal;
-            if equal && !self.heap.same_label(&own.cell, &other.heap, &row.cell) {
-                return Some(CataFault::StampReused {
-                    place: i,
-                    stamp: self.heap.stamp(&own.cell),
+    /// The join with another catalogue, both settled, as a new one. It is refused at the first cell
+    /// of this one that has a stamp which the other has with another label.
+    pub fn joined(&self, other: &Catalogue) -> Result<Catalogue, CataFault> {
+        assert!(self.settled && other.settled);
+        if other.rows.is_empty() {
+            return Ok(self.copy());
+        }
+        let (messages, message_numbers) = self.messages.joined(&other.messages);
+        let (langs, lang_numbers) = self.langs.joined(&other.langs);
+        let (heap, sites) = self.heap.with_room_for(&other.heap);
+        let mut joining = Joining {
+            own: Numbered {
+                rows: &self.rows,
+                heap: &self.heap,
+                messages: &message_numbers.own,
+                langs: &lang_numbers.own,
+            },
+            others: Numbered {
+                rows: &other.rows,
+                heap: &other.heap,
+                messages: &message_numbers.others,
+                langs: &lang_numbers.others,
+            },
+            sites: &sites,
+            taken: other.heap.taken(),
+            rows: Vec::with_capacity(self.rows.len() + other.rows.len()),
+            heap,
+        };
+        while !joining.own.rows.is_empty() || !joining.others.rows.is_empty() {
+            joining.take_own();
+            joining.take_others();
+            if let Err(clash) = joining.take_both() {
+                return Err(CataFault::StampReused {
+                    place: self.rows.partition_point(|row| row.key() < clash.key()),
+                    stamp: self.heap.stamp(&clash.cell),
                 });
             }
         }
-        None
-    }
-
-    /// Merges another catalogue, both settled; where they clash, this one stays as it is.
-    pub fn merge(&mut self, other: &Catalogue) -> Result<(), CataFault> {
-        assert!(self.settled && other.settled);
-        if let Some(fault) = self.first_clash(other) {
-            return Err(fault);
-        }
-        let (own_messages, messages) = self.messages.join(&other.messages);
-        let (own_langs, langs) = self.langs.join(&other.langs);
-        let sites = self.heap.site_numbers(&other.heap);
-        let mut taken = other.heap.taken();
-        let mut rows: Vec<Row> = Vec::with_capacity(self.rows.len() + other.rows.len());
-        let mut own = self.rows.iter().map(|row| Row {
-            message: own_messages[row.message as usize],
-            lang: own_langs[row.lang as usize],
-            cell: row.cell,
-        });
-        let mut next = own.next();
-        for row in &other.rows {
-            let (message, lang) = (messages[row.message as usize], langs[row.lang as usize]);
-            let key = u64::from(message) << 32 | u64::from(lang);
-            while let Some(held) = next.filter(|held| held.key() < key) {
-                rows.push(held);
-                next = own.next();
-            }
-            match next.filter(|held| held.key() == key) {
-                Some(held)
-                    if self.heap.order(&held.cell, &other.heap, &row.cell) != Ordering::Less =>
-                {
-                    rows.push(held);
-                    next = own.next();
-                }
-                held => {
-                    rows.push(Row {
-                        message,
-                        lang,
-                        cell: self.heap.take(&mut taken, &sites, &row.cell),
-                    });
-                    if held.is_some() {
-                        next = own.next();
-                    }
-                }
-            }
-        }
-        rows.extend(next);
-        rows.extend(own);
-        self.heap.finish(taken);
-        self.rows = rows;
-        self.places = Places::default();
-        Ok(())
+        let (rows, heap) = joining.finish();
+        Ok(Catalogue {
+            langs,
+            messages,
+            rows,
+            heap,
+            ..Catalogue::default()
+        })
     }
 
     #[inline(always)]
@@ -268,32 +441,37 @@ impl Catalogue {
         assert!(self.settled && told.settled);
         let messages = told.messages.numbers_in(&self.messages);
         let langs = told.langs.numbers_in(&self.langs);
-        let numbered = |row: &Row| {
-            let (message, lang) = (messages[row.message as usize]?, langs[row.lang as usize]?);
-            Some((u64::from(message) << 32 | u64::from(lang), row.cell))
-        };
-        let mut told_rows = told.rows.iter().filter_map(numbered);
-        let mut next = told_rows.next();
         let mut missing = Catalogue {
-            langs: self.langs.clone(),
+            langs: self.langs.copy(),
             ..Catalogue::default()
         };
         let sites = missing.heap.site_numbers(&self.heap);
+        let told_sites = self.heap.site_numbers_of(&told.heap);
         let mut taken = self.heap.taken();
+        let mut told_rows = told.rows.iter().filter_map(|row| {
+            let (message, lang) = (messages[row.message as usize], langs[row.lang as usize]);
+            let held = message != Names::NONE && lang != Names::NONE;
+            held.then_some((key_of(message, lang), &row.cell))
+        });
+        let mut next = told_rows.next();
         let mut message = None;
         for row in &self.rows {
             while next.is_some_and(|(key, _)| key < row.key()) {
                 next = told_rows.next();
             }
-            let held = next.filter(|(key, _)| *key == row.key());
-            if held.is_some_and(|(_, cell)| {
-                told.heap.order(&cell, &self.heap, &row.cell) != Ordering::Less
-            }) {
+            let is_told = next.is_some_and(|(key, cell)| {
+                key == row.key()
+                    && self.heap.order(&row.cell, &told.heap, cell, &told_sites)
+                        != Ordering::Greater
+            });
+            if is_told {
                 continue;
             }
             if message != Some(row.message) {
                 message = Some(row.message);
-                missing.messages.push(self.messages.get(row.message as usize));
+                missing
+                    .messages
+                    .push(self.messages.get(row.message as usize));
             }
             let cell = missing.heap.take(&mut taken, &sites, &row.cell);
             missing.rows.push(Row {
@@ -316,8 +494,8 @@ pub struct Summary {
 impl Summary {
     pub fn of(owner: SiteName, catalogue: &Catalogue) -> Summary {
         let told = Catalogue {
-            langs: catalogue.langs.clone(),
-            messages: catalogue.messages.clone(),
+            langs: catalogue.langs.copy(),
+            messages: catalogue.messages.copy(),
             rows: catalogue
                 .rows
                 .iter()
@@ -328,7 +506,7 @@ impl Summary {
                 .collect(),
             heap: catalogue.heap.without_labels(),
             settled: catalogue.settled,
-            places: Places::default(),
+            places: Index::default(),
         };
         Summary { owner, told }
     }
@@ -496,17 +674,12 @@ impl World {
             Step::Edit { site, edit } => self.site(*site, n)?.apply(edit).map_err(at_step(n))?,
             Step::Merge { into, source } => {
                 self.settled(*source, n)?;
-                let mut own = std::mem::take(self.settled(*into, n)?);
-                let done = if into == source {
-                    Ok(())
-                } else {
-                    own.merge(&self.sites[*source])
-                };
-                self.sites[*into] = own;
-                done.map_err(at_step(n))?;
+                self.settled(*into, n)?;
+                let joined = self.sites[*into].joined(&self.sites[*source]);
+                self.sites[*into] = joined.map_err(at_step(n))?;
             }
             Step::AskCells { site } => {
-                let cells = self.settled(*site, n)?.clone();
+                let cells = self.settled(*site, n)?.copy();
                 self.answers.push(cells);
             }
             Step::Tell { site } => {
@@ -529,9 +702,8 @@ impl World {
                     .ok_or(PlayFault::NoSuchPost { step: n })?
                     .0;
                 self.settled(addressee, n)?;
-                self.sites[addressee]
-                    .merge(&self.posts[*post].1)
-                    .map_err(at_step(n))?;
+                let joined = self.sites[addressee].joined(&self.posts[*post].1);
+                self.sites[addressee] = joined.map_err(at_step(n))?;
             }
         }
         Ok(())
@@ -541,7 +713,7 @@ impl World {
 /// The answers of a run over sites that begin empty.
 pub fn play(sites: usize, steps: &[Step]) -> Result<Vec<Catalogue>, PlayFault> {
     let mut world = World {
-        sites: vec![Catalogue::default(); sites],
+        sites: (0..sites).map(|_| Catalogue::default()).collect(),
         told: Vec::new(),
         posts: Vec::new(),
         answers: Vec::new(),

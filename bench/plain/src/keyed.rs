@@ -47,16 +47,13 @@ fn other_of(work: &str) -> Keyed {
 }
 
 fn copy_length(own: &Keyed) -> u64 {
-    black_box(own.clone()).len() as u64
+    black_box(own.copy()).len() as u64
 }
 
-/// The length of the join of a copy with another map; 0 where the two do not agree.
+/// The length of the join with another map, which is a new map; 0 where the two do not agree.
 fn joined_length(own: &Keyed, other: &Keyed) -> u64 {
-    let mut copy = own.clone();
-    if !copy.join(other) {
-        return 0;
-    }
-    black_box(copy).len() as u64
+    own.joined(other)
+        .map_or(0, |joined| black_box(joined).len() as u64)
 }
 
 fn sum_of_walk(own: &Keyed) -> u64 {
