@@ -24,7 +24,7 @@
  *   copied: two copies count as one handle, and only one of them may be used from then on.
  * - Of the handles of one site one edits, and the others ask: two that both edit would be two sites of one name.
  * - A handle begins as zeros (`sw_site site = {0};`), and then is changed by these calls alone.
- * - The thread has 80 KiB of stack left for a call (docs/LIBRARY.md has what each takes); a smaller one may overflow.
+ * - The thread has 96 KiB of stack left for a call (docs/LIBRARY.md has what each takes); a smaller one may overflow.
  * - No call is made from a signal handler. After a fork the child opens sites of its own.
  * - malloc, realloc and free are those of one allocator, which aligns blocks as the C standard asks. */
 #ifndef SILKWARAM_H

@@ -4,14 +4,15 @@
  *
  * One thread edits: each edit puts a label of the same number into two messages, so that a state is whole where both
  * have one number. Every so often it publishes the site by a share, under a lock. The other threads take shares of what
- * was published, and each share has to answer with one number, whole, for as long as it is held. */
+ * was published, and each share has to answer with one number, whole, for as long as it is held. Where other work takes
+ * the processors, it goes on until both were done, up to a hundred times the seconds. */
 #include <pthread.h>
 #include <stdatomic.h>
 #include <time.h>
 
 #include "questions.h"
 
-enum { STRETCH = 200, ROOM = 64, MOST_THREADS = 64 };
+enum { STRETCH = 200, ROOM = 64, MOST_THREADS = 64, MOST_TIMES = 100 };
 
 static pthread_mutex_t lock = PTHREAD_MUTEX_INITIALIZER;
 static sw_site published;
@@ -86,7 +87,7 @@ int main(int count, char **words) {
     return 1;
   for (unsigned it = 0; it <= threads; it++)
     if (pthread_create(&ids[it], NULL, it < threads ? asks : edits, NULL)) return 3;
-  nanosleep(&time, NULL);
+  for (unsigned it = 0; it < MOST_TIMES && (it == 0 || asked == 0 || edited == 0); it++) nanosleep(&time, NULL);
   is_over = 1;
   unsigned long wrong = 0;
   for (unsigned it = 0; it <= threads; it++) {

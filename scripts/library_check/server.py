@@ -16,7 +16,7 @@ import time
 import urllib.parse
 
 SERVER = os.path.join(os.path.dirname(os.path.realpath(__file__)), "../../examples/front/server.py")
-MOST_SECONDS = 20
+MOST_SECONDS = 120
 READERS = [
     ("fr-CA,fr;q=0.9,en;q=0.8", "fr-ca", '<h1 lang="fr-ca" dir="auto">Le Catalogue quotidien</h1>'),
     ("ar,en;q=0.9", "ar", '<p lang="ar" dir="auto">صباح الخير</p>'),

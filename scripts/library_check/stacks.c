@@ -1,11 +1,12 @@
-/* Measures the stack of each call, on a thread that has no more than the header allows: under it is a page that nothing
- * can touch, so a call that takes more ends this program. What a thread needs for itself is part of the figures. */
+/* Measures the stack of each call, with what a thread needs for itself. Then it makes each call once more, on a thread
+ * that has no more than the header allows: under that stack is a page that nothing can touch, so a call that takes more
+ * ends this program. */
 #include <pthread.h>
 #include <sys/mman.h>
 
 #include "questions.h"
 
-enum { MOST = 80 * 1024, GUARD = 4096, LEVELS = 127, ROOM = 256 };
+enum { ALLOWED = 96 * 1024, MEASURED = 4 * ALLOWED, GUARD = 4096, LEVELS = 127, ROOM = 256 };
 
 #define PARIS \
   "{\"cells\":[[\"m\",\"en\",5,\"paris\",0,[\"Hello\"]]],\"kind\":\"site\",\"site\":\"paris\",\"version\":2}\n"
@@ -13,57 +14,146 @@ enum { MOST = 80 * 1024, GUARD = 4096, LEVELS = 127, ROOM = 256 };
 #define REVERSED                                                                                              \
   "{\"version\":2,\"site\":\"paris\",\"kind\":\"site\",\"cells\":[[\"m\",\"en-x-a-private-tag\",5,\"paris\",0,[" \
   "\"\\u00e9\"]]]}"
+#define SUMMARY "{\"kind\":\"summary\",\"owner\":\"oslo\",\"stamps\":[[\"m\",\"en\",5,\"paris\",0]],\"version\":2}\n"
+#define LONG_ID "a-message-id-that-has-more-than-32-bytes"
+#define DELTA                                                                                                      \
+  "{\"cells\":[[\"" LONG_ID "\",\"nb\",7,\"oslo\",0,[\"x\"]]],\"kind\":\"delta\",\"to\":" \
+  "\"paris\",\"version\":2}\n"
+#define MAPS "{\"m\":{\"en\":[\"one\",\"two\"],\"fr-x-a-private-tag\":\"Bonjour\"}}"
 #define LONG_FIELD "zh-Hant-CN-x-private1-private2;q=0.8, de-*-DE, *;q=0.1, en_US, en-GB;q=0.7, "
 
-static sw_site site;
+static sw_site site, other;
 static text deep;
 
 static void nothing(void) {}
 
+/* Ends the program where a call did not come to its end: its stack would say nothing. */
+static void found(int32_t status) {
+  if (status != SW_FOUND) exit(4);
+}
+
 static void pick(void) {
   uint8_t out[ROOM];
   sw_told told;
-  sw_pick(SW_LENIENT, BYTES(T(LONG_FIELD "en")), BYTES(T("fr\nen-x-a\nEN")), BYTES(T("fr")), out, ROOM, &told);
+  found(sw_pick(SW_LENIENT, BYTES(T(LONG_FIELD "en")), BYTES(T("fr\nen-x-a\nEN")), BYTES(T("fr")), out, ROOM, &told));
+}
+
+static void filter_tags(void) {
+  uint8_t out[ROOM];
+  sw_told told;
+  found(sw_filter(SW_LENIENT, BYTES(T(LONG_FIELD "en")), BYTES(T("fr\nen-x-a\nEN")), out, ROOM, &told));
+}
+
+static void refusal(void) {
+  uint8_t out[ROOM];
+  sw_told told;
+  found(sw_refusal(18, out, ROOM, &told));
 }
 
 static void opened(text document) {
   sw_told told;
-  sw_site_open(BYTES(document), &site, &told);
+  found(sw_site_open(BYTES(document), &site, &told));
 }
 
-static void open_site(void) { opened(T(PARIS)); }
 static void open_version_1(void) { opened(T(PARIS_1)); }
 static void open_reversed(void) { opened(T(REVERSED)); }
-static void open_deep(void) { opened(deep); }
+static void open_site(void) { opened(T(PARIS)); }
 
-static void lookup(void) {
-  uint8_t out[ROOM];
+static void new_site(void) {
   sw_told told;
-  sw_site_lookup(&site, SW_LENIENT, BYTES(T("m")), BYTES(T(LONG_FIELD)), BYTES(T("en")), out, ROOM, &told);
+  found(sw_site_new(BYTES(T("oslo")), &other, &told));
 }
 
-static void label_text(void) {
-  uint8_t out[ROOM];
+/* (the handle is the only one of its site) */
+static void put(void) {
   sw_told told;
-  sw_site_text(&site, SW_LENIENT, BYTES(T("m")), BYTES(T(LONG_FIELD)), BYTES(T("en")), 0, out, ROOM, &told);
+  found(sw_site_put(&site, 9, BYTES(T(LONG_ID)), BYTES(T("zh-Hant-CN-x-private1")), BYTES(T("some text")), &told));
 }
 
-static void filter(void) {
-  uint8_t out[ROOM];
+static void delete(void) {
   sw_told told;
-  sw_site_filter(&site, SW_EXTENDED | SW_LENIENT, BYTES(T("m")), BYTES(T(LONG_FIELD)), out, ROOM, &told);
+  found(sw_site_delete(&site, 9, BYTES(T(LONG_ID)), BYTES(T("zh-Hant-CN-x-private1")), &told));
 }
 
-static void bundle(void) {
-  uint8_t out[ROOM];
+/* (the handle is not) */
+static void put_shared(void) {
   sw_told told;
-  sw_site_bundle(&site, SW_LENIENT, BYTES(T(LONG_FIELD)), BYTES(T("en")), out, ROOM, &told);
+  sw_site share = {0};
+  found(sw_site_share(&site, &share));
+  found(sw_site_put(&site, 9, BYTES(T("m")), BYTES(T("fr")), BYTES(T("some text")), &told));
+  sw_site_free(&share);
 }
+
+static void import(void) {
+  sw_told told;
+  found(sw_site_import(&site, 9, BYTES(T(MAPS)), &told));
+}
+
+static void update(void) {
+  sw_told told;
+  found(sw_site_update(&site, 10, BYTES(T(MAPS)), BYTES(T("{\"m\":{\"en\":\"Good day\"}}")), &told));
+}
+
+static void take(void) {
+  sw_told told;
+  found(sw_site_take(&site, BYTES(T(DELTA)), 100, &told));
+}
+
+static void merge(void) {
+  sw_told told;
+  found(sw_site_merge(&site, &other, &told));
+}
+
+#define REPORT(name, ...)                                 \
+  static void name##_call(void) {                         \
+    uint8_t out[ROOM];                                    \
+    sw_told told;                                         \
+    found(sw_site_##name(__VA_ARGS__, out, ROOM, &told)); \
+  }
+
+REPORT(write, &site)
+REPORT(summary, &site)
+REPORT(status, &site)
+REPORT(export, &site)
+REPORT(delta, &site, BYTES(T(SUMMARY)))
+REPORT(missing, &site, BYTES(T("nb")))
+REPORT(outdated, &site, BYTES(T("fr")), BYTES(T("en")))
+REPORT(changes, &other, &site)
+REPORT(lookup, &site, SW_LENIENT, BYTES(T("m")), BYTES(T(LONG_FIELD)), BYTES(T("en")))
+REPORT(text, &site, SW_LENIENT, BYTES(T("m")), BYTES(T(LONG_FIELD)), BYTES(T("en")), 0)
+REPORT(filter, &site, SW_EXTENDED | SW_LENIENT, BYTES(T("m")), BYTES(T(LONG_FIELD "en")))
+REPORT(bundle, &site, SW_LENIENT, BYTES(T(LONG_FIELD)), BYTES(T("en")))
 
 static void share(void) {
-  sw_site other = {0};
-  sw_site_share(&site, &other);
-  sw_site_free(&other);
+  sw_site one = {0};
+  found(sw_site_share(&site, &one));
+  sw_site_free(&one);
+}
+
+static void open_deep(void) {
+  sw_told told;
+  sw_site_open(BYTES(deep), &site, &told);
+}
+
+static void take_deep(void) {
+  sw_told told;
+  sw_site_take(&site, BYTES(deep), 0, &told);
+}
+
+static void import_deep(void) {
+  sw_told told;
+  sw_site_import(&site, 9, BYTES(deep), &told);
+}
+
+static void update_deep(void) {
+  sw_told told;
+  sw_site_update(&site, 9, BYTES(T("{}")), BYTES(deep), &told);
+}
+
+static void delta_deep(void) {
+  uint8_t out[ROOM];
+  sw_told told;
+  sw_site_delta(&site, BYTES(deep), out, ROOM, &told);
 }
 
 static void *runs(void *call) {
@@ -71,27 +161,37 @@ static void *runs(void *call) {
   return NULL;
 }
 
-/* The bytes of its stack that a thread touches which makes this call alone. */
-static size_t stack_of(void call(void)) {
-  uint8_t *at = mmap(NULL, GUARD + MOST, PROT_READ | PROT_WRITE, MAP_PRIVATE | MAP_ANONYMOUS, -1, 0);
+/* The bytes of a stack of this size that a thread touches which makes this call alone. */
+static size_t touched(void call(void), size_t size) {
+  uint8_t *at = mmap(NULL, GUARD + size, PROT_READ | PROT_WRITE, MAP_PRIVATE | MAP_ANONYMOUS, -1, 0);
   if (at == MAP_FAILED || mprotect(at, GUARD, PROT_NONE)) exit(3);
   uint8_t *stack = at + GUARD;
-  memset(stack, UNTOUCHED, MOST);
+  memset(stack, UNTOUCHED, size);
   pthread_attr_t attributes;
   pthread_t thread;
-  if (pthread_attr_init(&attributes) || pthread_attr_setstack(&attributes, stack, MOST) ||
+  if (pthread_attr_init(&attributes) || pthread_attr_setstack(&attributes, stack, size) ||
       pthread_create(&thread, &attributes, runs, &call) || pthread_join(thread, NULL))
     exit(3);
   size_t untouched = 0;
-  while (untouched < MOST && stack[untouched] == UNTOUCHED) untouched++;
-  munmap(at, GUARD + MOST);
-  return MOST - untouched;
+  while (untouched < size && stack[untouched] == UNTOUCHED) untouched++;
+  munmap(at, GUARD + size);
+  return size - untouched;
+}
+
+static size_t most;
+
+/* The stack of a call, which is made again on one that has no more than is allowed. */
+static size_t stack_of(void call(void)) {
+  size_t taken = touched(call, MEASURED);
+  if (taken > most) most = taken;
+  if (taken <= ALLOWED) touched(call, ALLOWED);
+  return taken;
 }
 
 /* A document with a value that is nested this deep: `before`, then each `begin`, a 1, each `end`, then `after`. */
 static text nested(const char *before, const char *begin, const char *end, const char *after, unsigned levels) {
-  size_t most = strlen(before) + levels * (strlen(begin) + strlen(end)) + 1 + strlen(after) + 1;
-  char *made = (char *)block(most);
+  size_t size = strlen(before) + levels * (strlen(begin) + strlen(end)) + 1 + strlen(after) + 1;
+  char *made = (char *)block(size);
   strcpy(made, before);
   for (unsigned it = 0; it < levels; it++) strcat(made, begin);
   strcat(made, "1");
@@ -100,56 +200,87 @@ static text nested(const char *before, const char *begin, const char *end, const
   return (text){(uint8_t *)made, strlen(made)};
 }
 
-/* The stack of the document of this kind that takes the most: one that is nested as deep as is read, or nearly. */
-static size_t deepest(const char *before, const char *begin, const char *end, const char *after) {
-  size_t most = 0;
-  for (unsigned levels = LEVELS - 4; levels <= LEVELS + 1; levels++) {
-    deep = nested(before, begin, end, after, levels);
-    size_t taken = stack_of(open_deep);
-    if (taken > most) most = taken;
-    free(deep.bytes);
-  }
-  return most;
-}
-
+/* Documents with a nested value, of each kind and at each place where one may stand. */
+static const struct {
+  void (*call)(void);
+  const char *before, *begin, *end, *after;
+} DEEP[] = {
 #define SITE ",\"kind\":\"site\",\"site\":\"paris\",\"version\":2}"
+#define TO_PARIS ",\"kind\":\"delta\",\"to\":\"paris\",\"version\":2}"
+#define OF_OSLO ",\"kind\":\"summary\",\"owner\":\"oslo\",\"version\":2}"
+    {open_deep, "{\"cells\":[", "[", "]", "]" SITE},
+    {open_deep, "{\"cells\":[", "{\"a\":", "}", "]" SITE},
+    {open_deep, "{\"cells\":[[\"m\",\"en\",5,\"paris\",0,", "[", "]", "]]" SITE},
+    {open_deep, "{\"a\":", "[", "]", ",\"cells\":[]" SITE},
+    {open_deep, "{\"a\":", "{\"a\":1,\"b\":", "}", ",\"cells\":[]" SITE},
+    {open_deep, "", "[", "]", ""},
+    {open_deep, "", "{\"a\":", "}", ""},
+    {take_deep, "{\"cells\":[", "[", "]", "]" TO_PARIS},
+    {take_deep, "{\"cells\":[[\"m\",\"en\",5,\"paris\",0,", "{\"a\":", "}", "]]" TO_PARIS},
+    {take_deep, "{\"a\":", "{\"a\":1,\"b\":", "}", ",\"cells\":[]" TO_PARIS},
+    {delta_deep, "{\"stamps\":[", "[", "]", "]" OF_OSLO},
+    {delta_deep, "{\"a\":", "{\"a\":1,\"b\":", "}", ",\"stamps\":[]" OF_OSLO},
+    {import_deep, "{\"m\":{\"en\":", "[", "]", "}}"},
+    {import_deep, "{\"m\":{\"en\":", "{\"a\":", "}", "}}"},
+    {import_deep, "{\"m\":", "{\"a\":1,\"b\":", "}", "}"},
+    {import_deep, "", "{\"a\":", "}", ""},
+    {update_deep, "{\"m\":{\"en\":", "{\"a\":", "}", "}}"},
+    {update_deep, "", "{\"a\":1,\"b\":", "}", ""},
+};
 
+/* The stack of the document that takes the most: one that is nested as deep as is read, or nearly. */
 static size_t of_deep_documents(void) {
-  size_t all[] = {
-      deepest("{\"cells\":[", "[", "]", "]" SITE),
-      deepest("{\"cells\":[", "{\"a\":", "}", "]" SITE),
-      deepest("{\"cells\":[[\"m\",\"en\",5,\"paris\",0,", "[", "]", "]]" SITE),
-      deepest("{\"a\":", "[", "]", ",\"cells\":[]" SITE),
-      deepest("{\"a\":", "{\"a\":1,\"b\":", "}", ",\"cells\":[]" SITE),
-      deepest("", "[", "]", ""),
-      deepest("", "{\"a\":", "}", ""),
-  };
-  size_t most = 0;
-  for (size_t it = 0; it < sizeof all / sizeof *all; it++)
-    if (all[it] > most) most = all[it];
-  return most;
+  size_t deepest = 0;
+  for (size_t it = 0; it < sizeof DEEP / sizeof *DEEP; it++)
+    for (unsigned levels = LEVELS - 4; levels <= LEVELS + 1; levels++) {
+      deep = nested(DEEP[it].before, DEEP[it].begin, DEEP[it].end, DEEP[it].after, levels);
+      size_t taken = stack_of(DEEP[it].call);
+      if (taken > deepest) deepest = taken;
+      free(deep.bytes);
+    }
+  return deepest;
 }
+
+static const struct {
+  const char *name;
+  void (*call)(void);
+} CALLS[] = {
+    {"a thread alone", nothing},
+    {"sw_pick", pick},
+    {"sw_filter", filter_tags},
+    {"sw_refusal", refusal},
+    {"sw_site_open of version 1", open_version_1},
+    {"of members in another order", open_reversed},
+    {"as lexicat writes them", open_site},
+    {"sw_site_new", new_site},
+    {"sw_site_put", put},
+    {"sw_site_delete", delete},
+    {"sw_site_put, shared", put_shared},
+    {"sw_site_import", import},
+    {"sw_site_update", update},
+    {"sw_site_take", take},
+    {"sw_site_merge", merge},
+    {"sw_site_write", write_call},
+    {"sw_site_summary", summary_call},
+    {"sw_site_status", status_call},
+    {"sw_site_export", export_call},
+    {"sw_site_delta", delta_call},
+    {"sw_site_missing", missing_call},
+    {"sw_site_outdated", outdated_call},
+    {"sw_site_changes", changes_call},
+    {"sw_site_lookup", lookup_call},
+    {"sw_site_text", text_call},
+    {"sw_site_filter", filter_call},
+    {"sw_site_bundle", bundle_call},
+    {"sw_site_share", share},
+};
 
 int main(void) {
-  struct {
-    const char *name;
-    void (*call)(void);
-  } calls[] = {
-      {"a thread alone", nothing},
-      {"sw_pick", pick},
-      {"sw_site_open of version 1", open_version_1},
-      {"of members in another order", open_reversed},
-      {"as lexicat writes them", open_site},
-      {"sw_site_share", share},
-      {"sw_site_lookup", lookup},
-      {"sw_site_text", label_text},
-      {"sw_site_filter", filter},
-      {"sw_site_bundle", bundle},
-  };
   printf("stacks:");
-  for (size_t it = 0; it < sizeof calls / sizeof *calls; it++)
-    printf(" %s %zu,", calls[it].name, stack_of(calls[it].call));
-  printf(" the deepest documents %zu; the header allows %d bytes\n", of_deep_documents(), MOST);
+  for (size_t it = 0; it < sizeof CALLS / sizeof *CALLS; it++)
+    printf(" %s %zu,", CALLS[it].name, stack_of(CALLS[it].call));
+  printf(" the deepest documents %zu; the header allows %d bytes\n", of_deep_documents(), ALLOWED);
   sw_site_free(&site);
-  return 0;
+  sw_site_free(&other);
+  return most > ALLOWED;
 }
