@@ -1,6 +1,6 @@
 /* Refuses each allocation of each edit, exchange and report in turn, alone and with all that come behind it. A call has
- * to end as with ample memory, or with status 5 and 26, nothing written and the site as it was; after sw_site_take a
- * repeat has to give the join. A share that was taken before keeps what it held.
+ * to end as with ample memory, or with status 5 and 26, nothing written and the site as it was. A share that was taken
+ * before keeps what it held.
  * It is linked with the archive, so that malloc and realloc are those of this file (--wrap). */
 #include <errno.h>
 #include <limits.h>
@@ -108,18 +108,18 @@ static void filters(trial *it) {
                          BYTES(T("da\nzh-Hant-CN-x-private1-private2-more\n")), it->out, ROOM, &it->told);
 }
 
-/* Each call, whether it changes the site, and whether a refusal may leave some cells joined. */
+/* Each call, and whether it changes the site. */
 static const struct {
   const char *name;
   act *call;
-  int edits, may_join;
+  int edits;
 } CALLS[] = {
-    {"sw_site_new", makes, 1, 0},        {"sw_site_put, new", puts_long, 1, 0},   {"sw_site_put", puts_held, 1, 0},
-    {"sw_site_delete", deletes, 1, 0},   {"sw_site_import", imports, 1, 0},       {"sw_site_update", updates, 1, 0},
-    {"sw_site_take", takes, 1, 1},       {"sw_site_merge", merges, 1, 0},         {"sw_site_write", writes, 0, 0},
-    {"sw_site_export", exports, 0, 0},   {"sw_site_summary", sums_up, 0, 0},      {"sw_site_status", reports, 0, 0},
-    {"sw_site_missing", misses, 0, 0},   {"sw_site_outdated", dates, 0, 0},       {"sw_site_delta", answers_summary, 0, 0},
-    {"sw_site_changes", compares, 0, 0}, {"sw_filter", filters, 0, 0},
+    {"sw_site_new", makes, 1},        {"sw_site_put, new", puts_long, 1},   {"sw_site_put", puts_held, 1},
+    {"sw_site_delete", deletes, 1},   {"sw_site_import", imports, 1},       {"sw_site_update", updates, 1},
+    {"sw_site_take", takes, 1},       {"sw_site_merge", merges, 1},         {"sw_site_write", writes, 0},
+    {"sw_site_export", exports, 0},   {"sw_site_summary", sums_up, 0},      {"sw_site_status", reports, 0},
+    {"sw_site_missing", misses, 0},   {"sw_site_outdated", dates, 0},       {"sw_site_delta", answers_summary, 0},
+    {"sw_site_changes", compares, 0}, {"sw_filter", filters, 0},
 };
 
 /* Whether the sites are shared, so that an edit makes a copy. */
@@ -192,8 +192,7 @@ static unsigned refuse_each(unsigned of, int way) {
       document now = written(&it.site);
       int is_well = others_are_kept(&it, &paris, &oslo);
       if (status == SW_NO_MEMORY)
-        is_well = is_well && same_told(&it.told, &none) && is_untouched(it.out, ROOM) &&
-                  (CALLS[of].may_join || equal(&now, &paris));
+        is_well = is_well && same_told(&it.told, &none) && is_untouched(it.out, ROOM) && equal(&now, &paris);
       else
         is_well = is_well && same(&it, &ample) && equal(&now, &wanted);
       try(CALLS[of].call, &it, ULONG_MAX, 0);

@@ -285,8 +285,7 @@ class Site:
 
         Refused: 18 to 21, 27 and 28 for the delta, 1 to 4 and 10 to 12 for a field of a row; 29
         where a cell is after the limit; 15 where the delta is for another site; 13 where one stamp
-        has two labels. If memory runs out, each cell is that of before or that of the join; taking
-        the delta again gives the join.
+        has two labels.
         """
         texts = words(delta=delta)
         self._edit(library.sw_site_take, *texts, limit(not_after), of_document=True)
