@@ -30,19 +30,6 @@ pub data TaskWords : Type 0 where
   Replay : TaskWords
   Explain : (number : ℕ) → TaskWords
 
--- what the command of this name asks, where it reads documents and of its words one number at most;
--- none for another name, or without the moment that it needs
-abbrev pub document_words : Text → Numbers → Option DocumentTask
-document_words name numbers =
-    if bytes_eq name (codes "status") then Some document.Status
-    else (if bytes_eq name (codes "import") then option_map document.Import numbers.now
-    else (if bytes_eq name (codes "update") then option_map document.Update numbers.now
-    else (if bytes_eq name (codes "export") then Some document.Export
-    else (if bytes_eq name (codes "summary") then Some document.Summary
-    else (if bytes_eq name (codes "delta") then Some document.Delta
-    else (if bytes_eq name (codes "take") then Some (document.Take numbers.not_after)
-    else None))))))
-
 abbrev pick_asked : Bool → PickWords → Option TaskWords
 pick_asked false words = Some (Pick words)
 pick_asked true words = option_map PickAll (pick_all_words words)
@@ -51,6 +38,10 @@ pick_asked true words = option_map PickAll (pick_all_words words)
 -- one that fits best
 abbrev pub pick_task : List Row → Option TaskWords
 pick_task rows = option_and_then (pick_asked (is_given (first_of (codes "all") rows))) (pick_words rows)
+
+-- an edit by documents, which has a moment
+abbrev edit_task : (ℕ → DocumentTask) → Option ℕ → Option TaskWords
+edit_task edit now = option_map (λ n. Document (edit n)) now
 
 -- a refusal is explained, where one has this number
 abbrev pub explain_task : Option ℕ → Option TaskWords
@@ -65,16 +56,23 @@ task_words name numbers rows =
     else (if bytes_eq name (codes "new") then option_map New (first_of (codes "site") rows)
     else (if bytes_eq name (codes "put") then option_map Edit (put_words numbers.now rows)
     else (if bytes_eq name (codes "delete") then option_map Edit (delete_words numbers.now rows)
+    else (if bytes_eq name (codes "status") then Some (Document document.Status)
+    else (if bytes_eq name (codes "import") then edit_task document.Import numbers.now
+    else (if bytes_eq name (codes "update") then edit_task document.Update numbers.now
+    else (if bytes_eq name (codes "export") then Some (Document document.Export)
     else (if bytes_eq name (codes "missing") then option_map Missing (first_of (codes "lang") rows)
     else (if bytes_eq name (codes "outdated") then option_map Outdated (outdated_words rows)
     else (if bytes_eq name (codes "changes") then Some Changes
     else (if bytes_eq name (codes "filter") then option_map Filter (filter_words rows)
     else (if bytes_eq name (codes "lookup") then option_map Lookup (lookup_words rows)
     else (if bytes_eq name (codes "bundle") then option_map Bundle (preference_words (codes "field") rows)
+    else (if bytes_eq name (codes "summary") then Some (Document document.Summary)
+    else (if bytes_eq name (codes "delta") then Some (Document document.Delta)
+    else (if bytes_eq name (codes "take") then Some (Document (document.Take numbers.not_after))
     else (if bytes_eq name (codes "sync") then Some (Sync numbers.not_after)
     else (if bytes_eq name (codes "replay") then Some Replay
     else (if bytes_eq name (codes "explain") then explain_task numbers.number
-    else option_map Document (document_words name numbers)))))))))))))
+    else None)))))))))))))))))))
 
 -- what the subcommand that was met asks, with the numbers that its words give
 abbrev pub GivesTask : Option (Text × List Row) → Option TaskWords → Type 0

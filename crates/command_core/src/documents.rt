@@ -6,11 +6,10 @@ ghost use Rattle.command_core.specs.Acts.{Performs};
 ghost use Rattle.command_core.specs.Documents.{AreChangesOf, IsDocument, RefusesChanges};
 ghost use Rattle.command_core.specs.Documents.{RefusesDocuments};
 ghost use Rattle.command_core.specs.Streams.{reads};
-ghost use Rattle.command_core.specs.TaskWords.{Changes, Document, document_words};
+ghost use Rattle.command_core.specs.TaskWords.{Changes, Document};
 
 use crate::answer::Answered;
 use crate::input::two_documents;
-use crate::matches::Numbers;
 use docs_core::{
     Doc, DocFault, Source, changes_document, delta_document, export_document, import_document,
     read_all, status_document, summary_document, take_document_until, update_document,
@@ -29,23 +28,6 @@ pub(crate) enum DocumentTask {
     Summary,
     Delta,
     Take(Option<u64>),
-}
-
-/// The task of the command of this name, where its only argument is one of these numbers, if any.
-pub(crate) fn task_of(name: &str, numbers: Numbers) -> Option<DocumentTask>
-    ensures { result ≡ document_words name.now numbers }
-{
-    let Numbers { now, not_after, .. } = numbers;
-    match name {
-        "status" => Some(DocumentTask::Status),
-        "import" => Some(DocumentTask::Import(now?)),
-        "update" => Some(DocumentTask::Update(now?)),
-        "export" => Some(DocumentTask::Export),
-        "summary" => Some(DocumentTask::Summary),
-        "delta" => Some(DocumentTask::Delta),
-        "take" => Some(DocumentTask::Take(not_after)),
-        _ => None,
-    }
 }
 
 /// What answers the documents of the input.

@@ -65,6 +65,10 @@ fn task_of<'m, 'a>(
         "new" => Some(Task::New(text_of(matches, "site")?)),
         "put" => edit_of(numbers.now, Some(texts_of(matches, "texts")?), matches),
         "delete" => edit_of(numbers.now, None, matches),
+        "status" => Some(Task::Document(DocumentTask::Status)),
+        "import" => Some(Task::Document(DocumentTask::Import(numbers.now?))),
+        "update" => Some(Task::Document(DocumentTask::Update(numbers.now?))),
+        "export" => Some(Task::Document(DocumentTask::Export)),
         "missing" => Some(Task::Missing(text_of(matches, "lang")?)),
         "outdated" => Some(Task::Outdated(text_of(matches, "lang")?, text_of(matches, "source")?)),
         "changes" => Some(Task::Changes),
@@ -74,10 +78,13 @@ fn task_of<'m, 'a>(
             preferences_of(matches, "field")?,
         )),
         "bundle" => Some(Task::Bundle(preferences_of(matches, "field")?)),
+        "summary" => Some(Task::Document(DocumentTask::Summary)),
+        "delta" => Some(Task::Document(DocumentTask::Delta)),
+        "take" => Some(Task::Document(DocumentTask::Take(numbers.not_after))),
         "sync" => Some(Task::Sync(numbers.not_after)),
         "replay" => Some(Task::Replay),
         "explain" => Some(Task::Explain(refusal_of(numbers.number)?)),
-        _ => Some(Task::Document(documents::task_of(name, numbers)?)),
+        _ => None,
     }
 }
 
