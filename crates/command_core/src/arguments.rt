@@ -76,7 +76,7 @@ pub(crate) fn not_after<'a>(alloc: Global) -> Arg<'a>
     Arg::new(alloc, "not-after")
         .long("not-after")
         .value_name("N")
-        .help("Refuse the documents of others if one has a time after this, a whole number")
+        .help("Refuse to join a document that has a time after this, a whole number")
         .value_parser(value_parser!(u64))
 }
 
