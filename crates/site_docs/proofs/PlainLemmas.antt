@@ -1,5 +1,6 @@
 -- Texts that are put together from what is written.
-use Rattle.std.proofs.Common.{◌≡◌, ◌∙◌, ◌<◌, ◌++◌, ℕ, List, [], ◌∷◌, Bool, true, false, codes, decimal, map, length, length-append, refl, ap, sym, subst, append_assoc, append-nil, arith}
+use Rattle.std.proofs.Common.{◌≡◌, ◌∙◌, ◌++◌, ℕ, List, [], ◌∷◌, Bool, true, false, codes, decimal}
+use Rattle.std.proofs.Common.{map, refl, ap, sym, subst, append_assoc, append-nil}
 use Rattle.std.proofs.lemmas.List.{map-append}
 use Rattle.std.specs.Prelude.{Option, IsTrue, ◌↔◌, not}
 use Rattle.json.specs.Print.{quoted}
@@ -23,11 +24,14 @@ use Rattle.site_docs.proofs.DocumentsLemmas.{kept_more}
 -- ---- arrays
 
 -- an array is its open items and its bracket
-items_closed : (later : Bool) (ds : List Data) → items_text later (items_of ds) ≡ open_items later ds ++ 93 ∷ []
+items_closed : (later : Bool) (ds : List Data)
+    → items_text later (items_of ds) ≡ open_items later ds ++ 93 ∷ []
 items_closed later [] = refl
 items_closed later (d ∷ ds) =
     ap (λ r. comma_if later ++ (compact_text d ++ r)) (items_closed true ds)
-    ∙ sym (append_assoc (comma_if later) (compact_text d ++ open_items true ds) (93 ∷ []) ∙ ap (λ r. comma_if later ++ r) (append_assoc (compact_text d) (open_items true ds) (93 ∷ [])))
+    ∙ sym (append_assoc (comma_if later) (compact_text d ++ open_items true ds) (93 ∷ [])
+    ∙ ap (λ r. comma_if later ++ r)
+    (append_assoc (compact_text d) (open_items true ds) (93 ∷ [])))
 
 -- some items come before what is pushed
 abbrev pub is_later : {X : Type 0} → List X → Bool
@@ -43,119 +47,176 @@ is_later-push [] x = refl
 is_later-push (y ∷ xs) x = refl
 
 -- one item more after others
-open_later : (ds : List Data) (d : Data) → open_items true (ds ++ d ∷ []) ≡ open_items true ds ++ (44 ∷ compact_text d)
+open_later : (ds : List Data) (d : Data)
+    → open_items true (ds ++ d ∷ []) ≡ open_items true ds ++ (44 ∷ compact_text d)
 open_later [] d = ap (λ r. 44 ∷ r) (append-nil (compact_text d))
-open_later (e ∷ ds) d = ap (λ r. 44 ∷ (compact_text e ++ r)) (open_later ds d) ∙ ap (λ r. 44 ∷ r) (sym (append_assoc (compact_text e) (open_items true ds) (44 ∷ compact_text d)))
+open_later (e ∷ ds) d = ap (λ r. 44 ∷ (compact_text e ++ r)) (open_later ds d)
+    ∙ ap (λ r. 44 ∷ r) (sym
+    (append_assoc (compact_text e) (open_items true ds) (44 ∷ compact_text d)))
 
 -- one item more
-open_more : (ds : List Data) (d : Data) → open_items false (ds ++ d ∷ []) ≡ open_items false ds ++ (comma_if (is_later ds) ++ compact_text d)
+open_more : (ds : List Data) (d : Data)
+    → open_items false (ds ++ d ∷ []) ≡ open_items false ds ++
+    (comma_if (is_later ds) ++ compact_text d)
 open_more [] d = append-nil (compact_text d)
-open_more (e ∷ ds) d = ap (λ r. compact_text e ++ r) (open_later ds d) ∙ sym (append_assoc (compact_text e) (open_items true ds) (44 ∷ compact_text d))
+open_more (e ∷ ds) d = ap (λ r. compact_text e ++ r) (open_later ds d)
+    ∙ sym (append_assoc (compact_text e) (open_items true ds) (44 ∷ compact_text d))
 
 -- the text of one item more, and what comes after it
-item_taken : (ds : List Data) (d : Data) (text rest after : List ℕ) → text ≡ 91 ∷ (open_items false ds ++ rest) → rest ≡ comma_if (is_later ds) ++ (compact_text d ++ after)
+item_taken : (ds : List Data) (d : Data) (text rest after : List ℕ)
+    → text ≡ 91 ∷ (open_items false ds ++ rest)
+    → rest ≡ comma_if (is_later ds) ++ (compact_text d ++ after)
     → text ≡ 91 ∷ (open_items false (ds ++ d ∷ []) ++ after)
 item_taken ds d text rest after so_far next =
     so_far
     ∙ ap (λ r. 91 ∷ r)
-    (ap (λ r. open_items false ds ++ r) (next ∙ sym (append_assoc (comma_if (is_later ds)) (compact_text d) after))
+    (ap (λ r. open_items false ds ++ r)
+    (next ∙ sym (append_assoc (comma_if (is_later ds)) (compact_text d) after))
     ∙ sym (append_assoc (open_items false ds) (comma_if (is_later ds) ++ compact_text d) after)
     ∙ ap (λ t. t ++ after) (sym (open_more ds d)))
 
 -- all items, and the bracket
-pub array_taken : (ds : List Data) (text rest after : List ℕ) → text ≡ 91 ∷ (open_items false ds ++ rest) → rest ≡ 93 ∷ after → text ≡ compact_text (array (items_of ds)) ++ after
+pub array_taken : (ds : List Data) (text rest after : List ℕ)
+    → text ≡ 91 ∷ (open_items false ds ++ rest) → rest ≡ 93 ∷ after
+    → text ≡ compact_text (array (items_of ds)) ++ after
 array_taken ds text rest after so_far last =
     so_far
-    ∙ ap (λ r. 91 ∷ r) (ap (λ r. open_items false ds ++ r) last ∙ sym (append_assoc (open_items false ds) (93 ∷ []) after) ∙ ap (λ t. t ++ after) (sym (items_closed false ds)))
+    ∙ ap (λ r. 91 ∷ r) (ap (λ r. open_items false ds ++ r) last
+    ∙ sym (append_assoc (open_items false ds) (93 ∷ []) after)
+    ∙ ap (λ t. t ++ after) (sym (items_closed false ds)))
 
 -- ---- labels
 
 -- a text after others
-pub text_taken : (ts : List (List ℕ)) (t : List ℕ) (text rest after : List ℕ) → is_later ts ≡ true → text ≡ 91 ∷ (open_items false (map string ts) ++ rest) → rest ≡ 44 ∷ (quoted t ++ after)
+pub text_taken : (ts : List (List ℕ)) (t : List ℕ) (text rest after : List ℕ) → is_later ts ≡ true
+    → text ≡ 91 ∷ (open_items false (map string ts) ++ rest) → rest ≡ 44 ∷ (quoted t ++ after)
     → text ≡ 91 ∷ (open_items false (map string (ts ++ t ∷ [])) ++ after)
 text_taken ts t text rest after later so_far next =
-    rw (map-append string ts (t ∷ [])) (item_taken (map string ts) (string t) text rest after so_far (rw (is_later-map string ts, later) next))
+    rw (map-append string ts (t ∷ []))
+    (item_taken (map string ts) (string t) text rest after so_far
+    (rw (is_later-map string ts, later) next))
 
 -- the first text
-pub first_taken : (ts old : List (List ℕ)) (t text rest : List ℕ) → old ≡ [] → ts ≡ old ++ t ∷ [] → text ≡ 91 ∷ (quoted t ++ rest)
+pub first_taken : (ts old : List (List ℕ)) (t text rest : List ℕ) → old ≡ [] → ts ≡ old ++ t ∷ []
+    → text ≡ 91 ∷ (quoted t ++ rest)
     → (is_later ts ≡ true) × (text ≡ 91 ∷ (open_items false (map string ts) ++ rest))
 first_taken ts old t text rest none is begins =
-    let one : ts ≡ t ∷ [] = is ∙ ap (λ o. o ++ t ∷ []) none in
-    (ap is_later one, begins ∙ ap (λ q. 91 ∷ (q ++ rest)) (sym (append-nil (quoted t))) ∙ ap (λ xs. 91 ∷ (open_items false (map string xs) ++ rest)) (sym one))
+    let one : ts ≡ t ∷ [] = is ∙ ap (λ o. o ++ t ∷ []) none in (
+      ap is_later one,
+      begins ∙ ap (λ q. 91 ∷ (q ++ rest)) (sym (append-nil (quoted t)))
+          ∙ ap (λ xs. 91 ∷ (open_items false (map string xs) ++ rest)) (sym one),
+    )
 
+-- some texts come first where one was pushed
 pub texts_later : (old new : List (List ℕ)) (t : List ℕ) → new ≡ old ++ t ∷ [] → is_later new ≡ true
 texts_later old new t is = ap is_later is ∙ is_later-push old t
-
-pub text_shorter : (t rest after : List ℕ) → rest ≡ 44 ∷ (quoted t ++ after) → length after < length rest
-text_shorter t rest after is =
-    let l : length rest ≡ length (44 ∷ (quoted t ++ after)) = ap length is in
-    omega (arith, l, length-append (quoted t) after)
 
 -- ---- rows
 
 -- a row is its front, its label and its bracket
-row_taken : (row : Row) (label : Option (List (List ℕ))) (text rest left after : List ℕ) → text ≡ row_before row rest → rest ≡ compact_text (label_value label) ++ left → left ≡ 93 ∷ after
+row_taken : (row : Row) (label : Option (List (List ℕ))) (text rest left after : List ℕ)
+    → text ≡ row_before row rest → rest ≡ compact_text (label_value label) ++ left
+    → left ≡ 93 ∷ after
     → text ≡ compact_text (cell_value row label) ++ after
-row_taken row label text rest left after first labelled last = first ∙ ap (row_before row) (labelled ∙ ap (λ r. compact_text (label_value label) ++ r) last) ∙ simp append_assoc
+row_taken row label text rest left after first labelled last = first
+    ∙ ap (row_before row) (labelled ∙ ap (λ r. compact_text (label_value label) ++ r) last)
+    ∙ simp append_assoc
 
 abbrev row_by : EntryKey × Stamp → Row
-row_by t = record { id = t.0.0; language = t.0.1; time = t.1.time; site = t.1.site; count = t.1.count }
+row_by t = record {
+  id = t.0.0;
+  language = t.0.1;
+  time = t.1.time;
+  site = t.1.site;
+  count =
+      t.1.count;
+}
 
 -- the key and the stamp are those of the row, with its language as it is there
 abbrev pub IsKeyedAs : EntryKey → Stamp → Row → Type 0
-IsKeyedAs key stamp row = ◌≡◌ {A = EntryKey × Stamp} (key, stamp) ((row.id, row.language), stamp_of row)
+IsKeyedAs key stamp row = ◌≡◌ {A = EntryKey × Stamp} (key, stamp)
+    ((row.id, row.language), stamp_of row)
 
 -- the entry has this label at the key and the stamp
 abbrev pub IsEntryWith : Entry → EntryKey → Stamp → Option (List (List ℕ)) → Type 0
 IsEntryWith e key stamp label = ◌≡◌ {A = Entry} e (key, record { stamp = stamp; label = label })
 
-pub entry_text : (e : Entry) (key : EntryKey) (stamp : Stamp) (row : Row) (label : Option (List (List ℕ))) (text rest left after : List ℕ) → IsKeyedAs key stamp row
-    → IsEntryWith e key stamp label → text ≡ row_before row rest → rest ≡ compact_text (label_value label) ++ left → left ≡ 93 ∷ after
+-- the text of a row is that of its entry
+pub entry_text : (e : Entry) (key : EntryKey) (stamp : Stamp) (row : Row)
+    (label : Option (List (List ℕ))) (text rest left after : List ℕ) → IsKeyedAs key stamp row
+    → IsEntryWith e key stamp label → text ≡ row_before row rest
+    → rest ≡ compact_text (label_value label) ++ left → left ≡ 93 ∷ after
     → text ≡ compact_text (entry_value e) ++ after
 entry_text e key stamp row label text rest left after keyed is first labelled last =
     row_taken row label text rest left after first labelled last
-    ∙ sym (ap (λ (x : Entry). compact_text (entry_value x) ++ after) is ∙ ap (λ (t : EntryKey × Stamp). compact_text (cell_value (row_by t) label) ++ after) keyed)
+    ∙ sym (ap (λ (x : Entry). compact_text (entry_value x) ++ after) is
+    ∙ ap (λ (t : EntryKey × Stamp). compact_text (cell_value (row_by t) label) ++ after) keyed)
 
-pub entry_kept : (e : Entry) (key : EntryKey) (stamp : Stamp) (row : Row) (label : Option (List (List ℕ))) → IsKeyedAs key stamp row → IsEntryWith e key stamp label
+-- the parts of the entry are as every catalogue keeps them
+pub entry_kept : (e : Entry) (key : EntryKey) (stamp : Stamp) (row : Row)
+    (label : Option (List (List ℕ))) → IsKeyedAs key stamp row → IsEntryWith e key stamp label
     → IsKept (row.id, row.language) (stamp_of row) → IsLabelText label → IsKeptCell e
 entry_kept e key stamp row label keyed is kept text =
-    subst IsKeptCell (sym is) (subst (λ (t : EntryKey × Stamp). IsKept t.0 t.1) (sym keyed) kept, text)
+    subst IsKeptCell (sym is) (
+      subst (λ (t : EntryKey × Stamp). IsKept t.0 t.1) (sym keyed) kept,
+      text,
+    )
 
 -- ---- cells
 
-first_is : (first : Bool) (cells : Entries) → IsTrue first ↔ (cells ≡ []) → not first ≡ is_later cells
+first_is : (first : Bool) (cells : Entries) → IsTrue first ↔ (cells ≡ [])
+    → not first ≡ is_later cells
 first_is true [] tells = refl
 first_is true (e ∷ es) tells = let never : e ∷ es ≡ [] = tells.0 refl in cc
 first_is false [] tells = let never : false ≡ true = tells.1 refl in cc
 first_is false (e ∷ es) tells = refl
 
 -- one cell more
-pub cell_taken : (old new : Entries) (e : Entry) (first : Bool) (text rest after : List ℕ) → IsTrue first ↔ (old ≡ []) → text ≡ 91 ∷ (open_items false (cells_values old) ++ rest)
-    → rest ≡ comma_if (not first) ++ (compact_text (entry_value e) ++ after) → new ≡ old ++ e ∷ [] → text ≡ 91 ∷ (open_items false (cells_values new) ++ after)
+pub cell_taken : (old new : Entries) (e : Entry) (first : Bool) (text rest after : List ℕ)
+    → IsTrue first ↔ (old ≡ []) → text ≡ 91 ∷ (open_items false (cells_values old) ++ rest)
+    → rest ≡ comma_if (not first) ++ (compact_text (entry_value e) ++ after) → new ≡ old ++ e ∷ []
+    → text ≡ 91 ∷ (open_items false (cells_values new) ++ after)
 cell_taken old new e first text rest after tells so_far next pushed =
-    let later : not first ≡ is_later (cells_values old) = first_is first old tells ∙ sym (is_later-map entry_value old) in
+    let later : not first ≡ is_later (cells_values old) = first_is first old tells
+    ∙ sym (is_later-map entry_value old) in
     rw (pushed, map-append entry_value old (e ∷ []))
-    (item_taken (cells_values old) (entry_value e) text rest after so_far (next ∙ ap (λ b. comma_if b ++ (compact_text (entry_value e) ++ after)) later))
+    (item_taken (cells_values old) (entry_value e) text rest after so_far
+    (next ∙ ap (λ b. comma_if b ++ (compact_text (entry_value e) ++ after)) later))
 
-pub cells_kept : (old new : Entries) (e : Entry) → AreKeptCells old → IsKeptCell e → IsAboveAll e.0 old → new ≡ old ++ e ∷ [] → AreKeptCells new
+-- the cells are as every catalogue keeps them, with one cell more
+pub cells_kept : (old new : Entries) (e : Entry) → AreKeptCells old → IsKeptCell e
+    → IsAboveAll e.0 old → new ≡ old ++ e ∷ [] → AreKeptCells new
 cells_kept old new e kept one above pushed =
-    subst AreKeptCells (sym pushed) (record { each = kept_more IsKeptCell old e kept.each one; map = IsMap-behind old e.0 e.1 kept.map above })
-
-pub entry_shorter : (e : Entry) (first : Bool) (rest after : List ℕ) → rest ≡ comma_if first ++ (compact_text (entry_value e) ++ after) → length after < length rest
-entry_shorter e first rest after is =
-    let l : length rest ≡ length (comma_if first ++ (compact_text (entry_value e) ++ after)) = ap length is in
-    omega (arith, l, length-append (comma_if first) (compact_text (entry_value e) ++ after), length-append (compact_text (entry_value e)) after)
+    subst AreKeptCells (sym pushed)
+    (record {
+      each = kept_more IsKeptCell old e kept.each one;
+      map = IsMap-behind old e.0 e.1 kept.map
+          above;
+    })
 
 -- ---- documents
 
 closed : (cells rows kind_name kind subject name version two : List ℕ)
-    → 123 ∷ (cells ++ 58 ∷ (rows ++ 44 ∷ (kind_name ++ 58 ∷ (kind ++ 44 ∷ (subject ++ 58 ∷ (name ++ 44 ∷ (version ++ 58 ∷ (two ++ 125 ∷ 10 ∷ []))))))))
-    ≡ 123 ∷ ((cells ++ 58 ∷ (rows ++ 44 ∷ (kind_name ++ 58 ∷ (kind ++ 44 ∷ (subject ++ 58 ∷ (name ++ 44 ∷ (version ++ 58 ∷ (two ++ 125 ∷ [])))))))) ++ 10 ∷ [])
+    → 123 ∷ (cells ++ 58 ∷
+    (rows ++ 44 ∷
+    (kind_name ++ 58 ∷
+    (kind ++ 44 ∷ (subject ++ 58 ∷ (name ++ 44 ∷ (version ++ 58 ∷ (two ++ 125 ∷ 10 ∷ []))))))))
+    ≡ 123 ∷ ((cells ++ 58 ∷
+    (rows ++ 44 ∷
+    (kind_name ++ 58 ∷
+    (kind ++ 44 ∷ (subject ++ 58 ∷ (name ++ 44 ∷ (version ++ 58 ∷ (two ++ 125 ∷ [])))))))) ++
+    10 ∷ [])
 closed cells rows kind_name kind subject name version two = simp append_assoc
 
-pub document_taken : (kind : Kind) (text rest left name : List ℕ) (cells : Entries) → text ≡ 123 ∷ (quoted (codes "cells") ++ 58 ∷ rest) → rest ≡ rows_text cells ++ left
-    → left ≡ last_members (kind_text kind) (subject_of kind) name → text ≡ document_text (cells_document kind name (cells_values cells))
+-- a document is its rows and the members about them
+pub document_taken : (kind : Kind) (text rest left name : List ℕ) (cells : Entries)
+    → text ≡ 123 ∷ (quoted (codes "cells") ++ 58 ∷ rest) → rest ≡ rows_text cells ++ left
+    → left ≡ last_members (kind_text kind) (subject_of kind) name
+    → text ≡ document_text (cells_document kind name (cells_values cells))
 document_taken kind text rest left name cells first rows last =
     first
-    ∙ ap (λ r. 123 ∷ (quoted (codes "cells") ++ 58 ∷ r)) (rows ∙ ap (λ r. rows_text cells ++ r) last)
-    ∙ closed (quoted (codes "cells")) (rows_text cells) (quoted (codes "kind")) (quoted (kind_text kind)) (quoted (subject_of kind)) (quoted name) (quoted (codes "version")) (decimal 2)
+    ∙ ap (λ r. 123 ∷ (quoted (codes "cells") ++ 58 ∷ r))
+    (rows ∙ ap (λ r. rows_text cells ++ r) last)
+    ∙ closed (quoted (codes "cells")) (rows_text cells) (quoted (codes "kind"))
+    (quoted (kind_text kind)) (quoted (subject_of kind)) (quoted name)
+    (quoted (codes "version")) (decimal 2)

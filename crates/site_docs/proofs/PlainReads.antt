@@ -9,12 +9,18 @@ use Rattle.site_docs.specs.ReadsAs.{ReadsAsDelta, ReadsAsSite}
 use Rattle.site_docs.specs.declared.document.kind.Kind.TheVariants.{Delta, Site}
 use Rattle.site_docs.proofs.RoundTrip.{delta_again, site_again}
 
-pub plain_site : (bytes name : List ℕ) (cells : Entries) → IsPlainText Site bytes name cells → ReadsAsSite bytes (record { name = name; cells = cells })
+-- a site
+pub plain_site : (bytes name : List ℕ) (cells : Entries) → IsPlainText Site bytes name cells
+    → ReadsAsSite bytes (record { name = name; cells = cells })
 plain_site bytes name cells plain =
     let site : SiteState = record { name = name; cells = cells } in
-    subst (λ (b : List ℕ). ReadsAsSite b site) (sym plain.text) (site_again site plain.is_name plain.kept (subst IsUtf8 plain.text plain.utf8))
+    subst (λ (b : List ℕ). ReadsAsSite b site) (sym plain.text)
+    (site_again site plain.is_name plain.kept (subst IsUtf8 plain.text plain.utf8))
 
-pub plain_delta : (bytes name : List ℕ) (cells : Entries) → IsPlainText Delta bytes name cells → ReadsAsDelta bytes (record { addressee = name; cells = cells })
+-- a delta
+pub plain_delta : (bytes name : List ℕ) (cells : Entries) → IsPlainText Delta bytes name cells
+    → ReadsAsDelta bytes (record { addressee = name; cells = cells })
 plain_delta bytes name cells plain =
     let delta : DeltaState = record { addressee = name; cells = cells } in
-    subst (λ (b : List ℕ). ReadsAsDelta b delta) (sym plain.text) (delta_again delta plain.is_name plain.kept (subst IsUtf8 plain.text plain.utf8))
+    subst (λ (b : List ℕ). ReadsAsDelta b delta) (sym plain.text)
+    (delta_again delta plain.is_name plain.kept (subst IsUtf8 plain.text plain.utf8))

@@ -1,6 +1,7 @@
 -- Documents in the form in which they are written, and texts that begin with a part of one. Own
 -- rule.
-use Rattle.std.specs.Prelude.{◌≡◌, ◌<◌, ◌≤◌, ◌+◌, ◌++◌, ◌∷◌, [], ℕ, List, Bool, true, IsUtf8, codes, decimal, get_or, length, take}
+use Rattle.std.specs.Prelude.{◌≡◌, ◌<◌, ◌≤◌, ◌+◌, ◌++◌, ◌∷◌, [], ℕ, List, Bool, true, IsUtf8, codes}
+use Rattle.std.specs.Prelude.{decimal, get_or, length, take}
 use Rattle.json.specs.Print.{quoted}
 use Rattle.serde_json.specs.Data.{Data, array}
 use Rattle.serde_json.specs.View.{items_of}
@@ -35,12 +36,17 @@ open_items later (d ∷ ds) = comma_if later ++ (compact_text d ++ open_items tr
 -- a row as far as its label, and what comes after
 abbrev pub row_before : Row → List ℕ → List ℕ
 row_before row rest =
-    91 ∷ (quoted row.id ++ 44 ∷ (quoted row.language ++ 44 ∷ (decimal row.time ++ 44 ∷ (quoted row.site ++ 44 ∷ (decimal row.count ++ 44 ∷ rest)))))
+    91 ∷ (quoted row.id ++ 44 ∷
+    (quoted row.language ++ 44 ∷
+    (decimal row.time ++ 44 ∷ (quoted row.site ++ 44 ∷ (decimal row.count ++ 44 ∷ rest)))))
 
 -- the members after the rows, and the line feed
 abbrev pub last_members : List ℕ → List ℕ → List ℕ → List ℕ
 last_members kind subject name =
-    44 ∷ (quoted (codes "kind") ++ 58 ∷ (quoted kind ++ 44 ∷ (quoted subject ++ 58 ∷ (quoted name ++ 44 ∷ (quoted (codes "version") ++ 58 ∷ (decimal 2 ++ 125 ∷ 10 ∷ []))))))
+    44 ∷ (quoted (codes "kind") ++ 58 ∷
+    (quoted kind ++ 44 ∷
+    (quoted subject ++ 58 ∷
+    (quoted name ++ 44 ∷ (quoted (codes "version") ++ 58 ∷ (decimal 2 ++ 125 ∷ 10 ∷ []))))))
 
 -- ---- numbers
 

@@ -34,7 +34,8 @@ pub fn site_from(alloc: Global, bytes: &[u8]) -> Result<Site, DocCause>
 
 // The site of a document that is in any form.
 fn site_of_tokens(alloc: Global, bytes: &[u8]) -> Result<Site, DocCause>
-    ensures { MatchResult result (ReadsAsSite bytes.now) (OrMemory NoMemory (RefusesSite bytes.now)) }
+    ensures { MatchResult result
+        (ReadsAsSite bytes.now) (OrMemory NoMemory (RefusesSite bytes.now)) }
 {
     match cells_as_written(alloc, bytes, Kind::Site) {
         Some((name, cells)) => Ok(Site::from_catalogue(name, cells)),
@@ -63,7 +64,8 @@ pub fn delta_from(alloc: Global, bytes: &[u8]) -> Result<Delta, DocCause>
 
 // The delta of a document that is in any form.
 fn delta_of_tokens(alloc: Global, bytes: &[u8]) -> Result<Delta, DocCause>
-    ensures { MatchResult result (ReadsAsDelta bytes.now) (OrMemory NoMemory (RefusesDelta bytes.now)) }
+    ensures { MatchResult result
+        (ReadsAsDelta bytes.now) (OrMemory NoMemory (RefusesDelta bytes.now)) }
 {
     match cells_as_written(alloc, bytes, Kind::Delta) {
         Some((to, cells)) => Ok(Delta::from_catalogue(to, cells)),

@@ -32,7 +32,8 @@ pub fn cells_of_plain(alloc: Global, bytes: &[u8], kind: Kind) -> Option<(SiteNa
 
 // The name in the members after the rows.
 fn last_name(text: &str, kind: Kind) -> Option<SiteName>
-    ensures text { IfSome result (λ name. text.now ≡ last_members (kind_text kind) (subject_of kind) name) }
+    ensures text { IfSome result
+        (λ name. text.now ≡ last_members (kind_text kind) (subject_of kind) name) }
     ensures name { IfSome result (λ name. IsSiteName name) }
 {
     let rest = member_after(text, ",", "kind")?;

@@ -51,7 +51,9 @@ fn plain_text(text: &str) -> Option<(&str, &str)>
 
 // The place of the closing quote, where nothing before it is escaped.
 fn plain_end(bytes: &[u8]) -> Option<usize>
-    ensures { IfSome result (λ end. (position is_stop bytes.now ≡ Some end) × (get_or bytes.now end 0 ≡ 34) × (end < length bytes.now)) }
+    ensures { IfSome result
+        (λ end. (position is_stop bytes.now ≡ Some end) × (get_or bytes.now end 0 ≡ 34)
+        × (end < length bytes.now)) }
 {
     let end = stop_in(bytes)?;
     if bytes[end] == b'"' { Some(end) } else { None }

@@ -40,7 +40,9 @@ pub fn next_cells(alloc: Global, text: &str) -> Option<(Catalogue, &str)>
 
 // The next row, after a comma where it is not the first.
 fn next_item(alloc: Global, text: &str, is_first: bool) -> Option<(CellEntry, &str)>
-    ensures text { IfSome result (λ r. text.now ≡ comma_if (not is_first) ++ (compact_text (entry_value (entry_by r.0)) ++ r.1.now)) }
+    ensures text { IfSome result
+        (λ r. text.now ≡ comma_if (not is_first) ++ (compact_text (entry_value (entry_by r.0))
+        ++ r.1.now)) }
     ensures kept { IfSome result (λ r. IsKeptCell (entry_by r.0)) }
 {
     if is_first {
@@ -52,7 +54,8 @@ fn next_item(alloc: Global, text: &str, is_first: bool) -> Option<(CellEntry, &s
 
 // The row that the text begins with.
 fn next_entry(alloc: Global, text: &str) -> Option<(CellEntry, &str)>
-    ensures text { IfSome result (λ r. text.now ≡ compact_text (entry_value (entry_by r.0)) ++ r.1.now) }
+    ensures text { IfSome result
+        (λ r. text.now ≡ compact_text (entry_value (entry_by r.0)) ++ r.1.now) }
     ensures kept { IfSome result (λ r. IsKeptCell (entry_by r.0)) }
 {
     let (row, rest) = next_row(text)?;
@@ -64,7 +67,8 @@ fn next_entry(alloc: Global, text: &str) -> Option<(CellEntry, &str)>
 
 // The entry of this key and this stamp that has this label.
 fn with_label(stamped: StampEntry, label: Option<Label>) -> CellEntry
-    ensures { entry_by result ≡ ((stamped.id, stamped.lang), record { stamp = stamped.stamp; label = label }) }
+    ensures { entry_by result
+        ≡ ((stamped.id, stamped.lang), record { stamp = stamped.stamp; label = label }) }
 {
     let StampEntry { id, lang, stamp } = stamped;
     let cell = Cell::new(stamp, label);
@@ -96,8 +100,10 @@ fn next_row(text: &str) -> Option<(Row<'_>, &str)>
 
 // What the row's fields make, where its language is in lower case.
 fn lower_entry(alloc: Global, row: Row<'_>) -> Option<StampEntry>
-    ensures is { let plain = row_of row.entry in IfSome result (λ x. told_by x ≡ ((plain.id, plain.language), stamp_of plain)) }
-    ensures kept { let plain = row_of row.entry in IfSome result (λ x. IsKept (plain.id, plain.language) (stamp_of plain)) }
+    ensures is { let plain = row_of row.entry in IfSome result
+        (λ x. told_by x ≡ ((plain.id, plain.language), stamp_of plain)) }
+    ensures kept { let plain = row_of row.entry in IfSome result
+        (λ x. IsKept (plain.id, plain.language) (stamp_of plain)) }
 {
     let Ok(entry) = stamp_entry(alloc, 0, row) else {
         return None;

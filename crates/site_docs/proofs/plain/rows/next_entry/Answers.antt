@@ -7,11 +7,16 @@ pub returns-clause-text : goal.returns-clause-text
 returns-clause-text c =
     let stamped = c.in_ok-stamped.stamped in
     let label = c.in_ok-label.label in
-    entry_text (entry_by c.with_label.result) (stamped.id, stamped.lang) stamped.stamp (row_of c.in_ok-row.row) label c.args.text.now c.in_ok-row.rest.now c.in_ok-label.rest.now c.in_ok-rest.rest.now
-    c.in_ok-stamped.ensures.is c.with_label.ensures c.in_ok-row.ensures c.in_ok-label.ensures.text c.in_ok-rest.ensures
+    entry_text (entry_by c.with_label.result) (stamped.id, stamped.lang) stamped.stamp
+    (row_of c.in_ok-row.row) label c.args.text.now c.in_ok-row.rest.now c.in_ok-label.rest.now
+    c.in_ok-rest.rest.now
+    c.in_ok-stamped.ensures.is c.with_label.ensures c.in_ok-row.ensures c.in_ok-label.ensures.text
+    c.in_ok-rest.ensures
 
 pub returns-clause-kept : goal.returns-clause-kept
 returns-clause-kept c =
     let stamped = c.in_ok-stamped.stamped in
     let label = c.in_ok-label.label in
-    entry_kept (entry_by c.with_label.result) (stamped.id, stamped.lang) stamped.stamp (row_of c.in_ok-row.row) label c.in_ok-stamped.ensures.is c.with_label.ensures c.in_ok-stamped.ensures.kept c.in_ok-label.ensures.label
+    entry_kept (entry_by c.with_label.result) (stamped.id, stamped.lang) stamped.stamp
+    (row_of c.in_ok-row.row) label c.in_ok-stamped.ensures.is c.with_label.ensures
+    c.in_ok-stamped.ensures.kept c.in_ok-label.ensures.label
