@@ -280,19 +280,31 @@ impl Catalogue {
                 .iter_mut()
                 .for_each(|row| row.lang = numbers[row.lang as usize]);
         }
+        let is_before = |pair: &&[Row]| pair[0].key() < pair[1].key();
+        let in_order = self.rows.windows(2).take_while(is_before).count();
+        if 2 * in_order > self.rows.len() {
+            self.rows.sort_by_key(Row::key);
+        } else {
+            self.rows = self.rows_in_order();
+        }
+        self.places = Index::default();
+        self.settled = true;
+    }
+
+    /// The rows by message and language, where few are in order.
+    fn rows_in_order(&self) -> Vec<Row> {
         let rows = &self.rows;
         let places: Vec<u32> = (0..rows.len() as u32).collect();
         let places = ordered_by(&places, self.langs.len(), |place| rows[place as usize].lang);
         let places = ordered_by(&places, self.messages.len(), |place| {
             rows[place as usize].message
         });
-        self.rows = places.iter().map(|place| rows[*place as usize]).collect();
-        self.places = Index::default();
-        self.settled = true;
+        places.iter().map(|place| rows[*place as usize]).collect()
     }
 
     #[inline(never)]
     fn fill_places(&mut self) {
+        self.places = Index::with_room_for(self.rows.len());
         for (place, row) in self.rows.iter().enumerate() {
             self.places
                 .find_or_add(hash_of(row.key()), place, |_| false);

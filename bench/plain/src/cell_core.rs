@@ -27,6 +27,16 @@ pub struct Index {
 const FREE: u64 = 0;
 
 impl Index {
+    /// An empty table with room for so many, and as many more.
+    pub fn with_room_for(count: usize) -> Index {
+        let size = (4 * count).next_power_of_two().max(32);
+        Index {
+            slots: vec![FREE; size],
+            count: 0,
+            room: size / 2,
+        }
+    }
+
     pub fn len(&self) -> usize {
         self.count
     }
@@ -220,6 +230,7 @@ impl Names {
 
     #[inline(never)]
     fn fill_index(&mut self) {
+        self.index = Index::with_room_for(self.len());
         for number in 0..self.len() {
             let hash = hash_of(self.get(number));
             self.index.find_or_add(hash, number, |_| false);
@@ -610,6 +621,7 @@ impl Keyed {
 
     #[inline(never)]
     fn fill_index(&mut self) {
+        self.index = Index::with_room_for(self.len());
         for (place, cell) in self.cells.iter().enumerate() {
             let hash = hash_of(self.heap.key(cell));
             self.index.find_or_add(hash, place, |_| false);
