@@ -53,6 +53,24 @@ fn take_ahead(rt: HostRuntime) -> Result<(), Fail> {
     Ok(())
 }
 
+/// A delta of what paris has already, and of what is older than that.
+const HELD: &str =
+    r#"{"cells":[["m","en",200,"paris",0,["a"]]],"kind":"delta","to":"paris","version":2}"#;
+
+const OLDER: &str =
+    r#"{"cells":[["m","en",150,"paris",0,["z"]]],"kind":"delta","to":"paris","version":2}"#;
+
+/// Every row of the delta counts, whatever the site has.
+#[test]
+fn take_of_nothing_new(rt: HostRuntime) -> Result<(), Fail> {
+    for delta in [HELD, OLDER] {
+        let ran = run_on_both(rt.alloc(), &["take", "--not-after", "100"], PARIS, delta)?;
+        let line = "refused 29: time is ahead in row 0 of document 2\n";
+        assert!(rt; is_refused(&ran, 3, line), "{delta}");
+    }
+    Ok(())
+}
+
 const LATE: &str =
     r#"{"cells":[["m","en",101,"paris",0,["a"]]],"kind":"site","site":"paris","version":2}"#;
 
@@ -86,5 +104,31 @@ fn sync(rt: HostRuntime) -> Result<(), Fail> {
     );
     let ran = run_on_both(alloc, &["sync", "--not-after=101"], LATE, EARLY)?;
     assert!(rt; is_answered(&ran, 0, SYNCED));
+    Ok(())
+}
+
+/// The same stamp as in [`LATE`], with another label.
+const CLASHING: &str =
+    r#"{"cells":[["m","en",101,"paris",0,["b"]]],"kind":"site","site":"tokyo","version":2}"#;
+
+/// Both documents are read first; then comes the first that is late, and only then a clash.
+#[test]
+fn order_in_a_sync(rt: HostRuntime) -> Result<(), Fail> {
+    let words = ["sync", "--not-after", "100"];
+    for (second, line) in [
+        ("{}", "refused 20: shape of document 2\n"),
+        (LATE, "refused 29: time is ahead in row 0 of document 1\n"),
+        (
+            CLASHING,
+            "refused 29: time is ahead in row 0 of document 1\n",
+        ),
+    ] {
+        let ran = run_on_both(rt.alloc(), words.as_slice(), LATE, second)?;
+        assert!(rt; is_refused(&ran, 3, line), "{second}");
+    }
+    let words = ["sync", "--not-after", "101"];
+    let ran = run_on_both(rt.alloc(), words.as_slice(), LATE, CLASHING)?;
+    let line = "refused 13: stamp 101 paris 0 used twice, cell 0\n";
+    assert!(rt; is_refused(&ran, 3, line));
     Ok(())
 }

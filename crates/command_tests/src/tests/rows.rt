@@ -275,6 +275,46 @@ const WIDENED: &[(&[&str], u8, &str)] = &[
         1,
         "nothing\n",
     ),
+    // Each range is widened before the next one is tried.
+    (
+        &["pick", "--widen", "fr, en", "en", "fr-CA"],
+        0,
+        "matched fr-ca\n",
+    ),
+    (
+        &[
+            "pick",
+            "--widen",
+            "--scheme",
+            "extended",
+            "de-DE",
+            "de-Latn-DE",
+        ],
+        0,
+        "matched de-latn-de\n",
+    ),
+    // A range that begins with "*" widens nothing, and no range finds the language that is none.
+    (
+        &["pick", "--widen", "--scheme", "extended", "*-DE", "de-DE"],
+        1,
+        "nothing\n",
+    ),
+    (
+        &["pick", "--widen", "--scheme", "extended", "*, fr", "@none"],
+        1,
+        "nothing\n",
+    ),
+    // The default is not widened, and "*" with weight 0 bars it.
+    (
+        &["pick", "--widen", "--default", "en", "ja", "en-US"],
+        1,
+        "nothing\n",
+    ),
+    (
+        &["pick", "--widen", "--default", "en", "ja, *;q=0", "en"],
+        1,
+        "nothing\n",
+    ),
 ];
 
 /// A language finds its regions.
@@ -317,12 +357,117 @@ const ALL: &[(&[&str], u8, &str)] = &[
         0,
         "filter 1\nfr-ca 1000\n",
     ),
+    // Equal weights by one item: the tags in lower case decide.
+    (
+        &["pick", "--all", "en", "en-US", "EN-gb", "en-AU"],
+        0,
+        "filter 3\nen-au 1000\nen-gb 1000\nen-us 1000\n",
+    ),
+    (
+        &["pick", "--all", "en, en-US;q=0", "en-US"],
+        1,
+        "filter 0\n",
+    ),
 ];
 
 /// All tags that fit, best first.
 #[test]
 fn all(rt: HostRuntime) -> Result<(), Fail> {
     all_picked(&rt, ALL)
+}
+
+/// A field, the tags that show its items, and the lines.
+const ITEMS: &[(&str, &[&str], u8, &str)] = &[
+    (
+        "en-US,en;q=0.8333",
+        &["en", "en-US"],
+        0,
+        "filter 1\nen-us 1000\n",
+    ),
+    ("de;q=.8", &["de"], 1, "filter 0\n"),
+    ("en_US, en", &["en", "de"], 0, "filter 1\nen 1000\n"),
+    (
+        "fr-FR;q=1.0;q=0.5, fr",
+        &["fr-FR", "fr"],
+        0,
+        "filter 2\nfr 1000\nfr-fr 1000\n",
+    ),
+    (
+        "en; q = 0.5, de;q=0.3",
+        &["en", "de"],
+        0,
+        "filter 1\nde 300\n",
+    ),
+    (
+        "\"en, fr\", fr;q=0.2",
+        &["en", "fr"],
+        0,
+        "filter 1\nfr 200\n",
+    ),
+    (
+        "\"en, fr, de\";q=0.9, ja",
+        &["de", "en", "ja", "fr"],
+        0,
+        "filter 2\nfr 1000\nja 1000\n",
+    ),
+    (",,", &["en"], 1, "filter 0\n"),
+    ("", &["en"], 1, "filter 0\n"),
+    // No blanks are CR, LF and U+00A0.
+    (
+        "en\r, \nfr, \u{a0}de, ja",
+        &["en", "fr", "de", "ja"],
+        0,
+        "filter 1\nja 1000\n",
+    ),
+];
+
+/// The items of malformed fields, each seen by what it filters.
+#[test]
+fn lenient_items(rt: HostRuntime) -> Result<(), Fail> {
+    for (field, tags, status, lines) in ITEMS {
+        let mut words = vec![in rt.alloc(); "pick", "--all", "--lenient", field]?;
+        words.extend_from_slice(tags)?;
+        let ran = run_words(rt.alloc(), &words)?;
+        assert!(rt; is_answered(&ran, *status, lines), "{field}");
+    }
+    Ok(())
+}
+
+const EXTENDED_ITEMS: &[(&[&str], u8, &str)] = &[
+    (
+        &[
+            "pick",
+            "--all",
+            "--lenient",
+            "--scheme",
+            "extended",
+            "de-*-DE, e_n, fr",
+            "fr-CA",
+            "de-Latn-DE",
+            "de",
+        ],
+        0,
+        "filter 2\nde-latn-de 1000\nfr-ca 1000\n",
+    ),
+    // An extended range has no weight.
+    (
+        &[
+            "pick",
+            "--all",
+            "--lenient",
+            "--scheme",
+            "extended",
+            "de;q=0.5",
+            "de",
+        ],
+        1,
+        "filter 0\n",
+    ),
+];
+
+#[test]
+fn lenient_extended_items(rt: HostRuntime) -> Result<(), Fail> {
+    all_picked(&rt, EXTENDED_ITEMS)
 }
 
 const REFUSED_WITH_OPTIONS: &[(&[&str], &str)] = &[

@@ -1,5 +1,6 @@
 //! Writers that fail.
-use super::harness::{Page, run_into};
+use super::harness::{Page, Tape, run_into, run_over};
+use super::texts::EMPTY_ONE;
 use std::test::Fail;
 
 const PICKS: &[&[&str]] = &[&["pick", "en", "en"], &["pick", "en", "fr"]];
@@ -13,6 +14,28 @@ fn failing_output(rt: HostRuntime) -> Result<(), Fail> {
         assert!(rt; ran.told.as_slice() == b"refused 25: write fault\n".as_slice());
         let ran = run_into(alloc, words, Page::full(alloc), Page::full(alloc))?;
         assert_eq!(rt; ran.status, 4);
+    }
+    Ok(())
+}
+
+/// Questions that the empty site has no answer to.
+const UNANSWERED: &[&[&str]] = &[
+    &["filter", "--id", "m", "en"],
+    &["lookup", "--id", "m", "en"],
+    &["bundle", "en"],
+    &["missing", "--lang", "en"],
+    &["outdated", "--lang", "en", "--source", "de"],
+];
+
+/// Where the line that says so is not written, that is the fault, and not status 1.
+#[test]
+fn failing_output_of_no_answer(rt: HostRuntime) -> Result<(), Fail> {
+    let alloc = rt.alloc();
+    for words in UNANSWERED {
+        let site = Tape::of(EMPTY_ONE);
+        let ran = run_over(alloc, words, site, Page::full(alloc), Page::new(alloc))?;
+        assert_eq!(rt; ran.status, 4, "{words:?}");
+        assert!(rt; ran.told.as_slice() == b"refused 25: write fault\n".as_slice());
     }
     Ok(())
 }

@@ -106,6 +106,31 @@ fn widened(rt: HostRuntime) -> Result<(), Fail> {
     Ok(())
 }
 
+/// A label that is deleted, beside one of another region that is live, and alone.
+const DELETED: &str = "{\"cells\":[[\"m\",\"de-at\",1,\"paris\",0,null],\
+        [\"m\",\"de-ch\",1,\"paris\",1,[\"Salue\"]],[\"n\",\"de-at\",1,\"paris\",2,null]],\
+        \"kind\":\"site\",\"site\":\"paris\",\"version\":2}";
+
+/// Widening finds the live languages of that one message alone.
+#[test]
+fn widened_past_a_deletion(rt: HostRuntime) -> Result<(), Fail> {
+    let ran = run_on(
+        rt.alloc(),
+        &["lookup", "--id", "m", "--widen", "de"],
+        DELETED,
+    )?;
+    assert!(rt; is_answered(&ran, 0, "matched de-ch [\"Salue\"]\n"));
+    let ran = run_on(
+        rt.alloc(),
+        &["lookup", "--id", "n", "--widen", "de"],
+        DELETED,
+    )?;
+    assert!(rt; is_answered(&ran, 1, "nothing\n"));
+    let ran = run_on(rt.alloc(), &["bundle", "--widen", "de"], DELETED)?;
+    assert!(rt; is_answered(&ran, 0, "{\"m\":{\"de-ch\":\"Salue\"}}\n"));
+    Ok(())
+}
+
 const MISSING: &[(&str, &str, u8, &str)] = &[
     (
         "de",
@@ -152,6 +177,7 @@ const OUTDATED: &[(&str, &str, u8, &str)] = &[
     ("fr", "en", 1, "{}"),
     ("en", "en", 1, "{}"),
     ("de", "en-us", 1, "{}"),
+    ("de", "@none", 1, "{}"),
 ];
 
 #[test]
@@ -164,6 +190,28 @@ fn outdated(rt: HostRuntime) -> Result<(), Fail> {
             is_answered(&ran, *status, line.as_str()),
             "{lang} {source}"
         );
+    }
+    Ok(())
+}
+
+/// A text in no language, with a translation before it and one after it.
+const NONE: &str =
+    "{\"cells\":[[\"m\",\"@none\",7,\"paris\",0,[\"x\"]],[\"m\",\"de\",5,\"paris\",0,[\"y\"]],\
+        [\"m\",\"fr\",9,\"paris\",0,[\"z\"]]],\"kind\":\"site\",\"site\":\"paris\",\"version\":2}";
+
+/// Text in no language is a source, and a translation, like any other.
+#[test]
+fn outdated_of_no_language(rt: HostRuntime) -> Result<(), Fail> {
+    let line = "{\"m\":{\"@none\":\"x\",\"de\":\"y\",\"fr\":\"z\"}}\n";
+    for (lang, source, status, text) in [
+        ("de", "@none", 0, line),
+        ("fr", "@none", 1, "{}\n"),
+        ("@none", "fr", 0, line),
+        ("@none", "@none", 1, "{}\n"),
+    ] {
+        let words = ["outdated", "--lang", lang, "--source", source];
+        let ran = run_on(rt.alloc(), words.as_slice(), NONE)?;
+        assert!(rt; is_answered(&ran, status, text), "{lang} {source}");
     }
     Ok(())
 }
@@ -216,6 +264,17 @@ const UPDATES: &[(&str, &str, &[&str])] = &[
             r#"["m","fr",6,"paris",1,null]"#,
             DE,
         ],
+    ),
+    // An empty array is no label, and of an id that is written twice only the last member counts.
+    (
+        r#"{"m":{"fr":"Salut"}}"#,
+        r#"{"m":{"fr":[]}}"#,
+        &[EN, r#"["m","fr",6,"paris",0,null]"#, DE],
+    ),
+    (
+        "{}",
+        r#"{"m":{"ja":"x"},"m":{"ja":"y"}}"#,
+        &[EN, FR, r#"["m","ja",6,"paris",0,["y"]]"#, DE],
     ),
     // The new ones may stand on several lines.
     (

@@ -47,6 +47,9 @@ const WORDS: &[&[&str]] = &[
     &["explain", "30"],
     &["explain", "+1"],
     &["explain", "01"],
+    &["explain", ""],
+    &["explain", "1.0"],
+    &["explain", "-1"],
     &["explain", "one"],
     &["explain", "1", "2"],
 ];
