@@ -19,7 +19,8 @@
 //! its place where it has one.
 //!
 //! ```text
-//! let field = Field { scheme: Scheme::Basic, malformed: Malformed::PassedOver, text: b"da, en;q=0.8" };
+//! let (scheme, malformed) = (Scheme::Basic, Malformed::PassedOver);
+//! let field = Field { scheme, malformed, widening: Widening::Off, text: b"da, en;q=0.8" };
 //! pick(alloc, field, None, b"en\nfr\n")?               Picked::Matched(b"en")
 //! let site = open_site(alloc, document)?;
 //! lookup_text(alloc, &site, b"greeting", field, Some(b"fr"), 0)?
