@@ -36,10 +36,12 @@ front_of : (range rest : List (List ℕ)) → is_front range (range ++ rest) ≡
 front_of [] rest = refl
 front_of (r ∷ range) rest = rw ((bytes_eq-Decides r r).1 refl) (front_of range rest)
 
+-- A range that passes the test of the basic match is "*" or a front of the tag.
 pub basic_of_test : (range tag : List (List ℕ)) → is_basic_match range tag ≡ true → Basic range tag
 unfolding is_basic_match
 basic_of_test range tag h = elim (either (is_lone_star range) (is_front range tag) h) [ inl e ↦ inl (lone_is range e) | inr e ↦ inr (front_is range tag e) ]
 
+-- A range that is "*" or a front of the tag passes the test of the basic match.
 pub test_of_basic : (range tag : List (List ℕ)) → Basic range tag → is_basic_match range tag ≡ true
 unfolding is_basic_match
 test_of_basic range tag (inl e) = of_either (is_lone_star range) (is_front range tag) (inl (ap is_lone_star e ∙ star_self))

@@ -11,6 +11,7 @@ use Rattle.lang_core.specs.Candidates.{last_of}
 use Rattle.lang_core.proofs.Basics.{cases_bool}
 use Rattle.lang_core.proofs.PiecesLaws.{pieces_join, pieces_no_hyphen}
 
+-- The pieces of a text are those before its last hyphen, and then what comes after it.
 pub pieces_last : (text : List ℕ) (at : ℕ) → at < length text → get_or text at 0 ≡ 45 → ((k : ℕ) → at < k → k < length text → get_or text k 0 ≡ 45 → ⊥) → pieces text ≡ pieces (take at text) ++ drop (at + 1) text ∷ []
 pieces_last text at lt h n =
     let joined : take at text ++ drop at text ≡ text = take-append-drop at text in
@@ -28,6 +29,7 @@ front_of (suc n) front last h =
     let rest = front_of n front last (omega arith) in
     cc
 
+-- A range of one subtag has no truncations.
 pub truncated_one : (s : List ℕ) → truncated (s ∷ []) ≡ []
 unfolding truncated
 truncated_one s = refl
@@ -42,6 +44,8 @@ pushed m front last e =
     ap (λ (x : List (List ℕ)). filter (λ y. not (is_cut y)) (x ∷ fronts_from m (front ++ last ∷ []))) first
     ∙ (ap (λ (r : List (List (List ℕ))). filter (λ y. not (is_cut y)) (front ∷ r)) rest ∙ filter_step front (fronts_from m front))
 
+-- The truncations of a range are the range without its last subtag, unless truncation skips that
+-- one, and then the truncations of that shorter range.
 pub truncated_push : (front : List (List ℕ)) (last : List ℕ) → 0 < length front → truncated (front ++ last ∷ []) ≡ cond (is_cut front) (truncated front) (candidates front)
 unfolding truncated
 truncated_push [] last n = absurd (omega arith)
@@ -52,6 +56,7 @@ truncated_push (s ∷ front) last n =
 
 -- ---- the last subtag
 
+-- Truncation skips a range of one subtag just where it is a single letter or digit, or "*".
 pub is_cut_one : (s : List ℕ) → is_cut (s ∷ []) ≡ (is_single s || is_star s)
 unfolding is_cut
 is_cut_one s = refl
@@ -60,14 +65,19 @@ last_push : (s : List ℕ) (more : List (List ℕ)) (last : List ℕ) → last_o
 last_push s [] last = refl
 last_push s (t ∷ more) last = last_push t more last
 
+-- Truncation skips a range of two or more subtags just where the last is a single letter or digit.
 pub is_cut_push : (front : List (List ℕ)) (last : List ℕ) → 0 < length front → is_cut (front ++ last ∷ []) ≡ is_single last
 unfolding is_cut
 is_cut_push [] last n = absurd (omega arith)
 is_cut_push (s ∷ []) last n = refl
 is_cut_push (s ∷ t ∷ more) last n = ap is_single (last_push t more last)
 
+-- Where truncation does not skip the range without its last subtag, the truncations are that
+-- shorter range and its truncations.
 pub truncated_stands : (range front : List (List ℕ)) (last : List ℕ) → range ≡ front ++ last ∷ [] → 0 < length front → is_cut front ≡ false → truncated range ≡ candidates front
 truncated_stands range front last e n cut = ap truncated e ∙ (truncated_push front last n ∙ (rw cut refl))
 
+-- Where truncation skips the range without its last subtag, the truncations are those of that
+-- shorter range.
 pub truncated_skips : (range front : List (List ℕ)) (last : List ℕ) → range ≡ front ++ last ∷ [] → 0 < length front → is_cut front ≡ true → truncated range ≡ truncated front
 truncated_skips range front last e n cut = ap truncated e ∙ (truncated_push front last n ∙ (rw cut refl))

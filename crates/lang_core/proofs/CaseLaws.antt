@@ -11,6 +11,7 @@ use Rattle.lang_core.specs.Grammar.{is_letter, is_digit, is_alphanum, is_star}
 abbrev pub lowered : List (List ℕ) → List (List ℕ)
 lowered list = map str_to_ascii_lowercase list
 
+-- Lower case does not change whether a byte is a hyphen.
 pub lower_hyphen : (b : ℕ) → (to_ascii_lowercase b == 45) ≡ (b == 45)
 lower_hyphen b = grind (arith, nat_tests)
 
@@ -20,6 +21,7 @@ lower_star b = grind (arith, nat_tests)
 lower_letter : (b : ℕ) → is_letter (to_ascii_lowercase b) ≡ is_ascii_alphabetic b
 lower_letter b = grind (arith, nat_tests)
 
+-- Lower case does not change whether a byte is a digit.
 pub lower_digit : (b : ℕ) → is_digit (to_ascii_lowercase b) ≡ is_digit b
 lower_digit b = grind (arith, nat_tests)
 
@@ -33,15 +35,20 @@ list_all-lower : (low any : ℕ → Bool) (s : List ℕ) → ((b : ℕ) → low 
 list_all-lower low any [] same = refl
 list_all-lower low any (b ∷ s) same = and_is _ _ _ _ (same b) (list_all-lower low any s same)
 
+-- A text is of letters in any case just where, in lower case, it is of lower-case letters.
 pub letters-lower : (s : List ℕ) → list_all is_ascii_alphabetic s ≡ list_all is_letter (str_to_ascii_lowercase s)
 letters-lower s = sym (list_all-lower is_letter is_ascii_alphabetic s lower_letter)
 
+-- Lower case does not change whether a text is of digits alone.
 pub digits-lower : (s : List ℕ) → list_all is_digit s ≡ list_all is_digit (str_to_ascii_lowercase s)
 digits-lower s = sym (list_all-lower is_digit is_digit s lower_digit)
 
+-- A text is of digits and letters in any case just where, in lower case, it is of digits and
+-- lower-case letters.
 pub alphanums-lower : (s : List ℕ) → list_all is_ascii_alphanumeric s ≡ list_all is_alphanum (str_to_ascii_lowercase s)
 alphanums-lower s = sym (list_all-lower is_alphanum is_ascii_alphanumeric s lower_alphanum)
 
+-- Lower case does not change whether a subtag is "*".
 pub star-lower : (s : List ℕ) → is_star (str_to_ascii_lowercase s) ≡ is_star s
 unfolding is_star
 star-lower [] = refl

@@ -1,4 +1,4 @@
--- What the sum of the bytes' classes tells of a text.
+-- What the sum of the bytes' classes says of a text.
 use Rattle.std.proofs.Common.{ℕ, ◌≡◌, ◌≤◌, ◌<◌, ◌==◌, ◌⊎◌, inl, inr, List, [], ◌∷◌, Bool, true}
 use Rattle.std.proofs.Common.{false, length, get_or, sum_by, refl, sym, ◌∙◌, ap, arith}
 use Rattle.std.specs.Prelude.{◌&&◌}
@@ -54,6 +54,7 @@ kinds b = elim (cases_bool (is_ascii_alphabetic b)) [
   ]
 ]
 
+-- A byte adds at most 16 to the sum of its text.
 pub small_class : (b : ℕ) → class_of b ≤ 16
 small_class b = elim (kinds b) [
   | inl k ↦ (let a = k.adds in omega arith)
@@ -88,11 +89,11 @@ other_sum (b ∷ s) h =
       ]
     ]
 
--- a sum of 16 tells that some byte is neither a letter nor a digit
+-- Where the sum of at most eight bytes is 16 or more, one of them is neither a letter nor a digit.
 pub sum_of_other : (s : List ℕ) (sum : ℕ) → length s ≤ 8 → sum ≡ sum_by class_of s → 16 ≤ sum → list_all is_ascii_alphanumeric s ≡ false
 sum_of_other s sum short e high = is_false _ (λ h. let low = alphanum_sum s h in omega arith)
 
--- a lower sum tells that each byte is one
+-- Where the sum is below 16, each byte is a letter or a digit.
 pub sum_of_alphanums : (s : List ℕ) (sum : ℕ) → sum ≡ sum_by class_of s → sum < 16 → list_all is_ascii_alphanumeric s ≡ true
 sum_of_alphanums s sum e low = elim (cases_bool (list_all is_ascii_alphanumeric s)) [
   | inl h ↦ h
@@ -121,6 +122,7 @@ letters_test (b ∷ s) =
       ]
     ]
 
+-- The sum is 0 just where each byte is a letter.
 pub sum_of_letters : (s : List ℕ) (sum : ℕ) → sum ≡ sum_by class_of s → (sum == 0) ≡ list_all is_ascii_alphabetic s
 sum_of_letters s sum e = ap (λ (n : ℕ). n == 0) e ∙ letters_test s
 
@@ -140,5 +142,6 @@ digits_test (b ∷ s) h =
       ]
     ]
 
+-- A sum below 16 is the length of the text just where each byte is a digit.
 pub sum_of_digits : (s : List ℕ) (sum : ℕ) → sum ≡ sum_by class_of s → sum < 16 → (sum == length s) ≡ list_all is_ascii_digit s
 sum_of_digits s sum e low = ap (λ (n : ℕ). n == length s) e ∙ digits_test s (sum_of_alphanums s sum e low)

@@ -22,10 +22,12 @@ one_step true c x y h = inl (refl, h)
 one_step false true x y h = inr (refl, h)
 one_step false false x y h = cc
 
+-- Greedy pairing succeeds where no subtag is wanted.
 pub greedy_all : (given : List (List ℕ)) → greedy [] given ≡ true
 unfolding greedy
 greedy_all given = refl
 
+-- Greedy pairing skips a wanted "*".
 pub greedy_star : (w : List ℕ) (wanted given : List (List ℕ)) → is_star w ≡ true → greedy (w ∷ wanted) given ≡ greedy wanted given
 unfolding greedy
 greedy_star w wanted [] h = rw h refl
@@ -39,7 +41,7 @@ step : (w g : List ℕ) (wanted given : List (List ℕ)) → is_star w ≡ false
 unfolding greedy
 step w g wanted given h = rw h refl
 
--- where the first subtag is wanted as it stands
+-- where the first wanted subtag is not "*"
 embeds_head : (w : List ℕ) (wanted given : List (List ℕ)) → is_star w ≡ false → ((rest : List (List ℕ)) → greedy wanted rest ≡ true → Embeds (without_stars wanted) rest) → greedy (w ∷ wanted) given ≡ true → Embeds (w ∷ without_stars wanted) given
 embeds_head w wanted [] kept tail h = (let none = none_left w wanted kept in cc)
 embeds_head w wanted (g ∷ given) kept tail h = elim (one_step (bytes_eq w g) (nat_lt 1 (length g)) (greedy wanted given) (greedy (w ∷ wanted) given) (sym (step w g wanted given kept) ∙ h)) [
@@ -47,6 +49,7 @@ embeds_head w wanted (g ∷ given) kept tail h = elim (one_step (bytes_eq w g) (
   | inr e ↦ inr (lt_is _ _ e.0, embeds_head w wanted given kept tail e.1)
 ]
 
+-- Where greedy pairing succeeds, the wanted subtags other than "*" are embedded in the given ones.
 pub embeds_of_greedy : (wanted given : List (List ℕ)) → greedy wanted given ≡ true → Embeds (without_stars wanted) given
 embeds_of_greedy [] given h = tt
 embeds_of_greedy (w ∷ wanted) given h = elim (cases_bool (is_star w)) [
@@ -73,6 +76,7 @@ greedy_head w wanted (g ∷ given) kept tail (inr e) = elim (cases_bool (bytes_e
   | inr q ↦ step w g wanted given kept ∙ passed (bytes_eq w g) (nat_lt 1 (length g)) (greedy wanted given) (greedy (w ∷ wanted) given) q (is_lt _ _ e.0) (greedy_head w wanted given kept tail e.1)
 ]
 
+-- Where the wanted subtags other than "*" are embedded in the given ones, greedy pairing succeeds.
 pub greedy_of_embeds : (wanted given : List (List ℕ)) → Embeds (without_stars wanted) given → greedy wanted given ≡ true
 greedy_of_embeds [] given e = greedy_all given
 greedy_of_embeds (w ∷ wanted) given e = elim (cases_bool (is_star w)) [
@@ -82,18 +86,24 @@ greedy_of_embeds (w ∷ wanted) given e = elim (cases_bool (is_star w)) [
 
 -- ---- one step of the matcher
 
+-- Greedy pairing pairs a wanted subtag with an equal given one and goes on after both.
 pub greedy_pair : (w g : List ℕ) (given rest : List (List ℕ)) → is_star w ≡ false → bytes_eq w g ≡ true → greedy (w ∷ rest) (g ∷ given) ≡ greedy rest given
 greedy_pair w g given rest kept h = step w g rest given kept ∙ rw h refl
 
+-- Greedy pairing fails at a given subtag of at most one character that differs from the wanted one.
 pub greedy_stop : (w g : List ℕ) (given rest : List (List ℕ)) → is_star w ≡ false → bytes_eq w g ≡ false → length g ≤ 1 → greedy (w ∷ rest) (g ∷ given) ≡ false
 greedy_stop w g given rest kept h n = let q : nat_lt 1 (length g) ≡ false = grind (arith, nat_tests) in step w g rest given kept ∙ rw (h, q) refl
 
+-- Greedy pairing skips a given subtag of two or more characters that differs from the wanted one.
 pub greedy_pass : (w g : List ℕ) (given rest : List (List ℕ)) → is_star w ≡ false → bytes_eq w g ≡ false → 1 < length g → greedy (w ∷ rest) (g ∷ given) ≡ greedy (w ∷ rest) given
 greedy_pass w g given rest kept h n = step w g rest given kept ∙ rw (h, is_lt 1 (length g) n) refl
 
+-- Greedy pairing fails where a subtag other than "*" is wanted and none is given.
 pub greedy_none : (w : List ℕ) (rest : List (List ℕ)) → is_star w ≡ false → greedy (w ∷ rest) [] ≡ false
 greedy_none w rest kept = none_left w rest kept
 
+-- Where the first subtags match, a range matches a tag in the extended way just where greedy
+-- pairing of the others succeeds.
 pub extended_is : (range tag : List (List ℕ)) (r t : List ℕ) (rs ts : List (List ℕ)) (b : Bool) → range ≡ r ∷ rs → tag ≡ t ∷ ts → (IsTrue (is_star r) ⊎ (r ≡ t)) → b ≡ greedy rs ts → IsTrue b ↔ Extended range tag
 extended_is range tag r t rs ts b p q heads e =
     rw (p, q) (

@@ -35,7 +35,7 @@ front_of_rest front (b ∷ rest) h =
     let hyphen : b ≡ 45 = grind (arith, nat_tests) in
     (pieces rest, ap (λ (c : ℕ). pieces (front ++ c ∷ rest)) hyphen ∙ pieces_join front rest)
 
--- and the other way round
+-- A text that has the front's subtags first is the front, and a rest before which a subtag ends.
 pub rest_of_front : (front text : List ℕ) → IsFront (pieces front) (pieces text) → (rest : List ℕ) × ((text ≡ front ++ rest) × (ends_subtag rest ≡ true))
 rest_of_front front text (more, e) = of more e where
   whole : (more : List (List ℕ)) → pieces text ≡ pieces front ++ more → text ≡ joined (pieces front ++ more)
@@ -53,7 +53,7 @@ drop_front : (front rest : List ℕ) → drop (length front) (front ++ rest) ≡
 drop_front [] rest = refl
 drop_front (b ∷ front) rest = drop_front front rest
 
--- the test of texts tells whether the subtags are a front
+-- The test of texts decides whether the front's subtags are the text's first ones.
 pub front_is : (front text : List ℕ) → IsTrue (ends_at text (length front) && bytes_eq (take (length front) text) front) ↔ IsFront (pieces front) (pieces text)
 front_is front text = (
   (λ h.
@@ -85,18 +85,24 @@ ends_at-lower text front =
 
 -- ---- what the matcher found
 
+-- Where a subtag of the text ends at the front's length, comparing bytes decides whether the
+-- front's subtags are the text's first ones.
 pub front_found : (front text start : List ℕ) (b : Bool) → true ≡ ends_at text (length front) → start ≡ take (length front) text → b ≡ bytes_eq start front → IsTrue b ↔ IsFront (pieces front) (pieces text)
 front_found front text start b ends s e =
     let test : ends_at text (length front) && bytes_eq (take (length front) text) front ≡ b = rw (← ends) (ap (λ (x : List ℕ). bytes_eq x front) (sym s) ∙ sym e) in
     let law = front_is front text in
     ((λ h. law.0 (test ∙ h)), (λ f. sym test ∙ law.1 f))
 
+-- Where no subtag of the text ends at the front's length, the front's subtags are not its first
+-- ones.
 pub front_missed : (front text : List ℕ) → false ≡ ends_at text (length front) → IsTrue false ↔ IsFront (pieces front) (pieces text)
 front_missed front text ends =
     let test : ends_at text (length front) && bytes_eq (take (length front) text) front ≡ false = rw (← ends) refl in
     let law = front_is front text in
     ((λ h. law.0 (test ∙ h)), (λ f. sym test ∙ law.1 f))
 
+-- Where a subtag of the text ends at the front's length, comparing lower-case bytes decides whether
+-- the front's subtags are the text's first ones, whatever their case.
 pub lower_front_found : (front text start : List ℕ) (b : Bool) → true ≡ ends_at text (length front) → start ≡ take (length front) text → (IsTrue b ↔ (str_to_ascii_lowercase start ≡ str_to_ascii_lowercase front)) → IsTrue b ↔ IsFront (subtags front) (subtags text)
 lower_front_found front text start b ends s e =
     let same : str_to_ascii_lowercase start ≡ take (length (str_to_ascii_lowercase front)) (str_to_ascii_lowercase text) =
@@ -105,14 +111,18 @@ lower_front_found front text start b ends s e =
     let test = bytes_eq-Decides (str_to_ascii_lowercase start) (str_to_ascii_lowercase front) in
     ((λ h. law.0 (test.1 (e.0 h))), (λ f. e.1 (test.0 (law.1 f))))
 
+-- Where no subtag of the text ends at the front's length, the front's subtags are not its first
+-- ones, whatever their case.
 pub lower_front_missed : (front text : List ℕ) → false ≡ ends_at text (length front) → IsTrue false ↔ IsFront (subtags front) (subtags text)
 lower_front_missed front text ends = front_missed (str_to_ascii_lowercase front) (str_to_ascii_lowercase text) (ends ∙ sym (ends_at-lower text front))
 
 -- ---- basic matching
 
+-- The range "*" matches every tag in the basic way.
 pub star_matches : (range : List ℕ) (tag : List (List ℕ)) (b : Bool) → b ≡ true → b ≡ is_star range → IsTrue b ↔ Basic (pieces range) tag
 star_matches range tag b h e = ((λ _. inl (star_pieces range (sym e ∙ h))), (λ _. h))
 
+-- A range other than "*" matches a tag in the basic way just where it is a front of the tag.
 pub front_matches : (range : List ℕ) (tag : List (List ℕ)) (star b : Bool) → star ≡ false → star ≡ is_star range → (IsTrue b ↔ IsFront (pieces range) tag) → IsTrue b ↔ Basic (pieces range) tag
 front_matches range tag star b other e law = (
   (λ h. inr (law.0 h)),

@@ -39,6 +39,7 @@ well_formed text b e = (
   ]),
 )
 
+-- The stages accept a list just where they accept its rest from the stage after its first subtag.
 pub accepts_next : (s : List ℕ) (more : List (List ℕ)) (stage : Option Stage)
     → accepts (s ∷ more) stage ≡ accepts more (stage_after stage s)
 unfolding accepts
@@ -52,6 +53,8 @@ sized : (text : List ℕ) → (0 < length text) × (length text ≤ 255)
 sized text h = let size : length (str_to_ascii_lowercase text) ≡ length text =
     length-map text to_ascii_lowercase in (rw size h.0, rw size h.1)
 
+-- A text of 1 to 255 bytes is a tag where each subtag is allowed, and the stages accept them all or
+-- it is an irregular tag.
 pub is_tag : (text : List ℕ) (b : Bool) → (0 < length text) × (length text ≤ 255)
     → are_allowed tag_piece 0 (subtags text) ≡ true
     → b ≡ (accepts (subtags text) (Some Start) || is_irregular (str_to_ascii_lowercase text))
@@ -59,6 +62,8 @@ pub is_tag : (text : List ℕ) (b : Bool) → (0 < length text) × (length text 
 is_tag text b size each e h =
     (sized text size, each, (well_formed (str_to_ascii_lowercase text) b e).0 h)
 
+-- A text whose subtags are allowed is not well-formed where the stages do not accept them and the
+-- text is no irregular tag.
 pub is_no_tag : (text : List ℕ) (b : Bool) → are_allowed tag_piece 0 (subtags text) ≡ true
     → b ≡ (accepts (subtags text) (Some Start) || is_irregular (str_to_ascii_lowercase text))
     → b ≡ false → RefusesTagFirst (str_to_ascii_lowercase text) TagNotWellFormed

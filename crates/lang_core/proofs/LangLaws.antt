@@ -16,6 +16,7 @@ none_subtags h = cc
 pub none_no_tag : IsTag none_text → ⊥
 none_no_tag h = none_subtags h.1
 
+-- No tag is the text "@none".
 pub tag_not_none : (text : List ℕ) → IsTag text → text ≡ none_text → ⊥
 tag_not_none text h e = none_no_tag (let P : List ℕ → Type 0 = IsTag in subst P e h)
 

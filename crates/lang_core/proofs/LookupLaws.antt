@@ -26,9 +26,12 @@ joined-hyphened : (s : List ℕ) (list : List (List ℕ)) → joined (s ∷ list
 joined-hyphened s [] = sym (append-nil s)
 joined-hyphened s (t ∷ list) = ap (λ (x : List ℕ). s ++ 45 ∷ x) (joined-hyphened t list)
 
+-- The lookup text of a range that begins with the subtag "*" is "*".
 pub lookup_star : (range : List ℕ) (s : List ℕ) (list : List (List ℕ)) → pieces range ≡ s ∷ list → is_star s ≡ true → s ≡ lookup_text range
 lookup_star range s list e h = sym (ap (λ (x : List (List ℕ)). joined (as_basic x)) e ∙ rw h refl)
 
+-- The lookup text of a range that begins with another subtag is that subtag, and after it all
+-- others but "*", each with a hyphen before it.
 pub lookup_kept : (range : List ℕ) (s : List ℕ) (list : List (List ℕ)) → pieces range ≡ s ∷ list → is_star s ≡ false → s ++ hyphened (without_stars list) ≡ lookup_text range
 lookup_kept range s list e h =
     let first : as_basic (s ∷ list) ≡ s ∷ without_stars list = rw h refl in
@@ -107,6 +110,7 @@ star_among kind [] apart h e = cc
 star_among kind (b ∷ []) apart h e = apart b (each_true (kind b) true h).0 e
 star_among kind (b ∷ c ∷ s) apart h e = cc
 
+-- A subtag that a basic range allows at its place is not "*".
 pub no_star : (place : ℕ) (s : List ℕ) → basic_piece place s ≡ true → is_star s ≡ false
 unfolding is_private_piece
 no_star zero s h = is_false (is_star s) (λ e. star_among is_letter s star_letter (run_of is_letter 1 8 s h).all e)
@@ -122,6 +126,7 @@ lone_star : as_basic ((42 ∷ []) ∷ []) ≡ (42 ∷ []) ∷ []
 unfolding is_star
 lone_star = refl
 
+-- A basic range, taken as a basic one, is itself.
 pub as_basic-basic : (list : List (List ℕ)) → BasicRange list → as_basic list ≡ list
 as_basic-basic list (inl e) = ap as_basic e ∙ (lone_star ∙ sym e)
 as_basic-basic [] (inr h) = cc
@@ -130,6 +135,7 @@ as_basic-basic (s ∷ list) (inr h) =
     let kept : without_stars (s ∷ list) ≡ s ∷ list = all_kept 0 (s ∷ list) h in
     rw first (sym (star_kept s list first) ∙ kept)
 
+-- The lookup text of a basic range is its own text.
 pub lookup_text-basic : (text : List ℕ) → BasicRange (pieces text) → text ≡ lookup_text text
 lookup_text-basic text h = sym (ap joined (as_basic-basic (pieces text) h) ∙ joined-pieces text)
 
@@ -151,6 +157,7 @@ later_basic p q (s ∷ list) n m h =
           (later_basic (p + 1) (q + 1) list (omega arith) (omega arith) parts.1))
     ]
 
+-- An extended range, taken as a basic one, is a basic range.
 pub as_basic-extended : (list : List (List ℕ)) → ExtendedRange list → BasicRange (as_basic list)
 as_basic-extended [] h = cc
 as_basic-extended (s ∷ list) h =
@@ -176,5 +183,6 @@ lower_bytes (b ∷ text) h =
     let rest : str_to_ascii_lowercase text ≡ text = lower_bytes text parts.1 in
     cc
 
+-- The text of an extended range is in lower case.
 pub lower-range : (text : List ℕ) → ExtendedRange (pieces text) → str_to_ascii_lowercase text ≡ text
 lower-range text h = lower_bytes text (range_bytes text h)

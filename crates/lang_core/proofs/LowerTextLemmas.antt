@@ -114,7 +114,7 @@ length-unfilled bytes len =
     ∙ position_or_length (λ b. b == 0) bytes
     ∙ sym (length-before_first (λ b. b == 0) bytes)
 
--- So many bytes from the front are the text.
+-- The text is as many of the bytes, from the front, as it is long.
 pub take-unfilled : (bytes : List ℕ) → take (length (unfilled bytes)) bytes ≡ unfilled bytes
 take-unfilled bytes = ap (λ n. take n bytes) (length-before_first (λ b. b == 0) bytes)
 
@@ -128,7 +128,7 @@ cmp-unfilled x y p q =
 
 -- ---- lower case
 
--- What a text in lower case is of was of such bytes before.
+-- A text is ASCII where, in lower case, it is of ASCII bytes other than zero.
 pub plain-lower : (text : List ℕ) → IsPlain (str_to_ascii_lowercase text) → IsAscii text
 plain-lower [] h = IsAscii-nil
 plain-lower (b ∷ text) h =

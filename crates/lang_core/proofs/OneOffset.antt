@@ -29,6 +29,7 @@ same_before allowed from (z ∷ b) (w ∷ c) a d x y e p q r s =
     (at_place allowed (from + length (w ∷ c)) (from + 1 + length c) y false (omega arith) s) in
     cc
 
+-- The first piece of a list that is refused begins at one offset alone.
 pub one_offset : (allowed : ℕ → List ℕ → Bool) (list : List (List ℕ)) (a b : ℕ) → IsFirstRefused allowed list a → IsFirstRefused allowed list b → a ≡ b
 one_offset allowed list a b f g =
     let same : f.before ≡ g.before = same_before allowed 0 f.before g.before f.after g.after f.piece g.piece (sym f.whole ∙ g.whole) f.before_ok g.before_ok

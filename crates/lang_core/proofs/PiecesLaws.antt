@@ -39,19 +39,21 @@ pieces_cut separator text at h =
     let rest : take (length text - (at + 1)) (drop (at + 1) text) ≡ drop (at + 1) text = grind (arith, take_all, length-drop) in
     rw (rest, ← found.1) (slice_split_first (λ b. b == separator) text 0 (ltb-true _ _ found.0))
 
+-- Rules that rewrite the pieces of a text without a separator, or with a first one.
 pub ruleset cuts = (pieces_whole, pieces_cut)
 
--- where the first separator stands
+-- The first separator of a text is at a place within it.
 pub separator_is : (separator : ℕ) (text bytes : List ℕ) (at : ℕ) → bytes ≡ text → Some at ≡ position (λ b. b == separator) bytes → (at < length text) × (get_or text at 0 ≡ separator)
 separator_is separator text bytes at e h =
     let found : position (λ b. b == separator) text ≡ Some at = ap (position (λ b. b == separator)) (sym e) ∙ sym h in
     let facts = position-Some (λ b. b == separator) text at 0 found in
     (facts.0, grind (arith, nat_tests))
 
--- the same, of texts that the callee was passed as bytes
+-- Where the bytes are those of the text and have no separator, the text is its one piece.
 pub whole_of : (separator : ℕ) (text bytes : List ℕ) → bytes ≡ text → None ≡ position (λ b. b == separator) bytes → pieces_by separator text ≡ text ∷ []
 whole_of separator text bytes e h = pieces_whole separator text (ap (position (λ b. b == separator)) (sym e) ∙ sym h)
 
+-- Where the bytes are those of the text, their first separator ends its first piece.
 pub cut_of : (separator : ℕ) (text bytes : List ℕ) (at : ℕ) → bytes ≡ text → Some at ≡ position (λ b. b == separator) bytes → pieces_by separator text ≡ take at text ∷ pieces_by separator (drop (at + 1) text)
 cut_of separator text bytes at e h =
     let rest : take (length text - (at + 1)) (drop (at + 1) text) ≡ drop (at + 1) text = grind (arith, take_all, length-drop) in
@@ -68,6 +70,7 @@ onto_some : (b : ℕ) (parts more : List (List ℕ)) → 0 < length parts → on
 onto_some b [] more n = absurd (omega arith)
 onto_some b (p ∷ parts) more n = refl
 
+-- A text has at least one piece.
 pub some_pieces : (text : List ℕ) → 0 < length (pieces text)
 unfolding pieces_by
 some_pieces text = rw length-slice_split (omega arith)
@@ -79,6 +82,7 @@ split_join (x ∷ xs) ys = elim (cases_bool (x == 45)) [
   | inr e ↦ slice_split-cons_no (λ b. b == 45) x (xs ++ 45 ∷ ys) e ∙ (ap (onto_first x) (split_join xs ys) ∙ (onto_some x (slice_split (λ b. b == 45) xs) (slice_split (λ b. b == 45) ys) (rw length-slice_split (omega arith)) ∙ ap (λ (r : List (List ℕ)). r ++ slice_split (λ b. b == 45) ys) (sym (slice_split-cons_no (λ b. b == 45) x xs e))))
 ]
 
+-- Two texts with a hyphen between them have the pieces of the first, then those of the second.
 pub pieces_join : (xs ys : List ℕ) → pieces (xs ++ 45 ∷ ys) ≡ pieces xs ++ pieces ys
 unfolding pieces_by
 pieces_join xs ys = split_join xs ys
@@ -86,10 +90,12 @@ pieces_join xs ys = split_join xs ys
 not_hyphen : (b : ℕ) → (b ≡ 45 → ⊥) → (b == 45) ≡ false
 not_hyphen b n = grind (arith, nat_tests)
 
+-- A text without a hyphen is its one piece.
 pub pieces_no_hyphen : (text : List ℕ) → ((k : ℕ) → k < length text → get_or text k 0 ≡ 45 → ⊥) → pieces text ≡ text ∷ []
 unfolding pieces_by
 pieces_no_hyphen text n = slice_split_none (λ b. b == 45) text (λ k d lt. not_hyphen (get_or text k d) (λ e. n k lt (get_or_default text k 0 d lt ∙ e)))
 
+-- The size of a list of pieces, one byte counted after each, is that of its first and of its rest.
 pub size_cons : (s : List ℕ) (list : List (List ℕ)) → sum_by (λ x. length x + 1) (s ∷ list) ≡ (length s + 1) + sum_by (λ x. length x + 1) list
 size_cons s list = sum_by-cons (λ x. length x + 1) s list
 
@@ -111,10 +117,12 @@ pub size_pieces : (separator : ℕ) (text : List ℕ) → sum_by (λ s. length s
 unfolding pieces_by
 size_pieces separator text = size_split separator text
 
+-- A list has no more pieces than its size, one byte counted after each piece.
 pub length_le_size : (list : List (List ℕ)) → length list ≤ sum_by (λ s. length s + 1) list
 length_le_size [] = omega arith
 length_le_size (s ∷ list) = let rest = length_le_size list in omega (arith, size_cons s list)
 
+-- A text has at most one more piece than it has bytes.
 pub few_pieces : (text : List ℕ) → length (pieces text) ≤ length text + 1
 few_pieces text = let size = size_pieces 45 text in omega (arith, length_le_size (pieces text))
 

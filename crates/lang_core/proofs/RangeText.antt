@@ -23,6 +23,7 @@ allowed_front allowed from (s ∷ before) after piece h =
     let rest = (each_true (allowed from s) (are_allowed allowed (from + 1) (before ++ piece ∷ after)) h).1 in
     subst (λ (k : ℕ). allowed k piece ≡ true) (omega arith) (allowed_front allowed (from + 1) before after piece rest)
 
+-- A list in which a piece is refused is not allowed as a whole.
 pub not_allowed : (allowed : ℕ → List ℕ → Bool) (list : List (List ℕ)) (offset : ℕ) → IsFirstRefused allowed list offset → are_allowed allowed 0 list ≡ true → ⊥
 not_allowed allowed list offset r h =
     let P : List (List ℕ) → Type 0 = λ some. are_allowed allowed 0 some ≡ true in
@@ -38,13 +39,14 @@ star_is b h =
     let e : b ≡ 42 = grind (arith, nat_tests) in
     subst P (sym e) refl
 
+-- The text "*" has the one piece "*".
 pub star_pieces : (text : List ℕ) → is_star text ≡ true → pieces text ≡ (42 ∷ []) ∷ []
 unfolding is_star
 star_pieces [] h = cc
 star_pieces (b ∷ []) h = star_is b h
 star_pieces (b ∷ c ∷ text) h = cc
 
--- and the only text of that one piece
+-- The text whose one piece is "*" is "*".
 pub star_text : (text : List ℕ) → pieces text ≡ (42 ∷ []) ∷ [] → is_star text ≡ true
 star_text text h =
     let P : List ℕ → Type 0 = λ some. is_star some ≡ true in
@@ -57,6 +59,7 @@ basic_extended_from from (s ∷ list) h =
     let parts = each_true (basic_piece from s) (are_allowed basic_piece (from + 1) list) h in
     both (extended_piece from s) (are_allowed extended_piece (from + 1) list) (or_right (is_star s) (basic_piece from s) parts.0) (basic_extended_from (from + 1) list parts.1)
 
+-- Each piece of a list that has the form of a range is allowed at its place.
 pub allowed_of_list : (allowed : ℕ → List ℕ → Bool) (list : List (List ℕ)) → is_list_of allowed list ≡ true → are_allowed allowed 0 list ≡ true
 allowed_of_list allowed [] h = refl
 allowed_of_list allowed (s ∷ list) h = h
@@ -129,6 +132,7 @@ extended_bytes place (s ∷ list) h =
     let parts = each_true (extended_piece place s) (are_allowed extended_piece (place + 1) list) h in
     both _ _ (elim (one_true (is_star s) (basic_piece place s) parts.0) [ inl e ↦ star_bytes s e | inr e ↦ basic_bytes place s e ]) (extended_bytes (place + 1) list parts.1)
 
+-- Each byte of an extended range is a letter, a digit, a hyphen or "*".
 pub range_bytes : (text : List ℕ) → ExtendedRange (pieces text) → list_all is_range_byte text ≡ true
 unfolding pieces_by
 range_bytes text h = split_bytes text (extended_bytes 0 (pieces text) (allowed_of_list extended_piece (pieces text) h))
@@ -142,20 +146,23 @@ bytes_plain (b ∷ text) h =
     let parts = each_true (is_range_byte b) (list_all is_range_byte text) h in
     both _ _ (byte_plain b parts.0) (bytes_plain text parts.1)
 
--- An extended range has no bytes but letters, digits, hyphens and stars.
+-- Each byte of an extended range is ASCII, and not zero.
 pub extended_plain : (text : List ℕ) → ExtendedRange (pieces text) → IsPlain text
 extended_plain text h = bytes_plain text (range_bytes text h)
 
--- So has a basic range.
+-- Each byte of a basic range is ASCII, and not zero.
 pub basic_plain : (text : List ℕ) → BasicRange (pieces text) → IsPlain text
 basic_plain text h = extended_plain text (basic_extended (pieces text) h)
 
 -- ---- what the reader found
 
+-- A text is an extended range where all its pieces are allowed, and is none where one is refused.
 pub extended_answer : (text : List ℕ) (r : Option ℕ) → MatchOption r (IsTrue (are_allowed extended_piece 0 (pieces text))) (IsFirstRefused extended_piece (pieces text)) → MatchOption r (ExtendedRange (pieces text)) (λ offset. ¬ ExtendedRange (pieces text) × IsFirstRefused extended_piece (pieces text) offset)
 extended_answer text None h = list_of_allowed extended_piece (pieces text) (some_pieces text) h
 extended_answer text (Some offset) h = ((λ e. not_allowed extended_piece (pieces text) offset h (allowed_of_list extended_piece (pieces text) e)), h)
 
+-- A text other than "*" is a basic range where all its pieces are allowed, and is none where one is
+-- refused.
 pub basic_answer : (text : List ℕ) (r : Option ℕ) → is_star text ≡ false → MatchOption r (IsTrue (are_allowed basic_piece 0 (pieces text))) (IsFirstRefused basic_piece (pieces text)) → MatchOption r (BasicRange (pieces text)) (λ offset. ¬ BasicRange (pieces text) × IsFirstRefused basic_piece (pieces text) offset)
 basic_answer text None n h = inr (list_of_allowed basic_piece (pieces text) (some_pieces text) h)
 basic_answer text (Some offset) n h = ((λ b. elim b [ inl e ↦ (let s = star_text text e in cc) | inr e ↦ not_allowed basic_piece (pieces text) offset h (allowed_of_list basic_piece (pieces text) e) ]), h)

@@ -23,10 +23,12 @@ pub record CanEnd (stage : Stage) : Type 0 where
   pub private : (s : List ℕ) → is_x s ≡ true → next_stage stage s ≡ Some PrivateStart
   pub extension : (s : List ℕ) → is_singleton s ≡ true → next_stage stage s ≡ Some Singleton
 
+-- A stage at which a tag may end, and after which a variant may come as well.
 pub record CanVary (stage : Stage) : Type 0 where
   pub end : CanEnd stage
   pub variant : (s : List ℕ) → is_variant s ≡ true → next_stage stage s ≡ Some Variants
 
+-- A stage at which a tag may end, and after which a region or a variant may come as well.
 pub record CanPlace (stage : Stage) : Type 0 where
   pub vary : CanVary stage
   pub region : (s : List ℕ) → is_region s ≡ true → next_stage stage s ≡ Some Variants

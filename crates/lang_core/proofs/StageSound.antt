@@ -18,6 +18,7 @@ use Rattle.lang_core.proofs.Basics.{each_true, both, or_left, or_right}
 
 -- ---- what may follow each stage
 
+-- The end of a tag: any extensions, then a private part or none.
 pub record EndPart (list : List (List ℕ)) : Type 0 where
   pub extensions : List (List ℕ)
   pub private : List (List ℕ)
@@ -25,6 +26,7 @@ pub record EndPart (list : List (List ℕ)) : Type 0 where
   pub extensions_ok : AreExtensions extensions
   pub private_ok : IsMaybePrivate private
 
+-- The end of a tag from its variants on: any variants, then extensions and a private part.
 pub record VariantPart (list : List (List ℕ)) : Type 0 where
   pub variants : List (List ℕ)
   pub rest : List (List ℕ)
@@ -32,6 +34,7 @@ pub record VariantPart (list : List (List ℕ)) : Type 0 where
   pub variants_ok : AreAll is_variant variants
   pub rest_ok : EndPart rest
 
+-- The end of a tag from its region on: a region or none, then what may follow it.
 pub record RegionPart (list : List (List ℕ)) : Type 0 where
   pub region : List (List ℕ)
   pub rest : List (List ℕ)
@@ -39,6 +42,7 @@ pub record RegionPart (list : List (List ℕ)) : Type 0 where
   pub region_ok : IsAtMostOne is_region region
   pub rest_ok : VariantPart rest
 
+-- The end of a tag from its script on: a script or none, then what may follow it.
 pub record ScriptPart (list : List (List ℕ)) : Type 0 where
   pub script : List (List ℕ)
   pub rest : List (List ℕ)
@@ -46,6 +50,7 @@ pub record ScriptPart (list : List (List ℕ)) : Type 0 where
   pub script_ok : IsAtMostOne is_script script
   pub rest_ok : RegionPart rest
 
+-- The end of a tag from its extlangs on: at most `left` of them, then what may follow them.
 pub record ExtlangPart (left : ℕ) (list : List (List ℕ)) : Type 0 where
   pub extlangs : List (List ℕ)
   pub rest : List (List ℕ)
@@ -54,6 +59,7 @@ pub record ExtlangPart (left : ℕ) (list : List (List ℕ)) : Type 0 where
   pub few : length extlangs ≤ left
   pub rest_ok : ScriptPart rest
 
+-- The end of a tag within an extension: more of its subtags, then the end of the tag.
 pub record ExtensionPart (list : List (List ℕ)) : Type 0 where
   pub pieces : List (List ℕ)
   pub rest : List (List ℕ)
@@ -61,10 +67,12 @@ pub record ExtensionPart (list : List (List ℕ)) : Type 0 where
   pub pieces_ok : AreAll is_extension_piece pieces
   pub rest_ok : EndPart rest
 
+-- A subtag of one kind, and after it a list of another form.
 abbrev pub AtLeastOne : (List (List ℕ) → Type 0) → (List ℕ → Bool) → List (List ℕ) → Type 0
 AtLeastOne P piece [] = ⊥
 AtLeastOne P piece (s ∷ more) = IsTrue (piece s) × P more
 
+-- The lists of subtags that may follow a stage, to the end of the tag.
 abbrev pub Follows : Stage → List (List ℕ) → Type 0
 Follows Start list = IsPrivate list ⊎ IsLangtag list
 Follows (Language left) list = ExtlangPart left list

@@ -34,6 +34,7 @@ stages =
     ∷ Some (Language 0) ∷ Some Script ∷ Some Variants ∷ Some Singleton ∷ Some Extension
     ∷ Some PrivateStart ∷ Some Private ∷ []
 
+-- The stage of a number, or none where no stage has it.
 abbrev pub stage_at : ℕ → Option Stage
 stage_at m = get_or stages m None
 
@@ -232,7 +233,7 @@ abbrev pub run : List ℕ → ℕ → List ℕ → ℕ
 run table state [] = state
 run table state (b ∷ text) = run table (moved table state (byte_class b)) text
 
--- ---- what the table is asked
+-- ---- what the table has to say
 
 abbrev first_by : ℕ → Bool → Bool → Bool
 first_by n f digit = if n == 0 then digit else f
@@ -303,7 +304,7 @@ are_zeros table = every 5 (λ class. moved table 0 class == 0)
 abbrev are_small : List ℕ → Bool
 are_small table = every 370 (λ place. nat_lt (get_or table place 0) 74)
 
--- all that is asked of the table
+-- all that has to hold of the table
 unfoldable pub is_table : List ℕ → Bool
 is_table table = are_zeros table && (are_small table && all_fit table)
 
@@ -385,7 +386,7 @@ abbrev is_usual : List ℕ → Bool
 is_usual s = usual (length s) (list_all is_letter s) (list_all is_digit s)
     (list_any is_digit (take 1 s)) (is_x s)
 
--- what is asked of the table after so much of a subtag
+-- what has to hold of the table after this much of a subtag
 abbrev Answers : List ℕ → ℕ → List ℕ → Type 0
 Answers table m s = Fits table m (length s) (list_all is_letter s) (list_all is_digit s)
     (list_any is_digit (take 1 s)) (is_x s)
@@ -519,6 +520,7 @@ byte b = elim (cases_bool ((b == 120) || (b == 88))) [
   ]
 ]
 
+-- The class of a byte is below 5.
 pub small_class : (b : ℕ) → byte_class b < 5
 small_class b = elim (byte b) [
   | inl g ↦ (let e = g.class_is in omega arith)

@@ -51,7 +51,7 @@ allowed_alphanum place (s ∷ list) h =
     let parts = each_true (is_private_piece s) (are_allowed tag_piece (place + 1) list) h in
     both _ _ (run_of is_alphanum 1 8 s parts.0).all (allowed_alphanum (place + 1) list parts.1)
 
--- A tag has no bytes but letters, digits and hyphens.
+-- Each byte of a text whose subtags are of letters and digits is ASCII, and not zero.
 pub tag_plain : (text : List ℕ) → HasSubtags text → IsPlain text
 unfolding pieces_by
 tag_plain text h = split_plain text (allowed_alphanum 0 (pieces text) h)

@@ -22,7 +22,7 @@ size_without : (s : List ℕ) (more : List (List ℕ)) → length (without_last 
 size_without s [] = refl
 size_without s (t ∷ more) = ap suc (size_without t more)
 
--- ---- the singles that stand last
+-- ---- the single letters and digits at the end
 
 and_true : (b : Bool) → b && true ≡ b
 and_true true = refl
@@ -105,6 +105,8 @@ first_named : (s : List ℕ) (more : List (List ℕ)) → BasicRange (s ∷ more
 first_named s more (inl e) = (let none : more ≡ [] = cc in rw none tt)
 first_named s more (inr h) = begins s more (no_star 0 s (each_true (basic_piece 0 s) (are_allowed basic_piece 1 more) h).0)
 
+-- The candidates of a basic range are the range and the candidates of what one step of truncation
+-- leaves of it.
 pub by_steps : (range : List (List ℕ)) → BasicRange range → candidates range ≡ range ∷ candidates_left (shortened range)
 by_steps [] (inl e) = cc
 by_steps [] (inr h) = cc
@@ -132,6 +134,7 @@ none_or_basic : (list : List (List ℕ)) → are_allowed basic_piece 0 list ≡ 
 none_or_basic [] h = inl refl
 none_or_basic (s ∷ more) h = inr (inr h)
 
+-- One step of truncation leaves nothing of a basic range, or a basic range.
 pub shortened_basic : (range : List (List ℕ)) → BasicRange range → (shortened range ≡ []) ⊎ BasicRange (shortened range)
 shortened_basic range (inl e) = inl (ap shortened e)
 shortened_basic [] (inr h) = cc

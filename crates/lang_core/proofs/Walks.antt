@@ -20,6 +20,7 @@ pub record IsWalked (allowed : ℕ → List ℕ → Bool) (text : List ℕ) (lef
   pub offset_is : offset ≡ sum_by (λ s. length s + 1) before
   pub before_ok : are_allowed allowed 0 before ≡ true
 
+-- A walk begins at place 0 and offset 0, with all pieces of the text to come.
 pub walk_start : (allowed : ℕ → List ℕ → Bool) (text : List ℕ) (left : List (List ℕ)) → left ≡ pieces text → IsWalked allowed text left 0 0
 walk_start allowed text left e = record { before = []; whole = pieces-lower text ∙ ap lowered (sym e); place_is = refl; offset_is = refl; before_ok = refl }
 
@@ -32,6 +33,8 @@ allowed_push allowed from (s ∷ list) piece a h =
     let parts = each_true (allowed from s) (are_allowed allowed (from + 1) list) a in
     both _ _ parts.0 (allowed_push allowed (from + 1) list piece parts.1 (subst (λ (k : ℕ). allowed k piece ≡ true) (omega arith) h))
 
+-- After a piece that is allowed, the walk is at the next place, with its offset after that piece
+-- and its separator.
 pub walk_on : (allowed : ℕ → List ℕ → Bool) (text : List ℕ) (piece : List ℕ) (left : List (List ℕ)) (place offset : ℕ) → IsWalked allowed text (piece ∷ left) place offset → allowed place (str_to_ascii_lowercase piece) ≡ true → IsWalked allowed text left (place + 1) (offset + (length piece + 1))
 walk_on allowed text piece left place offset w h =
     let lower : List ℕ = str_to_ascii_lowercase piece in
