@@ -11,6 +11,7 @@ use Rattle.std.proofs.lemmas.List.{take_all, drop_all}
 use Rattle.nego_core.proofs.Basics.{cond_none}
 use Rattle.nego_core.specs.Blanks.{is_blank, AreBlanks, is_stop, is_plain, EndsPlain, IsCut}
 
+-- A text is cut where the bytes at its front that are neither blank nor semicolon end.
 pub cut_front : (text : List ℕ) → IsCut text (take (prefix_len is_plain text) text) (drop (prefix_len is_plain text) text)
 cut_front [] = record { whole = refl; plain = refl; ends = tt }
 cut_front (b ∷ text) =
@@ -21,12 +22,14 @@ cut_front (b ∷ text) =
       | inr e ↦ rw e (record { whole = refl; plain = refl; ends = e })
     ]
 
+-- A text is cut at its first blank or semicolon.
 pub cut_at : (text : List ℕ) (at : ℕ) → position is_stop text ≡ Some at → IsCut text (take at text) (take (length text - at) (drop at text))
 cut_at text at h =
     let found : (ltb (prefix_len is_plain text) (length text) ≡ true) × (prefix_len is_plain text ≡ at) = cond_some _ _ _ h in
     let rest : take (length text - at) (drop at text) ≡ drop at text = grind (arith, take_all, length-drop) in
     rw (rest, ← found.1) (cut_front text)
 
+-- A text without a blank or a semicolon is cut at its end.
 pub cut_whole : (text : List ℕ) → position is_stop text ≡ None → IsCut text text []
 cut_whole text h =
     let past : length text ≤ prefix_len is_plain text = ltb-false _ _ (cond_none _ _ h) in
@@ -47,6 +50,7 @@ cut_only (x ∷ a) b (y ∷ c) d e p q f g =
     let rest = cut_only a b c d tails (and_parts (is_plain x) (list_all is_plain a) p).1 (and_parts (is_plain y) (list_all is_plain c) q).1 f g in
     (ap (λ (z : ℕ). z ∷ a) heads ∙ ap (λ (z : List ℕ). y ∷ z) rest.0, rest.1)
 
+-- A blank is a stop, and so no plain byte.
 pub blank_stops : (b : ℕ) → is_blank b ≡ true → is_plain b ≡ false
 blank_stops b h = grind (arith, nat_tests)
 

@@ -46,7 +46,7 @@ embeds_has (w ∷ wanted) (g ∷ given) s (inl h) c = elim (contains_cases w s w
 ]
 embeds_has (w ∷ wanted) (g ∷ given) s (inr h) c = contains_later g s given (embeds_has (w ∷ wanted) given s h.1 c)
 
--- each subtag other than "*" of a range that matches stands in the tag
+-- Each subtag other than "*" of a range that matches is one of the tag.
 pub extended_has : (range tag : List (List ℕ)) (s : List ℕ) → Extended range tag → Contains range s → is_star s ≡ false → Contains tag s
 extended_has [] tag s h c e = absurd h
 extended_has (r ∷ range) [] s h c e = absurd h
@@ -60,24 +60,28 @@ extended_has (r ∷ range) (t ∷ tag) s h c e = elim (contains_cases r s range 
 
 -- ---- how a chain is chosen
 
+-- Comparing a subtag with the byte 42 decides whether it is "*".
 pub star_test : (s : List ℕ) → bytes_eq s (42 ∷ []) ≡ is_star s
 unfolding is_star
 star_test [] = refl
 star_test (b ∷ []) = grind arith
 star_test (b ∷ c ∷ s) = grind arith
 
--- what is left of the subtags stands among them all
+-- The subtags that are left are among all of them.
 abbrev pub AreAmong : List (List ℕ) → List (List ℕ) → Type 0
 AreAmong left all = (s : List ℕ) → Contains left s → Contains all s
 
+-- Where some subtags are among others, so are all of them but the first.
 pub among_later : (s : List ℕ) (left all : List (List ℕ)) → AreAmong (s ∷ left) all → AreAmong left all
 among_later s left all h = λ t c. h t (contains_later s t left c)
 
+-- A range may be in the chain of each of its subtags other than "*".
 pub may_stand : (s : List ℕ) (left all : List (List ℕ)) (chain : ℕ) → AreAmong (s ∷ left) all → bytes_eq s (42 ∷ []) ≡ false → chain ≡ chain_of s → MayStandIn all chain
 may_stand s left all chain h e f = inr (s, h s (contains_first s left), sym (star_test s) ∙ e, sym f)
 
 -- ---- the numbers of the chains
 
+-- With a chain in which the next item's range may be, the numbers are those of one item more.
 pub push_number : (items : List Item) (n : ℕ) (i : Item) (numbers : List ℕ) (number : ℕ) → AreNumbers items n numbers → slice_get items n ≡ Some i → MayStandIn (pieces i.range) number → number < 1025 → AreNumbers items (n + 1) (numbers ++ number ∷ [])
 push_number items n i numbers number a s m small =
     let size = length_push numbers number in
@@ -99,6 +103,7 @@ push_number items n i numbers number a s m small =
 
 -- ---- how chains are linked
 
+-- From the end of the items on, no chain has a next place.
 pub none_next : (numbers : List ℕ) (c : ℕ) → IsNextIn numbers c (length numbers) (length numbers)
 none_next numbers c = record { after = omega arith; within = omega arith; none_between = λ k low high. absurd (omega arith); stands = λ low. absurd (omega arith) }
 
@@ -116,6 +121,7 @@ other_next numbers c place next other h = record {
   stands = h.stands;
 }
 
+-- Links that are the number of items throughout are the links from the end of the items on.
 pub none_linked : (numbers : List ℕ) → AreLinksFrom numbers (length numbers) (replicate 1025 (length numbers)) (replicate (length numbers) (length numbers))
 none_linked numbers = record {
   many = length-replicate 1025 (length numbers);
@@ -145,13 +151,13 @@ link_more numbers first next place chain after low here small a h = record {
   ];
 }
 
--- ---- how a chain is asked
+-- ---- how a chain is searched
 
 -- an item of the chain that fits
 abbrev pub FitsIn : (Item → Type 0) → List ℕ → ℕ → ℕ → Item → Type 0
 FitsIn Fits numbers chain k i = StandsIn numbers chain k × Fits i
 
--- the best of the items of the chain before a place, which is none or stands in the chain too
+-- The best of the items of the chain before a place, which is the end or in the chain too.
 pub record IsAskedTo (Fits : Item → Type 0) (items : List Item) (numbers : List ℕ) (chain place : ℕ) (best : Option MostSpecific) : Type 0 where
   pub so_far : IsBest (Before (FitsIn Fits numbers chain) place) items best
   pub stands : place < length items → StandsIn numbers chain place
@@ -167,18 +173,23 @@ asked_on Fits items numbers chains chain place next best h low s e b =
       stands = λ lt. n.stands (let m = h.numbers_ok.as_many in omega arith);
     }
 
+-- An item of the chain that fits and has more subtags than the best so far is the best up to the
+-- chain's next place.
 pub asked_better : (Fits : Item → Type 0) (items : List Item) (numbers : List ℕ) (chains : Chains) (chain place next many : ℕ) (i : Item) (best : Option MostSpecific) → AreLinked items numbers chains → place < length items → next ≡ get_or chains.next.items place 0 → slice_get items place ≡ Some i → many ≡ specificity (pieces i.range) → Fits i → is_above best many ≡ true → IsAskedTo Fits items numbers chain place best → IsAskedTo Fits items numbers chain next (Some (record { place = place; specificity = many }))
 asked_better Fits items numbers chains chain place next many i best h low e s n fits above a =
     asked_on Fits items numbers chains chain place next (Some (record { place = place; specificity = many })) h low (a.stands low) e (newest (FitsIn Fits numbers chain) items place many i best s n (a.stands low, fits) above a.so_far)
 
+-- An item of the chain that does not fit, or has no more subtags than the best so far, leaves the
+-- best up to the chain's next place.
 pub asked_passed : (Fits : Item → Type 0) (items : List Item) (numbers : List ℕ) (chains : Chains) (chain place next : ℕ) (i : Item) (best : Option MostSpecific) → AreLinked items numbers chains → place < length items → next ≡ get_or chains.next.items place 0 → slice_get items place ≡ Some i → (Fits i → is_above best (specificity (pieces i.range)) ≡ false) → IsAskedTo Fits items numbers chain place best → IsAskedTo Fits items numbers chain next best
 asked_passed Fits items numbers chains chain place next i best h low e s not a =
     asked_on Fits items numbers chains chain place next best h low (a.stands low) e (passed (FitsIn Fits numbers chain) items place i best s (λ f. not f.1) a.so_far)
 
+-- The best so far, at the end of the items, is the best of the whole chain.
 pub asked_whole : (Fits : Item → Type 0) (items : List Item) (numbers : List ℕ) (chain place : ℕ) (best : Option MostSpecific) → length items ≤ place → IsAskedTo Fits items numbers chain place best → IsBest (FitsIn Fits numbers chain) items best
 asked_whole Fits items numbers chain place best end a = all_before (FitsIn Fits numbers chain) items place best end a.so_far
 
--- ---- which chains are asked
+-- ---- which chains are searched
 
 -- an item of a chain that the table has, or of the last one, that fits
 abbrev pub FitsAmong : (Item → Type 0) → List ℕ → List Bool → ℕ → Item → Type 0
@@ -189,6 +200,7 @@ none_set zero c h = cc
 none_set (suc n) zero h = cc
 none_set (suc n) (suc c) h = none_set n c h
 
+-- The best of the last chain is the best of that chain and those of an empty table.
 pub last_asked : (Fits : Item → Type 0) (items : List Item) (numbers : List ℕ) (best : Option MostSpecific) → IsBest (FitsIn Fits numbers 1024) items best → IsBest (FitsAmong Fits numbers (replicate 1024 false)) items best
 last_asked Fits items numbers best h = best_same (FitsIn Fits numbers 1024) (FitsAmong Fits numbers (replicate 1024 false)) items best
     (λ k i. (
@@ -200,6 +212,7 @@ last_asked Fits items numbers best h = best_same (FitsIn Fits numbers 1024) (Fit
     ))
     h
 
+-- With one more chain in the table, the best is the better of the best so far and of that chain.
 pub one_asked : (Fits : Item → Type 0) (items : List Item) (numbers : List ℕ) (table : List Bool) (chain : ℕ) (best found : Option MostSpecific) → chain < length table → IsBest (FitsAmong Fits numbers table) items best → IsBest (FitsIn Fits numbers chain) items found → IsBest (FitsAmong Fits numbers (slice_set table chain true)) items (better_of best found)
 one_asked Fits items numbers table chain best found low h f =
     better_joins (FitsAmong Fits numbers table) (FitsIn Fits numbers chain) (FitsAmong Fits numbers (slice_set table chain true)) items best found
@@ -234,7 +247,7 @@ stands_among items numbers tag table k i n t s h = elim (n.may k i (slice_get_wi
   | inr one ↦ inr (ap (λ (c : ℕ). get_or table c false) (sym one.3) ∙ t.set one.0 (extended_has (pieces i.range) tag one.0 h one.1 one.2))
 ]
 
--- a range that stands in no chain that was asked does not match
+-- The best of the last chain and the chains of a tag's subtags is the best of all items.
 pub all_asked : (items : List Item) (numbers : List ℕ) (tag : List (List ℕ)) (table : List Bool) (best : Option MostSpecific) → AreNumbers items (length items) numbers → IsTableOf chain_of 1024 tag table → IsBest (FitsAmong (λ i. Extended (pieces i.range) tag) numbers table) items best → IsBest (λ _ i. Extended (pieces i.range) tag) items best
 all_asked items numbers tag table None n t h = λ k other s f. h k other s (stands_among items numbers tag table k other n t s f, f)
 all_asked items numbers tag table (Some best) n t h = record {

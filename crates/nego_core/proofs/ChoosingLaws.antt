@@ -11,5 +11,6 @@ open_on Refuses false b = ((λ _ r. false_true (b.1 r)), (λ _. refl))
 pub open_held : (Refuses : Type 0) (held : Bool) (h r : Bool) → h ≡ held → h ≡ true → IsTrue r ↔ Refuses → IsTrue (not r) ↔ (IsTrue held × ¬ Refuses)
 open_held Refuses held h r e t b = let o = open_on Refuses r b in ((λ n. (sym e ∙ t, o.0 n)), (λ p. o.1 p.1))
 
+-- A language that is not held is not open, whatever is refused.
 pub closed : (Refuses : Type 0) (held : Bool) (h : Bool) → h ≡ held → h ≡ false → IsTrue h ↔ (IsTrue held × ¬ Refuses)
 closed Refuses held h e f = ((λ g. absurd (false_true (sym f ∙ g))), (λ p. absurd (false_true (sym f ∙ (e ∙ p.0)))))

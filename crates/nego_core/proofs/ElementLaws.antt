@@ -26,6 +26,7 @@ range_is_extended : (scheme : Scheme) (text : List ℕ) → IsRange (RangeGramma
 range_is_extended Basic text h = basic_extended (pieces text) h.1
 range_is_extended Extended text h = h.1
 
+-- The text of a range has 1 to 255 bytes.
 pub range_is_sized : (scheme : Scheme) (text : List ℕ) → IsRange (RangeGrammar scheme) text → IsSized text
 range_is_sized Basic text h = h.0
 range_is_sized Extended text h = h.0
@@ -62,6 +63,7 @@ range_some scheme text h =
     let size : length (str_to_ascii_lowercase text) ≡ length text = simp length-map in
     omega arith
 
+-- A range and what follows it have at least one byte.
 pub start_some : (scheme : Scheme) (text : List ℕ) (item : Item) → IsStart scheme text item → 0 < length text
 start_some scheme text item s = longer s.range s.rest text s.whole (range_some scheme s.range s.range_ok) where
   longer : (range rest text : List ℕ) → text ≡ range ++ rest → 0 < length range → 0 < length text
@@ -82,6 +84,7 @@ weight_ends text weight after n e w =
 empty_ends : (text weight after : List ℕ) → text ≡ weight ++ after → weight ≡ [] → AreBlanks after → EndsPlain text
 empty_ends text weight after e none blank = subst EndsPlain (sym (e ∙ ap (λ (x : List ℕ). x ++ after) none)) (blanks_end after blank)
 
+-- What follows a range is empty, or begins with a blank or a semicolon.
 pub tail_ends : (scheme : Scheme) (text : List ℕ) (n : ℕ) → IsTail (WeightGrammar scheme) text n → EndsPlain text
 tail_ends Basic text n t = elim t.weight_ok [
   | inl none ↦ empty_ends text t.weight t.after t.whole none.0 t.after_ok
@@ -106,17 +109,21 @@ item_of scheme text token rest item c s =
       rest_ok = subst (λ (x : List ℕ). IsTail (WeightGrammar scheme) x item.weight) (sym same.1) s.rest_ok;
     }
 
--- a range and what follows it are told by the text
+-- A text is a range and what follows it in one way alone.
 pub start_is : (scheme : Scheme) (text : List ℕ) (i j : Item) → (s : IsStart scheme text i) → (t : IsStart scheme text j) → (s.range ≡ t.range) × (s.rest ≡ t.rest)
 start_is scheme text i j s t =
     cut_only s.range s.rest t.range t.rest (sym s.whole ∙ t.whole) (range_plain scheme s.range s.range_ok) (range_plain scheme t.range t.range_ok) (tail_ends scheme s.rest i.weight s.rest_ok) (tail_ends scheme t.rest j.weight t.rest_ok)
 
+-- No item fits a text whose bytes up to the first blank or semicolon are no range.
 pub no_item_range : (scheme : Scheme) (text token rest : List ℕ) → IsCut text token rest → ¬ IsRange (RangeGrammar scheme) (str_to_ascii_lowercase token) → (item : Item) → ¬ IsStart scheme text item
 no_item_range scheme text token rest c h item s = h (item_of scheme text token rest item c s).range_ok
 
+-- No item fits a text whose bytes from the first blank or semicolon on may not follow a range.
 pub no_item_weight : (scheme : Scheme) (text token rest : List ℕ) → IsCut text token rest → ((n : ℕ) → ¬ IsTail (WeightGrammar scheme) rest n) → (item : Item) → ¬ IsStart scheme text item
 no_item_weight scheme text token rest c h item s = h item.weight (item_of scheme text token rest item c s).rest_ok
 
+-- An item fits a text that is a range up to the first blank or semicolon, and then what may follow
+-- a range.
 pub has_item : (scheme : Scheme) (text token rest : List ℕ) (n : ℕ) → IsCut text token rest → IsRange (RangeGrammar scheme) (str_to_ascii_lowercase token) → IsTail (WeightGrammar scheme) rest n → HasStart scheme text
 has_item scheme text token rest n c r t = (record { range = str_to_ascii_lowercase token; weight = n }, record { range = token; rest = rest; whole = c.whole; range_ok = r; range_is = refl; rest_ok = t })
 
@@ -131,6 +138,7 @@ skip_plain (b ∷ range) rest n h =
       | inr e ↦ skip_none b (range ++ rest) e
     ]
 
+-- An element between blanks is, without the blanks before it, a range and what follows it.
 pub start_of_padded : (scheme : Scheme) (piece : List ℕ) (item : Item) → IsPadded scheme piece item → IsStart scheme (skip_blanks piece) item
 start_of_padded scheme piece item p =
     let e = p.element_ok in
@@ -158,5 +166,6 @@ padded_from scheme piece text item t s =
       element_ok = record { range = s.range; weight = tail.weight; whole = refl; range_ok = s.range_ok; range_is = s.range_is; weight_ok = tail.weight_ok };
     }
 
+-- A range and what follows it, with blanks before it, is an element between blanks.
 pub padded_of_start : (scheme : Scheme) (piece : List ℕ) (item : Item) → IsStart scheme (skip_blanks piece) item → IsPadded scheme piece item
 padded_of_start scheme piece item s = padded_from scheme piece (skip_blanks piece) item (trimmed piece) s

@@ -28,11 +28,12 @@ no_pieces scheme (p ∷ before) after piece (i ∷ items) blank none a = elim a 
   | inr x ↦ no_pieces scheme before after piece items blank none x.1
 ]
 
+-- Bytes with a malformed element are no field where such elements are refused.
 pub malformed_is_no_field : (scheme : Scheme) (bytes : List ℕ) (offset : ℕ) (items : List Item) → IsFirstMalformed scheme bytes offset → ¬ IsField scheme Refused bytes items
 malformed_is_no_field scheme bytes offset items m f =
     no_pieces scheme m.before m.read_to.after m.piece items m.read_to.not_blank m.malformed (subst (λ (x : List (List ℕ)). ArePieces scheme Refused x items) m.read_to.whole f)
 
--- the pieces behind the first give items as well
+-- the pieces after the first give items as well
 later_pieces : (scheme : Scheme) (p : List ℕ) (pieces : List (List ℕ)) (items : List Item) → ArePieces scheme Refused (p ∷ pieces) items → (later : List Item) × ArePieces scheme Refused pieces later
 later_pieces scheme p pieces [] a = ([], a.1)
 later_pieces scheme p pieces (i ∷ items) a = elim a [ inl x ↦ (i ∷ items, x.1) | inr x ↦ (items, x.1) ]
@@ -56,6 +57,7 @@ same_bad scheme (z ∷ b) (w ∷ c) a d x y xs ys e f g p q =
     let tail : b ≡ c = rest.0 in
     ((cc), rest.1)
 
+-- The first malformed element of a field begins at one offset alone.
 pub one_malformed : (scheme : Scheme) (bytes : List ℕ) (a b : ℕ) → IsFirstMalformed scheme bytes a → IsFirstMalformed scheme bytes b → a ≡ b
 one_malformed scheme bytes a b f g =
     let same = same_bad scheme f.before g.before f.read_to.after g.read_to.after f.piece g.piece f.read_to.items g.read_to.items (sym f.read_to.whole ∙ g.read_to.whole) f.read_to.before_ok g.read_to.before_ok (f.read_to.not_blank, f.malformed) (g.read_to.not_blank, g.malformed) in
@@ -64,6 +66,7 @@ one_malformed scheme bytes a b f g =
 
 -- ---- what a field says of its items
 
+-- What holds of the item of each element holds of all items that the pieces give.
 pub all_items : (P : Item → Type 0) (scheme : Scheme) (malformed : Malformed) → ((piece : List ℕ) (i : Item) → IsPadded scheme piece i → P i) → (pieces : List (List ℕ)) (items : List Item) → ArePieces scheme malformed pieces items → All P items
 all_items P scheme malformed f [] [] a = All-nil P
 all_items P scheme malformed f [] (i ∷ items) a = absurd a
@@ -84,7 +87,7 @@ pub one_kind : (scheme : Scheme) (malformed : Malformed) (bytes : List ℕ) (ite
 one_kind Basic malformed bytes items f = inl (all_items (λ i. BasicRange (pieces i.range)) Basic malformed basic_item (pieces_by 44 bytes) items f)
 one_kind Extended malformed bytes items f = inr (all_items (λ i. i.weight ≡ 1000) Extended malformed full_item (pieces_by 44 bytes) items f)
 
--- where the first item stands
+-- where the first item is
 record IsFirstItem (scheme : Scheme) (malformed : Malformed) (all : List (List ℕ)) (i : Item) : Type 0 where
   before : List (List ℕ)
   piece : List ℕ

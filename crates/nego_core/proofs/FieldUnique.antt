@@ -22,6 +22,7 @@ one_start scheme text i j s t =
     item_is i j (s.range_is ∙ (ap str_to_ascii_lowercase same.0 ∙ sym t.range_is))
     (one_tail scheme t.rest i.weight j.weight (subst (λ (x : List ℕ). IsTail (WeightGrammar scheme) x i.weight) same.1 s.rest_ok) t.rest_ok)
 
+-- A piece gives at most one item.
 pub one_item : (scheme : Scheme) (piece : List ℕ) (i j : Item) → IsPadded scheme piece i → IsPadded scheme piece j → i ≡ j
 one_item scheme piece i j p q = one_start scheme (skip_blanks piece) i j (start_of_padded scheme piece i p) (start_of_padded scheme piece j q)
 

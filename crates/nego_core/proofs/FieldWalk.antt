@@ -21,13 +21,16 @@ use Rattle.nego_core.specs.declared.field.Malformed.TheVariants.{Refused, Passed
 blank_only : (piece : List ℕ) → 0 < length (skip_blanks piece) → ¬ AreBlanks piece
 blank_only piece n h = let size : length (skip_blanks piece) ≡ 0 = ap length (skip_only piece h) in omega arith
 
+-- A piece that is an element between blanks is not blank.
 pub padded_not_blank : (scheme : Scheme) (piece : List ℕ) (item : Item) → IsPadded scheme piece item → ¬ AreBlanks piece
 padded_not_blank scheme piece item p = blank_only piece (start_some scheme (skip_blanks piece) item (start_of_padded scheme piece item p))
 
+-- A blank piece gives no item.
 pub blank_gives_none : (scheme : Scheme) (malformed : Malformed) (piece : List ℕ) → AreBlanks piece → GivesNone scheme malformed piece
 blank_gives_none scheme Refused piece h = h
 blank_gives_none scheme PassedOver piece h = λ item p. padded_not_blank scheme piece item p h
 
+-- A piece that gives no item is no element between blanks.
 pub none_not_padded : (scheme : Scheme) (malformed : Malformed) (piece : List ℕ) (item : Item) → GivesNone scheme malformed piece → ¬ IsPadded scheme piece item
 none_not_padded scheme Refused piece item h p = padded_not_blank scheme piece item p h
 none_not_padded scheme PassedOver piece item h p = h item p
@@ -41,6 +44,7 @@ pub record IsWalked (scheme : Scheme) (malformed : Malformed) (field : List ℕ)
   pub before_ok : ArePieces scheme malformed before items
   pub offset_is : offset ≡ sum_by (λ p. length p + 1) before
 
+-- A walk begins at offset 0, without items and with all pieces of the field to come.
 pub walked_start : (scheme : Scheme) (malformed : Malformed) (field : List ℕ) → IsWalked scheme malformed field [] (pieces_by 44 field) 0
 walked_start scheme malformed field = record { before = []; whole = refl; before_ok = tt; offset_is = refl }
 
@@ -79,25 +83,29 @@ walked_on scheme malformed field items more piece rest offset w ok = record {
 bare_blanks : (piece : List ℕ) → skip_blanks piece ≡ [] → AreBlanks piece
 bare_blanks piece e = let t = trimmed piece in subst AreBlanks (sym (t.whole ∙ (ap (λ (x : List ℕ). t.before ++ x) e ∙ append-nil t.before))) t.before_ok
 
+-- A text of length 0 is empty.
 pub no_bytes : (text : List ℕ) → length text ≡ 0 → text ≡ []
 no_bytes [] h = refl
 no_bytes (b ∷ text) h = absurd (omega arith)
 
+-- A blank piece leaves the items as they are, and the pieces after it are to come.
 pub walked_blank : (scheme : Scheme) (malformed : Malformed) (field : List ℕ) (items : List Item) (piece bare : List ℕ) (rest : List (List ℕ)) (offset : ℕ) → IsWalked scheme malformed field items (piece ∷ rest) offset → bare ≡ skip_blanks piece → length bare ≡ 0 → IsWalked scheme malformed field items rest (offset + (length piece + 1))
 walked_blank scheme malformed field items piece bare rest offset w e n = walked_on scheme malformed field items items piece rest offset w (push_none scheme malformed w.before piece items w.before_ok (blank_gives_none scheme malformed piece (bare_blanks piece (sym e ∙ no_bytes bare n))))
 
 no_start : (scheme : Scheme) (piece bare : List ℕ) → bare ≡ skip_blanks piece → ((item : Item) → ¬ IsStart scheme bare item) → (item : Item) → ¬ IsPadded scheme piece item
 no_start scheme piece bare e none item p = none item (subst (λ (x : List ℕ). IsStart scheme x item) (sym e) (start_of_padded scheme piece item p))
 
--- a piece that is no element is passed over
+-- A piece that is no element leaves the items as they are where such pieces are passed over.
 pub walked_over : (scheme : Scheme) (field : List ℕ) (items : List Item) (piece bare : List ℕ) (rest : List (List ℕ)) (offset : ℕ) → IsWalked scheme PassedOver field items (piece ∷ rest) offset → bare ≡ skip_blanks piece → ((item : Item) → ¬ IsStart scheme bare item) → IsWalked scheme PassedOver field items rest (offset + (length piece + 1))
 walked_over scheme field items piece bare rest offset w e none =
     walked_on scheme PassedOver field items items piece rest offset w (push_none scheme PassedOver w.before piece items w.before_ok (no_start scheme piece bare e none))
 
+-- An element adds its item to the items, and the pieces after it are to come.
 pub walked_item : (scheme : Scheme) (malformed : Malformed) (field : List ℕ) (items : List Item) (item : Item) (piece bare : List ℕ) (rest : List (List ℕ)) (offset : ℕ) → IsWalked scheme malformed field items (piece ∷ rest) offset → bare ≡ skip_blanks piece → IsStart scheme bare item → IsWalked scheme malformed field (items ++ item ∷ []) rest (offset + (length piece + 1))
 walked_item scheme malformed field items item piece bare rest offset w e s =
     walked_on scheme malformed field items (items ++ item ∷ []) piece rest offset w (push_item scheme malformed w.before piece items item w.before_ok (padded_of_start scheme piece item (subst (λ (x : List ℕ). IsStart scheme x item) e s)))
 
+-- Where no piece is to come, the field gives the items.
 pub walked_all : (scheme : Scheme) (malformed : Malformed) (field : List ℕ) (items : List Item) (offset : ℕ) → IsWalked scheme malformed field items [] offset → IsField scheme malformed field items
 walked_all scheme malformed field items offset w = subst (λ (x : List (List ℕ)). ArePieces scheme malformed x items) (sym (w.whole ∙ append-nil w.before)) w.before_ok
 
@@ -106,6 +114,7 @@ walked_all scheme malformed field items offset w = subst (λ (x : List (List ℕ
 read_to : (scheme : Scheme) (malformed : Malformed) (field : List ℕ) (items : List Item) (piece : List ℕ) (rest : List (List ℕ)) (offset : ℕ) → (w : IsWalked scheme malformed field items (piece ∷ rest) offset) → 0 < length (skip_blanks piece) → IsReadTo scheme malformed field w.before piece
 read_to scheme malformed field items piece rest offset w n = record { after = rest; items = items; whole = w.whole; before_ok = w.before_ok; not_blank = blank_only piece n }
 
+-- The length of a text is that of the blanks at its front and of what is left without them.
 pub blanks_before : (text : List ℕ) → length text ≡ length (skip_blanks text) + prefix_len is_blank text
 blanks_before [] = refl
 blanks_before (b ∷ text) =
@@ -115,6 +124,8 @@ blanks_before (b ∷ text) =
       | inr e ↦ rw e (omega arith)
     ]
 
+-- Where all before it was read, a piece that is neither blank nor an element is the first malformed
+-- element, which begins after its leading blanks.
 pub stops_malformed : (scheme : Scheme) (field : List ℕ) (items : List Item) (piece bare : List ℕ) (rest : List (List ℕ)) (offset : ℕ) → IsWalked scheme Refused field items (piece ∷ rest) offset → bare ≡ skip_blanks piece → 0 < length bare → ((item : Item) → ¬ IsStart scheme bare item) → IsFirstMalformed scheme field (offset + (length piece - length bare))
 stops_malformed scheme field items piece bare rest offset w e n none = record {
   before = w.before;
@@ -124,6 +135,7 @@ stops_malformed scheme field items piece bare rest offset w e n none = record {
   begins = (let size = blanks_before piece in let o = w.offset_is in let same : length bare ≡ length (skip_blanks piece) = ap length e in omega arith);
 }
 
+-- A field has an element where a walk has reached one.
 pub stops_fitting : (scheme : Scheme) (malformed : Malformed) (field : List ℕ) (items : List Item) (piece bare : List ℕ) (rest : List (List ℕ)) (offset : ℕ) → IsWalked scheme malformed field items (piece ∷ rest) offset → bare ≡ skip_blanks piece → 0 < length bare → HasStart scheme bare → HasElement scheme malformed field
 stops_fitting scheme malformed field items piece bare rest offset w e n s = record {
   before = w.before;

@@ -16,7 +16,7 @@ use Rattle.nego_core.specs.Filtering.{Key, IsKey, AreKeys, IsFiltered, IsPicked,
 use Rattle.nego_core.specs.declared.filtering.Pick.{Pick}
 use Rattle.nego_core.specs.declared.scheme.Scheme.{Scheme}
 
--- the key of a language that stands so many places further on
+-- The key of a language of the list, at its place counted from a first one.
 pub record IsKeyFrom (scheme : Scheme) (items : List Item) (from : ℕ) (langs : List (List ℕ)) (key : Key) : Type 0 where
   pub n : ℕ
   pub lang : List ℕ
@@ -26,6 +26,7 @@ pub record IsKeyFrom (scheme : Scheme) (items : List Item) (from : ℕ) (langs :
 key_later : (scheme : Scheme) (items : List Item) (from : ℕ) (l : List ℕ) (langs : List (List ℕ)) (key : Key) → IsKeyFrom scheme items (from + 1) langs key → IsKeyFrom scheme items from (l ∷ langs) key
 key_later scheme items from l langs key k = record { n = suc k.n; lang = k.lang; stands = k.stands; key_ok = subst (λ (x : ℕ). IsKey scheme items k.lang x key) (omega arith) k.key_ok }
 
+-- Each key is that of a language of the list, at its place.
 pub keys_right : (scheme : Scheme) (items : List Item) (from : ℕ) (langs : List (List ℕ)) (keys : List Key) → AreKeys scheme items from langs keys → All (IsKeyFrom scheme items from langs) keys
 keys_right scheme items from [] [] a = All-nil (IsKeyFrom scheme items from [])
 keys_right scheme items from [] (k ∷ keys) a = absurd a
@@ -36,6 +37,7 @@ keys_right scheme items from (l ∷ langs) (k ∷ keys) a = elim a [
       (All-weaker (IsKeyFrom scheme items (from + 1) langs) (IsKeyFrom scheme items from (l ∷ langs)) (key_later scheme items from l langs) keys (keys_right scheme items (from + 1) langs keys x.1))
 ]
 
+-- The keys contain the key of each language that has one.
 pub keys_all : (scheme : Scheme) (items : List Item) (from n : ℕ) (langs : List (List ℕ)) (keys : List Key) (lang : List ℕ) (key : Key) → AreKeys scheme items from langs keys → slice_get langs n ≡ Some lang → IsKey scheme items lang (from + n) key → Contains keys key
 keys_all scheme items from n [] keys lang key a s k = cc
 keys_all scheme items from zero (l ∷ langs) [] lang key a s k = absurd (let e : l ≡ lang = cc in a.0 key (subst (λ (x : List ℕ). IsKey scheme items x from key) (sym e) (subst (λ (m : ℕ). IsKey scheme items lang m key) (omega arith) k)))
@@ -84,6 +86,8 @@ picked scheme items langs small key k =
 pick_is : (p : Pick) (weight : ℕ) → weight ≡ p.weight → record { place = p.place; weight = weight } ≡ p
 pick_is p weight e = ap (λ (n : ℕ). record { place = p.place; weight = n }) e
 
+-- Where no weight is above 1000, the filtered list has exactly the languages that an item decides
+-- with a positive weight, each with that weight.
 pub has_each : (scheme : Scheme) (items : List Item) (langs : List (List ℕ)) (picks : List Pick) → All (λ i. i.weight ≤ 1000) items → IsFiltered scheme items langs picks → (pick : Pick) → Contains picks pick ↔ IsPicked scheme items langs pick
 has_each scheme items langs picks small f pick = (
   (λ c. All-contains (IsPicked scheme items langs) picks pick

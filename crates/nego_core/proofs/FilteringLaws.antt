@@ -28,6 +28,7 @@ key_tied x y e =
     let lang = then_tied _ _ item.1 in
     key_is x y (nat_tied x.missing_weight y.missing_weight missing_weight.0) (nat_tied x.item y.item item.0) (text_tied x.lang y.lang lang.0) (nat_tied x.place y.place lang.1)
 
+-- A language at a place has at most one key.
 pub one_key : (scheme : Scheme) (items : List Item) (lang : List ℕ) (place : ℕ) (x y : Key) → IsKey scheme items lang place x → IsKey scheme items lang place y → x ≡ y
 one_key scheme items lang place x y a b =
     let same = one_decision scheme items lang y.item x.item b.weight a.weight b.decided a.decided in
@@ -57,6 +58,7 @@ one_keys scheme items place (tag ∷ tags) (x ∷ xs) (y ∷ ys) a b = elim a [
   ]
 ]
 
+-- A priority list filters the same languages in one way alone.
 pub one_filtered : (scheme : Scheme) (items : List Item) (tags : List (List ℕ)) (a b : List Pick) → IsFiltered scheme items tags a → IsFiltered scheme items tags b → a ≡ b
 one_filtered scheme items tags a b f g =
     let all : f.all ≡ g.all = one_keys scheme items 0 tags f.all g.all f.all_ok g.all_ok in

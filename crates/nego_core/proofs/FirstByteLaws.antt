@@ -33,15 +33,17 @@ first_of_text b text n = rw (slice_split-cons_no (λ x. x == 45) b text (other b
   other : (b : ℕ) → (b ≡ 45 → ⊥) → (b == 45) ≡ false
   other b n = grind (arith, nat_tests)
 
+-- A text that begins with a hyphen has an empty first subtag, whose first byte counts as 0.
 pub first_is_hyphen : (text : List ℕ) (first : ℕ) → first ≡ slice_index text 0 → first ≡ 45 → 0 ≡ first_byte (pieces text)
 first_is_hyphen [] first e h = absurd (omega arith)
 first_is_hyphen (b ∷ text) first e h = sym (first_of_hyphen b text (sym e ∙ h))
 
+-- The first byte of a text is that of its first subtag, unless it is a hyphen.
 pub first_is_other : (text : List ℕ) (first : ℕ) → first ≡ slice_index text 0 → (first ≡ 45 → ⊥) → first ≡ first_byte (pieces text)
 first_is_other [] first e n = e ∙ sym first_of_empty
 first_is_other (b ∷ text) first e n = e ∙ sym (first_of_text b text (λ h. n (e ∙ h)))
 
--- ---- what a match tells of it
+-- ---- what a match says of it
 
 star_is : (s : List ℕ) → is_star s ≡ true → s ≡ 42 ∷ []
 unfolding is_star

@@ -59,6 +59,7 @@ pub below_before : (items : List Item) (places text : List ℕ) (i j : ℕ) → 
 below_before items places text i j index le low h =
     below_on (text_at items (get_or places i 0)) (text_at items (get_or places j 0)) text _ (nat_cmp (get_or places j 0) (get_or places i 0)) refl (far_apart items places i j index.rising le low) h
 
+-- A range after one that is not below a text is not below it either.
 pub not_below_after : (items : List Item) (places text : List ℕ) (i j : ℕ) → IsRangeIndex items places → i ≤ j → j < length places → is_lt (text_cmp (text_at items (get_or places i 0)) text) ≡ false → is_lt (text_cmp (text_at items (get_or places j 0)) text) ≡ false
 not_below_after items places text i j index le low h = elim (cases_Bool (is_lt (text_cmp (text_at items (get_or places j 0)) text))) [
   | inl e ↦ absurd (false_true (sym h ∙ below_before items places text i j index le low e))
@@ -67,10 +68,11 @@ not_below_after items places text i j index le low h = elim (cases_Bool (is_lt (
 
 -- ---- the item at a place
 
+-- The text at a place is that of the range of the item there.
 pub text_stands : (items : List Item) (k : ℕ) (i : Item) → slice_get items k ≡ Some i → text_at items k ≡ i.range
 text_stands items k i s = rw s refl
 
--- where an item's place stands in the index
+-- where an item's place is in the index
 record IsListed (places : List ℕ) (k : ℕ) : Type 0 where
   at : ℕ
   within : at < length places
@@ -81,6 +83,7 @@ listed items places k i index s =
     let c = index.each k (slice_get_within items k i s) in
     record { at = c.0; within = c.1; is = same_default places c.0 0 k c.1 ∙ c.2 }
 
+-- Where all ranges are below a text, no range has it.
 pub none_found : (items : List Item) (places text : List ℕ) (seat : ℕ) → IsRangeIndex items places → IsSeat items places text seat → length places ≤ seat → MatchFirst items text None
 none_found items places text seat index at past = λ k other s e.
     let l = listed items places k other index s in
@@ -99,6 +102,7 @@ less_first a b e = ap (λ (o : Ordering). is_lt (ordering_then o b)) e
 less_second : (a b : Ordering) → a ≡ Equal → b ≡ Less → is_lt (ordering_then a b) ≡ true
 less_second a b e f = ap (λ (o : Ordering). is_lt (ordering_then o b)) e ∙ ap is_lt f
 
+-- Where the first range that is not below a text is another, no range has the text.
 pub other_found : (items : List Item) (places text : List ℕ) (seat : ℕ) → IsRangeIndex items places → IsSeat items places text seat → seat < length places → (text_at items (get_or places seat 0) ≡ text → ⊥) → MatchFirst items text None
 other_found items places text seat index at low differs = λ k other s e.
     let l = listed items places k other index s in
@@ -134,6 +138,7 @@ no_earlier items places text seat k other index at low same before s e =
       ]
     ]
 
+-- Where the first range that is not below a text is the text, its item is the first with it.
 pub one_found : (items : List Item) (places text : List ℕ) (seat : ℕ) (i : Item) → IsRangeIndex items places → IsSeat items places text seat → seat < length places → slice_get items (get_or places seat 0) ≡ Some i → i.range ≡ text → MatchFirst items text (Some (get_or places seat 0))
 one_found items places text seat i index at low s same =
     let t : text_at items (get_or places seat 0) ≡ text = text_stands items (get_or places seat 0) i s ∙ same in
@@ -170,6 +175,7 @@ places_rise items (e ∷ keys) all up = λ k d low lt.
 places_within : (items : List Item) (keys : List RangeKey) → All (IsRangeKeyOf items) keys → All (λ p. p < length items) (map (λ x. x.place) keys)
 places_within items keys all = All-map (λ p. p < length items) (λ (x : RangeKey). x.place) keys (All-weaker (IsRangeKeyOf items) (λ x. x.place < length items) (λ x h. h.within) keys all)
 
+-- The places of the sorted keys, one for each item, are the index of the ranges.
 pub index_made : (items : List Item) (keys sorted : List RangeKey) (places : List ℕ) → AreRangeKeys items (length items) keys → IsPermutation keys sorted → IsSorted range_key_cmp sorted → places ≡ map (λ x. x.place) sorted → IsRangeIndex items places
 index_made items keys sorted places a same up e =
     let all : All (IsRangeKeyOf items) sorted = All-permutation (IsRangeKeyOf items) keys sorted same (range_key_of items keys a) in
@@ -185,30 +191,35 @@ index_made items keys sorted places a same up e =
 abbrev pub NoneBefore : List Item → List ℕ → ℕ → Type 0
 NoneBefore items text place = (k : ℕ) (other : Item) → k < place → slice_get items k ≡ Some other → other.range ≡ text → ⊥
 
+-- Texts that do not compare as equal differ.
 pub differs : (a b : List ℕ) → bytes_eq a b ≡ false → a ≡ b → ⊥
 differs a b h e = false_true (sym h ∙ (bytes_eq-Decides a b).1 e)
 
+-- An item whose range has the text, with none before it, is the first with it.
 pub found_here : (items : List Item) (text : List ℕ) (place : ℕ) (i : Item) → place < length items → i ≡ get_or items place i → bytes_eq i.range text ≡ true → NoneBefore items text place → IsFirstWith items text place
 found_here items text place i low e h none = record { item = i; stands = stands_at items place i low e; same = (bytes_eq-Decides i.range text).0 h; first = none }
 
+-- Where neither an item nor any before it has the text, none before the next place has it.
 pub none_here : (items : List Item) (text : List ℕ) (place : ℕ) (i : Item) → place < length items → i ≡ get_or items place i → bytes_eq i.range text ≡ false → NoneBefore items text place → NoneBefore items text (place + 1)
 none_here items text place i low e h none = λ k other lt s same. elim (cases_lt k place) [
   | inl before ↦ none k other before s same
   | inr at ↦ differs i.range text h (ap (λ (x : Item). x.range) (sym (same_at items k place i other (omega arith) (stands_at items place i low e) s)) ∙ same)
 ]
 
+-- Where no item before the end of the list has the text, no range has it.
 pub none_of_all : (items : List Item) (text : List ℕ) (place : ℕ) → length items ≤ place → NoneBefore items text place → MatchFirst items text None
 none_of_all items text place end none = λ k other s same. none k other (let low = slice_get_within items k other s in omega arith) s same
 
 -- ---- how the seat is found
 
--- the seat stands from low up to high
+-- The seat is from low up to high.
 pub record IsSeatWithin (items : List Item) (places text : List ℕ) (low high : ℕ) : Type 0 where
   pub ordered : low ≤ high
   pub within : high ≤ length places
   pub below : (k : ℕ) → k < low → is_lt (text_cmp (text_at items (get_or places k 0)) text) ≡ true
   pub above : (k : ℕ) → high ≤ k → k < length places → is_lt (text_cmp (text_at items (get_or places k 0)) text) ≡ false
 
+-- Where the range in the middle is below the text, the seat is after the middle.
 pub seat_above : (items : List Item) (places text : List ℕ) (low high middle : ℕ) → IsRangeIndex items places → IsSeatWithin items places text low high → middle < high → is_lt (text_cmp (text_at items (get_or places middle 0)) text) ≡ true → IsSeatWithin items places text (middle + 1) high
 seat_above items places text low high middle index s m h = record {
   ordered = omega arith;
@@ -217,6 +228,7 @@ seat_above items places text low high middle index s m h = record {
   above = s.above;
 }
 
+-- Where the range in the middle is not below the text, the seat is at the middle or before it.
 pub seat_below : (items : List Item) (places text : List ℕ) (low high middle : ℕ) → IsRangeIndex items places → IsSeatWithin items places text low high → low ≤ middle → middle < high → is_lt (text_cmp (text_at items (get_or places middle 0)) text) ≡ false → IsSeatWithin items places text low middle
 seat_below items places text low high middle index s l m h = record {
   ordered = l;

@@ -23,6 +23,7 @@ lenient_pieces scheme (p ∷ pieces) (i ∷ items) a = elim a [
   | inr x ↦ inr (x.0, lenient_pieces scheme pieces items x.1)
 ]
 
+-- A field without a malformed element gives the same items where such elements are passed over.
 pub lenient_too : (scheme : Scheme) (bytes : List ℕ) (items : List Item) → IsField scheme Refused bytes items → IsField scheme PassedOver bytes items
 lenient_too scheme bytes items f = lenient_pieces scheme (pieces_by 44 bytes) items f
 
@@ -64,6 +65,7 @@ item_of scheme malformed (p ∷ pieces) (i ∷ items) piece item a c fits = elim
   ]
 ]
 
+-- An item is among those of a field just where it fits some piece of the field.
 pub of_elements : (scheme : Scheme) (malformed : Malformed) (bytes : List ℕ) (items : List Item) → IsField scheme malformed bytes items → (item : Item) → Contains items item ↔ ((piece : List ℕ) × Contains (pieces_by 44 bytes) piece × IsPadded scheme piece item)
 of_elements scheme malformed bytes items f item = (
   λ c. piece_of scheme malformed (pieces_by 44 bytes) items item f c,

@@ -23,11 +23,11 @@ use Rattle.nego_core.specs.declared.lookup_order.OrderKey.{OrderKey}
 
 -- ---- the keys in written order
 
--- an item stands at the place of the key, and it has the item's missing weight
+-- an item is at the place of the key, which has the item's missing weight
 abbrev IsOrderKeyOf : (ℕ → Option Item) → OrderKey → Type 0
 IsOrderKeyOf get t = (i : Item) × (get t.place ≡ Some i) × (t.missing_weight ≡ 1000 - i.weight)
 
--- the items are what stands from a place on
+-- the items are those from a place on
 abbrev StandFrom : (ℕ → Option Item) → ℕ → List Item → Type 0
 StandFrom get k items = (n : ℕ) → get (k + n) ≡ slice_get items n
 
@@ -68,6 +68,7 @@ turns_behind k (i ∷ items) =
 abbrev Precedes : OrderKey → OrderKey → Type 0
 Precedes s t = s.place < t.place
 
+-- The keys in written order have rising places.
 pub turns_rise : (k : ℕ) (items : List Item) → AllPairs Precedes (order_keys_from items k)
 turns_rise k [] = λ i j d lt low. absurd (omega arith)
 turns_rise k (i ∷ items) = elim (cases_Bool (is_tried i)) [
@@ -117,6 +118,7 @@ ordered_keys items keys p = All-permutation (IsOrderKeyOf (slice_get items)) (or
 ordered_is : (items ordered : List Item) → (o : IsOrder items ordered) → ordered ≡ map (item_of items) o.keys
 ordered_is items ordered o = o.items_are ∙ items_of_keys items o.keys (ordered_keys items o.keys o.keys_ok.each_once)
 
+-- The items of the keys in written order are those of the list that are tried.
 pub tried_are : (items : List Item) → ordered_items items (order_keys_from items 0) ≡ filter is_tried items
 tried_are items = tried_turned (slice_get items) 0 items (λ n. ap (slice_get items) (omega arith))
 
@@ -143,6 +145,7 @@ small_item : (items : List Item) (t : OrderKey) → All (λ i. i.weight ≤ 1000
 unfolding item_of
 small_item items t small h = subst (λ (i : Item). i.weight ≤ 1000) (sym (get_or_from_slice_get items t.place h.0 unset h.1)) (all_at (λ (i : Item). i.weight ≤ 1000) items t.place h.0 small h.1)
 
+-- Where no weight is above 1000, the order of lookup has no weight that is above an earlier one.
 pub weights_fall : (items ordered : List Item) → All (λ i. i.weight ≤ 1000) items → IsOrder items ordered → AllPairs (λ i j. j.weight ≤ i.weight) ordered
 weights_fall items ordered small o =
     subst (AllPairs (λ (i j : Item). j.weight ≤ i.weight)) (sym (ordered_is items ordered o)) (pairs_map (λ (i j : Item). j.weight ≤ i.weight) (item_of items) o.keys (λ i j d lt low.
@@ -183,6 +186,7 @@ passed_map {Y = Y} p f (x ∷ xs) = elim (cases_Bool (p (f x))) [
   | inr e ↦ rw e (passed_map p f xs)
 ]
 
+-- The items of one weight that are tried have their written order in the order of lookup.
 pub as_written : (items ordered : List Item) → IsOrder items ordered → (weight : ℕ) → filter (λ i. i.weight == weight) ordered ≡ filter (λ i. i.weight == weight) (filter is_tried items)
 as_written items ordered o weight =
     let has : Item → Bool = λ i. i.weight == weight in

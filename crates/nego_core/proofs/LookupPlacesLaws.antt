@@ -1,4 +1,4 @@
--- Languages that are handed in.
+-- Lookup over a slice of languages.
 use Rattle.std.proofs.Common.{ℕ, ◌≡◌, ◌<◌, List, [], ◌∷◌, Some, None, Option, Bool, true, inl, inr}
 use Rattle.std.proofs.Common.{length, refl, sym, ◌∙◌, ap, arith}
 use Rattle.std.specs.List.{list_any, position_or_len}
@@ -40,6 +40,7 @@ found_or_none items langs text f g = let e = one_lookup items (is_among langs) (
 has_default : (items : List Item) (langs : List (List ℕ)) (default : Option (List ℕ)) (lang : List ℕ) → default ≡ Some lang → IsOpenDefault items (is_among langs) lang → HasOpenDefault items (is_among langs) default
 has_default items langs default lang e o = rw e o
 
+-- Lookup over a slice of languages has one answer.
 pub one_found : (items : List Item) (langs : List (List ℕ)) (default : Option (List ℕ)) (a b : Found) → IsFound items langs default a → IsFound items langs default b → a ≡ b
 one_found items langs default (Matched p) (Matched q) f g = ap Matched (same_place langs f.0 g.0 p q (same_text f.0 g.0 (one_lookup items (is_among langs) (Some (pieces f.0)) (Some (pieces g.0)) f.1 g.1)) f.2 g.2)
 one_found items langs default (Matched p) (Default q) f g = absurd (found_or_none items langs f.0 f.1 g.0)

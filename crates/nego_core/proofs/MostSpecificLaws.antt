@@ -13,7 +13,7 @@ use Rattle.nego_core.specs.Item.{Item}
 use Rattle.nego_core.specs.Deciding.{better_of, is_worse, is_above, IsBestOf, IsBest, NoneFits}
 use Rattle.nego_core.specs.declared.deciding.MostSpecific.{MostSpecific}
 
--- what is_worse tells, both ways
+-- what is_worse says, both ways
 worse_is : (best other : MostSpecific) → is_worse best other ≡ true → (best.specificity < other.specificity) ⊎ ((best.specificity ≡ other.specificity) × (other.place < best.place))
 worse_is best other h = grind (arith, nat_tests)
 
@@ -22,9 +22,11 @@ not_worse best other h = (grind (arith, nat_tests), λ e. grind (arith, nat_test
 
 -- ---- what fits changes
 
+-- The same items fit at the same places, by either relation.
 abbrev pub Same : (ℕ → Item → Type 0) → (ℕ → Item → Type 0) → Type 0
 Same P Q = (k : ℕ) (i : Item) → (P k i → Q k i) × (Q k i → P k i)
 
+-- Where the same items fit, the best of them is the same.
 pub best_same : (P Q : ℕ → Item → Type 0) (items : List Item) (best : Option MostSpecific) → Same P Q → IsBest P items best → IsBest Q items best
 best_same P Q items None same h = λ k other s q. h k other s ((same k other).1 q)
 best_same P Q items (Some best) same h = record {
@@ -38,6 +40,7 @@ best_same P Q items (Some best) same h = record {
 
 -- ---- the better of two
 
+-- What fits by the third relation is what fits by the first or the second.
 abbrev pub Joins : (ℕ → Item → Type 0) → (ℕ → Item → Type 0) → (ℕ → Item → Type 0) → Type 0
 Joins P Q R = (k : ℕ) (i : Item) → (P k i → R k i) × (Q k i → R k i) × (R k i → P k i ⊎ Q k i)
 
@@ -93,12 +96,14 @@ better_joins P Q R items (Some a) (Some b) joins p q = decided P Q R items a b (
 
 -- ---- the items before a place
 
+-- An item that fits at a place before `n`.
 abbrev pub Before : (ℕ → Item → Type 0) → ℕ → ℕ → Item → Type 0
 Before Fits n k i = (k < n) × Fits k i
 
 moved : (Fits : ℕ → Item → Type 0) (k n : ℕ) (i j : Item) → k ≡ n → j ≡ i → Fits k j → Fits n i
 moved Fits k n i j e f h = subst (λ (m : ℕ). Fits m i) e (subst (Fits k) f h)
 
+-- Before the first place nothing fits, so there is no best.
 pub none_before : (Fits : ℕ → Item → Type 0) (items : List Item) → IsBest (Before Fits 0) items None
 none_before Fits items = λ k other s f. let low = f.0 in absurd (omega arith)
 
@@ -154,6 +159,7 @@ passed_to Fits items m n best le none h = best_same (Before Fits m) (Before Fits
     ))
     h
 
+-- The best of the items before the end of the list, or a later place, is the best of all.
 pub all_before : (Fits : ℕ → Item → Type 0) (items : List Item) (n : ℕ) (best : Option MostSpecific) → length items ≤ n → IsBest (Before Fits n) items best → IsBest Fits items best
 all_before Fits items n None low h = λ k other t f. h k other t (let l = slice_get_within items k other t in omega arith, f)
 all_before Fits items n (Some best) low h = record {
@@ -167,9 +173,11 @@ all_before Fits items n (Some best) low h = record {
 
 -- ---- the item at a place
 
+-- An item that fits, at the place `n`.
 abbrev pub At : (Item → Type 0) → ℕ → ℕ → Item → Type 0
 At Fits n k i = (k ≡ n) × Fits i
 
+-- An item that fits is the best at its place.
 pub best_here : (Fits : Item → Type 0) (items : List Item) (n many : ℕ) (i : Item) → slice_get items n ≡ Some i → many ≡ specificity (pieces i.range) → Fits i → IsBest (At Fits n) items (Some (record { place = n; specificity = many }))
 best_here Fits items n many i s e fits = record {
   item = i;
@@ -180,6 +188,7 @@ best_here Fits items n many i s e fits = record {
   first = λ k other low t f. (let same = f.0 in absurd (omega arith));
 }
 
+-- Where the item at a place does not fit, there is no best at it.
 pub none_here : (Fits : Item → Type 0) (items : List Item) (n : ℕ) (i : Item) → slice_get items n ≡ Some i → ¬ Fits i → IsBest (At Fits n) items None
 none_here Fits items n i s not = λ k other t f. not (subst Fits (same_at items k n i other f.0 s t) f.1)
 

@@ -20,7 +20,7 @@ no_any_named i n = elim (cases_Bool (is_named i)) [
   | inr e ↦ absurd (n ((bytes_eq-Decides i.range (42 ∷ [])).0 (not_false _ e)))
 ]
 
--- ---- where an item stands in the list without "*"
+-- ---- where an item is in the list without "*"
 
 rank : List Item → ℕ → ℕ
 rank [] k = 0
@@ -57,7 +57,7 @@ rank_below (j ∷ items) (suc k) (suc p) i s n h = elim (cases_Bool (is_named j)
   | inr e ↦ rw e (rank_below items k p i s n (omega arith))
 ]
 
--- where an item of the list without "*" stands in the whole list
+-- where an item of the list without "*" is in the whole list
 record IsTaken (items : List Item) (n : ℕ) (i : Item) : Type 0 where
   place : ℕ
   stands : slice_get items place ≡ Some i

@@ -9,6 +9,7 @@ use Rattle.nego_core.specs.Deciding.{IsDecidedBy, NamedRefuse, RefusesLang}
 use Rattle.nego_core.specs.Unweighted.{AllPositive}
 use Rattle.nego_core.specs.declared.scheme.Scheme.{Scheme}
 
+-- Where no weight is 0, the items other than "*" refuse no tag.
 pub no_tag_refused : (items : List Item) (tag : List (List ℕ)) → AllPositive items → ¬ NamedRefuse items tag
 no_tag_refused items tag positive r =
     let weight = all_at (λ i. 0 < i.weight) items r.0 r.1.0.item positive r.1.0.stands in
@@ -22,5 +23,6 @@ not_on scheme items (Some t) place positive d =
     let none = d.1 in
     omega arith
 
+-- Where no weight is 0, no language is refused.
 pub no_lang_refused : (scheme : Scheme) (items : List Item) (lang : List ℕ) → AllPositive items → ¬ RefusesLang scheme items lang
 no_lang_refused scheme items lang positive r = not_on scheme items (tag_of lang) r.0 positive r.1

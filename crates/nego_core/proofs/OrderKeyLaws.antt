@@ -28,6 +28,7 @@ star_text ((b ∷ s) ∷ t ∷ list) = not_one b (s ++ 45 ∷ joined (t ∷ list
   not_one b [] some = absurd (some refl)
   not_one b (c ∷ rest) some = grind arith
 
+-- An item of positive weight is tried just where its lookup text is not "*".
 pub tried_is : (i : Item) (text : List ℕ) (r : Bool) → text ≡ lookup_text i.range → r ≡ not (bytes_eq text (42 ∷ [])) → i.weight ≢ 0 → r ≡ is_tried i
 tried_is i text r e d w =
     let star : bytes_eq text (42 ∷ []) ≡ is_lone_star (as_basic (pieces i.range)) = ap (λ (x : List ℕ). bytes_eq x (42 ∷ [])) e ∙ star_text (as_basic (pieces i.range)) in

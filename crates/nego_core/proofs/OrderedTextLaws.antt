@@ -1,4 +1,4 @@
--- The first bytes of a text as a number tell its order.
+-- The order of texts by their first bytes, as numbers.
 use Rattle.std.proofs.Common.{ℕ, ◌≡◌, ◌≤◌, ◌<◌, ◌+◌, ◌*◌, ◌⊎◌, inl, inr, List, [], ◌∷◌, true, false}
 use Rattle.std.proofs.Common.{get_or, refl, sym, ◌∙◌, ap, arith, w64}
 use Rattle.std.specs.Prelude.{nat_lt, zero, suc, slice_index}
@@ -12,7 +12,7 @@ use Rattle.std.proofs.lemmas.Cmp.{nat_list_cmp_total, nat_cmp_total, tied_itself
 use Rattle.std.proofs.Math.Nat.{mul-le-mul_right, suc-mul}
 use Rattle.nego_core.specs.Fingerprint.{worth, head_from, head_of}
 
--- ---- a lower number tells of a lower text
+-- ---- a lower number means a lower text
 
 small_digit : (b p rest : ℕ) → b < 256 → rest ≤ p → b * p + rest ≤ 256 * p
 small_digit b p rest low h =
@@ -86,11 +86,12 @@ lower_head (suc k) (x ∷ a) (y ∷ b) h = elim (cases_Bool (nat_lt x 256)) [
   | inr xo ↦ absurd (let e = head_other k x a xo in let small = head_small (suc k) (y ∷ b) in omega arith)
 ]
 
--- the same of texts whose heads are kept
+-- A text whose first eight bytes are a lower number is less.
 pub lower : (a b : List ℕ) (m n : ℕ) → m ≡ head_of a → n ≡ head_of b → m < n → Less ≡ slice_cmp nat_cmp a b
 unfolding head_of
 lower a b m n e f h = sym (lower_head 8 a b (omega arith))
 
+-- A text whose first eight bytes are a higher number is greater.
 pub higher : (a b : List ℕ) (m n : ℕ) → m ≡ head_of a → n ≡ head_of b → n < m → Greater ≡ slice_cmp nat_cmp a b
 higher a b m n e f h = sym (nat_list_cmp_total.antisymm a b ∙ ap ordering_reverse (sym (lower b a n m f e h)))
 

@@ -78,6 +78,7 @@ pub record IsOverlongPiece (scheme : Scheme) (text : List ℕ) : Type 0 where
   pub first : IsFirstPiece text element after
   pub none : (item : Item) → ¬ IsStart scheme element item
 
+-- A text that begins with more bytes than a range has begins with a piece that is no element.
 pub overlong_piece : (scheme : Scheme) (text : List ℕ) → BeginsOverlong text → IsOverlongPiece scheme text
 overlong_piece scheme text long =
     let cut = cut_by text (position (λ b. b == 44) text) refl in

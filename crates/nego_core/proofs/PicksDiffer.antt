@@ -43,7 +43,7 @@ keys_rise scheme items from (l ∷ langs) (k ∷ keys) a = elim a [
       (keys_rise scheme items (from + 1) langs keys x.1)
 ]
 
--- ---- how often a place stands among keys
+-- ---- how often a place is among keys
 
 one_at : ℕ → Key → ℕ
 one_at n k = cond (k.place == n) 1 0
@@ -94,6 +94,7 @@ kept_apart all keys p h = λ i j d lt low same.
     let count = sum_by-IsPermutation (one_at n) all keys p in
     omega (arith, once, twice, count)
 
+-- No two picks of a filtered list have the same place.
 pub picks_apart : (scheme : Scheme) (items : List Item) (langs : List (List ℕ)) (picks : List Pick) → IsFiltered scheme items langs picks → AllPairs (λ p q. p.place ≢ q.place) picks
 picks_apart scheme items langs picks f =
     subst (AllPairs (λ (p q : Pick). p.place ≢ q.place)) (sym f.picks_are) (pairs_map (λ (p q : Pick). p.place ≢ q.place) pick_of f.keys (kept_apart f.all f.keys f.each_once (keys_rise scheme items 0 langs f.all f.all_ok)))

@@ -1,4 +1,4 @@
--- Fronts of a text: what stands before a hyphen, or the whole.
+-- Fronts of a text: what comes before a hyphen, or the whole.
 use Rattle.std.proofs.Common.{ℕ, ◌≡◌, ◌<◌, ◌+◌, ◌⊎◌, List, [], ◌∷◌, ◌++◌, Bool, true, false, cond}
 use Rattle.std.proofs.Common.{inl, inr, refl, sym, ◌∙◌, ap, arith, length, get_or, take, drop}
 use Rattle.std.proofs.Common.{append_assoc, append-nil, length-append, drop-cons, add-one, eqb}
@@ -9,10 +9,12 @@ use Rattle.std.proofs.lemmas.List.Splits.{join_with_byte-slice_split}
 use Rattle.lang_core.specs.Text.{pieces_by, pieces, joined}
 use Rattle.lang_core.specs.Matching.{IsFront}
 
+-- The pieces of a text, joined again, are the text.
 pub joined-pieces : (text : List ℕ) → joined (pieces text) ≡ text
 unfolding pieces_by
 joined-pieces text = join_with_byte-slice_split 45 text
 
+-- The text "*" has the one piece "*".
 pub star_pieces : pieces (42 ∷ []) ≡ (42 ∷ []) ∷ []
 unfolding pieces_by
 star_pieces = refl
@@ -61,6 +63,7 @@ joined_append (x ∷ y ∷ a) b s some =
 abbrev pub IsTextFront : List ℕ → List ℕ → Type 0
 IsTextFront front text = (text ≡ front) ⊎ ((rest : List ℕ) × (text ≡ front ++ 45 ∷ rest))
 
+-- A text that is the front, or goes on after it with a hyphen, has the front's subtags first.
 pub front_of_text : (front text : List ℕ) → IsTextFront front text → IsFront (pieces front) (pieces text)
 front_of_text front text (inl e) = ([], ap pieces e ∙ sym (append-nil (pieces front)))
 front_of_text front text (inr r) = (pieces r.0, ap pieces r.1 ∙ pieces_append front r.0)
@@ -69,18 +72,20 @@ text_on : (front text : List ℕ) (rest : List (List ℕ)) → pieces text ≡ p
 text_on front text [] e = inl (sym (joined-pieces text) ∙ (ap joined (e ∙ append-nil (pieces front)) ∙ joined-pieces front))
 text_on front text (s ∷ rest) e = inr (joined (s ∷ rest), sym (joined-pieces text) ∙ (ap joined e ∙ (joined_append (pieces front) rest s (pieces_some front) ∙ ap (λ (x : List ℕ). x ++ 45 ∷ joined (s ∷ rest)) (joined-pieces front))))
 
+-- A text that has the front's subtags first is the front, or goes on after it with a hyphen.
 pub text_of_front : (front text : List ℕ) → IsFront (pieces front) (pieces text) → IsTextFront front text
 text_of_front front text f = text_on front text f.0 f.1
 
 -- ---- where a front ends
 
+-- A front is the whole text, or has fewer bytes.
 pub front_within : (front text : List ℕ) → IsTextFront front text → (text ≡ front) ⊎ (length front < length text)
 front_within front text (inl e) = inl e
 front_within front text (inr r) = inr (let size : length text ≡ length (front ++ 45 ∷ r.0) = ap length r.1 in longer front r.0 text size) where
   longer : (front rest text : List ℕ) → length text ≡ length (front ++ 45 ∷ rest) → length front < length text
   longer front rest text e = let size = length-append front (45 ∷ rest) in omega arith
 
--- a front of so many bytes is those bytes
+-- A front that is shorter than the text is that many bytes of it, and a hyphen comes next.
 pub front_is_take : (front text : List ℕ) (at : ℕ) → length front ≡ at → at < length text → IsTextFront front text → (front ≡ take at text) × (get_or text at 0 ≡ 45)
 front_is_take front text at n low (inl e) = absurd (let size : length text ≡ length front = ap length e in omega arith)
 front_is_take front text at n low (inr r) =

@@ -26,6 +26,7 @@ use Rattle.nego_core.specs.declared.fault.NegoFault.TheVariants.{FieldMalformed}
 
 -- ---- separators
 
+-- A text has no more bytes where the separators at its front are skipped.
 pub no_more : (text : List ℕ) → length (skip_separators text) ≤ length text
 no_more [] = omega arith
 no_more (b ∷ text) =
@@ -35,11 +36,12 @@ no_more (b ∷ text) =
       | inr e ↦ rw e (omega arith)
     ]
 
--- nothing begins with a separator after those at the front were taken
+-- The text is empty, or begins with another byte than a separator.
 abbrev pub BeginsElement : List ℕ → Type 0
 BeginsElement [] = Unit {0}
 BeginsElement (b ∷ text) = is_separator b ≡ false
 
+-- A text whose leading separators are skipped does not begin with one.
 pub begins_element : (text : List ℕ) → BeginsElement (skip_separators text)
 begins_element [] = tt
 begins_element (b ∷ text) =
@@ -63,7 +65,7 @@ blank_no_comma b h = grind (arith, nat_tests)
 
 -- ---- blanks before a piece
 
--- blanks at the front stand in the first piece
+-- Blanks before a text belong to its first piece.
 pub pieces_after_blanks : (blanks text piece : List ℕ) (more : List (List ℕ)) → AreBlanks blanks → pieces_by 44 text ≡ piece ∷ more → pieces_by 44 (blanks ++ text) ≡ (blanks ++ piece) ∷ more
 unfolding pieces_by
 pieces_after_blanks [] text piece more h e = e
@@ -71,10 +73,12 @@ pieces_after_blanks (b ∷ blanks) text piece more h e =
     let parts = and_parts (is_blank b) (list_all is_blank blanks) h in
     slice_split-cons_no (λ x. x == 44) b (blanks ++ text) (blank_no_comma b parts.0) ∙ ap (onto_first b) (pieces_after_blanks blanks text piece more parts.1 e)
 
+-- A text that begins with a comma has an empty first piece, and then the pieces after the comma.
 pub pieces_at_comma : (text : List ℕ) → pieces_by 44 (44 ∷ text) ≡ [] ∷ pieces_by 44 text
 unfolding pieces_by
 pieces_at_comma text = slice_split-cons_yes (λ x. x == 44) 44 text refl
 
+-- The empty text has one piece, which is empty.
 pub no_pieces : pieces_by 44 [] ≡ [] ∷ []
 unfolding pieces_by
 no_pieces = refl
@@ -114,6 +118,7 @@ step scheme malformed field items b rest w h = elim w.tail_is [
   | inr e ↦ absurd (let size : length (b ∷ rest) ≡ 0 = ap length e.1 in omega arith)
 ]
 
+-- A walk that has come to some bytes has come past the separators at their front.
 pub walked_skip : (scheme : Scheme) (malformed : Malformed) (field : List ℕ) (items : List Item) (rest : List ℕ) → IsWalkedTo scheme malformed field items rest → IsWalkedTo scheme malformed field items (skip_separators rest)
 walked_skip scheme malformed field items [] w = w
 walked_skip scheme malformed field items (b ∷ rest) w = elim (cases_Bool (is_separator b)) [
@@ -121,9 +126,11 @@ walked_skip scheme malformed field items (b ∷ rest) w = elim (cases_Bool (is_s
   | inr e ↦ rw e w
 ]
 
+-- A walk begins, without items, after the separators at the front of the field.
 pub walked_from : (scheme : Scheme) (malformed : Malformed) (field : List ℕ) → IsWalkedTo scheme malformed field [] (skip_separators field)
 walked_from scheme malformed field = walked_skip scheme malformed field [] field (from_piece scheme malformed field [] field 0 (walked_start scheme malformed field))
 
+-- Where no bytes are left, the field gives the items.
 pub walked_to_end : (scheme : Scheme) (malformed : Malformed) (field : List ℕ) (items : List Item) (rest : List ℕ) → IsWalkedTo scheme malformed field items rest → rest ≡ [] → IsField scheme malformed field items
 walked_to_end scheme malformed field items rest w none = elim w.tail_is [
   | inl e ↦ (let last : w.tail ≡ w.blanks ∷ [] = e ∙ (ap (λ (x : List ℕ). pieces_by 44 (w.blanks ++ x)) none ∙ (pieces_after_blanks w.blanks [] [] [] w.blanks_ok no_pieces ∙ ap (λ (x : List ℕ). x ∷ []) (append-nil w.blanks))) in
@@ -139,12 +146,14 @@ pub record IsCutPiece (rest piece after : List ℕ) : Type 0 where
   pub whole : pieces_by 44 rest ≡ piece ∷ more
   pub more_is : (more ≡ pieces_by 44 after) ⊎ ((more ≡ []) × (after ≡ []))
 
+-- What comes before a text's first comma is its first piece, and what follows has the other pieces.
 pub cut_piece : (rest piece after : List ℕ) → IsFirstPiece rest piece after → IsCutPiece rest piece after
 cut_piece rest piece after f = elim f [
   | inl e ↦ record { more = pieces_by 44 after; whole = e; more_is = inl refl }
   | inr e ↦ record { more = []; whole = e.0; more_is = inr (refl, e.1) }
 ]
 
+-- What follows the first piece of a text that is not empty is shorter than the text.
 pub cut_shorter : (rest piece after : List ℕ) → IsFirstPiece rest piece after → 0 < length rest → length after < length rest
 cut_shorter rest piece after f some = elim f [
   | inl e ↦ (let sizes : sum_by (λ s. length s + 1) (piece ∷ pieces_by 44 after) ≡ length rest + 1 = sym (ap (sum_by (λ s. length s + 1)) e) ∙ size_pieces 44 rest in
@@ -172,7 +181,7 @@ bare_piece : (blanks piece : List ℕ) → AreBlanks blanks → BeginsElement pi
 bare_piece blanks [] h n = skip_all blanks [] h
 bare_piece blanks (b ∷ piece) h n = skip_all blanks (b ∷ piece) h ∙ skip_none b piece (no_separator b n).1
 
--- the piece that an element begins, and where it stands
+-- The piece that an element begins, and where the element begins.
 pub record IsAtElement (scheme : Scheme) (malformed : Malformed) (field : List ℕ) (items : List Item) (rest element : List ℕ) (more : List (List ℕ)) : Type 0 where
   pub blanks : List ℕ
   pub offset : ℕ
@@ -192,6 +201,8 @@ stands_there scheme malformed field items blanks rest element more offset w e =
     let o = w.offset_is in
     omega arith
 
+-- Where bytes are left that do not begin with a separator, an element begins with them, up to the
+-- next comma.
 pub at_element : (scheme : Scheme) (malformed : Malformed) (field : List ℕ) (items : List Item) (rest element : List ℕ) (more : List (List ℕ)) → IsWalkedTo scheme malformed field items rest → BeginsElement rest → 0 < length rest → pieces_by 44 rest ≡ element ∷ more → IsAtElement scheme malformed field items rest element more
 at_element scheme malformed field items rest element more w n some e = elim w.tail_is [
   | inl t ↦ (let walked : IsWalked scheme malformed field items ((w.blanks ++ element) ∷ more) w.offset = subst (λ (x : List (List ℕ)). IsWalked scheme malformed field items x w.offset) (t ∙ pieces_after_blanks w.blanks rest element more w.blanks_ok e) w.walked in
@@ -207,6 +218,7 @@ at_element scheme malformed field items rest element more w n some e = elim w.ta
   | inr t ↦ absurd (let size : length rest ≡ 0 = ap length t.1 in omega arith)
 ]
 
+-- After an element and the separators after it, the items end with that element's item.
 pub element_read : (scheme : Scheme) (malformed : Malformed) (field : List ℕ) (items : List Item) (item : Item) (rest element after : List ℕ) → IsWalkedTo scheme malformed field items rest → BeginsElement rest → 0 < length rest → IsFirstPiece rest element after → IsStart scheme element item → IsWalkedTo scheme malformed field (items ++ item ∷ []) (skip_separators after)
 element_read scheme malformed field items item rest element after w n some f s =
     let cut = cut_piece rest element after f in
@@ -220,7 +232,7 @@ element_read scheme malformed field items item rest element after w n some f s =
       tail_is = cut.more_is;
     })
 
--- a malformed element is passed over, or refuses the field
+-- A malformed element leaves the items as they are where such elements are passed over.
 pub element_passed : (scheme : Scheme) (malformed : Malformed) (field : List ℕ) (items : List Item) (rest element after : List ℕ) → malformed ≡ PassedOver → IsWalkedTo scheme malformed field items rest → BeginsElement rest → 0 < length rest → IsFirstPiece rest element after → ((item : Item) → ¬ IsStart scheme element item) → IsWalkedTo scheme malformed field items (skip_separators after)
 element_passed scheme Refused field items rest element after e w n some f none = absurd (cc)
 element_passed scheme PassedOver field items rest element after e w n some f none =
@@ -241,15 +253,19 @@ element_malformed scheme field items rest element after w n some f none =
     let at = at_element scheme Refused field items rest element cut.more w n some cut.whole in
     subst (IsFirstMalformed scheme field) (sym at.begins) (stops_malformed scheme field items (at.blanks ++ element) element cut.more at.offset at.walked at.bare at.some none)
 
+-- Where malformed elements are refused, one refuses the field, at the offset where it begins.
 pub element_refused : (scheme : Scheme) (malformed : Malformed) (field : List ℕ) (items : List Item) (rest element after : List ℕ) → malformed ≡ Refused → length field ≤ 65535 → IsWalkedTo scheme malformed field items rest → BeginsElement rest → 0 < length rest → IsFirstPiece rest element after → ((item : Item) → ¬ IsStart scheme element item) → RefusesField scheme malformed field (FieldMalformed (length field - length rest))
 element_refused scheme PassedOver field items rest element after e short w n some f none = absurd (cc)
 element_refused scheme Refused field items rest element after e short w n some f none = (short, element_malformed scheme field items rest element after w n some f none)
 
+-- Where malformed elements are refused, more bytes than a range has refuse the field, at the offset
+-- where they begin.
 pub overlong_refused : (scheme : Scheme) (malformed : Malformed) (field : List ℕ) (items : List Item) (rest : List ℕ) → malformed ≡ Refused → length field ≤ 65535 → IsWalkedTo scheme malformed field items rest → BeginsElement rest → 0 < length rest → BeginsOverlong rest → RefusesField scheme malformed field (FieldMalformed (length field - length rest))
 overlong_refused scheme malformed field items rest e short w n some long =
     let p = overlong_piece scheme rest long in
     element_refused scheme malformed field items rest p.element p.after e short w n some p.first p.none
 
+-- A field has an element where a walk has come to bytes that begin with one.
 pub element_fits : (scheme : Scheme) (malformed : Malformed) (field : List ℕ) (items : List Item) (rest element after : List ℕ) → IsWalkedTo scheme malformed field items rest → BeginsElement rest → 0 < length rest → IsFirstPiece rest element after → HasStart scheme element → HasElement scheme malformed field
 element_fits scheme malformed field items rest element after w n some f s =
     let cut = cut_piece rest element after f in

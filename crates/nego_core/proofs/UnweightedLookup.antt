@@ -48,12 +48,14 @@ first_alike P Q list (Some x) f g h = record { before = h.before; after = h.afte
 abbrev IsHeld : (List ℕ → Bool) → List (List ℕ) → Type 0
 IsHeld held c = IsTrue (held (joined c))
 
+-- Without weights, what lookup finds is the first held text of the ranges as written.
 pub first_held : (items : List Item) (held : List ℕ → Bool) (found : Option (List (List ℕ))) → AllUnweighted items → IsLookedUp items held found → IsFirstHeld items held found
 first_held items held found h l =
     let same : l.ordered ≡ filter is_other items = one_order_of items l.ordered (filter is_other items) l.order_ok (written_order items h) in
     first_alike (IsOpen items held) (IsHeld held) (all_candidates (filter is_other items)) found (λ c o. o.0) (λ c t. (t, no_tag_refused items c (positive items h)))
     (subst (λ (xs : List Item). MatchFirstOf (IsOpen items held) (all_candidates xs) found) same l.found_is)
 
+-- Without weights, the first held text of the ranges as written is what lookup finds.
 pub looked_up_plain : (items : List Item) (held : List ℕ → Bool) (found : Option (List (List ℕ))) → AllUnweighted items → IsFirstHeld items held found → IsLookedUp items held found
 looked_up_plain items held found h f = record {
   ordered = filter is_other items;

@@ -26,6 +26,7 @@ pub record IsTrimmed (text rest : List ℕ) : Type 0 where
   pub whole : text ≡ before ++ rest
   pub before_ok : AreBlanks before
 
+-- A text is the blanks at its front, and what is left where they are skipped.
 pub trimmed : (text : List ℕ) → IsTrimmed text (skip_blanks text)
 trimmed [] = record { before = []; whole = refl; before_ok = refl }
 trimmed (b ∷ text) =
@@ -35,14 +36,17 @@ trimmed (b ∷ text) =
       | inr e ↦ rw e (record { before = []; whole = refl; before_ok = refl })
     ]
 
+-- Blanks before a text are skipped with those at its front.
 pub skip_all : (before rest : List ℕ) → AreBlanks before → skip_blanks (before ++ rest) ≡ skip_blanks rest
 skip_all [] rest h = refl
 skip_all (b ∷ before) rest h = let parts = and_parts (is_blank b) (list_all is_blank before) h in rw parts.0 (skip_all before rest parts.1)
 
+-- A text of blanks is empty where they are skipped.
 pub skip_only : (text : List ℕ) → AreBlanks text → skip_blanks text ≡ []
 skip_only [] h = refl
 skip_only (b ∷ text) h = let parts = and_parts (is_blank b) (list_all is_blank text) h in rw parts.0 (skip_only text parts.1)
 
+-- A text that begins with another byte than a blank stays as it is where blanks are skipped.
 pub skip_none : (b : ℕ) (rest : List ℕ) → is_blank b ≡ false → skip_blanks (b ∷ rest) ≡ b ∷ rest
 skip_none b rest e = rw e refl
 
@@ -77,12 +81,15 @@ cut_qvalue text token rest n c l =
     let same = cut_only token rest l.qvalue l.after (sym c.whole ∙ l.whole) c.plain (qvalue_plain l.qvalue n l.qvalue_ok) c.ends (blanks_end l.after l.after_ok) in
     (subst AreBlanks (sym same.1) l.after_ok, subst (λ (q : List ℕ). IsQvalue q n) (sym same.0) l.qvalue_ok)
 
+-- Where nothing but blanks comes from the first stop on, the text has the weight of the qvalue
+-- before it, or none.
 pub last_of_qvalue : (text token rest : List ℕ) (r : Option ℕ) → IsCut text token rest → AreBlanks rest → IsTheOne r (IsQvalue token) → IsTheOne r (IsLastQvalue text)
 last_of_qvalue text token rest r c blank h = the_one (IsQvalue token) (IsLastQvalue text)
     (λ n q. record { qvalue = token; after = rest; whole = c.whole; after_ok = blank; qvalue_ok = q })
     (λ n l. (cut_qvalue text token rest n c l).1)
     r h
 
+-- Where more than blanks comes from the first stop on, the text is no qvalue followed by blanks.
 pub not_last : (text token rest : List ℕ) → IsCut text token rest → list_all is_blank rest ≡ false → (n : ℕ) → ¬ IsLastQvalue text n
 not_last text token rest c blank n l = let b = (cut_qvalue text token rest n c l).0 in cc
 
@@ -109,6 +116,7 @@ of_named text (letter ∷ sign ∷ qvalue) n t h = record {
   qvalue_ok = h.2;
 }
 
+-- What follows a semicolon has the weight, or none, that it has without the blanks at its front.
 pub semicolon_of_named : (text : List ℕ) (r : Option ℕ) → IsTheOne r (IsNamedQvalue (skip_blanks text)) → IsTheOne r (FollowsSemicolon text)
 semicolon_of_named text r h = the_one (IsNamedQvalue (skip_blanks text)) (FollowsSemicolon text) (λ n. of_named text (skip_blanks text) n (trimmed text)) (named_of text) r h
 
@@ -149,6 +157,7 @@ bare_of text n t =
       | inr w ↦ bare_weight text t.weight t.after n t.whole t.after_ok w
     ]
 
+-- What follows a range, with blanks at its front, has the weight that it has without them.
 pub tail_from : (text rest : List ℕ) (n : ℕ) → IsTrimmed text rest → IsBareTail rest n → IsTail IsWeight text n
 tail_from text [] n t h = record { weight = []; after = text; whole = refl; after_ok = subst AreBlanks (sym (t.whole ∙ append-nil t.before)) t.before_ok; weight_ok = inl (refl, h) }
 tail_from text (b ∷ rest) n t h =
@@ -165,14 +174,16 @@ tail_from text (b ∷ rest) n t h =
       weight_ok = inr has;
     }
 
+-- What follows a range has the weight, or none, that it has without the blanks at its front.
 pub tail_of_bare : (text : List ℕ) (r : Option ℕ) → IsTheOne r (IsBareTail (skip_blanks text)) → IsTheOne r (IsTail IsWeight text)
 tail_of_bare text r h = the_one (IsBareTail (skip_blanks text)) (IsTail IsWeight text) (λ n. tail_from text (skip_blanks text) n (trimmed text)) (bare_of text) r h
 
--- ---- the bytes that stand first
+-- ---- the first bytes
 
 named_same : (letter : ℕ) (qvalue : List ℕ) (r : Option ℕ) → (letter ≡ 113) ⊎ (letter ≡ 81) → IsTheOne r (IsLastQvalue qvalue) → IsTheOne r (IsNamedQvalue (letter ∷ 61 ∷ qvalue))
 named_same letter qvalue r e h = the_one (IsLastQvalue qvalue) (IsNamedQvalue (letter ∷ 61 ∷ qvalue)) (λ n q. (e, refl, q)) (λ n q. q.2) r h
 
+-- A text that begins with "q=", in either case, has the weight of the qvalue after it, or none.
 pub named_from : (text : List ℕ) (r : Option ℕ) → 2 ≤ length text → (slice_index text 0 ≡ 113) ⊎ (slice_index text 0 ≡ 81) → slice_index text 1 ≡ 61 → IsTheOne r (IsLastQvalue (take (length text - 2) (drop 2 text))) → IsTheOne r (IsNamedQvalue text)
 named_from [] r n e s h = absurd (omega arith)
 named_from (a ∷ []) r n e s h = absurd (omega arith)
@@ -185,6 +196,7 @@ none_bare : (text bare : List ℕ) → bare ≡ skip_blanks text → length bare
 none_bare text [] e n = let P : List ℕ → Type 0 = λ some. IsTheOne (Some 1000) (IsBareTail some) in subst P e (refl, λ m h. h)
 none_bare text (b ∷ rest) e n = absurd (omega arith)
 
+-- Where nothing but blanks follows a range, its weight is 1000.
 pub no_weight : (text bare : List ℕ) → bare ≡ skip_blanks text → length bare < 1 → IsTheOne (Some 1000) (IsTail IsWeight text)
 no_weight text bare e n = tail_of_bare text (Some 1000) (none_bare text bare e n)
 
@@ -192,6 +204,7 @@ other_bare : (text bare : List ℕ) → bare ≡ skip_blanks text → 1 ≤ leng
 other_bare text [] e n d = absurd (omega arith)
 other_bare text (b ∷ rest) e n d = let P : List ℕ → Type 0 = λ some. IsTheOne None (IsBareTail some) in subst P e (λ m h. d h.0)
 
+-- What follows a range gives no weight where its first byte after the blanks is no semicolon.
 pub other_byte : (text bare : List ℕ) → bare ≡ skip_blanks text → 1 ≤ length bare → (slice_index bare 0 ≡ 59 → ⊥) → IsTheOne None (IsTail IsWeight text)
 other_byte text bare e n d = tail_of_bare text None (other_bare text bare e n d)
 
@@ -205,6 +218,8 @@ weight_bare text (b ∷ rest) r e n s h =
     let P : List ℕ → Type 0 = λ some. IsTheOne r (IsBareTail some) in
     subst P (ap (λ (x : ℕ). x ∷ rest) (sym s) ∙ e) (semicolon_bare rest r (subst (λ (q : List ℕ). IsTheOne r (FollowsSemicolon q)) all h))
 
+-- What follows a range and begins, after blanks, with a semicolon has the weight of what follows
+-- that, or none.
 pub semicolon : (text bare : List ℕ) (r : Option ℕ) → bare ≡ skip_blanks text → 1 ≤ length bare → slice_index bare 0 ≡ 59 → IsTheOne r (FollowsSemicolon (take (length bare - 1) (drop 1 bare))) → IsTheOne r (IsTail IsWeight text)
 semicolon text bare r e n s h = tail_of_bare text r (weight_bare text bare r e n s h)
 
@@ -252,6 +267,7 @@ one_bare : (text : List ℕ) (m n : ℕ) → IsBareTail text m → IsBareTail te
 one_bare [] m n p q = p ∙ sym q
 one_bare (b ∷ rest) m n p q = one_named (skip_blanks rest) m n (named_of rest m p.1) (named_of rest n q.1)
 
+-- What follows a range has at most one weight.
 pub one_tail : (scheme : Scheme) (text : List ℕ) (m n : ℕ) → IsTail (WeightGrammar scheme) text m → IsTail (WeightGrammar scheme) text n → m ≡ n
 one_tail Basic text m n p q = one_bare (skip_blanks text) m n (bare_of text m p) (bare_of text n q)
 one_tail Extended text m n p q = p.weight_ok.1 ∙ sym q.weight_ok.1

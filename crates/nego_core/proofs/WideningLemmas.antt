@@ -126,7 +126,7 @@ none_back : {X : Type 0} (P : X → Type 0) (xs ys : List X) → All P (xs ++ ys
 none_back P [] ys h = h
 none_back P (x ∷ xs) ys h = none_back P xs ys (All-tail P x (xs ++ ys) h)
 
--- the first of two joined lists stands in the first one, or in the second one
+-- the first of two joined lists is in the first one, or in the second one
 split_at : {X : Type 0} (P : X → Type 0) (xs ys before after : List X) (x : X)
     → xs ++ ys ≡ before ++ x ∷ after → All (λ y. ¬ P y) before → P x
     → MatchFirstOf P xs (Some x) ⊎ (MatchFirstOf P xs None × MatchFirstOf P ys (Some x))
@@ -268,7 +268,7 @@ next_unfit Q langs k x least low e m n = subst (λ xs. MatchLeast Q xs least) (s
 
 -- ---- the walk over the keys
 
--- behind the items there is nothing to find
+-- At a place after the last item there is nothing to find.
 pub no_item : (s : Scheme) (items : List Item) (langs : List (List ℕ)) (place : ℕ)
     → length items ≤ place → IsFirstWidenedAt s items langs place None
 no_item s items langs place past = rw (slice_get_past items place past) refl
@@ -319,7 +319,7 @@ key_found s items langs keys k d text low f =
     subst (λ (x : List (List (List ℕ))). MatchFirstOf (Open items langs) x (Some text)) (sym (first_key m items keys k d low))
     (first_front (Open items langs) (all_widened m (cons_option (slice_get items place) [])) (all_widened m (ordered_items items (drop (k + 1) keys))) text (at_place s items langs place (Some text) (slice_get items place) refl f))
 
--- where the next item finds nothing, what is found behind it is found from here on
+-- Where the next item finds nothing, what is found after it is found from here on.
 pub key_passed : (s : Scheme) (items : List Item) (langs : List (List ℕ)) (keys : List OrderKey) (k : ℕ) (d : OrderKey) (found : Option (List (List ℕ)))
     → k < length keys → IsFirstWidenedAt s items langs (get_or keys k d).place None
     → WidenedFrom s items langs keys (k + 1) found → WidenedFrom s items langs keys k found
@@ -329,7 +329,7 @@ key_passed s items langs keys k d found low n f =
     subst (λ (x : List (List (List ℕ))). MatchFirstOf (Open items langs) x found) (sym (first_key m items keys k d low))
     (first_append (Open items langs) (all_widened m (cons_option (slice_get items place) [])) (all_widened m (ordered_items items (drop (k + 1) keys))) found (at_place s items langs place None (slice_get items place) refl n) f)
 
--- behind the last item nothing is found
+-- After the last item nothing is found.
 pub keys_over : (s : Scheme) (items : List Item) (langs : List (List ℕ)) (keys : List OrderKey) (k : ℕ)
     → length keys ≤ k → WidenedFrom s items langs keys k None
 keys_over s items langs keys k h = subst (λ (x : List OrderKey). MatchFirstOf (Open items langs) (all_widened (matched_of s langs) (ordered_items items x)) None) (sym (drop_all k keys h)) (All-nil (λ y. ¬ Open items langs y))
