@@ -6,14 +6,17 @@ use Rattle.cell_core.specs.Missing.{or_other}
 use Rattle.cell_core.proofs.Basics.{some_not_none}
 use Rattle.cell_core.proofs.InterleaveLemmas.{or_none}
 
+-- A value that may be absent is between itself and none.
 pub stays_between : {J : Type 0} (between : J → J → J → Type 0) (x : Option J) → BetweenIfBoth between x x None
 stays_between between None = tt
 stays_between between (Some x) = refl
 
+-- A value that may be absent is its own join with none.
 pub joined_with_none : {J : Type 0} (joined : J → J → J) (x : Option J) → joined_if_both joined x None ≡ x
 joined_with_none joined None = refl
 joined_with_none joined (Some x) = refl
 
+-- What is between a value that may be absent and none is that value.
 pub left_as_it_was : {J : Type 0} (between : J → J → J → Type 0) (x y : Option J) → BetweenIfBoth between x y None → y ≡ x
 left_as_it_was between None None h = refl
 left_as_it_was between None (Some y) h = absurd (cc)

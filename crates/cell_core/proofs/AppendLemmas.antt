@@ -1,4 +1,4 @@
--- What stands behind all entries of the chunks, and what is put there.
+-- What comes after all entries of the chunks, and what is added there.
 use Rattle.std.proofs.Common.{◌≡◌, ℕ, suc, zero, ◌+◌, ◌-◌, ◌<◌, ◌≤◌, List, [], ◌∷◌, ◌++◌, length, get_or, set, take, drop, slice_get, Some, None, sym, ap, ◌∙◌, subst, refl, arith, append_assoc, append-nil, length-append}
 use Rattle.std.specs.declared.cmp.Ordering.{Ordering}
 use Rattle.std.specs.declared.cmp.Ordering.TheVariants.{Greater}
@@ -19,10 +19,11 @@ last_entry f c e some is =
     let place : length (f ++ c) - 1 ≡ length f + (length c - 1) = omega (arith, some, length-append f c) in
     is ∙ sym (get_or-append-add f c (length c - 1) e) ∙ ap (λ n. get_or (f ++ c) n e) (sym place)
 
--- the place of an entry, counted over all
+-- An element of one list has its place in that list and another after it.
 pub nth_here : {X : Type 0} (c rest : List X) (n : ℕ) (e : X) → n < length c → e ≡ get_or c n e → slice_get (c ++ rest) n ≡ Some e
 nth_here c rest n e lt is = slice_get_read (c ++ rest) (length (c ++ rest)) n e refl (omega (arith, lt, length-append c rest)) (is ∙ sym (get_or_append_left c rest e n lt))
 
+-- A place past the elements of one list is one in the list after it, lower by their number.
 pub nth_behind : {X : Type 0} (c rest : List X) (n : ℕ) → length c ≤ n → slice_get (c ++ rest) n ≡ slice_get rest (n - length c)
 nth_behind [] rest n le = let same : n ≡ n - 0 = omega arith in ap (slice_get rest) same
 nth_behind (x ∷ c) rest zero le = absurd (omega (arith, le))
@@ -52,11 +53,12 @@ module _ {X Z : Type 0} where
   filled_push [] x h some = (some, tt)
   filled_push (c ∷ cs) x h some = (h.0, filled_push cs x h.1 some)
 
--- the last chunk, and that it is filled
+-- The last element of a list that has one is at the place before its length.
 pub at_last : {X : Type 0} (xs : List X) (x : X) → Some x ≡ slice_get xs (length xs - 1) → (length xs - 1 + 1 ≡ length xs) × (x ≡ get_or xs (length xs - 1) x)
 at_last [] x e = absurd (some_not_none x e)
 at_last (y ∷ ys) x e = (omega arith, sym (get_or_from_slice_get (y ∷ ys) (length (y ∷ ys) - 1) x x (sym e)))
 
+-- The last of chunks that are filled has an entry.
 pub some_of_last : {X Z : Type 0} (cs : List (Vec X Z)) (c : Vec X Z) → AllFilled cs → Some c ≡ slice_get cs (length cs - 1) → 0 < length c.items
 some_of_last {X} {Z} cs c filled e =
     let last = at_last cs c e in
@@ -77,7 +79,7 @@ pub none_of_chunks : {X Z : Type 0} (cs : List (Vec X Z)) → None ≡ slice_get
 none_of_chunks [] e = refl
 none_of_chunks (c ∷ cs) e = absurd (some_not_none (get_or (c ∷ cs) (length (c ∷ cs) - 1) c) (sym (slice_get-get_or (c ∷ cs) (length (c ∷ cs) - 1) c (omega arith)) ∙ sym e))
 
--- a key above the last of all has its gap behind all
+-- A key above the last of all has its gap after all.
 pub gap_behind : {K J Z : Type 0} (cmp : K → K → Ordering) → IsTotalOrder cmp → (key : K) (cs : List (Vec (K × J) Z)) (i : ℕ) (c : Vec (K × J) Z) (e : K × J) → IsChunked cmp cs → i + 1 ≡ length cs → c ≡ get_or cs i c → e ≡ get_or c.items (length c.items - 1) e → cmp key e.0 ≡ Greater
     → IsGap cmp key (all_of cs) (length (all_of cs))
 gap_behind {K} {J} {Z} cmp total key cs i c e h last is read greater =

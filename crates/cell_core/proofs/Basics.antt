@@ -5,41 +5,50 @@ use Rattle.std.specs.declared.cmp.Ordering.{Ordering}
 use Rattle.std.specs.declared.cmp.Ordering.TheVariants.{Less, Equal, Greater}
 use Rattle.std.specs.Ordering.{ordering_then, is_lt, is_eq, is_gt}
 
+-- An ordering, and then equal, is that ordering.
 pub then_equal : (o : Ordering) → ordering_then o Equal ≡ o
 then_equal Less = refl
 then_equal Equal = refl
 then_equal Greater = refl
 
+-- Of three orderings in sequence, it does not matter which two are combined first.
 pub then_assoc : (a b c : Ordering) → ordering_then a (ordering_then b c) ≡ ordering_then (ordering_then a b) c
 then_assoc Less b c = refl
 then_assoc Equal b c = refl
 then_assoc Greater b c = refl
 
+-- Where `s && t` holds, the first holds.
 pub first_part : (s t : Bool) → T (s && t) → T s
 first_part true t h = tt
 first_part false t h = absurd h
 
+-- Where `s && t` holds, the second holds.
 pub second_part : (s t : Bool) → T (s && t) → T t
 second_part true t h = h
 second_part false t h = absurd h
 
+-- Where both hold, `s && t` holds.
 pub both_parts : (s t : Bool) → T s → T t → T (s && t)
 both_parts true t h k = k
 both_parts false t h k = absurd h
 
+-- An ordering that is tested to be less is `Less`.
 pub less_than : (r : Ordering) → T (is_lt r) → r ≡ Less
 less_than Less h = refl
 less_than Equal h = absurd h
 less_than Greater h = absurd h
 
+-- A value that is present is not absent.
 pub some_not_none : {X : Type 0} (x : X) → Some x ≡ None → ⊥
 some_not_none x e = cc
 
+-- An ordering that is tested to be equal is `Equal`.
 pub tied_order : (r : Ordering) → is_eq r ≡ true → r ≡ Equal
 tied_order Less e = absurd (true≢false (sym e))
 tied_order Equal e = refl
 tied_order Greater e = absurd (true≢false (sym e))
 
+-- An ordering that is tested to be greater is `Greater`.
 pub is_greater : (r : Ordering) → is_gt r ≡ true → r ≡ Greater
 is_greater Less e = absurd (true≢false (sym e))
 is_greater Equal e = absurd (true≢false (sym e))

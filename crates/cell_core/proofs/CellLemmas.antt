@@ -9,9 +9,11 @@ use Rattle.std.proofs.lemmas.Bool.Decides.{Decides-and, Decides-like}
 use Rattle.cell_core.specs.declared.stamp.Stamp.{Stamp}
 use Rattle.cell_core.proofs.LabelLemmas.{texts_decides}
 
+-- Whether two stamps have the same time, the same site and the same count.
 abbrev pub stamp_eq : Stamp → Stamp → Bool
 stamp_eq a b = nat_eq a.time b.time && (pointwise nat_eq a.site b.site && nat_eq a.count b.count)
 
+-- Two stamps are the same just where their times, sites and counts are.
 pub stamp_decides : (a b : Stamp) → Decides (stamp_eq a b) (a ≡ b)
 stamp_decides a b =
     Decides-like (stamp_eq a b)
@@ -20,12 +22,14 @@ stamp_decides a b =
     (Decides-and (nat_eq a.time b.time) (pointwise nat_eq a.site b.site && nat_eq a.count b.count) (unsigned_Decides a.time b.time)
     (Decides-and (pointwise nat_eq a.site b.site) (nat_eq a.count b.count) (bytes_decides a.site b.site) (unsigned_Decides a.count b.count)))
 
+-- Two labels that may be absent are the same just where their texts have the same bytes.
 pub label_decides : (x y : Option (List (List ℕ))) → Decides (option_eq (pointwise (pointwise nat_eq)) x y) (x ≡ y)
 label_decides None None = (λ _. refl, λ _. refl)
 label_decides None (Some y) = (λ t. cc, λ same. cc)
 label_decides (Some x) None = (λ t. cc, λ same. cc)
 label_decides (Some x) (Some y) = (λ t. ap Some ((texts_decides x y).0 t), λ same. (texts_decides x y).1 (cc))
 
+-- Where the negation of a test is false, the test is true.
 pub holds_from_not : (b : Bool) → not b ≡ false → b ≡ true
 holds_from_not true e = refl
 holds_from_not false e = cc

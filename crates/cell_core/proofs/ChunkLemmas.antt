@@ -76,7 +76,7 @@ module _ {K J : Type 0} (cmp : K → K → Ordering) where
   find-back q (x ∷ xs) ys h = ap (cond (eq_by_cmp cmp q x.0) (Some x.1)) (find-back q xs ys h)
 
   module _ (total : IsTotalOrder cmp) where
-    -- a key that is not below an entry is above all that stand in front of it
+    -- a key that is not below an entry is above all before it
     pub front_lesser : (q : K) (xs : List (K × J)) (e : K × J) (ys : List (K × J)) → IsMap cmp (xs ++ e ∷ ys) → is_lt (cmp q e.0) ≡ false → place_of cmp q xs ≡ length xs
     front_lesser q [] e ys map p = refl
     front_lesser q (x ∷ xs) e ys map p =
@@ -84,7 +84,7 @@ module _ {K J : Type 0} (cmp : K → K → Ordering) where
         let t : is_gt (cmp q x.0) ≡ true = ap is_gt (at_least cmp total q x.0 e.0 p less) in
         rw t (ap suc (front_lesser q xs e ys (second_part (below_all cmp x.0 (xs ++ e ∷ ys)) (is_sorted cmp (xs ++ e ∷ ys)) map) p))
 
-    -- a key below an entry is below all that stand behind it
+    -- a key below an entry is below all after it
     pub back_greater : (q : K) (e : K × J) (ys : List (K × J)) → IsMap cmp (e ∷ ys) → is_lt (cmp q e.0) ≡ true → T (below_all cmp q (e ∷ ys))
     back_greater q e ys map p =
         let t : T (is_lt (cmp q e.0)) = subst T (sym p) tt in

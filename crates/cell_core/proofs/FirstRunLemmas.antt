@@ -18,7 +18,7 @@ use Rattle.cell_core.proofs.ChunkLemmas.{all_of-drop, filled_at, back_read}
 use Rattle.cell_core.proofs.RunLemmas.{less_tied, key_above, key_below, place_behind}
 
 module _ {K J : Type 0} (cmp : K → K → Ordering) where
-  -- all in front of a key's place are lesser
+  -- all before a key's place are smaller
   place_of-take : (k : K) (es : List (K × J)) → place_of cmp k (take (place_of cmp k es) es) ≡ length (take (place_of cmp k es) es)
   place_of-take k [] = refl
   place_of-take k (e ∷ es) =
@@ -27,7 +27,7 @@ module _ {K J : Type 0} (cmp : K → K → Ordering) where
         | false ↦ λ t. refl
       ] refl
 
-  -- the first of some is lesser
+  -- the first of some is smaller
   pub place_of-some : (k : K) (e : K × J) (es : List (K × J)) → 0 < length es → e ≡ get_or es 0 e → cmp k e.0 ≡ Greater → 0 < place_of cmp k es
   place_of-some k e [] = λ some is p. absurd (omega (arith, some))
   place_of-some k e (f ∷ fs) = λ some is p.

@@ -19,14 +19,17 @@ insert_between : {X : Type 0} (xs ys : List X) (y : X) → insert (xs ++ ys) (le
 insert_between [] ys y = refl
 insert_between (x ∷ xs) ys y = ap (λ zs. x ∷ zs) (insert_between xs ys y)
 
+-- The front of two joined lists that is as long as the first is the first.
 pub take_front : {X : Type 0} (xs ys : List X) (n : ℕ) → length xs ≡ n → take n (xs ++ ys) ≡ xs
 take_front [] ys n e = rw (← e) refl
 take_front (x ∷ xs) ys n e = rw (← e) (ap (λ zs. x ∷ zs) (take_front xs ys (length xs) refl))
 
+-- A list of length 0 is empty.
 pub empty_of : {X : Type 0} (xs : List X) → length xs ≡ 0 → xs ≡ []
 empty_of [] e = refl
 empty_of (x ∷ xs) e = absurd (omega (arith, e))
 
+-- A value that may be absent is itself where the other is none.
 pub or_none : {J : Type 0} (a : Option J) → or_other a None ≡ a
 or_none None = refl
 or_none (Some x) = refl
@@ -40,7 +43,7 @@ pub record IsInterleaved {K J : Type 0} (cmp : K → K → Ordering) (start : Li
   pub at : (q : K) → or_other (find cmp q now) (find cmp q (pairs_of rest)) ≡ or_other (find cmp q start) (find cmp q (pairs_of all))
 
 module _ {K J : Type 0} {cmp : K → K → Ordering} (total : IsTotalOrder cmp) where
-  -- a new lesser key moves the place of a key up
+  -- a new smaller key moves the place of a key up
   place_of-put : (q k : K) (v : J) (es : List (K × J)) → cmp q k ≡ Greater → find cmp k es ≡ None → place_of cmp q (put cmp k v es) ≡ suc (place_of cmp q es)
   place_of-put q k v [] = λ p none. let t : is_gt (cmp q k) ≡ true = ap is_gt p in rw t refl
   place_of-put q k v (e ∷ es) = λ p.

@@ -76,6 +76,7 @@ one_join {J} {agree} {joined} laws xs ys j k perm of_j of_k =
     (of_k.least j (All-permutation (λ m. IsBelow agree joined m j) xs ys perm of_j.above))
     (of_j.least k (All-permutation (λ m. IsBelow agree joined m k) ys xs (IsPermutation-sym xs ys perm) of_k.above))
 
+-- Lists with the same items have the same join, or both have none.
 pub one_join_of_all : {J : Type 0} {agree : J → J → Type 0} {joined : J → J → J} {between : J → J → J → Type 0} → JoinLaws agree joined between
     → (xs ys : List J) (j k : Option J) → IsPermutation xs ys → IsJoinOfAll agree joined xs j → IsJoinOfAll agree joined ys k → k ≡ j
 one_join_of_all laws xs ys (Some j) (Some k) perm a b = ap Some (one_join laws xs ys j k perm a b)

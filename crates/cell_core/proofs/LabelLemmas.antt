@@ -28,9 +28,12 @@ length-mapped : {X Y : Type 0} (f : X → Y) (xs : List X) → length xs ≡ len
 length-mapped f [] = refl
 length-mapped f (x ∷ xs) = omega (arith, length-mapped f xs)
 
+-- The first element that is mapped to one that passes a test has the place of the first that passes
+-- in the mapped list.
 pub position-map : {X Y : Type 0} (p : Y → Bool) (f : X → Y) (xs : List X) → position (λ x. p (f x)) xs ≡ position p (map f xs)
 position-map p f xs = λ i. let at = position_or_len-map p f xs i in cond (nat_lt at (length-mapped f xs i)) (Some at) None
 
+-- Taking the bytes of each text leaves the number of texts.
 pub length-texts_of : {Z : Type 0} (xs : List (String Z)) → length (texts_of xs) ≡ length xs
 length-texts_of xs = sym (length-mapped string_bytes xs)
 

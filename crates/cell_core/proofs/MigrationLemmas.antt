@@ -10,6 +10,7 @@ use Rattle.cell_core.specs.Cells.{AgreeStamps, joined_stamps, AgreeCells, joined
 use Rattle.cell_core.specs.Migration.{OldStamp, IsOldStamp, OldCell, old_stamp_cmp, AgreeOldStamps, joined_old_stamps, AgreeOldCells, joined_old_cells, migrated_stamp, migrated_cell, KeepsJoins}
 use Rattle.cell_core.proofs.PaddedNameLemmas.{cmp-padded_name}
 
+-- Migrated stamps are in the order that they had before the migration.
 pub cmp-migrated : (s t : OldStamp) → IsOldStamp s → IsOldStamp t → stamp_cmp (migrated_stamp s) (migrated_stamp t) ≡ old_stamp_cmp s t
 cmp-migrated s t p q =
     ap (λ r. ordering_then (nat_cmp s.time t.time) (ordering_then r (nat_cmp s.count t.count))) (cmp-padded_name s.site t.site p.site_fits q.site_fits)
@@ -30,6 +31,7 @@ of_later : {X Y : Type 0} (f : X → Y) (t : Bool) (a b : X) → f (cond t b a) 
 of_later f true a b = refl
 of_later f false a b = refl
 
+-- Migration keeps the joins of stamps, and which of them agree.
 pub keeps_stamp_joins : (s t : OldStamp) → IsOldStamp s → IsOldStamp t → KeepsJoins migrated_stamp AgreeOldStamps joined_old_stamps AgreeStamps joined_stamps s t
 keeps_stamp_joins s t p q = record {
   agrees = λ _. tt;
@@ -37,6 +39,7 @@ keeps_stamp_joins s t p q = record {
   joins = λ _. of_later migrated_stamp (is_lt (old_stamp_cmp s t)) s t ∙ ap (λ r. cond (is_lt r) (migrated_stamp t) (migrated_stamp s)) (sym (cmp-migrated s t p q));
 }
 
+-- Migration keeps the joins of cells, and which of them agree.
 pub keeps_cell_joins : (a b : OldCell) → IsOldStamp a.stamp → IsOldStamp b.stamp → KeepsJoins migrated_cell AgreeOldCells joined_old_cells AgreeCells joined_cells a b
 keeps_cell_joins a b p q = record {
   agrees = λ agree same. agree (migrated_stamp-injective a.stamp b.stamp p q same);

@@ -21,6 +21,7 @@ abbrev pub last_digits : ℕ → ℕ → List ℕ
 last_digits zero n = []
 last_digits (suc k) n = last_digits k (n / 10) ++ (48 + n % 10) ∷ []
 
+-- The last k digits are k bytes.
 pub length-last_digits : (k n : ℕ) → length (last_digits k n) ≡ k
 length-last_digits zero n = refl
 length-last_digits (suc k) n = simp length-append (omega (arith, length-last_digits k (n / 10)))
@@ -92,6 +93,7 @@ front_decides m n =
     (λ e eq. ap (λ r. ordering_then r digits) e ∙ last_digit_decides m n eq)
     (λ e gt. ap (λ r. ordering_then r digits) e ∙ nat_cmp_is m n Greater (omega arith))
 
+-- Numbers of at most k digits are in the order of their last k digits.
 pub cmp-last_digits : (k m n : ℕ) → m < 10 ^ k → n < 10 ^ k → slice_cmp nat_cmp (last_digits k m) (last_digits k n) ≡ nat_cmp m n
 cmp-last_digits zero m n p q = nat_cmp_is m n Equal (omega arith)
 cmp-last_digits (suc k) m n p q =
@@ -99,6 +101,7 @@ cmp-last_digits (suc k) m n p q =
     ∙ ap (λ r. ordering_then r (nat_cmp (48 + m % 10) (48 + n % 10))) (cmp-last_digits k (m / 10) (n / 10) (omega arith) (omega arith))
     ∙ front_decides m n
 
+-- The padded name of a number is its last ten digits.
 pub padded_name-last_digits : (n : ℕ) → n < 2 ^ 32 → padded_name n ≡ last_digits 10 n
 padded_name-last_digits n h = padded_digits n (omega arith) 10 (omega arith) (omega arith)
 

@@ -1,4 +1,4 @@
--- What stands at the place of a key, and what an edit there does.
+-- What is at the place of a key, and what an edit there does.
 use Rattle.std.proofs.Common.{◌≡◌, ℕ, suc, ◌+◌, ◌<◌, ◌≤◌, true, false, cond, List, [], ◌∷◌, ◌++◌, length, get_or, set, take, Some, None, zero, sym, ap, ◌∙◌, subst, refl, arith, true≢false, inl, inr, ◌⊎◌}
 use Rattle.std.specs.Prelude.{T}
 use Rattle.std.specs.declared.cmp.Ordering.{Ordering}
@@ -14,6 +14,7 @@ use Rattle.cell_core.specs.Maps.{IsMap, AgreeIfBoth}
 use Rattle.cell_core.specs.Places.{place_of, IsPlace, IsGap}
 use Rattle.cell_core.proofs.Basics.{first_part, second_part, both_parts, less_than, some_not_none, tied_order}
 
+-- A key that is greater than another is not equal to it.
 pub later_not_eq : {K : Type 0} {cmp : K → K → Ordering} → IsTotalOrder cmp → (x y : K) → cmp x y ≡ Less → is_eq (cmp y x) ≡ false
 later_not_eq total x y p = ap is_eq (total.antisymm y x ∙ ap ordering_reverse p)
 
@@ -22,7 +23,7 @@ module _ {K J : Type 0} (cmp : K → K → Ordering) where
   place_of-le key [] = omega arith
   place_of-le key (e ∷ es) = elim (is_gt (cmp key e.0)) as (λ t. cond t (suc (place_of cmp key es)) 0 ≤ suc (length es)) [ true ↦ omega (arith, place_of-le key es) | false ↦ omega arith ]
 
-  -- what stands at the place of a key that is there
+  -- what is at the place of a key that is there
   pub find-place : (key : K) (es : List (K × J)) (d : K × J) → place_of cmp key es < length es
       → (let e = get_or es (place_of cmp key es) d in cmp key e.0 ≡ Equal) → (let e = get_or es (place_of cmp key es) d in find cmp key es ≡ Some e.1)
   find-place key [] d = λ lt e. absurd (omega (arith, lt))
@@ -88,7 +89,7 @@ module _ {K J : Type 0} (cmp : K → K → Ordering) where
         (subst (λ r. T (is_lt r)) (sym (total.trans x y e.0 p (less_than (cmp y e.0) (first_part (is_lt (cmp y e.0)) (below_all cmp y es) h)))) tt)
         (below-trans x y es p (second_part (is_lt (cmp y e.0)) (below_all cmp y es) h))
 
-    -- a key that does not stand at its place is not there
+    -- a key that is not at its place is not there
     pub find-gap : (key : K) (es : List (K × J)) → IsMap cmp es → ((d : K × J) → place_of cmp key es < length es → (let e = get_or es (place_of cmp key es) d in is_eq (cmp key e.0) ≡ false)) → find cmp key es ≡ None
     find-gap key [] sorted = λ apart. refl
     find-gap key (e ∷ es) sorted =
@@ -100,7 +101,7 @@ module _ {K J : Type 0} (cmp : K → K → Ordering) where
           | Greater ↦ λ p apart. find-gap key es (second_part (below_all cmp e.0 es) (is_sorted cmp es) sorted) (λ d lt. apart d (omega (arith, lt)))
         ] refl
 
-    -- the key at a place is not in front of it
+    -- the key at a place is not before it
     pub find-before : (es : List (K × J)) (i : ℕ) (d : K × J) → IsMap cmp es → i < length es → (let e = get_or es i d in find cmp e.0 (take i es) ≡ None)
     find-before [] i d sorted lt = absurd (omega (arith, lt))
     find-before (e ∷ es) zero d sorted lt = refl
@@ -147,23 +148,23 @@ module _ {K J : Type 0} {cmp : K → K → Ordering} where
     absent = find-gap cmp total key es sorted (subst (λ n. (d : K × J) → n < length es → (let e = get_or es n d in is_eq (cmp key e.0) ≡ false)) is apart);
   }
 
--- what a write at the place of a key leaves, where e stands there
+-- Writing a value to the entry at the place of a key puts it into the map.
 pub set_as_put : {K J : Type 0} {cmp : K → K → Ordering} (key : K) (v : J) (es items : List (K × J)) (at : ℕ) (e : K × J) → IsPlace cmp key es at → items ≡ es → e ≡ get_or items at e → set items at (e.0, v) ≡ put cmp key v es
 set_as_put {cmp = cmp} key v es items at e p same is =
     ap (λ xs. set xs at (e.0, v)) same
     ∙ ap (λ f. set es at (f.0, v)) (is ∙ ap (λ xs. get_or xs at e) same)
     ∙ sym (put_at_place key v es at e p)
 
--- what stands at the place of a key, where it is read as e
+-- A map has at a key the value of the entry that is read at its place.
 pub find_read : {K J : Type 0} {cmp : K → K → Ordering} (key : K) (es items : List (K × J)) (at : ℕ) (e : K × J) → IsPlace cmp key es at → items ≡ es → e ≡ get_or items at e → find cmp key es ≡ Some e.1
 find_read {K} {J} key es items at e p same is =
     find_at_place key es at e p ∙ ap (λ (f : K × J). Some f.1) (sym (is ∙ ap (λ xs. get_or xs at e) same))
 
--- what a new entry in the gap leaves
+-- Inserting an entry at the gap of its key puts it into the map.
 pub insert_as_put : {K J : Type 0} {cmp : K → K → Ordering} (key : K) (v : J) (es items : List (K × J)) (at : ℕ) → IsGap cmp key es at → items ≡ es → insert items at (key, v) ≡ put cmp key v es
 insert_as_put key v es items at gap same = ap (λ xs. insert xs at (key, v)) same ∙ sym (put_at_gap key v es at gap)
 
--- what a new entry behind all leaves
+-- Adding an entry after all, where the gap of its key is, puts it into the map.
 pub push_as_put : {K J : Type 0} {cmp : K → K → Ordering} (key : K) (v : J) (es items : List (K × J)) → IsGap cmp key es (length es) → items ≡ es → items ++ (key, v) ∷ [] ≡ put cmp key v es
 push_as_put key v es items gap same = ap (λ xs. xs ++ (key, v) ∷ []) same ∙ sym (insert_end es (key, v)) ∙ sym (put_at_gap key v es (length es) gap)
 
@@ -191,6 +192,6 @@ agree_one_more {cmp = cmp} total agree es other i k v map lt is here before q =
       | false ↦ λ t. before q
     ] refl)
 
--- what a reference that was lent gives back
+-- References of one name that give back the same are the same.
 pub lent_as : {N J L : Type 0} {name : N} {f h : J → L} → ((w : J) → f w ≡ h w) → ◌≡◌ {A = (N × (J → L)) ⊎ L} (inl (name, f)) (inl (name, h))
 lent_as {name = name} e = λ i. inl (name, λ w. e w i)

@@ -34,21 +34,25 @@ take_add n m xs =
     ∙ ap (λ ys. take n (take (n + m) xs) ++ ys) (sym (drop-take n m xs))
     ∙ take-append-drop n (take (n + m) xs)
 
--- a run of what is left, behind what is done
+-- The first n elements of a list, and then m of what is left, are the first n + m.
 pub take_run : {X : Type 0} (n m : ℕ) (xs : List X) → take n xs ++ take m (take (length xs - n) (drop n xs)) ≡ take (n + m) xs
 take_run n m xs = ap (λ ys. take n xs ++ take m ys) (take_rest xs n) ∙ take_add n m xs
 
+-- A list is its first n elements, and all that are left.
 pub split_rest : {X : Type 0} (n : ℕ) (xs : List X) → xs ≡ take n xs ++ (take (length xs - n) (drop n xs) ++ [])
 split_rest n xs = sym (ap (λ ys. take n xs ++ ys) (append-nil (take (length xs - n) (drop n xs)) ∙ take_rest xs n) ∙ take-append-drop n xs)
 
+-- A list is its first n elements, the next m of what is left, and the others.
 pub split_run : {X : Type 0} (n m : ℕ) (xs : List X) → (let rest = take (length xs - n) (drop n xs) in xs ≡ take n xs ++ (take m rest ++ drop m rest))
 split_run n m xs =
     let rest = take (length xs - n) (drop n xs) in
     sym (ap (λ ys. take n xs ++ ys) (take-append-drop m rest ∙ take_rest xs n) ∙ take-append-drop n xs)
 
+-- What is left of a list after its first n elements has n elements fewer than the list.
 pub length_rest : {X : Type 0} (n : ℕ) (xs : List X) → length (take (length xs - n) (drop n xs)) ≡ length xs - n
 length_rest n xs = ap length (take_rest xs n) ∙ length-drop n xs
 
+-- Two lists of chunks, joined, have the entries of the first, then those of the second.
 pub all_of-append : {X Z : Type 0} (cs ds : List (Vec X Z)) → all_of (cs ++ ds) ≡ all_of cs ++ all_of ds
 all_of-append [] ds = refl
 all_of-append (c ∷ cs) ds = ap (λ xs. c.items ++ xs) (all_of-append cs ds) ∙ sym (append_assoc c.items (all_of cs) (all_of ds))
@@ -128,7 +132,7 @@ module _ {K J : Type 0} (cmp : K → K → Ordering) where
           | false ↦ λ t f. key_above k es q v (second_part (is_lt (cmp k e.0)) (below_all cmp k es) h) f
         ] refl is
 
-    -- a key whose place is behind all is above each
+    -- a key whose place is after all is above each
     pub key_below : (q : K) (xs : List (K × J)) (p : K) (v : J) → place_of cmp q xs ≡ length xs → find cmp p xs ≡ Some v → cmp p q ≡ Less
     key_below q [] p v = λ all is. absurd (some_not_none v (sym is))
     key_below q (x ∷ xs) p v = λ all is.
@@ -147,7 +151,7 @@ module _ {K J : Type 0} (cmp : K → K → Ordering) where
         let t : is_gt (cmp q x.0) ≡ true = ap is_gt (above cmp total x.0 q (head_key (λ p. cmp p q ≡ Less) x xs h)) in
         rw t (ap suc (place_behind q xs (tail_keys (λ p. cmp p q ≡ Less) x xs h)))
 
-    -- the keys of a front are below those behind
+    -- the keys of a front are below those after it
     before : (xs ys : List (K × J)) → IsMap cmp (xs ++ ys) → (q : K) (v : J) → find cmp q xs ≡ Some v → T (below_all cmp q ys)
     before [] ys map q v is = absurd (some_not_none v (sym is))
     before (x ∷ xs) ys map q v is =

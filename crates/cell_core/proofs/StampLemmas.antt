@@ -65,7 +65,7 @@ up_to_time t u d le = elim (cases_lt t u) as (λ _. (t < u) ⊎ ((t ≡ u) × (0
 abbrev pub first_at : ℕ → List ℕ → Stamp
 first_at time site = record { time = time; site = site; count = 0 }
 
--- nothing is to be passed
+-- The next stamp of a site that has none yet is its first one at the time.
 pub next_of_none : (now : ℕ) (site : List ℕ) → now < 2 ^ 64 → IsNext None now site (first_at now site)
 next_of_none now site fits =
     next_is None now site (first_at now site)
@@ -134,11 +134,13 @@ module _ (last : Stamp) (now : ℕ) (site : List ℕ) where
       (record { of_site = refl; not_before = omega arith; time_fits = fits; count_fits = omega arith; above = before_in_time last s (omega arith) })
       (λ u new. up_to_time (last.time + 1) u.time u.count (omega (arith, passes_time full u new)))
 
+-- An ordering that is tested to be less is `Less`.
 pub less_from : (r : Ordering) → is_lt r ≡ true → r ≡ Less
 less_from Less h = refl
 less_from Equal h = absurd (cc)
 less_from Greater h = absurd (cc)
 
+-- An ordering that is tested to be equal is `Equal`.
 pub equal_from : (r : Ordering) → is_eq r ≡ true → r ≡ Equal
 equal_from Less h = absurd (cc)
 equal_from Equal h = refl

@@ -1,4 +1,4 @@
--- Where the places of keys stand, in a walk through a map.
+-- Where the places of keys are, in a walk through a map.
 use Rattle.std.proofs.Common.{◌≡◌, ℕ, suc, zero, ◌+◌, ◌<◌, ◌≤◌, true, false, cond, List, [], ◌∷◌, length, get_or, sym, ap, add-one, ◌∙◌, refl, arith}
 use Rattle.std.specs.declared.cmp.Ordering.{Ordering}
 use Rattle.std.specs.declared.cmp.Ordering.TheVariants.{Less, Equal, Greater}
@@ -26,7 +26,7 @@ same_if : (a p n : ℕ) → a ≤ p → p ≤ n → a ≤ n → (a < n → p ≤
 same_if a p n h k l f = grind arith
 
 module _ {K J : Type 0} (cmp : K → K → Ordering) where
-  -- a key that is not above what stands at a place has its place there, or before
+  -- a key that is not above the one at a place has its place there, or before
   pub place_upto : (key : K) (es : List (K × J)) (i : ℕ) (d : K × J) → (let e = get_or es i d in is_gt (cmp key e.0) ≡ false) → i < length es → place_of cmp key es ≤ i
   place_upto key [] i d = λ e lt. omega arith
   place_upto key (e ∷ es) zero d = λ p lt. rw p (omega arith)
@@ -37,7 +37,7 @@ module _ {K J : Type 0} (cmp : K → K → Ordering) where
       ]
 
   module _ (total : IsTotalOrder cmp) where
-    -- a key above what stands at a place has its place behind it
+    -- a key above the one at a place has its place after it
     pub place_after : (key : K) (es : List (K × J)) (i : ℕ) (d : K × J) → IsMap cmp es → (let e = get_or es i d in cmp key e.0 ≡ Greater) → i < length es → suc i ≤ place_of cmp key es
     place_after key [] i d = λ map p lt. absurd (omega (arith, lt))
     place_after key (e ∷ es) zero d = λ map p lt. let t : is_gt (cmp key e.0) ≡ true = ap is_gt p in rw t (omega arith)
@@ -82,7 +82,7 @@ module _ {K J : Type 0} (cmp : K → K → Ordering) where
         let after = place_after key es i d map p (omega arith) in
         gap_found key es (length es) map (omega arith) (omega arith) (λ d lt. absurd (omega (arith, lt)))
 
-    -- what stands at the place of the next key
+    -- the next key has a later place
     pub next_after_place : (k x : K) (es : List (K × J)) (at : ℕ) (d : K × J) → IsMap cmp es → IsPlace cmp k es at → cmp k x ≡ Less → at + 1 ≤ place_of cmp x es
     next_after_place k x es at d map p less =
         let f = get_or es at d in
@@ -90,7 +90,7 @@ module _ {K J : Type 0} (cmp : K → K → Ordering) where
         let here : cmp x f.0 ≡ Greater = above cmp total f.0 x (sym (total.congr k f.0 x tie) ∙ less) in
         omega (arith, place_after x es at d map here p.in_range)
 
-    -- a key that ties with what stands at a place has its place there
+    -- a key that ties with the one at a place has no earlier place
     pub place_tied : (key : K) (es : List (K × J)) (i : ℕ) (d : K × J) → IsMap cmp es → (let e = get_or es i d in cmp key e.0 ≡ Equal) → i < length es → i ≤ place_of cmp key es
     place_tied key [] i d = λ map p lt. absurd (omega (arith, lt))
     place_tied key (e ∷ es) zero d = λ map p lt. omega arith

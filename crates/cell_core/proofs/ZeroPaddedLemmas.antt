@@ -56,7 +56,7 @@ first_zero (suc b ∷ text) k p =
     let later = first_zero text k (All-tail (λ b. 0 < b) (suc b) text p) in
     rw (not_zero b) (omega (arith, later))
 
--- a text without zero bytes stands before those that it is padded with
+-- A text without zero bytes is what comes before those that it is padded with.
 pub before_zeros-zero_padded : (n : ℕ) (text : List ℕ) → All (λ b. 0 < b) text
     → before_zeros (zero_padded n text) ≡ text
 before_zeros-zero_padded n text p =

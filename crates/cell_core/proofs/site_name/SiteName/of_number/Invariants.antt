@@ -2,7 +2,7 @@ use Rattle.std.proofs.Common.{◌≡◌, ◌++◌, drop, length}
 use Rattle.cell_core.proofs.PaddedNameLemmas.{last_digits}
 use Rattle.cell_core.proofs.site_name.SiteName.of_number.Given as goal
 
--- the digits behind are written, and those of the rest are to come
+-- the later digits are written, and those of the rest are to come
 abbrev pub invariant-loop-at : goal.invariant-loop-at
 invariant-loop-at l = record {
   len : length l.digits ≡ 10;
