@@ -16,6 +16,7 @@ use Rattle.cata_core.proofs.Basics.{tied}
 use Rattle.cata_core.proofs.NestedCatalogues.{put_same}
 use Rattle.cata_core.proofs.KeyPlaces.{stands_at_place, before_place}
 
+-- A cell, or none, agrees with the absence of a cell.
 pub with_none : (o : Option Cell) → AgreeIfBoth AgreeCells o None
 with_none None = tt
 with_none (Some c) = tt
@@ -31,12 +32,15 @@ agree_only es e m h = inr (record {
   ] refl;
 })
 
+-- A catalogue agrees with an edit where its cell of the edit's key agrees with the edit's.
 pub agree_some : (es : Entries) (e : Entry) (mine : Cell) → IsMap key_cmp es → Some mine ≡ find key_cmp e.0 es → AgreeCells mine e.1 → Agree es (e ∷ [])
 agree_some es e mine m there h = agree_only es e m (subst (λ o. AgreeIfBoth AgreeCells o (Some e.1)) there h)
 
+-- A catalogue without a cell of the edit's key agrees with the edit.
 pub agree_none : (es : Entries) (e : Entry) → IsMap key_cmp es → find key_cmp e.0 es ≡ None → Agree es (e ∷ [])
 agree_none es e m none = agree_only es e m (subst (λ o. AgreeIfBoth AgreeCells o (Some e.1)) (sym none) tt)
 
+-- A join with one edit has at its key the edit's cell, joined to the one there if there is one.
 pub joined_only : (es : Entries) (e : Entry) → IsMap key_cmp es → joined es (e ∷ []) ≡ put key_cmp e.0 (joined_at joined_cells (find key_cmp e.0 es) e.1) es
 joined_only es e m = joined_of_maps key_cmp key_cmp_total joined_cells es (e ∷ []) m tt
 
@@ -48,10 +52,11 @@ joined_stays es e mine m there not_lt =
     ∙ ap (λ o. put key_cmp e.0 (joined_at joined_cells o e.1) es) there
     ∙ sym (joined_only es e m)
 
--- the edit's cell comes where there is none, or an older one
+-- The join with an edit of a key without a cell puts the edit's cell there.
 pub joined_new : (es : Entries) (e : Entry) → IsMap key_cmp es → find key_cmp e.0 es ≡ None → put key_cmp e.0 e.1 es ≡ joined es (e ∷ [])
 joined_new es e m none = ap (λ o. put key_cmp e.0 (joined_at joined_cells o e.1) es) (sym none) ∙ sym (joined_only es e m)
 
+-- An edit with a later stamp than the cell of its key replaces that cell in the join.
 pub joined_later : (es : Entries) (e : Entry) (mine : Cell) → IsMap key_cmp es → Some mine ≡ find key_cmp e.0 es → is_lt (stamp_cmp mine.stamp e.1.stamp) ≡ true → put key_cmp e.0 e.1 es ≡ joined es (e ∷ [])
 joined_later es e mine m there lt =
     ap (λ c. put key_cmp e.0 c es) (sym (ap (λ t. cond t e.1 mine) lt))

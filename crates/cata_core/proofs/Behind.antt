@@ -11,7 +11,7 @@ use Rattle.cata_core.proofs.Basics.{first_part, second_part, less_than}
 use Rattle.cata_core.proofs.Flat.{all_first, all_rest}
 
 module _ {J : Type 0} where
-  -- put there it goes behind
+  -- put there it is the last
   pub put_behind : (es : List (EntryKey × J)) (k : EntryKey) (v : J) → IsAboveAll k es → put key_cmp k v es ≡ es ++ (k, v) ∷ []
   put_behind [] k v above = refl
   put_behind (e ∷ es) k v above =
@@ -22,7 +22,7 @@ module _ {J : Type 0} where
   pub IsMap-behind : (es : List (EntryKey × J)) (k : EntryKey) (v : J) → IsMap key_cmp es → IsAboveAll k es → IsMap key_cmp (es ++ (k, v) ∷ [])
   IsMap-behind es k v m above = subst (IsMap key_cmp) (put_behind es k v above) (is_sorted-put key_cmp key_cmp_total k v es m)
 
-  -- a key of a map is above those in front of it
+  -- a key of a map is above those before it
   pub front_below : (xs ys : List (EntryKey × J)) (k : EntryKey) (v : J) → IsMap key_cmp (xs ++ (k, v) ∷ ys) → IsAboveAll k xs
   front_below [] ys k v m = All-nil (λ (e : EntryKey × J). key_cmp e.0 k ≡ Less)
   front_below (x ∷ xs) ys k v m = All-cons (λ (e : EntryKey × J). key_cmp e.0 k ≡ Less) x xs (below_it xs (first_part (below_all key_cmp x.0 (xs ++ (k, v) ∷ ys)) (is_sorted key_cmp (xs ++ (k, v) ∷ ys)) m)) (front_below xs ys k v (second_part (below_all key_cmp x.0 (xs ++ (k, v) ∷ ys)) (is_sorted key_cmp (xs ++ (k, v) ∷ ys)) m))
@@ -31,6 +31,6 @@ module _ {J : Type 0} where
       below_it [] h = less_than (key_cmp x.0 k) (first_part (is_lt (key_cmp x.0 k)) (below_all key_cmp x.0 ys) h)
       below_it (e ∷ xs) h = below_it xs (second_part (is_lt (key_cmp x.0 e.0)) (below_all key_cmp x.0 (xs ++ (k, v) ∷ ys)) h)
 
-  -- how many there are then
+  -- and there is one entry more
   pub length_behind : (es new : List (EntryKey × J)) (k : EntryKey) (v : J) → IsAboveAll k es → new ≡ put key_cmp k v es → length new ≡ length es + 1
   length_behind es new k v above is = ap length (is ∙ put_behind es k v above) ∙ length-append es ((k, v) ∷ [])

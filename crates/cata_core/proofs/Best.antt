@@ -12,9 +12,11 @@ use Rattle.cata_core.proofs.Basics.{both_so, first_so, second_so, false_if, not_
 use Rattle.cata_core.proofs.StampOrder.{not_less_trans, not_less_self, not_less_back}
 use Rattle.cata_core.proofs.Members.{In, in_from_Contains, Contains-from_in, all_in, in_all, in_append_left, in_append_right, in_append_cases}
 
+-- Keys that compare as equal are one key.
 pub same_key : (a b : EntryKey) → eq_by_cmp key_cmp a b ≡ true → a ≡ b
 same_key a b e = key_cmp_exact a b (tied (key_cmp a b) e)
 
+-- A key compares as equal to itself.
 pub own_key : (a : EntryKey) → eq_by_cmp key_cmp a a ≡ true
 own_key a = ap is_eq (tied_itself key_cmp_total a)
 
@@ -36,6 +38,7 @@ is_best_of xs k c best =
     best.greatest f.1 (Contains-from_in xs (k, f.1) (subst (λ q. In xs (q, f.1)) (sym key) member))
     (less_of (stamp_cmp c.stamp f.1.stamp) (second_so (eq_by_cmp key_cmp k f.0) (is_lt (stamp_cmp c.stamp f.1.stamp)) beaten)))))
 
+-- A best edit of a key is one of the edits.
 pub best_in : (xs : List Entry) (k : EntryKey) (c : Cell) → IsBest xs k c → In xs (k, c)
 best_in xs k c best = in_from_Contains xs (k, c) best.member
 

@@ -4,6 +4,7 @@ use Rattle.cata_core.specs.declared.cata_fault.CataFault.TheVariants.{StampReuse
 use Rattle.cata_core.specs.CataFaults.{IsRefusal, IsOfCells}
 use Rattle.cata_core.specs.Entries.{Entries}
 
+-- Cells are refused only for a reused stamp, or for lack of memory.
 pub of_cells : (own other : Entries) (fault : CataFault) → IsRefusal own other fault → IsOfCells fault
 of_cells own other (StampReused place stamp) h = tt
 of_cells own other ClockSpent h = h

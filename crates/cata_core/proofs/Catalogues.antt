@@ -15,6 +15,7 @@ entries_of-IsMap : (es : List Entry) → IsMap key_cmp (entries_of es)
 entries_of-IsMap [] = tt
 entries_of-IsMap (e ∷ es) = is_sorted-put key_cmp key_cmp_total e.0 e.1 (entries_of es) (entries_of-IsMap es)
 
+-- The keys of the catalogue of a list of edits strictly ascend.
 pub catalogue_of-IsMap : (xs : List Entry) → IsMap key_cmp (catalogue_of xs)
 catalogue_of-IsMap xs = entries_of-IsMap (filter (is_best xs) xs)
 
@@ -58,7 +59,7 @@ best_found xs settled k c best =
     let d = has_cell xs k c (best_in xs k c best) in
     d.1 ∙ ap Some (settled k d.0 c (found_best xs k d.0 d.1) best)
 
--- where the catalogue has nothing, no edit of the key stands in the list
+-- Where the catalogue has no cell of a key, the list has no edit of it.
 pub none_in : (xs : List Entry) (k : EntryKey) → find key_cmp k (catalogue_of xs) ≡ None → (c : Cell) → In xs (k, c) → ⊥
 none_in xs k none c h = let d = has_cell xs k c h in let same : Some d.0 ≡ None = sym d.1 ∙ none in cc
 
@@ -75,6 +76,7 @@ turned xs ys same e = ((same e).1, (same e).0)
 pub same_settled : (xs ys : List Entry) → IsSettled xs → SameMembers xs ys → IsSettled ys
 same_settled xs ys settled same k c d p q = settled k c d (best_same ys xs (turned xs ys same) k c p) (best_same ys xs (turned xs ys same) k d q)
 
+-- Settled lists with the same members have the same catalogue.
 pub same_catalogue : (xs ys : List Entry) → IsSettled xs → SameMembers xs ys → catalogue_of xs ≡ catalogue_of ys
 same_catalogue xs ys settled same =
     same_maps key_cmp key_cmp_total key_cmp_exact (catalogue_of xs) (catalogue_of ys) (catalogue_of-IsMap xs) (catalogue_of-IsMap ys)

@@ -25,7 +25,7 @@ use Rattle.cata_core.proofs.KeyPlaces.{stands_at_place}
 use Rattle.cata_core.proofs.Lengths.{length-under}
 use Rattle.cata_core.proofs.NestedPlaces.{with_outer}
 
--- ---- what stands behind a place
+-- ---- what follows a place
 
 module _ {X : Type 0} where
   slice_get-drop : (xs : List X) (n j : ℕ) → slice_get xs (n + j) ≡ slice_get (drop n xs) j
@@ -64,7 +64,7 @@ module _ {X : Type 0} where
 abbrev AgreesIn : {K : Type 0} → (K → K → Ordering) → List (K × Cell) → List (K × Cell) → ℕ → Type 0
 AgreesIn {K} cmp xs other j = (k : K) (c d : Cell) → slice_get xs j ≡ Some (k, c) → find cmp k other ≡ Some d → AgreeCells c d
 
--- so many entries in front agree, and these are left
+-- the first `front` entries agree, and these are left
 pub record IsAgreed {K : Type 0} (cmp : K → K → Ordering) (own other left : List (K × Cell)) (front : ℕ) : Type 0 where
   pub rest : drop front own ≡ left
   pub within : front ≤ length own
@@ -163,7 +163,7 @@ module _ (own other : Nested) (id : List ℕ) (cells : Inner) (left : Nested) (n
   pub agreed_with : (others : Inner) → find text_cmp id other ≡ Some others → ((j : ℕ) → j < length cells → AgreesAt text_cmp cells others j) → IsAgreed key_cmp (flat own) (flat other) (flat left) (n + length cells)
   agreed_with others there agree = agreed_message (λ j lt l x y at found. agree j lt l x y at (ap (found_in text_cmp l) (sym there) ∙ found))
 
-  -- the first clash in a message is the first of all, where there is none in front
+  -- the first clash in a message is the first of all, where there is none before it
   pub clash_with : (others : Inner) → find text_cmp id other ≡ Some others → (at : ℕ) (stamp : Stamp) → IsFirstClash text_cmp cells others at stamp → IsFirstClash key_cmp (flat own) (flat other) (n + at) stamp
   clash_with others there at stamp clash =
       let within : at < length cells = slice_get_within cells at (clash.key, clash.mine) clash.held in
@@ -175,5 +175,6 @@ module _ (own other : Nested) (id : List ℕ) (cells : Inner) (left : Nested) (n
   pub front_fits : IsCountable own → n + length cells < 340282366920938463463374607431768211456
   front_fits fits = omega (arith, fits, length-under id cells, drop_within (flat own) n (under id cells) (flat left) h.rest h.within)
 
+-- Two catalogues agree where a walk without a clash has no entry left.
 pub agreed_catalogues : (own other : Nested) (n : ℕ) → IsCatalogue own → IsCatalogue other → IsAgreed key_cmp (flat own) (flat other) [] n → Agree (flat own) (flat other)
 agreed_catalogues own other n m k h = agree_from_places key_cmp (flat own) (flat other) key_cmp_total key_cmp_exact (IsMap-catalogue own m) (IsMap-catalogue other k) (agreed_all key_cmp (flat own) (flat other) n h)

@@ -22,7 +22,7 @@ apart_below x (e ∷ es) zero k c h is =
     ap is_eq (ap (λ q. key_cmp q x) (sym key) ∙ key_cmp_total.antisymm e.0 x ∙ ap ordering_reverse less)
 apart_below x (e ∷ es) (suc place) k c h is = apart_below x es place k c (second_part (is_lt (key_cmp x e.0)) (below_all key_cmp x es) h) is
 
--- what stands in a map is found
+-- The cell at a place of a map is found by its key.
 pub found_at : (own : Entries) (place : ℕ) (k : EntryKey) (c : Cell) → IsMap key_cmp own → slice_get own place ≡ Some (k, c) → find key_cmp k own ≡ Some c
 found_at [] place k c map here = absurd (cc)
 found_at (e ∷ es) zero k c map here =
@@ -38,7 +38,7 @@ clash_not_agree own other place stamp map clash agree =
     clash.differ (subst (λ o. AgreeIfBoth AgreeCells o (Some clash.theirs)) (found_at own place clash.key clash.mine map clash.held)
     (subst (AgreeIfBoth AgreeCells (find key_cmp clash.key own)) clash.other_has (at_of key_cmp key_cmp_total key_cmp_exact cell_laws own other agree clash.key)))
 
--- no place in front of a first clash clashes
+-- no place before a first clash clashes
 not_before : (own other : Entries) (p q : ℕ) (s t : Stamp) → IsFirstClash key_cmp own other p s → IsFirstClash key_cmp own other q t → p < q → ⊥
 not_before own other p q s t a b lt = a.differ (b.before p lt a.key a.mine a.theirs a.held a.other_has)
 

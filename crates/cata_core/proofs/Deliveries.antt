@@ -25,6 +25,7 @@ delta_stays : (w : Held) (steps : List Step) (i : ℕ) (p : PostedCells) → sli
 delta_stays w [] i p e = e
 delta_stays w (step ∷ steps) i p e = delta_stays (held_step w step) steps i p (get_kept w.posts (cells_posted w step) i p e)
 
+-- A delivery brings the delta of the sender's cells at its post against the addressee's summary.
 pub delivered_delta : (a b c : List Step) (s t : ℕ) → let v = held_after nothing_held a in let w = held_after nothing_held (a ++ Tell t ∷ b) in
     cells_in (held_after nothing_held (a ++ Tell t ∷ b ++ Post s (length v.told) ∷ c)) (Deliver (length w.posts)) ≡ Some (t, delta_of (held (a ++ Tell t ∷ b) s) (summary_of (held a t)))
 delivered_delta a b c s t =
@@ -45,6 +46,7 @@ delivered_delta a b c s t =
     ∙ ap cells_delivered kept
     ∙ ap (λ (y : Held). Some (t, delta_of (y.of_site s) (summary_of (held a t)))) (sym same)
 
+-- A delivery brings all edits that the sender had taken before its post.
 pub delivered_taken : (a b c : List Step) (s t : ℕ) → let v = taken_after nothing_taken a in let w = taken_after nothing_taken (a ++ Tell t ∷ b) in
     edits_in (taken_after nothing_taken (a ++ Tell t ∷ b ++ Post s (length v.tellers) ∷ c)) (Deliver (length w.posts)) ≡ Some (t, taken (a ++ Tell t ∷ b) s)
 delivered_taken a b c s t =
@@ -80,6 +82,7 @@ joins_there of c s other = elim (s == c.0) as (λ b. (s == c.0) ≡ b → (if b 
   | false ↦ λ b. refl
 ] refl
 
+-- A delivery leaves the cells of every site but the addressee as they were.
 pub delivery_leaves_others : (a b c : List Step) (s t other : ℕ) → let v = held_after nothing_held a in let before = a ++ Tell t ∷ b in let w = held_after nothing_held before in
     let steps = before ++ Post s (length v.told) ∷ c in
     other ≢ t → held (steps ++ Deliver (length w.posts) ∷ []) other ≡ held steps other
@@ -93,6 +96,7 @@ delivery_leaves_others a b c s t other differs =
     ∙ ap (λ o. joins x.of_site o other) (delivered_delta a b c s t)
     ∙ joins_there x.of_site (t, delta_of (held before s) (summary_of (held a t))) other differs
 
+-- A delivery gives the addressee the join of its cells with the sender's at the post.
 pub delivery_merges : (a b c : List Step) (s t : ℕ) → let v = held_after nothing_held a in let before = a ++ Tell t ∷ b in let w = held_after nothing_held before in
     let steps = before ++ Post s (length v.told) ∷ c in
     held (steps ++ Deliver (length w.posts) ∷ []) t ≡ joined (held steps t) (held before s)

@@ -27,6 +27,7 @@ sent_or_not own known (Some c) has = elim (is_missing known c.stamp) as (λ b. i
   | false ↦ λ b. unsent own known c has b
 ] refl
 
+-- Who has all of a summary gets from the delta against it what the whole catalogue would give.
 pub nothing_lost_of_maps : (own sender : Entries) (summary : Stamps) → IsMap key_cmp own → IsMap key_cmp sender → HasAll own summary → joined own (delta_of sender summary) ≡ joined own sender
 nothing_lost_of_maps own sender summary m n has =
     let missing = λ (e : Entry). is_missing (find key_cmp e.0 summary) e.1.stamp in

@@ -14,6 +14,7 @@ use Rattle.cata_core.proofs.Settling.{settled_part}
 use Rattle.cata_core.proofs.TakenAndHeld.{held_is_catalogue}
 use Rattle.cata_core.proofs.UniqueAnswers.{one_answered}
 
+-- Sites that took the same edits, all consistent, have the same cells, even in different runs.
 pub equal_sites : (p q : List Step) (s t : ℕ) → IsConsistent (edits_of p) → IsConsistent (edits_of q) → SameMembers (taken p s) (taken q t) → held p s ≡ held q t
 equal_sites p q s t h k same =
     held_is_catalogue p h s

@@ -26,22 +26,27 @@ joined_with_none joined (Some x) = refl
 
 -- ---- all, one by one
 
+-- A property of all elements is one of the first.
 pub all_first : {X : Type 0} (P : X → Type 0) (x : X) (xs : List X) → All P (x ∷ xs) → P x
 all_first P x xs h = h 0 x (omega arith)
 
+-- A property of all elements is one of all after the first.
 pub all_rest : {X : Type 0} (P : X → Type 0) (x : X) (xs : List X) → All P (x ∷ xs) → All P xs
 all_rest P x xs h = λ k d lt. h (suc k) d (omega (arith, lt))
 
 -- ---- the order of pairs
 
+-- Pairs are totally ordered where both their parts are.
 pub pair_total : {K L : Type 0} {P : K → K → Ordering} {Q : L → L → Ordering} → IsTotalOrder P → IsTotalOrder Q → IsTotalOrder (pair_cmp P Q)
 pair_total {K} {L} tp tq = then_total (on_total (λ (x : K × L). x.0) tp) (on_total (λ (x : K × L). x.1) tq)
 
+-- Pairs that compare as equal are equal, where that holds of both their parts.
 pub pairs_exact : {K L : Type 0} (P : K → K → Ordering) (Q : L → L → Ordering) → ((x y : K) → P x y ≡ Equal → x ≡ y) → ((x y : L) → Q x y ≡ Equal → x ≡ y) → (x y : K × L) → pair_cmp P Q x y ≡ Equal → x ≡ y
 pairs_exact P Q ep eq = exact_pairs P Q ep eq
 
 -- ---- what is found
 
+-- A search of two lists in sequence finds what the first has, or else what the second has.
 pub find-append_lists : {K J : Type 0} (R : K → K → Ordering) (q : K) (xs ys : List (K × J)) → find R q (xs ++ ys) ≡ option_or (find R q xs) (find R q ys)
 find-append_lists R q [] ys = refl
 find-append_lists R q (e ∷ xs) ys =

@@ -14,6 +14,7 @@ use Rattle.cata_core.proofs.Filtered.{filter-IsMap}
 use Rattle.cata_core.proofs.Spreading.{get_in}
 use Rattle.cata_core.proofs.Summaries.{has_own, has_joined}
 
+-- Two lists of steps in sequence lead to where the second leads from the end of the first.
 pub held_append : (w : Held) (xs ys : List Step) → held_after w (xs ++ ys) ≡ held_after (held_after w xs) ys
 held_append w [] ys = refl
 held_append w (x ∷ xs) ys = held_append (held_step w x) xs ys
@@ -77,6 +78,7 @@ maps_after w m (step ∷ steps) = maps_after (held_step w step) (maps_step w m s
 all_maps : (steps : List Step) → AreMaps (held_after nothing_held steps)
 all_maps steps = maps_after nothing_held (record { sites = λ s. tt; posts = λ p h. absurd h }) steps
 
+-- The keys of a site's cells strictly ascend, whatever the steps.
 pub held-IsMap : (steps : List Step) (site : ℕ) → IsMap key_cmp (held steps site)
 held-IsMap steps site = let m = all_maps steps in m.sites site
 
@@ -89,6 +91,6 @@ pub later_has : (p q : List Step) (site : ℕ) (summary : Stamps) → HasAll (he
 later_has p q site summary has =
     subst (λ (w : Held). HasAll (w.of_site site) summary) (sym (held_append nothing_held p q)) (has_after (held_after nothing_held p) (all_maps p) q site summary has)
 
--- and so it has later what it tells now
+-- What a site has after further steps has all of its earlier summary.
 pub told_serves : (p q : List Step) (site : ℕ) → HasAll (held (p ++ q) site) (summary_of (held p site))
 told_serves p q site = later_has p q site (summary_of (held p site)) (has_own (held p site))

@@ -8,16 +8,19 @@ use Rattle.cell_core.specs.Later.{IsEitherOf}
 use Rattle.cell_core.specs.Maps.{IsMap, AgreeIfBoth, joined_if_both, BetweenIfBoth, find-joined_maps}
 use Rattle.cata_core.specs.Entries.{key_cmp, key_cmp_total, Entries, Agree, joined, Between, catalogue_laws}
 
--- what agrees with another agrees with their join, which stays the same when joined again
+-- The second of two catalogues that agree agrees with their join.
 pub agrees_with_join : (a b : Entries) → Agree a b → Agree b (joined a b)
 agrees_with_join a b h = let below : IsBelow Agree joined b (joined a b) = catalogue_laws.above_second a b h in below.0
 
+-- The join of two catalogues that agree stays the same when the second is joined to it again.
 pub joined_to_join : (a b : Entries) → Agree a b → joined b (joined a b) ≡ joined a b
 joined_to_join a b h = let below : IsBelow Agree joined b (joined a b) = catalogue_laws.above_second a b h in below.1
 
+-- If one catalogue agrees with another, that one agrees with it.
 pub agrees_back : (a b : Entries) → Agree a b → Agree b a
 agrees_back a b h = catalogue_laws.agree_symm a b h
 
+-- The join of two catalogues that agree is the same in either order.
 pub joined_back : (a b : Entries) → Agree a b → joined a b ≡ joined b a
 joined_back a b h = catalogue_laws.comm a b h
 

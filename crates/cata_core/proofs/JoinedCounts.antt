@@ -45,6 +45,7 @@ absent_copied (Some x) b is = ap not (sym is)
 pub absent_next : (own : Entries) (e : Entry) (left : Entries) (o : Option (Bor Cell)) (b : Bool) → option_copied o ≡ find key_cmp e.0 own → b ≡ is_some o → count_absent own (e ∷ left) ≡ cond (not b) (count_absent own left + 1) (count_absent own left)
 absent_next own e left o b found is = absent_more own e left ∙ ap (λ t. cond t (count_absent own left + 1) (count_absent own left)) (ap is_none (sym found) ∙ absent_copied o b is)
 
+-- A number that is the given value, if there is one, is also any value equal to it.
 pub if_some_of : (P : Type 0) (o : Option ℕ) (v n : ℕ) → SomeIff o P v → v ≡ n → IfSome o (λ x. x ≡ n)
 if_some_of P None v n h is = tt
 if_some_of P (Some x) v n h is = h.1 ∙ is

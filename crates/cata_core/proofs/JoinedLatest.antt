@@ -106,8 +106,9 @@ latest_joined a b agree = elim agree as (λ _. latest_of (joined a b) ≡ both (
   | inr r ↦ ap latest_of (joined_of_maps key_cmp key_cmp_total joined_cells a b r.first r.second) ∙ latest_entries a b r.second
 ]
 
--- ---- what a result that is Ok tells
+-- ---- what holds of a result that is Ok
 
+-- What is claimed of success holds where the result tests as a success.
 pub at_ok : {A E P : Type 0} (r : Result A E) → OnOk r P → is_ok r ≡ true → P
 at_ok (Ok x) p h = p
 at_ok (Err e) p h = absurd (true≢false (sym h))

@@ -1,4 +1,4 @@
--- Where keys stand in a list of entries in rising order.
+-- The places of keys in a list of entries in ascending order.
 use Rattle.std.proofs.Common.{◌≡◌, ℕ, zero, suc, ◌<◌, ◌≤◌, cond, true, false, List, [], ◌∷◌, length, get_or, Some, None, sym, ap, ◌∙◌, subst, refl, arith}
 use Rattle.std.specs.Prelude.{T, slice_get}
 use Rattle.std.specs.declared.cmp.Ordering.{Ordering}
@@ -38,7 +38,7 @@ module _ {K J : Type 0} (cmp : K → K → Ordering) where
   below-at q (e ∷ es) (suc i) d h lt = below-at q es i d (second_part (is_lt (cmp q e.0)) (below_all cmp q es) h) (omega (arith, lt))
 
   module _ (total : IsTotalOrder cmp) where
-    -- what stands at a place is found
+    -- what is at a place is found
     pub find-at : (es : List (K × J)) (i : ℕ) (d : K × J) → IsMap cmp es → i < length es → (let e = get_or es i d in find cmp e.0 es ≡ Some e.1)
     find-at [] i d sorted lt = absurd (omega (arith, lt))
     find-at (e ∷ es) zero d sorted lt = ap (λ r. cond (is_eq r) (Some e.1) (find cmp e.0 es)) (tied_itself total e.0)
@@ -59,7 +59,7 @@ module _ {K J : Type 0} (R : K → K → Ordering) where
   place_of-below q [] h = refl
   place_of-below q (e ∷ es) h = ap (λ t. cond t (suc (place_of R q es)) 0) (greater_not (R q e.0) (first_part (is_lt (R q e.0)) (below_all R q es) h))
 
-  -- what is found stands at the key's place
+  -- what is found is at the key's place
   pub stands_at_place : ((x y : K) → R x y ≡ Equal → x ≡ y) → IsTotalOrder R → (q : K) (es : List (K × J)) (c : J) → IsMap R es → find R q es ≡ Some c → slice_get es (place_of R q es) ≡ Some (q, c)
   stands_at_place exact total q [] c m = λ is. absurd (cc)
   stands_at_place exact total q (e ∷ es) c m =
@@ -69,7 +69,7 @@ module _ {K J : Type 0} (R : K → K → Ordering) where
         | Greater ↦ λ p is. stands_at_place exact total q es c (second_part (below_all R e.0 es) (is_sorted R es) m) is
       ] refl
 
-  -- in front of it stand lesser keys
+  -- before it are smaller keys
   pub before_place : (q : K) (es : List (K × J)) (j : ℕ) (k : K) (c : J) → j < place_of R q es → slice_get es j ≡ Some (k, c) → is_gt (R q k) ≡ true
   before_place q [] j k c = λ lt is. absurd (cc)
   before_place q (e ∷ es) zero k c =
@@ -83,6 +83,7 @@ module _ {K J : Type 0} (R : K → K → Ordering) where
         | false ↦ λ lt is. absurd (omega (arith, lt))
       ]
 
+-- The place of a key is at most the number of entries.
 pub place_of-le : {K J : Type 0} (cmp : K → K → Ordering) (q : K) (es : List (K × J)) → place_of cmp q es ≤ length es
 place_of-le cmp q [] = omega arith
 place_of-le cmp q (e ∷ es) = elim (is_gt (cmp q e.0)) as (λ t. cond t (suc (place_of cmp q es)) 0 ≤ suc (length es)) [

@@ -15,11 +15,13 @@ use Rattle.cata_core.proofs.Basics.{less_of, not_less_of, some_same}
 use Rattle.cata_core.proofs.Members.{In, in_from_Contains, Contains-from_in}
 use Rattle.cata_core.proofs.StampOrder.{not_less_self, not_less_back, not_less_trans}
 
+-- Stamps that may be absent always agree.
 pub always : (a b : Option Stamp) → AgreeIfBoth AgreeStamps a b
 always None b = tt
 always (Some s) None = tt
 always (Some s) (Some t) = tt
 
+-- The latest of three stamps that may be absent does not depend on how they are grouped.
 pub latest_assoc : (a b c : Option Stamp) → joined_if_both joined_stamps (joined_if_both joined_stamps a b) c ≡ joined_if_both joined_stamps a (joined_if_both joined_stamps b c)
 latest_assoc a b c = let o = if_both_laws stamp_laws in o.assoc a b c (always a b) (always a c) (always b c)
 
@@ -30,6 +32,7 @@ latest_next latest later stamp k c es all is at h =
     ap (λ o. joined_if_both joined_stamps o (latest_of es)) is ∙ latest_assoc latest (Some stamp) (latest_of es)
     ∙ ap (λ s. joined_if_both joined_stamps latest (joined_if_both joined_stamps (Some s) (latest_of es))) at ∙ h
 
+-- The later of a stamp that may be absent and none is the first.
 pub latest_with_none : (a : Option Stamp) → joined_if_both joined_stamps a None ≡ a
 latest_with_none None = refl
 latest_with_none (Some s) = refl
@@ -56,7 +59,7 @@ above_second a (Some t) s h = elim (is_lt (stamp_cmp a t)) as (λ b. is_lt (stam
     below Equal e never k = stamp_cmp_total.congr t a s e ∙ k
     below Greater e never k = absurd (never (stamp_cmp_total.antisymm a t ∙ ap ordering_reverse e))
 
--- each cell that is held has a lesser stamp than what is above all
+-- Each cell has a smaller stamp than one that is above all of them.
 pub held_less : (es : Entries) (k : EntryKey) (c : Cell) (s : Stamp) → IsAbove (latest_of es) s → find key_cmp k es ≡ Some c → stamp_cmp c.stamp s ≡ Less
 held_less [] k c s h is = absurd (cc)
 held_less (e ∷ es) k c s h is =
@@ -147,6 +150,7 @@ latest_none (e ∷ es) h = absurd (elim (latest_of es) as (λ o. joined_if_both 
   | Some t ↦ λ k. absurd (cc)
 ] h)
 
+-- The computed latest stamp belongs to a cell and no cell has a later one, or there are no cells.
 pub latest_is : (es : Entries) (latest : Option Stamp) → latest ≡ latest_of es → IsLatest es latest
 latest_is es None h = latest_none es (sym h)
 latest_is es (Some s) h =

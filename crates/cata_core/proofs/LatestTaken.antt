@@ -16,7 +16,7 @@ use Rattle.cata_core.proofs.StampOrder.{not_less_trans}
 use Rattle.cata_core.proofs.Catalogues.{found_best, has_cell}
 use Rattle.cata_core.proofs.LatestStamps.{latest_is}
 
--- what stands in a map after a put was put, or stood there before
+-- what is in a map after a put was put, or was there before
 in_put : (k : EntryKey) (c : Cell) (es : Entries) (x : Entry) → In (put key_cmp k c es) x → ((k, c) ≡ x) ⊎ In es x
 in_put k c [] x h = h
 in_put k c (e ∷ es) x h = elim (key_cmp k e.0) as (λ r. key_cmp k e.0 ≡ r → In (by_order r ((k, c) ∷ e ∷ es) ((e.0, c) ∷ es) (e ∷ put key_cmp k c es)) x → ((k, c) ≡ x) ⊎ In (e ∷ es) x) [
@@ -36,7 +36,7 @@ in_entries (e ∷ es) x h = elim (in_put e.0 e.1 (entries_of es) x h) as (λ _. 
 in_catalogue : (xs : List Entry) (x : Entry) → In (catalogue_of xs) x → In xs x
 in_catalogue xs x h = let g = in_filter (is_best xs) xs x (in_entries (filter (is_best xs) xs) x h) in g.0
 
--- what is found at a key stands there
+-- what is found at a key is there
 found_in : (k : EntryKey) (c : Cell) (es : Entries) → find key_cmp k es ≡ Some c → (e : Entry) × In es e × (e.1 ≡ c)
 found_in k c [] h = absurd (cc)
 found_in k c (e ∷ es) h = elim (eq_by_cmp key_cmp k e.0) as (λ t. cond t (Some e.1) (find key_cmp k es) ≡ Some c → (f : Entry) × In (e ∷ es) f × (f.1 ≡ c)) [
@@ -44,6 +44,7 @@ found_in k c (e ∷ es) h = elim (eq_by_cmp key_cmp k e.0) as (λ t. cond t (Som
   | false ↦ λ h. let g = found_in k c es h in (g.0, inr g.1, g.2)
 ] h
 
+-- The latest stamp of the catalogue of a list is the latest of all its edits.
 pub latest_taken : (xs : List Entry) → IsLatest xs (latest_of (catalogue_of xs))
 latest_taken xs = at (latest_of (catalogue_of xs)) (latest_is (catalogue_of xs) (latest_of (catalogue_of xs)) refl)
   where

@@ -43,15 +43,18 @@ of_message-flat id (e ∷ es) sorted =
       | false ↦ λ t. of_under_other id e.0 e.1 (flat es) t ∙ rest
     ] refl
 
+-- The live labels of a message are those of its inner map.
 pub live-flat : (id : List ℕ) (m : Nested) → IsMap text_cmp m → live_of (inner_of (find text_cmp id m)) ≡ live (flat m) id
 live-flat id m sorted = ap live_of (sym (of_message-flat id m sorted))
 
 -- ---- live labels by their language
 
+-- The label of a cell, if there is a cell and it has one.
 abbrev pub label_of : Option Cell → Option (List (List ℕ))
 label_of None = None
 label_of (Some c) = c.label
 
+-- A language has as its live label the label of its cell, and none without a cell or a label.
 pub find-live_of : (q : List ℕ) (es : List (List ℕ × Cell)) → IsMap text_cmp es → find text_cmp q (live_of es) ≡ label_of (find text_cmp q es)
 find-live_of q [] sorted = refl
 find-live_of q (e ∷ es) sorted =
@@ -83,6 +86,7 @@ with_label q es k c label sorted is has =
           ap (with_key k) (sym has ∙ ap (λ (x : Cell). x.label) value) ∙ ap (λ x. with_key x d.label) key ∙ ap (with_key q) (sym (find-live_of q es sorted ∙ ap label_of e))
     ] refl is
 
+-- A language without a cell has no live label.
 pub with_none : (q : List ℕ) (es : List (List ℕ × Cell)) → IsMap text_cmp es → None ≡ with_key q (find text_cmp q es) → None ≡ with_key q (find text_cmp q (live_of es))
 with_none q es sorted is =
     elim (find text_cmp q es) as (λ o. find text_cmp q es ≡ o → None ≡ with_key q o → None ≡ with_key q (find text_cmp q (live_of es))) [

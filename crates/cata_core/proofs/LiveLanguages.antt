@@ -93,7 +93,7 @@ above P x (e ∷ es) h =
     let rest = above P x es (second_part (is_lt (text_cmp x e.0)) (below_all text_cmp x es) h) in
     All-cons (λ l. P l → ¬ IsBelow l x) e.0 (languages es) (λ _ g. not_both x e.0 lower g) rest
 
--- the first of rising languages is the least that passes, if it passes
+-- the first of ascending languages is the least that passes, if it passes
 first_least : (P : List ℕ → Type 0) (e : List ℕ × List (List ℕ)) (es : Labelled)
     → IsMap text_cmp (e ∷ es) → P e.0 → MatchLeast P (languages (e ∷ es)) (Some e.0)
 first_least P e es m p =
@@ -102,7 +102,7 @@ first_least P e es m p =
     (λ _ h. not_both e.0 e.0 h h) low in
     (contains_first e.0 (languages es), p, all)
 
--- behind a language that does not pass the least that passes is that of the rest
+-- after a language that does not pass, the least that passes is that of the rest
 later_least : (P : List ℕ → Type 0) (e : List ℕ × List (List ℕ)) (es : Labelled)
     (found : Option (List ℕ)) → ¬ P e.0 → MatchLeast P (languages es) found
     → MatchLeast P (languages (e ∷ es)) found

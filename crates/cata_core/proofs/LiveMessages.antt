@@ -74,7 +74,7 @@ below-live_of x (e ∷ es) h =
       | Some label ↦ both_parts (is_lt (text_cmp x e.0)) (below_all text_cmp x (live_of es)) (first_part (is_lt (text_cmp x e.0)) (below_all text_cmp x es) h) rest
     ]
 
--- the live labels of a message rise by their languages
+-- The languages of the live labels of an inner map strictly ascend.
 pub live_of-IsMap : (es : Inner) → IsMap text_cmp es → IsMap text_cmp (live_of es)
 live_of-IsMap [] h = tt
 live_of-IsMap (e ∷ es) h =
@@ -86,6 +86,7 @@ live_of-IsMap (e ∷ es) h =
           (below-live_of e.0 es (first_part (below_all text_cmp e.0 es) (is_sorted text_cmp es) h)) rest
     ]
 
+-- The languages of a message's live labels strictly ascend.
 pub languages_rise : (m : Nested) → IsCatalogue m → (id : List ℕ) → IsMap text_cmp (live (flat m) id)
 languages_rise m nested id =
     subst (IsMap text_cmp) (live-flat id m nested.outer)
@@ -96,6 +97,7 @@ languages_rise m nested id =
 
 -- ---- all of them
 
+-- The computed messages are those with live labels, each once, in ascending order of id.
 pub are_messages : (m : Nested) → IsMap text_cmp m → AreMessages (flat m) (live_messages m)
 are_messages m sorted = record {
   rise = live_messages-IsMap m sorted;
@@ -104,6 +106,7 @@ are_messages m sorted = record {
 
 -- ---- laws
 
+-- A catalogue has only one list of messages with live labels.
 pub one_list_of_messages : (cells : Entries) (a b : List LiveMessage) → AreMessages cells a → AreMessages cells b → a ≡ b
 one_list_of_messages cells a b f g = same_maps text_cmp nat_list_cmp_total text_exact a b f.rise g.rise (λ id. f.each id ∙ sym (g.each id))
 

@@ -32,10 +32,12 @@ TakenAnswersFrom w [] answers = answers ≡ []
 TakenAnswersFrom w (step ∷ steps) answers =
     (now : List Answer) × (later : List Answer) × (answers ≡ now ++ later) × IsAnswered (λ s. catalogue_of (w.of_site s)) step now × TakenAnswersFrom (taken_step w step) steps later
 
+-- The edits taken after one more step are those that the step makes of the state before it.
 pub taken_one_more : (w : Taken) (steps : List Step) (step : Step) → taken_after w (steps ++ step ∷ []) ≡ taken_step (taken_after w steps) step
 taken_one_more w [] step = refl
 taken_one_more w (s ∷ steps) step = taken_one_more (taken_step w s) steps step
 
+-- The cells after one more step are those that the step makes of the state before it.
 pub held_one_more : (w : Held) (steps : List Step) (step : Step) → held_after w (steps ++ step ∷ []) ≡ held_step (held_after w steps) step
 held_one_more w [] step = refl
 held_one_more w (s ∷ steps) step = held_one_more (held_step w s) steps step
@@ -51,9 +53,11 @@ taken_where before [] answers h = h
 taken_where before (step ∷ steps) answers h =
     (h.0, h.1, h.2, h.3, taken_where (before ++ step ∷ []) steps h.1 (subst (λ w. TakenAnswersFrom w steps h.1) (sym (taken_one_more nothing_taken before step)) h.4))
 
+-- Answers given step by step from the sites' cells are the run's answers by those cells.
 pub held_answers : (steps : List Step) (answers : List Answer) → HeldAnswersFrom nothing_held steps answers → AreHeldAnswers steps answers
 held_answers steps answers h = held_where [] steps answers h
 
+-- Answers given step by step from the taken edits are the expected answers of the run.
 pub taken_answers : (steps : List Step) (answers : List Answer) → TakenAnswersFrom nothing_taken steps answers → AreAnswers steps answers
 taken_answers steps answers h = taken_where [] steps answers h
 
@@ -66,6 +70,7 @@ sound_at sites w (s ∷ steps) h (b ∷ before) step after e =
     let rest : steps ≡ before ++ step ∷ after = cc in
     subst (λ x. IsSound sites (held_after (held_step w x) before) step) same (sound_at sites (held_step w s) steps h.1 before step after rest)
 
+-- Where each step is sound in the state before it, no step of the run is faulty.
 pub none_faulty : (sites : ℕ) (steps : List Step) → AllSound sites nothing_held steps → NoneFaulty sites steps
 none_faulty sites steps h = sound_at sites nothing_held steps h
 
@@ -73,6 +78,7 @@ sound_from : (sites : ℕ) (w : Held) (steps : List Step) → ((before : List St
 sound_from sites w [] h = tt
 sound_from sites w (s ∷ steps) h = (h [] s steps refl, sound_from sites (held_step w s) steps (λ before step after e. h (s ∷ before) step after (ap (λ xs. s ∷ xs) e)))
 
+-- Where no step of a run is faulty, each is sound in the state before it.
 pub all_sound : (sites : ℕ) (steps : List Step) → NoneFaulty sites steps → AllSound sites nothing_held steps
 all_sound sites steps h = sound_from sites nothing_held steps h
 
@@ -104,6 +110,7 @@ first_from sites w n (step ∷ steps) fault h = elim h as (λ _. (fault ≡ NoMe
   ]
 ]
 
+-- A fault found step by step is out of memory, or that of the first faulty step of the run.
 pub first_fault : (sites : ℕ) (steps : List Step) (fault : PlayFault) → FaultFrom sites nothing_held 0 steps fault → (fault ≡ NoMemory) ⊎ IsFirstFault sites steps fault
 first_fault sites steps fault h = elim (first_from sites nothing_held 0 steps fault h) as (λ _. (fault ≡ NoMemory) ⊎ IsFirstFault sites steps fault) [
   | inl memory ↦ inl memory

@@ -33,6 +33,7 @@ agrees_old x y p q = let kept = keeps_cell_joins x y p q in (kept.agrees, kept.a
 joins_old : (x y : OldCell) → HasOldStamp x → HasOldStamp y → AgreeOldCells x y → migrated_cell (joined_old_cells x y) ≡ joined_cells (migrated_cell x) (migrated_cell y)
 joins_old x y p q = let kept = keeps_cell_joins x y p q in kept.joins
 
+-- Migrated catalogues agree exactly where the old ones do, and their join is the migrated join.
 pub keeps_catalogue_joins : (a b : OldEntries) → IsOldMap a → IsOldMap b → KeepsJoins migrated_entries AgreeOld joined_old Agree joined a b
 keeps_catalogue_joins a b m n =
     let both = mapped_agree key_cmp migrated_cell HasOldStamp AgreeOldCells AgreeCells agrees_old a b m.stamps n.stamps in

@@ -13,7 +13,7 @@ use Rattle.cata_core.proofs.Filtered.{filter-IsMap}
 use Rattle.cata_core.proofs.Behind.{front_below}
 use Rattle.cata_core.proofs.SummaryLists.{less_from, not_greater}
 
--- the key is not lesser than the first
+-- the key is not smaller than the first
 abbrev IsFromFirst : EntryKey → Entries → Type 0
 IsFromFirst q [] = ⊥
 IsFromFirst q (e ∷ es) = key_cmp e.0 q ≢ Greater

@@ -58,6 +58,7 @@ unsettled = (key, gone) ∷ (key, kept) ∷ []
 abbrev turned : List Entry
 turned = (key, kept) ∷ (key, gone) ∷ []
 
+-- Lists with the same members may have different catalogues, if they are not settled.
 pub two_catalogues : (xs : List Entry) × (ys : List Entry) × SameMembers xs ys × (catalogue_of xs ≢ catalogue_of ys)
 two_catalogues = (unsettled, turned, swapped (key, gone) (key, kept), λ e. differ (some_same gone kept (ap (find key_cmp key) e)))
 
@@ -71,6 +72,7 @@ kept_best = record {
   ];
 }
 
+-- A best edit may be missing from the catalogue, if the list is not settled.
 pub best_not_found : (xs : List Entry) × (k : EntryKey) × (c : Cell) × IsBest xs k c × (find key_cmp k (catalogue_of xs) ≢ Some c)
 best_not_found = (unsettled, key, kept, kept_best, λ e. differ (some_same gone kept e))
 
@@ -94,6 +96,7 @@ best_is_later k c best = elim (in_from_Contains hidden (k, c) best.member) as (�
   ]
 ]
 
+-- A settled list may be inconsistent.
 pub settled_inconsistent : (xs : List Entry) × IsSettled xs × ¬ (IsConsistent xs)
 settled_inconsistent = (
   hidden,
@@ -148,11 +151,13 @@ silent_sound = (
   ),
 )
 
+-- In a run without a fault two sites may take the same edits and have different cells.
 pub unequal_sites : (steps : List Step) × (s : ℕ) × (t : ℕ) × NoneFaulty 2 steps × SameMembers (taken steps s) (taken steps t) × (held steps s ≢ held steps t)
 unequal_sites = (silent, 0, 1, none_faulty 2 silent silent_sound, swapped (key, gone) (key, kept), λ e. differ (some_same gone kept (ap (find key_cmp key) e)))
 
--- ---- what was told is still had
+-- ---- the receiver has all of the summary
 
+-- A delta may lose cells, if the receiver does not have all of the summary.
 pub delta_too_small : (own : Entries) × (sender : Entries) × (summary : Stamps) × Agree own sender × (joined own (delta_of sender summary) ≢ joined own sender)
 delta_too_small = (
   [],

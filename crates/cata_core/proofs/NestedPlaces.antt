@@ -1,4 +1,4 @@
--- Where cells stand in a map of maps: what is passed on the way, and what is left.
+-- Where cells are in a map of maps: what a walk has passed, and what is left.
 use Rattle.std.proofs.Common.{◌≡◌, ℕ, zero, suc, ◌+◌, ◌*◌, ◌<◌, ◌≤◌, List, [], ◌∷◌, ◌++◌, length, cond, refl, sym, ap, ◌∙◌, subst, arith}
 use Rattle.std.specs.Prelude.{T, slice_get}
 use Rattle.std.specs.Option.{option_map}
@@ -21,7 +21,7 @@ use Rattle.cata_core.proofs.Lengths.{length-under, length-flat-cons}
 
 -- ---- counting
 
--- so many cells stand in front of what is left
+-- `total` is the number of cells before what is left
 pub record IsCounted (m left : Nested) (total : ℕ) : Type 0 where
   pub cells : total + length (flat left) ≡ length (flat m)
   pub small : total + length left * 18446744073709551615 ≤ length m * 18446744073709551615
@@ -47,7 +47,7 @@ module _ {K L J : Type 0} (P : K → K → Ordering) (Q : L → L → Ordering) 
     below : T (below_all P k es)
     below = first_part (below_all P k es) (is_sorted P es) m
 
-    -- a key in front of the first message, in it, and behind it
+    -- a key before the first message, in it, and after it
     pub place_of-less : P q.0 k ≡ Less → place_of (pair_cmp P Q) q (flat ((k, cells) ∷ es)) ≡ 0
     place_of-less p = under_less k q cells (flat es) p (place_of-below (pair_cmp P Q) q (flat es) (below_flat P Q tp q es (below_lesser P tp q.0 k es p below)))
 
@@ -57,7 +57,7 @@ module _ {K L J : Type 0} (P : K → K → Ordering) (Q : L → L → Ordering) 
     pub place_of-greater : P q.0 k ≡ Greater → place_of (pair_cmp P Q) q (flat ((k, cells) ∷ es)) ≡ length cells + place_of (pair_cmp P Q) q (flat es)
     place_of-greater p = under_greater k q cells (flat es) p
 
--- what is left is a map, and so many cells stand in front of it, all with lesser keys
+-- what is left is a map, and `total` cells come before it, all with smaller keys
 pub record IsInFront (m left : Nested) (key : EntryKey) (total : ℕ) : Type 0 where
   pub map : IsMap text_cmp left
   pub cells : total + length (flat left) ≡ length (flat m)
@@ -80,7 +80,7 @@ module _ {K L J : Type 0} where
   abbrev pub with_outer : K → L × J → (K × L) × J
   with_outer k e = ((k, e.0), e.1)
 
-  -- a place within the first inner map, and behind it
+  -- a place within the first inner map, and after it
   pub place_within : (k : K) (cells : List (L × J)) (es : List (K × List (L × J))) (at : ℕ) → at < length cells
       → slice_get (flat ((k, cells) ∷ es)) at ≡ option_map (with_outer k) (slice_get cells at)
   place_within k cells es at lt =
@@ -90,7 +90,7 @@ module _ {K L J : Type 0} where
       → slice_get (flat ((k, cells) ∷ es)) at ≡ slice_get (flat es) left
   place_behind k cells es at left e = slice_get-right (under k cells) (flat es) at left (ap (λ n. n + left) (length-under k cells) ∙ e)
 
--- ---- one message more in front
+-- ---- one message more before what is left
 
 module _ (m left : Nested) (key : EntryKey) (id : List ℕ) (cells : Inner) (total : ℕ) (h : IsInFront m ((id, cells) ∷ left) key total) where
   pub in_front_less : text_cmp key.0 id ≡ Less → total ≡ place_of key_cmp key (flat m)

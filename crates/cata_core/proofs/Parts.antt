@@ -54,6 +54,7 @@ joined_kept : (t : Bool) (x y : Option Cell) → cond t (joined_if_both joined_c
 joined_kept true x y = refl
 joined_kept false x y = refl
 
+-- The parts of two catalogues that agree, of the same messages, agree.
 pub parts_agree : (messages : List ℕ → Bool) (a b : Entries) → Agree a b → Agree (part_of messages a) (part_of messages b)
 parts_agree messages a b agree = elim agree as (λ _. Agree (part_of messages a) (part_of messages b)) [
   | inl e ↦ inl (ap (part_of messages) e)
@@ -65,6 +66,7 @@ parts_agree messages a b agree = elim agree as (λ _. Agree (part_of messages a)
   })
 ]
 
+-- The part of a join is the join of the parts.
 pub parts_join : (messages : List ℕ → Bool) (a b : Entries) → IsMap key_cmp a → IsMap key_cmp b → part_of messages (joined a b) ≡ joined (part_of messages a) (part_of messages b)
 parts_join messages a b m n =
     let p = part-IsMap messages a m in
@@ -80,6 +82,7 @@ parts_join messages a b m n =
 
 -- ---- deltas and summaries
 
+-- The part of a delta is the delta of the part against the part of the summary.
 pub part_of_delta : (messages : List ℕ → Bool) (cells : Entries) (summary : Stamps) → part_of messages (delta_of cells summary) ≡ delta_of (part_of messages cells) (part_of messages summary)
 part_of_delta messages [] summary = refl
 part_of_delta messages (e ∷ es) summary =
@@ -103,6 +106,7 @@ part_of_delta messages (e ∷ es) summary =
       ]
     ] refl
 
+-- The part of a summary is the summary of the part.
 pub part_of_summary : (messages : List ℕ → Bool) (cells : Entries) → part_of messages (summary_of cells) ≡ summary_of (part_of messages cells)
 part_of_summary messages [] = refl
 part_of_summary messages (e ∷ es) =
@@ -134,10 +138,11 @@ module _ (messages : List ℕ → Bool) (id : List ℕ) (inside : messages id �
         ]
       ] refl
 
-  -- the live labels of a message stand in its part
+  -- the live labels of a message are in its part
   live_in_part : (cells : Entries) → live (part_of messages cells) id ≡ live cells id
   live_in_part cells = ap (λ (es : Entries). live_of (map (λ (e : Entry). (e.0.1, e.1)) es)) (own_cells cells)
 
+-- A filter for a message of the part has the same answers over the part as over the whole.
 pub part_filters : (messages : List ℕ → Bool) (cells : Entries) (id : List ℕ) → IsTrue (messages id) → (scheme : Scheme) (items : List Item) (answer : Weighed)
     → IsFilterAnswer (part_of messages cells) id scheme items answer ↔ IsFilterAnswer cells id scheme items answer
 part_filters messages cells id inside scheme items answer =

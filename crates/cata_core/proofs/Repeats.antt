@@ -9,6 +9,7 @@ below_join : (a x b : Entries) → Agree a b → Between a x b → IsBelow Agree
 below_join a x b agree h =
     subst (IsBelow Agree joined x) (catalogue_laws.between_joins a x b agree h) (catalogue_laws.above_first x b (catalogue_laws.between_agrees a x b agree h))
 
+-- What a sync that ran out of memory leaves still agrees, and has the same join.
 pub sync_repeats : (a b x y : Entries) → Agree a b → Between a x b → Between b y a → (y ≡ b) ⊎ (x ≡ joined a b) → Agree x y × (joined x y ≡ joined a b)
 sync_repeats a b x y agree h k one = elim one as (λ _. Agree x y × (joined x y ≡ joined a b)) [
   | inl e ↦ subst (λ (z : Entries). Agree x z × (joined x z ≡ joined a b)) (sym e) (catalogue_laws.between_agrees a x b agree h, catalogue_laws.between_joins a x b agree h)

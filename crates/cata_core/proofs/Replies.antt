@@ -11,6 +11,7 @@ use Rattle.cell_core.specs.Found.{with_key}
 use Rattle.cata_core.specs.Lent.{lent_pair}
 use Rattle.cata_core.specs.Live.{Labelled, is_live}
 
+-- Splitting a text at its hyphens and joining the pieces gives the text back.
 pub joined-pieces : (text : List ℕ) → joined (pieces text) ≡ text
 unfolding pieces_by
 joined-pieces text = join_with_byte-slice_split 45 text

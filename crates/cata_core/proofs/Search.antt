@@ -21,7 +21,7 @@ module _ {K J : Type 0} (R : K → K → Ordering) (total : IsTotalOrder R) wher
   sorted_get (e ∷ es) zero (suc j) k l c d m lt = λ a b. let same : e.0 ≡ k = cc in subst (λ x. R x l ≡ Less) same (below_get e.0 es j l d (first_part (below_all R e.0 es) (is_sorted R es) m) b)
   sorted_get (e ∷ es) (suc i) (suc j) k l c d m lt = λ a b. sorted_get es i j k l c d (second_part (below_all R e.0 es) (is_sorted R es) m) (omega (arith, lt)) a b
 
-  -- what stands at a place is found
+  -- what is at a place is found
   pub find_get : (es : List (K × J)) (i : ℕ) (k : K) (c : J) → IsMap R es → slice_get es i ≡ Some (k, c) → find R k es ≡ Some c
   find_get [] i k c m = λ is. absurd (cc)
   find_get (e ∷ es) zero k c m = λ is.

@@ -63,12 +63,15 @@ module _ (xs ys : List Entry) where
           let high : stamp_cmp d.stamp c.stamp ≢ Less = subst (λ s. stamp_cmp s c.stamp ≢ Less) stamps (not_less_self c.stamp) in
           ap (λ x. x.label) (settled k c d (best_of_first xs ys k c p (above_best ys k c d q low)) (best_of_second xs ys k d q (above_best xs k d c p high)))
 
+-- Settled lists are settled as one exactly where their catalogues agree,
+-- and the catalogue of the one list is then the join of the two.
 pub catalogue_of_both : (xs ys : List Entry) → IsSettled xs → IsSettled ys
     → (IsSettled (xs ++ ys) ↔ Agree (catalogue_of xs) (catalogue_of ys)) × (IsSettled (xs ++ ys) → catalogue_of (xs ++ ys) ≡ joined (catalogue_of xs) (catalogue_of ys))
 catalogue_of_both xs ys s t = ((agree_if_settled xs ys, settled_if_agree xs ys s t), joined_catalogue xs ys)
 
 -- ---- lists that are settled
 
+-- The empty list is settled.
 pub settled_none : IsSettled []
 settled_none k c d p q = absurd (in_from_Contains [] (k, c) p.member)
 
@@ -83,9 +86,11 @@ pub settled_part : (all xs : List Entry) → IsConsistent all → ((e : Entry) �
 settled_part all xs consistent within k c d p q =
     consistent k c d (Contains-from_in all (k, c) (within (k, c) (best_in xs k c p))) (Contains-from_in all (k, d) (within (k, d) (best_in xs k d q))) (level xs k c d p q)
 
+-- A consistent list is settled.
 pub consistent_settled : (xs : List Entry) → IsConsistent xs → IsSettled xs
 consistent_settled xs consistent = settled_part xs xs consistent (λ e h. h)
 
+-- A list whose edits are all in a consistent list is consistent.
 pub part_consistent : (xs ys : List Entry) → IsConsistent xs → ((e : Entry) → Contains ys e → Contains xs e) → IsConsistent ys
 part_consistent xs ys consistent within k c d p q = consistent k c d (within (k, c) p) (within (k, d) q)
 

@@ -16,6 +16,7 @@ use Rattle.cata_core.proofs.Summaries.{summary_rises}
 use Rattle.cata_core.proofs.Settling.{settled_part}
 use Rattle.cata_core.proofs.Takes.{grows, takes_here}
 
+-- Two lists of steps in sequence take what the second takes from the end of the first.
 pub after_append : (w : Taken) (xs ys : List Step) → taken_after w (xs ++ ys) ≡ taken_after (taken_after w xs) ys
 after_append w [] ys = refl
 after_append w (x ∷ xs) ys = after_append (taken_step w x) xs ys
@@ -25,17 +26,21 @@ stays : (w : Taken) (steps : List Step) (s : ℕ) (f : Entry) → In (w.of_site 
 stays w [] s f h = h
 stays w (step ∷ steps) s f h = stays (taken_step w step) steps s f (grows w.of_site (edits_in w step) s f h)
 
+-- A member of what a site took is one after any further steps.
 pub taken_grows : (p q : List Step) (s : ℕ) (f : Entry) → In (taken p s) f → In (taken (p ++ q) s) f
 taken_grows p q s f h = subst (λ w. In (w.of_site s) f) (sym (after_append nothing_taken p q)) (stays (taken_after nothing_taken p) q s f h)
 
+-- An edit that a site took is still among those it took after any further steps.
 pub taken_only_grows : (p q : List Step) (s : ℕ) (e : Entry) → Contains (taken p s) e → Contains (taken (p ++ q) s) e
 taken_only_grows p q s e h = Contains-from_in (taken (p ++ q) s) e (taken_grows p q s e (in_from_Contains (taken p s) e h))
 
+-- The summary of what a site took is above each earlier one.
 pub summaries_rise : (p q : List Step) (s : ℕ) → IsBelowStamps (summary_of (catalogue_of (taken p s))) (summary_of (catalogue_of (taken (p ++ q) s)))
 summaries_rise p q s = summary_rises (taken (p ++ q) s) (taken p s) (taken_grows p q s)
 
 -- ---- only edits of the steps
 
+-- What is at a place of a list is a member.
 pub get_in : {X : Type 0} (xs : List X) (i : ℕ) (x : X) → slice_get xs i ≡ Some x → In xs x
 get_in [] i x e = absurd (cc)
 get_in (y ∷ ys) zero x e = inl (cc)
@@ -86,6 +91,7 @@ module _ (P : Entry → Type 0) where
   only_taken : (steps : List Step) → ((s : ℕ) (f : Entry) → In steps (Edit s f) → P f) → (site : ℕ) (f : Entry) → In (taken steps site) f → P f
   only_taken steps h site f k = let g = only_after nothing_taken (record { sites = λ s f h. absurd h; posts = λ p h. absurd h }) steps h in g.sites site f k
 
+-- Each edit that a site took is the edit of some step.
 pub taken_only_edits : (steps : List Step) (site : ℕ) (e : Entry) → Contains (taken steps site) e → (s : ℕ) × Contains steps (Edit s e)
 taken_only_edits steps site e h =
     only_taken (λ f. (s : ℕ) × Contains steps (Edit s f)) steps (λ s f k. (s, Contains-from_in steps (Edit s f) k)) site e (in_from_Contains (taken steps site) e h)
@@ -114,7 +120,7 @@ steps_have (step ∷ steps) f h = elim (in_append_cases (edits_by step) (edits_o
 
 -- ---- what reaches the others
 
--- an edit stands in what its site took
+-- an edit is among those that its site took
 edited : (w : Taken) (steps : List Step) (s : ℕ) (f : Entry) → In steps (Edit s f) → let v = taken_after w steps in In (v.of_site s) f
 edited w [] s f h = absurd h
 edited w (step ∷ steps) s f h = elim h as (λ _. let v = taken_after (taken_step w step) steps in In (v.of_site s) f) [
@@ -134,7 +140,7 @@ made_before s before step after f none last h = elim (in_append_cases before (st
   | inr b ↦ absurd (no_edit_in s (step ∷ after) f (none, last) b)
 ]
 
--- what comes in at t stands there after the step
+-- what comes in at a site is among what it took after the step
 came_in : (w : Taken) (step : Step) (d : ℕ × List Entry) (f : Entry) → edits_in w step ≡ Some d → In d.1 f → let v = taken_step w step in In (v.of_site d.0) f
 came_in w step d f e h = subst (λ o. In (takes w.of_site o d.0) f) (sym e) (subst (λ xs. In xs f) (sym (takes_here w d)) (in_append_right (w.of_site d.0) d.1 f h))
 
@@ -145,11 +151,13 @@ merged_reaches steps s t m f h =
     let there = stays (taken_step w (Merge t s)) m.after t f (came_in w (Merge t s) (t, w.of_site s) f refl (edited nothing_taken m.before s f first)) in
     subst (λ xs. In (taken xs t) f) (sym m.steps_are) (subst (λ v. In (v.of_site t) f) (sym (after_append nothing_taken m.before (Merge t s ∷ m.after))) there)
 
+-- Appending to a list leaves what is at its places.
 pub get_kept : {X : Type 0} (xs ys : List X) (i : ℕ) (x : X) → slice_get xs i ≡ Some x → slice_get (xs ++ ys) i ≡ Some x
 get_kept [] ys i x e = absurd (cc)
 get_kept (z ∷ zs) ys zero x e = e
 get_kept (z ∷ zs) ys (suc i) x e = get_kept zs ys i x e
 
+-- An appended element is at the place that is the length of the list before it.
 pub get_next : {X : Type 0} (xs : List X) (x : X) → slice_get (xs ++ x ∷ []) (length xs) ≡ Some x
 get_next [] x = refl
 get_next (z ∷ zs) x = get_next zs x

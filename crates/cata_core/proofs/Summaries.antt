@@ -19,6 +19,7 @@ use Rattle.cata_core.proofs.Best.{best_in}
 use Rattle.cata_core.proofs.Mapped.{mapped-IsMap, find-mapped}
 use Rattle.cata_core.proofs.Catalogues.{catalogue_of-IsMap, found_best, has_cell}
 
+-- The keys of a catalogue's summary strictly ascend.
 pub summary-IsMap : (es : Entries) → IsMap key_cmp es → IsMap key_cmp (summary_of es)
 summary-IsMap = mapped-IsMap key_cmp (λ (c : Cell). c.stamp)
 
@@ -26,6 +27,7 @@ summary-IsMap = mapped-IsMap key_cmp (λ (c : Cell). c.stamp)
 abbrev pub stamp_if : Option Cell → Option Stamp
 stamp_if = option_map (λ c. c.stamp)
 
+-- A summary has at a key the stamp of the catalogue's cell there, or none.
 pub find-summary_of : (k : EntryKey) (es : Entries) → find key_cmp k (summary_of es) ≡ stamp_if (find key_cmp k es)
 find-summary_of = find-mapped key_cmp (λ (c : Cell). c.stamp)
 
@@ -71,7 +73,7 @@ below_if_has own summary m n has = (
 pub summary_rises : (own told : List Entry) → ((e : Entry) → In told e → In own e) → IsBelowStamps (summary_of (catalogue_of told)) (summary_of (catalogue_of own))
 summary_rises own told within = below_if_has (catalogue_of own) (summary_of (catalogue_of told)) (catalogue_of-IsMap own) (summary-IsMap (catalogue_of told) (catalogue_of-IsMap told)) (has_told own told within)
 
--- one has what one tells
+-- Any cells have all of their own summary.
 pub has_own : (own : Entries) → HasAll own (summary_of own)
 has_own own k s e = at (find key_cmp k own) (sym (find-summary_of k own) ∙ e)
   where

@@ -11,7 +11,7 @@ pub grows : (of : ℕ → List Entry) (d : Option (ℕ × List Entry)) (s : ℕ)
 grows of None s f h = h
 grows of (Some d) s f h = elim (s == d.0) as (λ b. In (if b then of s ++ d.1 else of s) f) [ true ↦ in_append_left (of s) d.1 f h | false ↦ h ]
 
--- where edits come in, they stand behind
+-- Edits that come in at a site follow those that it took before.
 pub takes_here : (w : Taken) (d : ℕ × List Entry) → takes w.of_site (Some d) d.0 ≡ w.of_site d.0 ++ d.1
 takes_here w d = elim (d.0 == d.0) as (λ b. (d.0 == d.0) ≡ b → (if b then w.of_site d.0 ++ d.1 else w.of_site d.0) ≡ w.of_site d.0 ++ d.1) [
   | true ↦ λ b. refl

@@ -18,6 +18,7 @@ use Rattle.cata_core.specs.Faulty.{IsSound, AgreesWith, IsFaultOf}
 use Rattle.cata_core.specs.Worlds.{at_sites, IsClashAt}
 use Rattle.cata_core.proofs.Basics.{append_nil}
 
+-- Where no site has cells, none has after one more without cells.
 pub one_more_empty : (xs : List Entries) → at_sites xs ≡ (λ _. []) → at_sites (xs ++ [] ∷ []) ≡ (λ _. [])
 one_more_empty xs h = λ i s. at xs s (ap (λ w. w s) h) i
   where
@@ -70,18 +71,19 @@ merged xs told posts i j gap own theirs lt t e = λ k. record {
   posts = sym (append_nil posts) k;
 }
 
+-- An element read within a list is the one at that place.
 pub got : {X : Type 0} (xs : List X) (i : ℕ) (x : X) → i < length xs → x ≡ get_or xs i x → slice_get xs i ≡ Some x
 got [] i x lt e = absurd (omega (arith, lt))
 got (y ∷ ys) zero x lt e = ap Some (sym e)
 got (y ∷ ys) (suc i) x lt e = got ys i x (omega (arith, lt)) e
 
--- nothing stands past the last
+-- Each place within a list has an element.
 pub there : {X : Type 0} (xs : List X) (i : ℕ) → i < length xs → slice_get xs i ≡ None → ⊥
 there [] i lt e = omega (arith, lt)
 there (x ∷ xs) zero lt e = cc
 there (x ∷ xs) (suc i) lt e = there xs i (omega (arith, lt)) e
 
--- what is delivered where the post stands
+-- A delivery brings the cells of its post to the post's addressee.
 pub comes_by : (w : Held) (k : ℕ) (p : PostedCells) → k < length w.posts → p ≡ get_or w.posts k p → cells_in w (Deliver k) ≡ Some (p.addressee, p.cells)
 comes_by w k p lt e = ap cells_delivered (got w.posts k p lt e)
 
@@ -103,7 +105,7 @@ posted_step of told posts site k t cells lt e is = λ i. record {
   posts = (ap (λ c. posts ++ record { addressee = t.teller; cells = c } ∷ []) is ∙ ap (λ o. posts ++ delta_to (of site) o) (sym (got told k t lt e))) i;
 }
 
--- what is read where a site stands
+-- The cells read at a site's number are those of the site.
 pub at_site : (xs : List Entries) (i : ℕ) (x : Entries) → i < length xs → x ≡ get_or xs i x → x ≡ at_sites xs i
 at_site xs i x lt e = e ∙ get_or_default xs i x [] lt
 
@@ -146,9 +148,11 @@ module _ (sites : List Entries) (told : List ToldStamps) (posts : List PostedCel
 pub addressed : (n : ℕ) (posts : List PostedCells) (k : ℕ) (p : PostedCells) → All (λ q. q.addressee < n) posts → k < length posts → p ≡ get_or posts k p → p.addressee < n
 addressed n posts k p h lt e = subst (λ q. q.addressee < n) (sym e) (All-get_or (λ q. q.addressee < n) posts k p lt h)
 
+-- A step that names one site names only sites that exist, if it exists.
 pub named_one : (n s : ℕ) → s < n → All (λ q. q < n) (s ∷ [])
 named_one n s lt = All-cons (λ q. q < n) s [] lt (All-nil (λ q. q < n))
 
+-- A step that names two sites names only sites that exist, if both exist.
 pub named_two : (n s t : ℕ) → s < n → t < n → All (λ q. q < n) (s ∷ t ∷ [])
 named_two n s t lt less = All-cons (λ q. q < n) s (t ∷ []) lt (named_one n t less)
 
@@ -157,15 +161,16 @@ pub both_hold : {T E P Q R : Type 0} (r : Result T E) → (P → Q → R) → On
 both_hold (Ok x) f p q = f p q
 both_hold (Err e) f p q = tt
 
--- a post to who told
+-- All posts are to existing sites after one more to the site that told its summary.
 pub posted_addressed : (n : ℕ) (told : List ToldStamps) (posts : List PostedCells) (k : ℕ) (t : ToldStamps) (cells : Entries) → All (λ q. q.teller < n) told → All (λ q. q.addressee < n) posts → k < length told → t ≡ get_or told k t
     → All (λ q. q.addressee < n) (posts ++ record { addressee = t.teller; cells = cells } ∷ [])
 posted_addressed n told posts k t cells owners h lt e = All-push (λ q. q.addressee < n) posts (record { addressee = t.teller; cells = cells }) h (subst (λ q. q.teller < n) (sym e) (All-get_or (λ q. q.teller < n) told k t lt owners))
 
--- a summary that is told
+-- Adding the summary of a site's cells to those that were told is the step that tells it.
 pub told_step : (of : ℕ → Entries) (told : List ToldStamps) (posts : List PostedCells) (site : ℕ) (t : ToldStamps) → t ≡ record { teller = site; stamps = summary_of (of site) }
     → record { of_site = of; told = told ++ t ∷ []; posts = posts } ≡ held_step (record { of_site = of; told = told; posts = posts }) (Tell site)
 told_step of told posts site t is = λ i. record { of_site = of; told = told ++ is i ∷ []; posts = sym (append_nil posts) i }
 
+-- All summaries are of existing sites after one more of an existing site.
 pub told_addressed : (n : ℕ) (told : List ToldStamps) (t : ToldStamps) → All (λ q. q.teller < n) told → t.teller < n → All (λ q. q.teller < n) (told ++ t ∷ [])
 told_addressed n told t h lt = All-push (λ q. q.teller < n) told t h lt

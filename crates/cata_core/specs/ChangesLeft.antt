@@ -26,13 +26,13 @@ only_before e = (e.0, (Some e.1, None))
 abbrev pub only_after : Entry → EntryKey × Sides
 only_after e = (e.0, (None, Some e.1))
 
--- what begins with the lesser of two keys, or with both where they are equal
+-- what begins with the smaller of two keys, or with both where they are equal
 abbrev pub by_order : Ordering → Changed → Changed → Changed → Changed
 by_order Less mine both other = mine
 by_order Equal mine both other = both
 by_order Greater mine both other = other
 
--- what an entry of the first and those behind it have beside the entries of the second
+-- what an entry of the first and those after it have beside the entries of the second
 abbrev pub beside_from : Entry → (Entries → Changed) → Entries → Changed
 beside_from mine rest [] = only_before mine ∷ rest []
 beside_from mine rest (other ∷ others) =
@@ -49,7 +49,7 @@ side_by_side (e ∷ before) after = beside_from e (side_by_side before) after
 abbrev pub differing : Changed → Changed
 differing sides = filter (λ e. not (is_same e.1.0 e.1.1)) sides
 
--- an entry and those behind it; none, where no entry is seen
+-- an entry and those after it; none, where no entry is seen
 abbrev pub ahead_of : Option (Bor (List ℕ) × Bor (List ℕ) × Bor Cell) → Entries → Entries
 ahead_of None rest = []
 ahead_of (Some e) rest = seen e ∷ rest

@@ -38,6 +38,6 @@ entries_of (e ∷ es) = put key_cmp e.0 e.1 (entries_of es)
 abbrev pub catalogue_of : List Entry → Entries
 catalogue_of edits = entries_of (filter (is_best edits) edits)
 
--- each edit of the one stands in the other, however often and wherever
+-- each edit of the one is in the other, however often and wherever
 abbrev pub SameMembers : List Entry → List Entry → Type 0
 SameMembers xs ys = (e : Entry) → Contains xs e ↔ Contains ys e

@@ -21,7 +21,7 @@ entry_eq = eq_of_both (on (λ e. e.0) (eq_by_cmp key_cmp)) (on (λ e. e.1) cell_
 pub entry_equiv : IsEquivalence entry_eq
 entry_equiv = and_equiv (on_equiv (λ (e : Entry). e.0) (eq_by_cmp_equiv key_cmp_total)) (on_equiv (λ (e : Entry). e.1) cell_laws.laws-law)
 
--- an entry behind references
+-- an entry seen through references
 abbrev pub seen : Bor (List ℕ) × Bor (List ℕ) × Bor Cell → Entry
 seen e = ((e.0.now, e.1.now), e.2.now)
 

@@ -61,7 +61,7 @@ IsFaultOf sites w n step NoMemory = ⊤
 abbrev pub NoneFaulty : ℕ → List Step → Type 0
 NoneFaulty sites steps = (before : List Step) (step : Step) (after : List Step) → steps ≡ before ++ step ∷ after → IsSound sites (held_after nothing_held before) step
 
--- the fault is that of a step before which none is faulty, and tells how many stand before it
+-- the fault is that of a step before which none is faulty; its number is how many come before
 pub record IsFirstFault (sites : ℕ) (steps : List Step) (fault : PlayFault) : Type 0 where
   pub before : List Step
   pub step : Step

@@ -1,10 +1,10 @@
--- What is lent, as values.
+-- What is borrowed, as values.
 use Rattle.cata_core.specs.declared.reply.LentReply.{LentReply}
 use Rattle.cata_core.specs.declared.reply.LentReply.TheVariants.{Matched as LentMatched, Default as LentDefault, Nothing as LentNothing}
 use Rattle.cata_core.specs.declared.reply.Reply.{Reply}
 use Rattle.cata_core.specs.declared.reply.Reply.TheVariants.{Matched, Default, Nothing}
 
--- what a lent answer says
+-- what a borrowed answer says
 abbrev pub reply_of : LentReply → Reply
 reply_of (LentMatched lang label) = Matched lang.now label.now
 reply_of (LentDefault lang label) = Default lang.now label.now

@@ -1,4 +1,4 @@
--- The live labels that a set of them stands for.
+-- The live labels that are in a set of them.
 use Rattle.std.specs.Option.{option_copied}
 use Rattle.cata_core.specs.declared.live.Live.{Live}
 use Rattle.cata_core.specs.Flat.{inner_of}

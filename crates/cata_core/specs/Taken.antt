@@ -26,7 +26,7 @@ edits_in w (Merge into source) = Some (into, w.of_site source)
 edits_in w (Deliver post) = edits_delivered (slice_get w.posts post)
 edits_in w _ = None
 
--- a site takes edits behind those that it took before
+-- a site takes edits after those that it took before
 abbrev pub takes : (ℕ → List Entry) → Option (ℕ × List Entry) → ℕ → List Entry
 takes of None = of
 takes of (Some c) = λ s. if s == c.0 then of s ++ c.1 else of s

@@ -7,7 +7,7 @@ use Rattle.cata_core.proofs.MissingCells.{AreMissingSoFar, sent_above, missing_m
 use Rattle.cata_core.proofs.SummaryLists.{not_greater_self}
 use Rattle.cata_core.proofs.delta.missing_cells.Goals as goal
 
--- the key of a cell is above those in front
+-- the key of a cell is above those before it
 pub push_copy-requires : goal.push_copy-requires
 push_copy-requires c =
     let all = c.args.catalogue.now in
