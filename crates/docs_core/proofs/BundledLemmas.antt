@@ -248,8 +248,10 @@ live_member (e ∷ es) id lang label found =
       ]
     ] refl found
 
+-- What a lookup answers for a message is one of the live labels of the cells.
 pub answer_live : (widening : Widening) (cells : Entries) (items : List Item) (default : Option (List ℕ)) (e : Labelled) → IsAnswer widening cells items default e → Contains (live_labels cells) e
 answer_live widening cells items default e answer = live_member cells e.0.0 e.0.1 e.1 (label_of widening cells items default e answer)
 
+-- Each label of a bundle is one of the live labels of the cells.
 pub bundle_live : (widening : Widening) (cells : Entries) (items : List Item) (default : Option (List ℕ)) (labels : List Labelled) (e : Labelled) → IsBundleBy widening cells items default labels → Contains labels e → Contains (live_labels cells) e
 bundle_live widening cells items default labels e bundle at = answer_live widening cells items default e ((bundle.answered e).0 at)

@@ -15,6 +15,7 @@ use Rattle.docs_core.specs.Calls.{AreSynced, IsDeltaFor, IsSummarised, IsTaken}
 use Rattle.docs_core.proofs.CallsLemmas.{site_written}
 use Rattle.docs_core.proofs.OneDocument.{one_delta, one_site, one_summary}
 
+-- A site that takes a delta against a summary of which it has all gets all cells of the sender.
 pub taken_suffices : (a b text : List ℕ) (site : SiteState) (sender : Entries) (told : Stamps)
     → ReadsAsSite a site → ReadsAsDelta b (record { addressee = site.name; cells = delta_of sender told }) → Agree site.cells sender → HasAll site.cells told → IsTaken a b text
     → IsSiteText (record { name = site.name; cells = joined site.cells sender }) text
@@ -42,6 +43,7 @@ exchanged a b told delta taken site other reads_site reads_other agree (s, s_rea
     (ap₂ (λ (x : SiteState) (y : SummaryState). let r : Delta = record { addressee = y.owner; cells = delta_of x.cells y.stamps } in r) sender stamps) news.1 in
     taken_suffices a delta taken site other.cells (summary_of site.cells) reads_site reads_delta agree (has_own site.cells) takes
 
+-- Each document that a sync gives has its site's own name and the joined cells of both sites.
 pub synced_cells : (a b x y : List ℕ) (first second : SiteState) → ReadsAsSite a first → ReadsAsSite b second → AreSynced a b x y
     → let cells = cells_values (joined first.cells second.cells) in (x ≡ text (site_value first.name cells)) × (y ≡ text (site_value second.name cells))
 synced_cells a b x y first second reads_first reads_second (s, t, s_reads, t_reads, agree, is_first, is_second) =

@@ -1,4 +1,4 @@
--- A line feed behind a text changes nothing in what it reads as.
+-- A line feed after a text changes nothing in what it reads as.
 use Rattle.std.proofs.Common.{◌∙◌, ◌↔◌, ℕ, List, [], ◌∷◌, ◌++◌, length, refl, sym, subst, arith}
 use Rattle.std.specs.Prelude.{IsUtf8}
 use Rattle.std.proofs.lemmas.List.{take_at}
@@ -24,7 +24,7 @@ json_without bytes d json = (without bytes json.0, sym (read-line_feed bytes) �
 json_with : (bytes : List ℕ) (d : Data) → AreJson bytes d → AreJson (bytes ++ 10 ∷ []) d
 json_with bytes d json = (IsUtf8-append bytes (10 ∷ []) json.0 feed, read-line_feed bytes ∙ json.1)
 
--- what a text with a line feed behind it reads as, it reads as without
+-- What a text with a line feed after it reads as, it also reads as without it.
 pub free : {X : Type 0} (checks : Data → List Check) (Is : Data → X → Type 0) (bytes : List ℕ) (x : X)
     → Reads checks Is (bytes ++ 10 ∷ []) x ↔ Reads checks Is bytes x
 free checks Is bytes x = (

@@ -1,4 +1,4 @@
--- Lines behind lines.
+-- Lines after lines.
 use Rattle.std.proofs.Common.{◌≡◌, ◌∙◌, ◌+◌, ◌<◌, ◌++◌, ℕ, List, [], ◌∷◌, arith, ap, sym, length, take, get_or}
 use Rattle.std.specs.Prelude.{Option, flat_map, slice_get, Some, None}
 use Rattle.std.proofs.lemmas.List.{flat_map_more, take_more}
@@ -10,7 +10,7 @@ use Rattle.serde_json.specs.Written.{compact_text}
 use Rattle.serde_json.proofs.Texts.{print-outline}
 use Rattle.site_docs.specs.Texts.{Adds, value_tokens}
 
--- a value written behind some bytes
+-- A value that is written follows the bytes that were written before it.
 pub printed_behind : (a b : Written) (start : List ℕ) (d : Data) → a.before ≡ start → a.tokens ≡ [] → Adds a b (value_tokens d)
     → b.before ++ print b.tokens ≡ start ++ compact_text d
 printed_behind a b start d before none adds =
@@ -25,10 +25,11 @@ module _ {A : Type 0} (each : A → List ℕ) (start : List ℕ) (xs : List A) w
       let taken : take (k + 1) xs ≡ take k xs ++ x ∷ [] = take_more xs k x (slice_get_within xs k x here) ∙ ap (λ y. take k xs ++ y ∷ []) (get_or_from_slice_get xs k x x here) in
       ap (λ t. t ++ each x) so_far ∙ flat_map_more each start (take k xs) x ∙ ap (λ t. start ++ flat_map each t) (sym taken)
 
--- an item stands at each place
+-- what is there is not missing
 some_none : {A : Type 0} (x : A) (o : Option A) → o ≡ Some x → o ≡ None → ⊥
 some_none x o some none = cc
 
+-- Each place within a list has an item.
 pub item_there : {A : Type 0} → (xs : List A) (k : ℕ) → k < length xs → slice_get xs k ≡ None → ⊥
 item_there xs k within none =
     let is = slice_get-get_or_some xs k within in

@@ -15,7 +15,7 @@ use Rattle.docs_core.specs.Exported.{label_at, live_labels}
 use Rattle.docs_core.specs.declared.call.messages.Messages.{Messages}
 use Rattle.docs_core.specs.declared.call.messages.Messages.TheVariants.{All}
 
--- what the entry adds to the labels in front of the others
+-- the labels of the other entries, and before them what this entry adds
 abbrev labelled : EntryKey → Option (List (List ℕ)) → List Labelled → List Labelled
 labelled key label rest = cons_option (option_map (λ l. (key, l)) label) rest
 
@@ -30,6 +30,7 @@ below_live key (e ∷ es) h =
       | Some label ↦ both_parts (is_lt (key_cmp key e.0)) (below_all key_cmp key (live_labels es)) (first_part (is_lt (key_cmp key e.0)) (below_all key_cmp key es) h) rest
     ]
 
+-- The keys of a catalogue's live labels strictly ascend.
 pub live-IsMap : (es : Entries) → IsMap key_cmp es → IsMap key_cmp (live_labels es)
 live-IsMap [] h = tt
 live-IsMap (e ∷ es) h =
@@ -40,6 +41,7 @@ live-IsMap (e ∷ es) h =
           both_parts (below_all key_cmp e.0 (live_labels es)) (is_sorted key_cmp (live_labels es)) (below_live e.0 es (first_part (below_all key_cmp e.0 es) (is_sorted key_cmp es) h)) rest
     ]
 
+-- The keys of the live labels of chosen messages strictly ascend.
 pub chosen-IsMap : (messages : Messages) (cells : Entries) → IsMap key_cmp cells → IsMap key_cmp (chosen_labels messages cells)
 chosen-IsMap messages cells m = filter-IsMap key_cmp (λ (e : Labelled). is_chosen messages cells e.0.0) (live_labels cells) (live-IsMap cells m)
 
@@ -57,6 +59,7 @@ all_chosen cells = all_pass (live_labels cells)
 abbrev pub label_in : Option Cell → Option (List (List ℕ))
 label_in o = option_and_then (λ c. c.label) o
 
+-- The live label of a key is the label of the cell there, if it has one.
 pub find-live : (q : EntryKey) (es : Entries) → IsMap key_cmp es → find key_cmp q (live_labels es) ≡ label_at q es
 find-live q [] m = refl
 find-live q (e ∷ es) m =

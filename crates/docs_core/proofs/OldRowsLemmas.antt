@@ -79,6 +79,7 @@ row_migrated (i ∷ l ∷ t ∷ s ∷ c ∷ b ∷ []) p is =
     )
 row_migrated ds p is = absurd (cc)
 
+-- A cell read in version 1 is the migration of the old entry in the same data.
 pub cell_migrated : (d : Data) (p : Row × Option (List (List ℕ))) → cell_in One d ≡ Some p → (old : OldEntry) × (old_entry_in d ≡ Some old) × (migrated_entry old ≡ entry_of p.0 p.1)
 cell_migrated d p is = go (items_in d) is
   where
@@ -214,6 +215,7 @@ steps_migrated (d ∷ ds) (s ∷ ss) are =
     let rest = steps_migrated ds ss are.1 in
     (first.0 ∷ rest.0, (first.1, rest.1), ap (λ t. t ∷ ss) first.2 ∙ ap (λ t. migrated_step first.0 ∷ t) rest.2)
 
+-- A script read in version 1 is the migration of the old script in the same data.
 pub script_migrated : (d : Data) (script : ScriptState) → version_of d ≡ One → IsScriptDocument d script → (old : OldScript) × IsOldScriptDocument d old × (script ≡ migrated_script old)
 script_migrated d script first reads =
     let steps = steps_migrated (rows_in kind.Script d) script.steps (rw first at reads.steps) in
@@ -265,6 +267,7 @@ stamps_migrated (d ∷ ds) (e ∷ es) are =
 subject_number : (kind : Kind) (d : Data) (name : List ℕ) → version_of d ≡ One → named_in kind d ≡ Some name → (n : ℕ) × (u32_in (subject_data kind d) ≡ Some n) × (padded_name n ≡ name)
 subject_number kind d name first named = mapped_by padded_name (u32_in (subject_data kind d)) name (rw first at named)
 
+-- A site read in version 1 is the migration of the old site in the same data.
 pub site_migrated : (d : Data) (site : SiteState) → version_of d ≡ One → IsSiteDocument d site → (old : OldSite) × IsOldSiteDocument d old × (site ≡ migrated_site old)
 site_migrated d site first reads =
     let subject = subject_number kind.Site d site.name first reads.name in
@@ -275,6 +278,7 @@ site_migrated d site first reads =
       ap (λ name. let r : SiteState = record { name = name; cells = site.cells } in r) (sym subject.2) ∙ ap (λ es. let r : SiteState = record { name = padded_name subject.0; cells = es } in r) cells.2,
     )
 
+-- A delta read in version 1 is the migration of the old delta in the same data.
 pub delta_migrated : (d : Data) (delta : DeltaState) → version_of d ≡ One → IsDeltaDocument d delta → (old : OldDelta) × IsOldDeltaDocument d old × (delta ≡ migrated_delta old)
 delta_migrated d delta first reads =
     let subject = subject_number kind.Delta d delta.addressee first reads.addressee in
@@ -285,6 +289,7 @@ delta_migrated d delta first reads =
       ap (λ name. let r : DeltaState = record { addressee = name; cells = delta.cells } in r) (sym subject.2) ∙ ap (λ es. let r : DeltaState = record { addressee = padded_name subject.0; cells = es } in r) cells.2,
     )
 
+-- A summary read in version 1 is the migration of the old summary in the same data.
 pub summary_migrated : (d : Data) (summary : SummaryState) → version_of d ≡ One → IsSummaryDocument d summary → (old : OldSummary) × IsOldSummaryDocument d old × (summary ≡ migrated_summary old)
 summary_migrated d summary first reads =
     let subject = subject_number kind.Summary d summary.owner first reads.owner in

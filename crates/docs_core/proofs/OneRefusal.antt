@@ -37,6 +37,7 @@ pub record IsTest (c : Check) : Type 0 where
   pub apart : (e : DocCause) → c.passes → c.refuses e → ⊥
   pub one : (e f : DocCause) → c.refuses e → c.refuses f → e ≡ f
 
+-- Each of the checks is such a test.
 abbrev pub AreTests : List Check → Type 0
 AreTests [] = Unit {0}
 AreTests (c ∷ cs) = IsTest c × AreTests cs
@@ -144,12 +145,15 @@ named kind checks each d =
     both (header_checks kind d) (subject_checks (version_of d) (subject_data kind d) ++ rows_checks (checks (version_of d)) [] (rows_in kind d)) (headers kind d)
     (both (subject_checks (version_of d) (subject_data kind d)) (rows_checks (checks (version_of d)) [] (rows_in kind d)) (plain _ _, (plain _ _, tt)) (rows (checks (version_of d)) (each (version_of d)) [] (rows_in kind d)))
 
+-- No check of a document of cells both passes and refuses, and each refuses for one cause.
 pub cells_named : (kind : Kind) (d : Data) → AreTests (document_checks kind cell_checks d)
 cells_named kind d = named kind cell_checks cell_rows d
 
+-- No check of a document of stamps both passes and refuses, and each refuses for one cause.
 pub stamps_named : (kind : Kind) (d : Data) → AreTests (document_checks kind stamp_checks d)
 stamps_named kind d = named kind stamp_checks stamp_rows d
 
+-- No check of a script both passes and refuses, and each refuses for one cause.
 pub scripts : (d : Data) → AreTests (script_checks d)
 scripts d = both (header_checks Script d) (sites_check (subject_data Script d) ∷ rows_checks (step_checks (version_of d)) [] (rows_in Script d)) (headers Script d) (plain _ _, rows (step_checks (version_of d)) (step_rows (version_of d)) [] (rows_in Script d))
 
@@ -168,6 +172,7 @@ map_rows_tests k [] = tt
 map_rows_tests k (r ∷ rs) =
     both (maps.row_checks k r) (maps.rows_checks (k + 1) rs) (unless (maps.is_marked r.0) (maps.message_checks k r.0 r.1) (plain _ _, (plain _ _, map_keys k [] (unwrap_or r.1 [])))) (map_rows_tests (k + 1) rs)
 
+-- No check of language maps both passes and refuses, and each refuses for one cause.
 pub langmaps : (d : Data) → AreTests (maps.langmaps_checks d)
 langmaps d = (plain _ _, map_rows_tests 0 (unwrap_or (map_rows.rows_in d) []))
 

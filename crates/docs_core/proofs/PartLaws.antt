@@ -24,6 +24,7 @@ use Rattle.docs_core.proofs.BundledLemmas.{answer_live, label_of}
 
 -- ---- exports
 
+-- The live labels of a part are the part of the live labels.
 pub live_of_part : (messages : List ℕ → Bool) (cells : Entries) → live_labels (part_of messages cells) ≡ part_of messages (live_labels cells)
 live_of_part messages [] = refl
 live_of_part messages (e ∷ es) =
@@ -64,6 +65,7 @@ chosen_of_part messages p q same (e ∷ es) =
       ]
     ] refl
 
+-- The missing labels of a part are the part of the missing labels.
 pub missing_of_part : (messages : List ℕ → Bool) (lang : List ℕ) (cells : Entries) → missing_labels lang (part_of messages cells) ≡ part_of messages (missing_labels lang cells)
 missing_of_part messages lang cells =
     let of_part : Labelled → Bool = λ e. is_none (label_at (e.0.0, lang) (part_of messages cells)) in
@@ -148,6 +150,7 @@ module _ (widening : Widening) (cells : Entries) (items : List Item) (default : 
       let same : Some there.0 ≡ Some label = sym (label_of widening cells items default (k, there.0) other) ∙ label_of widening cells items default (k, label) answer in
       there.1 ∙ same
 
+-- A priority list and a default have only one bundle of labels over the same cells.
 pub one_bundle : (widening : Widening) (cells : Entries) (items : List Item) (default : Option (List ℕ)) (a b : List Labelled) → IsBundleBy widening cells items default a → IsBundleBy widening cells items default b → a ≡ b
 one_bundle widening cells items default a b first second =
     same_maps key_cmp key_cmp_total key_cmp_exact a b first.rising second.rising

@@ -26,6 +26,7 @@ module _ (script : ScriptState) where
   run_refused (NoSuchPost step) first no_clash = inr (faulty _ (λ e. cc) first no_clash)
   run_refused NoMemory first no_clash = inl refl
 
+-- The answers of a run are those of its script, and its fault is a stated refusal of the run.
 pub played_or_refused : (r : Result (List Answer) PlayFault) (script : ScriptState)
     → OnOk r (NoneFaulty script.sites script.steps) → IfOk r (AreHeldAnswers script.steps)
     → IfOk r (λ answers. IsConsistent (edits_of script.steps) → AreAnswers script.steps answers) → IfOk r (λ answers. NoDelivers script.steps → AreAnswers script.steps answers)
@@ -42,11 +43,12 @@ steps_refused bytes script cause fault reads why is = elim why [
   | inr run ↦ inr (inr (script, reads, (cause, run, is)))
 ]
 
--- at the end of a write
+-- What follows from a successful write, and from it not having failed, holds of the result.
 pub written : (r : Result (Unit {0}) DocFault) (P Q : Type 0) (failed : Bool) → OnOk r P → failed ≡ is_err r → (P → failed ≡ false → Q) → OnOk r Q
 written (Ok x) P Q failed h is more = more h is
 written (Err e) P Q failed h is more = tt
 
+-- What follows from a fault of a write, and from the write having failed, holds of the result.
 pub not_written : (r : Result (Unit {0}) DocFault) (P Q : DocFault → Type 0) (failed : Bool) → IfErr r P → failed ≡ is_err r → ((e : DocFault) → P e → failed ≡ true → Q e) → IfErr r Q
 not_written (Ok x) P Q failed h is more = tt
 not_written (Err e) P Q failed h is more = more e h is

@@ -19,7 +19,7 @@ use Rattle.site_docs.specs.Rows.{cell_in, stamp_in}
 use Rattle.site_docs.specs.declared.document.version.Version.{Version}
 use Rattle.site_docs.proofs.RisingLemmas.{key_of_cell, key_of_stamp, last_key-push}
 
--- each key is behind the one before it, and the first behind the last that was there
+-- each key is after the one before it, and the first after the last that was there
 abbrev AreBehind : {J : Type 0} → Option EntryKey → List (EntryKey × J) → Type 0
 AreBehind last [] = Unit {0}
 AreBehind last (e ∷ es) = IsBehind last e.0 × AreBehind (Some e.0) es
@@ -27,7 +27,7 @@ AreBehind last (e ∷ es) = IsBehind last e.0 × AreBehind (Some e.0) es
 so_less : (o : Ordering) → o ≡ Less → T (is_lt o)
 so_less o is = subst (λ (r : Ordering). T (is_lt r)) (sym is) tt
 
--- what is behind a key is behind a lesser one
+-- what is after a key is after a smaller one
 behind_less : {J : Type 0} (k l : EntryKey) (es : List (EntryKey × J)) → key_cmp k l ≡ Less
     → AreBehind (Some l) es → AreBehind (Some k) es
 behind_less k l [] less all = tt

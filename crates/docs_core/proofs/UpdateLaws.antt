@@ -41,6 +41,7 @@ made_at now name (e ∷ es) old new m (stamp, next, rest) q =
       | false ↦ λ t. (λ none. later.0 none ∙ find-put key_cmp key_cmp_total q e.0 cell old ∙ ap (λ u. cond u (Some cell) (find key_cmp q old)) t, later.1)
     ] refl
 
+-- The keys of the cells still strictly ascend after changes are made.
 pub made-IsMap : (now : ℕ) (name : List ℕ) (changes : List Change) (old new : Entries) → IsMap key_cmp old → Makes now name changes old new → IsMap key_cmp new
 made-IsMap now name [] old new m is = subst (IsMap key_cmp) (sym is) m
 made-IsMap now name (e ∷ es) old new m (stamp, next, rest) =
@@ -64,16 +65,19 @@ nothing_made now name changes old new none makes = subst (λ (es : List Change).
 
 -- ---- the laws
 
+-- There is only one list of changes from the old labels to the new over the same cells.
 pub one_list : (old new : List Labelled) (cells : Entries) (x y : List Change) → AreChanges old new cells x → AreChanges old new cells y → x ≡ y
 one_list old new cells x y p q =
     same_maps key_cmp key_cmp_total key_cmp_exact x y p.rising q.rising
     (λ k. one_change (find key_cmp k old) (find key_cmp k new) (label_at k cells) (find key_cmp k x) (find key_cmp k y) (p.at k) (q.at k))
 
+-- An update changes no cell where the old labels are the new ones.
 pub equal_nothing : (now : ℕ) (name : List ℕ) (labels : List Labelled) (cells updated : Entries) → Updates now name labels labels cells updated → updated ≡ cells
 equal_nothing now name labels cells updated (changes, are, makes) =
     nothing_made now name changes cells updated
     (no_change changes are.rising (λ q. quiet (find key_cmp q labels) (find key_cmp q labels) (label_at q cells) (find key_cmp q changes) (inl refl) (are.at q))) makes
 
+-- An update leaves the cell of a key whose old label is its new one.
 pub keeps_cell : (now : ℕ) (name : List ℕ) (old new : List Labelled) (cells updated : Entries) (q : EntryKey) → Updates now name old new cells updated → find key_cmp q old ≡ find key_cmp q new
     → find key_cmp q updated ≡ find key_cmp q cells
 keeps_cell now name old new cells updated q (changes, are, makes) same =
@@ -93,6 +97,7 @@ new_or_left now name old new cells updated q (changes, are, makes) =
       | inr done ↦ inr (left.1 (find key_cmp q new) done.2)
     ]
 
+-- After an update from the site's own live labels, its live labels are exactly the new ones.
 pub brings_new : (now : ℕ) (name : List ℕ) (new : List Labelled) (cells updated : Entries) → IsMap key_cmp cells → IsMap key_cmp new → Updates now name (live_labels cells) new cells updated
     → live_labels updated ≡ new
 brings_new now name new cells updated m n (changes, are, makes) =
@@ -103,6 +108,7 @@ brings_new now name new cells updated m n (changes, are, makes) =
       | inr has ↦ has
     ])
 
+-- The same update a second time, even at a later moment, changes no cell.
 pub twice_once : (now later : ℕ) (name : List ℕ) (old new : List Labelled) (cells once twice : Entries) → Updates now name old new cells once → Updates later name old new once twice → twice ≡ once
 twice_once now later name old new cells once twice first (changes, are, makes) =
     nothing_made later name changes once twice
@@ -114,6 +120,7 @@ twice_once now later name old new cells once twice first (changes, are, makes) =
 abbrev with_cells : SiteState → Entries → SiteState
 with_cells site cells = record { name = site.name; cells = cells }
 
+-- An update with the same labels before and after gives the text of the site as it was.
 pub equal_document : (bytes old new doc : List ℕ) (now : ℕ) (site : SiteState) (labels : List Labelled) → ReadsAsSite bytes site → AreLangMaps old labels → AreLangMaps new labels
     → IsUpdated bytes now old new doc → doc ≡ site_text site
 equal_document bytes old new doc now site labels reads olds news (own, before, after, cells, own_reads, befores, afters, updates, written) =
@@ -122,6 +129,7 @@ equal_document bytes old new doc now site labels reads olds news (own, before, a
     let updated = subst (λ (ls : List Labelled). Updates now own.name ls labels own.cells cells) was (subst (λ (ls : List Labelled). Updates now own.name before ls own.cells cells) is_now updates) in
     written.0 ∙ ap (λ (es : Entries). site_text (with_cells own es)) (equal_nothing now own.name labels own.cells cells updated) ∙ ap site_text (one_site bytes own site own_reads reads)
 
+-- The same update of a document a second time gives the document of the first.
 pub twice_document : (bytes old new once twice : List ℕ) (now later : ℕ) → IsUpdated bytes now old new once → IsUpdated once later old new twice → twice ≡ once
 twice_document bytes old new once twice now later (site, before, after, cells, reads, befores, afters, updates, written) (own, olds, news, last, own_reads, are_olds, are_news, more, again) =
     let same : own ≡ with_cells site cells = one_site once own (with_cells site cells) own_reads written.1 in

@@ -36,7 +36,7 @@ one_key q k t = key_cmp_exact q k (tied (key_cmp q k) t)
 itself : (k : EntryKey) → eq_by_cmp key_cmp k k ≡ true
 itself k = ap is_eq (tied_itself key_cmp_total k)
 
--- labels that are lent are the same where the comparison says so
+-- Borrowed labels are the same exactly where the comparison says so.
 pub lent_decides : (x y : Option (Bor (List (List ℕ)))) → Decides (option_eq (λ a b. pointwise (pointwise nat_eq) a.now b.now) x y) (option_map (λ l. l.now) x ≡ option_map (λ l. l.now) y)
 lent_decides None None = label_decides None None
 lent_decides None (Some y) = label_decides None (Some y.now)
@@ -45,6 +45,7 @@ lent_decides (Some x) (Some y) = label_decides (Some x.now) (Some y.now)
 
 -- ---- the heads of lists
 
+-- An ascending list has its first key at its head, and what follows it as the rest.
 pub head_there : (k : EntryKey) (texts : List (List ℕ)) (rest : List Labelled) → IsMap key_cmp ((k, texts) ∷ rest) → IsHead k (Some texts) ((k, texts) ∷ rest) rest
 head_there k texts rest m = record {
   rises = second_part (below_all key_cmp k rest) (is_sorted key_cmp rest) m;
@@ -52,6 +53,7 @@ head_there k texts rest m = record {
   at = λ q. refl;
 }
 
+-- An ascending list of greater keys has nothing at its head for a key, and is itself the rest.
 pub head_absent : (k : EntryKey) (list : List Labelled) → IsMap key_cmp list → T (below_all key_cmp k list) → IsHead k None list list
 head_absent k list m above = record {
   rises = m;
@@ -114,7 +116,7 @@ one_change old new held x y p q = elim p [
   ]
 ]
 
--- ---- keys behind a key
+-- ---- keys after a key
 
 above_found : {J : Type 0} (k q : EntryKey) (xs : List (EntryKey × J)) → T (below_all key_cmp k xs) → find key_cmp q xs ≢ None → key_cmp k q ≡ Less
 above_found k q [] h found = absurd (found refl)
@@ -143,7 +145,7 @@ abbrev At : List Labelled → List Labelled → Entries → List Change → Entr
 At old new cells changes q = IsChangeAt (find key_cmp q old) (find key_cmp q new) (label_at q cells) (find key_cmp q changes)
 
 module _ (k : EntryKey) (was is : Texts) (old new old_rest new_rest : List Labelled) (cells : Entries) (a : IsHead k was old old_rest) (b : IsHead k is new new_rest) where
-  -- the changes of what is left are behind the key
+  -- the changes of what is left are after the key
   changes_above : (mid : Entries) (changes : List Change) → AreChanges old_rest new_rest mid changes → T (below_all key_cmp k changes)
   changes_above mid changes h = below_found k changes (λ q found. from q found (find key_cmp q old_rest) (find key_cmp q new_rest) refl refl)
     where
@@ -236,7 +238,7 @@ changes_at-IsMap : (done : EntryKey → Option Texts) (xs : List Labelled) → I
 changes_at-IsMap done [] = tt
 changes_at-IsMap done (x ∷ xs) = put_if-IsMap x.0 (done x.0) (changes_at done xs) (changes_at-IsMap done xs)
 
--- what is found behind a change that may be put
+-- what is found once a change, if there is one, is put
 find-put_if : (q k : EntryKey) (change : Option Texts) (changes : List Change) → find key_cmp q (put_if k change changes) ≡ cond (eq_by_cmp key_cmp q k && is_some change) change (find key_cmp q changes)
 find-put_if q k None changes = elim (eq_by_cmp key_cmp q k) as (λ t. find key_cmp q changes ≡ cond (t && false) None (find key_cmp q changes)) [ true ↦ refl | false ↦ refl ]
 find-put_if q k (Some label) changes =
@@ -270,6 +272,7 @@ none_of_both q (x ∷ xs) ys none =
       | false ↦ λ rest. none_of_both q xs ys rest
     ] none
 
+-- There are changes from any old labels to any new ones, whatever the cells.
 pub there_are_changes : (old new : List Labelled) (cells : Entries) → (changes : List Change) × AreChanges old new cells changes
 there_are_changes old new cells = (changes_at done both, record { rising = changes_at-IsMap done both; at = λ q. at q (find key_cmp q both) refl })
   where

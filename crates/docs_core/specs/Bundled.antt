@@ -18,7 +18,7 @@ IsAnswer widening cells items default e =
     IsLookupAnswerBy widening cells e.0.0 items default (Matched e.0.1 e.1)
     ⊎ IsLookupAnswerBy widening cells e.0.0 items default (Default e.0.1 e.1)
 
--- a label stands here exactly where the lookup of its message answers it
+-- a label is here exactly where the lookup of its message answers it
 pub record IsBundleBy (widening : Widening) (cells : Entries) (items : List Item)
     (default : Option (List ℕ)) (labels : List Labelled) : Type 0 where
   pub rising : IsMap key_cmp labels

@@ -1,4 +1,4 @@
--- The lines of answers. Own rule: a line ends with one line feed, and a label stands as its compact
+-- The lines of answers. Own rule: a line ends with one line feed, and a label is its compact
 -- JSON array.
 use Rattle.std.specs.Prelude.{ℕ, List, ◌∷◌, [], ◌++◌, codes, decimal, length, flat_map}
 use Rattle.serde_json.specs.Written.{compact_text}
@@ -11,7 +11,7 @@ use Rattle.cata_core.specs.declared.reply.Reply.TheVariants.{Matched, Default, N
 use Rattle.site_docs.specs.Entries.{row_of}
 use Rattle.site_docs.specs.Values.{cell_value, texts_value}
 
--- a line feed behind the words
+-- the words, and then a line feed
 abbrev pub line : List ℕ → List ℕ
 line words = words ++ 10 ∷ []
 

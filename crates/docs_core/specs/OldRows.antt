@@ -19,7 +19,7 @@ use Rattle.script_docs.specs.StepFields.{Lists}
 use Rattle.script_docs.specs.Steps.{merge_step, filter_step, lookup_step, cells_step, tell_step}
 use Rattle.script_docs.specs.Steps.{post_step, deliver_step, step_in}
 
--- the key and the stamp of a row; languages stand in lower case
+-- the key and the stamp of a row; languages are in lower case
 abbrev pub old_parts_in : Data → Data → Data → Data → Data → Option (EntryKey × OldStamp)
 old_parts_in i l t s c =
     option_and_then (λ id. option_and_then (λ language. option_and_then (λ time. option_and_then (λ site. option_map (λ count.

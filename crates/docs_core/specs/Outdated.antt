@@ -19,7 +19,7 @@ labelled_at cell = option_and_then (λ c. option_map (λ _. c.stamp.time) c.labe
 abbrev pub live_time : EntryKey → Entries → Option ℕ
 live_time key cells = labelled_at (find key_cmp key cells)
 
--- both are there, and the first is the lesser
+-- both are there, and the first is smaller
 abbrev pub is_before : Option ℕ → Option ℕ → Bool
 is_before None other = false
 is_before (Some time) None = false

@@ -22,7 +22,7 @@ old_of r = option_map (λ l. l.now) r.old
 abbrev pub new_of : Revised → Texts
 new_of r = option_map (λ l. l.now) r.new
 
--- in front of the rest a list has this at the key, or nothing, and all keys of the rest are greater
+-- before the rest a list has this at the key, or nothing, and all keys of the rest are greater
 pub record IsHead (key : EntryKey) (texts : Texts) (list rest : List Labelled) : Type 0 where
   pub rises : IsMap key_cmp rest
   pub above : T (below_all key_cmp key rest)
