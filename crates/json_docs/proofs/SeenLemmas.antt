@@ -43,12 +43,14 @@ read_array : (value : Value Global) (items : Vec (Value Global) Global) → valu
 read_array value items is h =
     some_array (of_items (items_view items.items)) (ap (λ j. is_some (of_json j)) (sym (ap value_view is ∙ view-Array items)) ∙ h)
 
+-- The items of an array's data are the data of its items.
 pub items_in-Array : (value : Value Global) (items : Vec (Value Global) Global) (slice : List (Value Global)) → value ≡ Array items → slice ≡ items.items
     → IsRead (value_view value) → Some (map seen slice) ≡ items_in (seen value)
 items_in-Array value items slice is same h =
     ap (λ s. Some (map seen s)) same
     ∙ sym (ap (λ j. items_in (data_of j)) (ap value_view is ∙ view-Array items) ∙ array_items (of_items (items_view items.items)) _ (items_seen items.items (read_array value items is h)))
 
+-- Each item of an array that has data has data.
 pub AreRead-Array : (value : Value Global) (items : Vec (Value Global) Global) (slice : List (Value Global)) → value ≡ Array items → slice ≡ items.items
     → IsRead (value_view value) → AreRead slice
 AreRead-Array value items slice is same h = rw same (items_read items.items (read_array value items is h))
@@ -65,6 +67,7 @@ both_some None r = refl
 both_some (Some text) None = refl
 both_some (Some text) (Some texts) = refl
 
+-- A list of values reads as texts exactly where each of them is a string.
 pub is_some-texts_in : (vs : List (Value Global)) → list_all (λ (v : Value Global). is_some (as_str (seen v))) vs ≡ is_some (texts_in (map seen vs))
 is_some-texts_in [] = refl
 is_some-texts_in (v ∷ vs) = ap (λ b. is_some (as_str (seen v)) && b) (is_some-texts_in vs) ∙ sym (both_some (as_str (seen v)) (texts_in (map seen vs)))

@@ -160,6 +160,7 @@ null_first (t ∷ r) d h = cc
 none_read : (o : Option (Json × List Token)) (d : Data) → o ≡ None → whole o ≡ Some d → as_object d ≡ None
 none_read o d none h = let never : None ≡ Some d = sym (ap whole none) ∙ h in cc
 
+-- Data whose tokens do not begin with an opening brace are no object.
 pub not_object : (ts : List Token) (d : Data) → NoObject ts → whole (value 127 ts) ≡ Some d → as_object d ≡ None
 not_object [] d apart h = none_read (value 127 []) d (value_is 127 []) h
 not_object (spec.begin_object ∷ ts) d apart h = absurd (apart ts refl)

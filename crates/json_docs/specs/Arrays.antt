@@ -7,16 +7,16 @@ use Rattle.serde_json.specs.Read.{converted, of_items}
 use Rattle.json_docs.specs.Checks.{AllPass, Check, FirstFails, rows_checks}
 use Rattle.json_docs.specs.declared.fault.DocCause.{DocCause}
 
--- behind its opening bracket `old` is an array of these items, which nest at most this deep, and
+-- after its opening bracket `old` is an array of these items, which nest at most this deep, and
 -- then `new`
 abbrev pub ReadsItems : ℕ → List Token → Items → List Token → Type 0
 ReadsItems depth old ds new = converted of_items (items (value depth) (length old) old) ≡ Some (ds, new)
 
--- behind its opening bracket `old` is no such array
+-- after its opening bracket `old` is no such array
 abbrev pub ReadsNoItems : ℕ → List Token → Type 0
 ReadsNoItems depth old = converted of_items (items (value depth) (length old) old) ≡ None
 
--- behind these rows all of ds pass and are held too, or the first test that fails refuses for e
+-- after these rows all of ds pass and are held too, or the first test that fails refuses for e
 abbrev pub TakesRows : {S : Type 0} → (List Data → Data → List Check) → (S → List Data → Type 0) → List Data → S → Option DocCause → List Data → Type 0
 TakesRows checks Holds before new None ds = AllPass (rows_checks checks before ds) × Holds new (before ++ ds)
 TakesRows checks Holds before new (Some e) ds = FirstFails (rows_checks checks before ds) e

@@ -24,7 +24,7 @@ abbrev pub FirstFails : List Check → DocCause → Type 0
 FirstFails [] e = ⊥
 FirstFails (c ∷ cs) e = c.refuses e ⊎ (c.passes × FirstFails cs e)
 
--- the tests of rows in their order, each behind the rows before it
+-- the tests of rows in their order, each after the rows before it
 abbrev pub rows_checks : (List Data → Data → List Check) → List Data → List Data → List Check
 rows_checks checks before [] = []
 rows_checks checks before (d ∷ ds) = checks before d ++ rows_checks checks (before ++ d ∷ []) ds

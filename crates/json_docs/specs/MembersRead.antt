@@ -19,16 +19,16 @@ pub record ReadsNext (old : List Token) (d : Data) (new : List Token) : Type 0 w
 abbrev pub ReadsNone : ℕ → List Token → DocCause → Type 0
 ReadsNone depth old e = (e ≡ NotJson) × (converted of_json (value depth old) ≡ None)
 
--- behind its brace `old` is an object of these members, which nest at most this deep, and then
+-- after its brace `old` is an object of these members, which nest at most this deep, and then
 -- `new`
 abbrev pub ReadsMembers : ℕ → List Token → Members → List Token → Type 0
 ReadsMembers depth old ms new = converted (λ ms. of_members ms no_members) (members (value depth) (length old) old) ≡ Some (ms, new)
 
--- behind its brace `old` is no such object
+-- after its brace `old` is no such object
 abbrev pub ReadsNoMembers : ℕ → List Token → Type 0
 ReadsNoMembers depth old = converted (λ ms. of_members ms no_members) (members (value depth) (length old) old) ≡ None
 
--- behind its brace `old` is no such object that nothing follows
+-- after its brace `old` is no such object that nothing follows
 abbrev pub IsNotWhole : List Token → Type 0
 IsNotWhole old = ReadsNoMembers 126 old ⊎ ((ms : Members) × (t : Token) × (rest : List Token) × ReadsMembers 126 old ms (t ∷ rest))
 

@@ -15,7 +15,7 @@ IsRead j = is_some (of_json j) ≡ true
 abbrev pub data_of : Json → Data
 data_of j = unwrap_or (of_json j) null
 
--- the data that a value stands for
+-- the data of a value
 abbrev pub seen : {A : Type 0} → Value A → Data
 seen v = data_of (value_view v)
 

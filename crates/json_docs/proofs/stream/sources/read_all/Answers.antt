@@ -2,7 +2,7 @@ use Rattle.std.proofs.Common.{◌∙◌, arith}
 use Rattle.json_docs.proofs.Streams.{Consumes-behind}
 use Rattle.json_docs.proofs.stream.sources.read_all.Goals as goal
 
--- what was read before, and what this read gave behind it
+-- what was read before, and then what this read gave
 pub reads-preserved : goal.reads-preserved
 reads-preserved g c =
     let inv = c.reads.invariant in
