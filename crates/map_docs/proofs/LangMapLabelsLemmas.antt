@@ -1,4 +1,4 @@
--- Labels that are found key by key, and then put behind those of lesser messages.
+-- Labels that are found key by key, and then put after those of smaller messages.
 use Rattle.std.proofs.Common.{◌≡◌, ◌∙◌, ℕ, suc, ◌+◌, length, arith, add-zero, zero-add, Bool, true, false, List, [], ◌∷◌, ◌++◌, ◌||◌, cond, map, String, string_cmp, Global, Option, None, Some, string_bytes, refl, sym, ap, ap₂, subst, append_assoc, append-nil, inl, inr, true≢false}
 use Rattle.std.specs.Prelude.{◌⊎◌, All, T, is_some, unwrap_or}
 use Rattle.std.proofs.lemmas.List.{map-append}
@@ -45,13 +45,14 @@ use Rattle.json_docs.proofs.ChecksLemmas.{AllPass-both, FirstFails-behind, First
 
 -- ---- a language in lower case
 
+-- The language that a text spells is the text in lower case.
 pub spelled_lower : (text lang : List ℕ) → SpellsLang text lang → lang ≡ str_to_ascii_lowercase text
 spelled_lower text lang spells = elim spells [
   | inl none ↦ none.1 ∙ sym (ap str_to_ascii_lowercase none.0)
   | inr tag ↦ tag.1
 ]
 
--- ---- tests of keys and of rows, behind others
+-- ---- tests of keys and of rows, after others
 
 abbrev names : Keys → List (List ℕ)
 names ms = map (λ m. m.0) ms
@@ -68,12 +69,14 @@ keys_behind k before (m ∷ ms) ns =
 one_key : (k : ℕ) (before : List (List ℕ)) (key : List ℕ) (strings : Strings) → keys_checks k before ((key, strings) ∷ []) ≡ key_checks k before key strings
 one_key k before key strings = append-nil (key_checks k before key strings)
 
+-- Keys that pass, and one more that passes after them, pass together.
 pub keys_pass : (k : ℕ) (ms : Keys) (key : List ℕ) (strings : Strings) → AllPass (keys_checks k [] ms) → AllPass (key_checks k (names ms) key strings)
     → AllPass (keys_checks k [] (ms ++ (key, strings) ∷ []))
 keys_pass k ms key strings p q =
     subst AllPass (sym (keys_behind k [] ms ((key, strings) ∷ []) ∙ ap (λ cs. keys_checks k [] ms ++ cs) (one_key k (names ms) key strings)))
     (AllPass-both (keys_checks k [] ms) (key_checks k (names ms) key strings) p q)
 
+-- After keys that pass, the first failure of one more is that of all keys.
 pub keys_fail : (k : ℕ) (ms : Keys) (key : List ℕ) (strings : Strings) (ns : Keys) (e : DocCause) → AllPass (keys_checks k [] ms) → FirstFails (key_checks k (names ms) key strings) e
     → FirstFails (keys_checks k [] (ms ++ (key, strings) ∷ ns)) e
 keys_fail k ms key strings ns e p q =
@@ -91,11 +94,13 @@ rows_behind k (r ∷ rs) ss =
     ap (λ cs. first ++ cs) (rows_behind (k + 1) rs ss ∙ ap (λ n. rows_checks (k + 1) rs ++ rows_checks n ss) (later k (length rs) (length (r ∷ rs)) refl))
     ∙ sym (append_assoc first (rows_checks (k + 1) rs) (rows_checks (k + length (r ∷ rs)) ss))
 
+-- Rows that pass, and one more that passes after them, pass together.
 pub rows_pass : (rs : Rows) (r : List ℕ × Option Keys) (k : ℕ) → k ≡ length rs → AllPass (rows_checks 0 rs) → AllPass (row_checks k r) → AllPass (rows_checks 0 (rs ++ r ∷ []))
 rows_pass rs r k at p q =
     subst AllPass (sym (rows_behind 0 rs (r ∷ []) ∙ ap (λ cs. rows_checks 0 rs ++ cs) (append-nil (row_checks (0 + length rs) r))))
     (AllPass-both (rows_checks 0 rs) (row_checks (0 + length rs) r) p (subst (λ n. AllPass (row_checks n r)) (at ∙ sym (zero-add (length rs))) q))
 
+-- After rows that pass, the first failure of one more is that of all rows.
 pub rows_fail : (rs : Rows) (r : List ℕ × Option Keys) (ss : Rows) (k : ℕ) (e : DocCause) → k ≡ length rs → AllPass (rows_checks 0 rs) → FirstFails (row_checks k r) e
     → FirstFails (rows_checks 0 (rs ++ r ∷ ss)) e
 rows_fail rs r ss k e at p q =
@@ -166,7 +171,7 @@ live_insert (e ∷ es) lang label new =
           (swapped (one lang label) (one e.0 e.1) (live es) (live (insert_entry text_cmp es lang label)) rest))
     ] apart
 
--- the label of a key behind others
+-- the label of a key after others
 one_labelled : (key lang : List ℕ) (texts : List (List ℕ)) (label : Option (List (List ℕ))) → lang ≡ str_to_ascii_lowercase key → IsOneLabel texts label → languages_of ((key, Some texts) ∷ []) ≡ one lang label
 one_labelled key lang [] label is holds = ap (one lang) (sym holds)
 one_labelled key lang (t ∷ ts) label is holds = ap (λ l. (l, t ∷ ts) ∷ []) (sym is) ∙ ap (one lang) (sym holds)
@@ -181,6 +186,7 @@ or_false : (b : Bool) → b ≡ (b || false)
 or_false true = refl
 or_false false = refl
 
+-- Inserting the label of one more key, whose language was absent, gives what all the keys hold.
 pub HoldsKeys-next : (before : Keys) (found new : Found) (key lang : List ℕ) (texts : List (List ℕ)) (label : Option (List (List ℕ)))
     → HoldsKeys before found → lang ≡ str_to_ascii_lowercase key → is_some (lookup (is_at (text_cmp lang)) found) ≡ false → IsOneLabel texts label
     → new ≡ insert_entry text_cmp found lang label
@@ -201,7 +207,7 @@ HoldsKeys-next before found new key lang texts label holds is absent of_texts en
   map = subst (IsMap text_cmp) (sym (entries ∙ insert_is_put found lang label)) (is_sorted-put text_cmp nat_list_cmp_total lang label found holds.map);
 }
 
--- ---- labels behind those of lesser messages
+-- ---- labels after those of smaller messages
 
 below_live : (x : List ℕ) (es : Found) → T (below_all text_cmp x es) → T (below_all text_cmp x (live es))
 below_live x [] h = tt
@@ -210,6 +216,7 @@ below_live x ((k, Some texts) ∷ es) h =
     both_parts (is_lt (text_cmp x k)) (below_all text_cmp x (live es)) (first_part (is_lt (text_cmp x k)) (below_all text_cmp x es) h)
     (below_live x es (second_part (is_lt (text_cmp x k)) (below_all text_cmp x es) h))
 
+-- The languages of the labels that were found strictly ascend.
 pub live_IsMap : (es : Found) → IsMap text_cmp es → IsMap text_cmp (live es)
 live_IsMap [] h = tt
 live_IsMap ((k, None) ∷ es) h = live_IsMap es (second_part (below_all text_cmp k es) (is_sorted text_cmp es) h)
@@ -233,6 +240,7 @@ below_under id x (l ∷ ls) h =
     (is_less (key_cmp (id, x) (id, l.0)) (same_id id x l.0 ∙ less_than (text_cmp x l.0) (first_part (is_lt (text_cmp x l.0)) (below_all text_cmp x ls) h)))
     (below_under id x ls (second_part (is_lt (text_cmp x l.0)) (below_all text_cmp x ls) h))
 
+-- The labels of a message have strictly ascending keys where their languages strictly ascend.
 pub under_IsMap : (id : List ℕ) (ls : Languages) → IsMap text_cmp ls → IsMap key_cmp (under id ls)
 under_IsMap id [] h = tt
 under_IsMap id (l ∷ ls) h =
@@ -250,7 +258,7 @@ below_both k (x ∷ xs) ys p q =
     both_parts (is_lt (key_cmp k x.0)) (below_all key_cmp k (xs ++ ys)) (first_part (is_lt (key_cmp k x.0)) (below_all key_cmp k xs) p)
     (below_both k xs ys (second_part (is_lt (key_cmp k x.0)) (below_all key_cmp k xs) p) q)
 
--- the labels of a message stand behind those of lesser ones
+-- Ascending labels and then those of a greater message strictly ascend.
 pub behind_IsMap : (es : List Labelled) (id : List ℕ) (ls : Languages) → IsMap key_cmp es → AreLesser es id → IsMap text_cmp ls → IsMap key_cmp (es ++ under id ls)
 behind_IsMap [] id ls m lesser h = under_IsMap id ls h
 behind_IsMap (e ∷ es) id ls m lesser h =
@@ -262,7 +270,7 @@ below_in : (k : EntryKey) (es : List Labelled) (x : Labelled) (ys : List Labelle
 below_in k [] x ys h = less_than (key_cmp k x.0) (first_part (is_lt (key_cmp k x.0)) (below_all key_cmp k ys) h)
 below_in k (e ∷ es) x ys h = below_in k es x ys (second_part (is_lt (key_cmp k e.0)) (below_all key_cmp k (es ++ x ∷ ys)) h)
 
--- in a list that rises each key is above those in front of it
+-- In an ascending list each key is above those before it.
 pub above_front : (es : List Labelled) (x : Labelled) (ys : List Labelled) → IsMap key_cmp (es ++ x ∷ ys) → IsAboveAll x.0 es
 above_front [] x ys m = All-nil (λ (e : Labelled). key_cmp e.0 x.0 ≡ Less)
 above_front (e ∷ es) x ys m =
@@ -275,6 +283,7 @@ all_under : (id other : List ℕ) (ls : Languages) → text_cmp id other ≡ Les
 all_under id other [] less = All-nil (λ (e : Labelled). text_cmp e.0.0 other ≡ Less)
 all_under id other (l ∷ ls) less = All-cons (λ (e : Labelled). text_cmp e.0.0 other ≡ Less) ((id, l.0), l.1) (under id ls) less (all_under id other ls less)
 
+-- The rows left after a row are also greater than the labels that the row adds.
 pub lesser_next : {X : Type 0} (labels : List Labelled) (name : String Global) (ls : Languages) (left : List (String Global × X))
     → All (λ (r : String Global × X). AreLesser labels (string_bytes r.0)) left → AllByRecursion (λ y. string_cmp name y ≡ Less) (keys_of left)
     → All (λ (r : String Global × X). AreLesser (labels ++ under (string_bytes name) ls) (string_bytes r.0)) left
@@ -285,6 +294,7 @@ lesser_next {X} labels name ls (r ∷ left) all less =
     (all_first (λ (r : String Global × X). AreLesser labels (string_bytes r.0)) r left all) (all_under (string_bytes name) (string_bytes r.0) ls less.0))
     (lesser_next labels name ls left (all_rest (λ (r : String Global × X). AreLesser labels (string_bytes r.0)) r left all) less.1)
 
+-- Any rows that are left are greater than no labels.
 pub none_lesser : {X : Type 0} (left : List (String Global × X)) → All (λ (r : String Global × X). AreLesser [] (string_bytes r.0)) left
 none_lesser {X} [] = All-nil (λ (r : String Global × X). AreLesser [] (string_bytes r.0))
 none_lesser {X} (r ∷ left) =
@@ -293,6 +303,7 @@ none_lesser {X} (r ∷ left) =
 row_unmarked : (r : List ℕ × Option Keys) → is_marked r.0 ≡ false → row_labels r ≡ under r.0 (languages_of (unwrap_or r.1 []))
 row_unmarked r h = ap (λ b. unless_skipped b (under r.0 (languages_of (unwrap_or r.1 [])))) h
 
+-- One more row adds its labels to those of the rows before it.
 pub rows_labels_one : (rs : Rows) (r : List ℕ × Option Keys) → rows_labels (rs ++ r ∷ []) ≡ rows_labels rs ++ row_labels r
 rows_labels_one rs r = flat_map-append row_labels rs (r ∷ []) ∙ ap (λ t. rows_labels rs ++ t) (append-nil (row_labels r))
 
@@ -302,7 +313,7 @@ labels_skip rs r labels marked p =
     subst (λ t. IsPermutation t labels)
     (sym (rows_labels_one rs r ∙ ap (λ b. rows_labels rs ++ unless_skipped b (under r.0 (languages_of (unwrap_or r.1 [])))) marked ∙ append-nil (rows_labels rs))) p
 
--- a row more, whose labels come behind
+-- One more row that is no skipped one adds its labels after those of the rows before it.
 pub labels_next : (rs : Rows) (r : List ℕ × Option Keys) (old new : List Labelled) → is_marked r.0 ≡ false → IsPermutation (rows_labels rs) old → AddsLanguages old new r.0 (unwrap_or r.1 [])
     → IsPermutation (rows_labels (rs ++ r ∷ [])) new
 labels_next rs r old new unmarked p (ls, same, rising, is) =
@@ -314,10 +325,11 @@ labels_next rs r old new unmarked p (ls, same, rising, is) =
 
 -- ---- the tests of one key
 
--- memory ran out, or the key is refused behind any keys that are held
+-- memory ran out, or the key is refused after any keys with these labels
 abbrev pub IsKeyRefusal : Found → ℕ → List ℕ → Strings → DocCause → Type 0
 IsKeyRefusal found k key strings e = (e ≡ NoMemory) ⊎ ((before : Keys) → HoldsKeys before found → FirstFails (key_checks k (names before) key strings) e)
 
+-- A refusal of the language of a key is one of the key.
 pub language_fails : (found : Found) (k : ℕ) (text key : List ℕ) (strings : Strings) (e : DocCause) → text ≡ key → (e ≡ NoMemory) ⊎ IsLanguageRefusal k text e → IsKeyRefusal found k key strings e
 language_fails found k text key strings e same why = elim why [
   | inl h ↦ inl h
@@ -327,6 +339,7 @@ language_fails found k text key strings e same why = elim why [
 spelled : (text key lang : List ℕ) → text ≡ key → SpellsLang text lang → IsSpelled key
 spelled text key lang same spells = subst IsSpelled same (lang, spells)
 
+-- The language that a key spells is the key in lower case.
 pub lower_of : (text key lang : List ℕ) → text ≡ key → SpellsLang text lang → lang ≡ str_to_ascii_lowercase key
 lower_of text key lang same spells = spelled_lower text lang spells ∙ ap str_to_ascii_lowercase same
 
@@ -353,17 +366,21 @@ module _ (found : Found) (k : ℕ) (text key lang : List ℕ) (same : text ≡ k
     key_passes texts strings is labelled before holds =
         (spelled text key lang same spells, (tested false absent before holds, (ap is_some is, (subst IsLabelOrNone (sym (ap (λ o. unwrap_or o []) is)) labelled, tt))))
 
--- ---- keys and rows as they are held
+-- ---- keys and rows as they are kept
 
+-- The keys seen in two lists in sequence are those of the first, and then those of the second.
 pub keys_seen_behind : (es fs : List (String Global × HeldStrings)) → keys_seen (es ++ fs) ≡ keys_seen es ++ keys_seen fs
 keys_seen_behind es fs = map-append (λ (e : String Global × HeldStrings). (string_bytes e.0, strings_seen e.1)) es fs
 
+-- The rows seen in two lists in sequence are those of the first, and then those of the second.
 pub rows_seen_behind : (es fs : List (String Global × Option HeldKeys)) → rows_seen (es ++ fs) ≡ rows_seen es ++ rows_seen fs
 rows_seen_behind es fs = map-append (λ (e : String Global × Option HeldKeys). (string_bytes e.0, keys_in_seen e.1)) es fs
 
+-- A list in two pieces is also cut after the first element of the second piece.
 pub one_further : {X : Type 0} (all front : List X) (x : X) (left rest : List X) → all ≡ front ++ left → left ≡ x ∷ rest → all ≡ (front ++ x ∷ []) ++ rest
 one_further all front x left rest is next = is ∙ ap (λ t. front ++ t) next ∙ sym (append_assoc front (x ∷ []) rest)
 
+-- Of two alternatives the second may be replaced by what follows from it.
 pub else_by : {P Q R : Type 0} → P ⊎ Q → (Q → R) → P ⊎ R
 else_by why follows = elim why [ inl h ↦ inl h | inr h ↦ inr (follows h) ]
 
@@ -379,6 +396,7 @@ pub record HoldsRows (rows : Rows) (labels : List Labelled) (left : List (String
   pub lesser : All (λ (r : String Global × Option HeldKeys). AreLesser labels (string_bytes r.0)) left
   pub rising : IsStrictlySortedBy string_cmp (keys_of left)
 
+-- The labels so far are of smaller messages than the next row.
 pub first_lesser : (rows : Rows) (labels : List Labelled) (r : String Global × Option HeldKeys) (left : List (String Global × Option HeldKeys))
     → HoldsRows rows labels (r ∷ left) → AreLesser labels (string_bytes r.0)
 first_lesser rows labels r left holds = all_first (λ (x : String Global × Option HeldKeys). AreLesser labels (string_bytes x.0)) r left holds.lesser
@@ -405,6 +423,7 @@ message_next rows old new r left holds unmarked adds =
       rising = holds.rising.1;
     }
 
+-- The labels of the rows so far, grown by those of the next row, are those of one row more.
 pub HoldsRows-next : (rows : Rows) (old new : List Labelled) (r : String Global × Option HeldKeys) (left : List (String Global × Option HeldKeys))
     → HoldsRows rows old (r ∷ left) → AddsRow old new (seen_row r) → HoldsRows (rows ++ seen_row r ∷ []) new left
 HoldsRows-next rows old new r left holds adds = elim adds [
@@ -412,9 +431,11 @@ HoldsRows-next rows old new r left holds adds = elim adds [
   | inr message ↦ message_next rows old new r left holds message.0 message.1
 ]
 
+-- Before the first row there are no labels, and the rows left are in strictly ascending order.
 pub HoldsRows-none : (left : List (String Global × Option HeldKeys)) → IsStrictlySortedBy string_cmp (keys_of left) → HoldsRows [] [] left
 HoldsRows-none left rising = record { same = IsPermutation-refl []; map = tt; lesser = none_lesser left; rising = rising }
 
+-- The number of rows that are seen is the number of rows.
 pub same_length : (front : List (String Global × Option HeldKeys)) → length front ≡ length (rows_seen front)
 same_length [] = refl
 same_length (r ∷ front) = ap suc (same_length front)

@@ -1,4 +1,4 @@
--- A list of labels that rises is told by its labels.
+-- A list of labels in ascending order is known by its labels.
 use Rattle.std.proofs.Common.{◌≡◌, ◌∙◌, ◌<◌, ℕ, zero, suc, List, [], ◌∷◌, length, get_or, false, refl, sym, ap, ap₂, subst, add-one, arith}
 use Rattle.std.specs.Prelude.{IsSorted, IsPermutation}
 use Rattle.std.proofs.lemmas.Cmp.{lists_total, nat_list_cmp_total}
@@ -59,6 +59,7 @@ same_rows d x y (rows, is, p, m) (others, also, q, n) =
     let same : others ≡ rows = same_Some others rows (sym also ∙ is) in
     same_lists rows x y p m (subst (λ (rs : Rows). IsPermutation (rows_labels rs) y) same q) n
 
+-- A text is the language maps of one list of labels at most.
 pub same_labels : (bytes : List ℕ) (x y : List Labelled) → AreLangMaps bytes x → AreLangMaps bytes y → x ≡ y
 same_labels bytes x y (d, json, passes, reads) (e, also, passes_also, reads_also) =
     let same : e ≡ d = same_Some e d (sym also.1 ∙ json.1) in

@@ -19,7 +19,7 @@ use Rattle.json_docs.specs.Reads.{seen}
 use Rattle.map_docs.specs.LangMapRows.{is_string_or_null, members_by, strings_of}
 use Rattle.map_docs.specs.LangMapRowsSeen.{members_seen}
 
--- ---- a member more, as it is read and as it is held
+-- ---- a member more, as it is read and as it is kept
 
 abbrev seen_as : {X Y : Type 0} → (X → Y) → String Global × X → List ℕ × Y
 seen_as f e = (string_bytes e.0, f e.1)
@@ -45,6 +45,7 @@ members_by-put of k d (member l e ms) =
       | Greater ↦ ap (λ t. (l, of e) ∷ t) (members_by-put of k d ms)
     ]
 
+-- Inserting a member that was read gives what is seen of the object with that member.
 pub member_inserted : {X Y : Type 0} (seen_of : X → Y) (in_data : Data → Y) (es : List (String Global × X)) (name : String Global) (x : X) (k : List ℕ) (d : Data) (ms : Members)
     → members_seen seen_of es ≡ members_by in_data ms → string_bytes name ≡ k → seen_of x ≡ in_data d → members_seen seen_of (insert_entry string_cmp es name x) ≡ members_by in_data (plain.put k d ms)
 member_inserted seen_of in_data es name x k d ms same named is =
@@ -59,6 +60,7 @@ member_inserted seen_of in_data es name x k d ms same named is =
 one_taken : (vs : List (Value Global)) (k : ℕ) (v : Value Global) → k < length vs → v ≡ get_or vs k v → take (k + 1) vs ≡ take k vs ++ v ∷ []
 one_taken vs k v h is = rw (add-one, take-suc vs k v h) (ap (λ (x : Value Global). take k vs ++ x ∷ []) (sym is))
 
+-- One item more adds its string, if it is one, to the strings before it.
 pub item_strings-push : (vs : List (Value Global)) (k : ℕ) (v : Value Global) → k < length vs → v ≡ get_or vs k v
     → filter_map as_str (map seen (take (k + 1) vs)) ≡ filter_map as_str (map seen (take k vs)) ++ filter_map as_str (seen v ∷ [])
 item_strings-push vs k v h is =
@@ -70,6 +72,7 @@ and_true : (b : Bool) → (b && true) ≡ b
 and_true true = refl
 and_true false = refl
 
+-- Items are all strings or nulls exactly where those before the last are, and the last is.
 pub items_fit-push : (vs : List (Value Global)) (k : ℕ) (v : Value Global) → k < length vs → v ≡ get_or vs k v
     → list_all is_string_or_null (map seen (take (k + 1) vs)) ≡ (list_all is_string_or_null (map seen (take k vs)) && is_string_or_null (seen v))
 items_fit-push vs k v h is =

@@ -75,6 +75,7 @@ flat-with_label e (m ∷ ms) = by_id (bytes_eq e.0.0 m.0) (bytes_eq-Decides e.0.
     by_id true same = ap (λ (id : List ℕ). e ∷ (under id m.1 ++ flat ms)) (same.0 refl)
     by_id false same = refl
 
+-- Labels grouped by message and made one list again are the labels.
 pub flat-by_message : (es : List Labelled) → flat (by_message es) ≡ es
 flat-by_message [] = refl
 flat-by_message (e ∷ es) = flat-with_label e (by_message es) ∙ ap (λ t. e ∷ t) (flat-by_message es)
@@ -118,7 +119,7 @@ language_back (t ∷ u ∷ ts) = ap (option_map plain.array) (items_back (t ∷ 
 above : (k l : List ℕ) → text_cmp l k ≡ Less → text_cmp k l ≡ Greater
 above k l less = nat_list_cmp_total.antisymm k l ∙ ap ordering_reverse less
 
--- a language above those before it goes behind them
+-- a language above those before it is put after them
 put_language : (front : Languages) (l : List ℕ × List (List ℕ)) (rest : Languages) → IsMap text_cmp (front ++ l ∷ rest)
     → plain.put l.0 (language_value l.1) (languages_members front) ≡ languages_members (front ++ l ∷ [])
 put_language [] l rest m = refl
@@ -228,6 +229,7 @@ messages_back front (n ∷ ms) m r =
     ∙ messages_back (front ++ n ∷ []) ms (subst (IsMap text_cmp) (sym one_more) m) r.2
     ∙ ap (λ l. Some (messages_members l)) one_more
 
+-- Language maps that are written as JSON read back as the same data.
 pub langmaps_back : (es : List Labelled) → IsMap key_cmp es → of_json (outline (langmaps_value es)) ≡ Some (langmaps_value es)
 langmaps_back es m = let rises = by_message-rises es m in ap (option_map plain.object) (messages_back [] (by_message es) rises.0 rises.1)
 
@@ -304,6 +306,7 @@ rows_back (m ∷ ms) r w =
     ∙ ap (under m.0) (languages_of-back m.0 m.1 (flat ms) w))
     (rows_back ms r.2 (writable_rest m.0 m.1 (flat ms) w))
 
+-- The rows of written language maps have the labels that were written.
 pub labels_back : (es : List Labelled) → IsMap key_cmp es → AreWritable es → rows_labels (rows_of (messages_members (by_message es))) ≡ es
 labels_back es m w =
     let rises = by_message-rises es m in
@@ -361,6 +364,7 @@ rows_pass_back k (m ∷ ms) r w =
     (id, (refl, subst (λ (ks : Keys). AllPass (keys_checks k [] ks)) (sym (keys_of-languages m.1)) (keys_pass_back k m.0 [] m.1 (flat ms) w r.0 tt))))
     (rows_pass_back (k + 1) ms r.2 (writable_rest m.0 m.1 (flat ms) w))
 
+-- Written language maps pass all checks.
 pub passes_back : (es : List Labelled) → IsMap key_cmp es → AreWritable es → AllPass (langmaps_checks (langmaps_value es))
 passes_back es m w =
     let rises = by_message-rises es m in
@@ -405,6 +409,7 @@ value_back d shallow numbers =
 text_back : (d : Data) → depth (outline d) ≤ 127 → HasNumbers (outline d) → of_json (outline d) ≡ Some d → read (text d) ≡ Some d
 text_back d shallow numbers back = read-line_feed (compact_text d) ∙ ap whole (value_back d shallow numbers) ∙ back
 
+-- The text that is written for labels is the language maps of these labels.
 pub reads_back : (es : List Labelled) → IsMap key_cmp es → AreWritable es → IsUtf8 (text (langmaps_value es)) → AreLangMaps (text (langmaps_value es)) es
 reads_back es m w utf8 =
     let within = messages_shallow (by_message es) in

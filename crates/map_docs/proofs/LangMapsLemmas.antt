@@ -16,6 +16,7 @@ use Rattle.map_docs.specs.LangMapsWritten.{label_tokens, labels_tokens, opening_
 use Rattle.map_docs.specs.declared.maps.KeyedLabel.{KeyedLabel}
 use Rattle.site_docs.proofs.TextsLemmas.{printed}
 
+-- A label pushed to a list adds its key and texts to the list's.
 pub labels_push : (labels : List KeyedLabel) (l : KeyedLabel) → labels_of (labels ++ l ∷ []) ≡ labels_of labels ++ ((l.id, l.lang), l.label) ∷ []
 labels_push labels l = map-append (λ (l : KeyedLabel). ((l.id, l.lang), l.label)) labels (l ∷ [])
 
@@ -36,7 +37,7 @@ abbrev tokens_from : Option (List ℕ) → Messages → List Token
 tokens_from None ms = messages_tokens ms
 tokens_from (Some id) ms = tokens_after id ms
 
--- the tokens of the first message behind its opening brace, and of those behind it
+-- the tokens of the first message after its opening brace, and of those after it
 abbrev tokens_within : Messages → List Token
 tokens_within [] = []
 tokens_within (m ∷ ms) = members_tokens (members_outline (languages_members m.1)) ++ messages_tokens ms
@@ -68,7 +69,7 @@ after_first id e (m ∷ ms) =
     let two : Bool → Messages = λ b. if b then (e.0.0, here ∷ m.1) ∷ ms else (e.0.0, here ∷ []) ∷ m ∷ ms in
     elim (bytes_eq e.0.0 m.0) as (λ b. tokens_after id (two b) ≡ (if bytes_eq id e.0.0 then tokens_within (two b) else end_object ∷ messages_tokens (two b))) [ true ↦ refl | false ↦ refl ]
 
--- a label in front of the messages: what opens its own, its tokens, and what follows it
+-- a label before the messages: what opens its own, its tokens, and what follows it
 from_label : (current : Option (List ℕ)) (e : Labelled) (ms : Messages) → tokens_from current (with_label e ms) ≡ opening_tokens current e.0.0 ++ (label_tokens e ++ tokens_after e.0.0 ms)
 from_label None e ms = whole_first e ms ∙ ap (λ t. key e.0.0 ∷ begin_object ∷ t) (within e ms)
 from_label (Some id) e ms =
@@ -79,6 +80,7 @@ from_label (Some id) e ms =
       | false ↦ ap (λ t. end_object ∷ t) (whole_first e ms ∙ ap (λ t. key e.0.0 ∷ begin_object ∷ t) (within e ms))
     ]
 
+-- The tokens written label by label are those of the labels grouped by message.
 pub all_tokens : (current : Option (List ℕ)) (es : List Labelled) → labels_tokens current es ≡ tokens_from current (by_message es)
 all_tokens None [] = refl
 all_tokens (Some id) [] = refl

@@ -42,6 +42,7 @@ writing_next old new current e left all w adds valid = record {
 pub found_last : (draft : Written) (current : Option (List ℕ)) (all : List Labelled) → IsWriting draft current [] all → is_some current ≡ has_label all
 found_last draft current all w = sym (or_false (is_some current)) ∙ w.found
 
+-- There is a borrowed value exactly where there is its value.
 pub some_lent : {A : Type 0} (o : Option (Bor A)) → is_some o ≡ is_some (option_map (λ x. x.now) o)
 some_lent None = refl
 some_lent (Some x) = refl

@@ -28,7 +28,7 @@ IsStringsRefusal k (t ∷ ts) e = IsLabelRefusal k (Some (t ∷ ts)) e
 abbrev pub label_check : ℕ → List (List ℕ) → Check
 label_check k strings = record { passes = IsLabelOrNone strings; refuses = IsStringsRefusal k strings }
 
--- the tests of a key of row k behind the keys before it
+-- the tests of a key of row k after the keys before it
 abbrev pub key_checks : ℕ → List (List ℕ) → List ℕ → Strings → List Check
 key_checks k before key strings =
     language_check k key

@@ -17,7 +17,7 @@ use Rattle.map_docs.specs.LangMapRows.{Keys, Rows, Strings}
 use Rattle.map_docs.specs.LangMaps.{Labelled}
 use Rattle.map_docs.specs.LangMapsValue.{Languages}
 
--- the strings, the keys and the rows as they are held
+-- the strings, the keys and the rows as they are kept
 abbrev pub HeldStrings : Type 0
 HeldStrings = Option (Vec (String Global) Global)
 
@@ -68,7 +68,7 @@ IsOneLabel (t ∷ ts) label = label ≡ Some (t ∷ ts)
 abbrev pub AddsLanguages : List Labelled → List Labelled → List ℕ → Keys → Type 0
 AddsLanguages old new id keys = (languages : Languages) × IsPermutation (languages_of keys) languages × IsMap text_cmp languages × (new ≡ old ++ under id languages)
 
--- the messages of the labels are lesser than this one
+-- the messages of the labels are smaller than this one
 abbrev pub AreLesser : List Labelled → List ℕ → Type 0
 AreLesser labels id = All (λ e. text_cmp e.0.0 id ≡ Less) labels
 

@@ -14,7 +14,7 @@ Languages = List (List ℕ × List (List ℕ))
 abbrev pub Messages : Type 0
 Messages = List (List ℕ × Languages)
 
--- the label goes to the first message where that is its own, else to a message in front of it
+-- the label goes to the first message where that is its own, else to a new one before it
 abbrev pub with_label : Labelled → Messages → Messages
 with_label e [] = (e.0.0, (e.0.1, e.1) ∷ []) ∷ []
 with_label e (m ∷ ms) = if bytes_eq e.0.0 m.0 then (e.0.0, (e.0.1, e.1) ∷ m.1) ∷ ms else (e.0.0, (e.0.1, e.1) ∷ []) ∷ m ∷ ms

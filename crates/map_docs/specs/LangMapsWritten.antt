@@ -23,7 +23,7 @@ opening_tokens (Some current) id = if bytes_eq current id then [] else end_objec
 abbrev pub label_tokens : Labelled → List Token
 label_tokens e = key e.0.1 ∷ value_tokens (language_value e.1)
 
--- the labels behind those of the current message, then its end and that of the outer object
+-- the labels after those of the current message, then its end and that of the outer object
 abbrev pub labels_tokens : Option (List ℕ) → List Labelled → List Token
 labels_tokens current [] = closing_tokens current ++ end_object ∷ []
 labels_tokens current (e ∷ es) = opening_tokens current e.0.0 ++ (label_tokens e ++ labels_tokens (Some e.0.0) es)

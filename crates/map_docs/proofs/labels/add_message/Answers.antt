@@ -6,7 +6,7 @@ use Rattle.map_docs.specs.LangMapRowsSeen.{keys_in_seen, keys_seen, live}
 use Rattle.map_docs.proofs.LangMapLabelsLemmas.{behind_IsMap, live_IsMap, message_added}
 use Rattle.map_docs.proofs.labels.add_message.Goals as goal
 
--- what was found rises, and stands behind lesser messages
+-- what was found ascends, and comes after smaller messages
 pub push_languages-requires : goal.push_languages-requires
 push_languages-requires c =
     subst (λ (id : List ℕ). IsMap key_cmp (c.args.maps.now ++ under id (live c.in_ok-found.found.entries))) (sym c.in_ok-id.ensures.1)

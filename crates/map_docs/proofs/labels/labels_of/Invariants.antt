@@ -5,7 +5,7 @@ use Rattle.map_docs.specs.LangMapRowsSeen.{HeldKeys, rows_seen}
 use Rattle.map_docs.proofs.LangMapLabelsLemmas.{HoldsRows}
 use Rattle.map_docs.proofs.labels.labels_of.Given as goal
 
--- the rows so far pass, their labels are held, and those that are left are of greater messages
+-- the rows so far pass, their labels are kept, and those that are left are of greater messages
 abbrev pub invariant-rows : goal.invariant-rows
 invariant-rows l =
     (front : List (String Global × Option HeldKeys))

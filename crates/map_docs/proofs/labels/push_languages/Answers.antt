@@ -6,7 +6,7 @@ use Rattle.map_docs.specs.LangMapRowsSeen.{Found, live}
 use Rattle.map_docs.proofs.LangMapLabelsLemmas.{above_front}
 use Rattle.map_docs.proofs.labels.push_languages.Goals as goal
 
--- it is above those in front of it, since all rise
+-- it is above those before it, since all ascend
 pub push-requires : goal.push-requires
 push-requires c =
     let next : c.found.lang-iterator ≡ (c.in-Some.lang, Some c.in-Some-label.label) ∷ c.next.new.self =
