@@ -1,4 +1,4 @@
--- A document that stands as it is written is read as its value.
+-- A document in written order is read as its value.
 use Rattle.std.proofs.Common.{◌≡◌, ◌∙◌, ◌<◌, ◌≤◌, ◌-◌, ◌^◌, ◌++◌, ℕ, List, [], ◌∷◌, map, length, length-append, refl, ap, sym, append_assoc, arith, codes, inr}
 use Rattle.std.specs.Prelude.{Option, None, Some, option_map}
 use Rattle.json.specs.Json as json
@@ -101,6 +101,7 @@ label_shorter (Some ts) rest new is =
     let l : length rest ≡ length (begin_array ∷ (map string ts ++ end_array ∷ new)) = ap length is in
     omega (arith, l, length-append (map string ts) (end_array ∷ new))
 
+-- After a row with its label fewer tokens are left than before it.
 pub entry_shorter : (old rest new : List Token) (row : Row) (label : Option (List (List ℕ))) → BeginsRow old row rest → BeginsLabel rest label (end_array ∷ new) → length new < length old
 entry_shorter old rest new row label first last =
     let l : length old ≡ length (begin_array ∷ string row.id ∷ string row.language ∷ number first.time ∷ string row.site ∷ number first.count ∷ rest) = ap length first.tokens in
@@ -120,7 +121,7 @@ entry_taken front old new row label e fits fields is passed makes above pushed =
       MakesEntries-push (entry_in Two) front old new d e makes made above pushed,
     )
 
--- ---- the members behind the rows
+-- ---- the members after the rows
 
 scalar_text : (s : List ℕ) (r : List Token) → converted of_json (value 126 (string s ∷ r)) ≡ Some (json_data.string s, r)
 scalar_text s r = ap (converted of_json) (value_is 126 (string s ∷ r))
@@ -160,6 +161,7 @@ in_order Script name ds = rw (items_of-list_of ds) refl
 
 -- ---- the whole text
 
+-- A text whose tokens are a document of cells in written order reads as that document.
 pub document_read : (kind : Kind) (text name : List ℕ) (ts rest : List Token) (ds : Items) → tokens text ≡ begin_object ∷ key (codes "cells") ∷ begin_array ∷ ts
     → ReadsItems 125 ts ds rest → length rest < length ts → EndsNamed kind rest name → read text ≡ Some (cells_document kind name (list_of ds))
 document_read kind text name ts rest ds is rows shorter last =
@@ -176,6 +178,7 @@ document_read kind text name ts rest ds is rows shorter last =
 
 -- ---- what it reads as
 
+-- A document of a site in written order reads as the site of its name and entries.
 pub site_read : (bytes name : List ℕ) (cells : Entries) → ReadsCells Site bytes name cells → ReadsAsSite bytes (record { name = name; cells = cells })
 site_read bytes name cells read =
     let d = site_value name read.rows in
@@ -184,6 +187,7 @@ site_read bytes name cells read =
     let rest : AllPass (rest_checks Site cell_checks d) = (refl, (read.is_name, rw same read.passes)) in
     (d, read.json, AllPass-both (header_checks Site d) (rest_checks Site cell_checks d) header rest, record { name = refl; cells = rw same read.makes })
 
+-- A document of a delta in written order reads as the delta of its addressee and entries.
 pub delta_read : (bytes name : List ℕ) (cells : Entries) → ReadsCells Delta bytes name cells → ReadsAsDelta bytes (record { addressee = name; cells = cells })
 delta_read bytes name cells read =
     let d = delta_value name read.rows in

@@ -56,6 +56,7 @@ some_at (x ∷ xs) (suc k) h is = some_at xs k (omega (arith, h)) is
 pub kept_more : {X : Type 0} (P : X → Type 0) (xs : List X) (x : X) → All P xs → P x → All P (xs ++ x ∷ [])
 kept_more P xs x all one = All-append P xs (x ∷ []) all (All-cons P x [] one (All-nil P))
 
+-- A property of the elements before a place and of the one there is one of all up to it.
 pub kept_next : {X : Type 0} (P : X → Type 0) (xs : List X) (k : ℕ) (x : X) → slice_get xs k ≡ Some x → All P (take k xs) → P x → All P (take (k + 1) xs)
 kept_next P xs k x is all one = rw (add-one, taken xs k x is) (kept_more P (take k xs) x all one)
 

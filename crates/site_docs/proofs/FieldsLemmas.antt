@@ -50,6 +50,7 @@ label_cause k texts ClockSpent why = absurd why
 label_cause k texts NoMemory why = inl refl
 label_cause k texts SiteName why = absurd why
 
+-- A string pushed to a list adds its text to the list's texts.
 pub pushed_text : (items old : List (String Global)) (x : String Global) (text : List ℕ) (texts : List (List ℕ))
     → items ≡ old ++ x ∷ [] → string_bytes x ≡ text → map string_bytes old ≡ texts → map string_bytes items ≡ texts ++ text ∷ []
 pushed_text items old x text texts pushed is so_far = rw (pushed, map-append string_bytes old (x ∷ []), so_far, is) refl

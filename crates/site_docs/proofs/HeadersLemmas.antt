@@ -21,12 +21,14 @@ use Rattle.site_docs.specs.declared.document.kind.Member.TheVariants.{Subject, R
 
 -- ---- names
 
+-- In a document of any kind the name of its subject is classed as its subject.
 pub subject_is : (kind : Kind) → member_of kind (subject_of kind) ≡ Subject
 subject_is Site = refl
 subject_is Delta = refl
 subject_is Summary = refl
 subject_is Script = refl
 
+-- In a document of any kind the name of its rows is classed as its rows.
 pub rows_is : (kind : Kind) → member_of kind (rows_of kind) ≡ Rows
 rows_is Site = refl
 rows_is Delta = refl

@@ -1,4 +1,4 @@
--- Languages stand in lower case.
+-- Languages are in lower case.
 use Rattle.std.proofs.Common.{◌≡◌, ◌∙◌, ℕ, List, [], ◌∷◌, Bool, true, false, ◌&&◌, map, refl, ap, ap₂, sym, subst, inl, inr, arith, ◌+◌}
 use Rattle.std.proofs.lemmas.Bool.Decides.{nat_tests}
 use Rattle.std.specs.Char.{to_ascii_lowercase}

@@ -55,7 +55,7 @@ module _ {J : Type 0} (entry : Data → Option (EntryKey × J)) where
       sym (slice_get-map entry rows at) ∙ ap (λ xs. slice_get xs at) are ∙ slice_get-map Some es at ∙ ap (λ n. option_map Some (slice_get es (n - 1))) as_many in
       ap (option_map (λ (e : EntryKey × J). e.0)) (found_as (slice_get rows at) (slice_get es (length es - 1)) same)
 
-  -- a key is behind the last one where it is above all
+  -- a key is after the last one where it is above all
   behind_last : (es : List (EntryKey × J)) (key : EntryKey) (last : Option (EntryKey × J)) → IsMap key_cmp es → slice_get es (length es - 1) ≡ last
       → IsBehind (option_map (λ e. e.0) last) key ↔ IsAboveAll key es
   behind_last es key None rising is = (λ behind. (above_none es key is).0 refl, λ above. tt)
@@ -69,7 +69,7 @@ module _ {J : Type 0} (entry : Data → Option (EntryKey × J)) where
   behind_all rows es key makes =
       subst (λ (o : Option EntryKey). IsBehind o key ↔ IsAboveAll key es) (sym (last_is rows es makes.are)) (behind_last es key (slice_get es (length es - 1)) makes.rising refl)
 
-  -- the row goes behind all others
+  -- the row comes after all others
   pub MakesEntries-push : (rows : List Data) (old new : List (EntryKey × J)) (d : Data) (e : EntryKey × J)
       → MakesEntries entry rows old → entry d ≡ Some e → IsAboveAll e.0 old → new ≡ old ++ e ∷ [] → MakesEntries entry (rows ++ d ∷ []) new
   MakesEntries-push rows old new d (k, v) makes is above pushed = subst (MakesEntries entry (rows ++ d ∷ [])) (sym pushed) (record {
@@ -109,10 +109,12 @@ pub own_stamp : (r : Result StampEntry DocCause) (version : Version) (k : ℕ) (
 own_stamp (Ok x) version k d row is h = rw (← is) ((refl, h.0), ap Some (sym h.1))
 own_stamp (Err e) version k d row is h = rw (← is) (elim h [ inl m ↦ inl m | inr f ↦ inr (inr (refl, f)) ])
 
+-- The key of a row that makes an entry of a cell is the entry's key.
 pub key_of_cell : (o : Option (Row × Option (List (List ℕ)))) (e : Entry) → option_map (λ p. entry_of p.0 p.1) o ≡ Some e → key_of (unwrap_or o (no_row, None)).0 ≡ e.0
 key_of_cell None e is = cc
 key_of_cell (Some p) e is = ap (λ (o : Option Entry). (unwrap_or o e).0) is
 
+-- The key of a row that makes a key and a stamp is that key.
 pub key_of_stamp : (o : Option Row) (e : EntryKey × Stamp) → option_map told_of o ≡ Some e → key_of (unwrap_or o no_row) ≡ e.0
 key_of_stamp None e is = cc
 key_of_stamp (Some p) e is = ap (λ (o : Option (EntryKey × Stamp)). (unwrap_or o e).0) is

@@ -62,11 +62,13 @@ rows_third false false true false = refl
 rows_third false false false true = refl
 rows_third false false false false = refl
 
+-- The value that is written for a site has exactly the members of its kind of document.
 pub site_names : (name : List ℕ) (rows : List Data) → HasJust (names_of Site) (site_value name rows)
 site_names name rows q =
     rw (some_member q (codes "cells"), some_member q (codes "kind"), some_member q (codes "site"), some_member q (codes "version"))
     (rows_first (bytes_eq q (codes "cells")) (bytes_eq q (codes "kind")) (bytes_eq q (codes "site")) (bytes_eq q (codes "version")))
 
+-- The value that is written for a delta has exactly the members of its kind of document.
 pub delta_names : (name : List ℕ) (rows : List Data) → HasJust (names_of Delta) (delta_value name rows)
 delta_names name rows q =
     rw (some_member q (codes "cells"), some_member q (codes "kind"), some_member q (codes "to"), some_member q (codes "version"))
@@ -83,6 +85,7 @@ summary_names name rows q =
 abbrev pub rest_checks : Kind → (Version → List Data → Data → List Check) → Data → List Check
 rest_checks kind checks d = subject_checks (version_of d) (subject_data kind d) ++ rows_checks (checks (version_of d)) [] (rows_in kind d)
 
+-- The text that is written for a site with a valid name and valid cells reads as that site.
 pub site_again : (site : SiteState) → IsSiteName site.name → AreKeptCells site.cells → IsUtf8 (site_text site) → ReadsAsSite (site_text site) site
 site_again site name kept utf8 =
     let d = site_value site.name (cells_values site.cells) in
@@ -95,6 +98,7 @@ site_again site name kept utf8 =
       record { name = refl; cells = rw (list_of-items_of (cells_values site.cells)) (entries_again site.cells kept.each) },
     )
 
+-- The text that is written for a delta with a valid name and valid cells reads as that delta.
 pub delta_again : (delta : DeltaState) → IsSiteName delta.addressee → AreKeptCells delta.cells → IsUtf8 (delta_text delta) → ReadsAsDelta (delta_text delta) delta
 delta_again delta name kept utf8 =
     let d = delta_value delta.addressee (cells_values delta.cells) in
@@ -107,6 +111,7 @@ delta_again delta name kept utf8 =
       record { addressee = refl; cells = rw (list_of-items_of (cells_values delta.cells)) (entries_again delta.cells kept.each) },
     )
 
+-- The text that is written for a summary with a valid name and stamps reads as that summary.
 pub summary_again : (summary : SummaryState) → IsSiteName summary.owner → AreKeptStamps summary.stamps → IsUtf8 (summary_text summary) → ReadsAsSummary (summary_text summary) summary
 summary_again summary name kept utf8 =
     let d = summary_value summary.owner (stamps_values summary.stamps) in

@@ -15,6 +15,7 @@ cell_read version i l t s c b row label p q =
     ap (λ o. option_and_then (λ (r : Row). option_map (λ (k : Option (List (List ℕ))). (r, k)) o) (Some row)) q
     ∙ ap (λ o. option_and_then (λ (r : Row). option_map (λ (k : Option (List (List ℕ))). (r, k)) (label_in b)) o) p
 
+-- An array of the five parts of a row and of a label is the cell of that row and label.
 pub cell_whole : (version : Version) (vs : List (Value Global)) (d : Data) (i l t s c b : Value Global) (row : Row) (label : Option (List (List ℕ)))
     → 6 ≤ length vs → length vs < 7
     → i ≡ get_or vs 0 i → l ≡ get_or vs 1 l → t ≡ get_or vs 2 t → s ≡ get_or vs 3 s → c ≡ get_or vs 4 c → b ≡ get_or vs 5 b

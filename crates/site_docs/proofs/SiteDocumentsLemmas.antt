@@ -11,6 +11,7 @@ use Rattle.site_docs.specs.declared.document.kind.Kind.{Kind}
 use Rattle.site_docs.specs.declared.document.version.Version.{Version}
 use Rattle.json_docs.proofs.ChecksLemmas.{FirstFails-front}
 
+-- A refusal of a document at its header is a refusal of the document.
 pub refused_before : (kind : Kind) (checks : Version → List Data → Data → List Check) (bytes : List ℕ) (e : DocCause)
     → OrMemory NoMemory (RefusesHeader kind bytes) e → OrMemory NoMemory (IsRefusal (document_checks kind checks) bytes) e
 refused_before kind checks bytes e why = elim why [

@@ -16,6 +16,7 @@ use Rattle.serde_json.specs.Written.{items_outline}
 use Rattle.site_docs.specs.Texts.{Adds, row_tokens, text, value_tokens}
 use Rattle.site_docs.specs.Written.{texts_of}
 
+-- Adding some tokens to a draft and then others adds the first followed by the others.
 pub Adds-then : (a b c : Written) (x y : List Token) → Adds a b x → Adds b c y → Adds a c (x ++ y)
 Adds-then a b c x y p q = (q.0 ∙ p.0, q.1 ∙ (ap (λ t. t ++ y) p.1 ∙ append_assoc a.tokens x y))
 
@@ -24,10 +25,12 @@ pub items_tokens-rows : (ds : List Data) → items_tokens (items_outline (items_
 items_tokens-rows [] = refl
 items_tokens-rows (d ∷ ds) = ap (λ t. value_tokens d ++ t) (items_tokens-rows ds) ∙ sym (append_assoc (value_tokens d) (row_tokens ds) (end_array ∷ []))
 
+-- The tokens of two lists of rows in sequence are those of the first, and then of the second.
 pub row_tokens-append : (ds es : List Data) → row_tokens (ds ++ es) ≡ row_tokens ds ++ row_tokens es
 row_tokens-append [] es = refl
 row_tokens-append (d ∷ ds) es = ap (λ t. value_tokens d ++ t) (row_tokens-append ds es) ∙ sym (append_assoc (value_tokens d) (row_tokens ds) (row_tokens es))
 
+-- One row more adds its tokens to those of the rows before it.
 pub row_tokens-push : (ds : List Data) (d : Data) → row_tokens (ds ++ d ∷ []) ≡ row_tokens ds ++ value_tokens d
 row_tokens-push ds d = row_tokens-append ds (d ∷ []) ∙ ap (λ t. row_tokens ds ++ t) (append-nil (value_tokens d))
 
@@ -39,7 +42,7 @@ row_tokens-text texts k text h is =
     rw (taken, map-append string_bytes (take k texts) (text ∷ []), map-append string (texts_of (take k texts)) (string_bytes text ∷ []))
     (row_tokens-push (map string (texts_of (take k texts))) (string (string_bytes text)))
 
--- an array is whole once its bracket stands behind its values
+-- An array is whole once its closing bracket follows its values.
 pub array_closed : {E : Type 0} → (a b c : Written) (ds : List Data) → Adds a b (begin_array ∷ row_tokens ds) → (r : Result (Unit {0}) E) → Writes r b c end_array
     → OnOk r (Adds a c (value_tokens (array (items_of ds))))
 array_closed a b c ds p r w =
@@ -49,7 +52,7 @@ array_closed a b c ds p r w =
 pub printed : (ts : List Token) (d : Data) → ts ≡ value_tokens d → print ts ++ 10 ∷ [] ≡ text d
 printed ts d is = ap (λ t. print t ++ 10 ∷ []) is ∙ ap (λ t. t ++ 10 ∷ []) (print-outline d)
 
--- a member that is an array of rows, and what stands behind it
+-- The tokens of a member that is an array of rows are those of the rows, and then a bracket.
 pub rows_member : (ds : List Data) (rest : List Token)
     → items_tokens (items_outline (items_of ds)) ++ rest ≡ row_tokens ds ++ end_array ∷ rest
 rows_member ds rest = ap (λ t. t ++ rest) (items_tokens-rows ds) ∙ append_assoc (row_tokens ds) (end_array ∷ []) rest

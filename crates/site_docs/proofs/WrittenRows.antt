@@ -26,6 +26,7 @@ use Rattle.json_docs.proofs.ChecksLemmas.{AllPass-both}
 use Rattle.site_docs.proofs.LowerLemmas.{lower-IsLang, spells-IsLang}
 use Rattle.site_docs.proofs.RisingLemmas.{last_key-push}
 
+-- Data made the items of an array and listed again are the same data.
 pub list_of-items_of : (ds : List Data) → list_of (items_of ds) ≡ ds
 list_of-items_of [] = refl
 list_of-items_of (d ∷ ds) = ap (λ t. d ∷ t) (list_of-items_of ds)
@@ -34,10 +35,12 @@ texts_again : (texts : List (List ℕ)) → texts_in (map string texts) ≡ Some
 texts_again [] = refl
 texts_again (t ∷ ts) = rw (texts_again ts) refl
 
+-- The value that is written for a label is read as that label.
 pub label_again : (label : Option (List (List ℕ))) → label_in (label_value label) ≡ Some label
 label_again None = refl
 label_again (Some texts) = rw (list_of-items_of (map string texts), texts_again texts) refl
 
+-- A number below 2^32 fits 32 bits.
 pub narrow : (n : ℕ) → n < 2 ^ 32 → narrowed n ≡ Some n
 narrow n h = rw (lt-ltb n (2 ^ 32) h) refl
 
@@ -54,10 +57,12 @@ entry_again e kept = rw (cell_again e kept.0.count, lower-IsLang e.0.1 kept.0.la
 told_again : (t : EntryKey × Stamp) → IsKeptStamp t → told_in Two (told_value t) ≡ Some t
 told_again t kept = rw (stamp_again t kept.count, lower-IsLang t.0.1 kept.lang) refl
 
+-- The rows that are written for valid cells make these cells.
 pub entries_again : (es : Entries) → All IsKeptCell es → AreEntries (entry_in Two) (cells_values es) es
 entries_again [] kept = refl
 entries_again (e ∷ es) kept = ap₂ (λ x xs. x ∷ xs) (entry_again e (all_first IsKeptCell e es kept)) (entries_again es (all_rest IsKeptCell e es kept))
 
+-- The rows that are written for valid stamps make these stamps.
 pub stamps_again : (ts : List (EntryKey × Stamp)) → All IsKeptStamp ts → AreEntries (told_in Two) (stamps_values ts) ts
 stamps_again [] kept = refl
 stamps_again (t ∷ ts) kept = ap₂ (λ x xs. x ∷ xs) (told_again t (all_first IsKeptStamp t ts kept)) (stamps_again ts (all_rest IsKeptStamp t ts kept))
@@ -82,7 +87,7 @@ stamp_passes done last t is behind kept =
     AllPass-both (own_stamp_checks Two (length done) (told_value t)) (order_check (length done) (last_key (told_in Two) done) (key_of (stamp_row Two (told_value t))) ∷ []) (own_stamp_passes (length done) t kept)
     (rw (is, stamp_again t kept.count, lower-IsLang t.0.1 kept.lang) (behind, tt))
 
--- the first key, if any, stands behind the last one
+-- the first key, if any, is after the last one
 abbrev Follows : {J : Type 0} → Option EntryKey → List (EntryKey × J) → Type 0
 Follows last [] = Unit {0}
 Follows last (e ∷ es) = IsBehind last e.0
@@ -113,8 +118,10 @@ begin : {J : Type 0} (es : List (EntryKey × J)) → Follows None es
 begin [] = tt
 begin (e ∷ es) = tt
 
+-- The rows that are written for valid cells in ascending order pass all checks.
 pub cells_pass : (es : Entries) → AreKeptCells es → AllPass (rows_checks (cell_checks Two) [] (cells_values es))
 cells_pass es kept = cells_from [] None es refl (begin es) kept.map kept.each
 
+-- The rows that are written for valid stamps in ascending order pass all checks.
 pub stamps_pass : (ts : List (EntryKey × Stamp)) → AreKeptStamps ts → AllPass (rows_checks (stamp_checks Two) [] (stamps_values ts))
 stamps_pass ts kept = stamps_from [] None ts refl (begin ts) kept.map kept.each

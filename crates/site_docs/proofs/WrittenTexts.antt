@@ -35,7 +35,7 @@ read-text d numbers shallow back =
 
 -- ---- rows that were written hold what a text may
 
--- what is asked of each item, of all
+-- what is required of each item, of all
 record AreWritten (ds : Items) (most : ℕ) : Type 0 where
   numbers : ItemsHaveNumbers (items_outline ds)
   shallow : tree.items_depth (items_outline ds) ≤ most
@@ -101,16 +101,19 @@ stamps_written (t ∷ ts) kept =
 two : 2 < 2 ^ 64
 two = omega arith
 
+-- The text that is written for a site with valid cells is read as the value that was written.
 pub read-site : (name : List ℕ) (es : Entries) → All IsKeptCell es → read (text (site_value name (cells_values es))) ≡ Some (site_value name (cells_values es))
 read-site name es kept =
     let rows = cells_written es kept in
     read-text (site_value name (cells_values es)) (rows.numbers, (tt, (tt, (IsNumber-decimal 2 two, tt)))) (omega (arith, rows.shallow)) (rw (rows.back, number_of-decimal 2 two) refl)
 
+-- The text that is written for a delta with valid cells is read as the value that was written.
 pub read-delta : (addressee : List ℕ) (es : Entries) → All IsKeptCell es → read (text (delta_value addressee (cells_values es))) ≡ Some (delta_value addressee (cells_values es))
 read-delta addressee es kept =
     let rows = cells_written es kept in
     read-text (delta_value addressee (cells_values es)) (rows.numbers, (tt, (tt, (IsNumber-decimal 2 two, tt)))) (omega (arith, rows.shallow)) (rw (rows.back, number_of-decimal 2 two) refl)
 
+-- The text that is written for valid stamps is read as the summary's value that was written.
 pub read-summary : (owner : List ℕ) (ts : List (EntryKey × Stamp)) → All IsKeptStamp ts → read (text (summary_value owner (stamps_values ts))) ≡ Some (summary_value owner (stamps_values ts))
 read-summary owner ts kept =
     let rows = stamps_written ts kept in

@@ -1,4 +1,4 @@
--- Documents of cells that stand in the order in which they are written, seen by their tokens.
+-- Documents of cells in the order in which they are written, seen by their tokens.
 use Rattle.std.specs.Prelude.{◌≡◌, ◌<◌, ◌^◌, ℕ, List, [], ◌∷◌, ◌++◌, map, codes, length, Option, None, Some}
 use Rattle.json.specs.Token.{Token, begin_array, end_array, end_object, key, null, number, string}
 use Rattle.serde_json.specs.Data.{Data, Items, array, member, no_members, object, unsigned}
@@ -29,7 +29,7 @@ cells_document kind name rows = object
 abbrev pub BeginsNumber : List Token → ℕ → List Token → Type 0
 BeginsNumber old n new = (text : List ℕ) × (old ≡ number text ∷ new) × (number_of text ≡ Some (unsigned n))
 
--- texts come first, and the bracket behind them
+-- texts come first, and the bracket after them
 abbrev pub BeginsTexts : List Token → List (List ℕ) → List Token → Type 0
 BeginsTexts old texts new = old ≡ map string texts ++ end_array ∷ new
 
@@ -55,7 +55,7 @@ pub record BeginsEntry (old : List Token) (entry : Entry) (new : List Token) : T
   pub passes : AllPass (cell_fields 0 row label)
   pub is : entry ≡ entry_of row label
 
--- the rows and the bracket behind them come first; all rows pass, and make these entries
+-- the rows and the bracket after them come first; all rows pass, and make these entries
 pub record BeginsRows (old : List Token) (cells : Entries) (new : List Token) : Type 0 where
   pub rows : Items
   pub reads : ReadsItems 125 old rows new
@@ -63,7 +63,7 @@ pub record BeginsRows (old : List Token) (cells : Entries) (new : List Token) : 
   pub passes : AllPass (rows_checks (cell_checks Two) [] (list_of rows))
   pub makes : MakesEntries (entry_in Two) (list_of rows) cells
 
--- the members behind the rows come last
+-- the members after the rows come last
 pub record EndsNamed (kind : Kind) (old : List Token) (name : List ℕ) : Type 0 where
   pub version : List ℕ
   pub tokens : old ≡ key (codes "kind") ∷ string (kind_text kind) ∷ key (subject_of kind) ∷ string name ∷ key (codes "version") ∷ number version ∷ end_object ∷ []

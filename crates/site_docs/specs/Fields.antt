@@ -23,7 +23,7 @@ use Rattle.site_docs.specs.Values.{Row}
 
 -- ---- what the fields make
 
--- languages stand in lower case
+-- languages are in lower case
 abbrev pub key_of : Row → EntryKey
 key_of row = (row.id, str_to_ascii_lowercase row.language)
 

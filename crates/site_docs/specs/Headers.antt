@@ -38,7 +38,7 @@ subject_data kind d = unwrap_or (get (subject_of kind) d) null
 abbrev pub rows_in : Kind → Data → List Data
 rows_in kind d = unwrap_or (option_and_then items_in (get (rows_of kind) d)) []
 
--- what that member is, as far as a document may ask
+-- what that member is, as far as a document needs it
 abbrev pub IsSubject : Subject → Data → Type 0
 IsSubject (Name name) d = (as_str d ≡ Some name) × IsSiteName name
 IsSubject NoName d = (text : List ℕ) × (as_str d ≡ Some text) × (¬ (IsSiteName text))

@@ -56,7 +56,7 @@ pub record IsDigitAt (bytes : List ℕ) (place digit : ℕ) : Type 0 where
   pub small : digit < 10
   pub within : place < length bytes
 
--- the first bytes, as many as this, are the number in decimal
+-- the first `len` bytes are the number in decimal
 pub record IsDecimalFront (bytes : List ℕ) (number len : ℕ) : Type 0 where
   pub is : take len bytes ≡ decimal number
   pub within : len ≤ length bytes

@@ -29,7 +29,7 @@ last_key entry rows = option_map (λ e. e.0) (option_and_then entry (slice_get r
 abbrev pub AreEntries : {J : Type 0} → (Data → Option (EntryKey × J)) → List Data → List (EntryKey × J) → Type 0
 AreEntries entry rows entries = map entry rows ≡ map Some entries
 
--- what stands in no row
+-- the empty row, in place of data that are no row
 abbrev pub no_row : Row
 no_row = record { id = []; language = []; time = 0; site = []; count = 0 }
 
@@ -51,13 +51,13 @@ own_stamp_checks version k d =
     check (is_some (stamp_in version d) ≡ true) (Shape (spot.Row k))
     ∷ stamp_fields k (stamp_row version d)
 
--- the tests of a row of a site or a delta behind these rows, in their order
+-- the tests of a row of a site or a delta after these rows, in their order
 abbrev pub cell_checks : Version → List Data → Data → List Check
 cell_checks version before d =
     own_cell_checks version (length before) d
     ++ order_check (length before) (last_key (entry_in version) before) (key_of (cell_row version d).0) ∷ []
 
--- the tests of a row of a summary behind these rows, in their order
+-- the tests of a row of a summary after these rows, in their order
 abbrev pub stamp_checks : Version → List Data → Data → List Check
 stamp_checks version before d =
     own_stamp_checks version (length before) d

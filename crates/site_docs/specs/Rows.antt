@@ -10,7 +10,7 @@ use Rattle.site_docs.specs.declared.document.version.Version.TheVariants.{One, T
 
 -- ---- parts of rows
 
--- a site by its number in version 1, where number n stands for its padded name, and by its name in
+-- a site by its number in version 1, where number n means its padded name, and by its name in
 -- version 2
 abbrev pub site_in : Version → Data → Option (List ℕ)
 site_in One d = option_map padded_name (u32_in d)
@@ -31,7 +31,7 @@ parts_in version i l t s c =
     record { id = id; language = language; time = time; site = site; count = count })
     (u32_in c)) (site_in version s)) (u64_in t)) (as_str l)) (as_str i)
 
--- ---- rows: the language stands as it is written
+-- ---- rows: the language is as it is written
 
 abbrev pub stamp_of : Version → List Data → Option Row
 stamp_of version (i ∷ l ∷ t ∷ s ∷ c ∷ []) = parts_in version i l t s c

@@ -27,11 +27,11 @@ row_tokens (d ∷ ds) = value_tokens d ++ row_tokens ds
 abbrev pub Adds : Written → Written → List Token → Type 0
 Adds old new tokens = (new.before ≡ old.before) × (new.tokens ≡ old.tokens ++ tokens)
 
--- a site's or a delta's draft: it is open behind these rows
+-- a site's or a delta's draft: it is open after these rows
 abbrev pub HoldsCells : Written → List Data → Type 0
 HoldsCells draft rows = (draft.before ≡ []) × (draft.tokens ≡ begin_object ∷ key (codes "cells") ∷ begin_array ∷ row_tokens rows)
 
--- a summary's draft of this owner: it is open behind these rows
+-- a summary's draft of this owner: it is open after these rows
 abbrev pub HoldsStamps : Written → List ℕ → List Data → Type 0
 HoldsStamps draft owner rows =
     (draft.before ≡ [])

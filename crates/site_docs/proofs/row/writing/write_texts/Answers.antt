@@ -10,7 +10,7 @@ texts-preserved c =
     let wrote = c.in_ok-string.ensures in
     rw more (Adds-then c.args.out.now c.texts.out c.string.new.self _ _ c.texts.invariant (wrote.room.0, rw c.as_str.ensures.value at wrote.ok))
 
--- all texts, and the bracket behind them
+-- all texts, and the bracket after them
 pub returns : goal.returns
 returns c =
     let all : c.texts.text-index ≡ length c.args.texts.now = omega arith in
