@@ -59,7 +59,7 @@ fraction_some : (n : ℕ) → (n == 0) ≡ false
     → fraction_text n ≡ 46 ∷ (48 + n / 100) ∷ tens_text (n % 100)
 fraction_some n h = ap (λ (b : Bool). cond b [] (46 ∷ (48 + n / 100) ∷ tens_text (n % 100))) h
 
--- what is asked of each digit, of all
+-- what is required of each digit, of all
 module _ (P : ℕ → Type 0) (digit : (n : ℕ) → n < 10 → P (48 + n)) where
   ones_each : (n : ℕ) → n < 10 → All P (ones_text n)
   ones_each n h = elim (cases_Bool (n == 0)) [
@@ -428,7 +428,7 @@ item_decides i j = (
   λ e. subst (λ (x : Item). item_eq i x ≡ true) e (item_equiv.refl i),
 )
 
--- the test of items tells equal lists
+-- The comparison of lists of items says whether they are equal.
 pub same_items : (xs ys : List Item) → Decides (pointwise item_eq xs ys) (xs ≡ ys)
 same_items xs ys = pointwise_decides item_decides xs ys
 

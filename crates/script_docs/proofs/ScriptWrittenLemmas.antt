@@ -65,7 +65,7 @@ all_writable [] (s ∷ ss) rows = absurd rows
 all_writable (t ∷ ts) [] rows = absurd rows
 all_writable (t ∷ ts) (s ∷ ss) rows = All-cons IsWritable s ss (writable_of t s rows.0) (all_writable ts ss rows.1)
 
--- the step behind these rows is the first that is not writable
+-- the step after these rows is the first that is not writable
 first_unwritable : (a : Written) (sites : ℕ) (steps : List Step) (k : ℕ) (step : Step) → k < length steps → step ≡ get_or steps k step → HasRows a sites (take k steps) → ¬ IsWritable step → IsFirstUnwritable steps k
 first_unwritable a sites steps k step within is held refused = record {
   step = step;
@@ -81,6 +81,7 @@ writing_refused a sites steps k step cause within is held refused = elim refused
   | inr x ↦ inr (k, first_unwritable a sites steps k step within is held x.0, x.1)
 ]
 
+-- Closing a draft of a script's steps gives the text of the script.
 pub script_closed : (draft : Written) (sites : ℕ) (rows : List Data) → HoldsSteps draft sites rows
     → draft.before ++ (print (draft.tokens ++ end_array ∷ version_tokens) ++ 10 ∷ []) ≡ text (script_value sites rows)
 script_closed draft sites rows holds =
@@ -125,6 +126,7 @@ two = omega arith
 abbrev rest_checks : Data → List Check
 rest_checks d = sites_check (subject_data Script d) ∷ rows_checks (step_checks (version_of d)) [] (rows_in Script d)
 
+-- The text that is written for a script reads as that script.
 pub script_again : (script : ScriptState) (texts : List StepText) → IsSiteCount script.sites → AreRowsOf texts script.steps → IsUtf8 (text (script_value script.sites (map step_value texts)))
     → ReadsAsScript (text (script_value script.sites (map step_value texts))) script
 script_again script texts count held utf8 =

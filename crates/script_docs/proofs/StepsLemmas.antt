@@ -1,4 +1,4 @@
--- Steps behind steps, and the tests of one.
+-- Steps after steps, and the tests of one.
 use Rattle.std.proofs.Common.{◌≡◌, ◌++◌, List, [], ◌∷◌, length, refl}
 use Rattle.std.specs.Prelude.{Some}
 use Rattle.cata_core.specs.declared.step.Step.{Step}
@@ -8,6 +8,7 @@ use Rattle.site_docs.specs.declared.document.version.Version.{Version}
 use Rattle.script_docs.specs.StepFields.{AreSteps, IsStep, step_checks, step_fields}
 use Rattle.script_docs.specs.Steps.{StepText, step_in}
 
+-- Rows of steps and one more row of a step are the rows of all of them in order.
 pub AreSteps-push : (version : Version) (ds : List Data) (d : Data) (steps : List Step) (step : Step) → AreSteps version ds steps → IsStep version d step → AreSteps version (ds ++ d ∷ []) (steps ++ step ∷ [])
 AreSteps-push version [] d [] step so_far last = (last, tt)
 AreSteps-push version [] d (s ∷ ss) step so_far last = absurd so_far

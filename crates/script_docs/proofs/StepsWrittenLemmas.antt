@@ -56,6 +56,7 @@ row_again (deliver_step post) h = rw (narrow post h) refl
 
 -- ---- rows hold what a text may
 
+-- Items whose numbers are well formed, which nest at most this deep, and which read as written.
 pub record AreSound (ds : Items) (most : ℕ) : Type 0 where
   pub numbers : ItemsHaveNumbers (items_outline ds)
   pub shallow : tree.items_depth (items_outline ds) ≤ most
@@ -131,6 +132,7 @@ row_sound (deliver_step post) h =
 
 -- ---- rows of steps
 
+-- The rows of steps have such numbers, nest at most 3 deep, and read as written.
 pub rows_sound : (texts : List StepText) (steps : List Step) → AreRowsOf texts steps
     → AreSound (items_of (map step_value texts)) 3
 rows_sound [] [] rows = record { numbers = tt; shallow = omega arith; back = refl }
@@ -138,6 +140,7 @@ rows_sound [] (s ∷ ss) rows = absurd rows
 rows_sound (t ∷ ts) [] rows = absurd rows
 rows_sound (t ∷ ts) (s ∷ ss) rows = one_more (step_value t) (items_of (map step_value ts)) 3 (row_sound t rows.0.room) (rows_sound ts ss rows.1)
 
+-- The rows that are written for steps are read as these steps.
 pub steps_again : (texts : List StepText) (steps : List Step) → AreRowsOf texts steps
     → AreSteps Two (map step_value texts) steps
 steps_again [] [] rows = tt
@@ -145,6 +148,7 @@ steps_again [] (s ∷ ss) rows = absurd rows
 steps_again (t ∷ ts) [] rows = absurd rows
 steps_again (t ∷ ts) (s ∷ ss) rows = ((t, row_again t rows.0.room, rows.0.makes), steps_again ts ss rows.1)
 
+-- The rows that are written for steps pass all checks, whatever rows come before them.
 pub steps_pass : (done : List Data) (texts : List StepText) (steps : List Step)
     → AreRowsOf texts steps → AllPass (rows_checks (step_checks Two) done (map step_value texts))
 steps_pass done [] steps rows = tt
@@ -154,6 +158,7 @@ steps_pass done (t ∷ ts) (s ∷ ss) rows =
     (step_passes Two done (step_value t) t (sym (row_again t rows.0.room)) (rows.0.fields _))
     (steps_pass (done ++ step_value t ∷ []) ts ss rows.1)
 
+-- The rows of steps and the row of one more step are the rows of all of them.
 pub rows_push : (texts : List StepText) (steps : List Step) (text : StepText) (step : Step)
     → AreRowsOf texts steps → IsRowOf text step
     → AreRowsOf (texts ++ text ∷ []) (steps ++ step ∷ [])
@@ -183,6 +188,7 @@ writable_of (tell_step site) step r = subst IsWritable (sym r.makes) r.room
 writable_of (post_step site told) step r = subst IsWritable (sym r.makes) r.room
 writable_of (deliver_step post) step r = subst IsWritable (sym r.makes) r.room
 
+-- What is written for an edit of a valid cell is a row of that step.
 pub edit_row_of : (site : ℕ) (e : Entry) → FitsMember site → IsKeptCell e
     → IsRowOf (edit_step site (row_of e, e.1.label)) (Edit site e)
 edit_row_of site e h kept = record {
@@ -192,6 +198,7 @@ edit_row_of site e h kept = record {
   written = refl;
 }
 
+-- What is written for a filter with a valid id and a field of its list is a row of that step.
 pub filter_row_of : (site : ℕ) (id : List ℕ) (scheme : Scheme) (items : List Item) (field : List ℕ)
     → FitsMember site → IsMessageId id → field ≡ field_text items → Lists scheme field items
     → IsRowOf (filter_step site id scheme field) (AskFilter site id scheme items)
@@ -212,6 +219,7 @@ lower_default : (default : Option (List ℕ)) → IsDefault default
 lower_default None is = refl
 lower_default (Some lang) is = ap Some (lower-IsLang lang is)
 
+-- What is written for a lookup with a valid id, list and default is a row of that step.
 pub lookup_row_of : (site : ℕ) (id : List ℕ) (items : List Item) (default : Option (List ℕ)) (field : List ℕ)
     → FitsMember site → IsMessageId id → field ≡ field_text items → Lists Basic field items
     → IsDefault default

@@ -20,7 +20,7 @@ ones_text n = if n == 0 then [] else (48 + n) ∷ []
 abbrev pub tens_text : ℕ → List ℕ
 tens_text n = if n == 0 then [] else (48 + n / 10) ∷ ones_text (n % 10)
 
--- what stands behind the 0 of a weight below 1000
+-- what follows the 0 of a weight below 1000
 abbrev pub fraction_text : ℕ → List ℕ
 fraction_text n = if n == 0 then [] else 46 ∷ (48 + n / 100) ∷ tens_text (n % 100)
 

@@ -12,7 +12,7 @@ use Rattle.script_docs.specs.Scripts.{ScriptState, is_site_count}
 use Rattle.script_docs.specs.StepFields.{AreSteps, step_checks}
 use Rattle.json_docs.specs.declared.fault.Spot.TheVariants as spot
 
--- as many sites as there may be
+-- the number, if there may be that many sites
 abbrev pub count_of : ℕ → Option ℕ
 count_of n = if is_site_count n then Some n else None
 

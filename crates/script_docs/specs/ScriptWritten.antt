@@ -1,4 +1,4 @@
--- Documents of scripts, written. Own rule: the members of an object stand in byte order of their
+-- Documents of scripts, written. Own rule: the members of an object are in byte order of their
 -- names.
 use Rattle.std.specs.Prelude.{◌≡◌, ℕ, List, [], ◌∷◌, codes, decimal, map, take, All, Some}
 use Rattle.std.specs.Prelude.{slice_get}
@@ -50,7 +50,7 @@ script_value sites rows = object
 abbrev pub IsScriptText : ScriptState → List ℕ → Type 0
 IsScriptText script doc = (doc ≡ text (script_value script.sites (map step_row script.steps))) × ReadsAsScript doc script
 
--- a script's draft of so many sites: it is open behind these rows
+-- a script's draft with this number of sites: it is open after these rows
 abbrev pub HoldsSteps : Written → ℕ → List Data → Type 0
 HoldsSteps draft sites rows =
     (draft.before ≡ [])

@@ -11,6 +11,6 @@ pub record ScriptState : Type 0 where
 abbrev pub is_site_count : ℕ → Bool
 is_site_count sites = nat_le 1 sites && nat_le sites 1024
 
--- there may be so many sites
+-- there may be this number of sites
 abbrev pub IsSiteCount : ℕ → Type 0
 IsSiteCount sites = is_site_count sites ≡ true

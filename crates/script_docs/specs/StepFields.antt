@@ -56,13 +56,13 @@ abbrev pub shaped_fields : ℕ → Option StepText → List Check
 shaped_fields k None = []
 shaped_fields k (Some text) = step_fields k text
 
--- a row of a script behind these rows
+-- a row of a script after these rows
 abbrev pub step_checks : Version → List Data → Data → List Check
 step_checks version before d = check (is_some (step_in version d) ≡ true) (Shape (spot.Row (length before))) ∷ shaped_fields (length before) (step_in version d)
 
 -- ---- the step that is made
 
--- languages stand in lower case
+-- languages are in lower case
 abbrev pub Makes : StepText → Step → Type 0
 Makes (edit_step site row) step = step ≡ Edit site (entry_of row.0 row.1)
 Makes (merge_step into source) step = step ≡ Merge into source

@@ -54,7 +54,7 @@ default_in (string s) = Some (Some s)
 default_in (array ds) = None
 default_in (object ms) = None
 
--- ---- what stands after the word
+-- ---- what comes after the word
 
 -- `site,CELL`
 abbrev pub edit_of : Version → List Data → Option StepText
