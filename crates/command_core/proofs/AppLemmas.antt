@@ -7,11 +7,13 @@ use Rattle.clap.specs.declared.builder.command.Command.{Command}
 use Rattle.clap.proofs.OnLiterals.{clap_on_literals}
 use Rattle.command_core.specs.Words.{IsArgument, IsCommand, Joins, Numerals, Schemes, lexicat_app, preferences_app}
 
+-- The program's command line is one of which clap states the matches.
 pub lexicat_simple : (schemes : Schemes) (numbers : Numerals)
     → is_simple (lexicat_app schemes numbers) ≡ true
 unfolding clap_on_literals
 lexicat_simple schemes numbers = refl
 
+-- The program's command line is one of which clap also states the faults.
 pub lexicat_free : (schemes : Schemes) (numbers : Numerals)
     → is_simple_and_free (lexicat_app schemes numbers) ≡ true
 unfolding clap_on_literals

@@ -1,4 +1,4 @@
--- An input is cut behind a text that was written.
+-- An input is cut after a text that was written.
 use Rattle.std.proofs.Common.{◌≡◌, ◌≢◌, ◌∙◌, ◌+◌, ◌==◌, ℕ, List, [], ◌∷◌, ◌++◌, false}
 use Rattle.std.proofs.Common.{true, not, length, length-append, refl, ap, sym, subst, arith}
 use Rattle.std.specs.Prelude.{All, Some, drop, nat_lt, position}
@@ -22,7 +22,7 @@ use Rattle.command_core.specs.Input.{AreDocuments}
 other : (b : ℕ) → b ≢ 10 → (b == 10) ≡ false
 other b h = grind (arith, nat_tests, h)
 
--- as many bytes stand in front of the first line feed as the line has
+-- the bytes before the first line feed are those of the line
 before : (line rest : List ℕ) → All (λ b. b ≢ 10) line
     → prefix_len (λ b. not (b == 10)) (line ++ 10 ∷ rest) ≡ length line
 before [] rest h = refl
@@ -51,7 +51,7 @@ cut_behind text line rest is h =
     let whole : text ++ rest ≡ line ++ 10 ∷ rest = ap (λ (t : List ℕ). t ++ rest) is ∙ append_assoc line (10 ∷ []) rest in
     subst (λ (t : List ℕ). AreDocuments t line rest) (sym whole) (cut line rest h)
 
--- a site that was written is the document in front
+-- The text of a site that was written is read as the first document of an input.
 pub written_site : (site : SiteState) (text rest : List ℕ) → IsSiteText site text
     → (document : List ℕ) × AreDocuments (text ++ rest) document rest × ReadsAsSite document site
 written_site site text rest is =
@@ -62,7 +62,7 @@ written_site site text rest is =
       (free site_checks IsSiteDocument one.0 site).0 (subst (λ (t : List ℕ). ReadsAsSite t site) whole is.1),
     )
 
--- so are language maps that are one line
+-- So are the language maps of a text that is one line.
 pub written_labels : (labels : List Labelled) (text rest : List ℕ) → IsOneLine text
     → AreLangMaps text labels
     → (document : List ℕ) × AreDocuments (text ++ rest) document rest × AreLangMaps document labels

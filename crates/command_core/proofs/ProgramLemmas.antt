@@ -11,7 +11,7 @@ use Rattle.command_core.specs.Program.{Does, MatchesBy, ReportsBy, refusal_numer
 use Rattle.command_core.specs.Streams.{IsUnread, Streams}
 use Rattle.command_core.specs.Words.{Numerals, Schemes, lexicat_app}
 
--- where memory ends before clap is asked
+-- That memory ends before clap is called is a possible result of parsing the words.
 pub no_memory : (schemes : Schemes) (numbers : Numerals)
     → map (λ s. s.now) schemes.now ≡ codes "basic" ∷ codes "extended" ∷ []
     → map (λ s. s.now) numbers.now ≡ refusal_numerals
@@ -31,7 +31,7 @@ no_memory schemes numbers are told words (Err error) h = record {
   fails = inl h;
 }
 
--- where clap finds a fault, it is told, or memory ran out
+-- Where clap finds a fault, the program reports it, or memory ran out.
 pub reported : {R W F : Type 0} (kinds : Kinds) (met : Option (Text × List Row)) (error : Error)
     (run : Streams R W F) (status : ℕ)
     → IsUnread run.reader

@@ -1,4 +1,4 @@
--- From the subcommand that was met to what its words ask.
+-- From the matched subcommand to the task that its arguments give.
 use Rattle.std.proofs.Common.{◌≡◌, ◌∙◌, List, Option, None, Some, ap₂, option_map, subst}
 use Rattle.cata_core.proofs.Basics.{some_same}
 use Rattle.clap.specs.Words.{Row, Text}
@@ -6,6 +6,7 @@ use Rattle.command_core.specs.Matches.{GivesNumbers}
 use Rattle.command_core.specs.declared.matches.Numbers.{Numbers}
 use Rattle.command_core.specs.TaskWords.{GivesTask, TaskWords, task_words}
 
+-- The task of the matched subcommand's name, numbers and arguments is the one it gives.
 pub gives_task : {S : Type 0} (name_of : S → Text) (rows_in : S → List Row) (met : Option S) (name : Text) (rows : List Row) (numbers : Numbers) (asked : Option TaskWords)
     → Some name ≡ option_map name_of met → Some rows ≡ option_map (λ (p : Text × List Row). p.1) (option_map (λ s. (name_of s, rows_in s)) met) → GivesNumbers rows numbers → asked ≡ task_words name numbers rows
     → GivesTask (option_map (λ s. (name_of s, rows_in s)) met) asked

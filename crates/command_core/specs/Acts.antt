@@ -88,7 +88,7 @@ RefusesEdit words input fault = call.RefusesEditing input words.now fault
 abbrev pub AnswersDocuments : DocumentTask → List ℕ → List ℕ → ℕ → Type 0
 AnswersDocuments task input text answered = IsDocument task input text × (answered ≡ 0)
 
--- the two documents, the one behind the other
+-- the two documents, the one after the other
 abbrev pub IsSync : Option ℕ → List ℕ → List ℕ → ℕ → Type 0
 IsSync limit input text answered =
     (first second one other : List ℕ) × AreDocuments input first second
@@ -217,7 +217,7 @@ Performs asked reader answered = MatchResult answered
     (λ answer. Answers asked reader answer.text (answer_status answer.outcome))
     (Refuses asked reader)
 
--- it is answered and the answer written, or it is refused, which is told, and nothing is written
+-- it is answered and the answer written, or its refusal is reported, and nothing is written
 abbrev pub Treats : {R W F : Type 0} → TaskWords → Streams R W F → ℕ → Type 0
 Treats asked run status =
     ((text : List ℕ) × (answered : ℕ) × Answers asked run.reader text answered
@@ -225,12 +225,12 @@ Treats asked run status =
     ⊎ ((refused : FrontFault) × Refuses asked run.reader refused
     × EndsRefused refused run.writer run.faults status)
 
--- a usage fault, which was told: nothing was read or written
+-- a usage fault, which was reported: nothing was read or written
 abbrev pub IsMisused : {R W F : Type 0} → Streams R W F → ℕ → Type 0
 IsMisused run status =
     IsUnread run.reader × IsUnwritten run.writer × TellsUsage usage_line run.faults status
 
--- what the command that was met asks is done
+-- the task of the matched command is done
 abbrev pub ActsBy : {R W F : Type 0} → Option (Text × List Row) → Streams R W F → ℕ → Type 0
 ActsBy met run status =
     (task : Option TaskWords) × GivesTask met task

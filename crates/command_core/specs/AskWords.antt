@@ -1,4 +1,4 @@
--- What the words of `pick`, `filter`, `lookup`, `outdated` and `explain` ask (project rules).
+-- The tasks that `pick`, `filter`, `lookup`, `outdated` and `explain` are given (project rules).
 use Rattle.std.specs.Prelude.{◌&&◌, ℕ, Bool, List, None, Option, Some, codes, nat_lt, option_and_then, option_map}
 use Rattle.clap.specs.Words.{Row, Text, all_of, first_of}
 use Rattle.front_core.specs.Fields.{FieldText}

@@ -1,4 +1,4 @@
--- What the words of `put` and `delete` ask (project rules).
+-- The tasks that the arguments of `put` and `delete` give (project rules).
 use Rattle.std.specs.Prelude.{ℕ, List, Option, None, Some, codes, option_and_then, option_map}
 use Rattle.clap.specs.Words.{Row, Text, all_of, first_of}
 

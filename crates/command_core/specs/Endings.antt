@@ -1,4 +1,4 @@
--- How a command ends: with its text written, or with a refusal told and nothing written.
+-- How a command ends: with its text written, or with a refusal reported and nothing written.
 use Rattle.std.specs.Prelude.{◌≡◌, ◌⊎◌, ℕ, Bool, true, false, List, Option, codes}
 use Rattle.std.specs.Io.KnownBytes.{Appends}
 use Rattle.std_io.specs.declared.io.kind.ErrorKind.{ErrorKind}
@@ -17,7 +17,7 @@ use Rattle.command_core.specs.Streams.{IsUnwritten, Writer}
 abbrev pub write_fault : FrontFault
 write_fault = Document (of_no_document WriteFault)
 
--- a usage fault, of which the sink was told by this line
+-- a usage fault, which this line reports to the sink
 abbrev pub TellsUsage : {F : Type 0} → List ℕ → Writer F → ℕ → Type 0
 TellsUsage line faults status = (status ≡ 2) × PrintsLine line faults
 
@@ -27,12 +27,12 @@ abbrev pub LacksWords : {F : Type 0} → ErrorKind → Writer F → ℕ → Type
 LacksWords OutOfMemory faults status = (status ≡ 5) × PrintsRefusal NoMemory faults
 LacksWords _ faults status = TellsUsage (codes "error: a word is not UTF-8\n") faults status
 
--- what is told where no command takes the words together
+-- the report where no command takes the words together
 abbrev pub usage_line : List ℕ
 usage_line = codes "error: no command takes these arguments together\n\nFor more information, try '--help'.\n"
 
--- the whole text was written and nothing told, or a front of it with a fault of the sink, which was
--- told
+-- the whole text was written and nothing reported, or a front of it, and a fault of the sink was
+-- reported
 abbrev pub Writes : {W F : Type 0} → List ℕ → ℕ → Writer W → Writer F → ℕ → Type 0
 Writes text answered writer faults status =
     ((status ≡ answered) × Appends (writer.contents writer.old) (writer.contents writer.new) text
@@ -40,7 +40,7 @@ Writes text answered writer faults status =
     ⊎ ((status ≡ 4) × AppendsFront (writer.contents writer.old) (writer.contents writer.new) text
     × (writer.failed writer.new ≡ true) × PrintsRefusal write_fault faults)
 
--- nothing was written, and the refusal was told
+-- nothing was written, and the refusal was reported
 abbrev pub EndsRefused : {W F : Type 0} → FrontFault → Writer W → Writer F → ℕ → Type 0
 EndsRefused fault writer faults status =
     (status ≡ status_of (number_of fault)) × IsUnwritten writer × PrintsRefusal fault faults

@@ -7,7 +7,7 @@ use Rattle.front_core.specs.Faults.{document_of, number_of, row_of}
 use Rattle.front_core.specs.declared.fault.FrontFault.{FrontFault}
 use Rattle.command_core.specs.Streams.{IsUnwritten, Writer}
 
--- a word and a number behind it, where there is one
+-- a word and a number after it, where there is one
 abbrev pub counted : List ℕ → Option ℕ → List ℕ
 counted word None = []
 counted word (Some number) = word ++ decimal number

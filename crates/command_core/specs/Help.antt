@@ -1,4 +1,4 @@
--- What words that ask for help mean (project rule).
+-- What words that request help mean (project rule).
 use Rattle.std.specs.Prelude.{List, [], ◌∷◌, codes, if◌then◌else◌}
 use Rattle.std.specs.Str.{bytes_eq}
 use Rattle.clap.specs.Words.{Text}

@@ -4,7 +4,7 @@ use Rattle.std.specs.Str.Parse.{IsNumeral, digits_value, without_leading_plus}
 use Rattle.clap.specs.Words.{Row, Text, one_of}
 use Rattle.command_core.specs.declared.matches.Numbers.{Numbers}
 
--- the number of 64 bits that a text is in decimal digits, where a plus may stand first, or none
+-- the number of 64 bits that a text is in decimal digits, where a plus may come first, or none
 -- where it is no such number
 abbrev pub IsNumberOf : Text → Option ℕ → Type 0
 IsNumberOf text None = ¬ (IsNumeral 10 (without_leading_plus text) × (digits_value 10 (without_leading_plus text) < 2 ^ 64))

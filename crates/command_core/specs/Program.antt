@@ -42,8 +42,8 @@ pub record MatchesBy (words : List Text) (result : Result ArgMatches Error) : Ty
   pub matches : IfOk result (λ m. subcommand_rows_of m ≡ subcommand_of app words)
   pub fails : FailsBy (fault_of app words) result
 
--- help and the version are written out; any other fault in the words is told, and the output has
--- nothing
+-- help and the version are written out; any other fault in the words is reported, and nothing is
+-- written
 abbrev pub Reports : {W F : Type 0} → ErrorKind → Writer W → Writer F → ℕ → Type 0
 Reports kind writer faults status = MatchBool (is_shown kind)
     ((status ≡ 0)
@@ -64,7 +64,7 @@ Does [] met run status = ActsBy met run status
 Does (k ∷ ks) met run status = IsUnread run.reader
     × ((kind : ErrorKind) × IsAmong kind (k ∷ ks) × Reports kind run.writer run.faults status)
 
--- what is asked is done, unless memory runs out
+-- the words' task is done, unless memory runs out
 pub record RunsBy {R W F : Type 0} (words : List Text) (run : Streams R W F) (status : ℕ) : Type 0 where
   pub app : App
   pub app_ok : IsProgram app

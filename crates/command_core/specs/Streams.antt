@@ -15,7 +15,7 @@ pub record Writer (W : Type 0) : Type 0 where
   pub old : W
   pub new : W
 
--- the input, the output, and the sink that is told of refusals
+-- the input, the output, and the sink of the reports of refusals
 pub record Streams (R W F : Type 0) : Type 0 where
   pub reader : Reader R
   pub writer : Writer W

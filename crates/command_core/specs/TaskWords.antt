@@ -1,4 +1,4 @@
--- What the words of each command ask (project rules).
+-- The tasks that the arguments of each command give (project rules).
 use Rattle.std.specs.Prelude.{◌≡◌, ℕ, Bool, true, false, List, Option, None, Some, codes}
 use Rattle.std.specs.Prelude.{option_and_then, option_map, if◌then◌else◌, MatchOption}
 use Rattle.std.specs.Str.{bytes_eq}
@@ -48,8 +48,8 @@ abbrev pub explain_task : Option ℕ → Option TaskWords
 explain_task None = None
 explain_task (Some number) = if is_refusal number then Some (Explain number) else None
 
--- what the command of this name asks with these numbers, or none: it is no command of the program, a
--- word is missing, or two do not go together
+-- the task of the command of this name with these numbers, or none: it is no command of the
+-- program, a word is missing, or two do not go together
 abbrev pub task_words : Text → Numbers → List Row → Option TaskWords
 task_words name numbers rows =
     if bytes_eq name (codes "pick") then pick_task rows
@@ -74,7 +74,7 @@ task_words name numbers rows =
     else (if bytes_eq name (codes "explain") then explain_task numbers.number
     else None)))))))))))))))))))
 
--- what the subcommand that was met asks, with the numbers that its words give
+-- the task of the matched subcommand, with the numbers that its arguments give
 abbrev pub GivesTask : Option (Text × List Row) → Option TaskWords → Type 0
 GivesTask met asked = MatchOption met (asked ≡ None)
     (λ p. (numbers : Numbers) × GivesNumbers p.1 numbers × (asked ≡ task_words p.0 numbers p.1))

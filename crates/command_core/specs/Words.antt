@@ -183,7 +183,7 @@ labels_app app =
     under (under (under (under (under (under app import_app) update_app) export_app) missing_app)
     outdated_app) changes_app
 
--- with what a reader asks of a site
+-- with the questions of a reader to a site
 abbrev pub questions_app : App → Schemes → App
 questions_app app schemes = under (under (under app (filter_app schemes)) (lookup_app schemes)) (bundle_app schemes)
 
