@@ -28,21 +28,22 @@ whole_stays : (text : List ℕ) → 0 < length text → without_empty_last (text
 whole_stays [] some = absurd (omega arith)
 whole_stays (b ∷ text) some = refl
 
--- an empty text has no line
+-- An empty text has no line.
 pub no_lines : (text : List ℕ) → length text ≡ 0 → lines_of text ≡ []
 unfolding pieces_by
 no_lines [] none = refl
 no_lines (b ∷ text) none = absurd (omega arith)
 
--- a text without a line feed
+-- A text that is not empty and has no line feed is one line, and an empty rest has no more.
 pub last_line : (text rest : List ℕ) → 0 < length text → length rest ≡ 0 → position (λ b. b == 10) text ≡ None → lines_of text ≡ text ∷ lines_of rest
 last_line text rest some none at = ap without_empty_last (pieces_whole 10 text at) ∙ whole_stays text some ∙ ap (λ ls. text ∷ ls) (sym (no_lines rest none))
 
--- or with one
+-- A text with a line feed has the line before it, and then the lines of what follows it.
 pub next_line : (text : List ℕ) (at : ℕ) → position (λ b. b == 10) text ≡ Some at → lines_of text ≡ take at text ∷ lines_of (take (length text - (at + 1)) (drop (at + 1) text))
 next_line text at found =
     let rest_of_text = take (length text - (at + 1)) (drop (at + 1) text) in
     let some = some_piece rest_of_text in
     ap without_empty_last (pieces_cut 10 text at found ∙ ap (λ ps. take at text ∷ ps) some.2) ∙ first_stays (take at text) some.0 some.1 ∙ ap (λ ps. take at text ∷ without_empty_last ps) (sym some.2)
 
+-- The cases of the lines of a text: it is empty, it has no line feed, or it has one.
 pub ruleset cuts = (no_lines, last_line, next_line)

@@ -94,6 +94,7 @@ one_picked field word tags a b f g =
     (subst (λ (d : Option (List ℕ)). Finds by f.list f.langs d a) defaults f.found_ok)) in
     one_found by g.list g.langs g.default a b found g.found_ok
 
+-- A pick has one line at most.
 pub one_pick_line : (field : FieldText) (word : Option Text) (tags : List Text) (a b : List ℕ) → IsPickLine field word tags a → IsPickLine field word tags b → a ≡ b
 one_pick_line field word tags a b f g = f.2 ∙ ap pick_line (one_picked field word tags f.0 g.0 f.1 g.1) ∙ sym g.2
 

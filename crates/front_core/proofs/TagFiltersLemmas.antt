@@ -31,7 +31,7 @@ picks_within scheme items langs picks f =
     (All-permutation (IsKeyFrom scheme items 0 langs) f.all f.keys f.each_once
     (keys_right scheme items 0 langs f.all f.all_ok))))
 
--- where there are as many names as languages each pick has one
+-- Where there is a name for each language, each pick has a name.
 pub enough_names : {A : Type 0} (scheme : Scheme) (items : List Item) (langs : List Text)
     (names : List A) (picks : List Pick) → IsFiltered scheme items langs picks
     → length langs ≡ length names → HaveNames names picks
@@ -39,7 +39,7 @@ enough_names scheme items langs names picks f many =
     subst (λ (n : ℕ). All (λ (p : Pick). p.place < n) picks) many
     (picks_within scheme items langs picks f)
 
--- there are as many texts as are lent
+-- The number of texts is the number of borrowed ones.
 pub as_many_texts : (names lent : List (Bor Text)) (texts : List Text) → lent ≡ names
     → texts_of names ≡ texts → length texts ≡ length lent
 as_many_texts names lent texts same are = sym (ap length are) ∙ length-map names (λ name. name.now)

@@ -49,7 +49,7 @@ RefusesLabelText text fault =
     ((¬ IsUtf8 text) × (fault ≡ not_utf8 (utf8_valid_len text)))
     ⊎ (IsUtf8 text × ((fault ≡ NoMemory) ⊎ IsOf cell_fault (RefusesLabel (text ∷ [])) fault))
 
--- ---- what is asked
+-- ---- what a change is to do
 
 abbrev pub IsPut : Text → Text → Text → Change → Type 0
 IsPut id lang text change = IsKey id lang (change.id, change.lang) × HasLabel text

@@ -24,7 +24,7 @@ abbrev pub IsPutInto : ℕ → Text → Text → Text → Edits
 IsPutInto now id lang text old new = (change : Change) × IsPut id lang text change
     × IsChanged now change old new
 
--- what is handed in is refused first, and then the edit
+-- what is given is refused first, and then the edit
 abbrev pub RefusesPutInto : ℕ → Text → Text → Text → SiteState → FrontFault → Type 0
 RefusesPutInto now id lang text site fault = RefusesPut id lang text fault
     ⊎ (HasKey id lang × HasLabel text × RefusesChange site now fault)
@@ -48,8 +48,8 @@ pub record IsNotMerged (other old new : SiteState) (refused : CataFault) : Type 
   pub refusal : IsRefusal old.cells other.cells refused
   pub left : IsLeftSite old new other.cells refused
 
--- the least key whose stamp has two labels is told, and the site is as it was; or memory ended, and
--- at each key stands the old cell or the join's
+-- the least key whose stamp has two labels is reported, and the site is as it was; or memory
+-- ended, and at each key is the old cell or the join's
 abbrev pub RefusesMerge : SiteState → SiteState → SiteState → FrontFault → Type 0
 RefusesMerge other old new = IsOf site_fault (IsNotMerged other old new)
 
@@ -67,7 +67,7 @@ pub record IsNotTaken (delta : Delta) (old new : SiteState) (refused : CataFault
   pub left : IsLeftSite old new delta.cells refused
 
 -- the bytes are refused, and the site is as it was; or the site refuses the delta, and is as it was
--- but for 26, where at each key stands the old cell or the join's
+-- but for 26, where at each key is the old cell or the join's
 abbrev pub RefusesTake : Text → Option ℕ → SiteState → SiteState → FrontFault → Type 0
 RefusesTake bytes limit old new fault =
     ((new ≡ old) × IsOf document_fault (OrMemory no_memory (RefusesDeltaUntil 1 limit bytes)) fault)

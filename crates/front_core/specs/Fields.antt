@@ -1,4 +1,4 @@
--- A field that is handed in, with how it is read.
+-- A field that is given, with how it is read.
 use Rattle.std.specs.Prelude.{◌≤◌, ℕ, List, length}
 use Rattle.nego_core.specs.Field.{IsField, RefusesField}
 use Rattle.nego_core.specs.Item.{Item}
@@ -17,7 +17,7 @@ pub record FieldText : Type 0 where
   pub widening : Widening
   pub text : Text
 
--- what is handed in, as values
+-- what is given, as values
 abbrev pub field_text : Field → FieldText
 field_text field = record {
   scheme = field.scheme;
@@ -27,8 +27,8 @@ field_text field = record {
 }
 
 -- the list that it is read as: an Accept-Language field (RFC 9110 section 12.5.4), or extended
--- ranges without weights (RFC 4647 section 2.2), whose malformed elements refuse it or are passed
--- over
+-- ranges without weights (RFC 4647 section 2.2), whose malformed elements refuse it or are
+-- skipped
 abbrev pub ReadsAs : FieldText → List Item → Type 0
 ReadsAs field list = (length field.text ≤ 65535)
     × IsField field.scheme field.malformed field.text list

@@ -48,7 +48,7 @@ RefusesIdText id _ = ⊥
 abbrev pub RefusesId : Text → FrontFault → Type 0
 RefusesId id = IsOf cell_fault (RefusesIdText id)
 
--- ---- what is asked
+-- ---- the questions
 
 abbrev pub IsLookup : Text → FieldText → Option Text → Lookup → Type 0
 IsLookup id field word asked = IsId id × (asked.id ≡ id)
@@ -92,7 +92,7 @@ AnswersLookup cells asked answer =
 abbrev pub texts_of : Reply → Option (List Text)
 texts_of reply = option_map (λ found. found.1) (answered reply)
 
--- what stands at a place of these texts
+-- what is at a place of these texts
 abbrev pub IsTextAt : ℕ → Option (List Text) → LabelText → Type 0
 IsTextAt place None label.Nothing = Unit {0}
 IsTextAt place (Some texts) (label.Found text count) = (slice_get texts place ≡ Some text.now)
@@ -117,7 +117,7 @@ AnswersBundle cells asked answer =
     × IsBundleBy asked.widening cells asked.list asked.default labels
     × AreWritten labels answer.text (is_found answer.outcome)
 
--- ---- asked and answered at once: memory may end before the answer is written
+-- ---- question and answer at once: memory may end before the answer is written
 
 abbrev pub IsLookupLine : Entries → Text → FieldText → Option Text → Answer → Type 0
 IsLookupLine cells id field word answer = (asked : Lookup) × IsLookup id field word asked

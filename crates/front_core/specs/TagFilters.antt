@@ -49,7 +49,7 @@ abbrev pub RefusesTagFilter : FieldText → List Text → FrontFault → Type 0
 RefusesTagFilter field tags fault = IsOf field_fault (RefusesRanges field) fault
     ⊎ (HasList field × IsOf language_fault (RefusesTags tags) fault)
 
--- the texts of what is lent
+-- the texts of what is borrowed
 abbrev pub texts_of : List (Bor Text) → List Text
 texts_of names = map (λ name. name.now) names
 

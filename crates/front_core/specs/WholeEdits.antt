@@ -51,7 +51,7 @@ RefusesUpdates now old new site fault =
     × ((fault ≡ NoMemory)
     ⊎ (SpendsUpdate now site.name before after site.cells × (fault ≡ site_fault ClockSpent))))
 
--- the least key whose stamp has two labels is told, or memory ended
+-- the least key whose stamp has two labels is reported, or memory ended
 abbrev pub RefusesMerged : SiteState → SiteState → FrontFault → Type 0
 RefusesMerged other site fault =
     (fault ≡ NoMemory) ⊎ IsOf site_fault (IsRefusal site.cells other.cells) fault
