@@ -43,21 +43,21 @@ opened text site old new told status reads (inl h) = inl (site, reads, h.0, h.1.
 opened text site old new told status reads (inr h) =
     inr (fault.NoMemory, no_memory_to_open text, h.0, h.1.0, h.1.1)
 
--- what is written of an open site is told as it is written
+-- What is written of an open site is reported as it is written.
 pub is_of : (site : Option SiteState) (Is : SiteState → Answer → Type 0)
     (Refuses : FrontFault → Type 0) (s : SiteState) (old new : Text) (told : Told) (status : ℤ)
     → site ≡ Some s → Tells (Is s) Refuses TellsAnswer old new told status
     → TellsOf site Is Refuses old new told status
 is_of site Is Refuses s old new told status is_open h = rw is_open h
 
--- an update of what a handle lends is refused as one of its site
+-- A refusal to update the borrowed site of a handle is one to update its site.
 pub update_refused : (now : ℕ) (old new : Text) (site lent : SiteState) (fault : FrontFault)
     → lent ≡ site → RefusesUpdates now old new lent fault
     → OrNoMemory (RefusesUpdates now old new site) fault
 update_refused now old new site lent fault same refused =
     inl (subst (λ (s : SiteState). RefusesUpdates now old new s fault) same refused)
 
--- a delta that what a handle lends refuses is refused by its site
+-- A refusal of a delta by the borrowed site of a handle is one by its site.
 pub take_refused : (delta : Text) (limit : Option ℕ) (site lent : SiteState) (fault : FrontFault)
     → lent ≡ site → RefusesTaken delta limit lent fault
     → OrNoMemory (RefusesTaken delta limit site) fault

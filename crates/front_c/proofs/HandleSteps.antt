@@ -19,6 +19,7 @@ use Rattle.std_heap.specs.contracts.GlobalAllocator.TheImpl.{ghosts}
 use Rattle.std_heap.proofs.GlobalToken.{dealloc_token-Testable}
 use Rattle.front_c.specs.Held.{Share, share_row, site_held}
 
+-- Whether a pointer leads to a block, so that it is not null.
 abbrev pub is_block : Ptr → Bool
 is_block (block_ptr b o) = true
 is_block null_ptr = false

@@ -26,6 +26,7 @@ use Rattle.std_alloc.specs.Box.Ownership.{box_owns}
 use Rattle.std_alloc.proofs.ResultValues.{and_tt}
 use Rattle.front_c.specs.contracts.raw_box.RawBox as raw_box
 
+-- The machine value of a structure with these two fields.
 abbrev pub both : Val → Val → Val
 both v w = vstruct (vcons v (vcons w vnil))
 

@@ -21,7 +21,7 @@ use Rattle.front_c.specs.Statuses.{found, status_of_refusal, usage}
 use Rattle.front_c.specs.Telling.{TellsNothing, TellsText, TellsUsage, answered, refused}
 use Rattle.front_c.specs.declared.told.Told.{Told}
 
--- what a call without an answer makes of what is told and of its status
+-- what a call without an answer makes of the result record and of its status
 abbrev pub Reports : Type 1
 Reports = Told → ℤ → Type 0
 
@@ -59,8 +59,8 @@ Refusing = SiteState → SiteState → FrontFault → Type 0
 abbrev pub Keeps : (SiteState → FrontFault → Type 0) → Refusing
 Keeps Refuses old new fault = (new ≡ old) × OrNoMemory (Refuses old) fault
 
--- a handle that is not open is told as usage; else it has the site that the edit makes, or the one
--- that a refused edit leaves
+-- a handle that is not open is reported as usage; else it has the site that the edit makes, or
+-- the one that a refused edit leaves
 abbrev pub TellsEdited : Edits → Refusing → Option SiteState → Option SiteState → Reports
 TellsEdited Is Refuses old new told status =
     MatchOption old ((new ≡ None) × (status ≡ usage) × (told ≡ answered 0 0))

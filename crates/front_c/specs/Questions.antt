@@ -1,4 +1,4 @@
--- What a question of C asks (project rules).
+-- The questions of C (project rules).
 use Rattle.std.specs.Prelude.{◌==◌, ◌∷◌, [], ℕ, List, Option, None, Some, if◌then◌else◌}
 use Rattle.nego_core.specs.declared.field.Malformed.{Malformed}
 use Rattle.nego_core.specs.declared.field.Malformed.TheVariants.{Refused, PassedOver}
@@ -17,8 +17,8 @@ abbrev pub widened : Scheme → Malformed → List ℕ → FieldText
 widened scheme malformed text =
     record { scheme = scheme; malformed = malformed; widening = By scheme; text = text }
 
--- how a field is read under these flags: 1 is the extended scheme, 2 passes malformed elements
--- over, 3 is both
+-- how a field is read under these flags: 1 is the extended scheme, 2 skips malformed elements,
+-- 3 is both
 abbrev pub field_of : ℕ → List ℕ → Option FieldText
 field_of flags text =
     if flags == 0 then Some (field Basic Refused text)
