@@ -21,6 +21,7 @@ const LANGUAGES: u64 = 800_000;
 const SELDOM: &str =
     "af-ZA, eu-Latn-ES;q=0.9, ga-IE;q=0.8, cy-GB;q=0.8, is;q=0.7, mt-MT;q=0.6, lb-LU;q=0.5, uk-Cyrl-UA;q=0.4, gd-GB;q=0.3, ja-Latn-JP-x-private1;q=0.2";
 
+/// Any fault as out of memory: the edits and catalogues of these works never clash.
 pub fn no_memory(_fault: CataFault) -> AllocError {
     AllocError
 }
@@ -39,6 +40,7 @@ fn merged(alloc: Global, own: &Catalogue, other: &Catalogue) -> Result<u64, Allo
     Ok(u64::try_from(copy.len()).unwrap_or(0))
 }
 
+/// The checksum of a walk over all cells in order, by the times of their stamps.
 pub fn sum_of_walk(catalogue: &Catalogue) -> u64 {
     let mut sum = 0;
     for (_, _, cell) in catalogue.iter() {
@@ -57,6 +59,7 @@ fn other_of(alloc: Global, work: &str) -> Result<Catalogue, AllocError> {
     }
 }
 
+/// A turn merges a catalogue into an empty one, and then another catalogue into that.
 fn run_merges(alloc: Global, work: &str, turns: u64) -> Result<u64, AllocError> {
     let own = whole(alloc, 0)?;
     let other = other_of(alloc, work)?;
@@ -67,6 +70,7 @@ fn run_merges(alloc: Global, work: &str, turns: u64) -> Result<u64, AllocError> 
     Ok(sum)
 }
 
+/// A turn goes over all cells of a catalogue in order.
 fn run_walks(alloc: Global, turns: u64) -> Result<u64, AllocError> {
     let own = whole(alloc, 0)?;
     let mut sum = 0;
@@ -76,11 +80,12 @@ fn run_walks(alloc: Global, turns: u64) -> Result<u64, AllocError> {
     Ok(sum)
 }
 
-/// What a site told of the cells, before one in a hundred changed.
+/// The summary of a site, made before one in a hundred of its cells changed.
 fn told_before(alloc: Global) -> Result<Summary, AllocError> {
     Site::from_catalogue(name("rome")?, whole(alloc, 0)?).summary(alloc)
 }
 
+/// A turn makes the delta of a newer catalogue against the summary of an older one.
 fn run_deltas(alloc: Global, turns: u64) -> Result<u64, AllocError> {
     let summary = told_before(alloc)?;
     let langs = langs_of_tags(alloc)?;
@@ -114,6 +119,7 @@ fn put_one(
     Ok(mixed(mixed(0, stamp.time), u64::from(stamp.count)))
 }
 
+/// The checksum of 100,000 puts at a new site: of their stamps, and of the number of cells.
 fn put_all(alloc: Global, ids: &[MessageId], langs: &[Lang]) -> Result<u64, AllocError> {
     let mut site = Site::new(alloc, name("rome")?);
     let label = label(alloc)?;
@@ -125,6 +131,7 @@ fn put_all(alloc: Global, ids: &[MessageId], langs: &[Lang]) -> Result<u64, Allo
     Ok(mixed(sum, count))
 }
 
+/// A turn makes a site and puts 100,000 labels into it.
 fn run_puts(alloc: Global, turns: u64) -> Result<u64, AllocError> {
     let ids = ids_of(alloc, MESSAGES, 1)?;
     let langs = langs_of_tags(alloc)?;
@@ -135,6 +142,7 @@ fn run_puts(alloc: Global, turns: u64) -> Result<u64, AllocError> {
     Ok(sum)
 }
 
+/// The checksum after the reply of a lookup.
 fn sum_of_reply(sum: u64, reply: &LentReply) -> u64 {
     match reply {
         LentReply::Matched(lang, _) => mixed(mixed(sum, 1), lang.as_str().len() as u64),
@@ -143,6 +151,7 @@ fn sum_of_reply(sum: u64, reply: &LentReply) -> u64 {
     }
 }
 
+/// The checksum of a lookup in each of the messages.
 fn look_up_all(catalogue: &Catalogue, ids: &[MessageId], list: &PriorityList) -> u64 {
     let mut sum = 0;
     for id in ids {
@@ -151,7 +160,7 @@ fn look_up_all(catalogue: &Catalogue, ids: &[MessageId], list: &PriorityList) ->
     sum
 }
 
-/// One message in so many languages.
+/// One message in `langs` languages.
 fn message_of(alloc: Global, langs: u64) -> Result<Catalogue, AllocError> {
     let mut catalogue = Catalogue::new(alloc);
     let id = id_of(alloc, 0)?;
@@ -163,6 +172,7 @@ fn message_of(alloc: Global, langs: u64) -> Result<Catalogue, AllocError> {
     Ok(catalogue)
 }
 
+/// A turn looks the list of a field up in each of the messages.
 fn run_lookups(
     alloc: Global,
     own: &Catalogue,
@@ -180,6 +190,7 @@ fn run_lookups(
     Ok(sum)
 }
 
+/// A turn looks a list of ten ranges up in 100 messages of 50 languages each.
 fn run_few_lookups(alloc: Global, turns: u64) -> Result<u64, AllocError> {
     let own = catalogue_of(alloc, 0, 2_000, &many_langs(alloc)?, 0)?;
     run_lookups(alloc, &own, &ids_of(alloc, 100, 17)?, SELDOM, turns)
@@ -191,7 +202,7 @@ fn run_long_lookups(alloc: Global, load: &str, turns: u64) -> Result<u64, AllocE
     run_lookups(alloc, &own, &ids_of(alloc, 1, 1)?, load, turns)
 }
 
-/// The checksum of so many turns of a work.
+/// The checksum of `turns` turns of a work.
 pub fn run(alloc: Global, work: &str, load: &str, turns: u64) -> Result<u64, AllocError> {
     match work {
         "catalogue-walk" => run_walks(alloc, turns),

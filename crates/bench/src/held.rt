@@ -12,6 +12,7 @@ pub struct Held {
 }
 
 impl Held {
+    /// A table with the texts of these languages.
     pub fn of_langs(alloc: Global, langs: &[Lang]) -> Result<Held, AllocError> {
         let mut names = HashSet::new(alloc);
         for lang in langs {

@@ -10,10 +10,12 @@ const SIZE: u64 = 100_000;
 /// A map of message ids.
 type Cells = Keyed<MessageId, Cell>;
 
+/// Any fault as out of memory: the names, ids and labels of these works are valid.
 fn no_memory(_fault: CellFault) -> AllocError {
     AllocError
 }
 
+/// The stamp of a number, at one site; its time is below 1000 and its count below 7.
 fn stamp_of(number: u64) -> Result<Stamp, AllocError> {
     let site = SiteName::new("paris").map_err(no_memory)?;
     let count = u32::try_from(number % 7).unwrap_or(0);
@@ -24,11 +26,13 @@ fn stamp_of(number: u64) -> Result<Stamp, AllocError> {
     })
 }
 
+/// The id of a number; ids are in the order of their numbers.
 fn key_of(alloc: Global, number: u64) -> Result<MessageId, AllocError> {
     let text = format!(in alloc; "message/{number:020}")?;
     MessageId::new(alloc, text.as_str()).map_err(no_memory)
 }
 
+/// The cell of a number, with a label of one text.
 fn cell_of(alloc: Global, number: u64) -> Result<Cell, AllocError> {
     let texts = vec![in alloc; "label".to_string(alloc)?]?;
     let label = Label::new(alloc, &texts).map_err(no_memory)?;
@@ -42,7 +46,7 @@ fn scattered(turn: u64) -> u64 {
         >> 20
 }
 
-/// So many entries from a number on, so far apart.
+/// `count` entries from a number on, `step` apart.
 fn rising(alloc: Global, from: u64, step: u64, count: u64) -> Result<Cells, AllocError> {
     let mut map = Keyed::new(alloc);
     for turn in 0..count {
@@ -76,6 +80,7 @@ fn other_of(alloc: Global, work: &str) -> Result<Cells, AllocError> {
     }
 }
 
+/// The length of a copy of the map.
 fn copy_length(alloc: Global, own: &Cells) -> Result<u64, AllocError> {
     let copy = own.copy(alloc)?;
     Ok(copy.len() as u64)
@@ -91,6 +96,7 @@ fn joined_length(alloc: Global, own: &Cells, other: &Cells) -> Result<u64, Alloc
     Ok(copy.len() as u64)
 }
 
+/// The checksum of a walk over all cells in order, by the times of their stamps.
 fn sum_of_walk(own: &Cells) -> u64 {
     let mut sum = 0;
     for (_key, cell) in own.iter() {
@@ -99,7 +105,7 @@ fn sum_of_walk(own: &Cells) -> u64 {
     sum
 }
 
-/// Keys in rising order, or such as look random.
+/// Keys in ascending order, or keys that look random.
 fn keys_put(alloc: Global, random: bool) -> Result<Vec<MessageId>, AllocError> {
     let mut keys = Vec::new(alloc);
     for turn in 0..SIZE {
@@ -109,7 +115,7 @@ fn keys_put(alloc: Global, random: bool) -> Result<Vec<MessageId>, AllocError> {
     Ok(keys)
 }
 
-/// Puts copies of the keys, each with a stamp that tells its turn.
+/// Puts copies of the keys, each with the stamp of its place.
 fn put_all(alloc: Global, keys: &[MessageId]) -> Result<u64, AllocError> {
     let mut map: Keyed<MessageId, Stamp> = Keyed::new(alloc);
     for turn in 0..keys.len() {
@@ -124,6 +130,7 @@ fn put_all(alloc: Global, keys: &[MessageId]) -> Result<u64, AllocError> {
     Ok(sum)
 }
 
+/// A map with a stamp at each of 100,000 even numbers.
 fn stamps_held(alloc: Global) -> Result<Keyed<MessageId, Stamp>, AllocError> {
     let mut map = Keyed::new(alloc);
     for turn in 0..SIZE {
@@ -134,6 +141,7 @@ fn stamps_held(alloc: Global) -> Result<Keyed<MessageId, Stamp>, AllocError> {
     Ok(map)
 }
 
+/// 100,000 keys that look random, about half of which the map of stamps has.
 fn keys_asked(alloc: Global) -> Result<Vec<MessageId>, AllocError> {
     let mut keys = Vec::new(alloc);
     for turn in 0..SIZE {
@@ -142,6 +150,7 @@ fn keys_asked(alloc: Global) -> Result<Vec<MessageId>, AllocError> {
     Ok(keys)
 }
 
+/// The checksum of what the map has at each of the keys.
 fn get_all(map: &Keyed<MessageId, Stamp>, keys: &[MessageId]) -> u64 {
     let mut sum = 0;
     for key in keys {
@@ -154,6 +163,7 @@ fn get_all(map: &Keyed<MessageId, Stamp>, keys: &[MessageId]) -> u64 {
     sum
 }
 
+/// 100,000 stamps that look random.
 fn stamps_of(alloc: Global) -> Result<Vec<Stamp>, AllocError> {
     let mut stamps = Vec::new(alloc);
     for turn in 0..SIZE {
@@ -162,6 +172,7 @@ fn stamps_of(alloc: Global) -> Result<Vec<Stamp>, AllocError> {
     Ok(stamps)
 }
 
+/// The checksum of a comparison of each stamp with the next.
 fn compare_all(stamps: &[Stamp]) -> u64 {
     let mut sum = 0;
     for at in 1..stamps.len() {
@@ -174,6 +185,7 @@ fn compare_all(stamps: &[Stamp]) -> u64 {
     sum
 }
 
+/// A turn copies a map, goes over it, or joins a copy of it with another map.
 fn run_joins(alloc: Global, work: &str, turns: u64) -> Result<u64, AllocError> {
     let own = own_of(alloc, work)?;
     let other = other_of(alloc, work)?;
@@ -189,6 +201,7 @@ fn run_joins(alloc: Global, work: &str, turns: u64) -> Result<u64, AllocError> {
     Ok(sum)
 }
 
+/// A turn puts 100,000 keys into an empty map, and goes over them in order.
 fn run_puts(alloc: Global, random: bool, turns: u64) -> Result<u64, AllocError> {
     let keys = keys_put(alloc, random)?;
     let mut sum = 0;
@@ -198,6 +211,7 @@ fn run_puts(alloc: Global, random: bool, turns: u64) -> Result<u64, AllocError> 
     Ok(sum)
 }
 
+/// A turn gets 100,000 keys of a map of 100,000 stamps.
 fn run_gets(alloc: Global, turns: u64) -> Result<u64, AllocError> {
     let map = stamps_held(alloc)?;
     let keys = keys_asked(alloc)?;
@@ -208,6 +222,7 @@ fn run_gets(alloc: Global, turns: u64) -> Result<u64, AllocError> {
     Ok(sum)
 }
 
+/// A turn compares 100,000 stamps, each with the next.
 fn run_order(alloc: Global, turns: u64) -> Result<u64, AllocError> {
     let stamps = stamps_of(alloc)?;
     let mut sum = 0;
@@ -217,7 +232,7 @@ fn run_order(alloc: Global, turns: u64) -> Result<u64, AllocError> {
     Ok(sum)
 }
 
-/// The checksum of so many turns of a work over maps of 100,000 entries.
+/// The checksum of `turns` turns of a work over maps of 100,000 entries.
 pub fn run(alloc: Global, work: &str, turns: u64) -> Result<u64, AllocError> {
     match work {
         "keyed-put-rising" => run_puts(alloc, false, turns),

@@ -1,8 +1,8 @@
 //! Works of known size, which `bench/run` compares with plain Rust.
 //!
-//! `bench WORK TURNS` reads the load of a work from standard input and prints a checksum of what so
-//! many turns found. `bench round-KIND 1` reads a document and prints what it is written as.
-//! Without words the program runs a small fixed case.
+//! `bench WORK TURNS` reads the load of a work from standard input and prints a checksum of what
+//! the turns found. `bench round-KIND 1` reads a document and prints what it is written as.
+//! Without arguments the program runs a small fixed case.
 #![tactic(auto)]
 
 mod asking;

@@ -11,14 +11,17 @@ const MANY: &str = "de en es fr ja it nl pl ru zh";
 
 const REGIONS: &str = " -at -ch -us -x-a";
 
+/// Any fault as out of memory: the names, ids and labels that are made are valid.
 fn no_memory(_fault: CellFault) -> AllocError {
     AllocError
 }
 
+/// Any fault as out of memory: the tags of the languages are valid.
 fn no_lang(_fault: LangFault) -> AllocError {
     AllocError
 }
 
+/// Any fault as out of memory: the edits that are made never clash.
 fn not_applied(_fault: CataFault) -> AllocError {
     AllocError
 }
@@ -30,16 +33,18 @@ pub fn scattered(turn: u64) -> u64 {
         >> 20
 }
 
+/// The name of a site.
 pub fn name(text: &str) -> Result<SiteName, AllocError> {
     SiteName::new(text).map_err(no_memory)
 }
 
+/// The id of a number; ids are in the order of their numbers.
 pub fn id_of(alloc: Global, number: u64) -> Result<MessageId, AllocError> {
     let text = format!(in alloc; "message/{number:020}")?;
     MessageId::new(alloc, text.as_str()).map_err(no_memory)
 }
 
-/// So many ids, so far apart.
+/// `count` ids, `step` apart.
 pub fn ids_of(alloc: Global, count: u64, step: u64) -> Result<Vec<MessageId>, AllocError> {
     let mut ids = Vec::new(alloc);
     for turn in 0..count {
@@ -48,6 +53,7 @@ pub fn ids_of(alloc: Global, count: u64, step: u64) -> Result<Vec<MessageId>, Al
     Ok(ids)
 }
 
+/// Ten languages, one of which is `@none`.
 pub fn langs_of_tags(alloc: Global) -> Result<Vec<Lang>, AllocError> {
     let mut langs = Vec::new(alloc);
     for tag in TAGS.split(" ") {
@@ -80,18 +86,21 @@ pub fn numbered_lang(alloc: Global, number: u64) -> Result<Lang, AllocError> {
     Lang::parse(alloc, text.as_bytes()).map_err(no_lang)
 }
 
+/// A label of one text.
 pub fn label(alloc: Global) -> Result<Label, AllocError> {
     let mut texts = Vec::new(alloc);
     texts.push("label".to_string(alloc)?)?;
     Label::from_texts(texts).map_err(no_memory)
 }
 
+/// A stamp of one site.
 pub fn stamp_of(time: u64, count: u64) -> Result<Stamp, AllocError> {
     let site = name("paris")?;
     let count = u32::try_from(count).unwrap_or(0);
     Ok(Stamp { time, site, count })
 }
 
+/// An edit that gives a message a label in a language, with this stamp.
 pub fn edit_of(
     alloc: Global,
     id: &MessageId,
@@ -117,8 +126,8 @@ fn apply_all(
     Ok(())
 }
 
-/// So many messages from a number on in each of the languages; every hundredth message is later by
-/// so much.
+/// `messages` messages from a number on in each of the languages; every hundredth is later by
+/// `later`.
 pub fn catalogue_of(
     alloc: Global,
     from: u64,

@@ -5,6 +5,7 @@ use lang_core::{Lang, LangFault, Tag};
 use nego_core::{NegoFault, PriorityList, Scheme};
 use std::alloc::{AllocError, Global};
 
+/// The checksum after a tag, or after its refusal.
 fn sum_of_tag(sum: u64, tag: &Result<Tag, LangFault>) -> u64 {
     match tag {
         Ok(tag) => mixed_place(mixed(sum, 0), tag.as_str().len()),

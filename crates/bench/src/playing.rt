@@ -11,7 +11,7 @@ const ROUNDS: u64 = 100;
 
 const EDITS: u64 = 1_000;
 
-/// The places below 10 that are so far on.
+/// The place of a number among ten.
 fn place(number: u64) -> usize {
     (number % 10) as usize
 }
@@ -33,7 +33,7 @@ fn edit_step(
     })
 }
 
-/// A merge, and a summary told, posted against and delivered.
+/// A merge, then a summary, a delta against it, and the delivery of the delta.
 fn push_exchange(steps: &mut Vec<Step>, round: u64) -> Result<(), AllocError> {
     steps.push(Step::Merge {
         into: place(round),
@@ -67,6 +67,7 @@ fn push_edits(
     Ok(())
 }
 
+/// 100 rounds of 1,000 edits and an exchange each, and then a question for a site's cells.
 fn steps_of(alloc: Global) -> Result<Vec<Step>, AllocError> {
     let ids = ids_of(alloc, 1_000, 1)?;
     let langs = langs_of_tags(alloc)?;
@@ -79,6 +80,7 @@ fn steps_of(alloc: Global) -> Result<Vec<Step>, AllocError> {
     Ok(steps)
 }
 
+/// The checksum after the times of all edits.
 fn sum_of_edits(sum: u64, edits: &Edits) -> u64 {
     let mut sum = sum;
     for place in 0..edits.len() {
@@ -89,6 +91,7 @@ fn sum_of_edits(sum: u64, edits: &Edits) -> u64 {
     sum
 }
 
+/// The checksum of the answers of a run, which are the cells of a site.
 fn sum_of_answers(answers: &Answers) -> u64 {
     match answers.nth(0) {
         Some(Answer::Cells(edits)) => sum_of_edits(0, edits),
@@ -96,6 +99,7 @@ fn sum_of_answers(answers: &Answers) -> u64 {
     }
 }
 
+/// The checksum of one run over ten sites, or 1 where it is refused.
 fn played(alloc: Global, steps: &[Step]) -> u64 {
     match play(alloc, 10, steps) {
         Ok(answers) => sum_of_answers(&answers),
@@ -103,7 +107,7 @@ fn played(alloc: Global, steps: &[Step]) -> u64 {
     }
 }
 
-/// The checksum of so many runs.
+/// The checksum of `turns` runs.
 pub fn run(alloc: Global, turns: u64) -> Result<u64, AllocError> {
     let steps = steps_of(alloc)?;
     let mut sum = 0;

@@ -8,7 +8,7 @@ use lang_core::Lang;
 use nego_core::{NegoFault, PriorityList, Scheme};
 use std::alloc::{AllocError, Global};
 
-/// A list that was read from a field, with what it is asked over.
+/// A list that was read from a field, with the languages that it is matched with.
 #[derive(Drop)]
 struct Asked<'a> {
     scheme: Scheme,
@@ -18,11 +18,12 @@ struct Asked<'a> {
     held: &'a Held,
 }
 
+/// Any fault as out of memory: a filter is refused for nothing else.
 fn no_memory(_fault: NegoFault) -> AllocError {
     AllocError
 }
 
-/// Reads the field and asks the list for all that it is asked for.
+/// Reads the field, then filters and looks up by its list.
 fn read_and_ask(alloc: Global, asked: &Asked, sum: u64) -> Result<u64, AllocError> {
     let list = list_of(alloc, asked.scheme, asked.field);
     let sum = sum_of_list(sum, &list);
@@ -53,6 +54,7 @@ fn turn(alloc: Global, work: &str, asked: &Asked, sum: u64) -> Result<u64, Alloc
     }
 }
 
+/// The scheme that the name of a work ends with, or the basic one.
 fn scheme_of(work: &str) -> Scheme {
     if work.ends_with("extended") {
         Scheme::Extended
@@ -90,7 +92,7 @@ fn parse(alloc: Global, load: &str, turns: u64) -> u64 {
     sum
 }
 
-/// The checksum of so many turns of a work.
+/// The checksum of `turns` turns of a work.
 pub fn run(alloc: Global, work: &str, load: &str, turns: u64) -> Result<u64, AllocError> {
     match work {
         "tags" | "long-tag" => Ok(parse(alloc, load, turns)),
