@@ -26,6 +26,27 @@ pub fn no_memory(_fault: CataFault) -> AllocError {
     AllocError
 }
 
+/// The checksum of a walk over all cells in order, by the times of their stamps.
+pub fn sum_of_walk(catalogue: &Catalogue) -> u64 {
+    let mut sum = 0;
+    for (_, _, cell) in catalogue.iter() {
+        sum = mixed(sum, cell.stamp().time);
+    }
+    sum
+}
+
+/// The checksum of `turns` turns of a work.
+pub fn run(alloc: Global, work: &str, load: &str, turns: u64) -> Result<u64, AllocError> {
+    match work {
+        "catalogue-walk" => run_walks(alloc, turns),
+        "catalogue-delta" => run_deltas(alloc, turns),
+        "catalogue-puts" => run_puts(alloc, turns),
+        "catalogue-lookup" => run_few_lookups(alloc, turns),
+        "catalogue-long-lookup" => run_long_lookups(alloc, load, turns),
+        _ => run_merges(alloc, work, turns),
+    }
+}
+
 /// 10,000 messages from a number on, in ten languages.
 fn whole(alloc: Global, from: u64) -> Result<Catalogue, AllocError> {
     let langs = langs_of_tags(alloc)?;
@@ -38,15 +59,6 @@ fn merged(alloc: Global, own: &Catalogue, other: &Catalogue) -> Result<u64, Allo
     copy.merge(alloc, own).map_err(no_memory)?;
     copy.merge(alloc, other).map_err(no_memory)?;
     Ok(u64::try_from(copy.len()).unwrap_or(0))
-}
-
-/// The checksum of a walk over all cells in order, by the times of their stamps.
-pub fn sum_of_walk(catalogue: &Catalogue) -> u64 {
-    let mut sum = 0;
-    for (_, _, cell) in catalogue.iter() {
-        sum = mixed(sum, cell.stamp().time);
-    }
-    sum
 }
 
 /// The second catalogue of a merge.
@@ -200,16 +212,4 @@ fn run_few_lookups(alloc: Global, turns: u64) -> Result<u64, AllocError> {
 fn run_long_lookups(alloc: Global, load: &str, turns: u64) -> Result<u64, AllocError> {
     let own = message_of(alloc, LANGUAGES)?;
     run_lookups(alloc, &own, &ids_of(alloc, 1, 1)?, load, turns)
-}
-
-/// The checksum of `turns` turns of a work.
-pub fn run(alloc: Global, work: &str, load: &str, turns: u64) -> Result<u64, AllocError> {
-    match work {
-        "catalogue-walk" => run_walks(alloc, turns),
-        "catalogue-delta" => run_deltas(alloc, turns),
-        "catalogue-puts" => run_puts(alloc, turns),
-        "catalogue-lookup" => run_few_lookups(alloc, turns),
-        "catalogue-long-lookup" => run_long_lookups(alloc, load, turns),
-        _ => run_merges(alloc, work, turns),
-    }
 }

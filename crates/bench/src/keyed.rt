@@ -7,6 +7,17 @@ use std::cmp::Ordering;
 
 const SIZE: u64 = 100_000;
 
+/// The checksum of `turns` turns of a work over maps of 100,000 entries.
+pub fn run(alloc: Global, work: &str, turns: u64) -> Result<u64, AllocError> {
+    match work {
+        "keyed-put-rising" => run_puts(alloc, false, turns),
+        "keyed-put-random" => run_puts(alloc, true, turns),
+        "keyed-get" => run_gets(alloc, turns),
+        "stamp-order" => run_order(alloc, turns),
+        _ => run_joins(alloc, work, turns),
+    }
+}
+
 /// A map of message ids.
 type Cells = Keyed<MessageId, Cell>;
 
@@ -230,15 +241,4 @@ fn run_order(alloc: Global, turns: u64) -> Result<u64, AllocError> {
         sum = mixed(sum, compare_all(&stamps));
     }
     Ok(sum)
-}
-
-/// The checksum of `turns` turns of a work over maps of 100,000 entries.
-pub fn run(alloc: Global, work: &str, turns: u64) -> Result<u64, AllocError> {
-    match work {
-        "keyed-put-rising" => run_puts(alloc, false, turns),
-        "keyed-put-random" => run_puts(alloc, true, turns),
-        "keyed-get" => run_gets(alloc, turns),
-        "stamp-order" => run_order(alloc, turns),
-        _ => run_joins(alloc, work, turns),
-    }
 }

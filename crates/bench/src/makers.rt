@@ -11,21 +11,6 @@ const MANY: &str = "de en es fr ja it nl pl ru zh";
 
 const REGIONS: &str = " -at -ch -us -x-a";
 
-/// Any fault as out of memory: the names, ids and labels that are made are valid.
-fn no_memory(_fault: CellFault) -> AllocError {
-    AllocError
-}
-
-/// Any fault as out of memory: the tags of the languages are valid.
-fn no_lang(_fault: LangFault) -> AllocError {
-    AllocError
-}
-
-/// Any fault as out of memory: the edits that are made never clash.
-fn not_applied(_fault: CataFault) -> AllocError {
-    AllocError
-}
-
 /// A number that looks random.
 pub fn scattered(turn: u64) -> u64 {
     turn.wrapping_mul(6_364_136_223_846_793_005)
@@ -60,15 +45,6 @@ pub fn langs_of_tags(alloc: Global) -> Result<Vec<Lang>, AllocError> {
         langs.push(Lang::parse(alloc, tag.as_bytes()).map_err(no_lang)?)?;
     }
     Ok(langs)
-}
-
-/// A language in each region.
-fn push_regions(langs: &mut Vec<Lang>, alloc: Global, tag: &str) -> Result<(), AllocError> {
-    for region in REGIONS.split(" ") {
-        let text = format!(in alloc; "{tag}{region}")?;
-        langs.push(Lang::parse(alloc, text.as_bytes()).map_err(no_lang)?)?;
-    }
-    Ok(())
 }
 
 /// 50 languages.
@@ -111,21 +87,6 @@ pub fn edit_of(
     Ok(Edit::new(id.copy(alloc)?, lang.copy(alloc)?, cell))
 }
 
-/// Applies an edit of a message in each language.
-fn apply_all(
-    catalogue: &mut Catalogue,
-    alloc: Global,
-    id: &MessageId,
-    langs: &[Lang],
-    stamp: &Stamp,
-) -> Result<(), AllocError> {
-    for lang in langs {
-        let edit = edit_of(alloc, id, lang, stamp)?;
-        catalogue.apply(alloc, &edit).map_err(not_applied)?;
-    }
-    Ok(())
-}
-
 /// `messages` messages from a number on in each of the languages; every hundredth is later by
 /// `later`.
 pub fn catalogue_of(
@@ -143,4 +104,43 @@ pub fn catalogue_of(
         apply_all(&mut catalogue, alloc, &id_of(alloc, number)?, langs, &stamp)?;
     }
     Ok(catalogue)
+}
+
+/// Any fault as out of memory: the names, ids and labels that are made are valid.
+fn no_memory(_fault: CellFault) -> AllocError {
+    AllocError
+}
+
+/// Any fault as out of memory: the tags of the languages are valid.
+fn no_lang(_fault: LangFault) -> AllocError {
+    AllocError
+}
+
+/// Any fault as out of memory: the edits that are made never clash.
+fn not_applied(_fault: CataFault) -> AllocError {
+    AllocError
+}
+
+/// A language in each region.
+fn push_regions(langs: &mut Vec<Lang>, alloc: Global, tag: &str) -> Result<(), AllocError> {
+    for region in REGIONS.split(" ") {
+        let text = format!(in alloc; "{tag}{region}")?;
+        langs.push(Lang::parse(alloc, text.as_bytes()).map_err(no_lang)?)?;
+    }
+    Ok(())
+}
+
+/// Applies an edit of a message in each language.
+fn apply_all(
+    catalogue: &mut Catalogue,
+    alloc: Global,
+    id: &MessageId,
+    langs: &[Lang],
+    stamp: &Stamp,
+) -> Result<(), AllocError> {
+    for lang in langs {
+        let edit = edit_of(alloc, id, lang, stamp)?;
+        catalogue.apply(alloc, &edit).map_err(not_applied)?;
+    }
+    Ok(())
 }

@@ -5,14 +5,6 @@ use lang_core::{Lang, LangFault, Tag};
 use nego_core::{NegoFault, PriorityList, Scheme};
 use std::alloc::{AllocError, Global};
 
-/// The checksum after a tag, or after its refusal.
-fn sum_of_tag(sum: u64, tag: &Result<Tag, LangFault>) -> u64 {
-    match tag {
-        Ok(tag) => mixed_place(mixed(sum, 0), tag.as_str().len()),
-        Err(fault) => mixed(mixed(sum, 1), u64::from(fault.number())),
-    }
-}
-
 /// Parses each line of the load as a tag.
 pub fn parse_lines(alloc: Global, load: &str, sum: u64) -> u64 {
     let mut sum = sum;
@@ -54,5 +46,13 @@ pub fn sum_of_list(sum: u64, list: &Result<PriorityList, NegoFault>) -> u64 {
         }
         Err(NegoFault::FieldMalformed { offset }) => mixed_place(mixed(sum, 9), *offset),
         Err(fault) => mixed(sum, u64::from(fault.number())),
+    }
+}
+
+/// The checksum after a tag, or after its refusal.
+fn sum_of_tag(sum: u64, tag: &Result<Tag, LangFault>) -> u64 {
+    match tag {
+        Ok(tag) => mixed_place(mixed(sum, 0), tag.as_str().len()),
+        Err(fault) => mixed(mixed(sum, 1), u64::from(fault.number())),
     }
 }

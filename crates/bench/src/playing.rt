@@ -11,6 +11,16 @@ const ROUNDS: u64 = 100;
 
 const EDITS: u64 = 1_000;
 
+/// The checksum of `turns` runs.
+pub fn run(alloc: Global, turns: u64) -> Result<u64, AllocError> {
+    let steps = steps_of(alloc)?;
+    let mut sum = 0;
+    for _ in 0..turns {
+        sum = mixed(sum, played(alloc, &steps));
+    }
+    Ok(sum)
+}
+
 /// The place of a number among ten.
 fn place(number: u64) -> usize {
     (number % 10) as usize
@@ -105,14 +115,4 @@ fn played(alloc: Global, steps: &[Step]) -> u64 {
         Ok(answers) => sum_of_answers(&answers),
         Err(_) => 1,
     }
-}
-
-/// The checksum of `turns` runs.
-pub fn run(alloc: Global, turns: u64) -> Result<u64, AllocError> {
-    let steps = steps_of(alloc)?;
-    let mut sum = 0;
-    for _ in 0..turns {
-        sum = mixed(sum, played(alloc, &steps));
-    }
-    Ok(sum)
 }

@@ -6,17 +6,6 @@ use docs_core::{
 };
 use std::alloc::Global;
 
-/// What a document of this kind is written as.
-fn written(alloc: Global, kind: &str, text: &[u8]) -> Result<Doc, DocFault> {
-    let doc = match kind {
-        "delta" => write_delta(alloc, &read_delta(alloc, text)?)?,
-        "summary" => write_summary(alloc, &read_summary(alloc, text)?)?,
-        "langmaps" => write_langmaps(alloc, &read_langmaps(alloc, text)?)?,
-        _ => write_site(alloc, &read_site(alloc, text)?)?,
-    };
-    Ok(doc)
-}
-
 /// What a document is written as, where that reads as what is written in the same way.
 pub fn round(alloc: Global, kind: &str, text: &[u8]) -> Result<Option<Doc>, DocFault> {
     let first = written(alloc, kind, text)?;
@@ -26,4 +15,15 @@ pub fn round(alloc: Global, kind: &str, text: &[u8]) -> Result<Option<Doc>, DocF
     } else {
         Ok(None)
     }
+}
+
+/// What a document of this kind is written as.
+fn written(alloc: Global, kind: &str, text: &[u8]) -> Result<Doc, DocFault> {
+    let doc = match kind {
+        "delta" => write_delta(alloc, &read_delta(alloc, text)?)?,
+        "summary" => write_summary(alloc, &read_summary(alloc, text)?)?,
+        "langmaps" => write_langmaps(alloc, &read_langmaps(alloc, text)?)?,
+        _ => write_site(alloc, &read_site(alloc, text)?)?,
+    };
+    Ok(doc)
 }

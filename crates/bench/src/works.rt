@@ -8,6 +8,19 @@ use lang_core::Lang;
 use nego_core::{NegoFault, PriorityList, Scheme};
 use std::alloc::{AllocError, Global};
 
+/// The checksum of `turns` turns of a work.
+pub fn run(alloc: Global, work: &str, load: &str, turns: u64) -> Result<u64, AllocError> {
+    match work {
+        "tags" | "long-tag" => Ok(parse(alloc, load, turns)),
+        "play" => playing::run(alloc, turns),
+        _ if work.starts_with("catalogue-") => catalogues::run(alloc, work, load, turns),
+        _ if work.starts_with("keyed-") || work.starts_with("stamp-") => keyed::run(
+            alloc, work, turns,
+        ),
+        _ => ask(alloc, work, load, turns),
+    }
+}
+
 /// A list that was read from a field, with the languages that it is matched with.
 #[derive(Drop)]
 struct Asked<'a> {
@@ -90,17 +103,4 @@ fn parse(alloc: Global, load: &str, turns: u64) -> u64 {
         sum = parse_lines(alloc, load, sum);
     }
     sum
-}
-
-/// The checksum of `turns` turns of a work.
-pub fn run(alloc: Global, work: &str, load: &str, turns: u64) -> Result<u64, AllocError> {
-    match work {
-        "tags" | "long-tag" => Ok(parse(alloc, load, turns)),
-        "play" => playing::run(alloc, turns),
-        _ if work.starts_with("catalogue-") => catalogues::run(alloc, work, load, turns),
-        _ if work.starts_with("keyed-") || work.starts_with("stamp-") => keyed::run(
-            alloc, work, turns,
-        ),
-        _ => ask(alloc, work, load, turns),
-    }
 }

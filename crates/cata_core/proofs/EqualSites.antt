@@ -15,16 +15,25 @@ use Rattle.cata_core.proofs.TakenAndHeld.{held_is_catalogue}
 use Rattle.cata_core.proofs.UniqueAnswers.{one_answered}
 
 -- Sites that took the same edits, all consistent, have the same cells, even in different runs.
-pub equal_sites : (p q : List Step) (s t : ℕ) → IsConsistent (edits_of p) → IsConsistent (edits_of q) → SameMembers (taken p s) (taken q t) → held p s ≡ held q t
+pub equal_sites : (p q : List Step) (s t : ℕ) → IsConsistent (edits_of p)
+    → IsConsistent (edits_of q) → SameMembers (taken p s) (taken q t) → held p s ≡ held q t
 equal_sites p q s t h k same =
     held_is_catalogue p h s
-    ∙ same_catalogue (taken p s) (taken q t) (settled_part (edits_of p) (taken p s) h (only_edits_taken p s)) same
+    ∙ same_catalogue (taken p s) (taken q t)
+    (settled_part (edits_of p) (taken p s) h (only_edits_taken p s)) same
     ∙ sym (held_is_catalogue q k t)
 
 -- sites with equal cells answer alike
-pub answer_alike : (mine : ℕ → Entries) (s : ℕ) (theirs : ℕ → Entries) (t : ℕ) → mine s ≡ theirs t → AnswerAlike mine s theirs t
+pub answer_alike : (mine : ℕ → Entries) (s : ℕ) (theirs : ℕ → Entries) (t : ℕ) → mine s ≡ theirs t
+    → AnswerAlike mine s theirs t
 answer_alike mine s theirs t e = record {
-  filter = λ id scheme list a b f g. one_answered mine (AskFilter s id scheme list) a b f (subst (λ (x : Entries). IsAnswered (λ _. x) (AskFilter s id scheme list) b) (sym e) g);
-  lookup = λ id list default a b f g. one_answered mine (AskLookup s id list default) a b f (subst (λ (x : Entries). IsAnswered (λ _. x) (AskLookup s id list default) b) (sym e) g);
-  cells = λ a b f g. one_answered mine (AskCells s) a b f (subst (λ (x : Entries). IsAnswered (λ _. x) (AskCells s) b) (sym e) g);
+  filter =
+      λ id scheme list a b f g. one_answered mine (AskFilter s id scheme list) a b f
+      (subst (λ (x : Entries). IsAnswered (λ _. x) (AskFilter s id scheme list) b) (sym e) g);
+  lookup =
+      λ id list default a b f g. one_answered mine (AskLookup s id list default) a b f
+      (subst (λ (x : Entries). IsAnswered (λ _. x) (AskLookup s id list default) b) (sym e) g);
+  cells =
+      λ a b f g. one_answered mine (AskCells s) a b f
+      (subst (λ (x : Entries). IsAnswered (λ _. x) (AskCells s) b) (sym e) g);
 }

@@ -77,10 +77,16 @@ pub chosen_by : (scheme : Scheme) (labels : Labelled) (items : List Item)
     → IsChosenWidened scheme items (languages labels) default c
     → IsChosenBy (By scheme) labels items default c
 chosen_by scheme labels items default (choice.Matched text) h = h
-chosen_by scheme labels items default choice.Default h =
-    (h.0, subst (λ (held : List ℕ → Bool). HasOpenDefault items held default) (same_sets labels) h.1)
-chosen_by scheme labels items default choice.Nothing h =
-    (h.0, subst (λ (held : List ℕ → Bool). ¬ HasOpenDefault items held default) (same_sets labels) h.1)
+chosen_by scheme labels items default choice.Default h = (
+  h.0,
+  subst (λ (held : List ℕ → Bool). HasOpenDefault items held default) (same_sets labels)
+      h.1,
+)
+chosen_by scheme labels items default choice.Nothing h = (
+  h.0,
+  subst (λ (held : List ℕ → Bool). ¬ HasOpenDefault items held default) (same_sets labels)
+      h.1,
+)
 
 -- ---- the least that passes
 
@@ -135,7 +141,8 @@ seek_found P all left e rest h is p =
 pub seek_passed : (P : List ℕ → Type 0) (all left : Labelled) (e : List ℕ × List (List ℕ))
     (rest : Labelled) → Seeks P all left → left ≡ e ∷ rest → ¬ P e.0 → Seeks P all rest
 seek_passed P all left e rest h is n = (
-  second_part (below_all text_cmp e.0 rest) (is_sorted text_cmp rest) (subst (IsMap text_cmp) is h.0),
+  second_part (below_all text_cmp e.0 rest) (is_sorted text_cmp rest)
+      (subst (IsMap text_cmp) is h.0),
   λ found m. h.1 found (subst (λ (x : Labelled). MatchLeast P (languages x) found) (sym is)
       (later_least P e rest found n m)),
 )

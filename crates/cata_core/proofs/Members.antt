@@ -1,5 +1,6 @@
 -- Membership by recursion, which inductions follow.
-use Rattle.std.proofs.Common.{◌≡◌, ℕ, zero, suc, ◌<◌, Bool, true, false, cond, List, [], ◌∷◌, ◌++◌, ◌⊎◌, length, get_or, inl, inr, refl, sym, ap, ◌∙◌, subst, arith}
+use Rattle.std.proofs.Common.{◌≡◌, ℕ, zero, suc, ◌<◌, Bool, true, false, cond, List, [], ◌∷◌, ◌++◌}
+use Rattle.std.proofs.Common.{◌⊎◌, length, get_or, inl, inr, refl, sym, ap, ◌∙◌, subst, arith}
 use Rattle.std.specs.Prelude.{Contains, filter}
 use Rattle.std.specs.List.{list_all}
 use Rattle.cata_core.proofs.Basics.{both_so, first_so, second_so}
@@ -29,7 +30,9 @@ Contains-from_in (y ∷ ys) x h = elim h as (λ _. Contains (y ∷ ys) x) [
 -- A member of the first list is a member of both appended.
 pub in_append_left : {X : Type 0} (xs ys : List X) (x : X) → In xs x → In (xs ++ ys) x
 in_append_left [] ys x h = absurd h
-in_append_left (y ∷ xs) ys x h = elim h as (λ _. In (y ∷ (xs ++ ys)) x) [ inl e ↦ inl e | inr r ↦ inr (in_append_left xs ys x r) ]
+in_append_left (y ∷ xs) ys x h =
+    elim h as
+    (λ _. In (y ∷ (xs ++ ys)) x) [ inl e ↦ inl e | inr r ↦ inr (in_append_left xs ys x r) ]
 
 -- A member of the second list is a member of both appended.
 pub in_append_right : {X : Type 0} (xs ys : List X) (x : X) → In ys x → In (xs ++ ys) x
@@ -41,14 +44,19 @@ pub in_append_cases : {X : Type 0} (xs ys : List X) (x : X) → In (xs ++ ys) x 
 in_append_cases [] ys x h = inr h
 in_append_cases (y ∷ xs) ys x h = elim h as (λ _. ((y ≡ x) ⊎ In xs x) ⊎ In ys x) [
   | inl e ↦ inl (inl e)
-  | inr r ↦ elim (in_append_cases xs ys x r) as (λ _. ((y ≡ x) ⊎ In xs x) ⊎ In ys x) [ inl a ↦ inl (inr a) | inr b ↦ inr b ]
+  | inr r ↦
+      elim (in_append_cases xs ys x r) as
+      (λ _. ((y ≡ x) ⊎ In xs x) ⊎ In ys x) [ inl a ↦ inl (inr a) | inr b ↦ inr b ]
 ]
 
 -- A member of the filtered list is a member of the list, and passes the test.
-pub in_filter : {X : Type 0} (p : X → Bool) (xs : List X) (x : X) → In (filter p xs) x → In xs x × (p x ≡ true)
+pub in_filter : {X : Type 0} (p : X → Bool) (xs : List X) (x : X) → In (filter p xs) x
+    → In xs x × (p x ≡ true)
 in_filter p [] x = λ h. absurd h
 in_filter p (y ∷ ys) x =
-    elim (p y) as (λ b. p y ≡ b → In (cond b (y ∷ filter p ys) (filter p ys)) x → ((y ≡ x) ⊎ In ys x) × (p x ≡ true)) [
+    elim (p y) as
+    (λ b. p y ≡ b → In (cond b (y ∷ filter p ys) (filter p ys)) x
+    → ((y ≡ x) ⊎ In ys x) × (p x ≡ true)) [
       | true ↦ λ e h. elim h as (λ _. ((y ≡ x) ⊎ In ys x) × (p x ≡ true)) [
         | inl s ↦ (inl s, ap p (sym s) ∙ e)
         | inr r ↦ let k = in_filter p ys x r in (inr k.0, k.1)
@@ -57,19 +65,35 @@ in_filter p (y ∷ ys) x =
     ] refl
 
 -- A member that passes the test is a member of the filtered list.
-pub filter_in : {X : Type 0} (p : X → Bool) (xs : List X) (x : X) → In xs x → p x ≡ true → In (filter p xs) x
+pub filter_in : {X : Type 0} (p : X → Bool) (xs : List X) (x : X) → In xs x → p x ≡ true
+    → In (filter p xs) x
 filter_in p [] x h e = absurd h
 filter_in p (y ∷ ys) x h e = elim h as (λ _. In (cond (p y) (y ∷ filter p ys) (filter p ys)) x) [
   | inl s ↦ subst (λ b. In (cond b (y ∷ filter p ys) (filter p ys)) x) (sym (ap p s ∙ e)) (inl s)
-  | inr r ↦ elim (p y) as (λ b. In (cond b (y ∷ filter p ys) (filter p ys)) x) [ true ↦ inr (filter_in p ys x r e) | false ↦ filter_in p ys x r e ]
+  | inr r ↦
+      elim (p y) as
+      (λ b. In (cond b (y ∷ filter p ys) (filter p ys)) x) [
+        | true ↦
+            inr (filter_in p ys x r e)
+        | false ↦ filter_in p ys x r e
+      ]
 ]
 
 -- Where all of a list passes a test, each member does.
-pub all_in : {X : Type 0} (p : X → Bool) (xs : List X) → list_all p xs ≡ true → (x : X) → In xs x → p x ≡ true
+pub all_in : {X : Type 0} (p : X → Bool) (xs : List X) → list_all p xs ≡ true → (x : X) → In xs x
+    → p x ≡ true
 all_in p [] h x k = absurd k
-all_in p (y ∷ ys) h x k = elim k as (λ _. p x ≡ true) [ inl s ↦ ap p (sym s) ∙ first_so (p y) (list_all p ys) h | inr r ↦ all_in p ys (second_so (p y) (list_all p ys) h) x r ]
+all_in p (y ∷ ys) h x k =
+    elim k as
+    (λ _. p x ≡ true) [
+      | inl s ↦ ap p (sym s) ∙ first_so (p y) (list_all p ys) h
+      | inr r ↦
+          all_in p ys (second_so (p y) (list_all p ys) h) x r
+    ]
 
 -- Where each member passes a test, all of the list does.
-pub in_all : {X : Type 0} (p : X → Bool) (xs : List X) → ((x : X) → In xs x → p x ≡ true) → list_all p xs ≡ true
+pub in_all : {X : Type 0} (p : X → Bool) (xs : List X) → ((x : X) → In xs x → p x ≡ true)
+    → list_all p xs ≡ true
 in_all p [] h = refl
-in_all p (y ∷ ys) h = both_so (p y) (list_all p ys) (h y (inl refl)) (in_all p ys (λ x k. h x (inr k)))
+in_all p (y ∷ ys) h =
+    both_so (p y) (list_all p ys) (h y (inl refl)) (in_all p ys (λ x k. h x (inr k)))

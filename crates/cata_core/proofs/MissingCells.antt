@@ -1,5 +1,6 @@
 -- Walks that gather the cells that a summary lacks.
-use Rattle.std.proofs.Common.{◌≡◌, ◌≢◌, true, false, cond, [], ◌∷◌, ◌++◌, sym, ap, ◌∙◌, subst, append_assoc}
+use Rattle.std.proofs.Common.{◌≡◌, ◌≢◌, true, false, cond, [], ◌∷◌, ◌++◌, sym, ap, ◌∙◌, subst}
+use Rattle.std.proofs.Common.{append_assoc}
 use Rattle.std.specs.declared.cmp.Ordering.TheVariants.{Less, Greater}
 use Rattle.std.specs.Ordering.{is_lt}
 use Rattle.std.specs.FinMap.Entries.{find, is_sorted, below_all}
@@ -18,7 +19,8 @@ abbrev IsFromFirst : EntryKey → Entries → Type 0
 IsFromFirst q [] = ⊥
 IsFromFirst q (e ∷ es) = key_cmp e.0 q ≢ Greater
 
--- these are the missing cells so far, those cells are left, and from their first key on the rest has what the summary has
+-- these are the missing cells so far, those cells are left, and from their first key on the rest
+-- has what the summary has
 pub record AreMissingSoFar (all left missing : Entries) (summary rest : Stamps) : Type 0 where
   pub cells : missing ++ delta_of left summary ≡ delta_of all summary
   pub map : IsMap key_cmp all
@@ -26,12 +28,16 @@ pub record AreMissingSoFar (all left missing : Entries) (summary rest : Stamps) 
   pub rest_sorted : IsMap key_cmp rest
   pub same : (q : EntryKey) → IsFromFirst q left → find key_cmp q rest ≡ find key_cmp q summary
 
-module _ (all left missing : Entries) (summary rest more : Stamps) (k : EntryKey) (c : Cell) (h : AreMissingSoFar all ((k, c) ∷ left) missing summary rest) (s : IsBehind k rest more) where
+module _ (all left missing : Entries) (summary rest more : Stamps) (k : EntryKey) (c : Cell)
+    (h : AreMissingSoFar all ((k, c) ∷ left) missing summary rest) (s : IsBehind k rest more) where
   later : (q : EntryKey) → IsFromFirst q left → key_cmp k q ≡ Less
   later q = elim left as (λ l. IsMap key_cmp ((k, c) ∷ l) → IsFromFirst q l → key_cmp k q ≡ Less) [
     | [] ↦ λ m f. absurd f
     | e ∷ es ↦ λ m f.
-        let less : key_cmp k e.0 ≡ Less = less_than (key_cmp k e.0) (first_part (is_lt (key_cmp k e.0)) (below_all key_cmp k es) (first_part (below_all key_cmp k (e ∷ es)) (is_sorted key_cmp (e ∷ es)) m)) in
+        let less : key_cmp k e.0 ≡ Less =
+        less_than (key_cmp k e.0)
+        (first_part (is_lt (key_cmp k e.0)) (below_all key_cmp k es)
+        (first_part (below_all key_cmp k (e ∷ es)) (is_sorted key_cmp (e ∷ es)) m)) in
         less_from k e.0 q less f
   ] h.sorted
 
@@ -44,12 +50,20 @@ module _ (all left missing : Entries) (summary rest more : Stamps) (k : EntryKey
   -- the cell is sent
   pub sent_above : is_missing (find key_cmp k summary) c.stamp ≡ true → IsAboveAll k missing
   sent_above sent =
-      let cells : missing ++ (k, c) ∷ delta_of left summary ≡ delta_of all summary = ap (λ b. missing ++ cond b ((k, c) ∷ delta_of left summary) (delta_of left summary)) (sym sent) ∙ h.cells in
-      front_below missing (delta_of left summary) k c (subst (IsMap key_cmp) (sym cells) (filter-IsMap key_cmp (λ e. is_missing (find key_cmp e.0 summary) e.1.stamp) all h.map))
+      let cells : missing ++ (k, c) ∷ delta_of left summary ≡ delta_of all summary =
+      ap (λ b. missing ++ cond b ((k, c) ∷ delta_of left summary) (delta_of left summary))
+      (sym sent) ∙ h.cells in
+      front_below missing (delta_of left summary) k c
+      (subst (IsMap key_cmp) (sym cells)
+      (filter-IsMap key_cmp (λ e. is_missing (find key_cmp e.0 summary) e.1.stamp) all h.map))
 
-  pub missing_more : is_missing (find key_cmp k summary) c.stamp ≡ true → AreMissingSoFar all left (missing ++ (k, c) ∷ []) summary more
+  pub missing_more : is_missing (find key_cmp k summary) c.stamp ≡ true
+      → AreMissingSoFar all left (missing ++ (k, c) ∷ []) summary more
   missing_more sent = record {
-    cells = append_assoc missing ((k, c) ∷ []) (delta_of left summary) ∙ ap (λ b. missing ++ cond b ((k, c) ∷ delta_of left summary) (delta_of left summary)) (sym sent) ∙ h.cells;
+    cells =
+        append_assoc missing ((k, c) ∷ []) (delta_of left summary)
+        ∙ ap (λ b. missing ++ cond b ((k, c) ∷ delta_of left summary) (delta_of left summary))
+        (sym sent) ∙ h.cells;
     map = h.map;
     sorted = left_sorted;
     rest_sorted = s.sorted;
@@ -57,9 +71,12 @@ module _ (all left missing : Entries) (summary rest more : Stamps) (k : EntryKey
   }
 
   -- the cell is not sent
-  pub missing_same : is_missing (find key_cmp k summary) c.stamp ≡ false → AreMissingSoFar all left missing summary more
+  pub missing_same : is_missing (find key_cmp k summary) c.stamp ≡ false
+      → AreMissingSoFar all left missing summary more
   missing_same held = record {
-    cells = ap (λ b. missing ++ cond b ((k, c) ∷ delta_of left summary) (delta_of left summary)) (sym held) ∙ h.cells;
+    cells =
+        ap (λ b. missing ++ cond b ((k, c) ∷ delta_of left summary) (delta_of left summary))
+        (sym held) ∙ h.cells;
     map = h.map;
     sorted = left_sorted;
     rest_sorted = s.sorted;

@@ -18,8 +18,12 @@ cells_answer cells = Cells cells
 -- what is answered to a step where the sites have these cells: one answer to a question, and else
 -- none
 abbrev pub IsAnswered : (ℕ → Entries) → Step → List Answer → Type 0
-IsAnswered cells (AskFilter site id scheme list) answers = (entries : Weighed) × (answers ≡ Filter entries ∷ []) × IsFilterAnswer (cells site) id scheme list entries
-IsAnswered cells (AskLookup site id list default) answers = (reply : Reply) × (answers ≡ Lookup reply ∷ []) × IsLookupAnswer (cells site) id list default reply
+IsAnswered cells (AskFilter site id scheme list) answers =
+    (entries : Weighed) × (answers ≡ Filter entries ∷ [])
+    × IsFilterAnswer (cells site) id scheme list entries
+IsAnswered cells (AskLookup site id list default) answers =
+    (reply : Reply) × (answers ≡ Lookup reply ∷ [])
+    × IsLookupAnswer (cells site) id list default reply
 IsAnswered cells (AskCells site) answers = answers ≡ cells_answer (cells site) ∷ []
 IsAnswered cells _ answers = answers ≡ []
 
@@ -27,7 +31,8 @@ IsAnswered cells _ answers = answers ≡ []
 abbrev pub AreAnswersBy : (List Step → ℕ → Entries) → List Step → List Step → List Answer → Type 0
 AreAnswersBy cells before [] answers = answers ≡ []
 AreAnswersBy cells before (step ∷ steps) answers =
-    (now : List Answer) × (later : List Answer) × (answers ≡ now ++ later) × IsAnswered (cells before) step now × AreAnswersBy cells (before ++ step ∷ []) steps later
+    (now : List Answer) × (later : List Answer) × (answers ≡ now ++ later)
+    × IsAnswered (cells before) step now × AreAnswersBy cells (before ++ step ∷ []) steps later
 
 -- the answers by what the sites hold
 abbrev pub AreHeldAnswers : List Step → List Answer → Type 0

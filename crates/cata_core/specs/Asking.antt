@@ -33,7 +33,8 @@ abbrev pub picked : Labelled → List Pick → Weighed
 picked labels picks = filter_map (λ p. with_weight (slice_get labels p.place) p.weight) picks
 
 -- RFC 4647 sections 3.3.1 and 3.3.2: the languages of the labels that the list takes, in its order
-pub record IsFilteredOf (labels : Labelled) (scheme : Scheme) (items : List Item) (answer : Weighed) : Type 0 where
+pub record IsFilteredOf (labels : Labelled) (scheme : Scheme) (items : List Item)
+    (answer : Weighed) : Type 0 where
   pub picks : List Pick
   pub filtered : IsFiltered scheme items (languages labels) picks
   pub answer_is : answer ≡ picked labels picks

@@ -1,7 +1,8 @@
 -- What each refusal of a catalogue means, and what it leaves (project rules).
 use Rattle.std.specs.Prelude.{◌≡◌, ℕ, ⊤}
 use Rattle.cata_core.specs.declared.cata_fault.CataFault.{CataFault}
-use Rattle.cata_core.specs.declared.cata_fault.CataFault.TheVariants.{StampReused, ClockSpent, NotForMe, NoMemory}
+use Rattle.cata_core.specs.declared.cata_fault.CataFault.TheVariants.{StampReused, ClockSpent}
+use Rattle.cata_core.specs.declared.cata_fault.CataFault.TheVariants.{NotForMe, NoMemory}
 use Rattle.cata_core.specs.Clashes.{IsFirstClash}
 use Rattle.cata_core.specs.Entries.{key_cmp, Entries, Agree, Between}
 

@@ -35,7 +35,8 @@ HasAtLeast (Some c) s = stamp_cmp c.stamp s ≢ Less
 
 -- the cells have each key of the summary, with a stamp at least as great
 abbrev pub HasAll : Entries → Stamps → Type 0
-HasAll own summary = (k : EntryKey) (s : Stamp) → find key_cmp k summary ≡ Some s → HasAtLeast (find key_cmp k own) s
+HasAll own summary =
+    (k : EntryKey) (s : Stamp) → find key_cmp k summary ≡ Some s → HasAtLeast (find key_cmp k own) s
 
 -- the second summary is above the first, as maps of stamps
 abbrev pub IsBelowStamps : Stamps → Stamps → Type 0

@@ -10,12 +10,15 @@ use Rattle.cata_core.specs.Entries.{EntryKey, key_cmp, Entry, Entries}
 
 -- two edits of one key with one stamp are equal
 abbrev pub IsConsistent : List Entry → Type 0
-IsConsistent edits = (key : EntryKey) (c d : Cell) → Contains edits (key, c) → Contains edits (key, d) → c.stamp ≡ d.stamp → c ≡ d
+IsConsistent edits =
+    (key : EntryKey) (c d : Cell) → Contains edits (key, c) → Contains edits (key, d)
+    → c.stamp ≡ d.stamp → c ≡ d
 
 -- an edit of the key whose stamp no edit of the key exceeds
 pub record IsBest (edits : List Entry) (key : EntryKey) (cell : Cell) : Type 0 where
   pub member : Contains edits (key, cell)
-  pub greatest : (other : Cell) → Contains edits (key, other) → stamp_cmp cell.stamp other.stamp ≢ Less
+  pub greatest : (other : Cell) → Contains edits (key, other)
+      → stamp_cmp cell.stamp other.stamp ≢ Less
 
 -- the edits of a key that have its greatest stamp are equal
 abbrev pub IsSettled : List Entry → Type 0

@@ -21,7 +21,8 @@ abbrev pub text_cmp : List ℕ → List ℕ → Ordering
 text_cmp = slice_cmp nat_cmp
 
 -- by the first, then by the second
-abbrev pub pair_cmp : {K L : Type 0} → (K → K → Ordering) → (L → L → Ordering) → K × L → K × L → Ordering
+abbrev pub pair_cmp : {K L : Type 0} → (K → K → Ordering) → (L → L → Ordering) → K × L → K × L
+    → Ordering
 pair_cmp P Q x y = ordering_then (P x.0 y.0) (Q x.1 y.1)
 
 -- by the id, then by the language
@@ -29,7 +30,9 @@ abbrev pub key_cmp : EntryKey → EntryKey → Ordering
 key_cmp = pair_cmp text_cmp text_cmp
 
 pub key_cmp_total : IsTotalOrder key_cmp
-key_cmp_total = then_total (on_total (λ (k : EntryKey). k.0) nat_list_cmp_total) (on_total (λ (k : EntryKey). k.1) nat_list_cmp_total)
+key_cmp_total =
+    then_total (on_total (λ (k : EntryKey). k.0) nat_list_cmp_total)
+    (on_total (λ (k : EntryKey). k.1) nat_list_cmp_total)
 
 -- keys that compare equal are one
 pub key_cmp_exact : (a b : EntryKey) → key_cmp a b ≡ Equal → a ≡ b

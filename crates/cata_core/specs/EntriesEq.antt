@@ -7,10 +7,17 @@ use Rattle.cata_core.specs.Asking.{Weighed}
 
 -- the same language, the same texts and the same weight
 abbrev pub item_eq : List ℕ × List (List ℕ) × ℕ → List ℕ × List (List ℕ) × ℕ → Bool
-item_eq = eq_of_both (eq_of_both (on (λ x. x.0) (pointwise nat_eq)) (on (λ x. x.1) (pointwise (pointwise nat_eq)))) (on (λ x. x.2) nat_eq)
+item_eq =
+    eq_of_both
+    (eq_of_both (on (λ x. x.0) (pointwise nat_eq)) (on (λ x. x.1) (pointwise (pointwise nat_eq))))
+    (on (λ x. x.2) nat_eq)
 
 pub item_equiv : IsEquivalence item_eq
-item_equiv = and_equiv (and_equiv (on_texts_equal (λ (x : List ℕ × List (List ℕ) × ℕ). x.0)) (on_equiv (λ (x : List ℕ × List (List ℕ) × ℕ). x.1) (lists_equiv nat_list_eq_equiv))) (on_equiv (λ (x : List ℕ × List (List ℕ) × ℕ). x.2) nat_eq_equiv)
+item_equiv =
+    and_equiv
+    (and_equiv (on_texts_equal (λ (x : List ℕ × List (List ℕ) × ℕ). x.0))
+    (on_equiv (λ (x : List ℕ × List (List ℕ) × ℕ). x.1) (lists_equiv nat_list_eq_equiv)))
+    (on_equiv (λ (x : List ℕ × List (List ℕ) × ℕ). x.2) nat_eq_equiv)
 
 -- the same items in the same order
 abbrev pub weighed_eq : Weighed → Weighed → Bool

@@ -19,7 +19,9 @@ abbrev pub entry_eq : Entry → Entry → Bool
 entry_eq = eq_of_both (on (λ e. e.0) (eq_by_cmp key_cmp)) (on (λ e. e.1) cell_eq)
 
 pub entry_equiv : IsEquivalence entry_eq
-entry_equiv = and_equiv (on_equiv (λ (e : Entry). e.0) (eq_by_cmp_equiv key_cmp_total)) (on_equiv (λ (e : Entry). e.1) cell_laws.laws-law)
+entry_equiv =
+    and_equiv (on_equiv (λ (e : Entry). e.0) (eq_by_cmp_equiv key_cmp_total))
+    (on_equiv (λ (e : Entry). e.1) cell_laws.laws-law)
 
 -- an entry seen through references
 abbrev pub seen : Bor (List ℕ) × Bor (List ℕ) × Bor Cell → Entry
@@ -37,4 +39,6 @@ abbrev pub site_eq : SiteState → SiteState → Bool
 site_eq = eq_of_both (on (λ s. s.name) (pointwise nat_eq)) (on (λ s. s.cells) entries_eq)
 
 pub site_equiv : IsEquivalence site_eq
-site_equiv = and_equiv (on_texts_equal (λ (s : SiteState). s.name)) (on_equiv (λ (s : SiteState). s.cells) entries_equiv)
+site_equiv =
+    and_equiv (on_texts_equal (λ (s : SiteState). s.name))
+    (on_equiv (λ (s : SiteState). s.cells) entries_equiv)

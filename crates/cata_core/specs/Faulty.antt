@@ -1,9 +1,12 @@
 -- Which steps of a run are faulty, and by which refusal.
-use Rattle.std.specs.Prelude.{◌≡◌, ℕ, ◌<◌, List, [], ◌∷◌, ◌++◌, Option, Some, None, All, length, IsSomeAnd, ⊤}
+use Rattle.std.specs.Prelude.{◌≡◌, ℕ, ◌<◌, List, [], ◌∷◌, ◌++◌, Option, Some, None, All, length}
+use Rattle.std.specs.Prelude.{IsSomeAnd, ⊤}
 use Rattle.cata_core.specs.declared.step.Step.{Step}
-use Rattle.cata_core.specs.declared.step.Step.TheVariants.{Edit, Merge, AskFilter, AskLookup, AskCells, Tell, Post, Deliver}
+use Rattle.cata_core.specs.declared.step.Step.TheVariants.{Edit, Merge, AskFilter, AskLookup}
+use Rattle.cata_core.specs.declared.step.Step.TheVariants.{AskCells, Tell, Post, Deliver}
 use Rattle.cata_core.specs.declared.play_fault.PlayFault.{PlayFault}
-use Rattle.cata_core.specs.declared.play_fault.PlayFault.TheVariants.{NoSuchSite, NoSuchPost, StampReused, NoMemory}
+use Rattle.cata_core.specs.declared.play_fault.PlayFault.TheVariants.{NoSuchSite, NoSuchPost}
+use Rattle.cata_core.specs.declared.play_fault.PlayFault.TheVariants.{StampReused, NoMemory}
 use Rattle.cata_core.specs.Entries.{key_cmp, Entries, Agree}
 use Rattle.cata_core.specs.Clashes.{IsFirstClash}
 use Rattle.cata_core.specs.Edits.{IsSettled}
@@ -53,13 +56,20 @@ pub record IsSound (sites : ℕ) (w : Held) (step : Step) : Type 0 where
 -- be
 abbrev pub IsFaultOf : ℕ → Held → ℕ → Step → PlayFault → Type 0
 IsFaultOf sites w n step (NoSuchSite at) = (at ≡ n) × ¬ (NamesSites sites step)
-IsFaultOf sites w n step (NoSuchPost at) = (at ≡ n) × (NamesSites sites step × ¬ (NamesPosts w step))
-IsFaultOf sites w n step (StampReused at place stamp) = (at ≡ n) × (NamesSites sites step × (NamesPosts w step × IsSomeAnd (cells_in w step) (λ c. IsFirstClash key_cmp (w.of_site c.0) c.1 place stamp)))
+IsFaultOf sites w n step (NoSuchPost at) =
+    (at ≡ n) × (NamesSites sites step × ¬ (NamesPosts w step))
+IsFaultOf sites w n step (StampReused at place stamp) =
+    (at ≡ n)
+    × (NamesSites sites step
+    × (NamesPosts w step
+    × IsSomeAnd (cells_in w step) (λ c. IsFirstClash key_cmp (w.of_site c.0) c.1 place stamp)))
 IsFaultOf sites w n step NoMemory = ⊤
 
 -- no step is faulty
 abbrev pub NoneFaulty : ℕ → List Step → Type 0
-NoneFaulty sites steps = (before : List Step) (step : Step) (after : List Step) → steps ≡ before ++ step ∷ after → IsSound sites (held_after nothing_held before) step
+NoneFaulty sites steps =
+    (before : List Step) (step : Step) (after : List Step) → steps ≡ before ++ step ∷ after
+    → IsSound sites (held_after nothing_held before) step
 
 -- the fault is that of a step before which none is faulty; its number is how many come before
 pub record IsFirstFault (sites : ℕ) (steps : List Step) (fault : PlayFault) : Type 0 where
@@ -93,4 +103,6 @@ Clashes steps step = ¬ (AgreesWith (held steps) (cells_in (held_after nothing_h
 
 -- what the step's site took is settled before the step, and not after it
 abbrev pub Unsettles : List Step → Step → Type 0
-Unsettles steps step = IsSomeAnd (edits_in (taken_after nothing_taken steps) step) (λ c. IsSettled (taken steps c.0) × ¬ (IsSettled (taken (steps ++ step ∷ []) c.0)))
+Unsettles steps step =
+    IsSomeAnd (edits_in (taken_after nothing_taken steps) step)
+    (λ c. IsSettled (taken steps c.0) × ¬ (IsSettled (taken (steps ++ step ∷ []) c.0)))

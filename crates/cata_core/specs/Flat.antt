@@ -29,6 +29,7 @@ pub record IsInner {L J : Type 0} (Q : L → L → Ordering) (es : List (L × J)
   pub some : 0 < length es
 
 -- a map of maps, of which none is empty
-pub record IsNested {K L J : Type 0} (P : K → K → Ordering) (Q : L → L → Ordering) (es : List (K × List (L × J))) : Type 0 where
+pub record IsNested {K L J : Type 0} (P : K → K → Ordering) (Q : L → L → Ordering)
+    (es : List (K × List (L × J))) : Type 0 where
   pub outer : IsMap P es
   pub inners : All (λ e. IsInner Q e.1) es

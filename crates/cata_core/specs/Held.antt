@@ -1,5 +1,6 @@
 -- What the sites of a run hold, as maps that join, whether or not edits clash.
-use Rattle.std.specs.Prelude.{ℕ, List, [], ◌∷◌, ◌++◌, Option, Some, None, if◌then◌else◌, ◌==◌, slice_get}
+use Rattle.std.specs.Prelude.{ℕ, List, [], ◌∷◌, ◌++◌, Option, Some, None, if◌then◌else◌, ◌==◌}
+use Rattle.std.specs.Prelude.{slice_get}
 use Rattle.cata_core.specs.declared.step.Step.{Step}
 use Rattle.cata_core.specs.declared.step.Step.TheVariants.{Edit, Merge, Tell, Post, Deliver}
 use Rattle.cata_core.specs.Entries.{Entries, joined}
@@ -45,7 +46,8 @@ told_by w _ = []
 -- the delta of the sender's cells to the teller of the summary, if it was told
 abbrev pub delta_to : Entries → Option ToldStamps → List PostedCells
 delta_to cells None = []
-delta_to cells (Some told) = record { addressee = told.teller; cells = delta_of cells told.stamps } ∷ []
+delta_to cells (Some told) =
+    record { addressee = told.teller; cells = delta_of cells told.stamps } ∷ []
 
 -- what is posted by a step
 abbrev pub cells_posted : Held → Step → List PostedCells
@@ -53,7 +55,13 @@ cells_posted w (Post site told) = delta_to (w.of_site site) (slice_get w.told to
 cells_posted w _ = []
 
 abbrev pub held_step : Held → Step → Held
-held_step w step = record { of_site = joins w.of_site (cells_in w step); told = w.told ++ told_by w step; posts = w.posts ++ cells_posted w step }
+held_step w step =
+    record {
+      of_site = joins w.of_site (cells_in w step);
+      told = w.told ++ told_by w step;
+      posts =
+          w.posts ++ cells_posted w step;
+    }
 
 -- at first no site holds anything
 abbrev pub nothing_held : Held

@@ -1,6 +1,8 @@
 -- What is borrowed, as values.
 use Rattle.cata_core.specs.declared.reply.LentReply.{LentReply}
-use Rattle.cata_core.specs.declared.reply.LentReply.TheVariants.{Matched as LentMatched, Default as LentDefault, Nothing as LentNothing}
+use Rattle.cata_core.specs.declared.reply.LentReply.TheVariants.{Matched as LentMatched}
+use Rattle.cata_core.specs.declared.reply.LentReply.TheVariants.{Default as LentDefault}
+use Rattle.cata_core.specs.declared.reply.LentReply.TheVariants.{Nothing as LentNothing}
 use Rattle.cata_core.specs.declared.reply.Reply.{Reply}
 use Rattle.cata_core.specs.declared.reply.Reply.TheVariants.{Matched, Default, Nothing}
 

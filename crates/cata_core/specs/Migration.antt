@@ -4,7 +4,8 @@ use Rattle.std.specs.Prelude.{◌≡◌, ℕ, List, Some, map}
 use Rattle.std.specs.FinMap.Entries.{find}
 use Rattle.cell_core.specs.Maps.{IsMap, AgreeMaps, joined_maps}
 use Rattle.cell_core.specs.SiteNames.{padded_name}
-use Rattle.cell_core.specs.Migration.{OldStamp, IsOldStamp, OldCell, AgreeOldCells, joined_old_cells, migrated_stamp, migrated_cell}
+use Rattle.cell_core.specs.Migration.{OldStamp, IsOldStamp, OldCell, AgreeOldCells}
+use Rattle.cell_core.specs.Migration.{joined_old_cells, migrated_stamp, migrated_cell}
 use Rattle.cata_core.specs.declared.delta.Delta.{Delta}
 use Rattle.cata_core.specs.Entries.{EntryKey, key_cmp, Entry, Entries}
 use Rattle.cata_core.specs.Deltas.{Stamps}

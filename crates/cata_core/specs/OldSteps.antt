@@ -4,7 +4,8 @@ use Rattle.std.specs.Prelude.{ℕ, List, Option, map}
 use Rattle.nego_core.specs.Item.{Item}
 use Rattle.nego_core.specs.declared.scheme.Scheme.{Scheme}
 use Rattle.cata_core.specs.declared.step.Step.{Step}
-use Rattle.cata_core.specs.declared.step.Step.TheVariants.{Edit, Merge, AskFilter, AskLookup, AskCells, Tell, Post, Deliver}
+use Rattle.cata_core.specs.declared.step.Step.TheVariants.{Edit, Merge, AskFilter, AskLookup}
+use Rattle.cata_core.specs.declared.step.Step.TheVariants.{AskCells, Tell, Post, Deliver}
 use Rattle.cata_core.specs.Migration.{OldEntry, migrated_entry}
 
 -- the steps of a run; places of sites and numbers of told summaries and posts are alike in both

@@ -2,7 +2,8 @@
 use Rattle.std.specs.Prelude.{◌≡◌, ◌≢◌, ℕ, List}
 use Rattle.cell_core.specs.Stamps.{NoNext}
 use Rattle.cata_core.specs.declared.cata_fault.CataFault.{CataFault}
-use Rattle.cata_core.specs.declared.cata_fault.CataFault.TheVariants.{ClockSpent, NotForMe, NoMemory}
+use Rattle.cata_core.specs.declared.cata_fault.CataFault.TheVariants.{ClockSpent, NotForMe}
+use Rattle.cata_core.specs.declared.cata_fault.CataFault.TheVariants.{NoMemory}
 use Rattle.cata_core.specs.declared.delta.Delta.{Delta}
 use Rattle.cata_core.specs.CataFaults.{IsRefusal, IsLeft}
 use Rattle.cata_core.specs.Entries.{Entries}
@@ -21,8 +22,10 @@ RefusesEdit site now _ = ⊥
 
 -- a delta is refused where it is for another site, else as cells are
 abbrev pub RefusesDelta : SiteState → Delta → CataFault → Type 0
-RefusesDelta site delta (NotForMe addressee) = (addressee ≡ delta.addressee) × (site.name ≢ delta.addressee)
-RefusesDelta site delta fault = (site.name ≡ delta.addressee) × IsRefusal site.cells delta.cells fault
+RefusesDelta site delta (NotForMe addressee) =
+    (addressee ≡ delta.addressee) × (site.name ≢ delta.addressee)
+RefusesDelta site delta fault =
+    (site.name ≡ delta.addressee) × IsRefusal site.cells delta.cells fault
 
 -- the name stays, and of the cells what a refusal leaves
 pub record IsLeftSite (old new : SiteState) (other : Entries) (fault : CataFault) : Type 0 where

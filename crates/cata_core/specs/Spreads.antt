@@ -1,5 +1,6 @@
 -- When all that a site took reaches another.
-use Rattle.std.specs.Prelude.{◌≡◌, ◌≢◌, ℕ, ◌<◌, List, ◌∷◌, ◌++◌, Some, length, slice_get, Contains, All, ◌⊎◌}
+use Rattle.std.specs.Prelude.{◌≡◌, ◌≢◌, ℕ, ◌<◌, List, ◌∷◌, ◌++◌, Some, length, slice_get, Contains}
+use Rattle.std.specs.Prelude.{All, ◌⊎◌}
 use Rattle.std.specs.List.{AllByRecursion}
 use Rattle.cata_core.specs.declared.step.Step.{Step}
 use Rattle.cata_core.specs.declared.step.Step.TheVariants.{Edit, Merge, Post, Deliver}
@@ -42,4 +43,5 @@ Reaches steps s t = IsMerged steps s t ⊎ IsDelivered steps s t
 -- the steps keep to the sites, and each site with an edit reaches each other
 pub record AllReached (sites : ℕ) (steps : List Step) : Type 0 where
   pub named : All (NamesSites sites) steps
-  pub reached : (s t : ℕ) (edit : Entry) → s < sites → t < sites → Contains steps (Edit s edit) → t ≢ s → Reaches steps s t
+  pub reached : (s t : ℕ) (edit : Entry) → s < sites → t < sites → Contains steps (Edit s edit)
+      → t ≢ s → Reaches steps s t

@@ -11,14 +11,21 @@ use Rattle.cata_core.specs.Summary.{SummaryState}
 
 -- one key with one stamp
 abbrev pub summary_entry_eq : EntryKey × Stamp → EntryKey × Stamp → Bool
-summary_entry_eq = eq_of_both (on (λ e. e.0) (eq_by_cmp key_cmp)) (on (λ e. e.1) (eq_by_cmp stamp_cmp))
+summary_entry_eq =
+    eq_of_both (on (λ e. e.0) (eq_by_cmp key_cmp)) (on (λ e. e.1) (eq_by_cmp stamp_cmp))
 
 pub summary_entry_equiv : IsEquivalence summary_entry_eq
-summary_entry_equiv = and_equiv (on_equiv (λ (e : EntryKey × Stamp). e.0) (eq_by_cmp_equiv key_cmp_total)) (on_equiv (λ (e : EntryKey × Stamp). e.1) (eq_by_cmp_equiv stamp_cmp_total))
+summary_entry_equiv =
+    and_equiv (on_equiv (λ (e : EntryKey × Stamp). e.0) (eq_by_cmp_equiv key_cmp_total))
+    (on_equiv (λ (e : EntryKey × Stamp). e.1) (eq_by_cmp_equiv stamp_cmp_total))
 
 -- the same owner and the same list
 abbrev pub summary_eq : SummaryState → SummaryState → Bool
-summary_eq = eq_of_both (on (λ s. s.owner) (pointwise nat_eq)) (on (λ s. s.stamps) (pointwise summary_entry_eq))
+summary_eq =
+    eq_of_both (on (λ s. s.owner) (pointwise nat_eq))
+    (on (λ s. s.stamps) (pointwise summary_entry_eq))
 
 pub summary_equiv : IsEquivalence summary_eq
-summary_equiv = and_equiv (on_texts_equal (λ (s : SummaryState). s.owner)) (on_equiv (λ (s : SummaryState). s.stamps) (lists_equiv summary_entry_equiv))
+summary_equiv =
+    and_equiv (on_texts_equal (λ (s : SummaryState). s.owner))
+    (on_equiv (λ (s : SummaryState). s.stamps) (lists_equiv summary_entry_equiv))

@@ -1,5 +1,6 @@
 -- What the sites of a run took, as lists of edits. No cell is compared, and nothing joins.
-use Rattle.std.specs.Prelude.{ℕ, List, [], ◌∷◌, ◌++◌, Option, Some, None, if◌then◌else◌, ◌==◌, slice_get}
+use Rattle.std.specs.Prelude.{ℕ, List, [], ◌∷◌, ◌++◌, Option, Some, None, if◌then◌else◌, ◌==◌}
+use Rattle.std.specs.Prelude.{slice_get}
 use Rattle.cata_core.specs.declared.step.Step.{Step}
 use Rattle.cata_core.specs.declared.step.Step.TheVariants.{Edit, Merge, Tell, Post, Deliver}
 use Rattle.cata_core.specs.Entries.{Entry}
@@ -47,7 +48,13 @@ edits_posted w (Post site told) = post_to (w.of_site site) (slice_get w.tellers 
 edits_posted w _ = []
 
 abbrev pub taken_step : Taken → Step → Taken
-taken_step w step = record { of_site = takes w.of_site (edits_in w step); tellers = w.tellers ++ tellers_by step; posts = w.posts ++ edits_posted w step }
+taken_step w step =
+    record {
+      of_site = takes w.of_site (edits_in w step);
+      tellers =
+          w.tellers ++ tellers_by step;
+      posts = w.posts ++ edits_posted w step;
+    }
 
 -- at first no site took anything
 abbrev pub nothing_taken : Taken

@@ -16,7 +16,13 @@ abbrev pub at_sites : List Entries → ℕ → Entries
 at_sites catalogues = λ site. slice_index_or catalogues site []
 
 abbrev pub held_in : World → Held
-held_in world = record { of_site = at_sites world.sites.items; told = world.told.items; posts = world.posts.items }
+held_in world =
+    record {
+      of_site = at_sites world.sites.items;
+      told = world.told.items;
+      posts =
+          world.posts.items;
+    }
 
 -- the sites are few enough to be named by number, and who told, and whom is posted to, are sites
 -- that there are
@@ -37,6 +43,7 @@ pub record IsStepped (old new : World) (step : Step) : Type 0 where
 
 -- a fault of the step with this number, by which what comes in does not agree with what is held
 abbrev pub IsClashAt : ℕ → Entries → Entries → PlayFault → Type 0
-IsClashAt n own other (StampReused at place stamp) = (at ≡ n) × IsFirstClash key_cmp own other place stamp
+IsClashAt n own other (StampReused at place stamp) =
+    (at ≡ n) × IsFirstClash key_cmp own other place stamp
 IsClashAt n own other NoMemory = ⊤
 IsClashAt n own other _ = ⊥

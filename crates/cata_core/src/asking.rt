@@ -80,7 +80,8 @@ impl Catalogue {
         list: &PriorityList,
         default: Option<&Lang>,
     ) -> LentReply<'a>
-        ensures { IsLookupAnswer self.now id.now list.now (option_map (λ l. l.now) default.entry) (reply_of result) }
+        ensures { IsLookupAnswer self.now id.now list.now (option_map (λ l. l.now) default.entry)
+            (reply_of result) }
     {
         self.ask_lookup_by(id, list, Widening::Off, default)
     }

@@ -1,6 +1,7 @@
 //! Catalogues: cells by message and language.
 
-ghost use Rattle.std.specs.Prelude.{◌≡◌, ◌+◌, [], ◌∷◌, ◌++◌, None, length, slice_get, OnOk, OnErr, IfOk, IfErr, IfSome, IsOk, IsTrue, ◌↔◌};
+ghost use Rattle.std.specs.Prelude.{◌≡◌, ◌+◌, [], ◌∷◌, ◌++◌, None, length, slice_get, OnOk, OnErr};
+ghost use Rattle.std.specs.Prelude.{IfOk, IfErr, IfSome, IsOk, IsTrue, ◌↔◌};
 ghost use Rattle.std.specs.Option.{option_map, option_copied, is_none};
 ghost use Rattle.std.specs.Ordering.{is_lt};
 ghost use Rattle.std.specs.FinMap.Entries.{find, put};
@@ -105,7 +106,8 @@ impl Catalogue {
     ///
     /// It walks over the messages in front: to see all cells, take [`Catalogue::iter`].
     pub fn nth(&self, place: u128) -> Option<(&MessageId, &Lang, &Cell)>
-        ensures { option_map (λ e. ((e.0.now, e.1.now), e.2.now)) result ≡ slice_get self.now place }
+        ensures { option_map (λ e. ((e.0.now, e.1.now), e.2.now)) result
+            ≡ slice_get self.now place }
     {
         places::entry(&self.map, place)
     }
@@ -161,7 +163,8 @@ impl Catalogue {
         lang: &Lang,
         cell: &Cell,
     ) -> Result<(), CataFault>
-        ensures ok { OnOk result (self.new ≡ joined self.old (((id.now, lang.now), cell.now) ∷ [])) }
+        ensures ok { OnOk result
+            (self.new ≡ joined self.old (((id.now, lang.now), cell.now) ∷ [])) }
         ensures agree { OnOk result (Agree self.old (((id.now, lang.now), cell.now) ∷ [])) }
         ensures err { OnErr result (self.new ≡ self.old) }
         ensures fault { IfErr result (IsRefusal self.old (((id.now, lang.now), cell.now) ∷ [])) }
@@ -365,7 +368,8 @@ fn write_in(
     requires { IsCatalogue map.old }
     ensures nested { IsCatalogue map.new }
     ensures ok { OnOk result (flat map.new ≡ put key_cmp (id.now, lang.now) cell (flat map.old)) }
-    ensures new { IfOk result (λ new. new ≡ is_none (find key_cmp (id.now, lang.now) (flat map.old))) }
+    ensures new { IfOk result
+        (λ new. new ≡ is_none (find key_cmp (id.now, lang.now) (flat map.old))) }
     ensures err { OnErr result (map.new ≡ map.old) }
 {
     let lang = lang.copy(alloc)?;

@@ -5,29 +5,6 @@ ghost use Rattle.std.specs.Iterator.{YieldsFirstBy, item_count};
 use cell_core::{Cell, Iter, Keyed, MessageId};
 use lang_core::Lang;
 
-/// Iterates over the cells of a message, each with the message and its language, in rising order of
-/// language.
-#[derive(Debug, Drop)]
-struct MessageCells<'a> {
-    id: &'a MessageId,
-    cells: Iter<'a, Lang, Cell>,
-}
-
-impl<'a> Iterator for MessageCells<'a> {
-    type Item = (&'a MessageId, &'a Lang, &'a Cell);
-
-    ghost use Rattle.cata_core.specs.CellsLeft.{message_left};
-
-    ghost next_gives = { YieldsFirstBy (λ x. ((x.0.now, x.1.now), x.2.now)) message_left };
-
-    ghost remaining = { item_count message_left };
-
-    fn next(&mut self) -> Option<(&'a MessageId, &'a Lang, &'a Cell)> {
-        let (lang, cell) = self.cells.next()?;
-        Some((self.id, lang, cell))
-    }
-}
-
 /// Iterates over the cells of a catalogue, each with its message and language, in rising order of
 /// key.
 #[derive(Debug, Drop)]
@@ -74,5 +51,28 @@ impl<'a> Iterator for Cells<'a> {
                 cells: cells.iter(),
             });
         }
+    }
+}
+
+/// Iterates over the cells of a message, each with the message and its language, in rising order of
+/// language.
+#[derive(Debug, Drop)]
+struct MessageCells<'a> {
+    id: &'a MessageId,
+    cells: Iter<'a, Lang, Cell>,
+}
+
+impl<'a> Iterator for MessageCells<'a> {
+    type Item = (&'a MessageId, &'a Lang, &'a Cell);
+
+    ghost use Rattle.cata_core.specs.CellsLeft.{message_left};
+
+    ghost next_gives = { YieldsFirstBy (λ x. ((x.0.now, x.1.now), x.2.now)) message_left };
+
+    ghost remaining = { item_count message_left };
+
+    fn next(&mut self) -> Option<(&'a MessageId, &'a Lang, &'a Cell)> {
+        let (lang, cell) = self.cells.next()?;
+        Some((self.id, lang, cell))
     }
 }

@@ -52,7 +52,8 @@ fn find_clash(
 
 /// The first place within a message whose cell does not agree, and the stamp there.
 fn find_clash_in(mine: &Keyed<Lang, Cell>, theirs: &Keyed<Lang, Cell>) -> Option<(usize, Stamp)>
-    ensures { MatchOption result ((j : ℕ) → j < length mine.now → AgreesAt text_cmp mine.now theirs.now j)
+    ensures { MatchOption result
+        ((j : ℕ) → j < length mine.now → AgreesAt text_cmp mine.now theirs.now j)
         (λ clash. IsFirstClash text_cmp mine.now theirs.now clash.0 clash.1) }
 {
     // No map has more entries than a `usize` counts.

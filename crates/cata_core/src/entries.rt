@@ -173,7 +173,8 @@ pub(crate) fn pick_all<'a>(
 
 /// The language and label at the place of one pick.
 fn pick_one<'a>(labels: &[(&'a Lang, &'a Label)], pick: Pick) -> Option<(&'a Lang, &'a Label, u16)>
-    ensures { lent_weighed result ≡ with_weight (slice_get (labelled_of labels.now) pick.place) pick.weight }
+    ensures { lent_weighed result
+        ≡ with_weight (slice_get (labelled_of labels.now) pick.place) pick.weight }
 {
     match labels.get(pick.place) {
         Some(pair) => Some((pair.0, pair.1, pick.weight)),

@@ -1,17 +1,20 @@
 //! Laws over the definitions alone: each function's contract is one, for all values that it names.
 
-ghost use Rattle.std.specs.Prelude.{◌≡◌, ◌≢◌, ◌↔◌, ◌⊎◌, ◌<◌, [], ◌∷◌, ◌++◌, ℕ, List, Bool, IsTrue, Contains, Option, Some, None, IsSome, if◌then◌else◌, length};
+ghost use Rattle.std.specs.Prelude.{◌≡◌, ◌≢◌, ◌↔◌, ◌⊎◌, ◌<◌, [], ◌∷◌, ◌++◌, ℕ, List, Bool, IsTrue};
+ghost use Rattle.std.specs.Prelude.{Contains, Option, Some, None, IsSome, if◌then◌else◌, length};
 ghost use Rattle.std.specs.FinMap.Entries.{find, put};
 ghost use Rattle.cell_core.specs.declared.cell.Cell.{Cell};
 ghost use Rattle.cell_core.specs.Joins.{JoinLaws};
 ghost use Rattle.cell_core.specs.Stamps.{IsAbove};
 ghost use Rattle.cell_core.specs.Maps.{IsMap, IsJoinedWith, joined_if_both};
 ghost use Rattle.cell_core.specs.Cells.{joined_stamps, joined_cells};
-ghost use Rattle.cata_core.specs.Entries.{EntryKey, Entry, Entries, text_cmp, key_cmp, Agree, Between, joined, IsBelowCells};
+ghost use Rattle.cata_core.specs.Entries.{EntryKey, Entry, Entries, text_cmp, key_cmp, Agree};
+ghost use Rattle.cata_core.specs.Entries.{Between, joined, IsBelowCells};
 ghost use Rattle.cata_core.specs.Latest.{latest_of, IsLatest};
 ghost use Rattle.cata_core.specs.Flat.{flat};
 ghost use Rattle.cata_core.specs.Nested.{AgreeNested, IsCatalogue, Nested, joined_nested};
-ghost use Rattle.cata_core.specs.Deltas.{Stamps, HasAll, IsPart, IsBelowStamps, summary_of, delta_of};
+ghost use Rattle.cata_core.specs.Deltas.{Stamps, HasAll, IsPart, IsBelowStamps, summary_of};
+ghost use Rattle.cata_core.specs.Deltas.{delta_of};
 ghost use Rattle.cata_core.specs.Changes.{AreChanges, AreMade, Changed, exchanged};
 ghost use Rattle.cata_core.specs.Parts.{part_of};
 ghost use Rattle.cata_core.specs.declared.step.Step.{Step};
@@ -33,7 +36,8 @@ ghost use Rattle.cata_core.specs.Alike.{AnswerAlike};
 ghost use Rattle.cata_core.specs.Faulty.{IsNoDeliver, NoDelivers, NoneFaulty, Clashes, Unsettles};
 ghost use Rattle.cata_core.specs.Spreads.{AllReached};
 ghost use Rattle.cell_core.specs.Migration.{KeepsJoins};
-ghost use Rattle.cata_core.specs.Migration.{OldEntries, IsOldMap, AgreeOld, joined_old, migrated_entries};
+ghost use Rattle.cata_core.specs.Migration.{OldEntries, IsOldMap, AgreeOld, joined_old};
+ghost use Rattle.cata_core.specs.Migration.{migrated_entries};
 ghost use Rattle.cell_core.specs.declared.stamp.Stamp.{Stamp};
 ghost use Rattle.cata_core.specs.Clashes.{IsFirstClash};
 ghost use Rattle.cata_core.specs.Edits.{IsConsistent, IsBest, IsSettled, SameMembers, catalogue_of};
@@ -46,16 +50,20 @@ pub fn catalogues_obey_the_join_laws()
 /// A join is the one catalogue that has at each key of one alone that one's cell, and at each key
 /// of both the two cells joined, and no other key.
 pub fn a_join_has_each_key()
-    ensures each { (a b : Entries) → IsMap key_cmp a → IsMap key_cmp b → IsJoinedWith key_cmp joined_cells a b (joined a b) }
-    ensures one { (a b c : Entries) → IsMap key_cmp a → IsMap key_cmp b → IsJoinedWith key_cmp joined_cells a b c → c ≡ joined a b }
+    ensures each { (a b : Entries) → IsMap key_cmp a → IsMap key_cmp b
+        → IsJoinedWith key_cmp joined_cells a b (joined a b) }
+    ensures one { (a b c : Entries) → IsMap key_cmp a → IsMap key_cmp b
+        → IsJoinedWith key_cmp joined_cells a b c → c ≡ joined a b }
 {}
 
 /// A map of maps and its list of entries determine each other: one map has the list, and both
 /// agree and join alike.
 pub fn lists_tell_the_maps()
     ensures one { (a b : Nested) → IsCatalogue a → IsCatalogue b → flat a ≡ flat b → a ≡ b }
-    ensures agree { (a b : Nested) → IsCatalogue a → IsCatalogue b → AgreeNested a b ↔ Agree (flat a) (flat b) }
-    ensures join { (a b : Nested) → IsCatalogue a → IsCatalogue b → flat (joined_nested a b) ≡ joined (flat a) (flat b) }
+    ensures agree { (a b : Nested) → IsCatalogue a → IsCatalogue b → AgreeNested a b
+        ↔ Agree (flat a) (flat b) }
+    ensures join { (a b : Nested) → IsCatalogue a → IsCatalogue b
+        → flat (joined_nested a b) ≡ joined (flat a) (flat b) }
 {}
 
 /// The catalogue of a settled list has exactly the best edit of each key that occurs.
@@ -63,39 +71,50 @@ pub fn catalogue_has_best_edits()
     ensures map { (xs : List Entry) → IsMap key_cmp (catalogue_of xs) }
     ensures best { (xs : List Entry) → IsSettled xs → (key : EntryKey) (cell : Cell)
         → (find key_cmp key (catalogue_of xs) ≡ Some cell) ↔ IsBest xs key cell }
-    ensures all { (xs : List Entry) (e : Entry) → Contains xs e → IsSome (find key_cmp e.0 (catalogue_of xs)) }
+    ensures all { (xs : List Entry) (e : Entry) → Contains xs e
+        → IsSome (find key_cmp e.0 (catalogue_of xs)) }
 {}
 
 /// Lists with the same members are settled alike, and have the same catalogue.
 pub fn same_edits_same_catalogue()
-    ensures { (xs ys : List Entry) → IsSettled xs → SameMembers xs ys → IsSettled ys × (catalogue_of xs ≡ catalogue_of ys) }
+    ensures { (xs ys : List Entry) → IsSettled xs → SameMembers xs ys
+        → IsSettled ys × (catalogue_of xs ≡ catalogue_of ys) }
 {}
 
 /// Of settled lists, one after the other is settled exactly where their catalogues agree, and then
 /// its catalogue is the join of both.
 pub fn catalogue_of_both()
     ensures { (xs ys : List Entry) → IsSettled xs → IsSettled ys
-        → (IsSettled (xs ++ ys) ↔ Agree (catalogue_of xs) (catalogue_of ys)) × (IsSettled (xs ++ ys) → catalogue_of (xs ++ ys) ≡ joined (catalogue_of xs) (catalogue_of ys)) }
+        → (IsSettled (xs ++ ys) ↔ Agree (catalogue_of xs) (catalogue_of ys))
+        × (IsSettled (xs ++ ys)
+        → catalogue_of (xs ++ ys) ≡ joined (catalogue_of xs) (catalogue_of ys)) }
 {}
 
 /// An own edit, by `Site::put` or `Site::delete`, joins its one cell, since its stamp is greater
 /// than all of the site. So what is said of joins and of the catalogue of edits is true of sites
 /// that are edited and joined by hand.
 pub fn an_own_edit_is_joined()
-    ensures agree { (cells : Entries) (key : EntryKey) (cell : Cell) → IsMap key_cmp cells → IsAbove (latest_of cells) cell.stamp → Agree cells ((key, cell) ∷ []) }
-    ensures join { (cells : Entries) (key : EntryKey) (cell : Cell) → IsMap key_cmp cells → IsAbove (latest_of cells) cell.stamp
+    ensures agree { (cells : Entries) (key : EntryKey) (cell : Cell) → IsMap key_cmp cells
+        → IsAbove (latest_of cells) cell.stamp → Agree cells ((key, cell) ∷ []) }
+    ensures join { (cells : Entries) (key : EntryKey) (cell : Cell) → IsMap key_cmp cells
+        → IsAbove (latest_of cells) cell.stamp
         → put key_cmp key cell cells ≡ joined cells ((key, cell) ∷ []) }
-    ensures above { (cells : Entries) (key : EntryKey) (cell : Cell) → IsMap key_cmp cells → IsAbove (latest_of cells) cell.stamp
+    ensures above { (cells : Entries) (key : EntryKey) (cell : Cell) → IsMap key_cmp cells
+        → IsAbove (latest_of cells) cell.stamp
         → IsBelowCells cells (put key_cmp key cell cells) }
-    ensures taken { (edits : List Entry) (key : EntryKey) (cell : Cell) → IsSettled edits → IsAbove (latest_of (catalogue_of edits)) cell.stamp
-        → IsSettled (edits ++ (key, cell) ∷ []) × (put key_cmp key cell (catalogue_of edits) ≡ catalogue_of (edits ++ (key, cell) ∷ [])) }
+    ensures taken { (edits : List Entry) (key : EntryKey) (cell : Cell) → IsSettled edits
+        → IsAbove (latest_of (catalogue_of edits)) cell.stamp
+        → IsSettled (edits ++ (key, cell) ∷ [])
+        × (put key_cmp key cell (catalogue_of edits)
+        ≡ catalogue_of (edits ++ (key, cell) ∷ [])) }
 {}
 
 /// The latest stamp of a site's cells is the latest that was ever taken in, and that of a join the
 /// later of both.
 pub fn the_latest_held_is_the_latest_taken()
     ensures edits { (edits : List Entry) → IsLatest edits (latest_of (catalogue_of edits)) }
-    ensures join { (a b : Entries) → Agree a b → latest_of (joined a b) ≡ joined_if_both joined_stamps (latest_of a) (latest_of b) }
+    ensures join { (a b : Entries) → Agree a b
+        → latest_of (joined a b) ≡ joined_if_both joined_stamps (latest_of a) (latest_of b) }
 {}
 
 /// A consistent list is settled.
@@ -105,13 +124,16 @@ pub fn consistent_lists_are_settled()
 
 /// Each part of a consistent list is consistent.
 pub fn parts_are_consistent()
-    ensures { (xs ys : List Entry) → IsConsistent xs → ((e : Entry) → Contains ys e → Contains xs e) → IsConsistent ys }
+    ensures { (xs ys : List Entry) → IsConsistent xs → ((e : Entry) → Contains ys e → Contains xs e)
+        → IsConsistent ys }
 {}
 
 /// Where catalogues clash they do not agree, and the place and the stamp of a clash are one.
 pub fn clashes_are_one()
-    ensures differ { (own other : Entries) (place : ℕ) (stamp : Stamp) → IsMap key_cmp own → IsFirstClash key_cmp own other place stamp → ¬ (Agree own other) }
-    ensures one { (own other : Entries) (p q : ℕ) (s t : Stamp) → IsFirstClash key_cmp own other p s → IsFirstClash key_cmp own other q t → (p ≡ q) × (s ≡ t) }
+    ensures differ { (own other : Entries) (place : ℕ) (stamp : Stamp) → IsMap key_cmp own
+        → IsFirstClash key_cmp own other place stamp → ¬ (Agree own other) }
+    ensures one { (own other : Entries) (p q : ℕ) (s t : Stamp) → IsFirstClash key_cmp own other p s
+        → IsFirstClash key_cmp own other q t → (p ≡ q) × (s ≡ t) }
 {}
 
 /// A delta against a summary that its taker has in full joins to what the sender's whole catalogue
@@ -125,32 +147,40 @@ pub fn delta_suffices()
 /// has it still after any edit or join, and after a join that ran out of memory.
 pub fn a_told_summary_serves()
     ensures now { (cells : Entries) → HasAll cells (summary_of cells) }
-    ensures above { (old new : Entries) (summary : Stamps) → HasAll old summary → IsBelowCells old new → HasAll new summary }
+    ensures above { (old new : Entries) (summary : Stamps) → HasAll old summary
+        → IsBelowCells old new → HasAll new summary }
     ensures later { (old new : Entries) → IsBelowCells old new → HasAll new (summary_of old) }
-    ensures run { (p q : List Step) (site : ℕ) → HasAll (held (p ++ q) site) (summary_of (held p site)) }
+    ensures run { (p q : List Step) (site : ℕ)
+        → HasAll (held (p ++ q) site) (summary_of (held p site)) }
 {}
 
 /// Whatever part of the sender joins as the whole sender would, it has each cell of the delta.
 pub fn delta_is_least()
-    ensures { (own sender part : Entries) → IsMap key_cmp own → Agree own sender → IsPart part sender → joined own part ≡ joined own sender
+    ensures { (own sender part : Entries) → IsMap key_cmp own → Agree own sender
+        → IsPart part sender → joined own part ≡ joined own sender
         → IsPart (delta_of sender (summary_of own)) part }
 {}
 
 /// A delta is empty exactly where the sender is below.
 pub fn delta_is_empty()
-    ensures { (own sender : Entries) → IsMap key_cmp own → Agree own sender → (delta_of sender (summary_of own) ≡ []) ↔ IsBelowCells sender own }
+    ensures { (own sender : Entries) → IsMap key_cmp own → Agree own sender
+        → (delta_of sender (summary_of own) ≡ []) ↔ IsBelowCells sender own }
 {}
 
 /// Sites that took the same edits, in whichever runs of consistent edits, hold equal cells, and
 /// answer each question alike. Of settled edits, consistent or not, their catalogues are equal, and
 /// with them the answers to the question for all cells.
 pub fn same_edits_equal_sites()
-    ensures held { (p q : List Step) (s t : ℕ) → IsConsistent (edits_of p) → IsConsistent (edits_of q) → SameMembers (taken p s) (taken q t)
+    ensures held { (p q : List Step) (s t : ℕ) → IsConsistent (edits_of p)
+        → IsConsistent (edits_of q) → SameMembers (taken p s) (taken q t)
         → held p s ≡ held q t }
-    ensures answers { (p q : List Step) (s t : ℕ) → IsConsistent (edits_of p) → IsConsistent (edits_of q) → SameMembers (taken p s) (taken q t)
+    ensures answers { (p q : List Step) (s t : ℕ) → IsConsistent (edits_of p)
+        → IsConsistent (edits_of q) → SameMembers (taken p s) (taken q t)
         → AnswerAlike (held p) s (held q) t }
-    ensures catalogues { (p q : List Step) (s t : ℕ) → IsSettled (taken p s) → SameMembers (taken p s) (taken q t)
-        → (catalogue_of (taken p s) ≡ catalogue_of (taken q t)) × (cells_answer (catalogue_of (taken p s)) ≡ cells_answer (catalogue_of (taken q t))) }
+    ensures catalogues { (p q : List Step) (s t : ℕ) → IsSettled (taken p s)
+        → SameMembers (taken p s) (taken q t)
+        → (catalogue_of (taken p s) ≡ catalogue_of (taken q t))
+        × (cells_answer (catalogue_of (taken p s)) ≡ cells_answer (catalogue_of (taken q t))) }
 {}
 
 /// A question for a filtered list has one answer.
@@ -161,8 +191,10 @@ pub fn one_filter_answer()
 
 /// A lookup has one answer.
 pub fn one_lookup_answer()
-    ensures { (cells : Entries) (id : List ℕ) (items : List Item) (default : Option (List ℕ)) (a b : Reply)
-        → IsLookupAnswer cells id items default a → IsLookupAnswer cells id items default b → a ≡ b }
+    ensures { (cells : Entries) (id : List ℕ) (items : List Item) (default : Option (List ℕ))
+        (a b : Reply)
+        → IsLookupAnswer cells id items default a → IsLookupAnswer cells id items default b
+        → a ≡ b }
 {}
 
 /// A lookup that may be widened has one answer, and where it is not widened that of a lookup.
@@ -178,7 +210,8 @@ pub fn one_lookup_answer_by()
 
 /// A catalogue has one list of the messages that have live labels.
 pub fn one_list_of_messages()
-    ensures { (cells : Entries) (a b : List LiveMessage) → AreMessages cells a → AreMessages cells b → a ≡ b }
+    ensures { (cells : Entries) (a b : List LiveMessage) → AreMessages cells a → AreMessages cells b
+        → a ≡ b }
 {}
 
 /// A message that has live labels answers a lookup, widened or not, as its catalogue does; a lookup
@@ -197,49 +230,62 @@ pub fn messages_answer_as_the_catalogue()
 
 /// The steps of a run have one list of answers by what the sites hold, and one by what they took.
 pub fn one_run()
-    ensures held { (steps : List Step) (a b : List Answer) → AreHeldAnswers steps a → AreHeldAnswers steps b → a ≡ b }
-    ensures expected { (steps : List Step) (a b : List Answer) → AreAnswers steps a → AreAnswers steps b → a ≡ b }
+    ensures held { (steps : List Step) (a b : List Answer) → AreHeldAnswers steps a
+        → AreHeldAnswers steps b → a ≡ b }
+    ensures expected { (steps : List Step) (a b : List Answer) → AreAnswers steps a
+        → AreAnswers steps b → a ≡ b }
 {}
 
 /// After a sync that ran out of memory, the sites agree, and their join is what it was, so
 /// that a repeat gives it.
 pub fn a_sync_can_be_repeated()
-    ensures { (first second mine theirs : Entries) → Agree first second → Between first mine second → Between second theirs first
-        → (theirs ≡ second) ⊎ (mine ≡ joined first second) → Agree mine theirs × (joined mine theirs ≡ joined first second) }
+    ensures { (first second mine theirs : Entries) → Agree first second → Between first mine second
+        → Between second theirs first
+        → (theirs ≡ second) ⊎ (mine ≡ joined first second)
+        → Agree mine theirs × (joined mine theirs ≡ joined first second) }
 {}
 
 /// What a site took, it took for good.
 pub fn taken_only_grows()
-    ensures { (p q : List Step) (site : ℕ) (e : Entry) → Contains (taken p site) e → Contains (taken (p ++ q) site) e }
+    ensures { (p q : List Step) (site : ℕ) (e : Entry) → Contains (taken p site) e
+        → Contains (taken (p ++ q) site) e }
 {}
 
 /// What a site took is an edit of some step.
 pub fn taken_holds_only_edits()
-    ensures { (steps : List Step) (site : ℕ) (e : Entry) → Contains (taken steps site) e → (s : ℕ) × Contains steps (Edit s e) }
+    ensures { (steps : List Step) (site : ℕ) (e : Entry) → Contains (taken steps site) e
+        → (s : ℕ) × Contains steps (Edit s e) }
 {}
 
 /// What a site tells later is above what it tells now.
 pub fn summaries_only_rise()
-    ensures { (p q : List Step) (site : ℕ) → IsBelowStamps (summary_of (catalogue_of (taken p site))) (summary_of (catalogue_of (taken (p ++ q) site))) }
+    ensures { (p q : List Step) (site : ℕ)
+        → IsBelowStamps (summary_of (catalogue_of (taken p site)))
+        (summary_of (catalogue_of (taken (p ++ q) site))) }
 {}
 
 /// With consistent edits a site has the catalogue of what it took, whatever was delivered, and
 /// when. Without deliveries, where no step is faulty, it does so whether or not the edits are
 /// consistent, and what it took is settled.
 pub fn held_is_what_was_taken()
-    ensures consistent { (steps : List Step) → IsConsistent (edits_of steps) → (site : ℕ) → held steps site ≡ catalogue_of (taken steps site) }
-    ensures undelivered { (sites : ℕ) (steps : List Step) → NoDelivers steps → NoneFaulty sites steps
-        → (site : ℕ) → IsSettled (taken steps site) × (held steps site ≡ catalogue_of (taken steps site)) }
+    ensures consistent { (steps : List Step) → IsConsistent (edits_of steps) → (site : ℕ)
+        → held steps site ≡ catalogue_of (taken steps site) }
+    ensures undelivered { (sites : ℕ) (steps : List Step) → NoDelivers steps
+        → NoneFaulty sites steps
+        → (site : ℕ)
+        → IsSettled (taken steps site) × (held steps site ≡ catalogue_of (taken steps site)) }
 {}
 
 /// A delivery, however late, leaves what a merge with the sender would leave, as the sender was
 /// when it posted: the taker has the join of both, and each other site what it had. It does so
 /// whether or not edits clash.
 pub fn a_delivery_acts_as_a_merge()
-    ensures taker { (a b c : List Step) (s t : ℕ) → let v = held_after nothing_held a in let before = a ++ Tell t ∷ b in let w = held_after nothing_held before in
+    ensures taker { (a b c : List Step) (s t : ℕ) → let v = held_after nothing_held a in
+        let before = a ++ Tell t ∷ b in let w = held_after nothing_held before in
         let steps = before ++ Post s (length v.told) ∷ c in
         held (steps ++ Deliver (length w.posts) ∷ []) t ≡ joined (held steps t) (held before s) }
-    ensures others { (a b c : List Step) (s t other : ℕ) → let v = held_after nothing_held a in let before = a ++ Tell t ∷ b in let w = held_after nothing_held before in
+    ensures others { (a b c : List Step) (s t other : ℕ) → let v = held_after nothing_held a in
+        let before = a ++ Tell t ∷ b in let w = held_after nothing_held before in
         let steps = before ++ Post s (length v.told) ∷ c in
         other ≢ t → held (steps ++ Deliver (length w.posts) ∷ []) other ≡ held steps other }
 {}
@@ -247,36 +293,44 @@ pub fn a_delivery_acts_as_a_merge()
 /// Without deliveries, a step before which none is faulty clashes exactly where what its site took
 /// is settled before it and not after it.
 pub fn clashes_unsettle()
-    ensures { (sites : ℕ) (steps : List Step) (step : Step) → NoDelivers steps → IsNoDeliver step → NoneFaulty sites steps
+    ensures { (sites : ℕ) (steps : List Step) (step : Step) → NoDelivers steps → IsNoDeliver step
+        → NoneFaulty sites steps
         → Clashes steps step ↔ Unsettles steps step }
 {}
 
 /// Where each site that edits reaches each other after its last edit, every site has the catalogue
 /// of all edits.
 pub fn delivered_sites_converge()
-    ensures { (sites : ℕ) (steps : List Step) → IsConsistent (edits_of steps) → AllReached sites steps
-        → (site : ℕ) → site < sites → catalogue_of (taken steps site) ≡ catalogue_of (edits_of steps) }
+    ensures { (sites : ℕ) (steps : List Step) → IsConsistent (edits_of steps)
+        → AllReached sites steps
+        → (site : ℕ) → site < sites
+        → catalogue_of (taken steps site) ≡ catalogue_of (edits_of steps) }
 {}
 
 /// A delivery brings the delta of what the sender had when it posted, against what the addressee
 /// had when it told.
 pub fn deliveries_bring_deltas()
-    ensures { (a b c : List Step) (s t : ℕ) → let v = held_after nothing_held a in let w = held_after nothing_held (a ++ Tell t ∷ b) in
-        cells_in (held_after nothing_held (a ++ Tell t ∷ b ++ Post s (length v.told) ∷ c)) (Deliver (length w.posts))
+    ensures { (a b c : List Step) (s t : ℕ) → let v = held_after nothing_held a in let w =
+        held_after nothing_held (a ++ Tell t ∷ b) in
+        cells_in (held_after nothing_held (a ++ Tell t ∷ b ++ Post s (length v.told) ∷ c))
+        (Deliver (length w.posts))
         ≡ Some (t, delta_of (held (a ++ Tell t ∷ b) s) (summary_of (held a t))) }
 {}
 
 /// By a delivery the addressee takes what the sender had taken when it posted.
 pub fn deliveries_bring_what_was_taken()
-    ensures { (a b c : List Step) (s t : ℕ) → let v = taken_after nothing_taken a in let w = taken_after nothing_taken (a ++ Tell t ∷ b) in
-        edits_in (taken_after nothing_taken (a ++ Tell t ∷ b ++ Post s (length v.tellers) ∷ c)) (Deliver (length w.posts))
+    ensures { (a b c : List Step) (s t : ℕ) → let v = taken_after nothing_taken a in let w =
+        taken_after nothing_taken (a ++ Tell t ∷ b) in
+        edits_in (taken_after nothing_taken (a ++ Tell t ∷ b ++ Post s (length v.tellers) ∷ c))
+        (Deliver (length w.posts))
         ≡ Some (t, taken (a ++ Tell t ∷ b) s) }
 {}
 
 /// Migration keeps the joins of catalogues: two agree after it where they did before, and their
 /// join is the migrated join.
 pub fn migration_keeps_joins()
-    ensures { (a b : OldEntries) → IsOldMap a → IsOldMap b → KeepsJoins migrated_entries AgreeOld joined_old Agree joined a b }
+    ensures { (a b : OldEntries) → IsOldMap a → IsOldMap b
+        → KeepsJoins migrated_entries AgreeOld joined_old Agree joined a b }
 {}
 
 /// Two catalogues have one list of changes. A key is in it exactly where their cells differ, with
@@ -308,12 +362,14 @@ pub fn changes_are_what_differs()
 /// A part has at the keys of its messages what the whole has, and at no other key anything.
 pub fn a_part_has_its_keys()
     ensures { (messages : List ℕ → Bool) (key : EntryKey) (cells : Entries)
-        → find key_cmp key (part_of messages cells) ≡ (if messages key.0 then find key_cmp key cells else None) }
+        → find key_cmp key (part_of messages cells)
+        ≡ (if messages key.0 then find key_cmp key cells else None) }
 {}
 
 /// The part of a join is the join of the parts, and parts of catalogues that agree do so.
 pub fn a_part_of_a_join_is_the_join_of_parts()
-    ensures agree { (messages : List ℕ → Bool) (a b : Entries) → Agree a b → Agree (part_of messages a) (part_of messages b) }
+    ensures agree { (messages : List ℕ → Bool) (a b : Entries) → Agree a b
+        → Agree (part_of messages a) (part_of messages b) }
     ensures join { (messages : List ℕ → Bool) (a b : Entries) → IsMap key_cmp a → IsMap key_cmp b
         → part_of messages (joined a b) ≡ joined (part_of messages a) (part_of messages b) }
 {}
@@ -322,16 +378,22 @@ pub fn a_part_of_a_join_is_the_join_of_parts()
 /// part is the part of the summary.
 pub fn a_part_of_a_delta_is_the_delta_of_parts()
     ensures delta { (messages : List ℕ → Bool) (cells : Entries) (summary : Stamps)
-        → part_of messages (delta_of cells summary) ≡ delta_of (part_of messages cells) (part_of messages summary) }
-    ensures summary { (messages : List ℕ → Bool) (cells : Entries) → part_of messages (summary_of cells) ≡ summary_of (part_of messages cells) }
+        → part_of messages (delta_of cells summary)
+        ≡ delta_of (part_of messages cells) (part_of messages summary) }
+    ensures summary { (messages : List ℕ → Bool) (cells : Entries)
+        → part_of messages (summary_of cells) ≡ summary_of (part_of messages cells) }
 {}
 
 /// A question about a message is answered by its part as by the whole.
 pub fn a_part_answers_as_the_whole()
-    ensures filter { (messages : List ℕ → Bool) (cells : Entries) (id : List ℕ) → IsTrue (messages id) → (scheme : Scheme) (items : List Item) (answer : Weighed)
-        → IsFilterAnswer (part_of messages cells) id scheme items answer ↔ IsFilterAnswer cells id scheme items answer }
-    ensures lookup { (messages : List ℕ → Bool) (cells : Entries) (id : List ℕ) → IsTrue (messages id) → (items : List Item) (default : Option (List ℕ)) (answer : Reply)
-        → IsLookupAnswer (part_of messages cells) id items default answer ↔ IsLookupAnswer cells id items default answer }
+    ensures filter { (messages : List ℕ → Bool) (cells : Entries) (id : List ℕ)
+        → IsTrue (messages id) → (scheme : Scheme) (items : List Item) (answer : Weighed)
+        → IsFilterAnswer (part_of messages cells) id scheme items answer
+        ↔ IsFilterAnswer cells id scheme items answer }
+    ensures lookup { (messages : List ℕ → Bool) (cells : Entries) (id : List ℕ)
+        → IsTrue (messages id) → (items : List Item) (default : Option (List ℕ)) (answer : Reply)
+        → IsLookupAnswer (part_of messages cells) id items default answer
+        ↔ IsLookupAnswer cells id items default answer }
     ensures widened { (messages : List ℕ → Bool) (cells : Entries) (id : List ℕ)
         → IsTrue (messages id) → (widening : Widening) (items : List Item)
         (default : Option (List ℕ)) (answer : Reply)
@@ -352,18 +414,22 @@ pub fn a_part_of_changes()
 /// Edits that are not settled may have the same members and different catalogues, and a best edit
 /// that is in none.
 pub fn settled_is_needed()
-    ensures catalogues { (xs : List Entry) × (ys : List Entry) × SameMembers xs ys × (catalogue_of xs ≢ catalogue_of ys) }
-    ensures best { (xs : List Entry) × (key : EntryKey) × (cell : Cell) × IsBest xs key cell × (find key_cmp key (catalogue_of xs) ≢ Some cell) }
+    ensures catalogues { (xs : List Entry) × (ys : List Entry) × SameMembers xs ys
+        × (catalogue_of xs ≢ catalogue_of ys) }
+    ensures best { (xs : List Entry) × (key : EntryKey) × (cell : Cell) × IsBest xs key cell
+        × (find key_cmp key (catalogue_of xs) ≢ Some cell) }
 {}
 
 /// Edits may be settled and not consistent; and without consistency two sites that took the same
 /// edits may hold different cells, although no step is faulty.
 pub fn consistent_is_needed()
     ensures settled { (xs : List Entry) × IsSettled xs × ¬ (IsConsistent xs) }
-    ensures held { (steps : List Step) × (s : ℕ) × (t : ℕ) × NoneFaulty 2 steps × SameMembers (taken steps s) (taken steps t) × (held steps s ≢ held steps t) }
+    ensures held { (steps : List Step) × (s : ℕ) × (t : ℕ) × NoneFaulty 2 steps
+        × SameMembers (taken steps s) (taken steps t) × (held steps s ≢ held steps t) }
 {}
 
 /// A delta against a summary that its taker no longer has in full may lack cells.
 pub fn what_was_told_must_be_held()
-    ensures { (own : Entries) × (sender : Entries) × (summary : Stamps) × Agree own sender × (joined own (delta_of sender summary) ≢ joined own sender) }
+    ensures { (own : Entries) × (sender : Entries) × (summary : Stamps) × Agree own sender
+        × (joined own (delta_of sender summary) ≢ joined own sender) }
 {}

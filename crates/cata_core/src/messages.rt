@@ -67,7 +67,8 @@ impl<'a> Message<'a> {
     ///
     /// It takes no memory. A default is available only where it has a live label.
     pub fn lookup(&self, list: &PriorityList, default: Option<&Lang>) -> LentReply<'a>
-        ensures { IsLookedUpOf self.now.1 list.now (option_map (λ l. l.now) default.entry) (reply_of result) }
+        ensures { IsLookedUpOf self.now.1 list.now (option_map (λ l. l.now) default.entry)
+            (reply_of result) }
     {
         self.lookup_by(list, Widening::Off, default)
     }

@@ -41,28 +41,13 @@ pub fn place(map: &Keyed<MessageId, Keyed<Lang, Cell>>, id: &MessageId, lang: &L
     total
 }
 
-/// How many of the languages are smaller.
-fn place_in(cells: &Keyed<Lang, Cell>, lang: &Lang) -> usize
-    ensures { result ≡ place_of text_cmp lang.now cells.now }
-{
-    // No map has more entries than a `usize` counts.
-    let _languages = cells.len();
-    let mut place = 0;
-    for (key, _) in cells.iter() {
-        if !lang.cmp(key).is_gt() {
-            return place;
-        }
-        place += 1;
-    }
-    place
-}
-
 /// The cell at a place, with its keys.
 pub fn entry(
     map: &Keyed<MessageId, Keyed<Lang, Cell>>,
     place: u128,
 ) -> Option<(&MessageId, &Lang, &Cell)>
-    ensures { option_map (λ e. ((e.0.now, e.1.now), e.2.now)) result ≡ slice_get (flat map.now) place }
+    ensures { option_map (λ e. ((e.0.now, e.1.now), e.2.now)) result
+        ≡ slice_get (flat map.now) place }
 {
     let mut left = place;
     for (id, cells) in map.iter() {
@@ -81,9 +66,26 @@ pub fn entry(
 /// The last cell, with its keys.
 pub fn last(map: &Keyed<MessageId, Keyed<Lang, Cell>>) -> Option<(&MessageId, &Lang, &Cell)>
     requires { IsCatalogue map.now }
-    ensures { option_map (λ e. ((e.0.now, e.1.now), e.2.now)) result ≡ slice_get (flat map.now) (length (flat map.now) - 1) }
+    ensures { option_map (λ e. ((e.0.now, e.1.now), e.2.now)) result
+        ≡ slice_get (flat map.now) (length (flat map.now) - 1) }
 {
     let (id, cells) = map.last()?;
     let (lang, cell) = cells.last()?;
     Some((id, lang, cell))
+}
+
+/// How many of the languages are smaller.
+fn place_in(cells: &Keyed<Lang, Cell>, lang: &Lang) -> usize
+    ensures { result ≡ place_of text_cmp lang.now cells.now }
+{
+    // No map has more entries than a `usize` counts.
+    let _languages = cells.len();
+    let mut place = 0;
+    for (key, _) in cells.iter() {
+        if !lang.cmp(key).is_gt() {
+            return place;
+        }
+        place += 1;
+    }
+    place
 }

@@ -26,10 +26,13 @@ pub fn play(alloc: Global, sites: usize, steps: &[Step]) -> Result<Answers, Play
     // No answer is given where a step is faulty.
     ensures sound { OnOk result (NoneFaulty sites steps.now) }
     ensures held { IfOk result (AreHeldAnswers steps.now) }
-    ensures consistent { IfOk result (λ answers. IsConsistent (edits_of steps.now) → AreAnswers steps.now answers) }
+    ensures consistent { IfOk result
+        (λ answers. IsConsistent (edits_of steps.now) → AreAnswers steps.now answers) }
     // Without deliveries, consistent or not.
-    ensures undelivered { IfOk result (λ answers. NoDelivers steps.now → AreAnswers steps.now answers) }
-    ensures fault { IfErr result (λ fault. (fault ≡ NoMemory) ⊎ IsFirstFault sites steps.now fault) }
+    ensures undelivered { IfOk result
+        (λ answers. NoDelivers steps.now → AreAnswers steps.now answers) }
+    ensures fault { IfErr result
+        (λ fault. (fault ≡ NoMemory) ⊎ IsFirstFault sites steps.now fault) }
     ensures no_clash { IfErr result (λ fault. IsConsistent (edits_of steps.now) → IsNoClash fault) }
 {
     let mut catalogues = Vec::new(alloc);

@@ -1,6 +1,7 @@
 //! Sites: catalogues with a name, which make edits, and summaries and deltas for one another.
 
-ghost use Rattle.std.specs.Prelude.{◌≡◌, [], ◌∷◌, OnOk, OnErr, IfOk, IfErr, IsOk, MatchResult, Some, None};
+ghost use Rattle.std.specs.Prelude.{◌≡◌, [], ◌∷◌, OnOk, OnErr, IfOk, IfErr, IsOk, MatchResult};
+ghost use Rattle.std.specs.Prelude.{Some, None};
 ghost use Rattle.std.specs.FinMap.Entries.{put};
 ghost use Rattle.cell_core.specs.Stamps.{IsNext, IsAbove};
 ghost use Rattle.cata_core.specs.CataFaults.{IsRefusal, IsLeft};
@@ -125,7 +126,13 @@ impl Site {
         label: &Label,
     ) -> Result<Stamp, CataFault>
         ensures ok { IfOk result (λ stamp. IsNext (latest_of self.old.cells) now self.old.name stamp
-            × (self.new ≡ record { name = self.old.name; cells = put key_cmp (id.now, lang.now) (record { stamp = stamp; label = Some label.now }) self.old.cells })) }
+            × (self.new
+            ≡ record {
+              name = self.old.name;
+              cells =
+                  put key_cmp (id.now, lang.now) (record { stamp = stamp; label = Some label.now })
+                  self.old.cells;
+            })) }
         ensures err { IfErr result (RefusesEdit self.old now) }
         ensures left { OnErr result (self.new ≡ self.old) }
     {
@@ -148,7 +155,13 @@ impl Site {
         lang: &Lang,
     ) -> Result<Stamp, CataFault>
         ensures ok { IfOk result (λ stamp. IsNext (latest_of self.old.cells) now self.old.name stamp
-            × (self.new ≡ record { name = self.old.name; cells = put key_cmp (id.now, lang.now) (record { stamp = stamp; label = None }) self.old.cells })) }
+            × (self.new
+            ≡ record {
+              name = self.old.name;
+              cells =
+                  put key_cmp (id.now, lang.now) (record { stamp = stamp; label = None })
+                  self.old.cells;
+            })) }
         ensures err { IfErr result (RefusesEdit self.old now) }
         ensures left { OnErr result (self.new ≡ self.old) }
     {
@@ -165,7 +178,9 @@ impl Site {
     /// Refused, and then unchanged, by [`CataFault::StampReused`] (13) as [`Catalogue::apply`] is,
     /// and by [`CataFault::NoMemory`] (26).
     pub fn apply(&mut self, alloc: Global, edit: &Edit) -> Result<(), CataFault>
-        ensures ok { OnOk result (self.new ≡ record { name = self.old.name; cells = joined self.old.cells (edit.now ∷ []) }) }
+        ensures ok { OnOk result
+            (self.new
+            ≡ record { name = self.old.name; cells = joined self.old.cells (edit.now ∷ []) }) }
         ensures agree { OnOk result (Agree self.old.cells (edit.now ∷ [])) }
         ensures err { OnErr result (self.new ≡ self.old) }
         ensures fault { IfErr result (IsRefusal self.old.cells (edit.now ∷ [])) }
@@ -178,7 +193,9 @@ impl Site {
 
     /// The stamps of its cells, with its name as owner.
     pub fn summary(&self, alloc: Global) -> Result<Summary, AllocError>
-        ensures { IfOk result (λ summary. summary ≡ record { owner = self.now.name; stamps = summary_of self.now.cells }) }
+        ensures { IfOk result
+            (λ summary. summary
+            ≡ record { owner = self.now.name; stamps = summary_of self.now.cells }) }
     {
         Summary::of(alloc, self.own_name, &self.catalogue)
     }
@@ -186,7 +203,13 @@ impl Site {
     /// The cells whose key the summary lacks or has with an older stamp, for the owner of the
     /// summary.
     pub fn delta_for(&self, alloc: Global, summary: &Summary) -> Result<Delta, AllocError>
-        ensures { IfOk result (λ delta. delta ≡ record { addressee = summary.now.owner; cells = delta_of self.now.cells summary.now.stamps }) }
+        ensures { IfOk result
+            (λ delta. delta
+            ≡ record {
+              addressee = summary.now.owner;
+              cells =
+                  delta_of self.now.cells summary.now.stamps;
+            }) }
     {
         let cells = missing_cells(alloc, &self.catalogue, summary)?;
         Ok(Delta::from_catalogue(summary.owner(), cells))
@@ -199,7 +222,9 @@ impl Site {
     /// [`CataFault::NoMemory`] (26) each key has its old cell, or none as before, or that of the
     /// join.
     pub fn take(&mut self, alloc: Global, delta: &Delta) -> Result<(), CataFault>
-        ensures ok { OnOk result (self.new ≡ record { name = self.old.name; cells = joined self.old.cells delta.now.cells }) }
+        ensures ok { OnOk result
+            (self.new
+            ≡ record { name = self.old.name; cells = joined self.old.cells delta.now.cells }) }
         ensures agree { OnOk result (Agree self.old.cells delta.now.cells) }
         ensures mine { OnOk result (self.old.name ≡ delta.now.addressee) }
         ensures fault { IfErr result (RefusesDelta self.old delta.now) }
@@ -218,7 +243,8 @@ impl Site {
     /// After [`CataFault::NoMemory`] (26) each key has its old cell, or none as before, or that of
     /// the join, so that a repeat gives the join.
     pub fn merge(&mut self, alloc: Global, other: &Catalogue) -> Result<(), CataFault>
-        ensures ok { OnOk result (self.new ≡ record { name = self.old.name; cells = joined self.old.cells other.now }) }
+        ensures ok { OnOk result
+            (self.new ≡ record { name = self.old.name; cells = joined self.old.cells other.now }) }
         ensures agree { OnOk result (Agree self.old.cells other.now) }
         ensures fault { IfErr result (IsRefusal self.old.cells other.now) }
         ensures left { IfErr result (IsLeftSite self.old self.new other.now) }
@@ -234,7 +260,8 @@ impl Site {
         latest: Option<Stamp>,
     ) -> Result<(), CataFault>
         requires { latest ≡ latest_of other.now }
-        ensures ok { OnOk result (self.new ≡ record { name = self.old.name; cells = joined self.old.cells other.now }) }
+        ensures ok { OnOk result
+            (self.new ≡ record { name = self.old.name; cells = joined self.old.cells other.now }) }
         ensures agree { OnOk result (Agree self.old.cells other.now) }
         ensures fault { IfErr result (IsRefusal self.old.cells other.now) }
         ensures left { IfErr result (IsLeftSite self.old self.new other.now) }
@@ -258,7 +285,8 @@ impl Site {
     ) -> Result<(), AllocError>
         requires agree { Agree self.old.cells other.now }
         requires latest { latest ≡ latest_of other.now }
-        ensures ok { OnOk result (self.new ≡ record { name = self.old.name; cells = joined self.old.cells other.now }) }
+        ensures ok { OnOk result
+            (self.new ≡ record { name = self.old.name; cells = joined self.old.cells other.now }) }
         ensures name { self.new.name ≡ self.old.name }
         ensures err { OnErr result (Between self.old.cells self.new.cells other.now) }
     {
@@ -292,7 +320,15 @@ impl Site {
         label: &Label,
     ) -> Result<(), AllocError>
         requires { IsAbove (latest_of self.old.cells) stamp.now }
-        ensures ok { OnOk result (self.new ≡ record { name = self.old.name; cells = put key_cmp (id.now, lang.now) (record { stamp = stamp.now; label = Some label.now }) self.old.cells }) }
+        ensures ok { OnOk result
+            (self.new
+            ≡ record {
+              name = self.old.name;
+              cells =
+                  put key_cmp (id.now, lang.now)
+                  (record { stamp = stamp.now; label = Some label.now })
+                  self.old.cells;
+            }) }
         ensures err { OnErr result (self.new ≡ self.old) }
     {
         let label = label.copy(alloc)?;
@@ -308,7 +344,14 @@ impl Site {
         stamp: &Stamp,
     ) -> Result<(), AllocError>
         requires { IsAbove (latest_of self.old.cells) stamp.now }
-        ensures ok { OnOk result (self.new ≡ record { name = self.old.name; cells = put key_cmp (id.now, lang.now) (record { stamp = stamp.now; label = None }) self.old.cells }) }
+        ensures ok { OnOk result
+            (self.new
+            ≡ record {
+              name = self.old.name;
+              cells =
+                  put key_cmp (id.now, lang.now) (record { stamp = stamp.now; label = None })
+                  self.old.cells;
+            }) }
         ensures err { OnErr result (self.new ≡ self.old) }
     {
         self.write(alloc, id, lang, Cell::new(*stamp, None))
@@ -323,7 +366,13 @@ impl Site {
         cell: Cell,
     ) -> Result<(), AllocError>
         requires { IsAbove (latest_of self.old.cells) cell.stamp }
-        ensures ok { OnOk result (self.new ≡ record { name = self.old.name; cells = put key_cmp (id.now, lang.now) cell self.old.cells }) }
+        ensures ok { OnOk result
+            (self.new
+            ≡ record {
+              name = self.old.name;
+              cells =
+                  put key_cmp (id.now, lang.now) cell self.old.cells;
+            }) }
         ensures err { OnErr result (self.new ≡ self.old) }
     {
         let stamp = cell.stamp();

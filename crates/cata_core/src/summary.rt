@@ -1,6 +1,7 @@
 //! Summaries: the stamps of a site's cells.
 
-ghost use Rattle.std.specs.Prelude.{◌≡◌, ◌++◌, ◌∷◌, [], IfOk, OnOk, OnErr, IsTrue, ◌↔◌, Some, length, slice_get};
+ghost use Rattle.std.specs.Prelude.{◌≡◌, ◌++◌, ◌∷◌, [], IfOk, OnOk, OnErr, IsTrue, ◌↔◌, Some};
+ghost use Rattle.std.specs.Prelude.{length, slice_get};
 ghost use Rattle.std.specs.Option.{option_map};
 ghost use Rattle.cell_core.specs.Maps.{IsMap};
 ghost use Rattle.cata_core.specs.Deltas.{summary_of};
@@ -113,7 +114,8 @@ impl Summary {
 
     /// The key and stamp at a place in rising order of key, from 0; none from `len` on.
     pub fn nth(&self, place: usize) -> Option<(&MessageId, &Lang, Stamp)>
-        ensures { option_map (λ e. ((e.0.now, e.1.now), e.2)) result ≡ slice_get self.now.stamps place }
+        ensures { option_map (λ e. ((e.0.now, e.1.now), e.2)) result
+            ≡ slice_get self.now.stamps place }
     {
         match self.entries.get(place) {
             Some(entry) => Some((&entry.id, &entry.lang, entry.stamp)),
@@ -144,7 +146,13 @@ impl Summary {
     /// When memory runs out (26) the summary is unchanged, and what was passed in is dropped.
     pub fn push(&mut self, id: MessageId, lang: Lang, stamp: Stamp) -> Result<(), AllocError>
         requires { IsAboveAll (id, lang) self.old.stamps }
-        ensures ok { OnOk result (self.new ≡ record { owner = self.old.owner; stamps = self.old.stamps ++ ((id, lang), stamp) ∷ [] }) }
+        ensures ok { OnOk result
+            (self.new
+            ≡ record {
+              owner = self.old.owner;
+              stamps =
+                  self.old.stamps ++ ((id, lang), stamp) ∷ [];
+            }) }
         ensures err { OnErr result (self.new ≡ self.old) }
     {
         self.entries.push(SummaryEntry { id, lang, stamp })?;
@@ -179,7 +187,8 @@ impl Summary {
         owner: SiteName,
         catalogue: &Catalogue,
     ) -> Result<Summary, AllocError>
-        ensures { IfOk result (λ summary. summary ≡ record { owner = owner; stamps = summary_of catalogue.now }) }
+        ensures { IfOk result
+            (λ summary. summary ≡ record { owner = owner; stamps = summary_of catalogue.now }) }
     {
         let mut entries = Vec::new(alloc);
         for (id, lang, cell) in catalogue.iter() {

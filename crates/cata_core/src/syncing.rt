@@ -16,13 +16,18 @@ use std::alloc::Global;
 /// before, or that of the join; the second site is unchanged, or the first has the whole join; and
 /// a repeat gives the join.
 pub fn sync(alloc: Global, first: &mut Site, second: &mut Site) -> Result<(), CataFault>
-    ensures first { OnOk result (first.new ≡ record { name = first.old.name; cells = joined first.old.cells second.old.cells }) }
-    ensures second { OnOk result (second.new ≡ record { name = second.old.name; cells = joined first.old.cells second.old.cells }) }
+    ensures first { OnOk result
+        (first.new
+        ≡ record { name = first.old.name; cells = joined first.old.cells second.old.cells }) }
+    ensures second { OnOk result
+        (second.new
+        ≡ record { name = second.old.name; cells = joined first.old.cells second.old.cells }) }
     ensures agree { OnOk result (Agree first.old.cells second.old.cells) }
     ensures fault { IfErr result (IsRefusal first.old.cells second.old.cells) }
     ensures left_first { IfErr result (IsLeftSite first.old first.new second.old.cells) }
     ensures left_second { IfErr result (IsLeftSite second.old second.new first.old.cells) }
-    ensures one_by_one { OnErr result ((second.new ≡ second.old) ⊎ (first.new.cells ≡ joined first.old.cells second.old.cells)) }
+    ensures one_by_one { OnErr result
+        ((second.new ≡ second.old) ⊎ (first.new.cells ≡ joined first.old.cells second.old.cells)) }
 {
     first.merge_with(alloc, second.catalogue(), second.last())?;
     match second.join(alloc, first.catalogue(), first.last()) {

@@ -1,5 +1,6 @@
 -- Small facts on tests, orderings, options and results.
-use Rattle.std.proofs.Common.{◌≡◌, Bool, true, false, Some, None, Result, Ok, Err, OnErr, sym, refl, true≢false}
+use Rattle.std.proofs.Common.{◌≡◌, Bool, true, false, Some, None, Result, Ok, Err, OnErr, sym, refl}
+use Rattle.std.proofs.Common.{true≢false}
 use Rattle.std.specs.Prelude.{T, ◌&&◌}
 use Rattle.std.specs.declared.cmp.Ordering.{Ordering}
 use Rattle.std.specs.declared.cmp.Ordering.TheVariants.{Less, Equal, Greater}
@@ -12,7 +13,8 @@ then_equal Equal = refl
 then_equal Greater = refl
 
 -- Of three orderings in sequence, it does not matter which two are combined first.
-pub then_assoc : (a b c : Ordering) → ordering_then a (ordering_then b c) ≡ ordering_then (ordering_then a b) c
+pub then_assoc : (a b c : Ordering)
+    → ordering_then a (ordering_then b c) ≡ ordering_then (ordering_then a b) c
 then_assoc Less b c = refl
 then_assoc Equal b c = refl
 then_assoc Greater b c = refl

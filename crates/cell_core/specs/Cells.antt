@@ -35,16 +35,23 @@ joined_cells = later_by (λ c. c.stamp) stamp_cmp
 -- ---- the laws
 
 pub stamp_cmp_total : IsTotalOrder stamp_cmp
-stamp_cmp_total = then_total (on_total (λ s. s.time) nat_cmp_total) (then_total (on_total (λ s. s.site) nat_list_cmp_total) (on_total (λ s. s.count) nat_cmp_total))
+stamp_cmp_total =
+    then_total (on_total (λ s. s.time) nat_cmp_total)
+    (then_total (on_total (λ s. s.site) nat_list_cmp_total) (on_total (λ s. s.count) nat_cmp_total))
 
 -- stamps that compare equal are one
 pub stamp_cmp_exact : (a b : Stamp) → stamp_cmp a b ≡ Equal → a ≡ b
 stamp_cmp_exact a b h =
-    let fields = exact_pairs nat_cmp _ exact_unsigned (exact_pairs (slice_cmp nat_cmp) nat_cmp exact_bytes exact_unsigned) (a.time, (a.site, a.count)) (b.time, (b.site, b.count)) h in
+    let fields =
+    exact_pairs nat_cmp _ exact_unsigned
+    (exact_pairs (slice_cmp nat_cmp) nat_cmp exact_bytes exact_unsigned)
+    (a.time, (a.site, a.count)) (b.time, (b.site, b.count)) h in
     λ i. record { time = (fields i).0; site = (fields i).1.0; count = (fields i).1.1 }
 
 pub stamp_laws : JoinLaws AgreeStamps joined_stamps (IsEitherOf joined_stamps)
-stamp_laws = later_laws (λ s. s) stamp_cmp stamp_cmp_total stamp_cmp_exact AgreeStamps (λ a b _ e. e) (λ a b _. tt)
+stamp_laws =
+    later_laws (λ s. s) stamp_cmp stamp_cmp_total stamp_cmp_exact AgreeStamps (λ a b _ e. e)
+    (λ a b _. tt)
 
 pub cell_laws : JoinLaws AgreeCells joined_cells (IsEitherOf joined_cells)
 cell_laws =

@@ -18,9 +18,10 @@ AllFilled [] = Unit {0}
 AllFilled (c ∷ cs) = (0 < length c.items) × AllFilled cs
 
 -- the chunks are filled, and their entries in order
-pub record IsChunked {K J Z : Type 0} (cmp : K → K → Ordering) (cs : List (Vec (K × J) Z)) : Type 0 where
-  pub map : IsMap cmp (all_of cs)
-  pub filled : AllFilled cs
+pub record IsChunked {K J Z : Type 0} (cmp : K → K → Ordering) (cs : List (Vec (K × J) Z)) : Type 0
+  where
+    pub map : IsMap cmp (all_of cs)
+    pub filled : AllFilled cs
 
 -- the entries, in order
 abbrev pub entries_of : {K J : Type 0} → Chunks K J → List (K × J)
@@ -32,12 +33,14 @@ pub record IsKept {K J : Type 0} (cmp : K → K → Ordering) (chunks : Chunks K
   pub counted : chunks.count ≡ length (entries_of chunks)
 
 -- the keys in front are lesser, and those behind are greater
-pub record IsChunkFor {K J Z : Type 0} (cmp : K → K → Ordering) (key : K) (cs : List (Vec (K × J) Z)) (at : ℕ) : Type 0 where
+pub record IsChunkFor {K J Z : Type 0} (cmp : K → K → Ordering) (key : K)
+    (cs : List (Vec (K × J) Z)) (at : ℕ) : Type 0 where
   pub in_range : at < length cs
   pub front : place_of cmp key (all_of (take at cs)) ≡ length (all_of (take at cs))
   pub back : T (below_all cmp key (all_of (drop (suc at) cs)))
 
 -- each of the entries goes to this chunk
-pub record IsRunFor {K J Z : Type 0} (cmp : K → K → Ordering) (es : List (K × J)) (cs : List (Vec (K × J) Z)) (at : ℕ) : Type 0 where
+pub record IsRunFor {K J Z : Type 0} (cmp : K → K → Ordering) (es : List (K × J))
+    (cs : List (Vec (K × J) Z)) (at : ℕ) : Type 0 where
   pub in_range : at < length cs
   pub fits : (q : K) (v : J) → find cmp q es ≡ Some v → IsChunkFor cmp q cs at

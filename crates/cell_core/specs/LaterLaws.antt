@@ -30,8 +30,10 @@ level_of Less e f = absurd (true≢false e)
 level_of Equal e f = refl
 level_of Greater e f = absurd (true≢false f)
 
-module _ {X S : Type 0} (mark : X → S) (cmp : S → S → Ordering) (total : IsTotalOrder cmp) (exact : (s t : S) → cmp s t ≡ Equal → s ≡ t)
-    (agree : X → X → Type 0) (means : (a b : X) → agree a b → mark a ≡ mark b → a ≡ b) (from : (a b : X) → (mark a ≡ mark b → a ≡ b) → agree a b) where
+module _ {X S : Type 0} (mark : X → S) (cmp : S → S → Ordering) (total : IsTotalOrder cmp)
+    (exact : (s t : S) → cmp s t ≡ Equal → s ≡ t)
+    (agree : X → X → Type 0) (means : (a b : X) → agree a b → mark a ≡ mark b → a ≡ b)
+    (from : (a b : X) → (mark a ≡ mark b → a ≡ b) → agree a b) where
   abbrev lt : X → X → Bool
   lt a b = is_lt (cmp (mark a) (mark b))
 
@@ -51,10 +53,13 @@ module _ {X S : Type 0} (mark : X → S) (cmp : S → S → Ordering) (total : I
   gt_back a b = turned_gt (cmp (mark a) (mark b)) ∙ ap is_lt (sym (back a b))
 
   not_lt_trans : (a b c : X) → lt a b ≡ false → lt b c ≡ false → lt a c ≡ false
-  not_lt_trans a b c g h = sym (gt_back c a) ∙ upto total (mark c) (mark b) (mark a) (gt_back c b ∙ h) (gt_back b a ∙ g)
+  not_lt_trans a b c g h =
+      sym (gt_back c a) ∙ upto total (mark c) (mark b) (mark a) (gt_back c b ∙ h) (gt_back b a ∙ g)
 
   same_of : (a b : X) → agree a b → lt a b ≡ false → lt b a ≡ false → a ≡ b
-  same_of a b h p q = means a b h (exact (mark a) (mark b) (level_of (cmp (mark a) (mark b)) p (ap is_lt (sym (back a b)) ∙ q)))
+  same_of a b h p q =
+      means a b h
+      (exact (mark a) (mark b) (level_of (cmp (mark a) (mark b)) p (ap is_lt (sym (back a b)) ∙ q)))
 
   alike : (a : X) → agree a a
   alike a = from a a (λ _. refl)
@@ -69,7 +74,10 @@ module _ {X S : Type 0} (mark : X → S) (cmp : S → S → Ordering) (total : I
   join_comm a b h =
       elim (lt a b) as (λ t. lt a b ≡ t → cond t b a ≡ joined b a) [
         | true ↦ λ p. ap (λ t. cond t a b) (sym (lt_back a b p))
-        | false ↦ λ p. elim (lt b a) as (λ u. lt b a ≡ u → a ≡ cond u a b) [ true ↦ λ q. refl | false ↦ λ q. same_of a b h p q ] refl
+        | false ↦
+            λ p. elim (lt b a) as
+            (λ u. lt b a ≡ u → a ≡ cond u a b) [ true ↦ λ q. refl | false ↦ λ q. same_of a b h p q ]
+            refl
       ] refl
 
   join_assoc : (a b c : X) → joined (joined a b) c ≡ joined a (joined b c)
@@ -81,7 +89,8 @@ module _ {X S : Type 0} (mark : X → S) (cmp : S → S → Ordering) (total : I
         ] refl
         | false ↦ λ p. elim (lt b c) as (λ u. lt b c ≡ u → joined a c ≡ joined a (cond u c b)) [
           | true ↦ λ q. refl
-          | false ↦ λ q. ap (λ t. cond t c a) (not_lt_trans a b c p q) ∙ ap (λ t. cond t b a) (sym p)
+          | false ↦
+              λ q. ap (λ t. cond t c a) (not_lt_trans a b c p q) ∙ ap (λ t. cond t b a) (sym p)
         ] refl
       ] refl
 
@@ -106,11 +115,15 @@ module _ {X S : Type 0} (mark : X → S) (cmp : S → S → Ordering) (total : I
     between_last = λ a b h. inr refl;
     between_above = λ a x b h k. elim k as (λ _. IsBelow agree joined a x) [
       | inl e ↦ subst (λ y. IsBelow agree joined a y) (sym e) (alike a, join_idem a)
-      | inr e ↦ subst (λ y. IsBelow agree joined a y) (sym e) (join_agrees a a b (alike a) h, join_above a b)
+      | inr e ↦
+          subst (λ y. IsBelow agree joined a y) (sym e)
+          (join_agrees a a b (alike a) h, join_above a b)
     ];
     between_agrees = λ a x b h k. elim k as (λ _. agree x b) [
       | inl e ↦ subst (λ y. agree y b) (sym e) h
-      | inr e ↦ subst (λ y. agree y b) (sym e) (symm b (joined a b) (join_agrees b a b (symm a b h) (alike b)))
+      | inr e ↦
+          subst (λ y. agree y b) (sym e)
+          (symm b (joined a b) (join_agrees b a b (symm a b h) (alike b)))
     ];
     between_joins = λ a x b h k. elim k as (λ _. joined x b ≡ joined a b) [
       | inl e ↦ ap (λ y. joined y b) e

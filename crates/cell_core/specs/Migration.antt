@@ -51,7 +51,8 @@ abbrev pub migrated_cell : OldCell → Cell
 migrated_cell c = record { stamp = migrated_stamp c.stamp; label = c.label }
 
 -- what is joined before the migration and what is joined after it are the same, and agree alike
-pub record KeepsJoins {X Y : Type 0} (migrated : X → Y) (agree_old : X → X → Type 0) (joined_old : X → X → X) (agree : Y → Y → Type 0) (joined : Y → Y → Y) (a b : X) : Type 0 where
+pub record KeepsJoins {X Y : Type 0} (migrated : X → Y) (agree_old : X → X → Type 0)
+    (joined_old : X → X → X) (agree : Y → Y → Type 0) (joined : Y → Y → Y) (a b : X) : Type 0 where
   pub agrees : agree_old a b → agree (migrated a) (migrated b)
   pub agreed : agree (migrated a) (migrated b) → agree_old a b
   pub joins : agree_old a b → migrated (joined_old a b) ≡ joined (migrated a) (migrated b)

@@ -1,7 +1,8 @@
 -- The numbers of the refusals (project rule).
 use Rattle.std.specs.Prelude.{ℕ}
 use Rattle.cell_core.specs.declared.fault.CellFault.{CellFault}
-use Rattle.cell_core.specs.declared.fault.CellFault.TheVariants.{IdRefused, TextTooLong, LabelCount, ClockSpent, NoMemory, SiteName}
+use Rattle.cell_core.specs.declared.fault.CellFault.TheVariants.{IdRefused, TextTooLong, LabelCount}
+use Rattle.cell_core.specs.declared.fault.CellFault.TheVariants.{ClockSpent, NoMemory, SiteName}
 
 abbrev pub number_of : CellFault → ℕ
 number_of IdRefused = 10

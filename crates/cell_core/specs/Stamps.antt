@@ -7,8 +7,11 @@ use Rattle.std.specs.declared.cmp.Ordering.TheVariants.{Less, Greater}
 use Rattle.cell_core.specs.declared.stamp.Stamp.{Stamp}
 
 -- by time, then by site in the order of sites, then by count
-abbrev pub by_time_site_count : {T S : Type 0} → (T → ℕ) → (T → S) → (T → ℕ) → (S → S → Ordering) → T → T → Ordering
-by_time_site_count time site count sites a b = ordering_then (nat_cmp (time a) (time b)) (ordering_then (sites (site a) (site b)) (nat_cmp (count a) (count b)))
+abbrev pub by_time_site_count : {T S : Type 0} → (T → ℕ) → (T → S) → (T → ℕ) → (S → S → Ordering)
+    → T → T → Ordering
+by_time_site_count time site count sites a b =
+    ordering_then (nat_cmp (time a) (time b))
+    (ordering_then (sites (site a) (site b)) (nat_cmp (count a) (count b)))
 
 -- sites by the bytes of their names
 abbrev pub stamp_cmp : Stamp → Stamp → Ordering

@@ -20,7 +20,9 @@ pub(crate) fn agree_chunks<K: Key, J: Join>(mine: &[Vec<(K, J)>], theirs: &[Vec<
     requires mine { IsChunked K.cmp mine.now }
     requires theirs { IsChunked K.cmp theirs.now }
     ensures { IsTrue result
-        ↔ ((q : K) → AgreeIfBoth J.agree (find K.cmp q (all_of mine.now)) (find K.cmp q (all_of theirs.now))) }
+        ↔ ((q : K)
+        → AgreeIfBoth J.agree (find K.cmp q (all_of mine.now))
+        (find K.cmp q (all_of theirs.now))) }
 {
     if theirs.is_empty() {
         return true;
@@ -29,26 +31,6 @@ pub(crate) fn agree_chunks<K: Key, J: Join>(mine: &[Vec<(K, J)>], theirs: &[Vec<
         if !agree_all_of(pairs, theirs) {
             return false;
         }
-    }
-    true
-}
-
-/// Whether the values of common keys agree, of entries side by side.
-fn agree_all_of<K: Key, J: Join>(pairs: &[(K, J)], theirs: &[Vec<(K, J)>]) -> bool
-    requires pairs { IsMap K.cmp pairs.now }
-    requires theirs { IsChunked K.cmp theirs.now }
-    requires some { 0 < length theirs.now }
-    ensures { IsTrue result
-        ↔ ((q : K) → AgreeIfBoth J.agree (find K.cmp q pairs.now) (find K.cmp q (all_of theirs.now))) }
-{
-    let mut from = 0;
-    while from < pairs.len() {
-        let rest = &pairs[from..];
-        let (at, end) = first_run(theirs, rest);
-        if !agree_pairs(&rest[..end], &theirs[at]) {
-            return false;
-        }
-        from += end;
     }
     true
 }
@@ -62,15 +44,42 @@ pub(crate) fn join_chunks<K: Key, J: Join>(
     requires some { 0 < vec_len chunks.old.list }
     requires kept { IsKept K.cmp chunks.old }
     requires theirs { IsChunked K.cmp theirs.now }
-    requires agree { (q : K) → AgreeIfBoth J.agree (find K.cmp q (entries_of chunks.old)) (find K.cmp q (all_of theirs.now)) }
+    requires agree { (q : K)
+        → AgreeIfBoth J.agree (find K.cmp q (entries_of chunks.old))
+        (find K.cmp q (all_of theirs.now)) }
     ensures kept { IsKept K.cmp chunks.new }
-    ensures ok { OnOk result (IsJoinedWith K.cmp J.joined (entries_of chunks.old) (all_of theirs.now) (entries_of chunks.new)) }
-    ensures err { OnErr result (BetweenAtKeys K.cmp J.between (entries_of chunks.old) (entries_of chunks.new) (all_of theirs.now)) }
+    ensures ok { OnOk result
+        (IsJoinedWith K.cmp J.joined (entries_of chunks.old) (all_of theirs.now)
+        (entries_of chunks.new)) }
+    ensures err { OnErr result
+        (BetweenAtKeys K.cmp J.between (entries_of chunks.old) (entries_of chunks.new)
+        (all_of theirs.now)) }
 {
     for pairs in theirs {
         join_all_of(chunks, alloc, pairs)?;
     }
     Ok(())
+}
+
+/// Whether the values of common keys agree, of entries side by side.
+fn agree_all_of<K: Key, J: Join>(pairs: &[(K, J)], theirs: &[Vec<(K, J)>]) -> bool
+    requires pairs { IsMap K.cmp pairs.now }
+    requires theirs { IsChunked K.cmp theirs.now }
+    requires some { 0 < length theirs.now }
+    ensures { IsTrue result
+        ↔ ((q : K)
+        → AgreeIfBoth J.agree (find K.cmp q pairs.now) (find K.cmp q (all_of theirs.now))) }
+{
+    let mut from = 0;
+    while from < pairs.len() {
+        let rest = &pairs[from..];
+        let (at, end) = first_run(theirs, rest);
+        if !agree_pairs(&rest[..end], &theirs[at]) {
+            return false;
+        }
+        from += end;
+    }
+    true
 }
 
 /// Joins entries that lie side by side to the chunks, and counts those that are new.
@@ -82,11 +91,14 @@ fn join_all_of<K: Key, J: Join>(
     requires some { 0 < vec_len chunks.old.list }
     requires kept { IsKept K.cmp chunks.old }
     requires pairs { IsMap K.cmp pairs.now }
-    requires agree { (q : K) → AgreeIfBoth J.agree (find K.cmp q (entries_of chunks.old)) (find K.cmp q pairs.now) }
+    requires agree { (q : K)
+        → AgreeIfBoth J.agree (find K.cmp q (entries_of chunks.old)) (find K.cmp q pairs.now) }
     ensures some { 0 < vec_len chunks.new.list }
     ensures kept { IsKept K.cmp chunks.new }
-    ensures ok { OnOk result (IsJoinedWith K.cmp J.joined (entries_of chunks.old) pairs.now (entries_of chunks.new)) }
-    ensures err { OnErr result (BetweenAtKeys K.cmp J.between (entries_of chunks.old) (entries_of chunks.new) pairs.now) }
+    ensures ok { OnOk result
+        (IsJoinedWith K.cmp J.joined (entries_of chunks.old) pairs.now (entries_of chunks.new)) }
+    ensures err { OnErr result
+        (BetweenAtKeys K.cmp J.between (entries_of chunks.old) (entries_of chunks.new) pairs.now) }
 {
     let mut from = 0;
     while from < pairs.len() {
@@ -105,12 +117,16 @@ fn join_first_run<K: Key, J: Join>(
     requires kept { IsKept K.cmp chunks.old }
     requires pairs { IsMap K.cmp pairs.now }
     requires more { 0 < length pairs.now }
-    requires agree { (q : K) → AgreeIfBoth J.agree (find K.cmp q (entries_of chunks.old)) (find K.cmp q pairs.now) }
+    requires agree { (q : K)
+        → AgreeIfBoth J.agree (find K.cmp q (entries_of chunks.old)) (find K.cmp q pairs.now) }
     ensures some { 0 < vec_len chunks.new.list }
     ensures kept { IsKept K.cmp chunks.new }
     ensures end { IfOk result (λ end. (0 < end) × (end ≤ length pairs.now)) }
-    ensures ok { IfOk result (λ end. IsJoinedWith K.cmp J.joined (entries_of chunks.old) (take end pairs.now) (entries_of chunks.new)) }
-    ensures err { OnErr result (BetweenAtKeys K.cmp J.between (entries_of chunks.old) (entries_of chunks.new) pairs.now) }
+    ensures ok { IfOk result
+        (λ end. IsJoinedWith K.cmp J.joined (entries_of chunks.old) (take end pairs.now)
+        (entries_of chunks.new)) }
+    ensures err { OnErr result
+        (BetweenAtKeys K.cmp J.between (entries_of chunks.old) (entries_of chunks.new) pairs.now) }
 {
     let (at, end) = first_run(&chunks.list, pairs);
     join_pairs(

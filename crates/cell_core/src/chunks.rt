@@ -1,14 +1,16 @@
 //! Entries in rising order of their keys, in chunks: a new key moves the entries of one chunk
 //! alone.
 
-ghost use Rattle.std.specs.Prelude.{◌≡◌, ◌+◌, ◌-◌, ◌<◌, ◌≤◌, ◌∷◌, ◌++◌, [], IfOk, IfErr, OnOk, IsOk, IsSome, IsTrue, false, length, slice_get};
+ghost use Rattle.std.specs.Prelude.{◌≡◌, ◌+◌, ◌-◌, ◌<◌, ◌≤◌, ◌∷◌, ◌++◌, [], IfOk, IfErr, OnOk};
+ghost use Rattle.std.specs.Prelude.{IsOk, IsSome, IsTrue, false, length, slice_get};
 ghost use Rattle.std.specs.Option.{option_copied};
 ghost use Rattle.std.specs.FinMap.Entries.{find, put};
 ghost use Rattle.std.specs.Vec.{vec_len, vec_capacity};
 ghost use Rattle.cell_core.specs.Above.{IsAboveAll};
 ghost use Rattle.cell_core.specs.Maps.{IsMap};
 ghost use Rattle.cell_core.specs.Places.{IsGap};
-ghost use Rattle.cell_core.specs.Chunks.{all_of, entries_of, AllFilled, IsChunked, IsChunkFor, IsKept};
+ghost use Rattle.cell_core.specs.Chunks.{all_of, entries_of, AllFilled, IsChunked, IsChunkFor};
+ghost use Rattle.cell_core.specs.Chunks.{IsKept};
 
 use crate::join::Join;
 use crate::key::{Key, Query};
@@ -60,7 +62,8 @@ pub(crate) fn chunk_from_last<K: Key, J>(chunks: &[Vec<(K, J)>], key: &K) -> usi
 /// The last entry of all chunks.
 pub(crate) fn last_pair<K, J>(chunks: &[Vec<(K, J)>]) -> Option<&(K, J)>
     requires { AllFilled chunks.now }
-    ensures { option_copied result ≡ slice_get (all_of chunks.now) (length (all_of chunks.now) - 1) }
+    ensures { option_copied result
+        ≡ slice_get (all_of chunks.now) (length (all_of chunks.now) - 1) }
 {
     match chunks.last() {
         Some(chunk) => chunk.last(),
@@ -98,17 +101,6 @@ pub(crate) fn copy_chunks<K: Key, J: Join>(
     Ok(copied)
 }
 
-/// Equal pairs.
-fn copy_pairs<K: Key, J: Join>(alloc: Global, pairs: &[(K, J)]) -> Result<Vec<(K, J)>, AllocError>
-    ensures { IfOk result (λ copied. copied.items ≡ pairs.now) }
-{
-    let mut copied = Vec::with_capacity(alloc, pairs.len())?;
-    for (key, value) in pairs {
-        copied.push((key.copy(alloc)?, value.copy(alloc)?))?;
-    }
-    Ok(copied)
-}
-
 /// Gives the key the value; if a new key cannot be stored, the pair is returned.
 pub(crate) fn put_pair<K: Key, J: Drop>(
     chunks: &mut Chunks<K, J>,
@@ -118,7 +110,8 @@ pub(crate) fn put_pair<K: Key, J: Drop>(
     requires { IsKept K.cmp chunks.old }
     ensures kept { IsKept K.cmp chunks.new }
     ensures ok { OnOk result (entries_of chunks.new ≡ put K.cmp key value (entries_of chunks.old)) }
-    ensures err { IfErr result (λ pair. (pair ≡ (key, value)) × (entries_of chunks.new ≡ entries_of chunks.old)) }
+    ensures err { IfErr result
+        (λ pair. (pair ≡ (key, value)) × (entries_of chunks.new ≡ entries_of chunks.old)) }
     ensures held { IsSome (find K.cmp key (entries_of chunks.old)) → IsOk result }
 {
     if is_above_all(&chunks.list, &key) {
@@ -139,7 +132,8 @@ pub(crate) fn put_pair<K: Key, J: Drop>(
 /// Whether the key is greater than all that are there.
 pub(crate) fn is_above_all<K: Key, J>(chunks: &[Vec<(K, J)>], key: &K) -> bool
     requires { IsChunked K.cmp chunks.now }
-    ensures above { IsTrue result → IsGap K.cmp key.now (all_of chunks.now) (length (all_of chunks.now)) }
+    ensures above { IsTrue result
+        → IsGap K.cmp key.now (all_of chunks.now) (length (all_of chunks.now)) }
     ensures below { IsAboveAll K.cmp key.now (all_of chunks.now) → IsTrue result }
     ensures some { result ≡ false → 0 < length chunks.now }
 {
@@ -159,7 +153,8 @@ pub(crate) fn append<K: Key, J: Drop>(
     requires above { IsGap K.cmp key (entries_of chunks.old) (length (entries_of chunks.old)) }
     ensures kept { IsKept K.cmp chunks.new }
     ensures ok { OnOk result (entries_of chunks.new ≡ put K.cmp key value (entries_of chunks.old)) }
-    ensures err { IfErr result (λ pair. (pair ≡ (key, value)) × (entries_of chunks.new ≡ entries_of chunks.old)) }
+    ensures err { IfErr result
+        (λ pair. (pair ≡ (key, value)) × (entries_of chunks.new ≡ entries_of chunks.old)) }
 {
     let Some(total) = chunks.count.checked_add(1) else {
         return Err((key, value));
@@ -173,12 +168,37 @@ pub(crate) fn append<K: Key, J: Drop>(
     }
 }
 
+/// Splits a full chunk into halves; if that cannot allocate, it stays as it is.
+pub(crate) fn cut_if_full<K: Key, J: Drop>(chunks: &mut Vec<Vec<(K, J)>>, at: usize)
+    requires at { at < vec_len chunks.old }
+    requires chunked { IsChunked K.cmp chunks.old.items }
+    ensures some { 0 < vec_len chunks.new }
+    ensures same { all_of chunks.new.items ≡ all_of chunks.old.items }
+    ensures chunked { IsChunked K.cmp chunks.new.items }
+{
+    if chunks[at].len() >= FULL {
+        let _ = cut(chunks, at);
+    }
+}
+
+/// Equal pairs.
+fn copy_pairs<K: Key, J: Join>(alloc: Global, pairs: &[(K, J)]) -> Result<Vec<(K, J)>, AllocError>
+    ensures { IfOk result (λ copied. copied.items ≡ pairs.now) }
+{
+    let mut copied = Vec::with_capacity(alloc, pairs.len())?;
+    for (key, value) in pairs {
+        copied.push((key.copy(alloc)?, value.copy(alloc)?))?;
+    }
+    Ok(copied)
+}
+
 /// Appends an item, in a new chunk where the last one is full.
 fn push_last<T: Drop>(chunks: &mut Vec<Vec<T>>, item: T) -> Result<(), T>
     requires { AllFilled chunks.old.items }
     ensures filled { AllFilled chunks.new.items }
     ensures ok { OnOk result (all_of chunks.new.items ≡ all_of chunks.old.items ++ item ∷ []) }
-    ensures err { IfErr result (λ back. (back ≡ item) × (all_of chunks.new.items ≡ all_of chunks.old.items)) }
+    ensures err { IfErr result
+        (λ back. (back ≡ item) × (all_of chunks.new.items ≡ all_of chunks.old.items)) }
 {
     let len = chunks.len();
     if len == 0 || chunks[len - 1].len() + 1 >= FULL {
@@ -220,7 +240,8 @@ fn push_chunk<T: Drop>(chunks: &mut Vec<Vec<T>>, item: T) -> Result<(), T>
     requires { AllFilled chunks.old.items }
     ensures filled { AllFilled chunks.new.items }
     ensures ok { OnOk result (all_of chunks.new.items ≡ all_of chunks.old.items ++ item ∷ []) }
-    ensures err { IfErr result (λ back. (back ≡ item) × (all_of chunks.new.items ≡ all_of chunks.old.items)) }
+    ensures err { IfErr result
+        (λ back. (back ≡ item) × (all_of chunks.new.items ≡ all_of chunks.old.items)) }
 {
     let room = if chunks.is_empty() { 1 } else { FULL };
     match make_room(chunks) {
@@ -247,7 +268,8 @@ fn put_in<K: Key, J: Drop>(
     requires { IsMap K.cmp pairs.old.items }
     ensures count { count.new + vec_len pairs.old ≡ count.old + vec_len pairs.new }
     ensures ok { OnOk result (pairs.new.items ≡ put K.cmp key value pairs.old.items) }
-    ensures err { IfErr result (λ pair. (pair ≡ (key, value)) × (pairs.new.items ≡ pairs.old.items)) }
+    ensures err { IfErr result
+        (λ pair. (pair ≡ (key, value)) × (pairs.new.items ≡ pairs.old.items)) }
     ensures held { IsSome (find K.cmp key pairs.old.items) → IsOk result }
 {
     match bisect(pairs, &key) {
@@ -271,19 +293,6 @@ fn put_in<K: Key, J: Drop>(
                 Err(failed) => Err(failed.value),
             }
         }
-    }
-}
-
-/// Splits a full chunk into halves; if that cannot allocate, it stays as it is.
-pub(crate) fn cut_if_full<K: Key, J: Drop>(chunks: &mut Vec<Vec<(K, J)>>, at: usize)
-    requires at { at < vec_len chunks.old }
-    requires chunked { IsChunked K.cmp chunks.old.items }
-    ensures some { 0 < vec_len chunks.new }
-    ensures same { all_of chunks.new.items ≡ all_of chunks.old.items }
-    ensures chunked { IsChunked K.cmp chunks.new.items }
-{
-    if chunks[at].len() >= FULL {
-        let _ = cut(chunks, at);
     }
 }
 

@@ -22,11 +22,13 @@ pub(crate) fn join_pairs<K: Key, J: Join>(
 ) -> Result<(), AllocError>
     requires pairs { IsMap K.cmp pairs.old.items }
     requires run { IsMap K.cmp run.now }
-    requires agree { (q : K) → AgreeIfBoth J.agree (find K.cmp q pairs.old.items) (find K.cmp q run.now) }
+    requires agree { (q : K)
+        → AgreeIfBoth J.agree (find K.cmp q pairs.old.items) (find K.cmp q run.now) }
     ensures grows { vec_len pairs.old ≤ vec_len pairs.new }
     ensures count { count.new + vec_len pairs.old ≡ count.old + vec_len pairs.new }
     ensures ok { OnOk result (IsJoinedWith K.cmp J.joined pairs.old.items run.now pairs.new.items) }
-    ensures err { OnErr result (BetweenAtKeys K.cmp J.between pairs.old.items pairs.new.items run.now) }
+    ensures err { OnErr result
+        (BetweenAtKeys K.cmp J.between pairs.old.items pairs.new.items run.now) }
 {
     let missing = join_common(pairs, alloc, run)?;
     let Some(total) = count.checked_add(missing.len()) else {
@@ -69,13 +71,17 @@ fn interleave<K: Key, J: Drop>(
 )
     requires map { IsMap K.cmp (pairs.old.items ++ into_iter_items tail) }
     requires sorted { IsMap K.cmp (pairs_of (into_iter_items missing)) }
-    requires gaps { AllGaps K.cmp (pairs.old.items ++ into_iter_items tail) 0 (into_iter_items missing) }
+    requires gaps { AllGaps K.cmp (pairs.old.items ++ into_iter_items tail) 0
+        (into_iter_items missing) }
     requires ahead { AllFrom (vec_len pairs.old) (into_iter_items missing) }
-    requires room { vec_len pairs.old + into_iter_len tail + into_iter_len missing ≤ vec_capacity pairs.old }
+    requires room { vec_len pairs.old + into_iter_len tail + into_iter_len missing
+        ≤ vec_capacity pairs.old }
     ensures map { IsMap K.cmp pairs.new.items }
-    ensures len { vec_len pairs.new ≡ vec_len pairs.old + into_iter_len tail + into_iter_len missing }
+    ensures len { vec_len pairs.new
+        ≡ vec_len pairs.old + into_iter_len tail + into_iter_len missing }
     ensures at { (q : K) → find K.cmp q pairs.new.items
-        ≡ or_other (find K.cmp q (pairs.old.items ++ into_iter_items tail)) (find K.cmp q (pairs_of (into_iter_items missing))) }
+        ≡ or_other (find K.cmp q (pairs.old.items ++ into_iter_items tail))
+        (find K.cmp q (pairs_of (into_iter_items missing))) }
 {
     let mut moved = pairs.len();
     while let Some((place, pair)) = missing.next() {
@@ -91,7 +97,8 @@ fn interleave<K: Key, J: Drop>(
 fn move_front<T: Drop>(items: &mut Vec<T>, tail: &mut IntoIter<T, Global>, count: usize)
     requires there { count ≤ into_iter_len tail.old }
     requires room { vec_len items.old + count ≤ vec_capacity items.old }
-    ensures items { items.new.items ++ into_iter_items tail.new ≡ items.old.items ++ into_iter_items tail.old }
+    ensures items { items.new.items ++ into_iter_items tail.new
+        ≡ items.old.items ++ into_iter_items tail.old }
     ensures len { vec_len items.new ≡ vec_len items.old + count }
     ensures capacity { vec_capacity items.new ≡ vec_capacity items.old }
     ensures left { into_iter_len tail.new + count ≡ into_iter_len tail.old }

@@ -1,6 +1,7 @@
 //! What joins: values of which two that agree have a least value above both.
 
-ghost use Rattle.std.specs.Prelude.{◌≡◌, ◌↔◌, IfOk, OnOk, OnErr, IsTrue, IfSome, AllPairs, List, Option};
+ghost use Rattle.std.specs.Prelude.{◌≡◌, ◌↔◌, IfOk, OnOk, OnErr, IsTrue, IfSome, AllPairs, List};
+ghost use Rattle.std.specs.Prelude.{Option};
 ghost use Rattle.std.specs.List.Sorted.{IsPermutation};
 ghost use Rattle.cell_core.specs.Joins.{JoinLaws, IsJoinOf, IsJoinOfAll};
 

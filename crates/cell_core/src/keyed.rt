@@ -1,6 +1,7 @@
 //! Maps from keys to values that join, in rising order of the keys.
 
-ghost use Rattle.std.specs.Prelude.{◌≡◌, ◌-◌, ◌↔◌, ◌∷◌, ◌++◌, [], IsTrue, IfErr, OnOk, IsOk, IsSome};
+ghost use Rattle.std.specs.Prelude.{◌≡◌, ◌-◌, ◌↔◌, ◌∷◌, ◌++◌, [], IsTrue, IfErr, OnOk, IsOk};
+ghost use Rattle.std.specs.Prelude.{IsSome};
 ghost use Rattle.std.specs.Prelude.{length, slice_get};
 ghost use Rattle.std.specs.Option.{option_copied, option_copied_mut, option_map};
 ghost use Rattle.std.specs.Borrow.{LendsIf, sem};
@@ -103,7 +104,8 @@ impl<K: Key, J> Keyed<K, J> {
 
     /// The entry with the greatest key; none where the map is empty.
     pub fn last(&self) -> Option<(&K, &J)>
-        ensures entry { option_map (λ e. (e.0.now, e.1.now)) result ≡ slice_get self.now (length self.now - 1) }
+        ensures entry { option_map (λ e. (e.0.now, e.1.now)) result
+            ≡ slice_get self.now (length self.now - 1) }
         ensures map { IsMap K.cmp self.now }
     {
         match last_pair(&self.chunks.list) {
@@ -126,7 +128,8 @@ impl<K: Key, J> Keyed<K, J> {
     /// The entry of the key that the query represents, if the map has it: so a language is found by
     /// its text, without memory for a key.
     pub fn get_by<Q: Query<K>>(&self, query: Q) -> Option<(&K, &J)>
-        ensures entry { option_map (λ e. (e.0.now, e.1.now)) result ≡ with_key (Q.sought query) (find K.cmp (Q.sought query) self.now) }
+        ensures entry { option_map (λ e. (e.0.now, e.1.now)) result
+            ≡ with_key (Q.sought query) (find K.cmp (Q.sought query) self.now) }
         ensures map { IsMap K.cmp self.now }
     {
         if self.chunks.list.is_empty() {
@@ -148,7 +151,11 @@ impl<K: Key, J> Keyed<K, J> {
     ///
     /// The greatest key, and one above it, are looked for first.
     pub fn get_mut(&mut self, key: &K) -> Option<&mut J>
-        ensures* lends { sem 𝓛 (LendsIf (the_row K.row J.row (record { cmp = K.cmp }) (record { eq = K.eq }) (record { partial_cmp = K.partial_cmp })) J.row self.entry result (λ w. put K.cmp key.now w self.old) self.old) }
+        ensures* lends { sem 𝓛
+            (LendsIf
+            (the_row K.row J.row (record { cmp = K.cmp }) (record { eq = K.eq })
+            (record { partial_cmp = K.partial_cmp })) J.row self.entry result
+            (λ w. put K.cmp key.now w self.old) self.old) }
         ensures value { option_copied_mut result ≡ find K.cmp key.now self.old }
         ensures map { IsMap K.cmp self.old }
     {
@@ -216,7 +223,8 @@ impl<K: Key, J: PartialEq> PartialEq for Keyed<K, J> {
 
     ghost eq = { pointwise (λ p q. K.eq p.0 q.0 && J.eq p.1 q.1) };
 
-    ghost laws = { lists_per (and_per (on_per (λ p. p.0) K.PartialEq.laws) (on_per (λ p. p.1) J.laws)) };
+    ghost laws = { lists_per
+        (and_per (on_per (λ p. p.0) K.PartialEq.laws) (on_per (λ p. p.1) J.laws)) };
 
     fn eq(&self, other: &Self) -> bool {
         other.chunks.count == self.chunks.count && are_equal(self.iter(), other.iter())
@@ -227,7 +235,8 @@ impl<K: Key, J: Eq> Eq for Keyed<K, J> {
     ghost use Rattle.std.specs.Cmp.{and_equiv, on_equiv};
     ghost use Rattle.std.specs.Cmp.Lexicographic.{lists_equiv};
 
-    ghost laws = { lists_equiv (and_equiv (on_equiv (λ p. p.0) K.Eq.laws) (on_equiv (λ p. p.1) J.Eq.laws)) };
+    ghost laws = { lists_equiv
+        (and_equiv (on_equiv (λ p. p.0) K.Eq.laws) (on_equiv (λ p. p.1) J.Eq.laws)) };
 }
 
 /// Lists the entries, in rising order of the keys.

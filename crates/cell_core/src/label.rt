@@ -1,6 +1,7 @@
 //! Labels: the texts of a message in one language.
 
-ghost use Rattle.std.specs.Prelude.{◌≡◌, ◌∷◌, ◌↔◌, [], IfOk, IsTrue, MatchResult, length, nat_eq, Some, None};
+ghost use Rattle.std.specs.Prelude.{◌≡◌, ◌∷◌, ◌↔◌, [], IfOk, IsTrue, MatchResult, length, nat_eq};
+ghost use Rattle.std.specs.Prelude.{Some, None};
 ghost use Rattle.std.specs.List.{position};
 ghost use Rattle.std.specs.String.{string_bytes};
 ghost use Rattle.std.specs.Cmp as laws_of;

@@ -8,7 +8,10 @@ ghost use Rattle.cell_core.specs.SiteNames.{IsSiteName, padded_name};
 ghost use Rattle.cell_core.specs.ZeroPadded.{zero_padded};
 ghost use Rattle.cell_core.specs.Stamps.{stamp_cmp};
 ghost use Rattle.cell_core.specs.Cells.{AgreeStamps, joined_stamps, AgreeCells, joined_cells};
-ghost use Rattle.cell_core.specs.Migration.{OldStamp, IsOldStamp, OldCell, old_stamp_cmp, AgreeOldStamps, joined_old_stamps, AgreeOldCells, joined_old_cells, migrated_stamp, migrated_cell, KeepsJoins};
+ghost use Rattle.cell_core.specs.Migration.{OldStamp, IsOldStamp, OldCell, old_stamp_cmp};
+ghost use Rattle.cell_core.specs.Migration.{AgreeOldStamps, joined_old_stamps, AgreeOldCells};
+ghost use Rattle.cell_core.specs.Migration.{joined_old_cells, migrated_stamp, migrated_cell};
+ghost use Rattle.cell_core.specs.Migration.{KeepsJoins};
 
 use crate::stamp::Stamp;
 

@@ -5,10 +5,12 @@ ghost use Rattle.std.specs.Prelude.{length, nat_eq, Some, refl};
 ghost use Rattle.std.specs.Fmt.{padded};
 ghost use Rattle.std.specs.Ordering.{nat_cmp};
 ghost use Rattle.std.specs.Cmp as laws_of;
-ghost use Rattle.std.specs.Cmp.Lexicographic.{slice_cmp, pointwise, nat_list_cmp_total, nat_list_eq_equiv, texts_po};
+ghost use Rattle.std.specs.Cmp.Lexicographic.{slice_cmp, pointwise, nat_list_cmp_total};
+ghost use Rattle.std.specs.Cmp.Lexicographic.{nat_list_eq_equiv, texts_po};
 ghost use Rattle.std.specs.String.{string_bytes};
 ghost use Rattle.std.proofs.lemmas.Map.Lookups.{exact_bytes};
-ghost use Rattle.cell_core.specs.MessageIds.{is_id_byte, IsMessageId, IdTakesMemory, id_bytes, KeepsId};
+ghost use Rattle.cell_core.specs.MessageIds.{is_id_byte, IsMessageId, IdTakesMemory, id_bytes};
+ghost use Rattle.cell_core.specs.MessageIds.{KeepsId};
 ghost use Rattle.cell_core.specs.TextOrder.{texts_tie};
 
 use crate::fault::CellFault;
@@ -32,14 +34,6 @@ const MOST_SHORT_BYTES: usize = 32;
 #[derive(Drop)]
 pub struct MessageId {
     text: IdText,
-}
-
-/// The text of an id.
-#[derive(Drop)]
-enum IdText {
-    /// Padded with zero bytes.
-    Short([u8; MOST_SHORT_BYTES]),
-    Long(String),
 }
 
 impl Model for MessageId {
@@ -160,6 +154,14 @@ impl Key for MessageId {
     }
 }
 
+/// The text of an id.
+#[derive(Drop)]
+enum IdText {
+    /// Padded with zero bytes.
+    Short([u8; MOST_SHORT_BYTES]),
+    Long(String),
+}
+
 impl IdText {
     /// The text, in place up to 32 bytes.
     fn new(alloc: Global, text: &str) -> Result<IdText, AllocError>
@@ -207,7 +209,8 @@ impl IdText {
     /// An equal text.
     fn copy(&self, alloc: Global) -> Result<IdText, AllocError>
         requires { KeepsId self.now }
-        ensures { MatchResult result (λ stored. KeepsId stored × (id_bytes stored ≡ id_bytes self.now))
+        ensures { MatchResult result
+            (λ stored. KeepsId stored × (id_bytes stored ≡ id_bytes self.now))
             (λ _. IdTakesMemory (id_bytes self.now)) }
     {
         match self {

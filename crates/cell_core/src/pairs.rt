@@ -48,28 +48,6 @@ pub(crate) fn bisect_from_last<K: Key, J>(pairs: &[(K, J)], key: &K) -> Result<u
     }
 }
 
-/// Galloping search from a place; all keys before it are smaller.
-fn seek<K: Key, J>(pairs: &[(K, J)], key: &K, from: usize) -> Result<usize, usize>
-    requires map { IsMap K.cmp pairs.now }
-    requires from { from ≤ place_of K.cmp key.now pairs.now }
-    ensures found { IfOk result (IsPlace K.cmp key.now pairs.now) }
-    ensures absent { IfErr result (IsGap K.cmp key.now pairs.now) }
-{
-    let mut low = from;
-    let mut high = pairs.len();
-    while low < high {
-        let step = (low - from) / 2;
-        let half = (high - low) / 2;
-        let middle = low + step.min(half);
-        match key.cmp(&pairs[middle].0) {
-            Ordering::Less => high = middle,
-            Ordering::Equal => return Ok(middle),
-            Ordering::Greater => low = middle + 1,
-        }
-    }
-    Err(low)
-}
-
 /// Whether the values of common keys agree, by one walk over the first run.
 pub(crate) fn agree_pairs<K: Key, J: Join>(mine: &[(K, J)], theirs: &[(K, J)]) -> bool
     requires mine { IsMap K.cmp mine.now }
@@ -101,7 +79,8 @@ pub(crate) fn join_common<K: Key, J: Join>(
 ) -> Result<Vec<(usize, (K, J))>, AllocError>
     requires mine { IsMap K.cmp mine.old }
     requires theirs { IsMap K.cmp theirs.now }
-    requires agree { (q : K) → AgreeIfBoth J.agree (find K.cmp q mine.old) (find K.cmp q theirs.now) }
+    requires agree { (q : K)
+        → AgreeIfBoth J.agree (find K.cmp q mine.old) (find K.cmp q theirs.now) }
     ensures ok { IfOk result (λ missing.
         IsCommonJoined K.cmp J.joined mine.old theirs.now mine.new missing.items) }
     ensures err { OnErr result (BetweenAtKeys K.cmp J.between mine.old mine.new theirs.now) }
@@ -123,6 +102,28 @@ pub(crate) fn join_common<K: Key, J: Join>(
         }
     }
     Ok(missing)
+}
+
+/// Galloping search from a place; all keys before it are smaller.
+fn seek<K: Key, J>(pairs: &[(K, J)], key: &K, from: usize) -> Result<usize, usize>
+    requires map { IsMap K.cmp pairs.now }
+    requires from { from ≤ place_of K.cmp key.now pairs.now }
+    ensures found { IfOk result (IsPlace K.cmp key.now pairs.now) }
+    ensures absent { IfErr result (IsGap K.cmp key.now pairs.now) }
+{
+    let mut low = from;
+    let mut high = pairs.len();
+    while low < high {
+        let step = (low - from) / 2;
+        let half = (high - low) / 2;
+        let middle = low + step.min(half);
+        match key.cmp(&pairs[middle].0) {
+            Ordering::Less => high = middle,
+            Ordering::Equal => return Ok(middle),
+            Ordering::Greater => low = middle + 1,
+        }
+    }
+    Err(low)
 }
 
 /// Appends an item; the first one makes room for as many as there may be.

@@ -4,7 +4,8 @@ ghost use Rattle.std.specs.Prelude.{◌≡◌, ◌↔◌, IsTrue, MatchResult, A
 ghost use Rattle.std.specs.Fmt.{padded};
 ghost use Rattle.std.specs.Ordering.{nat_cmp};
 ghost use Rattle.std.specs.Cmp as laws_of;
-ghost use Rattle.std.specs.Cmp.Lexicographic.{slice_cmp, pointwise, nat_list_cmp_total, nat_list_eq_equiv, texts_po};
+ghost use Rattle.std.specs.Cmp.Lexicographic.{slice_cmp, pointwise, nat_list_cmp_total};
+ghost use Rattle.std.specs.Cmp.Lexicographic.{nat_list_eq_equiv, texts_po};
 ghost use Rattle.cell_core.specs.SiteNames.{is_site_byte, IsSiteName, padded_name};
 ghost use Rattle.cell_core.specs.TextOrder.{texts_tie};
 

@@ -1,5 +1,6 @@
 -- From what was answered and how it ended to what a command does.
-use Rattle.std.proofs.Common.{◌≡◌, ◌∙◌, ℕ, List, true, false, Result, Ok, Err, ap, inl, inr, refl, subst}
+use Rattle.std.proofs.Common.{◌≡◌, ◌∙◌, ℕ, List, true, false, Result, Ok, Err, ap, inl, inr, refl}
+use Rattle.std.proofs.Common.{subst}
 use Rattle.std.specs.Prelude.{◌⊎◌, MatchResult}
 use Rattle.std.specs.Io.KnownBytes.{Appends}
 use Rattle.json_docs.specs.Faults.{of_no_document}

@@ -5,6 +5,7 @@ use Rattle.command_core.specs.Acts.{IsLabelOrNone}
 use Rattle.command_core.specs.Parsing.{IsLabelOf}
 
 -- Texts that give a label are a label or none, and the label is these texts.
-pub label_fits : (texts label : Option (List Text)) → IsLabelOf texts label → IsLabelOrNone texts × (label ≡ texts)
+pub label_fits : (texts label : Option (List Text)) → IsLabelOf texts label
+    → IsLabelOrNone texts × (label ≡ texts)
 label_fits None label h = (tt, h)
 label_fits (Some texts) label h = h

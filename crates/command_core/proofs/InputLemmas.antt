@@ -42,13 +42,15 @@ cut : (line rest : List ℕ) → All (λ b. b ≢ 10) line → AreDocuments (lin
 cut line rest h =
     let size : length (line ++ 10 ∷ []) ≡ length line + 1 = length-append line (10 ∷ []) in
     let behind : drop (length line + 1) (line ++ 10 ∷ rest) ≡ rest =
-    ap (drop (length line + 1)) (sym (append_assoc line (10 ∷ []) rest)) ∙ drop_at (line ++ 10 ∷ []) rest (length line + 1) size in
+    ap (drop (length line + 1)) (sym (append_assoc line (10 ∷ []) rest))
+    ∙ drop_at (line ++ 10 ∷ []) rest (length line + 1) size in
     rw (first line rest h) (sym (take_at line (10 ∷ rest) (length line) refl), sym behind)
 
 cut_behind : (text line rest : List ℕ) → text ≡ line ++ 10 ∷ [] → All (λ b. b ≢ 10) line
     → AreDocuments (text ++ rest) line rest
 cut_behind text line rest is h =
-    let whole : text ++ rest ≡ line ++ 10 ∷ rest = ap (λ (t : List ℕ). t ++ rest) is ∙ append_assoc line (10 ∷ []) rest in
+    let whole : text ++ rest ≡ line ++ 10 ∷ rest =
+    ap (λ (t : List ℕ). t ++ rest) is ∙ append_assoc line (10 ∷ []) rest in
     subst (λ (t : List ℕ). AreDocuments t line rest) (sym whole) (cut line rest h)
 
 -- The text of a site that was written is read as the first document of an input.
@@ -59,7 +61,8 @@ written_site site text rest is =
     let whole : text ≡ one.0 ++ 10 ∷ [] = is.0 ∙ one.1 in (
       one.0,
       cut_behind text one.0 rest whole one.2,
-      (free site_checks IsSiteDocument one.0 site).0 (subst (λ (t : List ℕ). ReadsAsSite t site) whole is.1),
+      (free site_checks IsSiteDocument one.0 site).0
+          (subst (λ (t : List ℕ). ReadsAsSite t site) whole is.1),
     )
 
 -- So are the language maps of a text that is one line.
@@ -69,5 +72,6 @@ pub written_labels : (labels : List Labelled) (text rest : List ℕ) → IsOneLi
 written_labels labels text rest one reads = (
   one.0,
   cut_behind text one.0 rest one.1 one.2,
-  (free langmaps_checks ReadsAsLangMaps one.0 labels).0 (subst (λ (t : List ℕ). AreLangMaps t labels) one.1 reads),
+  (free langmaps_checks ReadsAsLangMaps one.0 labels).0
+      (subst (λ (t : List ℕ). AreLangMaps t labels) one.1 reads),
 )

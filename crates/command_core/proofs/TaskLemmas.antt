@@ -7,10 +7,15 @@ use Rattle.command_core.specs.declared.matches.Numbers.{Numbers}
 use Rattle.command_core.specs.TaskWords.{GivesTask, TaskWords, task_words}
 
 -- The task of the matched subcommand's name, numbers and arguments is the one it gives.
-pub gives_task : {S : Type 0} (name_of : S → Text) (rows_in : S → List Row) (met : Option S) (name : Text) (rows : List Row) (numbers : Numbers) (asked : Option TaskWords)
-    → Some name ≡ option_map name_of met → Some rows ≡ option_map (λ (p : Text × List Row). p.1) (option_map (λ s. (name_of s, rows_in s)) met) → GivesNumbers rows numbers → asked ≡ task_words name numbers rows
+pub gives_task : {S : Type 0} (name_of : S → Text) (rows_in : S → List Row) (met : Option S)
+    (name : Text) (rows : List Row) (numbers : Numbers) (asked : Option TaskWords)
+    → Some name ≡ option_map name_of met
+    → Some rows
+    ≡ option_map (λ (p : Text × List Row). p.1) (option_map (λ s. (name_of s, rows_in s)) met)
+    → GivesNumbers rows numbers → asked ≡ task_words name numbers rows
     → GivesTask (option_map (λ s. (name_of s, rows_in s)) met) asked
-gives_task name_of rows_in None name rows numbers asked named has gives is = let no : Some name ≡ None = named in absurd (cc)
+gives_task name_of rows_in None name rows numbers asked named has gives is =
+    let no : Some name ≡ None = named in absurd (cc)
 gives_task name_of rows_in (Some s) name rows numbers asked named has gives is =
     let same_name = some_same name (name_of s) named in
     let same_rows = some_same rows (rows_in s) has in (

@@ -41,14 +41,18 @@ use Rattle.command_core.specs.Status.{answer_status, found_status}
 use Rattle.command_core.specs.Streams.{IsUnread, IsUnwritten, Reader, Streams}
 use Rattle.command_core.specs.TaskWords.{GivesTask, TaskWords}
 use Rattle.command_core.specs.TaskWords as task
-use Rattle.command_core.specs.Parsing.{RefusesNothing, NoWords, RefusesKey, RefusesLabelWords, RefusesTranslation}
+use Rattle.command_core.specs.Parsing.{RefusesNothing, NoWords, RefusesKey, RefusesLabelWords}
+use Rattle.command_core.specs.Parsing.{RefusesTranslation}
 use Rattle.command_core.specs.declared.documents.DocumentTask.{DocumentTask}
 
 -- ---- `pick` and `new`
 
 -- the pick line
 abbrev pub IsPick : PickWords → List ℕ → ℕ → Type 0
-IsPick words text answered = (answer : Answer) × AnswersPick words.preferences.field words.preferences.default words.tags answer × (text ≡ answer.text) × (answered ≡ answer_status answer.outcome)
+IsPick words text answered =
+    (answer : Answer)
+    × AnswersPick words.preferences.field words.preferences.default words.tags answer
+    × (text ≡ answer.text) × (answered ≡ answer_status answer.outcome)
 
 -- the lines of all tags that fit
 abbrev pub IsPickAll : PickAllWords → List ℕ → ℕ → Type 0
@@ -58,10 +62,12 @@ IsPickAll words text answered =
 
 -- the document of the empty site of this name
 abbrev pub IsNew : Text → List ℕ → ℕ → Type 0
-IsNew name text answered = IsSiteName name × IsSiteText (record { name = name; cells = [] }) text × (answered ≡ 0)
+IsNew name text answered =
+    IsSiteName name × IsSiteText (record { name = name; cells = [] }) text × (answered ≡ 0)
 
 abbrev pub RefusesNew : Text → FrontFault → Type 0
-RefusesNew name fault = IsOf cell_fault (RefusesName name) fault ⊎ (IsSiteName name × (fault ≡ NoMemory))
+RefusesNew name fault =
+    IsOf cell_fault (RefusesName name) fault ⊎ (IsSiteName name × (fault ≡ NoMemory))
 
 -- ---- `put` and `delete`
 
@@ -75,10 +81,15 @@ HasEdit words = IsMessageId words.id × IsSpelled words.lang × IsLabelOrNone wo
 
 -- the id, the language and then the texts
 abbrev pub RefusesEditWords : EditWords → FrontFault → Type 0
-RefusesEditWords words fault = RefusesKey words.id words.lang fault ⊎ (IsMessageId words.id × IsSpelled words.lang × IsOf cell_fault (RefusesLabelWords words.texts) fault)
+RefusesEditWords words fault =
+    RefusesKey words.id words.lang fault
+    ⊎ (IsMessageId words.id × IsSpelled words.lang
+    × IsOf cell_fault (RefusesLabelWords words.texts) fault)
 
 abbrev pub IsEdit : EditWords → List ℕ → List ℕ → ℕ → Type 0
-IsEdit words input text answered = (lang : List ℕ) × HasEdit words × SpellsLang words.lang lang × call.IsEdited input words.now (words.id, lang) words.texts text × (answered ≡ 0)
+IsEdit words input text answered =
+    (lang : List ℕ) × HasEdit words × SpellsLang words.lang lang
+    × call.IsEdited input words.now (words.id, lang) words.texts text × (answered ≡ 0)
 
 abbrev pub RefusesEdit : EditWords → List ℕ → DocFault → Type 0
 RefusesEdit words input fault = call.RefusesEditing input words.now fault
@@ -103,13 +114,17 @@ RefusesSync limit input fault =
 
 -- what answers a question to the site of the input
 abbrev pub AnswersSite : (Entries → Answer → Type 0) → List ℕ → List ℕ → ℕ → Type 0
-AnswersSite Is input text answered = (site : SiteState) × (answer : Answer) × ReadsAsSite input site × Is site.cells answer × (text ≡ answer.text) × (answered ≡ answer_status answer.outcome)
+AnswersSite Is input text answered =
+    (site : SiteState) × (answer : Answer) × ReadsAsSite input site × Is site.cells answer
+    × (text ≡ answer.text) × (answered ≡ answer_status answer.outcome)
 
 abbrev pub IsFilter : FilterWords → List ℕ → List ℕ → ℕ → Type 0
 IsFilter words = AnswersSite (λ cells. IsFilterLines cells words.id words.field)
 
 abbrev pub IsLookup : LookupWords → List ℕ → List ℕ → ℕ → Type 0
-IsLookup words = AnswersSite (λ cells. IsLookupLine cells words.id words.preferences.field words.preferences.default)
+IsLookup words =
+    AnswersSite
+    (λ cells. IsLookupLine cells words.id words.preferences.field words.preferences.default)
 
 -- ---- `bundle`, `missing` and `outdated`
 
@@ -117,7 +132,9 @@ abbrev pub IsBundle : PreferenceWords → List ℕ → List ℕ → ℕ → Type
 IsBundle words = AnswersSite (λ cells. AreBundleMaps cells words.field words.default)
 
 abbrev pub IsMissing : Text → List ℕ → List ℕ → ℕ → Type 0
-IsMissing word input text answered = (lang : List ℕ) × (found : Bool) × SpellsLang word lang × missing.IsMissing input lang text found × (answered ≡ found_status found)
+IsMissing word input text answered =
+    (lang : List ℕ) × (found : Bool) × SpellsLang word lang
+    × missing.IsMissing input lang text found × (answered ≡ found_status found)
 
 -- the words read as the two languages, and the messages of the site are these
 abbrev pub IsOutdated : OutdatedWords → List ℕ → List ℕ → ℕ → Type 0
@@ -168,9 +185,12 @@ Answers (task.Missing word) reader text answered =
 Answers (task.Outdated words) reader text answered =
     AnswersInput (IsOutdated words) reader text answered
 Answers task.Changes reader text answered = AnswersInput AreChanges reader text answered
-Answers (task.Filter words) reader text answered = AnswersInput (IsFilter words) reader text answered
-Answers (task.Lookup words) reader text answered = AnswersInput (IsLookup words) reader text answered
-Answers (task.Bundle words) reader text answered = AnswersInput (IsBundle words) reader text answered
+Answers (task.Filter words) reader text answered =
+    AnswersInput (IsFilter words) reader text answered
+Answers (task.Lookup words) reader text answered =
+    AnswersInput (IsLookup words) reader text answered
+Answers (task.Bundle words) reader text answered =
+    AnswersInput (IsBundle words) reader text answered
 Answers (task.Sync limit) reader text answered = AnswersInput (IsSync limit) reader text answered
 Answers task.Replay reader text answered = AnswersInput IsReplay reader text answered
 Answers (task.Explain number) reader text answered =
@@ -189,7 +209,8 @@ Refuses (task.Edit words) reader refused =
 Refuses (task.Document task) reader refused =
     RefusesInput NoWords RefusesNothing (RefusesDocuments task) reader refused
 Refuses (task.Missing word) reader refused =
-    RefusesInput (IsSpelled word) (IsOf language_fault (RefusesLang word)) RefusesOnly reader refused
+    RefusesInput (IsSpelled word) (IsOf language_fault (RefusesLang word)) RefusesOnly reader
+    refused
 Refuses (task.Outdated words) reader refused =
     RefusesInput (IsSpelled words.lang × IsSpelled words.source)
     (IsOf language_fault (RefusesTranslation words.lang words.source)) RefusesOnly reader refused

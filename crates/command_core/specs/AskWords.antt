@@ -1,5 +1,6 @@
 -- The tasks that `pick`, `filter`, `lookup`, `outdated` and `explain` are given (project rules).
-use Rattle.std.specs.Prelude.{◌&&◌, ℕ, Bool, List, None, Option, Some, codes, nat_lt, option_and_then, option_map}
+use Rattle.std.specs.Prelude.{◌&&◌, ℕ, Bool, List, None, Option, Some, codes, nat_lt}
+use Rattle.std.specs.Prelude.{option_and_then, option_map}
 use Rattle.clap.specs.Words.{Row, Text, all_of, first_of}
 use Rattle.front_core.specs.Fields.{FieldText}
 use Rattle.nego_core.specs.declared.widening.Widening.{Widening}
@@ -28,7 +29,10 @@ pub record OutdatedWords : Type 0 where
 
 -- none where a word is missing
 abbrev pub pick_words : List Row → Option PickWords
-pick_words rows = option_and_then (λ preferences. option_map (λ tags. record { preferences = preferences; tags = tags }) (all_of (codes "tags") rows)) (preference_words (codes "ranges") rows)
+pick_words rows =
+    option_and_then
+    (λ preferences. option_map (λ tags. record { preferences = preferences; tags = tags })
+    (all_of (codes "tags") rows)) (preference_words (codes "ranges") rows)
 
 abbrev where_plain : Widening → Option Text → PickAllWords → Option PickAllWords
 where_plain Off None words = Some words
@@ -41,13 +45,20 @@ pick_all_words words = where_plain words.preferences.field.widening words.prefer
     (record { field = words.preferences.field; tags = words.tags })
 
 abbrev pub filter_words : List Row → Option FilterWords
-filter_words rows = option_and_then (λ id. option_map (λ field. record { id = id; field = field }) (field_of (codes "field") rows)) (first_of (codes "id") rows)
+filter_words rows =
+    option_and_then
+    (λ id. option_map (λ field. record { id = id; field = field }) (field_of (codes "field") rows))
+    (first_of (codes "id") rows)
 
 abbrev pub lookup_words : List Row → Option LookupWords
-lookup_words rows = option_and_then (λ id. option_map (λ preferences. record { id = id; preferences = preferences }) (preference_words (codes "field") rows)) (first_of (codes "id") rows)
+lookup_words rows =
+    option_and_then
+    (λ id. option_map (λ preferences. record { id = id; preferences = preferences })
+    (preference_words (codes "field") rows)) (first_of (codes "id") rows)
 
 abbrev pub outdated_words : List Row → Option OutdatedWords
-outdated_words rows = option_and_then (λ lang. option_map (λ source. record { lang = lang; source = source })
+outdated_words rows =
+    option_and_then (λ lang. option_map (λ source. record { lang = lang; source = source })
     (first_of (codes "source") rows)) (first_of (codes "lang") rows)
 
 -- the number of a refusal

@@ -10,16 +10,22 @@ use Rattle.docs_core.specs.Updated as updated
 use Rattle.json_docs.specs.declared.fault.DocFault.{DocFault}
 use Rattle.command_core.specs.Input.{AreDocuments, AreThreeDocuments}
 use Rattle.command_core.specs.declared.documents.DocumentTask.{DocumentTask}
-use Rattle.command_core.specs.declared.documents.DocumentTask.TheVariants.{Status, Import, Update, Export, Summary, Delta, Take}
+use Rattle.command_core.specs.declared.documents.DocumentTask.TheVariants.{Status, Import, Update}
+use Rattle.command_core.specs.declared.documents.DocumentTask.TheVariants.{Export, Summary, Delta}
+use Rattle.command_core.specs.declared.documents.DocumentTask.TheVariants.{Take}
 
 -- the document that answers the documents of an input
 abbrev pub IsDocument : DocumentTask → List ℕ → List ℕ → Type 0
 IsDocument Status input text = call.IsStatus input text
-IsDocument (Import now) input text = (site maps : List ℕ) × AreDocuments input site maps × exchange.IsImported site now maps text
-IsDocument (Update now) input text = (site old new : List ℕ) × AreThreeDocuments input site old new × updated.IsUpdated site now old new text
+IsDocument (Import now) input text =
+    (site maps : List ℕ) × AreDocuments input site maps × exchange.IsImported site now maps text
+IsDocument (Update now) input text =
+    (site old new : List ℕ) × AreThreeDocuments input site old new
+    × updated.IsUpdated site now old new text
 IsDocument Export input text = exchange.IsExported input text
 IsDocument Summary input text = call.IsSummarised input text
-IsDocument Delta input text = (site summary : List ℕ) × AreDocuments input site summary × call.IsDeltaFor site summary text
+IsDocument Delta input text =
+    (site summary : List ℕ) × AreDocuments input site summary × call.IsDeltaFor site summary text
 IsDocument (Take limit) input text =
     (site delta : List ℕ) × AreDocuments input site delta × IsTakenUntil site delta limit text
 
@@ -39,9 +45,15 @@ RefusesOnly input = IsOfDocument 1 (RefusesSite input)
 
 -- why the documents are refused
 abbrev pub RefusesDocuments : DocumentTask → List ℕ → DocFault → Type 0
-RefusesDocuments (Import now) input fault = (site maps : List ℕ) × AreDocuments input site maps × exchange.RefusesImport site now maps fault
-RefusesDocuments (Update now) input fault = (site old new : List ℕ) × AreThreeDocuments input site old new × updated.RefusesUpdate site now old new fault
-RefusesDocuments Delta input fault = (site summary : List ℕ) × AreDocuments input site summary × call.RefusesDeltaFor site summary fault
+RefusesDocuments (Import now) input fault =
+    (site maps : List ℕ) × AreDocuments input site maps × exchange.RefusesImport site now maps fault
+RefusesDocuments (Update now) input fault =
+    (site old new : List ℕ) × AreThreeDocuments input site old new
+    × updated.RefusesUpdate site now old new fault
+RefusesDocuments Delta input fault =
+    (site summary : List ℕ) × AreDocuments input site summary
+    × call.RefusesDeltaFor site summary fault
 RefusesDocuments (Take limit) input fault =
-    (site delta : List ℕ) × AreDocuments input site delta × RefusesTakingUntil site delta limit fault
+    (site delta : List ℕ) × AreDocuments input site delta
+    × RefusesTakingUntil site delta limit fault
 RefusesDocuments _ input fault = RefusesOnly input fault

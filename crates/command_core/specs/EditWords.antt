@@ -11,11 +11,15 @@ pub record EditWords : Type 0 where
 
 -- none where a word is missing
 abbrev pub edit_words : Option ℕ → Option (List Text) → List Row → Option EditWords
-edit_words now texts rows = option_and_then (λ n. option_and_then (λ id. option_map (λ lang. record { now = n; id = id; lang = lang; texts = texts })
+edit_words now texts rows =
+    option_and_then
+    (λ n. option_and_then
+    (λ id. option_map (λ lang. record { now = n; id = id; lang = lang; texts = texts })
     (first_of (codes "lang") rows)) (first_of (codes "id") rows)) now
 
 abbrev pub put_words : Option ℕ → List Row → Option EditWords
-put_words now rows = option_and_then (λ texts. edit_words now (Some texts) rows) (all_of (codes "texts") rows)
+put_words now rows =
+    option_and_then (λ texts. edit_words now (Some texts) rows) (all_of (codes "texts") rows)
 
 abbrev pub delete_words : Option ℕ → List Row → Option EditWords
 delete_words now rows = edit_words now None rows

@@ -29,7 +29,8 @@ LacksWords _ faults status = TellsUsage (codes "error: a word is not UTF-8\n") f
 
 -- the report where no command takes the words together
 abbrev pub usage_line : List ℕ
-usage_line = codes "error: no command takes these arguments together\n\nFor more information, try '--help'.\n"
+usage_line =
+    codes "error: no command takes these arguments together\n\nFor more information, try '--help'.\n"
 
 -- the whole text was written and nothing reported, or a front of it, and a fault of the sink was
 -- reported

@@ -1,5 +1,6 @@
 -- The line that reports a refusal, and what a sink takes of it (project rule).
-use Rattle.std.specs.Prelude.{◌≡◌, ◌==◌, ◌≤◌, ℕ, Bool, false, List, ◌++◌, length, Option, None, Some, [], codes, decimal, if◌then◌else◌, IfSome, MatchBool}
+use Rattle.std.specs.Prelude.{◌≡◌, ◌==◌, ◌≤◌, ℕ, Bool, false, List, ◌++◌, length, Option, None}
+use Rattle.std.specs.Prelude.{Some, [], codes, decimal, if◌then◌else◌, IfSome, MatchBool}
 use Rattle.std.specs.Fmt.Cut.{IsTextOrCut}
 use Rattle.std.specs.Io.KnownBytes.{Appends}
 use Rattle.json_docs.specs.Sinks.{AppendsFront}
@@ -18,7 +19,9 @@ document_meant document = if document == 0 then None else Some document
 
 -- `refused N: TEXT`, ` in row R`, ` of document D`, LF
 abbrev pub fault_line : ℕ → List ℕ → Option ℕ → ℕ → List ℕ
-fault_line number text row document = codes "refused " ++ decimal number ++ codes ": " ++ text ++ counted (codes " in row ") row ++ counted (codes " of document ") (document_meant document) ++ codes "\n"
+fault_line number text row document =
+    codes "refused " ++ decimal number ++ codes ": " ++ text ++ counted (codes " in row ") row
+    ++ counted (codes " of document ") (document_meant document) ++ codes "\n"
 
 -- what a line shows of a value, in at most 160 bytes: its text, or something that ends in dots
 -- where it is longer; anything, where the value's type does not say its text
@@ -29,7 +32,8 @@ Shows output text = (length text ≤ 160) × IfSome output (λ bytes. IsTextOrCu
 abbrev pub PrintsLine : {S : Type 0} → List ℕ → Writer S → Type 0
 PrintsLine line sink =
     AppendsFront (sink.contents sink.old) (sink.contents sink.new) line
-    × (sink.failed sink.new ≡ false → Appends (sink.contents sink.old) (sink.contents sink.new) line)
+    × (sink.failed sink.new ≡ false
+    → Appends (sink.contents sink.old) (sink.contents sink.new) line)
 
 -- it took the line of a fault; nothing, where it had failed before
 abbrev pub PrintsFault : {S : Type 0} → ℕ → Option (List ℕ) → Option ℕ → ℕ → Writer S → Type 0

@@ -1,5 +1,6 @@
 -- How the words of a command say that a field is read, and what they prefer (project rules).
-use Rattle.std.specs.Prelude.{Bool, false, List, Option, None, Some, codes, option_map, if◌then◌else◌}
+use Rattle.std.specs.Prelude.{Bool, false, List, Option, None, Some, codes, option_map}
+use Rattle.std.specs.Prelude.{if◌then◌else◌}
 use Rattle.std.specs.Str.{bytes_eq}
 use Rattle.clap.specs.Words.{Row, Text, first_of}
 use Rattle.front_core.specs.Fields.{FieldText}

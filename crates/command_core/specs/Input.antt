@@ -10,4 +10,5 @@ AreDocuments input first second = MatchOption (position (λ byte. byte == 10) in
 
 -- what is before the first LF, between it and the second, and after both
 abbrev pub AreThreeDocuments : List ℕ → List ℕ → List ℕ → List ℕ → Type 0
-AreThreeDocuments input first second third = (rest : List ℕ) × AreDocuments input first rest × AreDocuments rest second third
+AreThreeDocuments input first second third =
+    (rest : List ℕ) × AreDocuments input first rest × AreDocuments rest second third

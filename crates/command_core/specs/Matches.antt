@@ -7,8 +7,13 @@ use Rattle.command_core.specs.declared.matches.Numbers.{Numbers}
 -- the number of 64 bits that a text is in decimal digits, where a plus may come first, or none
 -- where it is no such number
 abbrev pub IsNumberOf : Text → Option ℕ → Type 0
-IsNumberOf text None = ¬ (IsNumeral 10 (without_leading_plus text) × (digits_value 10 (without_leading_plus text) < 2 ^ 64))
-IsNumberOf text (Some n) = IsNumeral 10 (without_leading_plus text) × (digits_value 10 (without_leading_plus text) < 2 ^ 64) × (n ≡ digits_value 10 (without_leading_plus text))
+IsNumberOf text None =
+    ¬ (IsNumeral 10 (without_leading_plus text)
+    × (digits_value 10 (without_leading_plus text) < 2 ^ 64))
+IsNumberOf text (Some n) =
+    IsNumeral 10 (without_leading_plus text)
+    × (digits_value 10 (without_leading_plus text) < 2 ^ 64)
+    × (n ≡ digits_value 10 (without_leading_plus text))
 
 -- the number that this argument gives
 abbrev pub GivesNumber : Text → List Row → Option ℕ → Type 0

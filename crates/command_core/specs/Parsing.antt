@@ -27,7 +27,9 @@ IsKey id lang key = IsMessageId id × (key.id ≡ id) × SpellsLang lang key.lan
 
 -- why the words name no key: the id first, then the language
 abbrev pub RefusesKey : Text → Text → FrontFault → Type 0
-RefusesKey id lang fault = IsOf cell_fault (RefusesId id) fault ⊎ (IsMessageId id × IsOf language_fault (RefusesLang lang) fault)
+RefusesKey id lang fault =
+    IsOf cell_fault (RefusesId id) fault
+    ⊎ (IsMessageId id × IsOf language_fault (RefusesLang lang) fault)
 
 -- the words spell these two languages
 abbrev pub IsTranslation : Text → Text → Translation → Type 0

@@ -1,10 +1,12 @@
 -- What the program does with its words (project rules).
-use Rattle.std.specs.Prelude.{◌≡◌, ◌≢◌, ◌⊎◌, ℕ, Bool, true, false, List, [], ◌∷◌, Option, codes, map, IfOk, MatchBool, Result}
+use Rattle.std.specs.Prelude.{◌≡◌, ◌≢◌, ◌⊎◌, ℕ, Bool, true, false, List, [], ◌∷◌, Option, codes}
+use Rattle.std.specs.Prelude.{map, IfOk, MatchBool, Result}
 use Rattle.clap.specs.Words.{App, Row, Text, fault_of, subcommand_of, subcommand_rows_of, FailsBy}
 use Rattle.clap.specs.Kinds.{Kinds, IsAmong}
 use Rattle.clap.specs.declared.error.Error.{Error}
 use Rattle.clap.specs.declared.error.kind.ErrorKind.{ErrorKind}
-use Rattle.clap.specs.declared.error.kind.ErrorKind.TheVariants.{DisplayHelp, DisplayVersion, OutOfMemory}
+use Rattle.clap.specs.declared.error.kind.ErrorKind.TheVariants.{DisplayHelp, DisplayVersion}
+use Rattle.clap.specs.declared.error.kind.ErrorKind.TheVariants.{OutOfMemory}
 use Rattle.clap.specs.declared.parser.matches.ArgMatches.{ArgMatches}
 use Rattle.json_docs.specs.Sinks.{AppendsFront}
 use Rattle.command_core.specs.Acts.{ActsBy}
@@ -47,17 +49,20 @@ pub record MatchesBy (words : List Text) (result : Result ArgMatches Error) : Ty
 abbrev pub Reports : {W F : Type 0} → ErrorKind → Writer W → Writer F → ℕ → Type 0
 Reports kind writer faults status = MatchBool (is_shown kind)
     ((status ≡ 0)
-    × ((text : List ℕ) × AppendsFront (writer.contents writer.old) (writer.contents writer.new) text)
+    × ((text : List ℕ)
+    × AppendsFront (writer.contents writer.old) (writer.contents writer.new) text)
     × IsUnwritten faults)
     ((status ≡ 2) × IsUnwritten writer
-    × ((text : List ℕ) × AppendsFront (faults.contents faults.old) (faults.contents faults.new) text))
+    × ((text : List ℕ)
+    × AppendsFront (faults.contents faults.old) (faults.contents faults.new) text))
 
 -- the same, unless memory runs out
 abbrev pub ReportsBy : {W F : Type 0} → ErrorKind → Writer W → Writer F → ℕ → Type 0
 ReportsBy kind writer faults status =
     EndsForMemory writer faults status ⊎ ((kind ≢ OutOfMemory) × Reports kind writer faults status)
 
--- what is done at these words, by the kinds of fault that clap finds in them and the command that it
+-- what is done at these words, by the kinds of fault that clap finds in them and the command that
+-- it
 -- meets
 abbrev pub Does : {R W F : Type 0} → Kinds → Option (Text × List Row) → Streams R W F → ℕ → Type 0
 Does [] met run status = ActsBy met run status
@@ -65,8 +70,9 @@ Does (k ∷ ks) met run status = IsUnread run.reader
     × ((kind : ErrorKind) × IsAmong kind (k ∷ ks) × Reports kind run.writer run.faults status)
 
 -- the words' task is done, unless memory runs out
-pub record RunsBy {R W F : Type 0} (words : List Text) (run : Streams R W F) (status : ℕ) : Type 0 where
-  pub app : App
-  pub app_ok : IsProgram app
-  pub done : Does (fault_of app words) (subcommand_of app words) run status
-      ⊎ (IsUnread run.reader × EndsForMemory run.writer run.faults status)
+pub record RunsBy {R W F : Type 0} (words : List Text) (run : Streams R W F) (status : ℕ) : Type 0
+  where
+    pub app : App
+    pub app_ok : IsProgram app
+    pub done : Does (fault_of app words) (subcommand_of app words) run status
+        ⊎ (IsUnread run.reader × EndsForMemory run.writer run.faults status)

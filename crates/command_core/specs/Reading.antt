@@ -11,7 +11,8 @@ use Rattle.front_core.specs.declared.fault.FrontFault.{FrontFault}
 use Rattle.command_core.specs.Streams.{IsUnread, Reader}
 
 -- the whole input was read, and this text with this status answers it
-abbrev pub AnswersInput : {R : Type 0} → (List ℕ → List ℕ → ℕ → Type 0) → Reader R → List ℕ → ℕ → Type 0
+abbrev pub AnswersInput : {R : Type 0} → (List ℕ → List ℕ → ℕ → Type 0) → Reader R → List ℕ → ℕ
+    → Type 0
 AnswersInput answers reader text answered =
     (input : List ℕ) × ReadsWhole reader.failed reader.remaining reader.old reader.new input
     × answers input text answered
@@ -24,7 +25,8 @@ FailsInput refuses reader fault =
     × OrMemory no_memory (refuses input) fault)
 
 -- why a command is refused: by its words, and then nothing was read; or else for its input
-abbrev pub RefusesInput : {R : Type 0} → Type 0 → (FrontFault → Type 0) → (List ℕ → DocFault → Type 0) → Reader R → FrontFault → Type 0
+abbrev pub RefusesInput : {R : Type 0} → Type 0 → (FrontFault → Type 0)
+    → (List ℕ → DocFault → Type 0) → Reader R → FrontFault → Type 0
 RefusesInput words refuses_words refuses reader fault =
     (refuses_words fault × IsUnread reader)
     ⊎ (words × IsOf document_fault (FailsInput refuses reader) fault)

@@ -37,7 +37,8 @@ pick_asked true words = option_map PickAll (pick_all_words words)
 -- all tags that fit where `--all` is given, which goes with no default and no widening; else the
 -- one that fits best
 abbrev pub pick_task : List Row → Option TaskWords
-pick_task rows = option_and_then (pick_asked (is_given (first_of (codes "all") rows))) (pick_words rows)
+pick_task rows =
+    option_and_then (pick_asked (is_given (first_of (codes "all") rows))) (pick_words rows)
 
 -- an edit by documents, which has a moment
 abbrev edit_task : (ℕ → DocumentTask) → Option ℕ → Option TaskWords
@@ -65,7 +66,8 @@ task_words name numbers rows =
     else (if bytes_eq name (codes "changes") then Some Changes
     else (if bytes_eq name (codes "filter") then option_map Filter (filter_words rows)
     else (if bytes_eq name (codes "lookup") then option_map Lookup (lookup_words rows)
-    else (if bytes_eq name (codes "bundle") then option_map Bundle (preference_words (codes "field") rows)
+    else (if bytes_eq name (codes "bundle") then
+    option_map Bundle (preference_words (codes "field") rows)
     else (if bytes_eq name (codes "summary") then Some (Document document.Summary)
     else (if bytes_eq name (codes "delta") then Some (Document document.Delta)
     else (if bytes_eq name (codes "take") then Some (Document (document.Take numbers.not_after))

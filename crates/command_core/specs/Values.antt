@@ -12,7 +12,14 @@ use Rattle.command_core.specs.declared.task.Task.{Task}
 use Rattle.command_core.specs.declared.task.Task.TheVariants as task
 
 abbrev pub edit_values : EditValues → EditWords
-edit_values values = record { now = values.now; id = values.id.now; lang = values.lang.now; texts = option_map (λ texts. map (λ s. s.now) texts.now) values.texts }
+edit_values values =
+    record {
+      now = values.now;
+      id = values.id.now;
+      lang = values.lang.now;
+      texts =
+          option_map (λ texts. map (λ s. s.now) texts.now) values.texts;
+    }
 
 abbrev pub preference_values : PreferenceValues → PreferenceWords
 preference_values values = record {
@@ -21,7 +28,8 @@ preference_values values = record {
 }
 
 abbrev pub task_values : Task → TaskWords
-task_values (task.Pick preferences tags) = Pick (record { preferences = preference_values preferences; tags = map (λ s. s.now) tags.now })
+task_values (task.Pick preferences tags) =
+    Pick (record { preferences = preference_values preferences; tags = map (λ s. s.now) tags.now })
 task_values (task.PickAll field tags) =
     PickAll (record { field = field_text field; tags = map (λ s. s.now) tags.now })
 task_values (task.New name) = New name.now
@@ -32,7 +40,8 @@ task_values (task.Outdated lang source) =
     Outdated (record { lang = lang.now; source = source.now })
 task_values task.Changes = Changes
 task_values (task.Filter id field) = Filter (record { id = id.now; field = field_text field })
-task_values (task.Lookup id preferences) = Lookup (record { id = id.now; preferences = preference_values preferences })
+task_values (task.Lookup id preferences) =
+    Lookup (record { id = id.now; preferences = preference_values preferences })
 task_values (task.Bundle preferences) = Bundle (preference_values preferences)
 task_values (task.Sync limit) = Sync limit
 task_values task.Replay = Replay

@@ -1,7 +1,8 @@
 -- The command line: what a parse reads of the command and of its subcommands.
 use Rattle.std.specs.Prelude.{◌≡◌, ℕ, List, Result, Some, false, true, codes, MatchResult}
 use Rattle.std.specs.Borrow.{Bor}
-use Rattle.clap.specs.Words.{AddsSubcommand, App, Rule, Text, app_of, new_app, new_rule, rule_of, with_rule, with_subcommand}
+use Rattle.clap.specs.Words.{AddsSubcommand, App, Rule, Text, app_of, new_app, new_rule, rule_of}
+use Rattle.clap.specs.Words.{with_rule, with_subcommand}
 use Rattle.clap.specs.declared.builder.arg.Arg.{Arg}
 use Rattle.clap.specs.declared.builder.command.Command.{Command}
 use Rattle.clap.specs.declared.builder.command.Command.TheViews.{out-Command}
@@ -18,7 +19,9 @@ IsCommand app command = (app_of command ≡ app) × ((out-Command command).has_g
 
 -- the program and the command are there, and this is that program with that command under it
 abbrev pub Joins : {E : Type 0} → Result Command E → Result Command E → Command → Type 0
-Joins program command joined = MatchResult program (λ old. MatchResult command (λ under. AddsSubcommand old under joined) (λ _. ⊥)) (λ _. ⊥)
+Joins program command joined =
+    MatchResult program
+    (λ old. MatchResult command (λ under. AddsSubcommand old under joined) (λ _. ⊥)) (λ _. ⊥)
 
 -- the words that a scheme may be, where they lie in memory
 abbrev pub Schemes : Type 0
@@ -29,14 +32,22 @@ abbrev pub Numerals : Type 0
 Numerals = Bor (List (Bor (List ℕ)))
 
 abbrev pub scheme_rule : Schemes → Rule
-scheme_rule schemes = record (new_rule (codes "scheme")) { long = Some (codes "scheme"); value_names = 1; parser = Some (Names schemes) }
+scheme_rule schemes =
+    record
+    (new_rule (codes "scheme")) {
+      long = Some (codes "scheme");
+      value_names = 1;
+      parser =
+          Some (Names schemes);
+    }
 
 -- an option without a value
 abbrev pub flag_rule : Text → Rule
 flag_rule name = record (new_rule name) { long = Some name; action = Some SetTrue }
 
 abbrev pub default_rule : Rule
-default_rule = record (new_rule (codes "default")) { long = Some (codes "default"); value_names = 1 }
+default_rule =
+    record (new_rule (codes "default")) { long = Some (codes "default"); value_names = 1 }
 
 -- a priority list of language ranges
 abbrev pub field_rule : Text → Rule
@@ -44,7 +55,16 @@ field_rule name = record (new_rule name) { value_names = 1; required = true }
 
 -- one word or more
 abbrev pub words_rule : Text → Rule
-words_rule name = record (new_rule name) { value_names = 1; required = true; range = Some (record { start_inclusive = 1; end_inclusive = 18446744073709551615 }); action = Some Append }
+words_rule name =
+    record
+    (new_rule name) {
+      value_names = 1;
+      required = true;
+      range =
+          Some (record { start_inclusive = 1; end_inclusive = 18446744073709551615 });
+      action =
+          Some Append;
+    }
 
 -- what a reader prefers: `[--scheme SCHEME] [--lenient] [--widen] [--default LANG]` and the ranges,
 -- by this name
@@ -61,7 +81,15 @@ pick_app schemes =
 
 -- `--now N`, a number of 64 bits
 abbrev pub now_rule : Rule
-now_rule = record (new_rule (codes "now")) { long = Some (codes "now"); value_names = 1; required = true; parser = Some (Unsigned 0 18446744073709551615) }
+now_rule =
+    record
+    (new_rule (codes "now")) {
+      long = Some (codes "now");
+      value_names = 1;
+      required = true;
+      parser =
+          Some (Unsigned 0 18446744073709551615);
+    }
 
 -- an option that must be given, with a value
 abbrev pub required_rule : Text → Rule
@@ -90,7 +118,13 @@ not_after_rule = record (new_rule (codes "not-after")) {
 -- the number of a refusal, one of these words
 abbrev pub number_rule : Numerals → Rule
 number_rule numbers =
-    record (new_rule (codes "number")) { value_names = 1; required = true; parser = Some (Names numbers) }
+    record
+    (new_rule (codes "number")) {
+      value_names = 1;
+      required = true;
+      parser =
+          Some (Names numbers);
+    }
 
 -- `new --site NAME`
 abbrev pub new_site_app : App
@@ -120,11 +154,15 @@ export_app = new_app (codes "export")
 
 -- `filter --id ID [--scheme SCHEME] [--lenient] FIELD`
 abbrev pub filter_app : Schemes → App
-filter_app schemes = with_rule (with_rule (with_rule (with_rule (new_app (codes "filter")) id_rule) (scheme_rule schemes)) (flag_rule (codes "lenient"))) (field_rule (codes "field"))
+filter_app schemes =
+    with_rule
+    (with_rule (with_rule (with_rule (new_app (codes "filter")) id_rule) (scheme_rule schemes))
+    (flag_rule (codes "lenient"))) (field_rule (codes "field"))
 
 -- `lookup --id ID [--scheme SCHEME] [--lenient] [--widen] [--default LANG] FIELD`
 abbrev pub lookup_app : Schemes → App
-lookup_app schemes = preferences_app (with_rule (new_app (codes "lookup")) id_rule) schemes (codes "field")
+lookup_app schemes =
+    preferences_app (with_rule (new_app (codes "lookup")) id_rule) schemes (codes "field")
 
 -- `bundle [--scheme SCHEME] [--lenient] [--widen] [--default LANG] FIELD`
 abbrev pub bundle_app : Schemes → App
@@ -168,14 +206,28 @@ explain_app numbers = with_rule (new_app (codes "explain")) (number_rule numbers
 
 -- the words do not begin with the program's name, and one of them names a subcommand
 abbrev pub bare_app : App
-bare_app = record (new_app (codes "lexicat")) { top = record (new_app (codes "lexicat")).top { has_version = true; no_binary_name = true; subcommand_required = true; disable_help_subcommand = true } }
+bare_app =
+    record
+    (new_app (codes "lexicat")) {
+      top =
+          record
+          (new_app (codes "lexicat")).top {
+            has_version = true;
+            no_binary_name =
+                true;
+            subcommand_required = true;
+            disable_help_subcommand = true;
+          };
+    }
 
 abbrev under : App → App → App
 under app command = with_subcommand app command.top
 
 -- with `pick`, and with what is done at a site
 abbrev pub sites_app : App → Schemes → App
-sites_app app schemes = under (under (under (under (under app (pick_app schemes)) new_site_app) put_app) delete_app) status_app
+sites_app app schemes =
+    under (under (under (under (under app (pick_app schemes)) new_site_app) put_app) delete_app)
+    status_app
 
 -- with what reads or writes many labels
 abbrev pub labels_app : App → App
@@ -185,12 +237,14 @@ labels_app app =
 
 -- with the questions of a reader to a site
 abbrev pub questions_app : App → Schemes → App
-questions_app app schemes = under (under (under app (filter_app schemes)) (lookup_app schemes)) (bundle_app schemes)
+questions_app app schemes =
+    under (under (under app (filter_app schemes)) (lookup_app schemes)) (bundle_app schemes)
 
 -- with what two sites exchange, with a replay of what they did, and with what a refusal is
 abbrev pub exchange_app : App → Numerals → App
 exchange_app app numbers =
-    under (under (under (under (under (under app summary_app) delta_app) take_app) sync_app) replay_app)
+    under (under (under (under (under (under app summary_app) delta_app) take_app) sync_app)
+    replay_app)
     (explain_app numbers)
 
 abbrev pub lexicat_app : Schemes → Numerals → App

@@ -144,7 +144,8 @@ pub(crate) fn with_preferences<'a>(
     value: &'a str,
 ) -> Result<Command<'a>, AllocError>
     requires { (out-Command command).has_globals ≡ false }
-    ensures { IfOk result (IsCommand (preferences_app (app_of command.entry) schemes.entry name.entry.now)) }
+    ensures { IfOk result
+        (IsCommand (preferences_app (app_of command.entry) schemes.entry name.entry.now)) }
 {
     command
         .arg(scheme(alloc, schemes))?
@@ -160,19 +161,6 @@ pub(crate) fn with_edit<'a>(alloc: Global, command: Command<'a>) -> Result<Comma
     ensures { IfOk result (IsCommand (edit_app (app_of command.entry))) }
 {
     command.arg(now(alloc))?.arg(id(alloc))?.arg(lang(alloc))
-}
-
-/// `--default`, the language that a lookup or a pick falls back to.
-fn default<'a>(alloc: Global) -> Arg<'a>
-    ensures { IsArgument default_rule result }
-{
-    Arg::new(alloc, "default")
-        .long("default")
-        .value_name("LANG")
-        .help(
-            "The language to answer where nothing fits, if it is available and the ranges do not \
-                refuse it",
-        )
 }
 
 /// A priority list of language ranges, by this name.
@@ -195,6 +183,19 @@ pub(crate) fn words<'a>(alloc: Global, name: &'a str, value: &'a str, help: &'a 
         .required(true)
         .num_args(1..)
         .action(ArgAction::Append)
+}
+
+/// `--default`, the language that a lookup or a pick falls back to.
+fn default<'a>(alloc: Global) -> Arg<'a>
+    ensures { IsArgument default_rule result }
+{
+    Arg::new(alloc, "default")
+        .long("default")
+        .value_name("LANG")
+        .help(
+            "The language to answer where nothing fits, if it is available and the ranges do not \
+                refuse it",
+        )
 }
 
 /// An option that takes no value.

@@ -32,28 +32,6 @@ pub(crate) fn lexicat<'a>(
     with_exchange(alloc, questions, numbers)
 }
 
-/// The program without its commands.
-fn bare<'a>(alloc: Global) -> Result<Command<'a>, AllocError>
-    ensures { IfOk result (λ c. app_of c ≡ bare_app) }
-{
-    Command::new(alloc, "lexicat")
-        .about(
-            "Keeps labels in many languages at several sites, and picks the one that a reader \
-                wants",
-        )
-        .after_help(
-            "It reads standard input and writes standard output. 'lexicat help COMMAND' has an \
-                example of each command; they run one after another, in the order above.\n\
-                Of a line 'refused N: TEXT', 'lexicat explain N' says what causes it and what to \
-                do.",
-        )
-        .version(VERSION)
-        .no_binary_name(true)
-        .subcommand_required(true)
-        .disable_help_subcommand(true)
-        .bin_name("lexicat")
-}
-
 /// The program with one more command under it, where there was memory for both.
 pub(crate) fn with_command<'a>(
     program: Result<Command<'a>, AllocError>,
@@ -77,4 +55,26 @@ pub(crate) fn described<'a>(
     Command::new(alloc, name)
         .about(about)
         .after_help(after_help)
+}
+
+/// The program without its commands.
+fn bare<'a>(alloc: Global) -> Result<Command<'a>, AllocError>
+    ensures { IfOk result (λ c. app_of c ≡ bare_app) }
+{
+    Command::new(alloc, "lexicat")
+        .about(
+            "Keeps labels in many languages at several sites, and picks the one that a reader \
+                wants",
+        )
+        .after_help(
+            "It reads standard input and writes standard output. 'lexicat help COMMAND' has an \
+                example of each command; they run one after another, in the order above.\n\
+                Of a line 'refused N: TEXT', 'lexicat explain N' says what causes it and what to \
+                do.",
+        )
+        .version(VERSION)
+        .no_binary_name(true)
+        .subcommand_required(true)
+        .disable_help_subcommand(true)
+        .bin_name("lexicat")
 }

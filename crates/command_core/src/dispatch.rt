@@ -16,7 +16,8 @@ use docs_core::{Sink, Source};
 use front_core::FrontFault;
 use std::alloc::Global;
 
-/// Does what the matches say, and gives the status. Matches without a command of the program, without
+/// Does what the matches say, and gives the status. Matches without a command of the program,
+/// without
 /// an argument that the command needs, or with two that do not go together, are a usage fault.
 pub fn act<R: Source, W: Sink, F: Sink>(
     alloc: Global,

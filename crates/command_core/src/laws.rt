@@ -11,7 +11,10 @@ ghost use Rattle.command_core.specs.Input.{AreDocuments};
 /// and the document in front reads as it does.
 pub fn a_written_text_is_a_document_of_the_input()
     ensures site { (site : SiteState) (text rest : List ℕ) → IsSiteText site text
-        → (document : List ℕ) × AreDocuments (text ++ rest) document rest × ReadsAsSite document site }
-    ensures labels { (labels : List Labelled) (text rest : List ℕ) → IsOneLine text → AreLangMaps text labels
-        → (document : List ℕ) × AreDocuments (text ++ rest) document rest × AreLangMaps document labels }
+        → (document : List ℕ) × AreDocuments (text ++ rest) document rest
+        × ReadsAsSite document site }
+    ensures labels { (labels : List Labelled) (text rest : List ℕ) → IsOneLine text
+        → AreLangMaps text labels
+        → (document : List ℕ) × AreDocuments (text ++ rest) document rest
+        × AreLangMaps document labels }
 {}

@@ -49,13 +49,6 @@ pub(crate) fn numbers_of(matches: &ArgMatches<'_>) -> Numbers
     }
 }
 
-/// The number that an argument gives.
-fn number_of(matches: &ArgMatches<'_>, id: &str) -> Option<u64>
-    ensures { GivesNumber id.now (rows_of (found_of matches.now)) result }
-{
-    matches.get_one::<u64>(id)
-}
-
 /// The field of an argument, read as `--scheme`, `--lenient` and `--widen` say.
 pub(crate) fn field_of<'a>(matches: &ArgMatches<'a>, id: &str) -> Option<Field<'a>>
     ensures { option_map field_text result ≡ spec.field_of id.now (rows_of (found_of matches.now)) }
@@ -103,6 +96,13 @@ pub(crate) fn is_given(matches: &ArgMatches<'_>, id: &str) -> bool
     ensures { result ≡ spec.is_given (first_of id.now (rows_of (found_of matches.now))) }
 {
     is_true(text_of(matches, id))
+}
+
+/// The number that an argument gives.
+fn number_of(matches: &ArgMatches<'_>, id: &str) -> Option<u64>
+    ensures { GivesNumber id.now (rows_of (found_of matches.now)) result }
+{
+    matches.get_one::<u64>(id)
 }
 
 /// The scheme of an argument; where there is none, the basic one.

@@ -46,8 +46,10 @@ pub(crate) fn print_both<W: Sink, F: Sink>(
 /// Writes both texts in order.
 fn write_both<W: Sink>(first: &Doc, second: &Doc, writer: &mut W) -> Result<(), DocFault>
     requires { W.failed writer.old ≡ false }
-    ensures ok { OnOk result (Appends (W.contents writer.old) (W.contents writer.new) (first.now ++ second.now)) }
-    ensures front { AppendsFront (W.contents writer.old) (W.contents writer.new) (first.now ++ second.now) }
+    ensures ok { OnOk result
+        (Appends (W.contents writer.old) (W.contents writer.new) (first.now ++ second.now)) }
+    ensures front { AppendsFront (W.contents writer.old) (W.contents writer.new)
+        (first.now ++ second.now) }
     ensures refused { IfErr result (λ fault. fault ≡ of_no_document WriteFault) }
     ensures failed { W.failed writer.new ≡ is_err result }
 {

@@ -28,7 +28,8 @@ pub(crate) fn new_site(alloc: Global, name: &str) -> Answered
     Ok(Answer::new(text, Outcome::Found))
 }
 
-/// Prints both sites of the input after their sync, or reports the refusal. A time after the limit is
+/// Prints both sites of the input after their sync, or reports the refusal. A time after the limit
+/// is
 /// refused, where there is one.
 pub(crate) fn sync<R: Source, W: Sink, F: Sink>(
     alloc: Global,

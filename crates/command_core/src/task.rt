@@ -42,13 +42,40 @@ pub(crate) enum Task<'m, 'a> {
     Explain(Explained),
 }
 
-/// The task of clap's matches, where they name a command of the program, no argument is missing, and
+/// The task of clap's matches, where they name a command of the program, no argument is missing,
+/// and
 /// all go together.
 pub(crate) fn read<'m, 'a>(matches: &'m ArgMatches<'a>) -> Option<Task<'m, 'a>>
     ensures { GivesTask (subcommand_rows_of matches.now) (option_map task_values result) }
 {
     let (name, arguments) = matches.subcommand()?;
     task_of(name, numbers_of(arguments), arguments)
+}
+
+/// What answers a task whose answer is one text, or why it is refused.
+pub(crate) fn answer<R: Source>(alloc: Global, task: Task<'_, '_>, reader: &mut R) -> Answered
+    requires reads { R.failed reader.old ≡ false }
+    requires one { HasOneText (task_values task) }
+    ensures { Performs (task_values task.entry)
+        (reads R.remaining R.failed reader.old reader.new) result }
+{
+    match task {
+        Task::Pick(preferences, tags) => {
+            pick_answer(alloc, preferences.field, preferences.default, tags)
+        }
+        Task::PickAll(field, tags) => filter_answer(alloc, field, tags),
+        Task::New(name) => sites::new_site(alloc, name),
+        Task::Edit(values) => edits::answer_of(alloc, values, reader),
+        Task::Document(task) => documents::answer_of(alloc, task, reader),
+        Task::Missing(word) => questions::missing(alloc, word, reader),
+        Task::Outdated(lang, source) => questions::outdated(alloc, lang, source, reader),
+        Task::Changes => documents::changes(alloc, reader),
+        Task::Filter(id, field) => questions::filter(alloc, id, field, reader),
+        Task::Lookup(id, preferences) => questions::lookup(alloc, id, preferences, reader),
+        Task::Bundle(preferences) => questions::bundle(alloc, preferences, reader),
+        Task::Explain(it) => explaining::answer_of(alloc, it),
+        Task::Sync(_) | Task::Replay => unreachable!(),
+    }
 }
 
 /// The task of the command of this name, with these numbers.
@@ -111,7 +138,9 @@ fn edit_of<'m, 'a>(
     matches: &ArgMatches<'a>,
 ) -> Option<Task<'m, 'a>>
     ensures { option_map task_values result
-        ≡ option_map Edit (edit_words now (option_map (λ s. map (λ v. v.now) s.now) texts.entry) (rows_of (found_of matches.now))) }
+        ≡ option_map Edit
+        (edit_words now (option_map (λ s. map (λ v. v.now) s.now) texts.entry)
+        (rows_of (found_of matches.now))) }
 {
     Some(Task::Edit(EditValues {
         now: now?,
@@ -119,30 +148,4 @@ fn edit_of<'m, 'a>(
         lang: text_of(matches, "lang")?,
         texts,
     }))
-}
-
-/// What answers a task whose answer is one text, or why it is refused.
-pub(crate) fn answer<R: Source>(alloc: Global, task: Task<'_, '_>, reader: &mut R) -> Answered
-    requires reads { R.failed reader.old ≡ false }
-    requires one { HasOneText (task_values task) }
-    ensures { Performs (task_values task.entry)
-        (reads R.remaining R.failed reader.old reader.new) result }
-{
-    match task {
-        Task::Pick(preferences, tags) => {
-            pick_answer(alloc, preferences.field, preferences.default, tags)
-        }
-        Task::PickAll(field, tags) => filter_answer(alloc, field, tags),
-        Task::New(name) => sites::new_site(alloc, name),
-        Task::Edit(values) => edits::answer_of(alloc, values, reader),
-        Task::Document(task) => documents::answer_of(alloc, task, reader),
-        Task::Missing(word) => questions::missing(alloc, word, reader),
-        Task::Outdated(lang, source) => questions::outdated(alloc, lang, source, reader),
-        Task::Changes => documents::changes(alloc, reader),
-        Task::Filter(id, field) => questions::filter(alloc, id, field, reader),
-        Task::Lookup(id, preferences) => questions::lookup(alloc, id, preferences, reader),
-        Task::Bundle(preferences) => questions::bundle(alloc, preferences, reader),
-        Task::Explain(it) => explaining::answer_of(alloc, it),
-        Task::Sync(_) | Task::Replay => unreachable!(),
-    }
 }

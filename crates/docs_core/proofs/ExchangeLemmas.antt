@@ -16,28 +16,64 @@ use Rattle.docs_core.specs.Updated.{IsUpdated, RefusesUpdate, SpendsUpdate, Upda
 use Rattle.docs_core.proofs.CallsLemmas.{site_written}
 
 -- A fault in putting the labels of language maps into a site is a stated refusal of import.
-pub not_imported : (bytes : List ℕ) (now : ℕ) (maps : List ℕ) (site : SiteState) (labels : List Labelled) (cause : CataFault) (fault : DocFault)
-    → ReadsAsSite bytes site → AreLangMaps maps labels → OrMemory NoMemory (λ c. (c ≡ ClockSpent) × SpendsImport now site.name labels site.cells) cause
-    → fault ≡ of_no_document (of_site cause) → OrMemory no_memory (RefusesImport bytes now maps) fault
+pub not_imported : (bytes : List ℕ) (now : ℕ) (maps : List ℕ) (site : SiteState)
+    (labels : List Labelled) (cause : CataFault) (fault : DocFault)
+    → ReadsAsSite bytes site → AreLangMaps maps labels
+    → OrMemory NoMemory (λ c. (c ≡ ClockSpent) × SpendsImport now site.name labels site.cells)
+    cause
+    → fault ≡ of_no_document (of_site cause)
+    → OrMemory no_memory (RefusesImport bytes now maps) fault
 not_imported bytes now maps site labels cause fault reads are why is = elim why [
   | inl memory ↦ inl (is ∙ ap (λ c. of_no_document (of_site c)) memory)
-  | inr spent ↦ inr (inr (inr (site, labels, reads, are, spent.1, is ∙ ap (λ c. of_no_document (of_site c)) spent.0)))
+  | inr spent ↦
+      inr (inr
+      (inr (site, labels, reads, are, spent.1, is ∙ ap (λ c. of_no_document (of_site c)) spent.0)))
 ]
 
 -- ---- updates
 
 -- The text of a site whose cells were updated from the old labels to the new is what update gives.
-pub updated : (bytes : List ℕ) (now : ℕ) (old new : List ℕ) (site : SiteState) (before after : List Labelled) (left : SiteState) (doc : List ℕ) → ReadsAsSite bytes site → AreLangMaps old before → AreLangMaps new after
-    → left.name ≡ site.name → Updates now site.name before after site.cells left.cells → doc ≡ site_text left → ReadsAsSite doc left → IsUpdated bytes now old new doc
+pub updated : (bytes : List ℕ) (now : ℕ) (old new : List ℕ) (site : SiteState)
+    (before after : List Labelled) (left : SiteState) (doc : List ℕ) → ReadsAsSite bytes site
+    → AreLangMaps old before → AreLangMaps new after
+    → left.name ≡ site.name → Updates now site.name before after site.cells left.cells
+    → doc ≡ site_text left → ReadsAsSite doc left → IsUpdated bytes now old new doc
 updated bytes now old new site before after left doc reads olds news name updates text again =
-    let same : left ≡ record { name = site.name; cells = left.cells } = λ i. record { name = name i; cells = left.cells } in
-    (site, before, after, left.cells, reads, olds, news, updates, site_written doc left _ same text again)
+    let same : left ≡ record { name = site.name; cells = left.cells } =
+    λ i. record { name = name i; cells = left.cells } in (
+      site,
+      before,
+      after,
+      left.cells,
+      reads,
+      olds,
+      news,
+      updates,
+      site_written doc left _ same text
+          again,
+    )
 
 -- A fault in updating a site from the old labels to the new is a stated refusal of update.
-pub not_updated : (bytes : List ℕ) (now : ℕ) (old new : List ℕ) (site : SiteState) (before after : List Labelled) (cause : CataFault) (fault : DocFault)
-    → ReadsAsSite bytes site → AreLangMaps old before → AreLangMaps new after → OrMemory NoMemory (λ c. (c ≡ ClockSpent) × SpendsUpdate now site.name before after site.cells) cause
-    → fault ≡ of_no_document (of_site cause) → OrMemory no_memory (RefusesUpdate bytes now old new) fault
+pub not_updated : (bytes : List ℕ) (now : ℕ) (old new : List ℕ) (site : SiteState)
+    (before after : List Labelled) (cause : CataFault) (fault : DocFault)
+    → ReadsAsSite bytes site → AreLangMaps old before → AreLangMaps new after
+    → OrMemory NoMemory
+    (λ c. (c ≡ ClockSpent) × SpendsUpdate now site.name before after site.cells) cause
+    → fault ≡ of_no_document (of_site cause)
+    → OrMemory no_memory (RefusesUpdate bytes now old new) fault
 not_updated bytes now old new site before after cause fault reads olds news why is = elim why [
   | inl memory ↦ inl (is ∙ ap (λ c. of_no_document (of_site c)) memory)
-  | inr spent ↦ inr (inr (inr (inr (site, before, after, reads, olds, news, spent.1, is ∙ ap (λ c. of_no_document (of_site c)) spent.0))))
+  | inr spent ↦
+      inr (inr
+      (inr (inr (
+        site,
+        before,
+        after,
+        reads,
+        olds,
+        news,
+        spent.1,
+        is
+            ∙ ap (λ c. of_no_document (of_site c)) spent.0,
+      ))))
 ]

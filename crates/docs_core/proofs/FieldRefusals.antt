@@ -1,5 +1,6 @@
 -- No field is both taken and refused, and it is refused for one cause, out of memory apart.
-use Rattle.std.proofs.Common.{◌≡◌, ◌≢◌, ◌∙◌, ◌+◌, ◌≤◌, ◌<◌, ℕ, List, [], ◌∷◌, ◌++◌, Bool, true, false, length, sym, ap, subst, refl, inl, inr, arith, get_or}
+use Rattle.std.proofs.Common.{◌≡◌, ◌≢◌, ◌∙◌, ◌+◌, ◌≤◌, ◌<◌, ℕ, List, [], ◌∷◌, ◌++◌, Bool, true}
+use Rattle.std.proofs.Common.{false, length, sym, ap, subst, refl, inl, inr, arith, get_or}
 use Rattle.std.proofs.lemmas.Bool.Decides.{nat_tests}
 use Rattle.std.proofs.lemmas.List.Quantifiers.{position-Some}
 use Rattle.std.specs.Prelude.{◌⊎◌, Option, Some, unwrap_or}
@@ -28,29 +29,40 @@ use Rattle.nego_core.proofs.FieldLaws.{malformed_is_no_field, one_malformed}
 -- ---- languages
 
 -- a piece that is refused is not in a list of allowed ones
-not_allowed : (allowed : ℕ → List ℕ → Bool) (from : ℕ) (before after : List (List ℕ)) (piece : List ℕ) → are_allowed allowed from (before ++ piece ∷ after) ≡ true → allowed (from + length before) piece ≡ false → ⊥
+not_allowed : (allowed : ℕ → List ℕ → Bool) (from : ℕ) (before after : List (List ℕ))
+    (piece : List ℕ) → are_allowed allowed from (before ++ piece ∷ after) ≡ true
+    → allowed (from + length before) piece ≡ false → ⊥
 not_allowed allowed from [] after piece all not =
-    let fine : allowed from piece ≡ true = (each_true (allowed from piece) (are_allowed allowed (from + 1) after) all).0 in
-    let refused : allowed from piece ≡ false = subst (λ (n : ℕ). allowed n piece ≡ false) (omega arith) not in
+    let fine : allowed from piece ≡ true =
+    (each_true (allowed from piece) (are_allowed allowed (from + 1) after) all).0 in
+    let refused : allowed from piece ≡ false =
+    subst (λ (n : ℕ). allowed n piece ≡ false) (omega arith) not in
     cc
 not_allowed allowed from (x ∷ xs) after piece all not =
-    not_allowed allowed (from + 1) xs after piece (each_true (allowed from x) (are_allowed allowed (from + 1) (xs ++ piece ∷ after)) all).1
+    not_allowed allowed (from + 1) xs after piece
+    (each_true (allowed from x) (are_allowed allowed (from + 1) (xs ++ piece ∷ after)) all).1
     (subst (λ (n : ℕ). allowed n piece ≡ false) (omega arith) not)
 
-has_no_subtags : (text : List ℕ) (offset : ℕ) → HasSubtags text → IsFirstRefused tag_piece (pieces text) offset → ⊥
+has_no_subtags : (text : List ℕ) (offset : ℕ) → HasSubtags text
+    → IsFirstRefused tag_piece (pieces text) offset → ⊥
 has_no_subtags text offset all first =
-    not_allowed tag_piece 0 first.before first.after first.piece (subst (λ list. are_allowed tag_piece 0 list ≡ true) first.whole all)
-    (subst (λ (n : ℕ). tag_piece n first.piece ≡ false) {x = length first.before} {y = 0 + length first.before} (omega arith) first.refused)
+    not_allowed tag_piece 0 first.before first.after first.piece
+    (subst (λ list. are_allowed tag_piece 0 list ≡ true) first.whole all)
+    (subst (λ (n : ℕ). tag_piece n first.piece ≡ false) {x = length first.before}
+    {y = 0 + length first.before} (omega arith) first.refused)
 
 -- the causes for which a text is no tag
 abbrev TagCause : List ℕ → LangFault → Type 0
 TagCause text fault =
     ((fault ≡ lang.TagEmpty) × (text ≡ []))
     ⊎ ((fault ≡ lang.TagTooLong) × (255 < length text))
-    ⊎ ((offset : ℕ) × (fault ≡ lang.TagSubtag offset) × IsSized text × IsFirstRefused tag_piece (pieces text) offset)
-    ⊎ ((fault ≡ lang.TagNotWellFormed) × IsSized text × HasSubtags text × ¬ (WellFormed (pieces text)))
+    ⊎ ((offset : ℕ) × (fault ≡ lang.TagSubtag offset) × IsSized text
+    × IsFirstRefused tag_piece (pieces text) offset)
+    ⊎ ((fault ≡ lang.TagNotWellFormed) × IsSized text × HasSubtags text
+    × ¬ (WellFormed (pieces text)))
 
-tag_cause : (text : List ℕ) (fault : LangFault) → fault ≢ lang.NoMemory → RefusesTag text fault → TagCause text fault
+tag_cause : (text : List ℕ) (fault : LangFault) → fault ≢ lang.NoMemory → RefusesTag text fault
+    → TagCause text fault
 tag_cause text lang.TagEmpty n h = inl (refl, h)
 tag_cause text lang.TagTooLong n h = inr (inl (refl, h))
 tag_cause text (lang.TagSubtag offset) n h = inr (inr (inl (offset, refl, h.0, h.1)))
@@ -81,13 +93,20 @@ one_tag_cause text a b p q = elim p [
   | inl h ↦ elim q [
     | inl k ↦ h.0 ∙ sym k.0
     | inr q ↦ elim q [
-      | inl k ↦ absurd (let l : length text ≡ 0 = ap length h.1 in let m = k.1 in omega (arith, l, m))
-      | inr q ↦ elim q [ inl k ↦ absurd (empty_not_sized text h.1 k.2.0) | inr k ↦ absurd (empty_not_sized text h.1 k.1.0) ]
+      | inl k ↦
+          absurd (let l : length text ≡ 0 = ap length h.1 in let m = k.1 in omega (arith, l, m))
+      | inr q ↦
+          elim q [
+            | inl k ↦ absurd (empty_not_sized text h.1 k.2.0)
+            | inr k ↦
+                absurd (empty_not_sized text h.1 k.1.0)
+          ]
     ]
   ]
   | inr p ↦ elim p [
     | inl h ↦ elim q [
-      | inl k ↦ absurd (let l : length text ≡ 0 = ap length k.1 in let m = h.1 in omega (arith, l, m))
+      | inl k ↦
+          absurd (let l : length text ≡ 0 = ap length k.1 in let m = h.1 in omega (arith, l, m))
       | inr q ↦ elim q [
         | inl k ↦ h.0 ∙ sym k.0
         | inr q ↦ elim q [
@@ -102,7 +121,9 @@ one_tag_cause text a b p q = elim p [
         | inr q ↦ elim q [
           | inl k ↦ absurd (let l = k.1 in let m = h.2.1 in omega (arith, l, m))
           | inr q ↦ elim q [
-            | inl k ↦ h.1 ∙ ap lang.TagSubtag (one_offset tag_piece (pieces text) h.0 k.0 h.3 k.3) ∙ sym k.1
+            | inl k ↦
+                h.1 ∙ ap lang.TagSubtag (one_offset tag_piece (pieces text) h.0 k.0 h.3 k.3)
+                ∙ sym k.1
             | inr k ↦ absurd (has_no_subtags text h.0 k.2 h.3)
           ]
         ]
@@ -122,24 +143,29 @@ one_tag_cause text a b p q = elim p [
 ]
 
 -- A text that spells a language is not refused as one, out of memory apart.
-pub no_language : (text held : List ℕ) (fault : LangFault) → fault ≢ lang.NoMemory → SpellsLang text held → RefusesLang text fault → ⊥
+pub no_language : (text held : List ℕ) (fault : LangFault) → fault ≢ lang.NoMemory
+    → SpellsLang text held → RefusesLang text fault → ⊥
 no_language text held fault n spells why = elim spells [
   | inl none ↦ why.0 none.0
   | inr tag ↦ no_tag (str_to_ascii_lowercase text) fault (tag_cause _ fault n why.1) tag.0
 ]
 
 -- A text is refused as a language for only one cause, out of memory apart.
-pub one_language_fault : (text : List ℕ) (a b : LangFault) → a ≢ lang.NoMemory → b ≢ lang.NoMemory → RefusesLang text a → RefusesLang text b → a ≡ b
-one_language_fault text a b m n p q = one_tag_cause (str_to_ascii_lowercase text) a b (tag_cause _ a m p.1) (tag_cause _ b n q.1)
+pub one_language_fault : (text : List ℕ) (a b : LangFault) → a ≢ lang.NoMemory → b ≢ lang.NoMemory
+    → RefusesLang text a → RefusesLang text b → a ≡ b
+one_language_fault text a b m n p q =
+    one_tag_cause (str_to_ascii_lowercase text) a b (tag_cause _ a m p.1) (tag_cause _ b n q.1)
 
 -- ---- labels
 
 abbrev TextsCause : List (List ℕ) → CellFault → Type 0
 TextsCause texts fault =
     ((fault ≡ cell.LabelCount (length texts)) × ¬ (IsLabelCount (length texts)))
-    ⊎ ((index : ℕ) × (fault ≡ cell.TextTooLong index) × IsLabelCount (length texts) × (position is_too_long texts ≡ Some index))
+    ⊎ ((index : ℕ) × (fault ≡ cell.TextTooLong index) × IsLabelCount (length texts)
+    × (position is_too_long texts ≡ Some index))
 
-texts_cause : (texts : List (List ℕ)) (fault : CellFault) → RefusesTexts texts fault → TextsCause texts fault
+texts_cause : (texts : List (List ℕ)) (fault : CellFault) → RefusesTexts texts fault
+    → TextsCause texts fault
 texts_cause texts cell.IdRefused h = absurd h
 texts_cause texts (cell.TextTooLong index) h = inr (index, refl, h.0, h.1)
 texts_cause texts (cell.LabelCount count) h = inl (ap cell.LabelCount h.0, h.1)
@@ -151,7 +177,8 @@ too_long : (text : List ℕ) → is_too_long text ≡ true → length text ≤ 6
 too_long text h short = grind (arith, nat_tests)
 
 -- Texts that are a label are not refused as one.
-pub no_label : (texts : List (List ℕ)) (fault : CellFault) → IsLabel texts → RefusesTexts texts fault → ⊥
+pub no_label : (texts : List (List ℕ)) (fault : CellFault) → IsLabel texts
+    → RefusesTexts texts fault → ⊥
 no_label texts fault is why = elim (texts_cause texts fault why) [
   | inl h ↦ h.1 is.count
   | inr h ↦
@@ -160,7 +187,8 @@ no_label texts fault is why = elim (texts_cause texts fault why) [
 ]
 
 -- Texts are refused as a label for only one cause.
-pub one_label_fault : (texts : List (List ℕ)) (a b : CellFault) → RefusesTexts texts a → RefusesTexts texts b → a ≡ b
+pub one_label_fault : (texts : List (List ℕ)) (a b : CellFault) → RefusesTexts texts a
+    → RefusesTexts texts b → a ≡ b
 one_label_fault texts a b p q = elim (texts_cause texts a p) [
   | inl h ↦ elim (texts_cause texts b q) [ inl k ↦ h.0 ∙ sym k.0 | inr k ↦ absurd (h.1 k.2) ]
   | inr h ↦ elim (texts_cause texts b q) [
@@ -176,23 +204,27 @@ one_label_fault texts a b p q = elim (texts_cause texts a p) [
 abbrev FieldCause : Scheme → List ℕ → NegoFault → Type 0
 FieldCause scheme text fault =
     ((fault ≡ nego.FieldTooLong) × (65535 < length text))
-    ⊎ ((offset : ℕ) × (fault ≡ nego.FieldMalformed offset) × (length text ≤ 65535) × IsFirstMalformed scheme text offset)
+    ⊎ ((offset : ℕ) × (fault ≡ nego.FieldMalformed offset) × (length text ≤ 65535)
+    × IsFirstMalformed scheme text offset)
 
-field_cause : (scheme : Scheme) (text : List ℕ) (fault : NegoFault) → fault ≢ nego.NoMemory → RefusesField scheme Refused text fault → FieldCause scheme text fault
+field_cause : (scheme : Scheme) (text : List ℕ) (fault : NegoFault) → fault ≢ nego.NoMemory
+    → RefusesField scheme Refused text fault → FieldCause scheme text fault
 field_cause scheme text nego.FieldTooLong n h = inl (refl, h)
 field_cause scheme text (nego.FieldMalformed offset) n h = inr (offset, refl, h.0, h.1)
 field_cause scheme text nego.NoMemory n h = absurd (n refl)
 
 -- A text that is a priority list is not refused as one, out of memory apart.
 pub no_list : (scheme : Scheme) (text : List ℕ) (fault : NegoFault) → fault ≢ nego.NoMemory
-    → (items : List Item) → length text ≤ 65535 → IsField scheme Refused text items → RefusesField scheme Refused text fault → ⊥
+    → (items : List Item) → length text ≤ 65535 → IsField scheme Refused text items
+    → RefusesField scheme Refused text fault → ⊥
 no_list scheme text fault n items short is why = elim (field_cause scheme text fault n why) [
   | inl h ↦ let long = h.1 in omega (arith, long, short)
   | inr h ↦ malformed_is_no_field scheme text h.0 items h.3 is
 ]
 
 -- A text is refused as a priority list for only one cause, out of memory apart.
-pub one_list_fault : (scheme : Scheme) (text : List ℕ) (a b : NegoFault) → a ≢ nego.NoMemory → b ≢ nego.NoMemory
+pub one_list_fault : (scheme : Scheme) (text : List ℕ) (a b : NegoFault) → a ≢ nego.NoMemory
+    → b ≢ nego.NoMemory
     → RefusesField scheme Refused text a → RefusesField scheme Refused text b → a ≡ b
 one_list_fault scheme text a b m n p q = elim (field_cause scheme text a m p) [
   | inl h ↦ elim (field_cause scheme text b n q) [

@@ -7,20 +7,27 @@ use Rattle.cata_core.specs.Entries.{Entries}
 use Rattle.cata_core.specs.Latest.{latest_of}
 use Rattle.cata_core.specs.Sites.{RefusesEdit, SiteState}
 use Rattle.cata_core.specs.declared.cata_fault.CataFault.{CataFault}
-use Rattle.cata_core.specs.declared.cata_fault.CataFault.TheVariants.{ClockSpent, NoMemory, NotForMe, StampReused}
+use Rattle.cata_core.specs.declared.cata_fault.CataFault.TheVariants.{ClockSpent, NoMemory}
+use Rattle.cata_core.specs.declared.cata_fault.CataFault.TheVariants.{NotForMe, StampReused}
 use Rattle.map_docs.specs.LangMaps.{Labelled}
 use Rattle.docs_core.specs.Imported.{Imports, SpendsImport}
 use Rattle.docs_core.specs.Made.{with_change}
 
-module _ (now : ℕ) (name : List ℕ) (e : Labelled) (es : List Labelled) (old mid : Entries) (stamp : Stamp) (next : IsNext (latest_of old) now name stamp) (is : mid ≡ with_change (e.0, Some e.1) stamp old) where
-  pub Imports-next : (new : Entries) → Imports now name es mid new → Imports now name (e ∷ es) old new
-  Imports-next new rest = (stamp, next, subst (λ (cells : Entries). Imports now name es cells new) is rest)
+module _ (now : ℕ) (name : List ℕ) (e : Labelled) (es : List Labelled) (old mid : Entries)
+    (stamp : Stamp) (next : IsNext (latest_of old) now name stamp)
+    (is : mid ≡ with_change (e.0, Some e.1) stamp old) where
+  pub Imports-next : (new : Entries) → Imports now name es mid new
+      → Imports now name (e ∷ es) old new
+  Imports-next new rest =
+      (stamp, next, subst (λ (cells : Entries). Imports now name es cells new) is rest)
 
   pub SpendsImport-next : SpendsImport now name es mid → SpendsImport now name (e ∷ es) old
-  SpendsImport-next rest = inr (stamp, next, subst (λ (cells : Entries). SpendsImport now name es cells) is rest)
+  SpendsImport-next rest =
+      inr (stamp, next, subst (λ (cells : Entries). SpendsImport now name es cells) is rest)
 
 -- why a label is not put
-pub not_put : (site : SiteState) (now : ℕ) (fault : CataFault) → RefusesEdit site now fault → (fault ≡ NoMemory) ⊎ ((fault ≡ ClockSpent) × NoNext (latest_of site.cells) now site.name)
+pub not_put : (site : SiteState) (now : ℕ) (fault : CataFault) → RefusesEdit site now fault
+    → (fault ≡ NoMemory) ⊎ ((fault ≡ ClockSpent) × NoNext (latest_of site.cells) now site.name)
 not_put site now (StampReused place stamp) h = absurd h
 not_put site now ClockSpent h = inr (refl, h)
 not_put site now (NotForMe addressee) h = absurd h

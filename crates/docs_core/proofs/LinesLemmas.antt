@@ -1,5 +1,6 @@
 -- Lines after lines.
-use Rattle.std.proofs.Common.{◌≡◌, ◌∙◌, ◌+◌, ◌<◌, ◌++◌, ℕ, List, [], ◌∷◌, arith, ap, sym, length, take, get_or}
+use Rattle.std.proofs.Common.{◌≡◌, ◌∙◌, ◌+◌, ◌<◌, ◌++◌, ℕ, List, [], ◌∷◌, arith, ap, sym, length}
+use Rattle.std.proofs.Common.{take, get_or}
 use Rattle.std.specs.Prelude.{Option, flat_map, slice_get, Some, None}
 use Rattle.std.proofs.lemmas.List.{flat_map_more, take_more}
 use Rattle.std.proofs.lemmas.Option.{get_or_from_slice_get, slice_get-get_or, slice_get_within}
@@ -11,19 +12,25 @@ use Rattle.serde_json.proofs.Texts.{print-outline}
 use Rattle.site_docs.specs.Texts.{Adds, value_tokens}
 
 -- A value that is written follows the bytes that were written before it.
-pub printed_behind : (a b : Written) (start : List ℕ) (d : Data) → a.before ≡ start → a.tokens ≡ [] → Adds a b (value_tokens d)
+pub printed_behind : (a b : Written) (start : List ℕ) (d : Data) → a.before ≡ start → a.tokens ≡ []
+    → Adds a b (value_tokens d)
     → b.before ++ print b.tokens ≡ start ++ compact_text d
 printed_behind a b start d before none adds =
     let tokens : b.tokens ≡ value_tokens d = adds.1 ∙ ap (λ t. t ++ value_tokens d) none in
-    ap (λ t. t ++ print b.tokens) (adds.0 ∙ before) ∙ ap (λ t. start ++ t) (ap print tokens ∙ print-outline d)
+    ap (λ t. t ++ print b.tokens) (adds.0 ∙ before)
+    ∙ ap (λ t. start ++ t) (ap print tokens ∙ print-outline d)
 
 module _ {A : Type 0} (each : A → List ℕ) (start : List ℕ) (xs : List A) where
   -- one item more
-  pub more_lines : (k : ℕ) (x : A) (written : List ℕ) → slice_get xs k ≡ Some x → written ≡ start ++ flat_map each (take k xs)
+  pub more_lines : (k : ℕ) (x : A) (written : List ℕ) → slice_get xs k ≡ Some x
+      → written ≡ start ++ flat_map each (take k xs)
       → written ++ each x ≡ start ++ flat_map each (take (k + 1) xs)
   more_lines k x written here so_far =
-      let taken : take (k + 1) xs ≡ take k xs ++ x ∷ [] = take_more xs k x (slice_get_within xs k x here) ∙ ap (λ y. take k xs ++ y ∷ []) (get_or_from_slice_get xs k x x here) in
-      ap (λ t. t ++ each x) so_far ∙ flat_map_more each start (take k xs) x ∙ ap (λ t. start ++ flat_map each t) (sym taken)
+      let taken : take (k + 1) xs ≡ take k xs ++ x ∷ [] =
+      take_more xs k x (slice_get_within xs k x here)
+      ∙ ap (λ y. take k xs ++ y ∷ []) (get_or_from_slice_get xs k x x here) in
+      ap (λ t. t ++ each x) so_far ∙ flat_map_more each start (take k xs) x
+      ∙ ap (λ t. start ++ flat_map each t) (sym taken)
 
 -- what is there is not missing
 some_none : {A : Type 0} (x : A) (o : Option A) → o ≡ Some x → o ≡ None → ⊥
@@ -35,6 +42,7 @@ item_there xs k within none =
     let is = slice_get-get_or_some xs k within in
     some_none is.0 (slice_get xs k) is.1 none
   where
-    slice_get-get_or_some : {A : Type 0} (xs : List A) (k : ℕ) → k < length xs → (x : A) × (slice_get xs k ≡ Some x)
+    slice_get-get_or_some : {A : Type 0} (xs : List A) (k : ℕ) → k < length xs
+        → (x : A) × (slice_get xs k ≡ Some x)
     slice_get-get_or_some [] k h = absurd (omega arith)
     slice_get-get_or_some (x ∷ xs) k h = (get_or (x ∷ xs) k x, slice_get-get_or (x ∷ xs) k x h)

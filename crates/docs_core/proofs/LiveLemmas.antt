@@ -21,13 +21,17 @@ labelled key label rest = cons_option (option_map (λ l. (key, l)) label) rest
 
 -- ---- they rise
 
-below_live : (key : EntryKey) (es : Entries) → T (below_all key_cmp key es) → T (below_all key_cmp key (live_labels es))
+below_live : (key : EntryKey) (es : Entries) → T (below_all key_cmp key es)
+    → T (below_all key_cmp key (live_labels es))
 below_live key [] h = tt
 below_live key (e ∷ es) h =
-    let rest = below_live key es (second_part (is_lt (key_cmp key e.0)) (below_all key_cmp key es) h) in
+    let rest =
+    below_live key es (second_part (is_lt (key_cmp key e.0)) (below_all key_cmp key es) h) in
     elim e.1.label as (λ o. T (below_all key_cmp key (labelled e.0 o (live_labels es)))) [
       | None ↦ rest
-      | Some label ↦ both_parts (is_lt (key_cmp key e.0)) (below_all key_cmp key (live_labels es)) (first_part (is_lt (key_cmp key e.0)) (below_all key_cmp key es) h) rest
+      | Some label ↦
+          both_parts (is_lt (key_cmp key e.0)) (below_all key_cmp key (live_labels es))
+          (first_part (is_lt (key_cmp key e.0)) (below_all key_cmp key es) h) rest
     ]
 
 -- The keys of a catalogue's live labels strictly ascend.
@@ -38,12 +42,17 @@ live-IsMap (e ∷ es) h =
     elim e.1.label as (λ o. IsMap key_cmp (labelled e.0 o (live_labels es))) [
       | None ↦ rest
       | Some label ↦
-          both_parts (below_all key_cmp e.0 (live_labels es)) (is_sorted key_cmp (live_labels es)) (below_live e.0 es (first_part (below_all key_cmp e.0 es) (is_sorted key_cmp es) h)) rest
+          both_parts (below_all key_cmp e.0 (live_labels es)) (is_sorted key_cmp (live_labels es))
+          (below_live e.0 es (first_part (below_all key_cmp e.0 es) (is_sorted key_cmp es) h))
+          rest
     ]
 
 -- The keys of the live labels of chosen messages strictly ascend.
-pub chosen-IsMap : (messages : Messages) (cells : Entries) → IsMap key_cmp cells → IsMap key_cmp (chosen_labels messages cells)
-chosen-IsMap messages cells m = filter-IsMap key_cmp (λ (e : Labelled). is_chosen messages cells e.0.0) (live_labels cells) (live-IsMap cells m)
+pub chosen-IsMap : (messages : Messages) (cells : Entries) → IsMap key_cmp cells
+    → IsMap key_cmp (chosen_labels messages cells)
+chosen-IsMap messages cells m =
+    filter-IsMap key_cmp (λ (e : Labelled). is_chosen messages cells e.0.0) (live_labels cells)
+    (live-IsMap cells m)
 
 all_pass : (labels : List Labelled) → filter (λ _. true) labels ≡ labels
 all_pass [] = refl
@@ -60,20 +69,28 @@ abbrev pub label_in : Option Cell → Option (List (List ℕ))
 label_in o = option_and_then (λ c. c.label) o
 
 -- The live label of a key is the label of the cell there, if it has one.
-pub find-live : (q : EntryKey) (es : Entries) → IsMap key_cmp es → find key_cmp q (live_labels es) ≡ label_at q es
+pub find-live : (q : EntryKey) (es : Entries) → IsMap key_cmp es
+    → find key_cmp q (live_labels es) ≡ label_at q es
 find-live q [] m = refl
 find-live q (e ∷ es) m =
     let below = first_part (below_all key_cmp e.0 es) (is_sorted key_cmp es) m in
     let rest = find-live q es (second_part (below_all key_cmp e.0 es) (is_sorted key_cmp es) m) in
-    elim (eq_by_cmp key_cmp q e.0) as (λ t. eq_by_cmp key_cmp q e.0 ≡ t → find key_cmp q (labelled e.0 e.1.label (live_labels es)) ≡ label_in (cond t (Some e.1) (find key_cmp q es))) [
+    elim (eq_by_cmp key_cmp q e.0) as
+    (λ t. eq_by_cmp key_cmp q e.0 ≡ t
+    → find key_cmp q (labelled e.0 e.1.label (live_labels es))
+    ≡ label_in (cond t (Some e.1) (find key_cmp q es))) [
       | true ↦ λ t.
-          let none = find-below key_cmp q es (below_tied_all key_cmp key_cmp_total q e.0 es (tied (key_cmp q e.0) t) below) in
+          let none =
+          find-below key_cmp q es
+          (below_tied_all key_cmp key_cmp_total q e.0 es (tied (key_cmp q e.0) t) below) in
           elim e.1.label as (λ o. find key_cmp q (labelled e.0 o (live_labels es)) ≡ o) [
             | None ↦ rest ∙ ap label_in none
             | Some label ↦ ap (λ b. cond b (Some label) (find key_cmp q (live_labels es))) t
           ]
-      | false ↦ λ t. elim e.1.label as (λ o. find key_cmp q (labelled e.0 o (live_labels es)) ≡ label_in (find key_cmp q es)) [
-        | None ↦ rest
-        | Some label ↦ ap (λ b. cond b (Some label) (find key_cmp q (live_labels es))) t ∙ rest
-      ]
+      | false ↦
+          λ t. elim e.1.label as
+          (λ o. find key_cmp q (labelled e.0 o (live_labels es)) ≡ label_in (find key_cmp q es)) [
+            | None ↦ rest
+            | Some label ↦ ap (λ b. cond b (Some label) (find key_cmp q (live_labels es))) t ∙ rest
+          ]
     ] refl

@@ -41,18 +41,21 @@ same_some (x ∷ xs) (y ∷ ys) is =
     let tails : map Some xs ≡ map Some ys = cc in
     ap₂ (λ z zs. z ∷ zs) head (same_some xs ys tails)
 
-same_entries : {J : Type 0} (entry : Data → Option (EntryKey × J)) (rows : List Data) (es fs : List (EntryKey × J)) → AreEntries entry rows es → AreEntries entry rows fs → es ≡ fs
+same_entries : {J : Type 0} (entry : Data → Option (EntryKey × J)) (rows : List Data)
+    (es fs : List (EntryKey × J)) → AreEntries entry rows es → AreEntries entry rows fs → es ≡ fs
 same_entries entry rows es fs p q = same_some es fs (sym p ∙ q)
 
 -- of values that data can be one at most, a text reads as one at most
-one_read : {X : Type 0} (checks : Data → List Check) (Is : Data → X → Type 0) (one : (d : Data) (x y : X) → Is d x → Is d y → x ≡ y) (bytes : List ℕ) (x y : X)
+one_read : {X : Type 0} (checks : Data → List Check) (Is : Data → X → Type 0)
+    (one : (d : Data) (x y : X) → Is d x → Is d y → x ≡ y) (bytes : List ℕ) (x y : X)
     → Reads checks Is bytes x → Reads checks Is bytes y → x ≡ y
 one_read checks Is one bytes x y p q =
     let same : q.0 ≡ p.0 = inside q.0 p.0 (sym q.1.1 ∙ p.1.1) in
     one p.0 x y p.3 (subst (λ d. Is d y) same q.3)
 
 -- the data of a text are those that its value is read from
-pub read_is : {X : Type 0} (checks : Data → List Check) (Is : Data → X → Type 0) (bytes : List ℕ) (d : Data) (x : X) → AreJson bytes d → Reads checks Is bytes x → Is d x
+pub read_is : {X : Type 0} (checks : Data → List Check) (Is : Data → X → Type 0) (bytes : List ℕ)
+    (d : Data) (x : X) → AreJson bytes d → Reads checks Is bytes x → Is d x
 read_is checks Is bytes d x json reads =
     let same : reads.0 ≡ d = inside reads.0 d (sym reads.1.1 ∙ json.1) in
     subst (λ e. Is e x) same reads.3
@@ -73,12 +76,14 @@ site_is d s t p q =
 delta_is : (d : Data) (s t : Delta) → IsDeltaDocument d s → IsDeltaDocument d t → s ≡ t
 delta_is d s t p q =
     ap₂ (λ (n : List ℕ) (es : Entries). let r : Delta = record { addressee = n; cells = es } in r)
-    (inside s.addressee t.addressee (sym p.addressee ∙ q.addressee)) (same_entries _ _ s.cells t.cells p.cells q.cells)
+    (inside s.addressee t.addressee (sym p.addressee ∙ q.addressee))
+    (same_entries _ _ s.cells t.cells p.cells q.cells)
 
 summary_is : (d : Data) (s t : SummaryState) → IsSummaryDocument d s → IsSummaryDocument d t → s ≡ t
 summary_is d s t p q =
     ap₂ (λ (n : List ℕ) ts. let r : SummaryState = record { owner = n; stamps = ts } in r)
-    (inside s.owner t.owner (sym p.owner ∙ q.owner)) (same_entries _ _ s.stamps t.stamps p.stamps q.stamps)
+    (inside s.owner t.owner (sym p.owner ∙ q.owner))
+    (same_entries _ _ s.stamps t.stamps p.stamps q.stamps)
 
 -- ---- scripts
 
@@ -90,33 +95,40 @@ one_made (filter_step site id scheme field) s t p q =
     p.2 ∙ ap (λ items. AskFilter site id scheme items) same ∙ sym q.2
 one_made (lookup_step site id field default) s t p q =
     let same : p.0 ≡ q.0 = one_items Basic Refused field p.0 q.0 p.1.1 q.1.1 in
-    p.2 ∙ ap (λ items. AskLookup site id items (option_map str_to_ascii_lowercase default)) same ∙ sym q.2
+    p.2 ∙ ap (λ items. AskLookup site id items (option_map str_to_ascii_lowercase default)) same
+    ∙ sym q.2
 one_made (cells_step site) s t p q = p ∙ sym q
 one_made (tell_step site) s t p q = p ∙ sym q
 one_made (post_step site told) s t p q = p ∙ sym q
 one_made (deliver_step post) s t p q = p ∙ sym q
 
-one_step : (version : Version) (d : Data) (s t : Step) → IsStep version d s → IsStep version d t → s ≡ t
+one_step : (version : Version) (d : Data) (s t : Step) → IsStep version d s → IsStep version d t
+    → s ≡ t
 one_step version d s t p q =
     let same : q.0 ≡ p.0 = inside q.0 p.0 (sym q.1 ∙ p.1) in
     one_made p.0 s t p.2 (subst (λ text. Makes text t) same q.2)
 
-one_list_of_steps : (version : Version) (rows : List Data) (ss ts : List Step) → AreSteps version rows ss → AreSteps version rows ts → ss ≡ ts
+one_list_of_steps : (version : Version) (rows : List Data) (ss ts : List Step)
+    → AreSteps version rows ss → AreSteps version rows ts → ss ≡ ts
 one_list_of_steps version [] [] [] p q = refl
 one_list_of_steps version [] [] (t ∷ ts) p q = absurd q
 one_list_of_steps version [] (s ∷ ss) ts p q = absurd p
 one_list_of_steps version (d ∷ ds) [] ts p q = absurd p
 one_list_of_steps version (d ∷ ds) (s ∷ ss) [] p q = absurd q
 one_list_of_steps version (d ∷ ds) (s ∷ ss) (t ∷ ts) p q =
-    ap₂ (λ z zs. z ∷ zs) (one_step version d s t p.0 q.0) (one_list_of_steps version ds ss ts p.1 q.1)
+    ap₂ (λ z zs. z ∷ zs) (one_step version d s t p.0 q.0)
+    (one_list_of_steps version ds ss ts p.1 q.1)
 
 script_is : (d : Data) (s t : ScriptState) → IsScriptDocument d s → IsScriptDocument d t → s ≡ t
 script_is d s t p q =
-    ap₂ (λ (n : ℕ) (steps : List Step). let r : ScriptState = record { sites = n; steps = steps } in r)
-    (inside s.sites t.sites (sym p.sites ∙ q.sites)) (one_list_of_steps _ _ s.steps t.steps p.steps q.steps)
+    ap₂ (λ (n : ℕ) (steps : List Step). let r : ScriptState = record { sites = n; steps = steps } in
+    r)
+    (inside s.sites t.sites (sym p.sites ∙ q.sites))
+    (one_list_of_steps _ _ s.steps t.steps p.steps q.steps)
 
 -- A text reads as one script at most.
-pub one_script : (bytes : List ℕ) (s t : ScriptState) → ReadsAsScript bytes s → ReadsAsScript bytes t → s ≡ t
+pub one_script : (bytes : List ℕ) (s t : ScriptState) → ReadsAsScript bytes s
+    → ReadsAsScript bytes t → s ≡ t
 one_script = one_read script_checks IsScriptDocument script_is
 
 -- one script, one list of answers, one text
@@ -130,7 +142,8 @@ one_replay bytes x y p q =
 -- ---- sites, deltas and summaries
 
 -- A text reads as one site at most.
-pub one_site : (bytes : List ℕ) (s t : SiteState) → ReadsAsSite bytes s → ReadsAsSite bytes t → s ≡ t
+pub one_site : (bytes : List ℕ) (s t : SiteState) → ReadsAsSite bytes s → ReadsAsSite bytes t
+    → s ≡ t
 one_site = one_read site_checks IsSiteDocument site_is
 
 -- A text reads as one delta at most.
@@ -138,5 +151,6 @@ pub one_delta : (bytes : List ℕ) (s t : Delta) → ReadsAsDelta bytes s → Re
 one_delta = one_read delta_checks IsDeltaDocument delta_is
 
 -- A text reads as one summary at most.
-pub one_summary : (bytes : List ℕ) (s t : SummaryState) → ReadsAsSummary bytes s → ReadsAsSummary bytes t → s ≡ t
+pub one_summary : (bytes : List ℕ) (s t : SummaryState) → ReadsAsSummary bytes s
+    → ReadsAsSummary bytes t → s ≡ t
 one_summary = one_read summary_checks IsSummaryDocument summary_is

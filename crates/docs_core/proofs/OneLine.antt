@@ -59,7 +59,8 @@ unfolding escape_byte
 escaped_byte x =
     by_tests (nat_lt 0 (escape_letter x)) (nat_lt x 32) _ _ _
     (more 92 (escape_letter x ∷ []) (omega arith) (more (escape_letter x) [] (letter x) none))
-    (joined (92 ∷ 117 ∷ 48 ∷ 48 ∷ []) (digit_char (x / 16) ∷ digit_char (x % 16) ∷ []) (literal (92 ∷ 117 ∷ 48 ∷ 48 ∷ []) refl)
+    (joined (92 ∷ 117 ∷ 48 ∷ 48 ∷ []) (digit_char (x / 16) ∷ digit_char (x % 16) ∷ [])
+    (literal (92 ∷ 117 ∷ 48 ∷ 48 ∷ []) refl)
     (more (digit_char (x / 16)) (digit_char (x % 16) ∷ []) (glyph (x / 16))
     (more (digit_char (x % 16)) [] (glyph (x % 16)) none)))
     (λ e. more x [] (printable x e) none)
@@ -69,7 +70,9 @@ escaped [] = none
 escaped (x ∷ s) = joined (escape_byte x) (escape s) (escaped_byte x) (escaped s)
 
 quoted_line : (s : List ℕ) → IsLine (quoted s)
-quoted_line s = more 34 (escape s ++ 34 ∷ []) (omega arith) (joined (escape s) (34 ∷ []) (escaped s) (more 34 [] (omega arith) none))
+quoted_line s =
+    more 34 (escape s ++ 34 ∷ []) (omega arith)
+    (joined (escape s) (34 ∷ []) (escaped s) (more 34 [] (omega arith) none))
 
 -- ---- numbers
 
@@ -127,7 +130,8 @@ mutual
   members_line : (later : Bool) (ms : Members) → IsLine (members_text later ms)
   members_line later no_members = more 125 [] (omega arith) none
   members_line later (member k d ms) =
-      joined (comma_if later) (quoted k ++ 58 ∷ (compact_text d ++ members_text true ms)) (comma_line later)
+      joined (comma_if later) (quoted k ++ 58 ∷ (compact_text d ++ members_text true ms))
+      (comma_line later)
       (joined (quoted k) (58 ∷ (compact_text d ++ members_text true ms)) (quoted_line k)
       (more 58 (compact_text d ++ members_text true ms) (omega arith)
       (joined (compact_text d) (members_text true ms) (value_line d) (members_line true ms))))

@@ -7,7 +7,8 @@ use Rattle.cata_core.specs.Faulty.{IsFirstFault, IsNoClash, NoDelivers, NoneFaul
 use Rattle.cata_core.specs.Taken.{edits_of}
 use Rattle.cata_core.specs.declared.answer.Answer.{Answer}
 use Rattle.cata_core.specs.declared.play_fault.PlayFault.{PlayFault}
-use Rattle.cata_core.specs.declared.play_fault.PlayFault.TheVariants.{NoMemory, NoSuchPost, NoSuchSite, StampReused}
+use Rattle.cata_core.specs.declared.play_fault.PlayFault.TheVariants.{NoMemory, NoSuchPost}
+use Rattle.cata_core.specs.declared.play_fault.PlayFault.TheVariants.{NoSuchSite, StampReused}
 use Rattle.json_docs.specs.Checks.{OrMemory}
 use Rattle.json_docs.specs.Faults.{of_no_document, of_step}
 use Rattle.json_docs.specs.declared.fault.DocFault.{DocFault}
@@ -17,11 +18,23 @@ use Rattle.script_docs.specs.Scripts.{ScriptState}
 use Rattle.docs_core.specs.Replays.{IsPlayed, RefusesReplay, RefusesRun}
 
 module _ (script : ScriptState) where
-  faulty : (fault : PlayFault) → fault ≢ NoMemory → (fault ≡ NoMemory) ⊎ IsFirstFault script.sites script.steps fault → (IsConsistent (edits_of script.steps) → IsNoClash fault) → RefusesRun script fault
-  faulty fault apart first no_clash = record { apart = apart; first = elim first [ inl memory ↦ absurd (apart memory) | inr h ↦ h ]; no_clash = no_clash }
+  faulty : (fault : PlayFault) → fault ≢ NoMemory
+      → (fault ≡ NoMemory) ⊎ IsFirstFault script.sites script.steps fault
+      → (IsConsistent (edits_of script.steps) → IsNoClash fault) → RefusesRun script fault
+  faulty fault apart first no_clash =
+      record {
+        apart = apart;
+        first =
+            elim first [ inl memory ↦ absurd (apart memory) | inr h ↦ h ];
+        no_clash = no_clash;
+      }
 
-  run_refused : (fault : PlayFault) → (fault ≡ NoMemory) ⊎ IsFirstFault script.sites script.steps fault → (IsConsistent (edits_of script.steps) → IsNoClash fault) → OrMemory NoMemory (RefusesRun script) fault
-  run_refused (StampReused step place stamp) first no_clash = inr (faulty _ (λ e. cc) first no_clash)
+  run_refused : (fault : PlayFault)
+      → (fault ≡ NoMemory) ⊎ IsFirstFault script.sites script.steps fault
+      → (IsConsistent (edits_of script.steps) → IsNoClash fault)
+      → OrMemory NoMemory (RefusesRun script) fault
+  run_refused (StampReused step place stamp) first no_clash =
+      inr (faulty _ (λ e. cc) first no_clash)
   run_refused (NoSuchSite step) first no_clash = inr (faulty _ (λ e. cc) first no_clash)
   run_refused (NoSuchPost step) first no_clash = inr (faulty _ (λ e. cc) first no_clash)
   run_refused NoMemory first no_clash = inl refl
@@ -29,14 +42,20 @@ module _ (script : ScriptState) where
 -- The answers of a run are those of its script, and its fault is a stated refusal of the run.
 pub played_or_refused : (r : Result (List Answer) PlayFault) (script : ScriptState)
     → OnOk r (NoneFaulty script.sites script.steps) → IfOk r (AreHeldAnswers script.steps)
-    → IfOk r (λ answers. IsConsistent (edits_of script.steps) → AreAnswers script.steps answers) → IfOk r (λ answers. NoDelivers script.steps → AreAnswers script.steps answers)
-    → IfErr r (λ fault. (fault ≡ NoMemory) ⊎ IsFirstFault script.sites script.steps fault) → IfErr r (λ fault. IsConsistent (edits_of script.steps) → IsNoClash fault)
+    → IfOk r (λ answers. IsConsistent (edits_of script.steps) → AreAnswers script.steps answers)
+    → IfOk r (λ answers. NoDelivers script.steps → AreAnswers script.steps answers)
+    → IfErr r (λ fault. (fault ≡ NoMemory) ⊎ IsFirstFault script.sites script.steps fault)
+    → IfErr r (λ fault. IsConsistent (edits_of script.steps) → IsNoClash fault)
     → MatchResult r (IsPlayed script) (OrMemory NoMemory (RefusesRun script))
-played_or_refused (Ok answers) script sound held consistent undelivered first no_clash = record { sound = sound; held = held; consistent = consistent; undelivered = undelivered }
-played_or_refused (Err fault) script sound held consistent undelivered first no_clash = run_refused script fault first no_clash
+played_or_refused (Ok answers) script sound held consistent undelivered first no_clash =
+    record { sound = sound; held = held; consistent = consistent; undelivered = undelivered }
+played_or_refused (Err fault) script sound held consistent undelivered first no_clash =
+    run_refused script fault first no_clash
 
 -- a run that is refused, as the replay of its script
-pub steps_refused : (bytes : List ℕ) (script : ScriptState) (cause : PlayFault) (fault : DocFault) → ReadsAsScript bytes script → OrMemory NoMemory (RefusesRun script) cause → fault ≡ of_no_document (of_step cause)
+pub steps_refused : (bytes : List ℕ) (script : ScriptState) (cause : PlayFault) (fault : DocFault)
+    → ReadsAsScript bytes script → OrMemory NoMemory (RefusesRun script) cause
+    → fault ≡ of_no_document (of_step cause)
     → OrMemory no_memory (RefusesReplay bytes) fault
 steps_refused bytes script cause fault reads why is = elim why [
   | inl memory ↦ inl (is ∙ ap (λ c. of_no_document (of_step c)) memory)
@@ -44,11 +63,13 @@ steps_refused bytes script cause fault reads why is = elim why [
 ]
 
 -- What follows from a successful write, and from it not having failed, holds of the result.
-pub written : (r : Result (Unit {0}) DocFault) (P Q : Type 0) (failed : Bool) → OnOk r P → failed ≡ is_err r → (P → failed ≡ false → Q) → OnOk r Q
+pub written : (r : Result (Unit {0}) DocFault) (P Q : Type 0) (failed : Bool) → OnOk r P
+    → failed ≡ is_err r → (P → failed ≡ false → Q) → OnOk r Q
 written (Ok x) P Q failed h is more = more h is
 written (Err e) P Q failed h is more = tt
 
 -- What follows from a fault of a write, and from the write having failed, holds of the result.
-pub not_written : (r : Result (Unit {0}) DocFault) (P Q : DocFault → Type 0) (failed : Bool) → IfErr r P → failed ≡ is_err r → ((e : DocFault) → P e → failed ≡ true → Q e) → IfErr r Q
+pub not_written : (r : Result (Unit {0}) DocFault) (P Q : DocFault → Type 0) (failed : Bool)
+    → IfErr r P → failed ≡ is_err r → ((e : DocFault) → P e → failed ≡ true → Q e) → IfErr r Q
 not_written (Ok x) P Q failed h is more = tt
 not_written (Err e) P Q failed h is more = more e h is

@@ -18,10 +18,13 @@ is_found Nothing = false
 -- the text is the lines of the answer, and says whether anything was found
 abbrev pub Answers : Entries → List ℕ → Ask → List ℕ → Bool → Type 0
 Answers cells id (Filter scheme list) text found =
-    (entries : Weighed) × IsFilterAnswer cells id scheme list entries × (text ≡ filter_lines entries) × (found ≡ not (length entries == 0))
+    (entries : Weighed) × IsFilterAnswer cells id scheme list entries
+    × (text ≡ filter_lines entries) × (found ≡ not (length entries == 0))
 Answers cells id (Lookup list default) text found =
-    (reply : Reply) × IsLookupAnswer cells id list default reply × (text ≡ reply_line reply) × (found ≡ is_found reply)
+    (reply : Reply) × IsLookupAnswer cells id list default reply × (text ≡ reply_line reply)
+    × (found ≡ is_found reply)
 
 -- the same of the site that the bytes are a document of
 abbrev pub IsAsked : List ℕ → List ℕ → Ask → List ℕ → Bool → Type 0
-IsAsked bytes id ask text found = (site : SiteState) × ReadsAsSite bytes site × Answers site.cells id ask text found
+IsAsked bytes id ask text found =
+    (site : SiteState) × ReadsAsSite bytes site × Answers site.cells id ask text found

@@ -21,15 +21,23 @@ use Rattle.docs_core.specs.Status.{status_line}
 
 -- it is the refusal of a site's call, out of memory apart
 abbrev pub IsOfSite : (CataFault → Type 0) → DocFault → Type 0
-IsOfSite Refuses fault = (cause : CataFault) × (cause ≢ NoMemory) × Refuses cause × (fault ≡ of_no_document (of_site cause))
+IsOfSite Refuses fault =
+    (cause : CataFault) × (cause ≢ NoMemory) × Refuses cause
+    × (fault ≡ of_no_document (of_site cause))
 
 -- ---- edits
 
 -- the site with the next stamp and the label at this key, none where it is deleted
 abbrev pub IsEdited : List ℕ → ℕ → EntryKey → Option (List (List ℕ)) → List ℕ → Type 0
 IsEdited bytes now key label text =
-    (site : SiteState) × (stamp : Stamp) × ReadsAsSite bytes site × IsNext (latest_of site.cells) now site.name stamp
-    × IsSiteText (record { name = site.name; cells = put key_cmp key (record { stamp = stamp; label = label }) site.cells }) text
+    (site : SiteState) × (stamp : Stamp) × ReadsAsSite bytes site
+    × IsNext (latest_of site.cells) now site.name stamp
+    × IsSiteText
+    (record {
+      name = site.name;
+      cells =
+          put key_cmp key (record { stamp = stamp; label = label }) site.cells;
+    }) text
 
 abbrev pub RefusesEditing : List ℕ → ℕ → DocFault → Type 0
 RefusesEditing bytes now fault =
@@ -41,7 +49,8 @@ RefusesEditing bytes now fault =
 -- both with the cells of both
 abbrev pub AreSynced : List ℕ → List ℕ → List ℕ → List ℕ → Type 0
 AreSynced a b x y =
-    (first second : SiteState) × ReadsAsSite a first × ReadsAsSite b second × Agree first.cells second.cells
+    (first second : SiteState) × ReadsAsSite a first × ReadsAsSite b second
+    × Agree first.cells second.cells
     × IsSiteText (record { name = first.name; cells = joined first.cells second.cells }) x
     × IsSiteText (record { name = second.name; cells = joined first.cells second.cells }) y
 
@@ -49,18 +58,22 @@ abbrev pub RefusesSync : List ℕ → List ℕ → DocFault → Type 0
 RefusesSync a b fault =
     IsOfDocument 1 (RefusesSite a) fault
     ⊎ ((first : SiteState) × ReadsAsSite a first × IsOfDocument 2 (RefusesSite b) fault)
-    ⊎ ((first second : SiteState) × ReadsAsSite a first × ReadsAsSite b second × IsOfSite (IsRefusal first.cells second.cells) fault)
+    ⊎ ((first second : SiteState) × ReadsAsSite a first × ReadsAsSite b second
+    × IsOfSite (IsRefusal first.cells second.cells) fault)
 
 -- ---- summaries and deltas
 
 abbrev pub IsSummarised : List ℕ → List ℕ → Type 0
-IsSummarised bytes text = (site : SiteState) × ReadsAsSite bytes site × IsSummaryText (record { owner = site.name; stamps = summary_of site.cells }) text
+IsSummarised bytes text =
+    (site : SiteState) × ReadsAsSite bytes site
+    × IsSummaryText (record { owner = site.name; stamps = summary_of site.cells }) text
 
 -- the cells that the summary lacks, for its owner
 abbrev pub IsDeltaFor : List ℕ → List ℕ → List ℕ → Type 0
 IsDeltaFor a b text =
     (site : SiteState) × (summary : SummaryState) × ReadsAsSite a site × ReadsAsSummary b summary
-    × IsDeltaText (record { addressee = summary.owner; cells = delta_of site.cells summary.stamps }) text
+    × IsDeltaText (record { addressee = summary.owner; cells = delta_of site.cells summary.stamps })
+    text
 
 abbrev pub RefusesDeltaFor : List ℕ → List ℕ → DocFault → Type 0
 RefusesDeltaFor a b fault =
@@ -70,14 +83,16 @@ RefusesDeltaFor a b fault =
 -- the site with the cells of a delta for it
 abbrev pub IsTaken : List ℕ → List ℕ → List ℕ → Type 0
 IsTaken a b text =
-    (site : SiteState) × (delta : Delta) × ReadsAsSite a site × ReadsAsDelta b delta × (site.name ≡ delta.addressee) × Agree site.cells delta.cells
+    (site : SiteState) × (delta : Delta) × ReadsAsSite a site × ReadsAsDelta b delta
+    × (site.name ≡ delta.addressee) × Agree site.cells delta.cells
     × IsSiteText (record { name = site.name; cells = joined site.cells delta.cells }) text
 
 abbrev pub RefusesTaking : List ℕ → List ℕ → DocFault → Type 0
 RefusesTaking a b fault =
     IsOfDocument 1 (RefusesSite a) fault
     ⊎ ((site : SiteState) × ReadsAsSite a site × IsOfDocument 2 (RefusesDelta b) fault)
-    ⊎ ((site : SiteState) × (delta : Delta) × ReadsAsSite a site × ReadsAsDelta b delta × IsOfSite (NotTaken site delta) fault)
+    ⊎ ((site : SiteState) × (delta : Delta) × ReadsAsSite a site × ReadsAsDelta b delta
+    × IsOfSite (NotTaken site delta) fault)
 
 -- ---- the status
 

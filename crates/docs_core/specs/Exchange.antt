@@ -15,17 +15,21 @@ use Rattle.docs_core.specs.Imported.{Imports, SpendsImport}
 -- the site with each label of the language maps put at this time, in rising order of key
 abbrev pub IsImported : List ℕ → ℕ → List ℕ → List ℕ → Type 0
 IsImported bytes now maps doc =
-    (site : SiteState) × (labels : List Labelled) × (cells : Entries) × ReadsAsSite bytes site × AreLangMaps maps labels
-    × Imports now site.name labels site.cells cells × IsSiteText (record { name = site.name; cells = cells }) doc
+    (site : SiteState) × (labels : List Labelled) × (cells : Entries) × ReadsAsSite bytes site
+    × AreLangMaps maps labels
+    × Imports now site.name labels site.cells cells
+    × IsSiteText (record { name = site.name; cells = cells }) doc
 
 -- the site is refused, then the language maps, then a label for which there is no next stamp
 abbrev pub RefusesImport : List ℕ → ℕ → List ℕ → DocFault → Type 0
 RefusesImport bytes now maps fault =
     IsOfDocument 1 (RefusesSite bytes) fault
     ⊎ ((site : SiteState) × ReadsAsSite bytes site × IsOfDocument 2 (RefusesLangMaps maps) fault)
-    ⊎ ((site : SiteState) × (labels : List Labelled) × ReadsAsSite bytes site × AreLangMaps maps labels
+    ⊎ ((site : SiteState) × (labels : List Labelled) × ReadsAsSite bytes site
+    × AreLangMaps maps labels
     × SpendsImport now site.name labels site.cells × (fault ≡ of_no_document (of_site ClockSpent)))
 
 -- the language maps of the site's live labels
 abbrev pub IsExported : List ℕ → List ℕ → Type 0
-IsExported bytes doc = (site : SiteState) × ReadsAsSite bytes site × IsTextOf (live_labels site.cells) doc
+IsExported bytes doc =
+    (site : SiteState) × ReadsAsSite bytes site × IsTextOf (live_labels site.cells) doc

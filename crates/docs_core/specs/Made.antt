@@ -18,9 +18,14 @@ with_change e stamp cells = put key_cmp e.0 (record { stamp = stamp; label = e.1
 -- no other cell changes
 abbrev pub Makes : ℕ → List ℕ → List Change → Entries → Entries → Type 0
 Makes now name [] old new = new ≡ old
-Makes now name (e ∷ es) old new = (stamp : Stamp) × IsNext (latest_of old) now name stamp × Makes now name es (with_change e stamp old) new
+Makes now name (e ∷ es) old new =
+    (stamp : Stamp) × IsNext (latest_of old) now name stamp
+    × Makes now name es (with_change e stamp old) new
 
 -- some changes could be made so, and for the one after them there is no next stamp
 abbrev pub SpendsClock : ℕ → List ℕ → List Change → Entries → Type 0
 SpendsClock now name [] old = ⊥
-SpendsClock now name (e ∷ es) old = NoNext (latest_of old) now name ⊎ ((stamp : Stamp) × IsNext (latest_of old) now name stamp × SpendsClock now name es (with_change e stamp old))
+SpendsClock now name (e ∷ es) old =
+    NoNext (latest_of old) now name
+    ⊎ ((stamp : Stamp) × IsNext (latest_of old) now name stamp
+    × SpendsClock now name es (with_change e stamp old))

@@ -14,4 +14,6 @@ missing_labels lang cells = filter (λ e. is_none (label_at (e.0.0, lang) cells)
 
 -- the language maps of these labels of the site, and whether there is one
 abbrev pub IsMissing : List ℕ → List ℕ → List ℕ → Bool → Type 0
-IsMissing bytes lang doc found = (site : SiteState) × ReadsAsSite bytes site × AreWritten (missing_labels lang site.cells) doc found
+IsMissing bytes lang doc found =
+    (site : SiteState) × ReadsAsSite bytes site
+    × AreWritten (missing_labels lang site.cells) doc found

@@ -1,11 +1,13 @@
 -- Rows and scripts of version 1, with sites by their numbers. Own rule.
-use Rattle.std.specs.Prelude.{◌≡◌, ℕ, List, [], ◌∷◌, codes, Option, None, Some, map, option_map, option_and_then}
+use Rattle.std.specs.Prelude.{◌≡◌, ℕ, List, [], ◌∷◌, codes, Option, None, Some, map, option_map}
+use Rattle.std.specs.Prelude.{option_and_then}
 use Rattle.std.specs.Str.{str_to_ascii_lowercase}
 use Rattle.nego_core.specs.declared.scheme.Scheme.TheVariants.{Basic}
 use Rattle.cell_core.specs.Migration.{OldStamp}
 use Rattle.cata_core.specs.Entries.{EntryKey}
 use Rattle.cata_core.specs.Migration.{OldDelta, OldEntry, OldSite, OldSummary}
-use Rattle.cata_core.specs.OldSteps.{OldStep, OldEdit, OldMerge, OldAskFilter, OldAskLookup, OldAskCells, OldTell, OldPost, OldDeliver, migrated_steps}
+use Rattle.cata_core.specs.OldSteps.{OldStep, OldEdit, OldMerge, OldAskFilter, OldAskLookup}
+use Rattle.cata_core.specs.OldSteps.{OldAskCells, OldTell, OldPost, OldDeliver, migrated_steps}
 use Rattle.serde_json.specs.Data.{Data}
 use Rattle.serde_json.specs.Find.{as_str}
 use Rattle.json_docs.specs.Parts.{items_in, u32_in, u64_in}
@@ -22,12 +24,17 @@ use Rattle.script_docs.specs.Steps.{post_step, deliver_step, step_in}
 -- the key and the stamp of a row; languages are in lower case
 abbrev pub old_parts_in : Data → Data → Data → Data → Data → Option (EntryKey × OldStamp)
 old_parts_in i l t s c =
-    option_and_then (λ id. option_and_then (λ language. option_and_then (λ time. option_and_then (λ site. option_map (λ count.
+    option_and_then
+    (λ id. option_and_then
+    (λ language. option_and_then (λ time. option_and_then (λ site. option_map (λ count.
     ((id, str_to_ascii_lowercase language), record { time = time; site = site; count = count }))
     (u32_in c)) (u32_in s)) (u64_in t)) (as_str l)) (as_str i)
 
 abbrev pub old_entry_of : List Data → Option OldEntry
-old_entry_of (i ∷ l ∷ t ∷ s ∷ c ∷ b ∷ []) = option_and_then (λ parts. option_map (λ label. (parts.0, record { stamp = parts.1; label = label })) (label_in b)) (old_parts_in i l t s c)
+old_entry_of (i ∷ l ∷ t ∷ s ∷ c ∷ b ∷ []) =
+    option_and_then
+    (λ parts. option_map (λ label. (parts.0, record { stamp = parts.1; label = label }))
+    (label_in b)) (old_parts_in i l t s c)
 old_entry_of _ = None
 
 -- a row of a site or a delta
@@ -61,11 +68,17 @@ pub record IsOldSummaryDocument (d : Data) (summary : OldSummary) : Type 0 where
 -- an edit has such a row; the other steps have the same words and numbers in both versions
 abbrev pub IsOldStepOf : Data → OldStep → Type 0
 IsOldStepOf d (OldEdit site edit) =
-    (word place row : Data) × (items_in d ≡ Some (word ∷ place ∷ row ∷ [])) × (as_str word ≡ Some (codes "edit")) × (u32_in place ≡ Some site) × (old_entry_in row ≡ Some edit)
+    (word place row : Data) × (items_in d ≡ Some (word ∷ place ∷ row ∷ []))
+    × (as_str word ≡ Some (codes "edit")) × (u32_in place ≡ Some site)
+    × (old_entry_in row ≡ Some edit)
 IsOldStepOf d (OldMerge into source) = step_in One d ≡ Some (merge_step into source)
-IsOldStepOf d (OldAskFilter site id scheme list) = (field : List ℕ) × (step_in One d ≡ Some (filter_step site id scheme field)) × Lists scheme field list
+IsOldStepOf d (OldAskFilter site id scheme list) =
+    (field : List ℕ) × (step_in One d ≡ Some (filter_step site id scheme field))
+    × Lists scheme field list
 IsOldStepOf d (OldAskLookup site id list default) =
-    (field : List ℕ) × (written : Option (List ℕ)) × (step_in One d ≡ Some (lookup_step site id field written)) × Lists Basic field list × (default ≡ option_map str_to_ascii_lowercase written)
+    (field : List ℕ) × (written : Option (List ℕ))
+    × (step_in One d ≡ Some (lookup_step site id field written)) × Lists Basic field list
+    × (default ≡ option_map str_to_ascii_lowercase written)
 IsOldStepOf d (OldAskCells site) = step_in One d ≡ Some (cells_step site)
 IsOldStepOf d (OldTell site) = step_in One d ≡ Some (tell_step site)
 IsOldStepOf d (OldPost site told) = step_in One d ≡ Some (post_step site told)

@@ -33,11 +33,16 @@ pub record RefusesRun (script : ScriptState) (fault : PlayFault) : Type 0 where
 
 -- the bytes are a script, and the text is the lines of its answers
 abbrev pub Replays : List ℕ → List ℕ → Type 0
-Replays bytes text = (script : ScriptState) × ReadsAsScript bytes script × ((answers : List Answer) × IsPlayed script answers × (text ≡ lines answers))
+Replays bytes text =
+    (script : ScriptState) × ReadsAsScript bytes script
+    × ((answers : List Answer) × IsPlayed script answers × (text ≡ lines answers))
 
 -- the bytes are a script whose run is refused
 abbrev pub RefusesSteps : List ℕ → DocFault → Type 0
-RefusesSteps bytes fault = (script : ScriptState) × ReadsAsScript bytes script × ((refused : PlayFault) × RefusesRun script refused × (fault ≡ of_no_document (of_step refused)))
+RefusesSteps bytes fault =
+    (script : ScriptState) × ReadsAsScript bytes script
+    × ((refused : PlayFault) × RefusesRun script refused
+    × (fault ≡ of_no_document (of_step refused)))
 
 -- why bytes are not replayed, by the first stage that refuses: the script, or its steps
 abbrev pub RefusesReplay : List ℕ → DocFault → Type 0

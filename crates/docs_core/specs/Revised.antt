@@ -26,7 +26,8 @@ new_of r = option_map (λ l. l.now) r.new
 pub record IsHead (key : EntryKey) (texts : Texts) (list rest : List Labelled) : Type 0 where
   pub rises : IsMap key_cmp rest
   pub above : T (below_all key_cmp key rest)
-  pub at : (q : EntryKey) → find key_cmp q list ≡ cond (eq_by_cmp key_cmp q key) texts (find key_cmp q rest)
+  pub at : (q : EntryKey)
+      → find key_cmp q list ≡ cond (eq_by_cmp key_cmp q key) texts (find key_cmp q rest)
 
 -- the least key of both lists, and what is left of them
 pub record IsFirstRevised (r : Revised) (old new old_rest new_rest : List Labelled) : Type 0 where
@@ -38,8 +39,11 @@ abbrev pub IsRevised : ℕ → List ℕ → Revised → Entries → Entries → 
 IsRevised now name r old new =
     (IsChangeAt (old_of r) (new_of r) (label_at (key_of r) old) None × (new ≡ old))
     ⊎ (IsChangeAt (old_of r) (new_of r) (label_at (key_of r) old) (Some (new_of r))
-    × (stamp : Stamp) × IsNext (latest_of old) now name stamp × (new ≡ with_change (key_of r, new_of r) stamp old))
+    × (stamp : Stamp) × IsNext (latest_of old) now name stamp
+    × (new ≡ with_change (key_of r, new_of r) stamp old))
 
 -- it would be done, and there is no next stamp
 abbrev pub NoStamp : ℕ → List ℕ → Revised → Entries → Type 0
-NoStamp now name r old = IsChangeAt (old_of r) (new_of r) (label_at (key_of r) old) (Some (new_of r)) × NoNext (latest_of old) now name
+NoStamp now name r old =
+    IsChangeAt (old_of r) (new_of r) (label_at (key_of r) old) (Some (new_of r))
+    × NoNext (latest_of old) now name

@@ -1,5 +1,6 @@
 -- The line of a site's status. Own rule.
-use Rattle.std.specs.Prelude.{ℕ, List, ◌∷◌, ◌++◌, codes, decimal, length, count_by, Bool, Option, None, Some, is_some}
+use Rattle.std.specs.Prelude.{ℕ, List, ◌∷◌, ◌++◌, codes, decimal, length, count_by, Bool, Option}
+use Rattle.std.specs.Prelude.{None, Some, is_some}
 use Rattle.cell_core.specs.declared.stamp.Stamp.{Stamp}
 use Rattle.cata_core.specs.Entries.{Entry}
 use Rattle.cata_core.specs.Latest.{latest_of}
@@ -18,4 +19,10 @@ is_labelled entry = is_some entry.1.label
 -- `site NAME cells N labels N last ..`; labels are the cells that have one
 abbrev pub status_line : SiteState → List ℕ
 status_line site =
-    line (codes "site " ++ (site.name ++ (codes " cells " ++ (decimal (length site.cells) ++ (codes " labels " ++ (decimal (count_by is_labelled site.cells) ++ (codes " last " ++ last_text (latest_of site.cells))))))))
+    line (codes "site "
+    ++ (site.name
+    ++ (codes " cells "
+    ++ (decimal (length site.cells)
+    ++ (codes " labels "
+    ++ (decimal (count_by is_labelled site.cells)
+    ++ (codes " last " ++ last_text (latest_of site.cells))))))))

@@ -21,25 +21,34 @@ Texts = Option (List (List ℕ))
 -- was, or where the site has the new one already; else it gets the new one, and is deleted where
 -- that is none
 abbrev pub IsChangeAt : Texts → Texts → Texts → Option Texts → Type 0
-IsChangeAt old new held change = (((old ≡ new) ⊎ (held ≡ new)) × (change ≡ None)) ⊎ ((old ≢ new) × (held ≢ new) × (change ≡ Some new))
+IsChangeAt old new held change =
+    (((old ≡ new) ⊎ (held ≡ new)) × (change ≡ None))
+    ⊎ ((old ≢ new) × (held ≢ new) × (change ≡ Some new))
 
 -- the changes from the old labels to the new ones, in rising order of key
-pub record AreChanges (old new : List Labelled) (cells : Entries) (changes : List Change) : Type 0 where
-  pub rising : IsMap key_cmp changes
-  pub at : (key : EntryKey) → IsChangeAt (find key_cmp key old) (find key_cmp key new) (label_at key cells) (find key_cmp key changes)
+pub record AreChanges (old new : List Labelled) (cells : Entries) (changes : List Change) : Type 0
+  where
+    pub rising : IsMap key_cmp changes
+    pub at : (key : EntryKey)
+        → IsChangeAt (find key_cmp key old) (find key_cmp key new) (label_at key cells)
+        (find key_cmp key changes)
 
 -- the cells after each change was made
 abbrev pub Updates : ℕ → List ℕ → List Labelled → List Labelled → Entries → Entries → Type 0
-Updates now name old new cells updated = (changes : List Change) × AreChanges old new cells changes × Makes now name changes cells updated
+Updates now name old new cells updated =
+    (changes : List Change) × AreChanges old new cells changes
+    × Makes now name changes cells updated
 
 -- for one of the changes there is no next stamp
 abbrev pub SpendsUpdate : ℕ → List ℕ → List Labelled → List Labelled → Entries → Type 0
-SpendsUpdate now name old new cells = (changes : List Change) × AreChanges old new cells changes × SpendsClock now name changes cells
+SpendsUpdate now name old new cells =
+    (changes : List Change) × AreChanges old new cells changes × SpendsClock now name changes cells
 
 -- the site with the changes from the old language maps to the new ones, which reads as that site
 abbrev pub IsUpdated : List ℕ → ℕ → List ℕ → List ℕ → List ℕ → Type 0
 IsUpdated bytes now old new doc =
-    (site : SiteState) × (before after : List Labelled) × (cells : Entries) × ReadsAsSite bytes site × AreLangMaps old before × AreLangMaps new after
+    (site : SiteState) × (before after : List Labelled) × (cells : Entries) × ReadsAsSite bytes site
+    × AreLangMaps old before × AreLangMaps new after
     × Updates now site.name before after site.cells cells
     × IsSiteText (record { name = site.name; cells = cells }) doc
 
@@ -49,6 +58,9 @@ abbrev pub RefusesUpdate : List ℕ → ℕ → List ℕ → List ℕ → DocFau
 RefusesUpdate bytes now old new fault =
     IsOfDocument 1 (RefusesSite bytes) fault
     ⊎ ((site : SiteState) × ReadsAsSite bytes site × IsOfDocument 2 (RefusesLangMaps old) fault)
-    ⊎ ((site : SiteState) × (before : List Labelled) × ReadsAsSite bytes site × AreLangMaps old before × IsOfDocument 3 (RefusesLangMaps new) fault)
-    ⊎ ((site : SiteState) × (before after : List Labelled) × ReadsAsSite bytes site × AreLangMaps old before × AreLangMaps new after
-    × SpendsUpdate now site.name before after site.cells × (fault ≡ of_no_document (of_site ClockSpent)))
+    ⊎ ((site : SiteState) × (before : List Labelled) × ReadsAsSite bytes site
+    × AreLangMaps old before × IsOfDocument 3 (RefusesLangMaps new) fault)
+    ⊎ ((site : SiteState) × (before after : List Labelled) × ReadsAsSite bytes site
+    × AreLangMaps old before × AreLangMaps new after
+    × SpendsUpdate now site.name before after site.cells
+    × (fault ≡ of_no_document (of_site ClockSpent)))

@@ -90,8 +90,10 @@ TellsBundle site flags field default =
 -- memory ended
 abbrev pub TellsOpened : Text → Option SiteState → Option SiteState → Told → ℤ → Type 0
 TellsOpened text old new told status =
-    ((site : SiteState) × ReadsAsSite text site × (new ≡ Some site) × (status ≡ found) × (told ≡ answered 0 0))
-    ⊎ ((fault : FrontFault) × RefusesOpening text fault × (new ≡ old) × (status ≡ status_of_refusal fault) × (told ≡ refused fault))
+    ((site : SiteState) × ReadsAsSite text site × (new ≡ Some site) × (status ≡ found)
+    × (told ≡ answered 0 0))
+    ⊎ ((fault : FrontFault) × RefusesOpening text fault × (new ≡ old)
+    × (status ≡ status_of_refusal fault) × (told ≡ refused fault))
 
 -- the other handle is of the same site, or is as it was where there is none to share or memory
 -- ended

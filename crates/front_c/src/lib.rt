@@ -156,7 +156,8 @@ pub extern "C" fn sw_site_delete(
     lang: &[u8],
     told: &mut Told,
 ) -> i32
-    ensures { TellsDeleted now id.now lang.now (site_of site.old) (site_of site.new) told.new result }
+    ensures { TellsDeleted now id.now lang.now (site_of site.old) (site_of site.new) told.new
+        result }
 {
     if !site.is_open() {
         return tell_usage(told);
@@ -602,6 +603,13 @@ pub extern "C" fn sw_version() -> u32
     300
 }
 
+/// A handle may go to another thread.
+pub fn crosses(handle: SiteHandle) -> SiteHandle
+    ensures { result.value ≡ handle.value }
+{
+    crossed(handle)
+}
+
 /// Puts a site into a handle, and lets the old one of the handle go.
 fn hold(alloc: Global, held: Site, site: &mut SiteHandle, told: &mut Told) -> i32
     ensures { IsHeld held (site_of site.old) (site_of site.new) told.new result }
@@ -640,13 +648,6 @@ fn close(alloc: Global, mut handle: SiteHandle) {
     } else {
         handle.discard();
     }
-}
-
-/// A handle may go to another thread.
-pub fn crosses(handle: SiteHandle) -> SiteHandle
-    ensures { result.value ≡ handle.value }
-{
-    crossed(handle)
 }
 
 /// The value, whose type may go to another thread.

@@ -9,14 +9,17 @@ use Rattle.lang_core.specs.declared.fault.LangFault.TheVariants as lang
 use Rattle.front_core.specs.Fields.{Text}
 use Rattle.front_core.specs.Tags.{HasNoLang, RefusesTags, SpellLangs}
 
-SpellLangs-snoc : (words : List Text) (langs : List (List ℕ)) (word : Text) (lang : List ℕ) → SpellLangs words langs → SpellsLang word lang
+SpellLangs-snoc : (words : List Text) (langs : List (List ℕ)) (word : Text) (lang : List ℕ)
+    → SpellLangs words langs → SpellsLang word lang
     → SpellLangs (words ++ word ∷ []) (langs ++ lang ∷ [])
 SpellLangs-snoc [] [] word lang h one = (one, tt)
 SpellLangs-snoc [] (l ∷ langs) word lang h one = absurd h
 SpellLangs-snoc (w ∷ words) [] word lang h one = absurd h
-SpellLangs-snoc (w ∷ words) (l ∷ langs) word lang h one = (h.0, SpellLangs-snoc words langs word lang h.1 one)
+SpellLangs-snoc (w ∷ words) (l ∷ langs) word lang h one =
+    (h.0, SpellLangs-snoc words langs word lang h.1 one)
 
-tags_refused : (tags : List Text) (fault : LangFault) → HasNoLang tags fault → RefusesTags tags fault
+tags_refused : (tags : List Text) (fault : LangFault) → HasNoLang tags fault
+    → RefusesTags tags fault
 tags_refused tags lang.NoMemory h = tt
 tags_refused tags lang.TagEmpty h = h
 tags_refused tags lang.TagTooLong h = h
@@ -33,7 +36,9 @@ pub record IsReadTo (words left langs : List Text) : Type 0 where
   pub spelled : SpellLangs before langs
 
 -- one more word is read
-pub read_on : (words left rest langs more : List Text) (word lang : Text) → left ≡ word ∷ rest → more ≡ langs ++ lang ∷ [] → IsReadTo words left langs → SpellsLang word lang → IsReadTo words rest more
+pub read_on : (words left rest langs more : List Text) (word lang : Text) → left ≡ word ∷ rest
+    → more ≡ langs ++ lang ∷ [] → IsReadTo words left langs → SpellsLang word lang
+    → IsReadTo words rest more
 read_on words left rest langs more word lang e is h one = record {
   before = h.before ++ word ∷ [];
   whole = h.whole ∙ ap (λ l. h.before ++ l) e ∙ sym (append_assoc h.before (word ∷ []) rest);
@@ -41,22 +46,29 @@ read_on words left rest langs more word lang e is h one = record {
 }
 
 -- one more word of a slice spells one more language
-pub more_langs : {X : Type 0} (text : X → Text) (xs : List X) (i : ℕ) (x : X) (langs more : List (List ℕ)) (lang : List ℕ) → i < length xs
-    → more ≡ langs ++ lang ∷ [] → SpellLangs (map text (take i xs)) langs → SpellsLang (text (get_or xs i x)) lang → SpellLangs (map text (take (i + 1) xs)) more
+pub more_langs : {X : Type 0} (text : X → Text) (xs : List X) (i : ℕ) (x : X)
+    (langs more : List (List ℕ)) (lang : List ℕ) → i < length xs
+    → more ≡ langs ++ lang ∷ [] → SpellLangs (map text (take i xs)) langs
+    → SpellsLang (text (get_or xs i x)) lang → SpellLangs (map text (take (i + 1) xs)) more
 more_langs text xs i x langs more lang lt is h one =
     let words : map text (take (i + 1) xs) ≡ map text (take i xs) ++ text (get_or xs i x) ∷ [] =
     ap (map text) (take_more xs i x lt) ∙ map-append text (take i xs) (get_or xs i x ∷ []) in
     rw (words, is) (SpellLangs-snoc _ _ _ _ h one)
 
 -- the first word of a slice that spells no language
-pub no_lang : {X : Type 0} (text : X → Text) (xs : List X) (i : ℕ) (x : X) (langs : List (List ℕ)) (fault : LangFault) → i < length xs
-    → SpellLangs (map text (take i xs)) langs → RefusesLang (text (get_or xs i x)) fault → RefusesTags (map text xs) fault
+pub no_lang : {X : Type 0} (text : X → Text) (xs : List X) (i : ℕ) (x : X) (langs : List (List ℕ))
+    (fault : LangFault) → i < length xs
+    → SpellLangs (map text (take i xs)) langs → RefusesLang (text (get_or xs i x)) fault
+    → RefusesTags (map text xs) fault
 no_lang text xs i x langs fault lt h not = tags_refused (map text xs) fault (record {
   before = map text (take i xs);
   word = text (get_or xs i x);
   after = map text (drop (suc i) xs);
   langs = langs;
-  whole = ap (map text) (sym (take-append-drop i xs) ∙ ap (λ rest. take i xs ++ rest) (drop-cons xs i x lt)) ∙ map-append text (take i xs) (get_or xs i x ∷ drop (suc i) xs);
+  whole =
+      ap (map text)
+      (sym (take-append-drop i xs) ∙ ap (λ rest. take i xs ++ rest) (drop-cons xs i x lt))
+      ∙ map-append text (take i xs) (get_or xs i x ∷ drop (suc i) xs);
   before_ok = h;
   word_not = not;
 })

@@ -53,7 +53,8 @@ pub record IsNotMerged (other old new : SiteState) (refused : CataFault) : Type 
 abbrev pub RefusesMerge : SiteState → SiteState → SiteState → FrontFault → Type 0
 RefusesMerge other old new = IsOf site_fault (IsNotMerged other old new)
 
--- the cells are those of both, which agree, where the bytes are a delta for the site whose times are
+-- the cells are those of both, which agree, where the bytes are a delta for the site whose times
+-- are
 -- in the limit
 abbrev pub IsTaken : Text → Option ℕ → Edits
 IsTaken bytes limit old new =

@@ -81,48 +81,6 @@ impl FrontFault {
     }
 }
 
-/// The offset of a fault of a tag or a range.
-fn lang_offset(fault: LangFault) -> Option<usize>
-    ensures { result ≡ lang_offset fault }
-{
-    match fault {
-        LangFault::TagSubtag { offset } | LangFault::RangeSubtag { offset } => Some(offset),
-        _ => None,
-    }
-}
-
-/// The offset of a fault of a field.
-fn nego_offset(fault: NegoFault) -> Option<usize>
-    ensures { result ≡ nego_offset fault }
-{
-    match fault {
-        NegoFault::FieldMalformed { offset } => Some(offset),
-        _ => None,
-    }
-}
-
-/// The offset of a fault in the field of a row.
-fn row_offset(fault: FieldFault) -> Option<usize>
-    ensures { result ≡ row_offset fault }
-{
-    match fault {
-        FieldFault::Language(fault) => lang_offset(fault),
-        FieldFault::Cell(_) => None,
-        FieldFault::Priorities(fault) => nego_offset(fault),
-    }
-}
-
-/// The offset of a document's refusal.
-fn cause_offset(cause: DocCause) -> Option<usize>
-    ensures { result ≡ cause_offset cause }
-{
-    match cause {
-        DocCause::NotUtf8 { offset } => Some(offset),
-        DocCause::Field { fault, .. } => row_offset(fault),
-        _ => None,
-    }
-}
-
 impl From<CellFault> for FrontFault {
     ghost use Rattle.front_core.specs.Faults.{cell_fault};
 
@@ -202,5 +160,47 @@ impl<T: Drop> From<AllocFailed<T>> for FrontFault {
 
     fn from(_refused: AllocFailed<T>) -> FrontFault {
         FrontFault::NoMemory
+    }
+}
+
+/// The offset of a fault of a tag or a range.
+fn lang_offset(fault: LangFault) -> Option<usize>
+    ensures { result ≡ lang_offset fault }
+{
+    match fault {
+        LangFault::TagSubtag { offset } | LangFault::RangeSubtag { offset } => Some(offset),
+        _ => None,
+    }
+}
+
+/// The offset of a fault of a field.
+fn nego_offset(fault: NegoFault) -> Option<usize>
+    ensures { result ≡ nego_offset fault }
+{
+    match fault {
+        NegoFault::FieldMalformed { offset } => Some(offset),
+        _ => None,
+    }
+}
+
+/// The offset of a fault in the field of a row.
+fn row_offset(fault: FieldFault) -> Option<usize>
+    ensures { result ≡ row_offset fault }
+{
+    match fault {
+        FieldFault::Language(fault) => lang_offset(fault),
+        FieldFault::Cell(_) => None,
+        FieldFault::Priorities(fault) => nego_offset(fault),
+    }
+}
+
+/// The offset of a document's refusal.
+fn cause_offset(cause: DocCause) -> Option<usize>
+    ensures { result ≡ cause_offset cause }
+{
+    match cause {
+        DocCause::NotUtf8 { offset } => Some(offset),
+        DocCause::Field { fault, .. } => row_offset(fault),
+        _ => None,
     }
 }

@@ -41,7 +41,8 @@ impl Lookup {
     ) -> Result<Lookup, FrontFault>
         ensures { MatchResult result (IsLookup id.now (field_text field.entry)
             (option_map (λ s. s.now) default.entry))
-            (RefusesLookup id.now (field_text field.entry) (option_map (λ s. s.now) default.entry)) }
+            (RefusesLookup id.now (field_text field.entry)
+            (option_map (λ s. s.now) default.entry)) }
     {
         let id = read_id(alloc, id)?;
         let preferences = Preferences::read(alloc, field, default)?;

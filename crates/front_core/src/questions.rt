@@ -24,7 +24,8 @@ pub fn lookup_line(
 ) -> Result<Answer, FrontFault>
     ensures { MatchResult result (IsLookupLine site.now.cells id.now (field_text field.entry)
         (option_map (λ s. s.now) default.entry))
-        (RefusesLookupLine id.now (field_text field.entry) (option_map (λ s. s.now) default.entry)) }
+        (RefusesLookupLine id.now (field_text field.entry)
+        (option_map (λ s. s.now) default.entry)) }
 {
     let asked = Lookup::read(alloc, id, field, default)?;
     Ok(asked.line(alloc, site)?)

@@ -37,13 +37,6 @@ pub fn filter_tags(alloc: Global, field: Field<'_>, tags: &[u8]) -> Result<Answe
     Ok(taken(alloc, &picks, &names)?)
 }
 
-/// The lines of a text, in order.
-fn names_of(alloc: Global, tags: &[u8]) -> Result<Vec<&[u8]>, AllocError>
-    ensures { IfOk result (λ names. texts_of names.items ≡ lines_of tags.now) }
-{
-    Lines::new(tags).collect(alloc)
-}
-
 /// The lines of what is picked, each by the name at its place.
 pub(crate) fn taken(alloc: Global, picks: &Picks, names: &[&[u8]]) -> Result<Answer, AllocError>
     requires { HaveNames names.now picks.now }
@@ -58,6 +51,13 @@ pub(crate) fn taken(alloc: Global, picks: &Picks, names: &[&[u8]]) -> Result<Ans
     }
     let outcome = Outcome::of(!picks.is_empty());
     Ok(Answer::new(Doc::from(text), outcome))
+}
+
+/// The lines of a text, in order.
+fn names_of(alloc: Global, tags: &[u8]) -> Result<Vec<&[u8]>, AllocError>
+    ensures { IfOk result (λ names. texts_of names.items ≡ lines_of tags.now) }
+{
+    Lines::new(tags).collect(alloc)
 }
 
 /// The name at a place.

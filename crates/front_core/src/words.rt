@@ -129,17 +129,6 @@ pub fn filter_answer<S: AsStr>(
     Ok(taken(alloc, &picks, &names)?)
 }
 
-/// The texts of languages.
-fn names_of(alloc: Global, langs: &[Lang]) -> Result<Vec<&[u8]>, AllocError>
-    ensures { IfOk result (λ names. texts_of names.items ≡ langs.now) }
-{
-    let mut names = Vec::with_capacity(alloc, langs.len())?;
-    for lang in langs {
-        names.push(lang.as_str().as_bytes())?;
-    }
-    Ok(names)
-}
-
 /// The bytes of an argument, where there is one.
 pub fn bytes_of(word: Option<&str>) -> Option<&[u8]>
     ensures { option_map (λ s. s.now) result ≡ option_map (λ s. s.now) word.entry }
@@ -159,6 +148,17 @@ pub(crate) enum Finding {
     Default(Lang),
     /// No tag, and no default that may be answered.
     Nothing,
+}
+
+/// The texts of languages.
+fn names_of(alloc: Global, langs: &[Lang]) -> Result<Vec<&[u8]>, AllocError>
+    ensures { IfOk result (λ names. texts_of names.items ≡ langs.now) }
+{
+    let mut names = Vec::with_capacity(alloc, langs.len())?;
+    for lang in langs {
+        names.push(lang.as_str().as_bytes())?;
+    }
+    Ok(names)
 }
 
 /// What a field finds among the tags.

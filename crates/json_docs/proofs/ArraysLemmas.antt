@@ -21,12 +21,14 @@ pub list_of-before : (ds : List Data) (rest : Items) → list_of (before ds rest
 list_of-before [] rest = refl
 list_of-before (d ∷ ds) rest = ap (λ t. d ∷ t) (list_of-before ds rest)
 
-before-push : (ds : List Data) (d : Data) (rest : Items) → before ds (item d rest) ≡ before (ds ++ d ∷ []) rest
+before-push : (ds : List Data) (d : Data) (rest : Items)
+    → before ds (item d rest) ≡ before (ds ++ d ∷ []) rest
 before-push [] d rest = refl
 before-push (e ∷ ds) d rest = ap (item e) (before-push ds d rest)
 
 -- one item more
-pub parse_map-push : (ds : List Data) (d : Data) (r : Option (Items × List Token)) → parse_map (before ds) (parse_map (item d) r) ≡ parse_map (before (ds ++ d ∷ [])) r
+pub parse_map-push : (ds : List Data) (d : Data) (r : Option (Items × List Token))
+    → parse_map (before ds) (parse_map (item d) r) ≡ parse_map (before (ds ++ d ∷ [])) r
 parse_map-push ds d None = refl
 parse_map-push ds d (Some p) = ap (λ (i : Items). Some (i, p.1)) (before-push ds d p.0)
 
@@ -38,15 +40,22 @@ parse_map-none (Some p) = refl
 -- ---- one row more
 
 -- Rows and one more are taken where each is, and refused as the first that is refused.
-pub TakesRows-next : {S : Type 0} (checks : List Data → Data → List Check) (Holds : S → List Data → Type 0) (mid new : S) (refusal next : Option DocCause) (front : List Data) (d : Data)
-    → TakesRows checks Holds [] mid refusal front → TakesNext checks Holds front refusal mid new next d → TakesRows checks Holds [] new next (front ++ d ∷ [])
-TakesRows-next checks Holds mid new None None front d p q = let r = q p.1 in (rows-pass checks [] front (d ∷ []) p.0 r.0, r.1)
-TakesRows-next checks Holds mid new None (Some e) front d p q = rows-fail-behind checks [] front (d ∷ []) e p.0 (q p.1)
+pub TakesRows-next : {S : Type 0} (checks : List Data → Data → List Check)
+    (Holds : S → List Data → Type 0) (mid new : S) (refusal next : Option DocCause)
+    (front : List Data) (d : Data)
+    → TakesRows checks Holds [] mid refusal front
+    → TakesNext checks Holds front refusal mid new next d
+    → TakesRows checks Holds [] new next (front ++ d ∷ [])
+TakesRows-next checks Holds mid new None None front d p q = let r = q p.1 in
+    (rows-pass checks [] front (d ∷ []) p.0 r.0, r.1)
+TakesRows-next checks Holds mid new None (Some e) front d p q =
+    rows-fail-behind checks [] front (d ∷ []) e p.0 (q p.1)
 TakesRows-next checks Holds mid new (Some e) None front d p q = cc
 TakesRows-next checks Holds mid new (Some e) (Some f) front d p q =
     let same : f ≡ e = cc in
     rw same (rows-fail-front checks [] front (d ∷ []) e p)
 
 -- what follows from a text that is no JSON
-pub not_json : (e : DocCause) (P Q : Type 0) → (P → Q) → (e ≡ NoMemory) ⊎ ((e ≡ NotJson) × P) → (e ≡ NoMemory) ⊎ ((e ≡ NotJson) × Q)
+pub not_json : (e : DocCause) (P Q : Type 0) → (P → Q) → (e ≡ NoMemory) ⊎ ((e ≡ NotJson) × P)
+    → (e ≡ NoMemory) ⊎ ((e ≡ NotJson) × Q)
 not_json e P Q follows why = elim why [ inl h ↦ inl h | inr h ↦ inr (h.0, follows h.1) ]

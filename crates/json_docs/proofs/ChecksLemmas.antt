@@ -1,5 +1,6 @@
 -- Tests of a list, and of what follows it.
-use Rattle.std.proofs.Common.{◌≡◌, ◌++◌, List, [], ◌∷◌, sym, subst, append_assoc, append-nil, inl, inr}
+use Rattle.std.proofs.Common.{◌≡◌, ◌++◌, List, [], ◌∷◌, sym, subst, append_assoc, append-nil, inl}
+use Rattle.std.proofs.Common.{inr}
 use Rattle.serde_json.specs.Data.{Data}
 use Rattle.json_docs.specs.Checks.{AllPass, Check, FirstFails, rows_checks}
 use Rattle.json_docs.specs.declared.fault.DocCause.{DocCause}
@@ -20,19 +21,24 @@ AllPass-behind [] ys p = p
 AllPass-behind (x ∷ xs) ys p = AllPass-behind xs ys p.1
 
 -- The first failure of a list of checks is that of the list with more checks after it.
-pub FirstFails-front : (xs ys : List Check) (e : DocCause) → FirstFails xs e → FirstFails (xs ++ ys) e
+pub FirstFails-front : (xs ys : List Check) (e : DocCause) → FirstFails xs e
+    → FirstFails (xs ++ ys) e
 FirstFails-front [] ys e p = absurd p
-FirstFails-front (x ∷ xs) ys e p = elim p [ inl h ↦ inl h | inr h ↦ inr (h.0, FirstFails-front xs ys e h.1) ]
+FirstFails-front (x ∷ xs) ys e p =
+    elim p [ inl h ↦ inl h | inr h ↦ inr (h.0, FirstFails-front xs ys e h.1) ]
 
 -- After checks that pass, the first failure of further checks is that of all.
-pub FirstFails-behind : (xs ys : List Check) (e : DocCause) → AllPass xs → FirstFails ys e → FirstFails (xs ++ ys) e
+pub FirstFails-behind : (xs ys : List Check) (e : DocCause) → AllPass xs → FirstFails ys e
+    → FirstFails (xs ++ ys) e
 FirstFails-behind [] ys e p q = q
 FirstFails-behind (x ∷ xs) ys e p q = inr (p.0, FirstFails-behind xs ys e p.1 q)
 
 -- after the first checks, further ones may be replaced by others that fail where they do
-fail_in : (xs ys zs : List Check) (e : DocCause) → (FirstFails ys e → FirstFails zs e) → FirstFails (xs ++ ys) e → FirstFails (xs ++ zs) e
+fail_in : (xs ys zs : List Check) (e : DocCause) → (FirstFails ys e → FirstFails zs e)
+    → FirstFails (xs ++ ys) e → FirstFails (xs ++ zs) e
 fail_in [] ys zs e f p = f p
-fail_in (x ∷ xs) ys zs e f p = elim p [ inl h ↦ inl h | inr h ↦ inr (h.0, fail_in xs ys zs e f h.1) ]
+fail_in (x ∷ xs) ys zs e f p =
+    elim p [ inl h ↦ inl h | inr h ↦ inr (h.0, fail_in xs ys zs e f h.1) ]
 
 -- ---- rows
 
@@ -40,25 +46,36 @@ module _ (checks : List Data → Data → List Check) where
   one : (before xs : List Data) (x : Data) → (before ++ x ∷ []) ++ xs ≡ before ++ x ∷ xs
   one before xs x = append_assoc before (x ∷ []) xs
 
-  pub rows-pass : (before xs ys : List Data) → AllPass (rows_checks checks before xs) → AllPass (rows_checks checks (before ++ xs) ys)
+  pub rows-pass : (before xs ys : List Data) → AllPass (rows_checks checks before xs)
+      → AllPass (rows_checks checks (before ++ xs) ys)
       → AllPass (rows_checks checks before (xs ++ ys))
   rows-pass before [] ys p q = subst (λ b. AllPass (rows_checks checks b ys)) (append-nil before) q
   rows-pass before (x ∷ xs) ys p q =
       let first = checks before x in
       let rest = rows_checks checks (before ++ x ∷ []) xs in
-      AllPass-both first (rows_checks checks (before ++ x ∷ []) (xs ++ ys)) (AllPass-front first rest p)
-      (rows-pass (before ++ x ∷ []) xs ys (AllPass-behind first rest p) (subst (λ b. AllPass (rows_checks checks b ys)) (sym (one before xs x)) q))
+      AllPass-both first (rows_checks checks (before ++ x ∷ []) (xs ++ ys))
+      (AllPass-front first rest p)
+      (rows-pass (before ++ x ∷ []) xs ys (AllPass-behind first rest p)
+      (subst (λ b. AllPass (rows_checks checks b ys)) (sym (one before xs x)) q))
 
-  pub rows-fail-front : (before xs ys : List Data) (e : DocCause) → FirstFails (rows_checks checks before xs) e → FirstFails (rows_checks checks before (xs ++ ys)) e
+  pub rows-fail-front : (before xs ys : List Data) (e : DocCause)
+      → FirstFails (rows_checks checks before xs) e
+      → FirstFails (rows_checks checks before (xs ++ ys)) e
   rows-fail-front before [] ys e p = absurd p
   rows-fail-front before (x ∷ xs) ys e p =
-      fail_in (checks before x) (rows_checks checks (before ++ x ∷ []) xs) (rows_checks checks (before ++ x ∷ []) (xs ++ ys)) e (rows-fail-front (before ++ x ∷ []) xs ys e) p
+      fail_in (checks before x) (rows_checks checks (before ++ x ∷ []) xs)
+      (rows_checks checks (before ++ x ∷ []) (xs ++ ys)) e
+      (rows-fail-front (before ++ x ∷ []) xs ys e) p
 
-  pub rows-fail-behind : (before xs ys : List Data) (e : DocCause) → AllPass (rows_checks checks before xs) → FirstFails (rows_checks checks (before ++ xs) ys) e
+  pub rows-fail-behind : (before xs ys : List Data) (e : DocCause)
+      → AllPass (rows_checks checks before xs) → FirstFails (rows_checks checks (before ++ xs) ys) e
       → FirstFails (rows_checks checks before (xs ++ ys)) e
-  rows-fail-behind before [] ys e p q = subst (λ b. FirstFails (rows_checks checks b ys) e) (append-nil before) q
+  rows-fail-behind before [] ys e p q =
+      subst (λ b. FirstFails (rows_checks checks b ys) e) (append-nil before) q
   rows-fail-behind before (x ∷ xs) ys e p q =
       let first = checks before x in
       let rest = rows_checks checks (before ++ x ∷ []) xs in
-      FirstFails-behind first (rows_checks checks (before ++ x ∷ []) (xs ++ ys)) e (AllPass-front first rest p)
-      (rows-fail-behind (before ++ x ∷ []) xs ys e (AllPass-behind first rest p) (subst (λ b. FirstFails (rows_checks checks b ys) e) (sym (one before xs x)) q))
+      FirstFails-behind first (rows_checks checks (before ++ x ∷ []) (xs ++ ys)) e
+      (AllPass-front first rest p)
+      (rows-fail-behind (before ++ x ∷ []) xs ys e (AllPass-behind first rest p)
+      (subst (λ b. FirstFails (rows_checks checks b ys) e) (sym (one before xs x)) q))

@@ -6,7 +6,9 @@ use Rattle.serde_json.specs.Data.{negative, float}
 use Rattle.serde_json.specs.Find.{as_u64}
 use Rattle.serde_json.specs.Read.{number_from, number_of}
 
-no_case : (a b : Bool) (z : ℤ) (x : Float) → option_and_then as_u64 (if a then Some (negative z) else (if b then Some (float x) else None)) ≡ None
+no_case : (a b : Bool) (z : ℤ) (x : Float)
+    → option_and_then as_u64 (if a then Some (negative z) else (if b then Some (float x) else None))
+    ≡ None
 no_case true b z x = refl
 no_case false true z x = refl
 no_case false false z x = refl
@@ -16,11 +18,13 @@ pub negative_no_whole : (p : Parts) → option_and_then as_u64 (number_from true
 negative_no_whole p = no_case _ _ _ _
 
 -- a text that begins with a minus is read by what follows it
-pub number_of-minus : (s : List ℕ) → (get_or s 0 0 == 45) ≡ true → number_of s ≡ number_from true (scan (drop 1 s))
+pub number_of-minus : (s : List ℕ) → (get_or s 0 0 == 45) ≡ true
+    → number_of s ≡ number_from true (scan (drop 1 s))
 unfolding number_of
 number_of-minus s h = rw h
 
 -- A text that does not begin with a minus is read as a number without one.
-pub number_of-plain : (s : List ℕ) → (get_or s 0 0 == 45) ≡ false → number_of s ≡ number_from false (scan s)
+pub number_of-plain : (s : List ℕ) → (get_or s 0 0 == 45) ≡ false
+    → number_of s ≡ number_from false (scan s)
 unfolding number_of
 number_of-plain s h = rw h

@@ -20,11 +20,13 @@ and_true : (b : Bool) → b ≡ (b && true)
 and_true true = refl
 and_true false = refl
 
-some_both : {A B C : Type 0} → (f : A → B → C) (o : Option A) (r : Option B) → is_some (option_and_then (λ a. option_map (f a) r) o) ≡ (is_some o && is_some r)
+some_both : {A B C : Type 0} → (f : A → B → C) (o : Option A) (r : Option B)
+    → is_some (option_and_then (λ a. option_map (f a) r) o) ≡ (is_some o && is_some r)
 some_both f None r = refl
 some_both f (Some a) r = some_map (f a) r
 
-some_after : (o : Option Data) (f : Data → Option Members) (rest : Bool) → ((d : Data) → is_some (f d) ≡ rest) → is_some (option_and_then f o) ≡ (is_some o && rest)
+some_after : (o : Option Data) (f : Data → Option Members) (rest : Bool)
+    → ((d : Data) → is_some (f d) ≡ rest) → is_some (option_and_then f o) ≡ (is_some o && rest)
 some_after None f rest each = refl
 some_after (Some d) f rest each = each d
 
@@ -44,10 +46,12 @@ mutual
       ∙ ap₂ (λ a b. a && b) (is_some-of_json j) (is_some-of_items js)
       ∙ sym (list_all-append is_token_in_range (json_tokens j) (items_tokens js))
 
-  is_some-of_members : (ms : json.Members) (found : Members) → is_some (of_members ms found) ≡ are_in_range (members_tokens ms)
+  is_some-of_members : (ms : json.Members) (found : Members)
+      → is_some (of_members ms found) ≡ are_in_range (members_tokens ms)
   is_some-of_members json.no_members found = refl
   is_some-of_members (json.member k j ms) found =
-      some_after (of_json j) (λ d. of_members ms (put k d found)) (are_in_range (members_tokens ms)) (λ d. is_some-of_members ms (put k d found))
+      some_after (of_json j) (λ d. of_members ms (put k d found)) (are_in_range (members_tokens ms))
+      (λ d. is_some-of_members ms (put k d found))
       ∙ ap (λ a. a && are_in_range (members_tokens ms)) (is_some-of_json j)
       ∙ sym (list_all-append is_token_in_range (json_tokens j) (members_tokens ms))
 
@@ -61,21 +65,28 @@ there None d h = cc
 there (Some x) d h = refl
 
 -- the numbers of a value and of what follows it
-pub parts_in_range : (depth : ℕ) (old new : List Token) (j : json.Json) → are_in_range old ≡ true → value depth old ≡ Some (j, new)
+pub parts_in_range : (depth : ℕ) (old new : List Token) (j : json.Json) → are_in_range old ≡ true
+    → value depth old ≡ Some (j, new)
     → (are_in_range (json_tokens j) ≡ true) × (are_in_range new ≡ true)
 parts_in_range depth old new j all is =
-    both_true _ _ (sym (list_all-append is_token_in_range (json_tokens j) new) ∙ (ap are_in_range (sym (value-json_tokens_back depth old new j is)) ∙ all))
+    both_true _ _
+    (sym (list_all-append is_token_in_range (json_tokens j) new)
+    ∙ (ap are_in_range (sym (value-json_tokens_back depth old new j is)) ∙ all))
 
 -- A value that is parsed from numbers in range has data.
-pub IsRead-in_range : (depth : ℕ) (old new : List Token) (j : json.Json) → are_in_range old ≡ true → value depth old ≡ Some (j, new) → IsRead j
-IsRead-in_range depth old new j all is = is_some-of_json j ∙ (parts_in_range depth old new j all is).0
+pub IsRead-in_range : (depth : ℕ) (old new : List Token) (j : json.Json) → are_in_range old ≡ true
+    → value depth old ≡ Some (j, new) → IsRead j
+IsRead-in_range depth old new j all is =
+    is_some-of_json j ∙ (parts_in_range depth old new j all is).0
 
 -- a value whose numbers are in range is read
-pub Reads-in_range : (depth : ℕ) (old new : List Token) (j : json.Json) → are_in_range old ≡ true → value depth old ≡ Some (j, new) → Reads depth old (data_of j) new
+pub Reads-in_range : (depth : ℕ) (old new : List Token) (j : json.Json) → are_in_range old ≡ true
+    → value depth old ≡ Some (j, new) → Reads depth old (data_of j) new
 Reads-in_range depth old new j all is =
     let some = there (of_json j) _ (IsRead-in_range depth old new j all is) in
     ap (converted of_json) is ∙ ap (option_map (λ (d : Data). (d, new))) some
 
 -- the items of an array that is read are read, and are its items
-pub IsRead-item : (j : json.Json) (js : json.Items) → is_some (of_items (json.item j js)) ≡ true → IsRead j × (is_some (of_items js) ≡ true)
+pub IsRead-item : (j : json.Json) (js : json.Items) → is_some (of_items (json.item j js)) ≡ true
+    → IsRead j × (is_some (of_items js) ≡ true)
 IsRead-item j js h = both_true _ _ (sym (some_both item (of_json j) (of_items js)) ∙ h)

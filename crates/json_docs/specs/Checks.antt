@@ -50,4 +50,5 @@ IsTextRefusal bytes e =
 
 -- the bytes are refused for e, where these are the tests of JSON data
 abbrev pub IsRefusal : (Data → List Check) → List ℕ → DocCause → Type 0
-IsRefusal checks bytes e = IsTextRefusal bytes e ⊎ ((d : Data) × AreJson bytes d × FirstFails (checks d) e)
+IsRefusal checks bytes e =
+    IsTextRefusal bytes e ⊎ ((d : Data) × AreJson bytes d × FirstFails (checks d) e)

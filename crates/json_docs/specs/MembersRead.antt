@@ -1,7 +1,8 @@
 -- The members of an object as they are read.
 use Rattle.std.specs.Prelude.{◌≡◌, ◌⊎◌, ◌<◌, ℕ, List, ◌∷◌, Bool, true, false, length, None, Some}
 use Rattle.json.specs.Json.{members, value}
-use Rattle.json.specs.Token.{Token, begin_object, end_object, begin_array, end_array, key, string, number, boolean, null, bad}
+use Rattle.json.specs.Token.{Token, begin_object, end_object, begin_array, end_array, key, string}
+use Rattle.json.specs.Token.{number, boolean, null, bad}
 use Rattle.serde_json.specs.Data.{Data, Members, no_members}
 use Rattle.serde_json.specs.Read.{converted, of_json, of_members}
 use Rattle.json_docs.specs.Numbers.{are_in_range}
@@ -22,15 +23,20 @@ ReadsNone depth old e = (e ≡ NotJson) × (converted of_json (value depth old) 
 -- after its brace `old` is an object of these members, which nest at most this deep, and then
 -- `new`
 abbrev pub ReadsMembers : ℕ → List Token → Members → List Token → Type 0
-ReadsMembers depth old ms new = converted (λ ms. of_members ms no_members) (members (value depth) (length old) old) ≡ Some (ms, new)
+ReadsMembers depth old ms new =
+    converted (λ ms. of_members ms no_members) (members (value depth) (length old) old)
+    ≡ Some (ms, new)
 
 -- after its brace `old` is no such object
 abbrev pub ReadsNoMembers : ℕ → List Token → Type 0
-ReadsNoMembers depth old = converted (λ ms. of_members ms no_members) (members (value depth) (length old) old) ≡ None
+ReadsNoMembers depth old =
+    converted (λ ms. of_members ms no_members) (members (value depth) (length old) old) ≡ None
 
 -- after its brace `old` is no such object that nothing follows
 abbrev pub IsNotWhole : List Token → Type 0
-IsNotWhole old = ReadsNoMembers 126 old ⊎ ((ms : Members) × (t : Token) × (rest : List Token) × ReadsMembers 126 old ms (t ∷ rest))
+IsNotWhole old =
+    ReadsNoMembers 126 old
+    ⊎ ((ms : Members) × (t : Token) × (rest : List Token) × ReadsMembers 126 old ms (t ∷ rest))
 
 -- no object comes first
 abbrev pub NoObject : List Token → Type 0

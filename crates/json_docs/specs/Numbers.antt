@@ -1,7 +1,8 @@
 -- Which numbers are read (RFC 8259, section 6, within the range of a float).
 use Rattle.std.specs.Prelude.{List, Bool, true, is_some}
 use Rattle.std.specs.List.{list_all}
-use Rattle.json.specs.Token.{Token, begin_object, end_object, begin_array, end_array, key, string, number, boolean, null, bad}
+use Rattle.json.specs.Token.{Token, begin_object, end_object, begin_array, end_array, key, string}
+use Rattle.json.specs.Token.{number, boolean, null, bad}
 use Rattle.serde_json.specs.Read.{number_of}
 
 -- a token that is no number, or a number that is in range

@@ -1,5 +1,6 @@
 -- Parts of JSON data: items, numbers and texts.
-use Rattle.std.specs.Prelude.{ℕ, ◌^◌, List, [], ◌∷◌, Option, None, Some, nat_lt, if◌then◌else◌, option_map, option_and_then}
+use Rattle.std.specs.Prelude.{ℕ, ◌^◌, List, [], ◌∷◌, Option, None, Some, nat_lt, if◌then◌else◌}
+use Rattle.std.specs.Prelude.{option_map, option_and_then}
 use Rattle.serde_json.specs.Data.{Data, number, Items, no_items, item}
 use Rattle.serde_json.specs.Find.{as_array, as_number, as_str, as_u64}
 
@@ -23,4 +24,5 @@ u32_in d = option_and_then narrowed (u64_in d)
 -- texts and nothing else
 abbrev pub texts_in : List Data → Option (List (List ℕ))
 texts_in [] = Some []
-texts_in (d ∷ ds) = option_and_then (λ text. option_map (λ texts. text ∷ texts) (texts_in ds)) (as_str d)
+texts_in (d ∷ ds) =
+    option_and_then (λ text. option_map (λ texts. text ∷ texts) (texts_in ds)) (as_str d)

@@ -45,15 +45,18 @@ IsReadRefusal fault = (fault.document ≡ 0) × IsCauseOfRead fault.cause
 -- ---- a whole document
 
 -- these bytes are all that the source had left, they fit the limit, and no read of them failed
-pub record ReadsWhole {S : Type 0} (failed : S → Bool) (remaining : S → Option (List ℕ)) (old new : S) (bytes : List ℕ) : Type 0 where
+pub record ReadsWhole {S : Type 0} (failed : S → Bool) (remaining : S → Option (List ℕ))
+    (old new : S) (bytes : List ℕ) : Type 0 where
   pub all : GivesAll (remaining old) (remaining new) bytes
   pub fits : length bytes ≤ 67108864
   pub unfailed : failed new ≡ false
 
 -- the source was not read to its end: the fault says why, with 24 alone the source has failed, and
 -- it gave at most one byte past the limit, with 23 just that byte
-pub record IsReadFault {S : Type 0} (failed : S → Bool) (remaining : S → Option (List ℕ)) (old new : S) (fault : DocFault) : Type 0 where
+pub record IsReadFault {S : Type 0} (failed : S → Bool) (remaining : S → Option (List ℕ))
+    (old new : S) (fault : DocFault) : Type 0 where
   pub refused : IsReadRefusal fault
   pub failing : failed new ≡ is_read_cause fault.cause
   pub most : GivesAtMost (remaining old) (remaining new) 67108865
-  pub too_large : fault ≡ of_no_document TooLarge → GivesCount (remaining old) (remaining new) 67108865
+  pub too_large : fault ≡ of_no_document TooLarge
+      → GivesCount (remaining old) (remaining new) 67108865

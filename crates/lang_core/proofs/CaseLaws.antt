@@ -31,12 +31,14 @@ lower_alphanum b = grind (arith, nat_tests)
 and_is : (a b c d : Bool) → a ≡ c → b ≡ d → a && b ≡ c && d
 and_is a b c d e f = rw (e, f) refl
 
-list_all-lower : (low any : ℕ → Bool) (s : List ℕ) → ((b : ℕ) → low (to_ascii_lowercase b) ≡ any b) → list_all low (str_to_ascii_lowercase s) ≡ list_all any s
+list_all-lower : (low any : ℕ → Bool) (s : List ℕ) → ((b : ℕ) → low (to_ascii_lowercase b) ≡ any b)
+    → list_all low (str_to_ascii_lowercase s) ≡ list_all any s
 list_all-lower low any [] same = refl
 list_all-lower low any (b ∷ s) same = and_is _ _ _ _ (same b) (list_all-lower low any s same)
 
 -- A text is of letters in any case just where, in lower case, it is of lower-case letters.
-pub letters-lower : (s : List ℕ) → list_all is_ascii_alphabetic s ≡ list_all is_letter (str_to_ascii_lowercase s)
+pub letters-lower : (s : List ℕ)
+    → list_all is_ascii_alphabetic s ≡ list_all is_letter (str_to_ascii_lowercase s)
 letters-lower s = sym (list_all-lower is_letter is_ascii_alphabetic s lower_letter)
 
 -- Lower case does not change whether a text is of digits alone.
@@ -45,7 +47,8 @@ digits-lower s = sym (list_all-lower is_digit is_digit s lower_digit)
 
 -- A text is of digits and letters in any case just where, in lower case, it is of digits and
 -- lower-case letters.
-pub alphanums-lower : (s : List ℕ) → list_all is_ascii_alphanumeric s ≡ list_all is_alphanum (str_to_ascii_lowercase s)
+pub alphanums-lower : (s : List ℕ)
+    → list_all is_ascii_alphanumeric s ≡ list_all is_alphanum (str_to_ascii_lowercase s)
 alphanums-lower s = sym (list_all-lower is_alphanum is_ascii_alphanumeric s lower_alphanum)
 
 -- Lower case does not change whether a subtag is "*".

@@ -16,7 +16,8 @@ pub record RunOf (kind : ℕ → Bool) (low high : ℕ) (s : List ℕ) : Type 0 
   pub all : list_all kind s ≡ true
 
 -- A text that passes the test `is_run` has from `low` to `high` bytes, all of the kind.
-pub run_of : (kind : ℕ → Bool) (low high : ℕ) (s : List ℕ) → is_run kind low high s ≡ true → RunOf kind low high s
+pub run_of : (kind : ℕ → Bool) (low high : ℕ) (s : List ℕ) → is_run kind low high s ≡ true
+    → RunOf kind low high s
 unfolding is_run
 run_of kind low high s h =
     let parts = each_true (nat_le low (length s) && nat_le (length s) high) (list_all kind s) h in
@@ -26,7 +27,8 @@ run_of kind low high s h =
 letter_not_digit : (b : ℕ) → is_letter b ≡ true → is_digit b ≡ true → ⊥
 letter_not_digit b l d = grind (arith, nat_tests)
 
-first_kind : (s : List ℕ) → 1 ≤ length s → list_all is_letter s ≡ true → list_any is_digit (take 1 s) ≡ true → ⊥
+first_kind : (s : List ℕ) → 1 ≤ length s → list_all is_letter s ≡ true
+    → list_any is_digit (take 1 s) ≡ true → ⊥
 first_kind [] n l d = cc
 first_kind (b ∷ bs) n l d =
     let letter = each_true (is_letter b) (list_all is_letter bs) l in
@@ -35,7 +37,8 @@ first_kind (b ∷ bs) n l d =
 kinds : (s : List ℕ) → 1 ≤ length s → list_all is_letter s ≡ true → list_all is_digit s ≡ true → ⊥
 kinds [] n l d = omega arith
 kinds (b ∷ bs) n l d =
-    letter_not_digit b (each_true (is_letter b) (list_all is_letter bs) l).0 (each_true (is_digit b) (list_all is_digit bs) d).0
+    letter_not_digit b (each_true (is_letter b) (list_all is_letter bs) l).0
+    (each_true (is_digit b) (list_all is_digit bs) d).0
 
 -- The subtag "x" has one byte.
 pub size_x : (s : List ℕ) → is_x s ≡ true → length s ≡ 1
@@ -72,15 +75,25 @@ piece_run s h = run_of _ _ _ s h
 -- A region is two letters or three digits.
 pub region_run : (s : List ℕ) → is_region s ≡ true → RunOf is_letter 2 2 s ⊎ RunOf is_digit 3 3 s
 unfolding is_region
-region_run s h = elim (one_true (is_run is_letter 2 2 s) (is_run is_digit 3 3 s) h) [ inl a ↦ inl (run_of _ _ _ s a) | inr a ↦ inr (run_of _ _ _ s a) ]
+region_run s h =
+    elim (one_true (is_run is_letter 2 2 s) (is_run is_digit 3 3 s) h) [
+      | inl a ↦
+          inl (run_of _ _ _ s a)
+      | inr a ↦ inr (run_of _ _ _ s a)
+    ]
 
 -- A variant is five to eight letters or digits, or four of which the first is a digit.
-pub variant_run : (s : List ℕ) → is_variant s ≡ true → RunOf is_alphanum 5 8 s ⊎ (RunOf is_alphanum 4 4 s × (list_any is_digit (take 1 s) ≡ true))
+pub variant_run : (s : List ℕ) → is_variant s ≡ true
+    → RunOf is_alphanum 5 8 s ⊎ (RunOf is_alphanum 4 4 s × (list_any is_digit (take 1 s) ≡ true))
 unfolding is_variant
-variant_run s h = elim (one_true (is_run is_alphanum 5 8 s) (is_run is_alphanum 4 4 s && list_any is_digit (take 1 s)) h) [
-  | inl a ↦ inl (run_of _ _ _ s a)
-  | inr a ↦ (let parts = each_true (is_run is_alphanum 4 4 s) (list_any is_digit (take 1 s)) a in inr (run_of _ _ _ s parts.0, parts.1))
-]
+variant_run s h =
+    elim (one_true (is_run is_alphanum 5 8 s)
+    (is_run is_alphanum 4 4 s && list_any is_digit (take 1 s)) h) [
+      | inl a ↦ inl (run_of _ _ _ s a)
+      | inr a ↦
+          (let parts = each_true (is_run is_alphanum 4 4 s) (list_any is_digit (take 1 s)) a in
+          inr (run_of _ _ _ s parts.0, parts.1))
+    ]
 
 -- A singleton is one letter or digit.
 pub singleton_run : (s : List ℕ) → is_singleton s ≡ true → RunOf is_alphanum 1 1 s
@@ -92,7 +105,10 @@ singleton_run s h = run_of _ _ _ s (each_true (is_run is_alphanum 1 1 s) (not (i
 -- The subtag "x" is no singleton.
 pub x_singleton : (s : List ℕ) → is_x s ≡ true → is_singleton s ≡ false
 unfolding is_singleton
-x_singleton s h = is_false _ (λ e. let parts = each_true (is_run is_alphanum 1 1 s) (not (is_x s)) e in let y = rw h at parts.1 in cc)
+x_singleton s h =
+    is_false _
+    (λ e. let parts = each_true (is_run is_alphanum 1 1 s) (not (is_x s)) e in let y =
+    rw h at parts.1 in cc)
 
 -- one character is nothing but x or a singleton
 pub record IsSingle (s : List ℕ) : Type 0 where
@@ -154,7 +170,8 @@ region_script s g = elim (region_run s g) [
 
 -- A script is no extlang.
 pub script_extlang : (s : List ℕ) → is_script s ≡ true → is_extlang s ≡ false
-script_extlang s g = is_false _ (λ h. let r = extlang_run s h in let q = script_run s g in omega arith)
+script_extlang s g =
+    is_false _ (λ h. let r = extlang_run s h in let q = script_run s g in omega arith)
 
 -- A long language is no short one.
 pub long_short : (s : List ℕ) → is_long_language s ≡ true → is_short_language s ≡ false

@@ -23,5 +23,6 @@ tag_not_none text h e = none_no_tag (let P : List ℕ → Type 0 = IsTag in subs
 -- a language that is a tag holds it
 pub tag_of_tag : (text : List ℕ) → IsTag text → tag_of text ≡ Some text
 tag_of_tag text h =
-    let other : bytes_eq text none_text ≡ false = is_false _ (λ e. tag_not_none text h ((bytes_eq-Decides text none_text).0 e)) in
+    let other : bytes_eq text none_text ≡ false =
+    is_false _ (λ e. tag_not_none text h ((bytes_eq-Decides text none_text).0 e)) in
     rw other refl

@@ -85,7 +85,8 @@ Follows Private list = AreAll is_private_piece list
 
 -- ---- what the stages accept has that form
 
-by_test : (b : Bool) (x y : Option Stage) (more : List (List ℕ)) → accepts more (cond b x y) ≡ true → ((b ≡ true) × (accepts more x ≡ true)) ⊎ ((b ≡ false) × (accepts more y ≡ true))
+by_test : (b : Bool) (x y : Option Stage) (more : List (List ℕ)) → accepts more (cond b x y) ≡ true
+    → ((b ≡ true) × (accepts more x ≡ true)) ⊎ ((b ≡ false) × (accepts more y ≡ true))
 by_test true x y more h = inl (refl, h)
 by_test false x y more h = inr (refl, h)
 
@@ -93,11 +94,14 @@ not_none : (list : List (List ℕ)) → accepts list None ≡ true → ⊥
 unfolding accepts
 not_none list h = cc
 
-private_is : (s : List ℕ) (more : List (List ℕ)) → is_x s ≡ true → Follows PrivateStart more → IsPrivate (s ∷ more)
+private_is : (s : List ℕ) (more : List (List ℕ)) → is_x s ≡ true → Follows PrivateStart more
+    → IsPrivate (s ∷ more)
 private_is s [] x f = absurd f
 private_is s (t ∷ more) x f = (x, both _ _ f.0 f.1)
 
-from_private : (s : List ℕ) (more : List (List ℕ)) → accepts more (private_stage s) ≡ true → ((stage : Stage) → accepts more (Some stage) ≡ true → Follows stage more) → IsPrivate (s ∷ more)
+from_private : (s : List ℕ) (more : List (List ℕ)) → accepts more (private_stage s) ≡ true
+    → ((stage : Stage) → accepts more (Some stage) ≡ true → Follows stage more)
+    → IsPrivate (s ∷ more)
 from_private s more h next = elim (by_test (is_x s) (Some PrivateStart) None more h) [
   | inl w ↦ private_is s more w.0 (next PrivateStart w.1)
   | inr w ↦ absurd (not_none more w.1)
@@ -115,12 +119,17 @@ end_of_private list p = record {
 regroup : (a b c : List (List ℕ)) → (a ++ b) ++ c ≡ a ++ (b ++ c)
 regroup a b c = rw append_assoc refl
 
-with_extension : (s : List ℕ) (more : List (List ℕ)) → is_singleton s ≡ true → Follows Singleton more → EndPart (s ∷ more)
+with_extension : (s : List ℕ) (more : List (List ℕ)) → is_singleton s ≡ true
+    → Follows Singleton more → EndPart (s ∷ more)
 with_extension s [] h f = absurd f
 with_extension s (t ∷ more) h f = record {
   extensions = (s ∷ t ∷ f.1.pieces) ++ f.1.rest_ok.extensions;
   private = f.1.rest_ok.private;
-  whole = ap (λ x. s ∷ t ∷ x) (f.1.whole ∙ (ap (λ x. f.1.pieces ++ x) f.1.rest_ok.whole ∙ sym (regroup f.1.pieces f.1.rest_ok.extensions f.1.rest_ok.private)));
+  whole =
+      ap (λ x. s ∷ t ∷ x)
+      (f.1.whole
+      ∙ (ap (λ x. f.1.pieces ++ x) f.1.rest_ok.whole
+      ∙ sym (regroup f.1.pieces f.1.rest_ok.extensions f.1.rest_ok.private)));
   extensions_ok = record {
     each = (s ∷ t ∷ f.1.pieces) ∷ f.1.rest_ok.extensions_ok.each;
     whole = ap (λ x. (s ∷ t ∷ f.1.pieces) ++ x) f.1.rest_ok.extensions_ok.whole;
@@ -129,55 +138,136 @@ with_extension s (t ∷ more) h f = record {
   private_ok = f.1.rest_ok.private_ok;
 }
 
-from_extension : (s : List ℕ) (more : List (List ℕ)) → accepts more (extension_stage s) ≡ true → ((stage : Stage) → accepts more (Some stage) ≡ true → Follows stage more) → EndPart (s ∷ more)
-from_extension s more h next = elim (by_test (is_singleton s) (Some Singleton) (private_stage s) more h) [
-  | inl w ↦ with_extension s more w.0 (next Singleton w.1)
-  | inr w ↦ end_of_private (s ∷ more) (from_private s more w.1 next)
-]
+from_extension : (s : List ℕ) (more : List (List ℕ)) → accepts more (extension_stage s) ≡ true
+    → ((stage : Stage) → accepts more (Some stage) ≡ true → Follows stage more) → EndPart (s ∷ more)
+from_extension s more h next =
+    elim (by_test (is_singleton s) (Some Singleton) (private_stage s) more h) [
+      | inl w ↦ with_extension s more w.0 (next Singleton w.1)
+      | inr w ↦ end_of_private (s ∷ more) (from_private s more w.1 next)
+    ]
 
-with_variant : (s : List ℕ) (more : List (List ℕ)) → is_variant s ≡ true → VariantPart more → VariantPart (s ∷ more)
-with_variant s more h f = record { variants = s ∷ f.variants; rest = f.rest; whole = ap (λ x. s ∷ x) f.whole; variants_ok = both _ _ h f.variants_ok; rest_ok = f.rest_ok }
+with_variant : (s : List ℕ) (more : List (List ℕ)) → is_variant s ≡ true → VariantPart more
+    → VariantPart (s ∷ more)
+with_variant s more h f =
+    record {
+      variants = s ∷ f.variants;
+      rest = f.rest;
+      whole =
+          ap (λ x. s ∷ x) f.whole;
+      variants_ok = both _ _ h f.variants_ok;
+      rest_ok = f.rest_ok;
+    }
 
-from_variant : (s : List ℕ) (more : List (List ℕ)) → accepts more (variant_stage s) ≡ true → ((stage : Stage) → accepts more (Some stage) ≡ true → Follows stage more) → VariantPart (s ∷ more)
-from_variant s more h next = elim (by_test (is_variant s) (Some Variants) (extension_stage s) more h) [
-  | inl w ↦ with_variant s more w.0 (next Variants w.1)
-  | inr w ↦ record { variants = []; rest = s ∷ more; whole = refl; variants_ok = refl; rest_ok = from_extension s more w.1 next }
-]
+from_variant : (s : List ℕ) (more : List (List ℕ)) → accepts more (variant_stage s) ≡ true
+    → ((stage : Stage) → accepts more (Some stage) ≡ true → Follows stage more)
+    → VariantPart (s ∷ more)
+from_variant s more h next =
+    elim (by_test (is_variant s) (Some Variants) (extension_stage s) more h) [
+      | inl w ↦ with_variant s more w.0 (next Variants w.1)
+      | inr w ↦
+          record {
+            variants = [];
+            rest = s ∷ more;
+            whole = refl;
+            variants_ok = refl;
+            rest_ok =
+                from_extension s more w.1 next;
+          }
+    ]
 
-from_region : (s : List ℕ) (more : List (List ℕ)) → accepts more (region_stage s) ≡ true → ((stage : Stage) → accepts more (Some stage) ≡ true → Follows stage more) → RegionPart (s ∷ more)
+from_region : (s : List ℕ) (more : List (List ℕ)) → accepts more (region_stage s) ≡ true
+    → ((stage : Stage) → accepts more (Some stage) ≡ true → Follows stage more)
+    → RegionPart (s ∷ more)
 from_region s more h next = elim (by_test (is_region s) (Some Variants) (variant_stage s) more h) [
-  | inl w ↦ record { region = s ∷ []; rest = more; whole = refl; region_ok = w.0; rest_ok = next Variants w.1 }
-  | inr w ↦ record { region = []; rest = s ∷ more; whole = refl; region_ok = tt; rest_ok = from_variant s more w.1 next }
-]
-
-from_script : (s : List ℕ) (more : List (List ℕ)) → accepts more (script_stage s) ≡ true → ((stage : Stage) → accepts more (Some stage) ≡ true → Follows stage more) → ScriptPart (s ∷ more)
-from_script s more h next = elim (by_test (is_script s) (Some Script) (region_stage s) more h) [
-  | inl w ↦ record { script = s ∷ []; rest = more; whole = refl; script_ok = w.0; rest_ok = next Script w.1 }
-  | inr w ↦ record { script = []; rest = s ∷ more; whole = refl; script_ok = tt; rest_ok = from_region s more w.1 next }
-]
-
-from_language : (left : ℕ) (s : List ℕ) (more : List (List ℕ)) → accepts more (language_stage left s) ≡ true → ((stage : Stage) → accepts more (Some stage) ≡ true → Follows stage more) → ExtlangPart left (s ∷ more)
-from_language left s more h next = elim (by_test (nat_lt 0 left && is_extlang s) (Some (Language (left - 1))) (script_stage s) more h) [
-  | inl w ↦ (let tests = each_true (nat_lt 0 left) (is_extlang s) w.0 in
-      let some : 0 < left = ltb-true _ _ tests.0 in
-      let rest : ExtlangPart (left - 1) more = next (Language (left - 1)) w.1 in
+  | inl w ↦
       record {
-        extlangs = s ∷ rest.extlangs;
-        rest = rest.rest;
-        whole = ap (λ x. s ∷ x) rest.whole;
-        extlangs_ok = both _ _ tests.1 rest.extlangs_ok;
-        few = (let few : length rest.extlangs ≤ left - 1 = rest.few in omega arith);
-        rest_ok = rest.rest_ok;
-      })
-  | inr w ↦ record { extlangs = []; rest = s ∷ more; whole = refl; extlangs_ok = refl; few = omega arith; rest_ok = from_script s more w.1 next }
+        region = s ∷ [];
+        rest = more;
+        whole = refl;
+        region_ok = w.0;
+        rest_ok =
+            next Variants w.1;
+      }
+  | inr w ↦
+      record {
+        region = [];
+        rest = s ∷ more;
+        whole = refl;
+        region_ok = tt;
+        rest_ok =
+            from_variant s more w.1 next;
+      }
 ]
+
+from_script : (s : List ℕ) (more : List (List ℕ)) → accepts more (script_stage s) ≡ true
+    → ((stage : Stage) → accepts more (Some stage) ≡ true → Follows stage more)
+    → ScriptPart (s ∷ more)
+from_script s more h next = elim (by_test (is_script s) (Some Script) (region_stage s) more h) [
+  | inl w ↦
+      record {
+        script = s ∷ [];
+        rest = more;
+        whole = refl;
+        script_ok = w.0;
+        rest_ok =
+            next Script w.1;
+      }
+  | inr w ↦
+      record {
+        script = [];
+        rest = s ∷ more;
+        whole = refl;
+        script_ok = tt;
+        rest_ok =
+            from_region s more w.1 next;
+      }
+]
+
+from_language : (left : ℕ) (s : List ℕ) (more : List (List ℕ))
+    → accepts more (language_stage left s) ≡ true
+    → ((stage : Stage) → accepts more (Some stage) ≡ true → Follows stage more)
+    → ExtlangPart left (s ∷ more)
+from_language left s more h next =
+    elim (by_test (nat_lt 0 left && is_extlang s) (Some (Language (left - 1))) (script_stage s) more
+    h) [
+      | inl w ↦ (let tests = each_true (nat_lt 0 left) (is_extlang s) w.0 in
+          let some : 0 < left = ltb-true _ _ tests.0 in
+          let rest : ExtlangPart (left - 1) more = next (Language (left - 1)) w.1 in
+          record {
+            extlangs = s ∷ rest.extlangs;
+            rest = rest.rest;
+            whole = ap (λ x. s ∷ x) rest.whole;
+            extlangs_ok = both _ _ tests.1 rest.extlangs_ok;
+            few = (let few : length rest.extlangs ≤ left - 1 = rest.few in omega arith);
+            rest_ok = rest.rest_ok;
+          })
+      | inr w ↦
+          record {
+            extlangs = [];
+            rest = s ∷ more;
+            whole = refl;
+            extlangs_ok = refl;
+            few =
+                omega arith;
+            rest_ok = from_script s more w.1 next;
+          }
+    ]
 
 -- the end of a tag may come after each complete stage
 no_end : EndPart []
-no_end = record { extensions = []; private = []; whole = refl; extensions_ok = record { each = []; whole = refl; extensions = tt }; private_ok = inl refl }
+no_end =
+    record {
+      extensions = [];
+      private = [];
+      whole = refl;
+      extensions_ok =
+          record { each = []; whole = refl; extensions = tt };
+      private_ok = inl refl;
+    }
 
 no_variants : VariantPart []
-no_variants = record { variants = []; rest = []; whole = refl; variants_ok = refl; rest_ok = no_end }
+no_variants =
+    record { variants = []; rest = []; whole = refl; variants_ok = refl; rest_ok = no_end }
 
 no_region : RegionPart []
 no_region = record { region = []; rest = []; whole = refl; region_ok = tt; rest_ok = no_variants }
@@ -185,7 +275,8 @@ no_region = record { region = []; rest = []; whole = refl; region_ok = tt; rest_
 no_script : ScriptPart []
 no_script = record { script = []; rest = []; whole = refl; script_ok = tt; rest_ok = no_region }
 
-langtag_of : (s : List ℕ) (more : List (List ℕ)) (left : ℕ) → (rest : ExtlangPart left more) → IsLanguage (s ∷ rest.extlangs) → IsLangtag (s ∷ more)
+langtag_of : (s : List ℕ) (more : List (List ℕ)) (left : ℕ) → (rest : ExtlangPart left more)
+    → IsLanguage (s ∷ rest.extlangs) → IsLangtag (s ∷ more)
 langtag_of s more left rest ok = record {
   language = s ∷ rest.extlangs;
   script = rest.rest_ok.script;
@@ -202,49 +293,90 @@ langtag_of s more left rest ok = record {
   private_ok = rest.rest_ok.rest_ok.rest_ok.rest_ok.private_ok;
 }
 
-short_language : (s : List ℕ) (extlangs : List (List ℕ)) → is_short_language s ≡ true → AreAll is_extlang extlangs → length extlangs ≤ 3 → IsLanguage (s ∷ extlangs)
+short_language : (s : List ℕ) (extlangs : List (List ℕ)) → is_short_language s ≡ true
+    → AreAll is_extlang extlangs → length extlangs ≤ 3 → IsLanguage (s ∷ extlangs)
 short_language s [] h a few = or_left _ _ h
 short_language s (e ∷ es) h a few = (h, a, few)
 
-long_language : (s : List ℕ) (extlangs : List (List ℕ)) → is_long_language s ≡ true → length extlangs ≤ 0 → IsLanguage (s ∷ extlangs)
+long_language : (s : List ℕ) (extlangs : List (List ℕ)) → is_long_language s ≡ true
+    → length extlangs ≤ 0 → IsLanguage (s ∷ extlangs)
 long_language s [] h few = or_right _ _ h
 long_language s (e ∷ es) h few = absurd (omega arith)
 
-from_start : (s : List ℕ) (more : List (List ℕ)) → accepts more (start_stage s) ≡ true → ((stage : Stage) → accepts more (Some stage) ≡ true → Follows stage more) → IsPrivate (s ∷ more) ⊎ IsLangtag (s ∷ more)
-from_start s more h next = elim (by_test (is_short_language s) (Some (Language 3)) (cond (is_long_language s) (Some (Language 0)) (private_stage s)) more h) [
-  | inl w ↦ (let rest : ExtlangPart 3 more = next (Language 3) w.1 in inr (langtag_of s more 3 rest (short_language s rest.extlangs w.0 rest.extlangs_ok rest.few)))
-  | inr w ↦ elim (by_test (is_long_language s) (Some (Language 0)) (private_stage s) more w.1) [
-    | inl v ↦ (let rest : ExtlangPart 0 more = next (Language 0) v.1 in inr (langtag_of s more 0 rest (long_language s rest.extlangs v.0 rest.few)))
-    | inr v ↦ inl (from_private s more v.1 next)
-  ]
-]
+from_start : (s : List ℕ) (more : List (List ℕ)) → accepts more (start_stage s) ≡ true
+    → ((stage : Stage) → accepts more (Some stage) ≡ true → Follows stage more)
+    → IsPrivate (s ∷ more) ⊎ IsLangtag (s ∷ more)
+from_start s more h next =
+    elim (by_test (is_short_language s) (Some (Language 3))
+    (cond (is_long_language s) (Some (Language 0)) (private_stage s)) more h) [
+      | inl w ↦
+          (let rest : ExtlangPart 3 more = next (Language 3) w.1 in
+          inr (langtag_of s more 3 rest
+          (short_language s rest.extlangs w.0 rest.extlangs_ok rest.few)))
+      | inr w ↦ elim (by_test (is_long_language s) (Some (Language 0)) (private_stage s) more w.1) [
+        | inl v ↦
+            (let rest : ExtlangPart 0 more = next (Language 0) v.1 in
+            inr (langtag_of s more 0 rest (long_language s rest.extlangs v.0 rest.few)))
+        | inr v ↦ inl (from_private s more v.1 next)
+      ]
+    ]
 
-with_piece : (s : List ℕ) (more : List (List ℕ)) → is_extension_piece s ≡ true → ExtensionPart more → ExtensionPart (s ∷ more)
-with_piece s more h f = record { pieces = s ∷ f.pieces; rest = f.rest; whole = ap (λ x. s ∷ x) f.whole; pieces_ok = both _ _ h f.pieces_ok; rest_ok = f.rest_ok }
+with_piece : (s : List ℕ) (more : List (List ℕ)) → is_extension_piece s ≡ true → ExtensionPart more
+    → ExtensionPart (s ∷ more)
+with_piece s more h f =
+    record {
+      pieces = s ∷ f.pieces;
+      rest = f.rest;
+      whole = ap (λ x. s ∷ x) f.whole;
+      pieces_ok =
+          both _ _ h f.pieces_ok;
+      rest_ok = f.rest_ok;
+    }
 
 -- what the stages accept from a stage on may follow it
-pub follows : (list : List (List ℕ)) (stage : Stage) → accepts list (Some stage) ≡ true → Follows stage list
+pub follows : (list : List (List ℕ)) (stage : Stage) → accepts list (Some stage) ≡ true
+    → Follows stage list
 unfolding accepts
 follows [] Start h = cc
-follows [] (Language left) h = record { extlangs = []; rest = []; whole = refl; extlangs_ok = refl; few = omega arith; rest_ok = no_script }
+follows [] (Language left) h =
+    record {
+      extlangs = [];
+      rest = [];
+      whole = refl;
+      extlangs_ok = refl;
+      few =
+          omega arith;
+      rest_ok = no_script;
+    }
 follows [] Script h = no_region
 follows [] Variants h = no_variants
 follows [] Singleton h = cc
-follows [] Extension h = record { pieces = []; rest = []; whole = refl; pieces_ok = refl; rest_ok = no_end }
+follows [] Extension h =
+    record { pieces = []; rest = []; whole = refl; pieces_ok = refl; rest_ok = no_end }
 follows [] PrivateStart h = cc
 follows [] Private h = refl
 follows (s ∷ more) Start h = from_start s more h (follows more)
 follows (s ∷ more) (Language left) h = from_language left s more h (follows more)
 follows (s ∷ more) Script h = from_region s more h (follows more)
 follows (s ∷ more) Variants h = from_variant s more h (follows more)
-follows (s ∷ more) Singleton h = elim (by_test (is_extension_piece s) (Some Extension) None more h) [
-  | inl w ↦ (w.0, follows more Extension w.1)
-  | inr w ↦ absurd (not_none more w.1)
-]
-follows (s ∷ more) Extension h = elim (by_test (is_extension_piece s) (Some Extension) (extension_stage s) more h) [
-  | inl w ↦ with_piece s more w.0 (follows more Extension w.1)
-  | inr w ↦ record { pieces = []; rest = s ∷ more; whole = refl; pieces_ok = refl; rest_ok = from_extension s more w.1 (follows more) }
-]
+follows (s ∷ more) Singleton h =
+    elim (by_test (is_extension_piece s) (Some Extension) None more h) [
+      | inl w ↦ (w.0, follows more Extension w.1)
+      | inr w ↦ absurd (not_none more w.1)
+    ]
+follows (s ∷ more) Extension h =
+    elim (by_test (is_extension_piece s) (Some Extension) (extension_stage s) more h) [
+      | inl w ↦ with_piece s more w.0 (follows more Extension w.1)
+      | inr w ↦
+          record {
+            pieces = [];
+            rest = s ∷ more;
+            whole = refl;
+            pieces_ok = refl;
+            rest_ok =
+                from_extension s more w.1 (follows more);
+          }
+    ]
 follows (s ∷ more) PrivateStart h = elim (by_test (is_private_piece s) (Some Private) None more h) [
   | inl w ↦ (w.0, follows more Private w.1)
   | inr w ↦ absurd (not_none more w.1)

@@ -17,9 +17,11 @@ star_only (b ∷ []) h = let e : b ≡ 42 = grind (arith, nat_tests) in ap (λ (
 star_only (b ∷ c ∷ s) h = cc
 
 -- A first subtag that is not "*" is kept where each "*" is left out.
-pub star_kept : (s : List ℕ) (list : List (List ℕ)) → is_star s ≡ false → without_stars (s ∷ list) ≡ s ∷ without_stars list
+pub star_kept : (s : List ℕ) (list : List (List ℕ)) → is_star s ≡ false
+    → without_stars (s ∷ list) ≡ s ∷ without_stars list
 star_kept s list h = rw h refl
 
 -- A first subtag "*" is dropped where each "*" is left out.
-pub star_dropped : (s : List ℕ) (list : List (List ℕ)) → is_star s ≡ true → without_stars (s ∷ list) ≡ without_stars list
+pub star_dropped : (s : List ℕ) (list : List (List ℕ)) → is_star s ≡ true
+    → without_stars (s ∷ list) ≡ without_stars list
 star_dropped s list h = rw h refl

@@ -43,7 +43,8 @@ without_last (s ∷ t ∷ more) = s ∷ without_last (t ∷ more)
 -- without the single letters and digits that stand last
 abbrev pub without_last_singles : List (List ℕ) → List (List ℕ)
 without_last_singles [] = []
-without_last_singles (s ∷ more) = if list_all is_single (s ∷ more) then [] else s ∷ without_last_singles more
+without_last_singles (s ∷ more) = if list_all is_single (s ∷ more) then
+    [] else s ∷ without_last_singles more
 
 -- one step: the last subtag goes, and the single letters and digits right before it go with it
 abbrev pub shortened : List (List ℕ) → List (List ℕ)

@@ -39,7 +39,8 @@ unfoldable pub is_region : List ℕ → Bool
 is_region s = is_run is_letter 2 2 s || is_run is_digit 3 3 s
 
 unfoldable pub is_variant : List ℕ → Bool
-is_variant s = is_run is_alphanum 5 8 s || (is_run is_alphanum 4 4 s && list_any is_digit (take 1 s))
+is_variant s =
+    is_run is_alphanum 5 8 s || (is_run is_alphanum 4 4 s && list_any is_digit (take 1 s))
 
 unfoldable pub is_x : List ℕ → Bool
 is_x (b ∷ []) = b == 120
@@ -73,7 +74,8 @@ IsHeaded head piece _ = ⊥
 abbrev pub IsLanguage : List (List ℕ) → Type 0
 IsLanguage [] = ⊥
 IsLanguage (s ∷ []) = IsTrue (is_short_language s || is_long_language s)
-IsLanguage (s ∷ extlangs) = IsTrue (is_short_language s) × AreAll is_extlang extlangs × (length extlangs ≤ 3)
+IsLanguage (s ∷ extlangs) =
+    IsTrue (is_short_language s) × AreAll is_extlang extlangs × (length extlangs ≤ 3)
 
 -- extension = singleton 1*("-" (2*8alphanum))
 abbrev pub IsExtension : List (List ℕ) → Type 0
@@ -111,8 +113,11 @@ pub record IsLangtag (list : List (List ℕ)) : Type 0 where
 
 -- the irregular tags of RFC 5646 section 2.1, in lower case
 abbrev pub irregular : List (List ℕ)
-irregular = codes "en-gb-oed" ∷ codes "i-ami" ∷ codes "i-bnn" ∷ codes "i-default" ∷ codes "i-enochian" ∷ codes "i-hak" ∷ codes "i-klingon"
-    ∷ codes "i-lux" ∷ codes "i-mingo" ∷ codes "i-navajo" ∷ codes "i-pwn" ∷ codes "i-tao" ∷ codes "i-tay" ∷ codes "i-tsu"
+irregular =
+    codes "en-gb-oed" ∷ codes "i-ami" ∷ codes "i-bnn" ∷ codes "i-default" ∷ codes "i-enochian"
+    ∷ codes "i-hak" ∷ codes "i-klingon"
+    ∷ codes "i-lux" ∷ codes "i-mingo" ∷ codes "i-navajo" ∷ codes "i-pwn" ∷ codes "i-tao"
+    ∷ codes "i-tay" ∷ codes "i-tsu"
     ∷ codes "sgn-be-fr" ∷ codes "sgn-be-nl" ∷ codes "sgn-ch-de" ∷ []
 
 unfoldable pub is_irregular : List ℕ → Bool
@@ -130,14 +135,15 @@ are_allowed allowed place [] = true
 are_allowed allowed place (s ∷ more) = allowed place s && are_allowed allowed (place + 1) more
 
 -- the first piece that is not allowed at its place begins at the offset
-pub record IsFirstRefused (allowed : ℕ → List ℕ → Bool) (list : List (List ℕ)) (offset : ℕ) : Type 0 where
-  pub before : List (List ℕ)
-  pub piece : List ℕ
-  pub after : List (List ℕ)
-  pub whole : list ≡ before ++ piece ∷ after
-  pub before_ok : IsTrue (are_allowed allowed 0 before)
-  pub refused : allowed (length before) piece ≡ false
-  pub begins : offset ≡ sum_by (λ s. length s + 1) before
+pub record IsFirstRefused (allowed : ℕ → List ℕ → Bool) (list : List (List ℕ)) (offset : ℕ) : Type 0
+  where
+    pub before : List (List ℕ)
+    pub piece : List ℕ
+    pub after : List (List ℕ)
+    pub whole : list ≡ before ++ piece ∷ after
+    pub before_ok : IsTrue (are_allowed allowed 0 before)
+    pub refused : allowed (length before) piece ≡ false
+    pub begins : offset ≡ sum_by (λ s. length s + 1) before
 
 -- any subtag of a tag: 1*8alphanum
 abbrev pub tag_piece : ℕ → List ℕ → Bool

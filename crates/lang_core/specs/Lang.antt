@@ -17,7 +17,9 @@ tag_of lang = if bytes_eq lang none_text then None else Some lang
 
 -- the bytes spell the language: "@none" byte for byte, or a tag in any case
 abbrev pub SpellsLang : List ℕ → List ℕ → Type 0
-SpellsLang bytes lang = ((bytes ≡ none_text) × (lang ≡ none_text)) ⊎ (IsTag (str_to_ascii_lowercase bytes) × (lang ≡ str_to_ascii_lowercase bytes))
+SpellsLang bytes lang =
+    ((bytes ≡ none_text) × (lang ≡ none_text))
+    ⊎ (IsTag (str_to_ascii_lowercase bytes) × (lang ≡ str_to_ascii_lowercase bytes))
 
 -- why the bytes spell no language: they are not "@none", and no tag either
 abbrev pub RefusesLang : List ℕ → LangFault → Type 0

@@ -25,7 +25,8 @@ BasicInBytes range tag = (range ≡ 42 ∷ []) ⊎ ((range ≡ tag) ⊎ IsBefore
 abbrev pub Embeds : List (List ℕ) → List (List ℕ) → Type 0
 Embeds [] given = Unit {0}
 Embeds (w ∷ wanted) [] = ⊥
-Embeds (w ∷ wanted) (g ∷ given) = ((w ≡ g) × Embeds wanted given) ⊎ ((1 < length g) × Embeds (w ∷ wanted) given)
+Embeds (w ∷ wanted) (g ∷ given) =
+    ((w ≡ g) × Embeds wanted given) ⊎ ((1 < length g) × Embeds (w ∷ wanted) given)
 
 abbrev pub without_stars : List (List ℕ) → List (List ℕ)
 without_stars list = filter (λ s. not (is_star s)) list
@@ -40,7 +41,10 @@ unfoldable pub greedy : List (List ℕ) → List (List ℕ) → Bool
 greedy [] given = true
 greedy (w ∷ wanted) [] = if is_star w then greedy wanted [] else false
 greedy (w ∷ wanted) (g ∷ given) =
-    if is_star w then greedy wanted (g ∷ given) else (if bytes_eq w g then greedy wanted given else (if nat_lt 1 (length g) then greedy (w ∷ wanted) given else false))
+    if is_star w then
+    greedy wanted (g ∷ given) else
+    (if bytes_eq w g then
+    greedy wanted given else (if nat_lt 1 (length g) then greedy (w ∷ wanted) given else false))
 
 -- whether the first list is a front of the second
 abbrev pub is_front : List (List ℕ) → List (List ℕ) → Bool

@@ -17,9 +17,11 @@ abbrev pub RangeTakesMemory : List ℕ → Type 0
 RangeTakesMemory range = TakesMemory range ⊎ HasOtherText range
 
 -- why a text in lower case is no such range, or that it is one and there was no memory for it
-abbrev pub RefusesRange : (List (List ℕ) → Type 0) → (ℕ → List ℕ → Bool) → List ℕ → LangFault → Type 0
+abbrev pub RefusesRange : (List (List ℕ) → Type 0) → (ℕ → List ℕ → Bool) → List ℕ → LangFault
+    → Type 0
 RefusesRange Grammar allowed text RangeEmpty = text ≡ []
 RefusesRange Grammar allowed text RangeTooLong = 255 < length text
-RefusesRange Grammar allowed text (RangeSubtag offset) = IsSized text × ¬ Grammar (pieces text) × IsFirstRefused allowed (pieces text) offset
+RefusesRange Grammar allowed text (RangeSubtag offset) =
+    IsSized text × ¬ Grammar (pieces text) × IsFirstRefused allowed (pieces text) offset
 RefusesRange Grammar allowed text NoMemory = IsRange Grammar text × RangeTakesMemory text
 RefusesRange Grammar allowed text _ = ⊥

@@ -24,10 +24,12 @@ abbrev pub script_stage : List ℕ → Option Stage
 script_stage s = if is_script s then Some Script else region_stage s
 
 abbrev pub language_stage : ℕ → List ℕ → Option Stage
-language_stage left s = if nat_lt 0 left && is_extlang s then Some (Language (left - 1)) else script_stage s
+language_stage left s = if nat_lt 0 left && is_extlang s then
+    Some (Language (left - 1)) else script_stage s
 
 abbrev pub start_stage : List ℕ → Option Stage
-start_stage s = if is_short_language s then Some (Language 3) else (if is_long_language s then Some (Language 0) else private_stage s)
+start_stage s = if is_short_language s then
+    Some (Language 3) else (if is_long_language s then Some (Language 0) else private_stage s)
 
 -- the stage after one more subtag, or none where it may not come
 abbrev pub next_stage : Stage → List ℕ → Option Stage

@@ -33,13 +33,6 @@ pub struct Lang {
     choice: Choice,
 }
 
-/// `@none` needs no text of its own, and so no memory.
-#[derive(Debug, Drop)]
-enum Choice {
-    Tagged(Tag),
-    NoLanguage,
-}
-
 impl Model for Lang {
     ghost use Rattle.std.specs.Prelude.{List, ℕ};
 
@@ -201,4 +194,11 @@ impl Hash for Lang {
     fn hash<H: Hasher>(&self, state: &mut H) {
         self.as_str().hash(state);
     }
+}
+
+/// `@none` needs no text of its own, and so no memory.
+#[derive(Debug, Drop)]
+enum Choice {
+    Tagged(Tag),
+    NoLanguage,
 }

@@ -25,15 +25,6 @@ pub(crate) struct LowerText {
     kept: Kept,
 }
 
-/// A short text lies in the value itself, as most tags are short.
-#[derive(Drop)]
-enum Kept {
-    // The text with zero bytes after it. No text has a zero byte, so the arrays are in the order of
-    // the texts, and are compared in place of them.
-    Short([u8; MAX_SHORT_LEN]),
-    Long(String),
-}
-
 impl Model for LowerText {
     ghost use Rattle.std.specs.Prelude.{List, ℕ};
     ghost use Rattle.lang_core.specs.Kept.{kept_bytes, IsKept};
@@ -115,6 +106,15 @@ impl fmt::Debug for LowerText {
     fn fmt<W: fmt::Write>(&self, f: &mut fmt::Formatter<W>) -> fmt::Result {
         fmt::Debug::fmt(self.as_str(), f)
     }
+}
+
+/// A short text lies in the value itself, as most tags are short.
+#[derive(Drop)]
+enum Kept {
+    // The text with zero bytes after it. No text has a zero byte, so the arrays are in the order of
+    // the texts, and are compared in place of them.
+    Short([u8; MAX_SHORT_LEN]),
+    Long(String),
 }
 
 /// A short text in lower case, with zero bytes after it.

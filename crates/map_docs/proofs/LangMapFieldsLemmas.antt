@@ -14,6 +14,8 @@ pub some_strings : (n : ℕ) → (n == 0) ≡ false → 0 < n
 some_strings n h = grind (arith, nat_tests)
 
 -- the same of strings, of which there are some
-pub strings_cause : (k : ℕ) (texts : List (List ℕ)) (fault : CellFault) → 0 < length texts → RefusesLabel texts fault → (cell_cause k fault ≡ no_memory) ⊎ IsStringsRefusal k texts (cell_cause k fault)
+pub strings_cause : (k : ℕ) (texts : List (List ℕ)) (fault : CellFault) → 0 < length texts
+    → RefusesLabel texts fault
+    → (cell_cause k fault ≡ no_memory) ⊎ IsStringsRefusal k texts (cell_cause k fault)
 strings_cause k [] fault some why = absurd (omega (arith, some))
 strings_cause k (t ∷ ts) fault some why = label_cause k (t ∷ ts) fault why

@@ -1,7 +1,9 @@
 -- Language maps that are being written, label by label.
-use Rattle.std.proofs.Common.{◌≡◌, ◌∙◌, ◌++◌, ℕ, Bool, true, false, List, [], ◌∷◌, refl, sym, ap, subst}
+use Rattle.std.proofs.Common.{◌≡◌, ◌∙◌, ◌++◌, ℕ, Bool, true, false, List, [], ◌∷◌, refl, sym, ap}
+use Rattle.std.proofs.Common.{subst}
 use Rattle.std.specs.Borrow.{Bor}
-use Rattle.std.specs.Prelude.{◌||◌, Err, IfOk, IsUtf8, None, Ok, Option, Result, Some, is_some, option_map}
+use Rattle.std.specs.Prelude.{◌||◌, Err, IfOk, IsUtf8, None, Ok, Option, Result, Some, is_some}
+use Rattle.std.specs.Prelude.{option_map}
 use Rattle.cell_core.specs.Maps.{IsMap}
 use Rattle.cata_core.specs.Entries.{key_cmp}
 use Rattle.json.specs.Token.{begin_object}
@@ -25,21 +27,35 @@ or_false true = refl
 or_false false = refl
 
 -- nothing is written yet
-pub writing_first : (draft : Written) (all : List Labelled) → draft.before ≡ [] → draft.tokens ≡ begin_object ∷ [] → IsWriting draft None all all
-writing_first draft all none is = record { before = none; tokens = ap (λ t. t ++ labels_tokens None all) is; writable = λ w. w; found = refl }
+pub writing_first : (draft : Written) (all : List Labelled) → draft.before ≡ []
+    → draft.tokens ≡ begin_object ∷ [] → IsWriting draft None all all
+writing_first draft all none is =
+    record {
+      before = none;
+      tokens = ap (λ t. t ++ labels_tokens None all) is;
+      writable =
+          λ w. w;
+      found = refl;
+    }
 
 -- one label more is written
-pub writing_next : (old new : Written) (current : Option (List ℕ)) (e : Labelled) (left all : List Labelled) → IsWriting old current (e ∷ left) all
-    → Adds old new (opening_tokens current e.0.0 ++ label_tokens e) → IsWritable e → IsWriting new (Some e.0.0) left all
+pub writing_next : (old new : Written) (current : Option (List ℕ)) (e : Labelled)
+    (left all : List Labelled) → IsWriting old current (e ∷ left) all
+    → Adds old new (opening_tokens current e.0.0 ++ label_tokens e) → IsWritable e
+    → IsWriting new (Some e.0.0) left all
 writing_next old new current e left all w adds valid = record {
   before = adds.0 ∙ w.before;
-  tokens = one_written (begin_object ∷ labels_tokens None all) old.tokens (opening_tokens current e.0.0 ++ label_tokens e) new.tokens current e left w.tokens adds.1 refl;
+  tokens =
+      one_written (begin_object ∷ labels_tokens None all) old.tokens
+      (opening_tokens current e.0.0 ++ label_tokens e) new.tokens current e left w.tokens adds.1
+      refl;
   writable = λ rest. w.writable (valid, rest);
   found = sym (or_true (is_some current)) ∙ w.found;
 }
 
 -- all are written
-pub found_last : (draft : Written) (current : Option (List ℕ)) (all : List Labelled) → IsWriting draft current [] all → is_some current ≡ has_label all
+pub found_last : (draft : Written) (current : Option (List ℕ)) (all : List Labelled)
+    → IsWriting draft current [] all → is_some current ≡ has_label all
 found_last draft current all w = sym (or_false (is_some current)) ∙ w.found
 
 -- There is a borrowed value exactly where there is its value.
@@ -48,7 +64,15 @@ some_lent None = refl
 some_lent (Some x) = refl
 
 -- a text that was written for labels is theirs
-pub text_of : {E : Type 0} (all : List Labelled) (result : Result (List ℕ) E) → IsMap key_cmp all → AreWritable all → IfOk result (λ doc. doc ≡ text (langmaps_value all)) → IfOk result (λ doc. IsUtf8 doc)
+pub text_of : {E : Type 0} (all : List Labelled) (result : Result (List ℕ) E) → IsMap key_cmp all
+    → AreWritable all → IfOk result (λ doc. doc ≡ text (langmaps_value all))
+    → IfOk result (λ doc. IsUtf8 doc)
     → IfOk result (IsTextOf all)
-text_of all (Ok doc) m w is utf8 = record { text_is = is; reads = subst (λ (d : List ℕ). AreLangMaps d all) (sym is) (reads_back all m w (subst IsUtf8 is utf8)) }
+text_of all (Ok doc) m w is utf8 =
+    record {
+      text_is = is;
+      reads =
+          subst (λ (d : List ℕ). AreLangMaps d all) (sym is)
+          (reads_back all m w (subst IsUtf8 is utf8));
+    }
 text_of all (Err e) m w is utf8 = tt

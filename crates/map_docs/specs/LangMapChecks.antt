@@ -1,5 +1,6 @@
 -- The tests of a language-map document, in their order. Own rule.
-use Rattle.std.specs.Prelude.{◌≡◌, ◌==◌, ℕ, ◌+◌, Bool, true, false, List, [], ◌∷◌, ◌++◌, Option, Some, is_some, unwrap_or}
+use Rattle.std.specs.Prelude.{◌≡◌, ◌==◌, ℕ, ◌+◌, Bool, true, false, List, [], ◌∷◌, ◌++◌, Option}
+use Rattle.std.specs.Prelude.{Some, is_some, unwrap_or}
 use Rattle.std.specs.List.{list_any}
 use Rattle.std.specs.Str.{bytes_eq, str_to_ascii_lowercase}
 use Rattle.cell_core.specs.Labels.{IsLabel}
@@ -13,7 +14,9 @@ use Rattle.map_docs.specs.LangMapRows.{Keys, Rows, Strings, rows_in}
 
 -- an earlier key is equal without case
 abbrev pub is_repeated : List (List ℕ) → List ℕ → Bool
-is_repeated before key = list_any (λ earlier. bytes_eq (str_to_ascii_lowercase earlier) (str_to_ascii_lowercase key)) before
+is_repeated before key =
+    list_any (λ earlier. bytes_eq (str_to_ascii_lowercase earlier) (str_to_ascii_lowercase key))
+    before
 
 -- no string gives no label, else the strings are one
 abbrev pub IsLabelOrNone : List (List ℕ) → Type 0
@@ -26,7 +29,8 @@ IsStringsRefusal k [] e = ⊥
 IsStringsRefusal k (t ∷ ts) e = IsLabelRefusal k (Some (t ∷ ts)) e
 
 abbrev pub label_check : ℕ → List (List ℕ) → Check
-label_check k strings = record { passes = IsLabelOrNone strings; refuses = IsStringsRefusal k strings }
+label_check k strings =
+    record { passes = IsLabelOrNone strings; refuses = IsStringsRefusal k strings }
 
 -- the tests of a key of row k after the keys before it
 abbrev pub key_checks : ℕ → List (List ℕ) → List ℕ → Strings → List Check
@@ -67,4 +71,5 @@ rows_checks k [] = []
 rows_checks k (r ∷ rs) = row_checks k r ++ rows_checks (k + 1) rs
 
 abbrev pub langmaps_checks : Data → List Check
-langmaps_checks d = check (is_some (rows_in d) ≡ true) (Shape Document) ∷ rows_checks 0 (unwrap_or (rows_in d) [])
+langmaps_checks d =
+    check (is_some (rows_in d) ≡ true) (Shape Document) ∷ rows_checks 0 (unwrap_or (rows_in d) [])

@@ -1,5 +1,6 @@
 -- The labels of a language-map document (JSON-LD 1.1, sections 4.6.2 and 9.8).
-use Rattle.std.specs.Prelude.{◌≡◌, ℕ, Bool, true, false, List, [], ◌∷◌, Option, None, Some, unwrap_or}
+use Rattle.std.specs.Prelude.{◌≡◌, ℕ, Bool, true, false, List, [], ◌∷◌, Option, None, Some}
+use Rattle.std.specs.Prelude.{unwrap_or}
 use Rattle.std.specs.List.{filter_map, flat_map}
 use Rattle.std.specs.List.Sorted.{IsPermutation}
 use Rattle.std.specs.Str.{str_to_ascii_lowercase}
@@ -38,11 +39,14 @@ rows_labels rows = flat_map row_labels rows
 
 -- the document's labels, in rising order of key
 abbrev pub ReadsAsLangMaps : Data → List Labelled → Type 0
-ReadsAsLangMaps d labels = (rows : Rows) × (rows_in d ≡ Some rows) × IsPermutation (rows_labels rows) labels × IsMap key_cmp labels
+ReadsAsLangMaps d labels =
+    (rows : Rows) × (rows_in d ≡ Some rows) × IsPermutation (rows_labels rows) labels
+    × IsMap key_cmp labels
 
 -- the bytes are the text of a language-map document with these labels
 abbrev pub AreLangMaps : List ℕ → List Labelled → Type 0
-AreLangMaps bytes labels = (d : Data) × AreJson bytes d × AllPass (langmaps_checks d) × ReadsAsLangMaps d labels
+AreLangMaps bytes labels =
+    (d : Data) × AreJson bytes d × AllPass (langmaps_checks d) × ReadsAsLangMaps d labels
 
 abbrev pub RefusesLangMaps : List ℕ → DocCause → Type 0
 RefusesLangMaps = IsRefusal langmaps_checks

@@ -1,5 +1,6 @@
 -- Rows that were read, without where they lie in memory, and what is made of them.
-use Rattle.std.specs.Prelude.{◌≡◌, ◌⊎◌, ◌++◌, All, unwrap_or, true, false, ℕ, List, [], ◌∷◌, map, Option, None, Some, is_some, option_map, String, Vec, string_bytes}
+use Rattle.std.specs.Prelude.{◌≡◌, ◌⊎◌, ◌++◌, All, unwrap_or, true, false, ℕ, List, [], ◌∷◌, map}
+use Rattle.std.specs.Prelude.{Option, None, Some, is_some, option_map, String, Vec, string_bytes}
 use Rattle.std.specs.BTreeMap.{BTreeMap, is_at}
 use Rattle.std.specs.List.{filter_map, list_any}
 use Rattle.std.specs.List.Sorted.{IsPermutation}
@@ -55,7 +56,9 @@ live found = filter_map (λ e. option_map (λ texts. (e.0, texts)) e.1) found
 
 -- the keys in lower case were found, and their labels
 pub record HoldsKeys (keys : Keys) (found : Found) : Type 0 where
-  pub held : (q : List ℕ) → is_some (lookup (is_at (text_cmp q)) found) ≡ list_any (λ m. bytes_eq (str_to_ascii_lowercase m.0) q) keys
+  pub held : (q : List ℕ)
+      → is_some (lookup (is_at (text_cmp q)) found)
+      ≡ list_any (λ m. bytes_eq (str_to_ascii_lowercase m.0) q) keys
   pub labels : IsPermutation (languages_of keys) (live found)
   pub map : IsMap text_cmp found
 
@@ -66,7 +69,9 @@ IsOneLabel (t ∷ ts) label = label ≡ Some (t ∷ ts)
 
 -- the labels grew by those of these keys, in rising order
 abbrev pub AddsLanguages : List Labelled → List Labelled → List ℕ → Keys → Type 0
-AddsLanguages old new id keys = (languages : Languages) × IsPermutation (languages_of keys) languages × IsMap text_cmp languages × (new ≡ old ++ under id languages)
+AddsLanguages old new id keys =
+    (languages : Languages) × IsPermutation (languages_of keys) languages × IsMap text_cmp languages
+    × (new ≡ old ++ under id languages)
 
 -- the messages of the labels are smaller than this one
 abbrev pub AreLesser : List Labelled → List ℕ → Type 0
@@ -74,4 +79,6 @@ AreLesser labels id = All (λ e. text_cmp e.0.0 id ≡ Less) labels
 
 -- the labels grew by those of a row, if it is no skipped one
 abbrev pub AddsRow : List Labelled → List Labelled → List ℕ × Option Keys → Type 0
-AddsRow old new r = ((is_marked r.0 ≡ true) × (new ≡ old)) ⊎ ((is_marked r.0 ≡ false) × AddsLanguages old new r.0 (unwrap_or r.1 []))
+AddsRow old new r =
+    ((is_marked r.0 ≡ true) × (new ≡ old))
+    ⊎ ((is_marked r.0 ≡ false) × AddsLanguages old new r.0 (unwrap_or r.1 []))

@@ -1,5 +1,6 @@
 //! The labels of a language-map document, made of its rows.
-ghost use Rattle.std.specs.Prelude.{◌≡◌, ◌++◌, ◌∷◌, ◌<◌, ◌^◌, [], List, ℕ, Bool, MatchResult, IfErr, OnOk, IfOk, map, string_bytes, unwrap_or, length};
+ghost use Rattle.std.specs.Prelude.{◌≡◌, ◌++◌, ◌∷◌, ◌<◌, ◌^◌, [], List, ℕ, Bool, MatchResult};
+ghost use Rattle.std.specs.Prelude.{IfErr, OnOk, IfOk, map, string_bytes, unwrap_or, length};
 ghost use Rattle.std.specs.List.Sorted.{IsPermutation};
 ghost use Rattle.cell_core.specs.Maps.{IsMap};
 ghost use Rattle.cata_core.specs.Entries.{key_cmp, text_cmp};
@@ -32,7 +33,8 @@ use std::collections::BTreeMap;
 /// The labels of the rows in rising order of key, or the refusal of the first test that fails.
 pub(crate) fn labels_of(alloc: Global, rows: Rows) -> Result<LangMaps, DocCause>
     ensures { MatchResult result
-        (λ maps. AllPass (rows_checks 0 (rows_seen rows.entries)) × IsPermutation (rows_labels (rows_seen rows.entries)) maps × IsMap key_cmp maps)
+        (λ maps. AllPass (rows_checks 0 (rows_seen rows.entries))
+        × IsPermutation (rows_labels (rows_seen rows.entries)) maps × IsMap key_cmp maps)
         (OrMemory NoMemory (FirstFails (rows_checks 0 (rows_seen rows.entries)))) }
 {
     let mut maps = LangMaps::with_capacity(alloc, rows.len())?;
@@ -55,8 +57,11 @@ fn add_row(
 ) -> Result<(), DocCause>
     requires lesser { AreLesser maps.old (string_bytes name) }
     requires sorted { IsMap key_cmp maps.old }
-    ensures ok { OnOk result (AllPass (row_checks row (string_bytes name, keys_in_seen keys)) × AddsRow maps.old maps.new (string_bytes name, keys_in_seen keys)) }
-    ensures err { IfErr result (OrMemory NoMemory (FirstFails (row_checks row (string_bytes name, keys_in_seen keys)))) }
+    ensures ok { OnOk result
+        (AllPass (row_checks row (string_bytes name, keys_in_seen keys))
+        × AddsRow maps.old maps.new (string_bytes name, keys_in_seen keys)) }
+    ensures err { IfErr result
+        (OrMemory NoMemory (FirstFails (row_checks row (string_bytes name, keys_in_seen keys)))) }
 {
     if is_marked(&name) {
         return Ok(());
@@ -84,8 +89,12 @@ fn add_message(
 ) -> Result<(), DocCause>
     requires lesser { AreLesser maps.old (string_bytes name) }
     requires sorted { IsMap key_cmp maps.old }
-    ensures ok { OnOk result (AllPass (message_checks row (string_bytes name) (keys_in_seen keys)) × AddsLanguages maps.old maps.new (string_bytes name) (unwrap_or (keys_in_seen keys) [])) }
-    ensures err { IfErr result (OrMemory NoMemory (FirstFails (message_checks row (string_bytes name) (keys_in_seen keys)))) }
+    ensures ok { OnOk result
+        (AllPass (message_checks row (string_bytes name) (keys_in_seen keys))
+        × AddsLanguages maps.old maps.new (string_bytes name) (unwrap_or (keys_in_seen keys) [])) }
+    ensures err { IfErr result
+        (OrMemory NoMemory
+        (FirstFails (message_checks row (string_bytes name) (keys_in_seen keys)))) }
 {
     let id = id_of_name(row, name)?;
     let Some(keys) = keys else {
@@ -119,7 +128,8 @@ fn languages_of(
     keys: Keys,
 ) -> Result<BTreeMap<Lang, Option<Label>>, DocCause>
     ensures { MatchResult result
-        (λ found. AllPass (keys_checks row [] (keys_seen keys.items)) × HoldsKeys (keys_seen keys.items) found.entries)
+        (λ found. AllPass (keys_checks row [] (keys_seen keys.items))
+        × HoldsKeys (keys_seen keys.items) found.entries)
         (OrMemory NoMemory (FirstFails (keys_checks row [] (keys_seen keys.items)))) }
 {
     let mut found = BTreeMap::new(alloc);
@@ -140,8 +150,10 @@ fn add_key(
     ensures ok { OnOk result ((before : PlainKeys) → HoldsKeys before found.old.entries
         → AllPass (key_checks row (map (λ m. m.0) before) (string_bytes key) (strings_seen strings))
         × HoldsKeys (before ++ (string_bytes key, strings_seen strings) ∷ []) found.new.entries) }
-    ensures err { IfErr result (OrMemory NoMemory (λ e. (before : PlainKeys) → HoldsKeys before found.old.entries
-        → FirstFails (key_checks row (map (λ m. m.0) before) (string_bytes key) (strings_seen strings)) e)) }
+    ensures err { IfErr result
+        (OrMemory NoMemory (λ e. (before : PlainKeys) → HoldsKeys before found.old.entries
+        → FirstFails
+        (key_checks row (map (λ m. m.0) before) (string_bytes key) (strings_seen strings)) e)) }
 {
     let lang = language_of(alloc, row, key.as_str())?;
     if found.contains_key(&lang) {

@@ -1,5 +1,6 @@
 //! Language maps of messages (JSON-LD 1.1, section 9.8) as a list of labels.
-ghost use Rattle.std.specs.Prelude.{◌≡◌, ◌==◌, ◌++◌, ◌∷◌, [], IfOk, OnOk, OnErr, length, slice_get, option_map};
+ghost use Rattle.std.specs.Prelude.{◌≡◌, ◌==◌, ◌++◌, ◌∷◌, [], IfOk, OnOk, OnErr, length, slice_get};
+ghost use Rattle.std.specs.Prelude.{option_map};
 ghost use Rattle.std.specs.Slice.Iter.{iter_rest};
 ghost use Rattle.cell_core.specs.Maps.{IsMap};
 ghost use Rattle.cata_core.specs.Entries.{key_cmp};
@@ -80,7 +81,8 @@ impl LangMaps {
     /// The message, the language and the label at a place in rising order of key, counted from 0;
     /// none from `len` on.
     pub fn nth(&self, place: usize) -> Option<(&MessageId, &Lang, &Label)>
-        ensures { option_map (λ e. ((e.0.now, e.1.now), e.2.now)) result ≡ slice_get self.now place }
+        ensures { option_map (λ e. ((e.0.now, e.1.now), e.2.now)) result
+            ≡ slice_get self.now place }
     {
         match self.labels.get(place) {
             Some(found) => Some((&found.id, &found.lang, &found.label)),

@@ -1,5 +1,6 @@
 //! The rows of a language-map document, read off its text.
-ghost use Rattle.std.specs.Prelude.{◌≡◌, ◌<◌, ◌∷◌, ◌++◌, [], ℕ, Option, None, Some, true, length, map, MatchResult, IfOk, OnOk, string_bytes};
+ghost use Rattle.std.specs.Prelude.{◌≡◌, ◌<◌, ◌∷◌, ◌++◌, [], ℕ, Option, None, Some, true, length};
+ghost use Rattle.std.specs.Prelude.{map, MatchResult, IfOk, OnOk, string_bytes};
 ghost use Rattle.std.specs.List.{filter_map};
 ghost use Rattle.json.specs.Value.{value_view};
 ghost use Rattle.serde_json.specs.Data.{Data, Items, Members};
@@ -52,7 +53,8 @@ pub(crate) fn read_rows(alloc: Global, text: &str) -> Result<Option<Rows>, DocCa
 fn read_rest(alloc: Global, reader: &mut Reader<'_>) -> Result<Rows, DocCause>
     requires { are_in_range reader.old ≡ true }
     ensures { MatchResult result
-        (λ rows. (ms : Members) × ReadsMembers 126 reader.old ms [] × (rows_seen rows.entries ≡ rows_of ms))
+        (λ rows. (ms : Members) × ReadsMembers 126 reader.old ms []
+        × (rows_seen rows.entries ≡ rows_of ms))
         (OrMemory NoMemory (λ e. (e ≡ NotJson) × IsNotWhole reader.old)) }
 {
     let rows = read_members(alloc, reader)?;
@@ -79,7 +81,8 @@ trait MemberValue: Sized {
     fn read(alloc: Global, reader: &mut Reader<'_>) -> Result<Self, DocCause>
         requires { are_in_range reader.old ≡ true }
         ensures read { MatchResult result
-            (λ found. (d : Data) × Reads most_depth reader.old d reader.new × (seen_of found ≡ in_data d))
+            (λ found. (d : Data) × Reads most_depth reader.old d reader.new
+            × (seen_of found ≡ in_data d))
             (OrMemory NoMemory (ReadsNone most_depth reader.old)) }
         ensures left { OnOk result (are_in_range reader.new ≡ true) }
         ensures shorter { OnOk result (length reader.new < length reader.old) };
@@ -92,7 +95,8 @@ fn read_members<V: MemberValue + Drop>(
 ) -> Result<BTreeMap<String, V>, DocCause>
     requires { are_in_range reader.old ≡ true }
     ensures read { MatchResult result
-        (λ found. (ms : Members) × ReadsMembers V.most_depth reader.old ms reader.new × (members_seen V.seen_of found.entries ≡ members_by V.in_data ms))
+        (λ found. (ms : Members) × ReadsMembers V.most_depth reader.old ms reader.new
+        × (members_seen V.seen_of found.entries ≡ members_by V.in_data ms))
         (OrMemory NoMemory (λ e. (e ≡ NotJson) × ReadsNoMembers V.most_depth reader.old)) }
     ensures left { OnOk result (are_in_range reader.new ≡ true) }
     ensures shorter { OnOk result (length reader.new < length reader.old) }
@@ -243,7 +247,9 @@ fn add_string(
 ) -> Result<bool, AllocError>
     requires { IsRead (value_view item.now) }
     ensures fits { IfOk result (λ fits. fits ≡ is_string_or_null (seen item.now)) }
-    ensures strings { OnOk result (map string_bytes strings.new.items ≡ map string_bytes strings.old.items ++ filter_map as_str (seen item.now ∷ [])) }
+    ensures strings { OnOk result
+        (map string_bytes strings.new.items
+        ≡ map string_bytes strings.old.items ++ filter_map as_str (seen item.now ∷ [])) }
 {
     match text_of(item) {
         Some(text) => {

@@ -24,14 +24,16 @@ use std::alloc::Global;
 /// key is equal without case (22), or by its value's shape (20) or label (12, 11). Out of memory
 /// (26) may come first, and means no document.
 pub fn read_langmaps(alloc: Global, bytes: &[u8]) -> Result<LangMaps, DocFault>
-    ensures { MatchResult result (AreLangMaps bytes.now) (OrMemory no_memory (IsOfDocument 1 (RefusesLangMaps bytes.now))) }
+    ensures { MatchResult result (AreLangMaps bytes.now)
+        (OrMemory no_memory (IsOfDocument 1 (RefusesLangMaps bytes.now))) }
 {
     langmaps_of_document(alloc, 1, bytes)
 }
 
 /// The labels of the input document with this number.
 pub fn langmaps_of_document(alloc: Global, document: u8, bytes: &[u8]) -> Result<LangMaps, DocFault>
-    ensures { MatchResult result (AreLangMaps bytes.now) (OrMemory no_memory (IsOfDocument document (RefusesLangMaps bytes.now))) }
+    ensures { MatchResult result (AreLangMaps bytes.now)
+        (OrMemory no_memory (IsOfDocument document (RefusesLangMaps bytes.now))) }
 {
     match langmaps_in(alloc, bytes) {
         Ok(maps) => Ok(maps),
@@ -41,7 +43,8 @@ pub fn langmaps_of_document(alloc: Global, document: u8, bytes: &[u8]) -> Result
 
 /// The labels of a document, or why it is refused.
 fn langmaps_in(alloc: Global, bytes: &[u8]) -> Result<LangMaps, DocCause>
-    ensures { MatchResult result (AreLangMaps bytes.now) (OrMemory NoMemory (RefusesLangMaps bytes.now)) }
+    ensures { MatchResult result (AreLangMaps bytes.now)
+        (OrMemory NoMemory (RefusesLangMaps bytes.now)) }
 {
     let text = text_in(bytes)?;
     match read_rows(alloc, text)? {

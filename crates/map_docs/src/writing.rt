@@ -51,21 +51,12 @@ pub fn open_labels(alloc: Global) -> Result<Writer, AllocError>
 
 /// Closes the language maps after all their labels.
 pub fn close_labels(mut draft: Writer, current: Option<&MessageId>) -> Result<Doc, AllocError>
-    ensures { (labels : List Labelled) → IsMap key_cmp labels → IsWriting draft (option_map (λ id. id.now) current.entry) [] labels
+    ensures { (labels : List Labelled) → IsMap key_cmp labels
+        → IsWriting draft (option_map (λ id. id.now) current.entry) [] labels
         → IfOk result (IsTextOf labels) }
 {
     close_objects(&mut draft, current)?;
     finish(draft)
-}
-
-/// Closes the current message and the outer object.
-fn close_objects(out: &mut Writer, current: Option<&MessageId>) -> Result<(), AllocError>
-    ensures { OnOk result (Adds out.old out.new (labels_tokens (option_map (λ id. id.now) current.entry) [])) }
-{
-    if current.is_some() {
-        out.end_object()?;
-    }
-    out.end_object()
 }
 
 /// Adds a label, in a message of its own unless that is the current one.
@@ -76,12 +67,26 @@ pub fn write_label(
     lang: &Lang,
     label: &Label,
 ) -> Result<(), AllocError>
-    ensures tokens { OnOk result (Adds out.old out.new (opening_tokens (option_map (λ m. m.now) current.entry) id.now ++ label_tokens ((id.now, lang.now), label.now))) }
+    ensures tokens { OnOk result
+        (Adds out.old out.new
+        (opening_tokens (option_map (λ m. m.now) current.entry) id.now
+        ++ label_tokens ((id.now, lang.now), label.now))) }
     ensures valid { OnOk result (IsWritable ((id.now, lang.now), label.now)) }
 {
     open_message(out, current, id)?;
     out.key(lang.as_str())?;
     write_language(out, label.texts())
+}
+
+/// Closes the current message and the outer object.
+fn close_objects(out: &mut Writer, current: Option<&MessageId>) -> Result<(), AllocError>
+    ensures { OnOk result
+        (Adds out.old out.new (labels_tokens (option_map (λ id. id.now) current.entry) [])) }
+{
+    if current.is_some() {
+        out.end_object()?;
+    }
+    out.end_object()
 }
 
 /// Closes the current message and opens this one, unless they are the same.
@@ -90,7 +95,8 @@ fn open_message(
     current: Option<&MessageId>,
     id: &MessageId,
 ) -> Result<(), AllocError>
-    ensures tokens { OnOk result (Adds out.old out.new (opening_tokens (option_map (λ id. id.now) current.entry) id.now)) }
+    ensures tokens { OnOk result
+        (Adds out.old out.new (opening_tokens (option_map (λ id. id.now) current.entry) id.now)) }
     ensures id { OnOk result (IsMessageId id.now) }
 {
     let name = id.as_str();
@@ -106,7 +112,8 @@ fn open_message(
 
 /// Adds the texts of a label: one as a string, several as an array.
 fn write_language(out: &mut Writer, texts: &[String]) -> Result<(), AllocError>
-    ensures { OnOk result (Adds out.old out.new (value_tokens (language_value (texts_of texts.now)))) }
+    ensures { OnOk result
+        (Adds out.old out.new (value_tokens (language_value (texts_of texts.now)))) }
 {
     if let [text] = texts {
         out.string(text.as_str())

@@ -14,19 +14,28 @@ use Rattle.nego_core.specs.declared.scheme.Scheme.{Scheme}
 use Rattle.nego_core.specs.declared.field.Malformed.{Malformed}
 
 item_is : (i j : Item) → i.range ≡ j.range → i.weight ≡ j.weight → i ≡ j
-item_is i j r w = ap (λ (x : List ℕ). record { range = x; weight = i.weight }) r ∙ ap (λ (n : ℕ). record { range = j.range; weight = n }) w
+item_is i j r w =
+    ap (λ (x : List ℕ). record { range = x; weight = i.weight }) r
+    ∙ ap (λ (n : ℕ). record { range = j.range; weight = n }) w
 
-one_start : (scheme : Scheme) (text : List ℕ) (i j : Item) → IsStart scheme text i → IsStart scheme text j → i ≡ j
+one_start : (scheme : Scheme) (text : List ℕ) (i j : Item) → IsStart scheme text i
+    → IsStart scheme text j → i ≡ j
 one_start scheme text i j s t =
     let same = start_is scheme text i j s t in
     item_is i j (s.range_is ∙ (ap str_to_ascii_lowercase same.0 ∙ sym t.range_is))
-    (one_tail scheme t.rest i.weight j.weight (subst (λ (x : List ℕ). IsTail (WeightGrammar scheme) x i.weight) same.1 s.rest_ok) t.rest_ok)
+    (one_tail scheme t.rest i.weight j.weight
+    (subst (λ (x : List ℕ). IsTail (WeightGrammar scheme) x i.weight) same.1 s.rest_ok)
+    t.rest_ok)
 
 -- A piece gives at most one item.
-pub one_item : (scheme : Scheme) (piece : List ℕ) (i j : Item) → IsPadded scheme piece i → IsPadded scheme piece j → i ≡ j
-one_item scheme piece i j p q = one_start scheme (skip_blanks piece) i j (start_of_padded scheme piece i p) (start_of_padded scheme piece j q)
+pub one_item : (scheme : Scheme) (piece : List ℕ) (i j : Item) → IsPadded scheme piece i
+    → IsPadded scheme piece j → i ≡ j
+one_item scheme piece i j p q =
+    one_start scheme (skip_blanks piece) i j (start_of_padded scheme piece i p)
+    (start_of_padded scheme piece j q)
 
-one_list : (scheme : Scheme) (malformed : Malformed) (pieces : List (List ℕ)) (a b : List Item) → ArePieces scheme malformed pieces a → ArePieces scheme malformed pieces b → a ≡ b
+one_list : (scheme : Scheme) (malformed : Malformed) (pieces : List (List ℕ)) (a b : List Item)
+    → ArePieces scheme malformed pieces a → ArePieces scheme malformed pieces b → a ≡ b
 one_list scheme malformed [] [] [] f g = refl
 one_list scheme malformed [] [] (j ∷ b) f g = absurd g
 one_list scheme malformed [] (i ∷ a) b f g = absurd f
@@ -46,10 +55,13 @@ one_list scheme malformed (p ∷ pieces) (i ∷ a) (j ∷ b) f g = elim f [
   ]
   | inr x ↦ elim g [
     | inl y ↦ absurd (none_not_padded scheme malformed p i y.0 x.0)
-    | inr y ↦ ap (λ (k : Item). k ∷ a) (one_item scheme p i j x.0 y.0) ∙ ap (λ (items : List Item). j ∷ items) (one_list scheme malformed pieces a b x.1 y.1)
+    | inr y ↦
+        ap (λ (k : Item). k ∷ a) (one_item scheme p i j x.0 y.0)
+        ∙ ap (λ (items : List Item). j ∷ items) (one_list scheme malformed pieces a b x.1 y.1)
   ]
 ]
 
 -- a field gives one list of items
-pub one_items : (scheme : Scheme) (malformed : Malformed) (bytes : List ℕ) (a b : List Item) → IsField scheme malformed bytes a → IsField scheme malformed bytes b → a ≡ b
+pub one_items : (scheme : Scheme) (malformed : Malformed) (bytes : List ℕ) (a b : List Item)
+    → IsField scheme malformed bytes a → IsField scheme malformed bytes b → a ≡ b
 one_items scheme malformed bytes a b f g = one_list scheme malformed (pieces_by 44 bytes) a b f g

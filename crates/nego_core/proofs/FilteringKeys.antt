@@ -30,37 +30,71 @@ sorted_keys (x ∷ xs) h = λ k d low lt.
 
 -- ---- the keys of the languages so far
 
-push_none : (scheme : Scheme) (items : List Item) (from : ℕ) (tags : List (List ℕ)) (keys : List Key) (tag : List ℕ)
+push_none : (scheme : Scheme) (items : List Item) (from : ℕ) (tags : List (List ℕ))
+    (keys : List Key) (tag : List ℕ)
     → AreKeys scheme items from tags keys → HasNoKey scheme items tag (from + length tags)
     → AreKeys scheme items from (tags ++ tag ∷ []) keys
 push_none scheme items from [] [] tag a h = (subst (HasNoKey scheme items tag) (omega arith) h, tt)
 push_none scheme items from [] (k ∷ keys) tag a h = absurd a
-push_none scheme items from (t ∷ tags) [] tag a h = (a.0, push_none scheme items (from + 1) tags [] tag a.1 (subst (HasNoKey scheme items tag) (omega arith) h))
+push_none scheme items from (t ∷ tags) [] tag a h = (
+  a.0,
+  push_none scheme items (from + 1) tags [] tag a.1
+      (subst (HasNoKey scheme items tag) (omega arith) h),
+)
 push_none scheme items from (t ∷ tags) (k ∷ keys) tag a h = elim a [
-  | inl x ↦ inl (x.0, push_none scheme items (from + 1) tags (k ∷ keys) tag x.1 (subst (HasNoKey scheme items tag) (omega arith) h))
-  | inr x ↦ inr (x.0, push_none scheme items (from + 1) tags keys tag x.1 (subst (HasNoKey scheme items tag) (omega arith) h))
+  | inl x ↦
+      inl (
+        x.0,
+        push_none scheme items (from + 1) tags (k ∷ keys) tag x.1
+            (subst (HasNoKey scheme items tag) (omega arith) h),
+      )
+  | inr x ↦
+      inr (
+        x.0,
+        push_none scheme items (from + 1) tags keys tag x.1
+            (subst (HasNoKey scheme items tag) (omega arith) h),
+      )
 ]
 
-push_key : (scheme : Scheme) (items : List Item) (from : ℕ) (tags : List (List ℕ)) (keys : List Key) (tag : List ℕ) (key : Key)
+push_key : (scheme : Scheme) (items : List Item) (from : ℕ) (tags : List (List ℕ)) (keys : List Key)
+    (tag : List ℕ) (key : Key)
     → AreKeys scheme items from tags keys → IsKey scheme items tag (from + length tags) key
     → AreKeys scheme items from (tags ++ tag ∷ []) (keys ++ key ∷ [])
-push_key scheme items from [] [] tag key a h = inr (subst (λ (n : ℕ). IsKey scheme items tag n key) (omega arith) h, tt)
+push_key scheme items from [] [] tag key a h =
+    inr (subst (λ (n : ℕ). IsKey scheme items tag n key) (omega arith) h, tt)
 push_key scheme items from [] (k ∷ keys) tag key a h = absurd a
-push_key scheme items from (t ∷ tags) [] tag key a h = inl (a.0, push_key scheme items (from + 1) tags [] tag key a.1 (subst (λ (n : ℕ). IsKey scheme items tag n key) (omega arith) h))
+push_key scheme items from (t ∷ tags) [] tag key a h =
+    inl (
+      a.0,
+      push_key scheme items (from + 1) tags [] tag key a.1
+          (subst (λ (n : ℕ). IsKey scheme items tag n key) (omega arith) h),
+    )
 push_key scheme items from (t ∷ tags) (k ∷ keys) tag key a h = elim a [
-  | inl x ↦ inl (x.0, push_key scheme items (from + 1) tags (k ∷ keys) tag key x.1 (subst (λ (n : ℕ). IsKey scheme items tag n key) (omega arith) h))
-  | inr x ↦ inr (x.0, push_key scheme items (from + 1) tags keys tag key x.1 (subst (λ (n : ℕ). IsKey scheme items tag n key) (omega arith) h))
+  | inl x ↦
+      inl (
+        x.0,
+        push_key scheme items (from + 1) tags (k ∷ keys) tag key x.1
+            (subst (λ (n : ℕ). IsKey scheme items tag n key) (omega arith) h),
+      )
+  | inr x ↦
+      inr (
+        x.0,
+        push_key scheme items (from + 1) tags keys tag key x.1
+            (subst (λ (n : ℕ). IsKey scheme items tag n key) (omega arith) h),
+      )
 ]
 
 -- The languages up to the next place are those before it and the one at it.
 pub take_next : (tags : List (List ℕ)) (k : ℕ) (t : List ℕ) → k < length tags → t ≡ get_or tags k t
     → take (k + 1) tags ≡ take k tags ++ t ∷ []
-take_next tags k t low e = rw (add-one, take-suc tags k t low) (ap (λ (x : List ℕ). take k tags ++ x ∷ []) (sym e))
+take_next tags k t low e =
+    rw (add-one, take-suc tags k t low) (ap (λ (x : List ℕ). take k tags ++ x ∷ []) (sym e))
 
 -- A place among the languages is a place among their texts.
 pub text_within : {X : Type 0} (text : X → List ℕ) (langs : List X) (k : ℕ) → k < length langs
     → k < length (map text langs)
-text_within text langs k low = let size : length (map text langs) ≡ length langs = simp length-map in omega arith
+text_within text langs k low = let size : length (map text langs) ≡ length langs =
+    simp length-map in omega arith
 
 -- The text of the language at a place is the text at that place.
 pub text_at : {X : Type 0} (text : X → List ℕ) (langs : List X) (k : ℕ) (l : X) → k < length langs
@@ -68,30 +102,52 @@ pub text_at : {X : Type 0} (text : X → List ℕ) (langs : List X) (k : ℕ) (l
 text_at text langs k l low e = ap text e ∙ sym (get_or-map text langs k l (text l) low)
 
 -- A language that has no key leaves the keys of the languages so far as they are.
-pub none_next : (scheme : Scheme) (items : List Item) (tags : List (List ℕ)) (k : ℕ) (t : List ℕ) (filter_keys : List FilterKey)
+pub none_next : (scheme : Scheme) (items : List Item) (tags : List (List ℕ)) (k : ℕ) (t : List ℕ)
+    (filter_keys : List FilterKey)
     → k < length tags → t ≡ get_or tags k t
     → AreKeys scheme items 0 (take k tags) (map key_of filter_keys) → HasNoKey scheme items t k
     → AreKeys scheme items 0 (take (k + 1) tags) (map key_of filter_keys)
 none_next scheme items tags k t filter_keys low e a h =
     let size : length (take k tags) ≡ k = length-take-le k tags (omega arith) in
-    subst (λ (x : List (List ℕ)). AreKeys scheme items 0 x (map key_of filter_keys)) (sym (take_next tags k t low e)) (push_none scheme items 0 (take k tags) (map key_of filter_keys) t a (subst (HasNoKey scheme items t) (omega arith) h))
+    subst (λ (x : List (List ℕ)). AreKeys scheme items 0 x (map key_of filter_keys))
+    (sym (take_next tags k t low e))
+    (push_none scheme items 0 (take k tags) (map key_of filter_keys) t a
+    (subst (HasNoKey scheme items t) (omega arith) h))
 
 -- A language that has a key adds it to the keys of the languages so far.
-pub key_next : (scheme : Scheme) (items : List Item) (tags : List (List ℕ)) (k : ℕ) (t : List ℕ) (filter_keys : List FilterKey) (r : FilterKey)
+pub key_next : (scheme : Scheme) (items : List Item) (tags : List (List ℕ)) (k : ℕ) (t : List ℕ)
+    (filter_keys : List FilterKey) (r : FilterKey)
     → k < length tags → t ≡ get_or tags k t
     → AreKeys scheme items 0 (take k tags) (map key_of filter_keys)
     → IsKey scheme items t k (key_of r)
     → AreKeys scheme items 0 (take (k + 1) tags) (map key_of (filter_keys ++ r ∷ []))
 key_next scheme items tags k t filter_keys r low e a h =
     let size : length (take k tags) ≡ k = length-take-le k tags (omega arith) in
-    subst (λ (x : List (List ℕ)). AreKeys scheme items 0 x (map key_of (filter_keys ++ r ∷ []))) (sym (take_next tags k t low e))
-    (subst (AreKeys scheme items 0 (take k tags ++ t ∷ [])) (sym (map-append key_of filter_keys (r ∷ []))) (push_key scheme items 0 (take k tags) (map key_of filter_keys) t (key_of r) a (subst (λ (n : ℕ). IsKey scheme items t n (key_of r)) (omega arith) h)))
+    subst (λ (x : List (List ℕ)). AreKeys scheme items 0 x (map key_of (filter_keys ++ r ∷ [])))
+    (sym (take_next tags k t low e))
+    (subst (AreKeys scheme items 0 (take k tags ++ t ∷ []))
+    (sym (map-append key_of filter_keys (r ∷ [])))
+    (push_key scheme items 0 (take k tags) (map key_of filter_keys) t (key_of r) a
+    (subst (λ (n : ℕ). IsKey scheme items t n (key_of r)) (omega arith) h)))
 
 -- ---- the key of one language
 
 -- A language that an item decides with a positive weight has the key of that item and weight.
-pub has_key : (scheme : Scheme) (items : List Item) (lang : List ℕ) (place item weight : ℕ) (key : Key) → DecidesLang scheme items lang item weight → 0 < weight → key ≡ record { missing_weight = 1000 - weight; item = item; lang = lang; place = place } → IsKey scheme items lang place key
-has_key scheme items lang place item weight key d p e = subst (IsKey scheme items lang place) (sym e) (record { weight = weight; decided = d; positive = p; missing_is = refl; lang_is = refl; place_is = refl })
+pub has_key : (scheme : Scheme) (items : List Item) (lang : List ℕ) (place item weight : ℕ)
+    (key : Key) → DecidesLang scheme items lang item weight → 0 < weight
+    → key ≡ record { missing_weight = 1000 - weight; item = item; lang = lang; place = place }
+    → IsKey scheme items lang place key
+has_key scheme items lang place item weight key d p e =
+    subst (IsKey scheme items lang place) (sym e)
+    (record {
+      weight = weight;
+      decided = d;
+      positive = p;
+      missing_is = refl;
+      lang_is =
+          refl;
+      place_is = refl;
+    })
 
 -- A language that no item decides has no key.
 pub no_decision : (scheme : Scheme) (items : List Item) (lang : List ℕ) (place : ℕ)
@@ -111,9 +167,19 @@ map_map [] = refl
 map_map (x ∷ xs) = ap (λ (ps : List Pick). pick_of (key_of x) ∷ ps) (map_map xs)
 
 -- The keys of all languages, sorted, give the filtered list.
-pub filtered : (scheme : Scheme) (items : List Item) (tags : List (List ℕ)) (filter_keys sorted : List FilterKey) (picks : List Pick)
+pub filtered : (scheme : Scheme) (items : List Item) (tags : List (List ℕ))
+    (filter_keys sorted : List FilterKey) (picks : List Pick)
     → AreKeys scheme items 0 tags (map key_of filter_keys) → IsPermutation filter_keys sorted
     → IsSorted filter_key_cmp sorted → picks ≡ map (λ r. pick_of (key_of r)) sorted
     → IsFiltered scheme items tags picks
 filtered scheme items tags filter_keys sorted picks a same rising p =
-    record { all = map key_of filter_keys; keys = map key_of sorted; all_ok = a; each_once = IsPermutation-map key_of filter_keys sorted same; rising = sorted_keys sorted rising; picks_are = p ∙ map_map sorted }
+    record {
+      all = map key_of filter_keys;
+      keys = map key_of sorted;
+      all_ok = a;
+      each_once =
+          IsPermutation-map key_of filter_keys sorted same;
+      rising =
+          sorted_keys sorted rising;
+      picks_are = p ∙ map_map sorted;
+    }

@@ -35,6 +35,11 @@ pub absent : (langs : List (List ℕ)) (slots : List Bool) (text : List ℕ) (n 
     → IsTableOf slot_of 1024 langs slots → n ≡ slot_of text → slice_index_or slots n false ≡ false
     → false ≡ is_among langs text
 absent langs slots text n t e f = elim (cases_Bool (is_among langs text)) [
-  | inl h ↦ absurd (false_true (sym f ∙ (ap (λ (k : ℕ). slice_index_or slots k false) e ∙ t.set text (among_contains langs text h))))
+  | inl h ↦
+      absurd
+      (false_true
+      (sym f
+      ∙ (ap (λ (k : ℕ). slice_index_or slots k false) e
+      ∙ t.set text (among_contains langs text h))))
   | inr h ↦ sym h
 ]

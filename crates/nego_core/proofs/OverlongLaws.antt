@@ -23,12 +23,16 @@ abbrev EndsInner : List ℕ → Type 0
 EndsInner [] = Unit {0}
 EndsInner (b ∷ text) = is_inner b ≡ false
 
-ends_early : (front rest : List ℕ) (n : ℕ) → length front < n → n ≤ length (front ++ rest) → EndsInner rest → list_all is_inner (take n (front ++ rest)) ≡ true → ⊥
+ends_early : (front rest : List ℕ) (n : ℕ) → length front < n → n ≤ length (front ++ rest)
+    → EndsInner rest → list_all is_inner (take n (front ++ rest)) ≡ true → ⊥
 ends_early [] [] n low high e h = omega arith
 ends_early [] (b ∷ rest) zero low high e h = omega arith
-ends_early [] (b ∷ rest) (suc n) low high e h = let inner = (and_parts (is_inner b) (list_all is_inner (take n rest)) h).0 in cc
+ends_early [] (b ∷ rest) (suc n) low high e h = let inner =
+    (and_parts (is_inner b) (list_all is_inner (take n rest)) h).0 in cc
 ends_early (x ∷ front) rest zero low high e h = omega arith
-ends_early (x ∷ front) rest (suc n) low high e h = ends_early front rest n (omega arith) (omega arith) e (and_parts (is_inner x) (list_all is_inner (take n (front ++ rest))) h).1
+ends_early (x ∷ front) rest (suc n) low high e h =
+    ends_early front rest n (omega arith) (omega arith) e
+    (and_parts (is_inner x) (list_all is_inner (take n (front ++ rest))) h).1
 
 stop_ends : (b : ℕ) → is_plain b ≡ false → is_inner b ≡ false
 stop_ends b h = rw h refl
@@ -37,13 +41,18 @@ ends_both : (rest more : List ℕ) → EndsPlain rest → EndsInner more → End
 ends_both [] more p e = e
 ends_both (b ∷ rest) more p e = stop_ends b p
 
-overlong : (scheme : Scheme) (text element more : List ℕ) → text ≡ element ++ more → EndsInner more → BeginsOverlong text → (item : Item) → ¬ IsStart scheme element item
+overlong : (scheme : Scheme) (text element more : List ℕ) → text ≡ element ++ more → EndsInner more
+    → BeginsOverlong text → (item : Item) → ¬ IsStart scheme element item
 overlong scheme text element more whole ends long item s =
     let sized = range_is_sized scheme (str_to_ascii_lowercase s.range) s.range_ok in
     let size : length (str_to_ascii_lowercase s.range) ≡ length s.range = simp length-map in
-    let all : text ≡ s.range ++ (s.rest ++ more) = whole ∙ (ap (λ (x : List ℕ). x ++ more) s.whole ∙ append_assoc s.range s.rest more) in
-    let longer : 255 < length (s.range ++ (s.rest ++ more)) = subst (λ (x : List ℕ). 255 < length x) all long.0 in
-    ends_early s.range (s.rest ++ more) 256 (omega arith) (omega arith) (ends_both s.rest more (tail_ends scheme s.rest item.weight s.rest_ok) ends) (subst (λ (x : List ℕ). list_all is_inner (take 256 x) ≡ true) all long.1)
+    let all : text ≡ s.range ++ (s.rest ++ more) =
+    whole ∙ (ap (λ (x : List ℕ). x ++ more) s.whole ∙ append_assoc s.range s.rest more) in
+    let longer : 255 < length (s.range ++ (s.rest ++ more)) =
+    subst (λ (x : List ℕ). 255 < length x) all long.0 in
+    ends_early s.range (s.rest ++ more) 256 (omega arith) (omega arith)
+    (ends_both s.rest more (tail_ends scheme s.rest item.weight s.rest_ok) ends)
+    (subst (λ (x : List ℕ). list_all is_inner (take 256 x) ≡ true) all long.1)
 
 -- the first piece of a text, and what follows it
 record IsCutAt (text : List ℕ) : Type 0 where
@@ -58,10 +67,20 @@ comma_is : (b : ℕ) → (b == 44) ≡ true → 44 ≡ b
 comma_is b h = grind (arith, nat_tests)
 
 cut_by : (text : List ℕ) (p : Option ℕ) → position (λ b. b == 44) text ≡ p → IsCutAt text
-cut_by text None e = record { element = text; after = []; more = []; first = inr (pieces_whole 44 text e, refl); whole = sym (append-nil text); ends = tt }
+cut_by text None e =
+    record {
+      element = text;
+      after = [];
+      more = [];
+      first =
+          inr (pieces_whole 44 text e, refl);
+      whole = sym (append-nil text);
+      ends = tt;
+    }
 cut_by text (Some at) e =
     let facts = position-Some (λ b. b == 44) text at 44 e in
-    let rest : drop at text ≡ 44 ∷ drop (at + 1) text = element_at text at 44 facts.0 (comma_is (get_or text at 44) facts.1) in
+    let rest : drop at text ≡ 44 ∷ drop (at + 1) text =
+    element_at text at 44 facts.0 (comma_is (get_or text at 44) facts.1) in
     record {
       element = take at text;
       after = drop (at + 1) text;
@@ -79,7 +98,14 @@ pub record IsOverlongPiece (scheme : Scheme) (text : List ℕ) : Type 0 where
   pub none : (item : Item) → ¬ IsStart scheme element item
 
 -- A text that begins with more bytes than a range has begins with a piece that is no element.
-pub overlong_piece : (scheme : Scheme) (text : List ℕ) → BeginsOverlong text → IsOverlongPiece scheme text
+pub overlong_piece : (scheme : Scheme) (text : List ℕ) → BeginsOverlong text
+    → IsOverlongPiece scheme text
 overlong_piece scheme text long =
     let cut = cut_by text (position (λ b. b == 44) text) refl in
-    record { element = cut.element; after = cut.after; first = cut.first; none = overlong scheme text cut.element cut.more cut.whole cut.ends long }
+    record {
+      element = cut.element;
+      after = cut.after;
+      first = cut.first;
+      none =
+          overlong scheme text cut.element cut.more cut.whole cut.ends long;
+    }

@@ -26,7 +26,8 @@ rising_tail x xs h = λ i j d lt low. h (suc i) (suc j) d (omega arith) (omega a
 
 -- of two texts not both are below the other
 pub not_both : (x y : List ℕ) → IsBelow x y → IsBelow y x → ⊥
-not_both x y h g = let back : Less ≡ Greater = sym h ∙ (nat_list_cmp_total.antisymm x y ∙ ap ordering_reverse g) in cc
+not_both x y h g = let back : Less ≡ Greater =
+    sym h ∙ (nat_list_cmp_total.antisymm x y ∙ ap ordering_reverse g) in cc
 
 above : (x y : List ℕ) → slice_cmp nat_cmp x y ≡ Greater → IsBelow y x
 above x y h = nat_list_cmp_total.antisymm y x ∙ ap ordering_reverse h
@@ -57,7 +58,8 @@ put_from_at Greater x y z ys rest f c = elim (contains_cases y z rest c) [
 
 put_from : (x z : List ℕ) (ys : List (List ℕ)) → Contains (put_in x ys) z → (x ≡ z) ⊎ Contains ys z
 put_from x z [] c = contains_cases x z [] c
-put_from x z (y ∷ ys) c = put_from_at (slice_cmp nat_cmp x y) x y z ys (put_in x ys) (put_from x z ys) c
+put_from x z (y ∷ ys) c =
+    put_from_at (slice_cmp nat_cmp x y) x y z ys (put_in x ys) (put_from x z ys) c
 
 put_kept_at : (o : Ordering) (x y z : List ℕ) (ys rest : List (List ℕ))
     → (Contains ys z → Contains rest z) → Contains (y ∷ ys) z → Contains (put_at o x y ys rest) z
@@ -70,12 +72,14 @@ put_kept_at Greater x y z ys rest f c = elim (contains_cases y z ys c) [
 
 put_kept : (x z : List ℕ) (ys : List (List ℕ)) → Contains ys z → Contains (put_in x ys) z
 put_kept x z [] c = contains_later x z [] c
-put_kept x z (y ∷ ys) c = put_kept_at (slice_cmp nat_cmp x y) x y z ys (put_in x ys) (put_kept x z ys) c
+put_kept x z (y ∷ ys) c =
+    put_kept_at (slice_cmp nat_cmp x y) x y z ys (put_in x ys) (put_kept x z ys) c
 
 put_own_at : (o : Ordering) (x y : List ℕ) (ys rest : List (List ℕ)) → slice_cmp nat_cmp x y ≡ o
     → Contains rest x → Contains (put_at o x y ys rest) x
 put_own_at Less x y ys rest e c = contains_first x (y ∷ ys)
-put_own_at Equal x y ys rest e c = subst (Contains (y ∷ ys)) (sym (text_tied x y e)) (contains_first y ys)
+put_own_at Equal x y ys rest e c =
+    subst (Contains (y ∷ ys)) (sym (text_tied x y e)) (contains_first y ys)
 put_own_at Greater x y ys rest e c = contains_later y x rest c
 
 put_own : (x : List ℕ) (ys : List (List ℕ)) → Contains (put_in x ys) x
@@ -91,13 +95,18 @@ put_all_at Q Greater x y ys rest q h r = All-cons Q y rest (All-head Q y ys h) r
 put_all : (Q : List ℕ → Type 0) (x : List ℕ) (ys : List (List ℕ)) → Q x → All Q ys
     → All Q (put_in x ys)
 put_all Q x [] q h = All-cons Q x [] q h
-put_all Q x (y ∷ ys) q h = put_all_at Q (slice_cmp nat_cmp x y) x y ys (put_in x ys) q h (put_all Q x ys q (All-tail Q y ys h))
+put_all Q x (y ∷ ys) q h =
+    put_all_at Q (slice_cmp nat_cmp x y) x y ys (put_in x ys) q h
+    (put_all Q x ys q (All-tail Q y ys h))
 
 put_rising_at : (o : Ordering) (x y : List ℕ) (ys rest : List (List ℕ)) → slice_cmp nat_cmp x y ≡ o
     → AllPairs IsBelow (y ∷ ys) → AllPairs IsBelow rest → (IsBelow y x → All (IsBelow y) rest)
     → AllPairs IsBelow (put_at o x y ys rest)
 put_rising_at Less x y ys rest e h r f =
-    AllPairs-cons IsBelow x (y ∷ ys) (All-cons (IsBelow x) y ys e (All-weaker (IsBelow y) (IsBelow x) (λ z l. nat_list_cmp_total.trans x y z e l) ys (all_above y ys h))) h
+    AllPairs-cons IsBelow x (y ∷ ys)
+    (All-cons (IsBelow x) y ys e
+    (All-weaker (IsBelow y) (IsBelow x) (λ z l. nat_list_cmp_total.trans x y z e l) ys
+    (all_above y ys h))) h
 put_rising_at Equal x y ys rest e h r f = h
 put_rising_at Greater x y ys rest e h r f = AllPairs-cons IsBelow y rest (f (above x y e)) r
 
@@ -105,7 +114,8 @@ put_rising : (x : List ℕ) (ys : List (List ℕ)) → AllPairs IsBelow ys
     → AllPairs IsBelow (put_in x ys)
 put_rising x [] h = AllPairs-cons IsBelow x [] (All-nil (IsBelow x)) h
 put_rising x (y ∷ ys) h =
-    put_rising_at (slice_cmp nat_cmp x y) x y ys (put_in x ys) refl h (put_rising x ys (rising_tail y ys h)) (λ l. put_all (IsBelow y) x ys l (all_above y ys h))
+    put_rising_at (slice_cmp nat_cmp x y) x y ys (put_in x ys) refl h
+    (put_rising x ys (rising_tail y ys h)) (λ l. put_all (IsBelow y) x ys l (all_above y ys h))
 
 -- ---- those that pass a test, in rising order
 
@@ -133,9 +143,11 @@ rising_from P p [] z f c = absurd (let low = c.1 in omega arith)
 rising_from P p (x ∷ xs) z f c = elim (cases_Bool (p x)) [
   | inl e ↦ elim (put_from x z (rising_of p xs) (rw e at c)) [
     | inl same ↦ (subst (Contains (x ∷ xs)) same (contains_first x xs), subst P same (f x e))
-    | inr later ↦ (let rest = rising_from P p xs z f later in (contains_later x z xs rest.0, rest.1))
+    | inr later ↦
+        (let rest = rising_from P p xs z f later in (contains_later x z xs rest.0, rest.1))
   ]
-  | inr e ↦ (let rest = rising_from P p xs z f (rw e at c) in (contains_later x z xs rest.0, rest.1))
+  | inr e ↦
+      (let rest = rising_from P p xs z f (rw e at c) in (contains_later x z xs rest.0, rest.1))
 ]
 
 -- each of the list that passes is one
@@ -143,7 +155,9 @@ pub rising_has : (p : List ℕ → Bool) (xs : List (List ℕ)) (z : List ℕ) �
     → Contains xs z → Contains (rising_of p xs) z
 rising_has p [] z t c = absurd (let low = c.1 in omega arith)
 rising_has p (x ∷ xs) z t c = elim (contains_cases x z xs c) [
-  | inl same ↦ (let e : IsTrue (p x) = subst (IsPassed p) (sym same) t in rw e (subst (Contains (put_in x (rising_of p xs))) same (put_own x (rising_of p xs))))
+  | inl same ↦
+      (let e : IsTrue (p x) = subst (IsPassed p) (sym same) t in
+      rw e (subst (Contains (put_in x (rising_of p xs))) same (put_own x (rising_of p xs))))
   | inr later ↦ elim (cases_Bool (p x)) [
     | inl e ↦ rw e (put_kept x z (rising_of p xs) (rising_has p xs z t later))
     | inr e ↦ rw e (rising_has p xs z t later)
@@ -158,7 +172,10 @@ first_same x y xs ys h g c d = elim (contains_cases y x ys c) [
   | inl e ↦ sym e
   | inr a ↦ elim (contains_cases x y xs d) [
     | inl e ↦ e
-    | inr b ↦ absurd (not_both x y (All-contains (IsBelow x) xs y (all_above x xs h) b) (All-contains (IsBelow y) ys x (all_above y ys g) a))
+    | inr b ↦
+        absurd
+        (not_both x y (All-contains (IsBelow x) xs y (all_above x xs h) b)
+        (All-contains (IsBelow y) ys x (all_above y ys g) a))
   ]
 ]
 
@@ -166,7 +183,11 @@ first_same x y xs ys h g c d = elim (contains_cases y x ys c) [
 later_of : (x y z : List ℕ) (xs ys : List (List ℕ)) → x ≡ y → AllPairs IsBelow (x ∷ xs)
     → Contains xs z → Contains (y ∷ ys) z → Contains ys z
 later_of x y z xs ys e h c d = elim (contains_cases y z ys d) [
-  | inl same ↦ absurd (not_itself z (subst (λ (w : List ℕ). IsBelow w z) (e ∙ same) (All-contains (IsBelow x) xs z (all_above x xs h) c)))
+  | inl same ↦
+      absurd
+      (not_itself z
+      (subst (λ (w : List ℕ). IsBelow w z) (e ∙ same)
+      (All-contains (IsBelow x) xs z (all_above x xs h) c)))
   | inr later ↦ later
 ]
 
@@ -175,9 +196,14 @@ pub one_rising : (xs ys : List (List ℕ)) → AllPairs IsBelow xs → AllPairs 
     → ((z : List ℕ) → Contains xs z → Contains ys z)
     → ((z : List ℕ) → Contains ys z → Contains xs z) → xs ≡ ys
 one_rising [] [] h g f b = refl
-one_rising [] (y ∷ ys) h g f b = absurd (let c = b y (contains_first y ys) in let low = c.1 in omega arith)
-one_rising (x ∷ xs) [] h g f b = absurd (let c = f x (contains_first x xs) in let low = c.1 in omega arith)
+one_rising [] (y ∷ ys) h g f b =
+    absurd (let c = b y (contains_first y ys) in let low = c.1 in omega arith)
+one_rising (x ∷ xs) [] h g f b =
+    absurd (let c = f x (contains_first x xs) in let low = c.1 in omega arith)
 one_rising (x ∷ xs) (y ∷ ys) h g f b =
     let e = first_same x y xs ys h g (f x (contains_first x xs)) (b y (contains_first y ys)) in
-    let rest = one_rising xs ys (rising_tail x xs h) (rising_tail y ys g) (λ z c. later_of x y z xs ys e h c (f z (contains_later x z xs c))) (λ z c. later_of y x z ys xs (sym e) g c (b z (contains_later y z ys c))) in
+    let rest =
+    one_rising xs ys (rising_tail x xs h) (rising_tail y ys g)
+    (λ z c. later_of x y z xs ys e h c (f z (contains_later x z xs c)))
+    (λ z c. later_of y x z ys xs (sym e) g c (b z (contains_later y z ys c))) in
     ap (λ (w : List ℕ). w ∷ xs) e ∙ ap (λ (ws : List (List ℕ)). y ∷ ws) rest

@@ -18,10 +18,13 @@ use Rattle.nego_core.specs.declared.scheme.Scheme.TheVariants.{Basic, Extended}
 digit_small : (b : ℕ) → is_digit b ≡ true → b ≤ 57
 digit_small b h = grind (arith, nat_tests)
 
-digits_small : (digits : List ℕ) (place : ℕ) → list_all is_digit digits ≡ true → slice_index digits place - 48 ≤ 9
+digits_small : (digits : List ℕ) (place : ℕ) → list_all is_digit digits ≡ true
+    → slice_index digits place - 48 ≤ 9
 digits_small [] place h = omega arith
-digits_small (b ∷ digits) zero h = let low = digit_small b (and_parts (is_digit b) (list_all is_digit digits) h).0 in omega arith
-digits_small (b ∷ digits) (suc n) h = digits_small digits n (and_parts (is_digit b) (list_all is_digit digits) h).1
+digits_small (b ∷ digits) zero h = let low =
+    digit_small b (and_parts (is_digit b) (list_all is_digit digits) h).0 in omega arith
+digits_small (b ∷ digits) (suc n) h =
+    digits_small digits n (and_parts (is_digit b) (list_all is_digit digits) h).1
 
 thousandths_small : (digits : List ℕ) → list_all is_digit digits ≡ true → thousandths digits ≤ 999
 thousandths_small digits h =
@@ -37,7 +40,9 @@ qvalue_small (b ∷ []) n q = elim q [
   | inr x ↦ (let e = x.1 in omega arith)
 ]
 qvalue_small (b ∷ point ∷ digits) n q = elim q.2 [
-  | inl x ↦ (let e : n ≡ thousandths digits = x.2 in let low = thousandths_small digits x.1 in omega arith)
+  | inl x ↦
+      (let e : n ≡ thousandths digits = x.2 in let low = thousandths_small digits x.1 in
+      omega arith)
   | inr x ↦ (let e = x.2 in omega arith)
 ]
 
@@ -49,5 +54,9 @@ weight_small Basic text n w = elim w [
 weight_small Extended text n w = let e = w.1 in omega arith
 
 -- the weights of a field's items
-pub small_weights : (scheme : Scheme) (malformed : Malformed) (bytes : List ℕ) (items : List Item) → IsField scheme malformed bytes items → All (λ i. i.weight ≤ 1000) items
-small_weights scheme malformed bytes items f = all_items (λ i. i.weight ≤ 1000) scheme malformed (λ piece i p. weight_small scheme p.element_ok.weight i.weight p.element_ok.weight_ok) (pieces_by 44 bytes) items f
+pub small_weights : (scheme : Scheme) (malformed : Malformed) (bytes : List ℕ) (items : List Item)
+    → IsField scheme malformed bytes items → All (λ i. i.weight ≤ 1000) items
+small_weights scheme malformed bytes items f =
+    all_items (λ i. i.weight ≤ 1000) scheme malformed
+    (λ piece i p. weight_small scheme p.element_ok.weight i.weight p.element_ok.weight_ok)
+    (pieces_by 44 bytes) items f

@@ -56,7 +56,8 @@ use Rattle.nego_core.specs.declared.scheme.Scheme.TheVariants as scheme
 abbrev extended_test : List (List ℕ) → List (List ℕ) → Bool
 extended_test [] tag = false
 extended_test (r ∷ range) [] = false
-extended_test (r ∷ range) (t ∷ tag) = if is_star r then greedy range tag else (if bytes_eq r t then greedy range tag else false)
+extended_test (r ∷ range) (t ∷ tag) = if is_star r then
+    greedy range tag else (if bytes_eq r t then greedy range tag else false)
 
 extended_of : (range tag : List (List ℕ)) → extended_test range tag ≡ true → Extended range tag
 extended_of [] tag h = false_true h
@@ -76,7 +77,9 @@ test_of_extended (r ∷ range) (t ∷ tag) h = elim (cases_Bool (is_star r)) [
   | inl e ↦ rw e (greedy_of_embeds range tag h.1)
   | inr e ↦ elim h.0 [
     | inl star ↦ absurd (false_true (sym e ∙ star))
-    | inr same ↦ (let g : bytes_eq r t ≡ true = (bytes_eq-Decides r t).1 same in rw (e, g) (greedy_of_embeds range tag h.1))
+    | inr same ↦
+        (let g : bytes_eq r t ≡ true = (bytes_eq-Decides r t).1 same in
+        rw (e, g) (greedy_of_embeds range tag h.1))
   ]
 ]
 
@@ -106,21 +109,26 @@ pub matched_are : (s : Scheme) (langs : List (List ℕ)) (i : Item)
     → AreMatched s langs i (matched_of s langs i)
 matched_are s langs i = record {
   each = λ lang. (
-    (λ c. rising_from (MatchesLang s i) (λ l. test_of s i (tag_of l)) langs lang (λ l t. matches_of_test s i (tag_of l) t) c),
-    (λ c. rising_has (λ l. test_of s i (tag_of l)) langs lang (test_of_matches s i (tag_of lang) c.1) c.0),
+    (λ c. rising_from (MatchesLang s i) (λ l. test_of s i (tag_of l)) langs lang
+        (λ l t. matches_of_test s i (tag_of l) t) c),
+    (λ c. rising_has (λ l. test_of s i (tag_of l)) langs lang
+        (test_of_matches s i (tag_of lang) c.1) c.0),
   );
   rising = rising_is (λ l. test_of s i (tag_of l)) langs;
 }
 
 one_matched : (s : Scheme) (langs : List (List ℕ)) (i : Item) (a b : List (List ℕ))
     → AreMatched s langs i a → AreMatched s langs i b → a ≡ b
-one_matched s langs i a b h g = one_rising a b h.rising g.rising (λ z c. (g.each z).1 ((h.each z).0 c)) (λ z c. (h.each z).1 ((g.each z).0 c))
+one_matched s langs i a b h g =
+    one_rising a b h.rising g.rising (λ z c. (g.each z).1 ((h.each z).0 c))
+    (λ z c. (h.each z).1 ((g.each z).0 c))
 
 -- ---- the first of two lists
 
 none_front : {X : Type 0} (P : X → Type 0) (xs ys : List X) → All P (xs ++ ys) → All P xs
 none_front P [] ys h = All-nil P
-none_front P (x ∷ xs) ys h = All-cons P x xs (All-head P x (xs ++ ys) h) (none_front P xs ys (All-tail P x (xs ++ ys) h))
+none_front P (x ∷ xs) ys h =
+    All-cons P x xs (All-head P x (xs ++ ys) h) (none_front P xs ys (All-tail P x (xs ++ ys) h))
 
 none_back : {X : Type 0} (P : X → Type 0) (xs ys : List X) → All P (xs ++ ys) → All P ys
 none_back P [] ys h = h
@@ -130,8 +138,14 @@ none_back P (x ∷ xs) ys h = none_back P xs ys (All-tail P x (xs ++ ys) h)
 split_at : {X : Type 0} (P : X → Type 0) (xs ys before after : List X) (x : X)
     → xs ++ ys ≡ before ++ x ∷ after → All (λ y. ¬ P y) before → P x
     → MatchFirstOf P xs (Some x) ⊎ (MatchFirstOf P xs None × MatchFirstOf P ys (Some x))
-split_at P [] ys before after x e n p = inr (All-nil (λ y. ¬ P y), record { before = before; after = after; whole = e; none_before = n; passes = p })
-split_at P (z ∷ xs) ys [] after x e n p = inl (let s : x ≡ z = cc in subst (λ y. MatchFirstOf P (y ∷ xs) (Some x)) s (first_here P x xs p))
+split_at P [] ys before after x e n p =
+    inr (
+      All-nil (λ y. ¬ P y),
+      record { before = before; after = after; whole = e; none_before = n; passes = p },
+    )
+split_at P (z ∷ xs) ys [] after x e n p =
+    inl (let s : x ≡ z = cc in
+    subst (λ y. MatchFirstOf P (y ∷ xs) (Some x)) s (first_here P x xs p))
 split_at P (z ∷ xs) ys (w ∷ before) after x e n p =
     let s : w ≡ z = cc in
     let not : ¬ P z = subst (λ y. ¬ P y) s (All-head (λ y. ¬ P y) w before n) in
@@ -147,7 +161,9 @@ first_split P xs ys x f = split_at P xs ys f.before f.after x f.whole f.none_bef
 
 first_among : {X : Type 0} (P : X → Type 0) (xs : List X) (x : X) → MatchFirstOf P xs (Some x)
     → Contains xs x
-first_among P xs x f = subst (λ ys. Contains ys x) (sym f.whole) (Contains-append_right f.before (x ∷ f.after) x (contains_first x f.after))
+first_among P xs x f =
+    subst (λ ys. Contains ys x) (sym f.whole)
+    (Contains-append_right f.before (x ∷ f.after) x (contains_first x f.after))
 
 -- ---- the first open one of an item
 
@@ -156,16 +172,20 @@ Open items langs = IsOpen items (is_among langs)
 
 open_lang : (items : List Item) (langs : List (List ℕ)) (lang : List ℕ) → Contains langs lang
     → ¬ NamedRefuse items (pieces lang) → Open items langs (pieces lang)
-open_lang items langs lang c n = (ap (is_among langs) (joined-pieces lang) ∙ contains_among langs lang c, n)
+open_lang items langs lang c n =
+    (ap (is_among langs) (joined-pieces lang) ∙ contains_among langs lang c, n)
 
-none_fit : (s : Scheme) (items : List Item) (langs : List (List ℕ)) (i : Item) (matched : List (List ℕ))
+none_fit : (s : Scheme) (items : List Item) (langs : List (List ℕ)) (i : Item)
+    (matched : List (List ℕ))
     → All (λ m. Contains langs m × MatchesLang s i m) matched → All (λ l. ¬ Fits s items i l) langs
     → All (λ y. ¬ Open items langs y) (map pieces matched)
 none_fit s items langs i [] h n = All-nil (λ y. ¬ Open items langs y)
 none_fit s items langs i (m ∷ matched) h n =
     let here = All-head (λ m. Contains langs m × MatchesLang s i m) m matched h in
-    All-cons (λ y. ¬ Open items langs y) (pieces m) (map pieces matched) (λ o. All-contains (λ l. ¬ Fits s items i l) langs m n here.0 (here.1, o.1))
-    (none_fit s items langs i matched (All-tail (λ m. Contains langs m × MatchesLang s i m) m matched h) n)
+    All-cons (λ y. ¬ Open items langs y) (pieces m) (map pieces matched)
+    (λ o. All-contains (λ l. ¬ Fits s items i l) langs m n here.0 (here.1, o.1))
+    (none_fit s items langs i matched
+    (All-tail (λ m. Contains langs m × MatchesLang s i m) m matched h) n)
 
 -- the least that is open is the first in rising order
 least_first : (P : List (List ℕ) → Type 0) (matched : List (List ℕ)) (x : List ℕ)
@@ -174,33 +194,46 @@ least_first : (P : List (List ℕ) → Type 0) (matched : List (List ℕ)) (x : 
     → MatchFirstOf P (map pieces matched) (Some (pieces x))
 least_first P [] x c p rising least = absurd (let low = c.1 in omega arith)
 least_first P (m ∷ matched) x c p rising least = elim (contains_cases m x matched c) [
-  | inl same ↦ subst (λ y. MatchFirstOf P (pieces y ∷ map pieces matched) (Some (pieces x))) (sym same) (first_here P (pieces x) (map pieces matched) p)
+  | inl same ↦
+      subst (λ y. MatchFirstOf P (pieces y ∷ map pieces matched) (Some (pieces x))) (sym same)
+      (first_here P (pieces x) (map pieces matched) p)
   | inr later ↦ first_later P (pieces m) (map pieces matched) (Some (pieces x))
-      (λ q. All-head (λ m. P (pieces m) → ¬ IsBelow m x) m matched least q (All-contains (IsBelow m) matched x (all_above m matched rising) later))
-      (least_first P matched x later p (rising_tail m matched rising) (All-tail (λ m. P (pieces m) → ¬ IsBelow m x) m matched least))
+      (λ q. All-head (λ m. P (pieces m) → ¬ IsBelow m x) m matched least q
+      (All-contains (IsBelow m) matched x (all_above m matched rising) later))
+      (least_first P matched x later p (rising_tail m matched rising)
+      (All-tail (λ m. P (pieces m) → ¬ IsBelow m x) m matched least))
 ]
 
 each_matched : (s : Scheme) (langs : List (List ℕ)) (i : Item) (matched : List (List ℕ))
     → AreMatched s langs i matched → All (λ m. Contains langs m × MatchesLang s i m) matched
-each_matched s langs i matched h = All-weaker (Contains matched) (λ m. Contains langs m × MatchesLang s i m) (λ m c. (h.each m).0 c) matched (All-contains_itself matched)
+each_matched s langs i matched h =
+    All-weaker (Contains matched) (λ m. Contains langs m × MatchesLang s i m)
+    (λ m c. (h.each m).0 c) matched (All-contains_itself matched)
 
 -- the candidates of an equal range are those of the item
-pub of_range : (P : List (List ℕ) → Type 0) (i : Item) (range : List ℕ) (found : Option (List (List ℕ)))
+pub of_range : (P : List (List ℕ) → Type 0) (i : Item) (range : List ℕ)
+    (found : Option (List (List ℕ)))
     → range ≡ i.range → MatchFirstOf P (candidates (as_basic (pieces range))) found
     → MatchFirstOf P (candidates_of i) found
-of_range P i range found e f = subst (λ (r : List ℕ). MatchFirstOf P (candidates (as_basic (pieces r))) found) e f
+of_range P i range found e f =
+    subst (λ (r : List ℕ). MatchFirstOf P (candidates (as_basic (pieces r))) found) e f
 
 -- where a candidate is open, the first such is the first widened candidate
-pub by_candidate : (s : Scheme) (items : List Item) (langs : List (List ℕ)) (i : Item) (found : List (List ℕ))
+pub by_candidate : (s : Scheme) (items : List Item) (langs : List (List ℕ)) (i : Item)
+    (found : List (List ℕ))
     → MatchFirstOf (Open items langs) (candidates_of i) (Some found)
     → IsFirstWidened s items langs i (Some found)
-by_candidate s items langs i found f = λ matched h. first_front (Open items langs) (candidates_of i) (map pieces matched) found f
+by_candidate s items langs i found f =
+    λ matched h. first_front (Open items langs) (candidates_of i) (map pieces matched) found f
 
 -- where no candidate is open and no language fits, no widened candidate is open
 pub by_none : (s : Scheme) (items : List Item) (langs : List (List ℕ)) (i : Item)
     → MatchFirstOf (Open items langs) (candidates_of i) None
     → MatchLeast (Fits s items i) langs None → IsFirstWidened s items langs i None
-by_none s items langs i n least = λ matched h. All-append (λ y. ¬ Open items langs y) (candidates_of i) (map pieces matched) n (none_fit s items langs i matched (each_matched s langs i matched h) least)
+by_none s items langs i n least =
+    λ matched h.
+    All-append (λ y. ¬ Open items langs y) (candidates_of i) (map pieces matched) n
+    (none_fit s items langs i matched (each_matched s langs i matched h) least)
 
 -- where no candidate is open, the least language that fits is the first widened candidate
 pub by_match : (s : Scheme) (items : List Item) (langs : List (List ℕ)) (i : Item) (x : List ℕ)
@@ -208,9 +241,14 @@ pub by_match : (s : Scheme) (items : List Item) (langs : List (List ℕ)) (i : I
     → MatchLeast (Fits s items i) langs (Some x) → IsFirstWidened s items langs i (Some (pieces x))
 by_match s items langs i x n least = λ matched h.
     let c = (h.each x).1 (least.0, least.1.0) in
-    let low = All-weaker (λ m. Contains langs m × MatchesLang s i m) (λ m. Open items langs (pieces m) → ¬ IsBelow m x) (λ m g o. All-contains (λ l. Fits s items i l → ¬ IsBelow l x) langs m least.2 g.0 (g.1, o.1)) matched (each_matched s langs i matched h) in
+    let low =
+    All-weaker (λ m. Contains langs m × MatchesLang s i m)
+    (λ m. Open items langs (pieces m) → ¬ IsBelow m x)
+    (λ m g o. All-contains (λ l. Fits s items i l → ¬ IsBelow l x) langs m least.2 g.0
+    (g.1, o.1)) matched (each_matched s langs i matched h) in
     first_append (Open items langs) (candidates_of i) (map pieces matched) (Some (pieces x)) n
-    (least_first (Open items langs) matched x c (open_lang items langs x least.0 least.1.1) h.rising low)
+    (least_first (Open items langs) matched x c (open_lang items langs x least.0 least.1.1) h.rising
+    low)
 
 -- ---- the least of the languages so far
 
@@ -227,11 +265,20 @@ not_itself x h = not_both x x h h
 
 least_new : (Q : List ℕ → Type 0) (xs : List (List ℕ)) (x : List ℕ) (least : Option (List ℕ))
     → MatchLeast Q xs least → is_below x least ≡ true → Q x → MatchLeast Q (xs ++ x ∷ []) (Some x)
-least_new Q xs x None m b q = (Contains-push xs x, q, All-push (λ l. Q l → ¬ IsBelow l x) xs x (All-weaker (λ l. ¬ Q l) (λ l. Q l → ¬ IsBelow l x) (λ l n p. absurd (n p)) xs m) (λ p. not_itself x))
+least_new Q xs x None m b q = (
+  Contains-push xs x,
+  q,
+  All-push (λ l. Q l → ¬ IsBelow l x) xs x
+      (All-weaker (λ l. ¬ Q l) (λ l. Q l → ¬ IsBelow l x) (λ l n p. absurd (n p)) xs m)
+      (λ p. not_itself x),
+)
 least_new Q xs x (Some y) m b q = (
   Contains-push xs x,
   q,
-  All-push (λ l. Q l → ¬ IsBelow l x) xs x (All-weaker (λ l. Q l → ¬ IsBelow l y) (λ l. Q l → ¬ IsBelow l x) (λ l n p h. n p (nat_list_cmp_total.trans l x y h (lt_less (slice_cmp nat_cmp x y) b))) xs m.2) (λ p. not_itself x),
+  All-push (λ l. Q l → ¬ IsBelow l x) xs x
+      (All-weaker (λ l. Q l → ¬ IsBelow l y) (λ l. Q l → ¬ IsBelow l x)
+      (λ l n p h. n p (nat_list_cmp_total.trans l x y h (lt_less (slice_cmp nat_cmp x y) b))) xs
+      m.2) (λ p. not_itself x),
 )
 
 least_above : (Q : List ℕ → Type 0) (xs : List (List ℕ)) (x : List ℕ) (least : Option (List ℕ))
@@ -240,31 +287,46 @@ least_above Q xs x None m b = absurd (false_true (sym b))
 least_above Q xs x (Some y) m b = (
   Contains-append_left xs (x ∷ []) y m.0,
   m.1,
-  All-push (λ l. Q l → ¬ IsBelow l y) xs x m.2 (λ p h. false_true (sym b ∙ less_lt (slice_cmp nat_cmp x y) h)),
+  All-push (λ l. Q l → ¬ IsBelow l y) xs x m.2
+      (λ p h. false_true (sym b ∙ less_lt (slice_cmp nat_cmp x y) h)),
 )
 
 least_unfit : (Q : List ℕ → Type 0) (xs : List (List ℕ)) (x : List ℕ) (least : Option (List ℕ))
     → MatchLeast Q xs least → ¬ Q x → MatchLeast Q (xs ++ x ∷ []) least
 least_unfit Q xs x None m n = All-push (λ l. ¬ Q l) xs x m n
-least_unfit Q xs x (Some y) m n = (Contains-append_left xs (x ∷ []) y m.0, m.1, All-push (λ l. Q l → ¬ IsBelow l y) xs x m.2 (λ p h. n p))
+least_unfit Q xs x (Some y) m n = (
+  Contains-append_left xs (x ∷ []) y m.0,
+  m.1,
+  All-push (λ l. Q l → ¬ IsBelow l y) xs x m.2
+      (λ p h. n p),
+)
 
 -- the same of the languages of a list up to a place
-pub next_new : (Q : List ℕ → Type 0) (langs : List (List ℕ)) (k : ℕ) (x : List ℕ) (least : Option (List ℕ))
+pub next_new : (Q : List ℕ → Type 0) (langs : List (List ℕ)) (k : ℕ) (x : List ℕ)
+    (least : Option (List ℕ))
     → k < length langs → x ≡ get_or langs k x → MatchLeast Q (take k langs) least
     → is_below x least ≡ true → Q x → MatchLeast Q (take (k + 1) langs) (Some x)
-next_new Q langs k x least low e m b q = subst (λ xs. MatchLeast Q xs (Some x)) (sym (take_next langs k x low e)) (least_new Q (take k langs) x least m b q)
+next_new Q langs k x least low e m b q =
+    subst (λ xs. MatchLeast Q xs (Some x)) (sym (take_next langs k x low e))
+    (least_new Q (take k langs) x least m b q)
 
 -- a language that is not below the least so far leaves it
-pub next_above : (Q : List ℕ → Type 0) (langs : List (List ℕ)) (k : ℕ) (x : List ℕ) (least : Option (List ℕ))
+pub next_above : (Q : List ℕ → Type 0) (langs : List (List ℕ)) (k : ℕ) (x : List ℕ)
+    (least : Option (List ℕ))
     → k < length langs → x ≡ get_or langs k x → MatchLeast Q (take k langs) least
     → is_below x least ≡ false → MatchLeast Q (take (k + 1) langs) least
-next_above Q langs k x least low e m b = subst (λ xs. MatchLeast Q xs least) (sym (take_next langs k x low e)) (least_above Q (take k langs) x least m b)
+next_above Q langs k x least low e m b =
+    subst (λ xs. MatchLeast Q xs least) (sym (take_next langs k x low e))
+    (least_above Q (take k langs) x least m b)
 
 -- a language that does not fit leaves the least so far
-pub next_unfit : (Q : List ℕ → Type 0) (langs : List (List ℕ)) (k : ℕ) (x : List ℕ) (least : Option (List ℕ))
+pub next_unfit : (Q : List ℕ → Type 0) (langs : List (List ℕ)) (k : ℕ) (x : List ℕ)
+    (least : Option (List ℕ))
     → k < length langs → x ≡ get_or langs k x → MatchLeast Q (take k langs) least → ¬ Q x
     → MatchLeast Q (take (k + 1) langs) least
-next_unfit Q langs k x least low e m n = subst (λ xs. MatchLeast Q xs least) (sym (take_next langs k x low e)) (least_unfit Q (take k langs) x least m n)
+next_unfit Q langs k x least low e m n =
+    subst (λ xs. MatchLeast Q xs least) (sym (take_next langs k x low e))
+    (least_unfit Q (take k langs) x least m n)
 
 -- ---- the walk over the keys
 
@@ -274,7 +336,8 @@ pub no_item : (s : Scheme) (items : List Item) (langs : List (List ℕ)) (place 
 no_item s items langs place past = rw (slice_get_past items place past) refl
 
 -- what is found of an item is found at its place
-pub the_item : (s : Scheme) (items : List Item) (langs : List (List ℕ)) (place : ℕ) (i : Item) (found : Option (List (List ℕ)))
+pub the_item : (s : Scheme) (items : List Item) (langs : List (List ℕ)) (place : ℕ) (i : Item)
+    (found : Option (List (List ℕ)))
     → place < length items → i ≡ get_or items place i → IsFirstWidened s items langs i found
     → IsFirstWidenedAt s items langs place found
 the_item s items langs place i found low e f = rw (stands_at items place i low e) f
@@ -283,7 +346,8 @@ the_item s items langs place i found low e f = rw (stands_at items place i low e
 abbrev all_widened : (Item → List (List ℕ)) → List Item → List (List (List ℕ))
 all_widened m items = flat_map (λ i. widened i (m i)) items
 
-at_place : (s : Scheme) (items : List Item) (langs : List (List ℕ)) (place : ℕ) (found : Option (List (List ℕ))) (o : Option Item)
+at_place : (s : Scheme) (items : List Item) (langs : List (List ℕ)) (place : ℕ)
+    (found : Option (List (List ℕ))) (o : Option Item)
     → slice_get items place ≡ o → IsFirstWidenedAt s items langs place found
     → MatchFirstOf (Open items langs) (all_widened (matched_of s langs) (cons_option o [])) found
 at_place s items langs place found None e h =
@@ -291,59 +355,93 @@ at_place s items langs place found None e h =
     subst (MatchFirstOf (Open items langs) []) (sym none) (All-nil (λ y. ¬ Open items langs y))
 at_place s items langs place found (Some i) e h =
     let first : IsFirstWidened s items langs i found = rw e at h in
-    subst (λ (xs : List (List (List ℕ))). MatchFirstOf (Open items langs) xs found) (sym (append-nil (widened i (matched_of s langs i)))) (first (matched_of s langs i) (matched_are s langs i))
+    subst (λ (xs : List (List (List ℕ))). MatchFirstOf (Open items langs) xs found)
+    (sym (append-nil (widened i (matched_of s langs i))))
+    (first (matched_of s langs i) (matched_are s langs i))
 
 of_option : (m : Item → List (List ℕ)) (o : Option Item) (rest : List Item)
     → all_widened m (cons_option o rest) ≡ all_widened m (cons_option o []) ++ all_widened m rest
 of_option m None rest = refl
-of_option m (Some i) rest = ap (λ (x : List (List (List ℕ))). x ++ all_widened m rest) (sym (append-nil (widened i (m i))))
+of_option m (Some i) rest =
+    ap (λ (x : List (List (List ℕ))). x ++ all_widened m rest) (sym (append-nil (widened i (m i))))
 
-first_key : (m : Item → List (List ℕ)) (items : List Item) (keys : List OrderKey) (k : ℕ) (d : OrderKey)
+first_key : (m : Item → List (List ℕ)) (items : List Item) (keys : List OrderKey) (k : ℕ)
+    (d : OrderKey)
     → k < length keys
-    → all_widened m (ordered_items items (drop k keys)) ≡ all_widened m (cons_option (slice_get items (get_or keys k d).place) []) ++ all_widened m (ordered_items items (drop (k + 1) keys))
+    → all_widened m (ordered_items items (drop k keys))
+    ≡ all_widened m (cons_option (slice_get items (get_or keys k d).place) [])
+    ++ all_widened m (ordered_items items (drop (k + 1) keys))
 first_key m items keys k d low =
-    ap (λ (x : List OrderKey). all_widened m (ordered_items items x)) (element_at keys k (get_or keys k d) low (same_default keys k d (get_or keys k d) low))
-    ∙ of_option m (slice_get items (get_or keys k d).place) (ordered_items items (drop (k + 1) keys))
+    ap (λ (x : List OrderKey). all_widened m (ordered_items items x))
+    (element_at keys k (get_or keys k d) low (same_default keys k d (get_or keys k d) low))
+    ∙ of_option m (slice_get items (get_or keys k d).place)
+    (ordered_items items (drop (k + 1) keys))
 
 -- the first that is open of the keys from a place on
-abbrev pub WidenedFrom : Scheme → List Item → List (List ℕ) → List OrderKey → ℕ → Option (List (List ℕ)) → Type 0
-WidenedFrom s items langs keys k found = MatchFirstOf (Open items langs) (all_widened (matched_of s langs) (ordered_items items (drop k keys))) found
+abbrev pub WidenedFrom : Scheme → List Item → List (List ℕ) → List OrderKey → ℕ
+    → Option (List (List ℕ)) → Type 0
+WidenedFrom s items langs keys k found =
+    MatchFirstOf (Open items langs)
+    (all_widened (matched_of s langs) (ordered_items items (drop k keys))) found
 
 -- what the next item finds is found from here on
-pub key_found : (s : Scheme) (items : List Item) (langs : List (List ℕ)) (keys : List OrderKey) (k : ℕ) (d : OrderKey) (text : List (List ℕ))
+pub key_found : (s : Scheme) (items : List Item) (langs : List (List ℕ)) (keys : List OrderKey)
+    (k : ℕ) (d : OrderKey) (text : List (List ℕ))
     → k < length keys → IsFirstWidenedAt s items langs (get_or keys k d).place (Some text)
     → WidenedFrom s items langs keys k (Some text)
 key_found s items langs keys k d text low f =
     let place = (get_or keys k d).place in
     let m = matched_of s langs in
-    subst (λ (x : List (List (List ℕ))). MatchFirstOf (Open items langs) x (Some text)) (sym (first_key m items keys k d low))
-    (first_front (Open items langs) (all_widened m (cons_option (slice_get items place) [])) (all_widened m (ordered_items items (drop (k + 1) keys))) text (at_place s items langs place (Some text) (slice_get items place) refl f))
+    subst (λ (x : List (List (List ℕ))). MatchFirstOf (Open items langs) x (Some text))
+    (sym (first_key m items keys k d low))
+    (first_front (Open items langs) (all_widened m (cons_option (slice_get items place) []))
+    (all_widened m (ordered_items items (drop (k + 1) keys))) text
+    (at_place s items langs place (Some text) (slice_get items place) refl f))
 
 -- Where the next item finds nothing, what is found after it is found from here on.
-pub key_passed : (s : Scheme) (items : List Item) (langs : List (List ℕ)) (keys : List OrderKey) (k : ℕ) (d : OrderKey) (found : Option (List (List ℕ)))
+pub key_passed : (s : Scheme) (items : List Item) (langs : List (List ℕ)) (keys : List OrderKey)
+    (k : ℕ) (d : OrderKey) (found : Option (List (List ℕ)))
     → k < length keys → IsFirstWidenedAt s items langs (get_or keys k d).place None
     → WidenedFrom s items langs keys (k + 1) found → WidenedFrom s items langs keys k found
 key_passed s items langs keys k d found low n f =
     let place = (get_or keys k d).place in
     let m = matched_of s langs in
-    subst (λ (x : List (List (List ℕ))). MatchFirstOf (Open items langs) x found) (sym (first_key m items keys k d low))
-    (first_append (Open items langs) (all_widened m (cons_option (slice_get items place) [])) (all_widened m (ordered_items items (drop (k + 1) keys))) found (at_place s items langs place None (slice_get items place) refl n) f)
+    subst (λ (x : List (List (List ℕ))). MatchFirstOf (Open items langs) x found)
+    (sym (first_key m items keys k d low))
+    (first_append (Open items langs) (all_widened m (cons_option (slice_get items place) []))
+    (all_widened m (ordered_items items (drop (k + 1) keys))) found
+    (at_place s items langs place None (slice_get items place) refl n) f)
 
 -- After the last item nothing is found.
-pub keys_over : (s : Scheme) (items : List Item) (langs : List (List ℕ)) (keys : List OrderKey) (k : ℕ)
+pub keys_over : (s : Scheme) (items : List Item) (langs : List (List ℕ)) (keys : List OrderKey)
+    (k : ℕ)
     → length keys ≤ k → WidenedFrom s items langs keys k None
-keys_over s items langs keys k h = subst (λ (x : List OrderKey). MatchFirstOf (Open items langs) (all_widened (matched_of s langs) (ordered_items items x)) None) (sym (drop_all k keys h)) (All-nil (λ y. ¬ Open items langs y))
+keys_over s items langs keys k h =
+    subst (λ (x : List OrderKey). MatchFirstOf (Open items langs)
+    (all_widened (matched_of s langs) (ordered_items items x)) None) (sym (drop_all k keys h))
+    (All-nil (λ y. ¬ Open items langs y))
 
 -- what is found from the first item on is the answer of widened lookup
-pub looked_up : (s : Scheme) (items : List Item) (langs : List (List ℕ)) (keys : List OrderKey) (found : Option (List (List ℕ)))
+pub looked_up : (s : Scheme) (items : List Item) (langs : List (List ℕ)) (keys : List OrderKey)
+    (found : Option (List (List ℕ)))
     → AreOrderKeys items keys → WidenedFrom s items langs keys 0 found
     → IsLookedUpWidened s items langs found
-looked_up s items langs keys found t f = record { ordered = ordered_items items keys; order_ok = record { keys = keys; keys_ok = t; items_are = refl }; matched = matched_of s langs; matched_ok = matched_are s langs; found_is = f }
+looked_up s items langs keys found t f =
+    record {
+      ordered = ordered_items items keys;
+      order_ok =
+          record { keys = keys; keys_ok = t; items_are = refl };
+      matched =
+          matched_of s langs;
+      matched_ok = matched_are s langs;
+      found_is = f;
+    }
 
 -- what is found is there
 pub found_there : (s : Scheme) (items : List Item) (langs : List (List ℕ)) (text : List ℕ)
     → IsLookedUpWidened s items langs (Some (pieces text)) → is_among langs text ≡ true
-found_there s items langs text l = ap (is_among langs) (sym (joined-pieces text)) ∙ l.found_is.passes.0
+found_there s items langs text l =
+    ap (is_among langs) (sym (joined-pieces text)) ∙ l.found_is.passes.0
 
 -- ---- places
 
@@ -352,13 +450,16 @@ Spells text l = bytes_eq l text
 
 -- none of the languages before a place has the text
 abbrev pub SoFar : List (List ℕ) → List ℕ → ℕ → Type 0
-SoFar langs text k = position_or_len (Spells text) langs ≡ k + position_or_len (Spells text) (drop k langs)
+SoFar langs text k =
+    position_or_len (Spells text) langs ≡ k + position_or_len (Spells text) (drop k langs)
 
 -- a language of another text is not the one that is sought
 pub place_passed : (langs : List (List ℕ)) (text : List ℕ) (k : ℕ) (x : List ℕ) → k < length langs
     → x ≡ get_or langs k x → SoFar langs text k → bytes_eq x text ≡ false → SoFar langs text (k + 1)
 place_passed langs text k x low e so n =
-    let one : position_or_len (Spells text) (drop k langs) ≡ 1 + position_or_len (Spells text) (drop (k + 1) langs) = rw (element_at langs k x low e, n) refl in
+    let one : position_or_len (Spells text) (drop k langs)
+    ≡ 1 + position_or_len (Spells text) (drop (k + 1) langs) =
+    rw (element_at langs k x low e, n) refl in
     omega arith
 
 -- the first language of the text is at its least place
@@ -366,20 +467,24 @@ pub place_here : (langs : List (List ℕ)) (text : List ℕ) (k : ℕ) (x : List
     → x ≡ get_or langs k x → SoFar langs text k → bytes_eq x text ≡ true
     → Some k ≡ least_place langs text
 place_here langs text k x low e so h =
-    let one : position_or_len (Spells text) (drop k langs) ≡ 0 = rw (element_at langs k x low e, h) refl in
+    let one : position_or_len (Spells text) (drop k langs) ≡ 0 =
+    rw (element_at langs k x low e, h) refl in
     let at : position_or_len (Spells text) langs ≡ k = omega arith in
     rw (at, lt-ltb k (length langs) low) refl
 
 one_more : (m n : ℕ) (b : Bool) → b ≡ nat_lt m n → b ≡ nat_lt (1 + m) (suc n)
 one_more m n true e = sym (lt-ltb (1 + m) (suc n) (let low = ltb-true m n (sym e) in omega arith))
-one_more m n false e = let high = ltb-false m n (sym e) in sym (le-ltb (1 + m) (suc n) (omega arith))
+one_more m n false e = let high = ltb-false m n (sym e) in
+    sym (le-ltb (1 + m) (suc n) (omega arith))
 
 place_or_none : (langs : List (List ℕ)) (text : List ℕ)
     → list_any (Spells text) langs ≡ nat_lt (position_or_len (Spells text) langs) (length langs)
 place_or_none [] text = refl
 place_or_none (l ∷ langs) text = elim (cases_Bool (bytes_eq l text)) [
   | inl e ↦ rw e (sym (lt-ltb 0 (suc (length langs)) (omega arith)))
-  | inr e ↦ rw e (one_more (position_or_len (Spells text) langs) (length langs) (list_any (Spells text) langs) (place_or_none langs text))
+  | inr e ↦
+      rw e (one_more (position_or_len (Spells text) langs) (length langs)
+      (list_any (Spells text) langs) (place_or_none langs text))
 ]
 
 some_place : (b : Bool) (n : ℕ) → is_some (cond b (Some n) None) ≡ b
@@ -389,7 +494,10 @@ some_place false n = refl
 -- a text has a place just where it is among the languages
 pub has_place : (langs : List (List ℕ)) (text : List ℕ) (r : Option ℕ) → r ≡ least_place langs text
     → is_some r ≡ is_among langs text
-has_place langs text r e = ap is_some e ∙ (some_place (nat_lt (position_or_len (Spells text) langs) (length langs)) (position_or_len (Spells text) langs) ∙ sym (place_or_none langs text))
+has_place langs text r e =
+    ap is_some e
+    ∙ (some_place (nat_lt (position_or_len (Spells text) langs) (length langs))
+    (position_or_len (Spells text) langs) ∙ sym (place_or_none langs text))
 
 -- a language fits where it is matched and not refused
 pub fits_on : (Matches Refuses : Type 0) (r : Bool) → Matches → IsTrue r ↔ Refuses
@@ -402,34 +510,53 @@ fits_on Matches Refuses false m b = ((λ _. (m, λ r. false_true (b.1 r))), (λ 
 same_widened : (m n : Item → List (List ℕ)) → ((i : Item) → m i ≡ n i) → (items : List Item)
     → all_widened m items ≡ all_widened n items
 same_widened m n e [] = refl
-same_widened m n e (i ∷ items) = ap (λ (x : List (List ℕ)). widened i x ++ all_widened m items) (e i) ∙ ap (λ (x : List (List (List ℕ))). widened i (n i) ++ x) (same_widened m n e items)
+same_widened m n e (i ∷ items) =
+    ap (λ (x : List (List ℕ)). widened i x ++ all_widened m items) (e i)
+    ∙ ap (λ (x : List (List (List ℕ))). widened i (n i) ++ x) (same_widened m n e items)
 
 -- widened lookup has one answer
-pub one_widened : (s : Scheme) (items : List Item) (langs : List (List ℕ)) (a b : Option (List (List ℕ)))
+pub one_widened : (s : Scheme) (items : List Item) (langs : List (List ℕ))
+    (a b : Option (List (List ℕ)))
     → IsLookedUpWidened s items langs a → IsLookedUpWidened s items langs b → a ≡ b
 one_widened s items langs a b f g =
     let same = one_order_of items f.ordered g.ordered f.order_ok g.order_ok in
-    let alike = same_widened f.matched g.matched (λ i. one_matched s langs i (f.matched i) (g.matched i) (f.matched_ok i) (g.matched_ok i)) g.ordered in
-    let here : MatchFirstOf (Open items langs) (all_widened f.matched g.ordered) a = subst (λ (x : List Item). MatchFirstOf (Open items langs) (all_widened f.matched x) a) same f.found_is in
-    one_first (Open items langs) (all_widened g.matched g.ordered) a b (subst (λ (x : List (List (List ℕ))). MatchFirstOf (Open items langs) x a) alike here) g.found_is
+    let alike =
+    same_widened f.matched g.matched
+    (λ i. one_matched s langs i (f.matched i) (g.matched i) (f.matched_ok i) (g.matched_ok i))
+    g.ordered in
+    let here : MatchFirstOf (Open items langs) (all_widened f.matched g.ordered) a =
+    subst (λ (x : List Item). MatchFirstOf (Open items langs) (all_widened f.matched x) a) same
+    f.found_is in
+    one_first (Open items langs) (all_widened g.matched g.ordered) a b
+    (subst (λ (x : List (List (List ℕ))). MatchFirstOf (Open items langs) x a) alike here)
+    g.found_is
 
 none_narrow : (P : List (List ℕ) → Type 0) (m : Item → List (List ℕ)) (items : List Item)
     → All P (all_widened m items) → All P (all_candidates items)
 none_narrow P m [] h = h
 none_narrow P m (i ∷ items) h =
-    All-append P (candidates_of i) (all_candidates items) (none_front P (candidates_of i) (map pieces (m i)) (none_front P (widened i (m i)) (all_widened m items) h))
+    All-append P (candidates_of i) (all_candidates items)
+    (none_front P (candidates_of i) (map pieces (m i))
+    (none_front P (widened i (m i)) (all_widened m items) h))
     (none_narrow P m items (none_back P (widened i (m i)) (all_widened m items) h))
 
 -- where widened lookup finds nothing, lookup finds nothing
 pub nothing_narrow : (s : Scheme) (items : List Item) (langs : List (List ℕ))
     → IsLookedUpWidened s items langs None → IsLookedUp items (is_among langs) None
-nothing_narrow s items langs l = record { ordered = l.ordered; order_ok = l.order_ok; found_is = none_narrow (λ y. ¬ Open items langs y) l.matched l.ordered l.found_is }
+nothing_narrow s items langs l =
+    record {
+      ordered = l.ordered;
+      order_ok = l.order_ok;
+      found_is =
+          none_narrow (λ y. ¬ Open items langs y) l.matched l.ordered l.found_is;
+    }
 
 -- what is found is among the languages, and not refused
 pub found_among : (s : Scheme) (items : List Item) (langs : List (List ℕ)) (found : List (List ℕ))
     → IsLookedUpWidened s items langs (Some found)
     → Contains langs (joined found) × ¬ NamedRefuse items found
-found_among s items langs found l = (among_contains langs (joined found) l.found_is.passes.0, l.found_is.passes.1)
+found_among s items langs found l =
+    (among_contains langs (joined found) l.found_is.passes.0, l.found_is.passes.1)
 
 -- and is a candidate of an item, or matched by one
 abbrev pub IsOfItem : Scheme → List (List ℕ) → Item → Type 0
@@ -439,15 +566,21 @@ of_one : (s : Scheme) (langs : List (List ℕ)) (P : Item → Type 0) (m : Item 
     → ((i : Item) → AreMatched s langs i (m i)) → (items : List Item) (text : List (List ℕ))
     → All P items → Contains (all_widened m items) text → (i : Item) × P i × IsOfItem s text i
 of_one s langs P m ok [] text all c = absurd (let low = c.1 in omega arith)
-of_one s langs P m ok (i ∷ items) text all c = elim (Contains-append_cases (widened i (m i)) (all_widened m items) text c) [
-  | inl here ↦ elim (Contains-append_cases (candidates_of i) (map pieces (m i)) text here) [
-    | inl candidate ↦ (i, All-head P i items all, inl candidate)
-    | inr match ↦ (
-        let lang = contains_from_map pieces (m i) text match in
-        (i, All-head P i items all, inr (subst (MatchesLang s i) (sym (joined-pieces lang.0) ∙ ap joined lang.2) (((ok i).each lang.0).0 lang.1).1)))
-  ]
-  | inr later ↦ of_one s langs P m ok items text (All-tail P i items all) later
-]
+of_one s langs P m ok (i ∷ items) text all c =
+    elim (Contains-append_cases (widened i (m i)) (all_widened m items) text c) [
+      | inl here ↦ elim (Contains-append_cases (candidates_of i) (map pieces (m i)) text here) [
+        | inl candidate ↦ (i, All-head P i items all, inl candidate)
+        | inr match ↦ (
+            let lang = contains_from_map pieces (m i) text match in (
+              i,
+              All-head P i items all,
+              inr
+                  (subst (MatchesLang s i) (sym (joined-pieces lang.0) ∙ ap joined lang.2)
+                  (((ok i).each lang.0).0 lang.1).1),
+            ))
+      ]
+      | inr later ↦ of_one s langs P m ok items text (All-tail P i items all) later
+    ]
 
 -- what is found is a candidate of an item that is tried, or matched by it
 pub found_of_item : (s : Scheme) (items : List Item) (langs : List (List ℕ)) (found : List (List ℕ))
@@ -455,28 +588,46 @@ pub found_of_item : (s : Scheme) (items : List Item) (langs : List (List ℕ)) (
     → (i : Item) × Contains items i × IsTrue (is_tried i) × IsOfItem s found i
 found_of_item s items langs found l =
     let c = first_among (Open items langs) (all_widened l.matched l.ordered) found l.found_is in
-    let one = of_one s langs (IsTriedOf items) l.matched l.matched_ok l.ordered found (each_tried items l.ordered l.order_ok) c in
+    let one =
+    of_one s langs (IsTriedOf items) l.matched l.matched_ok l.ordered found
+    (each_tried items l.ordered l.order_ok) c in
     (one.0, one.1.0, one.1.1, one.2)
 
 -- a candidate of the first item that lookup finds is what widened lookup finds
-pub first_kept : (s : Scheme) (items : List Item) (langs : List (List ℕ)) (first : Item) (rest : List Item) (found : List (List ℕ))
+pub first_kept : (s : Scheme) (items : List Item) (langs : List (List ℕ)) (first : Item)
+    (rest : List Item) (found : List (List ℕ))
     → IsOrder items (first ∷ rest) → IsLookedUp items (is_among langs) (Some found)
     → Contains (candidates_of first) found → IsLookedUpWidened s items langs (Some found)
 first_kept s items langs first rest found o l c =
     let m = matched_of s langs in
     let P = Open items langs in
-    let whole : MatchFirstOf P (candidates_of first ++ all_candidates rest) (Some found) = subst (λ (x : List Item). MatchFirstOf P (all_candidates x) (Some found)) (one_order_of items l.ordered (first ∷ rest) l.order_ok o) l.found_is in
-    let here : MatchFirstOf P (candidates_of first) (Some found) = elim (first_split P (candidates_of first) (all_candidates rest) found whole) [
+    let whole : MatchFirstOf P (candidates_of first ++ all_candidates rest) (Some found) =
+    subst (λ (x : List Item). MatchFirstOf P (all_candidates x) (Some found))
+    (one_order_of items l.ordered (first ∷ rest) l.order_ok o) l.found_is in
+    let here : MatchFirstOf P (candidates_of first) (Some found) =
+    elim (first_split P (candidates_of first) (all_candidates rest) found whole) [
       | inl f ↦ f
-      | inr f ↦ absurd (All-contains (λ y. ¬ P y) (candidates_of first) found f.0 c l.found_is.passes)
+      | inr f ↦
+          absurd (All-contains (λ y. ¬ P y) (candidates_of first) found f.0 c l.found_is.passes)
     ] in
-    record { ordered = first ∷ rest; order_ok = o; matched = m; matched_ok = matched_are s langs; found_is = first_front P (widened first (m first)) (all_widened m rest) found (first_front P (candidates_of first) (map pieces (m first)) found here) }
+    record {
+      ordered = first ∷ rest;
+      order_ok = o;
+      matched = m;
+      matched_ok =
+          matched_are s langs;
+      found_is =
+          first_front P (widened first (m first)) (all_widened m rest) found
+          (first_front P (candidates_of first) (map pieces (m first)) found here);
+    }
 
 -- ---- where what an item matches is among its candidates
 
 -- each language that the item matches is among its candidates
 abbrev pub AddsNone : Scheme → List (List ℕ) → Item → Type 0
-AddsNone s langs i = (lang : List ℕ) → Contains langs lang → MatchesLang s i lang → Contains (candidates_of i) (pieces lang)
+AddsNone s langs i =
+    (lang : List ℕ) → Contains langs lang → MatchesLang s i lang
+    → Contains (candidates_of i) (pieces lang)
 
 abbrev Covers : (Item → List (List ℕ)) → Item → Type 0
 Covers m i = All (λ y. Contains (candidates_of i) y) (map pieces (m i))
@@ -487,50 +638,100 @@ covered : (s : Scheme) (langs : List (List ℕ)) (i : Item) (matched : List (Lis
 covered s langs i [] h all = All-nil (λ y. Contains (candidates_of i) y)
 covered s langs i (l ∷ matched) h all =
     let here = All-head (λ l. Contains langs l × MatchesLang s i l) l matched all in
-    All-cons (λ y. Contains (candidates_of i) y) (pieces l) (map pieces matched) (h l here.0 here.1) (covered s langs i matched h (All-tail (λ l. Contains langs l × MatchesLang s i l) l matched all))
+    All-cons (λ y. Contains (candidates_of i) y) (pieces l) (map pieces matched) (h l here.0 here.1)
+    (covered s langs i matched h
+    (All-tail (λ l. Contains langs l × MatchesLang s i l) l matched all))
 
 none_wide : (P : List (List ℕ) → Type 0) (m : Item → List (List ℕ)) (i : Item) → Covers m i
     → MatchFirstOf P (candidates_of i) None → MatchFirstOf P (widened i (m i)) None
-none_wide P m i c n = All-append (λ y. ¬ P y) (candidates_of i) (map pieces (m i)) n (All-weaker (Contains (candidates_of i)) (λ y. ¬ P y) (λ y d. All-contains (λ z. ¬ P z) (candidates_of i) y n d) (map pieces (m i)) c)
+none_wide P m i c n =
+    All-append (λ y. ¬ P y) (candidates_of i) (map pieces (m i)) n
+    (All-weaker (Contains (candidates_of i)) (λ y. ¬ P y)
+    (λ y d. All-contains (λ z. ¬ P z) (candidates_of i) y n d) (map pieces (m i)) c)
 
-first_wide : (P : List (List ℕ) → Type 0) (m : Item → List (List ℕ)) (items : List Item) (found : Option (List (List ℕ)))
+first_wide : (P : List (List ℕ) → Type 0) (m : Item → List (List ℕ)) (items : List Item)
+    (found : Option (List (List ℕ)))
     → All (Covers m) items → MatchFirstOf P (all_candidates items) found
     → MatchFirstOf P (all_widened m items) found
 first_wide P m [] found c f = f
 first_wide P m (i ∷ items) None c f =
-    All-append (λ y. ¬ P y) (widened i (m i)) (all_widened m items) (none_wide P m i (All-head (Covers m) i items c) (none_front (λ y. ¬ P y) (candidates_of i) (all_candidates items) f))
-    (first_wide P m items None (All-tail (Covers m) i items c) (none_back (λ y. ¬ P y) (candidates_of i) (all_candidates items) f))
-first_wide P m (i ∷ items) (Some x) c f = elim (first_split P (candidates_of i) (all_candidates items) x f) [
-  | inl here ↦ first_front P (widened i (m i)) (all_widened m items) x (first_front P (candidates_of i) (map pieces (m i)) x here)
-  | inr later ↦ first_append P (widened i (m i)) (all_widened m items) (Some x) (none_wide P m i (All-head (Covers m) i items c) later.0) (first_wide P m items (Some x) (All-tail (Covers m) i items c) later.1)
-]
+    All-append (λ y. ¬ P y) (widened i (m i)) (all_widened m items)
+    (none_wide P m i (All-head (Covers m) i items c)
+    (none_front (λ y. ¬ P y) (candidates_of i) (all_candidates items) f))
+    (first_wide P m items None (All-tail (Covers m) i items c)
+    (none_back (λ y. ¬ P y) (candidates_of i) (all_candidates items) f))
+first_wide P m (i ∷ items) (Some x) c f =
+    elim (first_split P (candidates_of i) (all_candidates items) x f) [
+      | inl here ↦
+          first_front P (widened i (m i)) (all_widened m items) x
+          (first_front P (candidates_of i) (map pieces (m i)) x here)
+      | inr later ↦
+          first_append P (widened i (m i)) (all_widened m items) (Some x)
+          (none_wide P m i (All-head (Covers m) i items c) later.0)
+          (first_wide P m items (Some x) (All-tail (Covers m) i items c) later.1)
+    ]
 
-first_narrow : (P : List (List ℕ) → Type 0) (m : Item → List (List ℕ)) (items : List Item) (x : List (List ℕ))
+first_narrow : (P : List (List ℕ) → Type 0) (m : Item → List (List ℕ)) (items : List Item)
+    (x : List (List ℕ))
     → All (Covers m) items → MatchFirstOf P (all_widened m items) (Some x)
     → MatchFirstOf P (all_candidates items) (Some x)
 first_narrow P m [] x c f = f
-first_narrow P m (i ∷ items) x c f = elim (first_split P (widened i (m i)) (all_widened m items) x f) [
-  | inl here ↦ elim (first_split P (candidates_of i) (map pieces (m i)) x here) [
-    | inl candidate ↦ first_front P (candidates_of i) (all_candidates items) x candidate
-    | inr match ↦ absurd (All-contains (λ z. ¬ P z) (candidates_of i) x match.0 (All-contains (Contains (candidates_of i)) (map pieces (m i)) x (All-head (Covers m) i items c) (first_among P (map pieces (m i)) x match.1)) match.1.passes)
-  ]
-  | inr later ↦ first_append P (candidates_of i) (all_candidates items) (Some x) (none_front (λ y. ¬ P y) (candidates_of i) (map pieces (m i)) later.0) (first_narrow P m items x (All-tail (Covers m) i items c) later.1)
-]
+first_narrow P m (i ∷ items) x c f =
+    elim (first_split P (widened i (m i)) (all_widened m items) x f) [
+      | inl here ↦ elim (first_split P (candidates_of i) (map pieces (m i)) x here) [
+        | inl candidate ↦ first_front P (candidates_of i) (all_candidates items) x candidate
+        | inr match ↦
+            absurd
+            (All-contains (λ z. ¬ P z) (candidates_of i) x match.0
+            (All-contains (Contains (candidates_of i)) (map pieces (m i)) x
+            (All-head (Covers m) i items c) (first_among P (map pieces (m i)) x match.1))
+            match.1.passes)
+      ]
+      | inr later ↦
+          first_append P (candidates_of i) (all_candidates items) (Some x)
+          (none_front (λ y. ¬ P y) (candidates_of i) (map pieces (m i)) later.0)
+          (first_narrow P m items x (All-tail (Covers m) i items c) later.1)
+    ]
 
-all_covered : (s : Scheme) (items ordered : List Item) (langs : List (List ℕ)) (m : Item → List (List ℕ))
+all_covered : (s : Scheme) (items ordered : List Item) (langs : List (List ℕ))
+    (m : Item → List (List ℕ))
     → ((i : Item) → AreMatched s langs i (m i)) → IsOrder items ordered
     → ((i : Item) → Contains items i → AddsNone s langs i) → All (Covers m) ordered
-all_covered s items ordered langs m ok o h = All-weaker (IsTriedOf items) (Covers m) (λ i t. covered s langs i (m i) (h i t.0) (each_matched s langs i (m i) (ok i))) ordered (each_tried items ordered o)
+all_covered s items ordered langs m ok o h =
+    All-weaker (IsTriedOf items) (Covers m)
+    (λ i t. covered s langs i (m i) (h i t.0) (each_matched s langs i (m i) (ok i))) ordered
+    (each_tried items ordered o)
 
 -- lookup finds what widened lookup finds
-pub same_narrow : (s : Scheme) (items : List Item) (langs : List (List ℕ)) (found : Option (List (List ℕ)))
+pub same_narrow : (s : Scheme) (items : List Item) (langs : List (List ℕ))
+    (found : Option (List (List ℕ)))
     → ((i : Item) → Contains items i → AddsNone s langs i) → IsLookedUpWidened s items langs found
     → IsLookedUp items (is_among langs) found
 same_narrow s items langs None h l = nothing_narrow s items langs l
-same_narrow s items langs (Some x) h l = record { ordered = l.ordered; order_ok = l.order_ok; found_is = first_narrow (Open items langs) l.matched l.ordered x (all_covered s items l.ordered langs l.matched l.matched_ok l.order_ok h) l.found_is }
+same_narrow s items langs (Some x) h l =
+    record {
+      ordered = l.ordered;
+      order_ok = l.order_ok;
+      found_is =
+          first_narrow (Open items langs) l.matched l.ordered x
+          (all_covered s items l.ordered langs l.matched l.matched_ok l.order_ok h) l.found_is;
+    }
 
 -- and the other way round
-pub same_wide : (s : Scheme) (items : List Item) (langs : List (List ℕ)) (found : Option (List (List ℕ)))
+pub same_wide : (s : Scheme) (items : List Item) (langs : List (List ℕ))
+    (found : Option (List (List ℕ)))
     → ((i : Item) → Contains items i → AddsNone s langs i) → IsLookedUp items (is_among langs) found
     → IsLookedUpWidened s items langs found
-same_wide s items langs found h l = record { ordered = l.ordered; order_ok = l.order_ok; matched = matched_of s langs; matched_ok = matched_are s langs; found_is = first_wide (Open items langs) (matched_of s langs) l.ordered found (all_covered s items l.ordered langs (matched_of s langs) (matched_are s langs) l.order_ok h) l.found_is }
+same_wide s items langs found h l =
+    record {
+      ordered = l.ordered;
+      order_ok = l.order_ok;
+      matched = matched_of s langs;
+      matched_ok =
+          matched_are s langs;
+      found_is =
+          first_wide (Open items langs) (matched_of s langs) l.ordered found
+          (all_covered s items l.ordered langs (matched_of s langs) (matched_are s langs) l.order_ok
+          h)
+          l.found_is;
+    }

@@ -13,13 +13,15 @@ chain_of subtag = fingerprint_of subtag % 1024
 
 -- A range may stand in the chain of each of its subtags other than "*", and in the last one.
 abbrev pub MayStandIn : List (List ℕ) → ℕ → Type 0
-MayStandIn range chain = (chain ≡ 1024) ⊎ ((s : List ℕ) × Contains range s × (is_star s ≡ false) × (chain_of s ≡ chain))
+MayStandIn range chain =
+    (chain ≡ 1024) ⊎ ((s : List ℕ) × Contains range s × (is_star s ≡ false) × (chain_of s ≡ chain))
 
 -- a chain in which the range at each of the first n places may stand
 pub record AreNumbers (items : List Item) (n : ℕ) (numbers : List ℕ) : Type 0 where
   pub as_many : length numbers ≡ n
   pub within : (k : ℕ) → k < n → slice_index numbers k < 1025
-  pub may : (k : ℕ) (i : Item) → k < n → slice_get items k ≡ Some i → MayStandIn (pieces i.range) (slice_index numbers k)
+  pub may : (k : ℕ) (i : Item) → k < n → slice_get items k ≡ Some i
+      → MayStandIn (pieces i.range) (slice_index numbers k)
 
 -- the first place of a chain from one on, or the number of places where there is none
 pub record IsNextIn (numbers : List ℕ) (chain from place : ℕ) : Type 0 where
@@ -34,7 +36,8 @@ pub record AreLinksFrom (numbers : List ℕ) (from : ℕ) (first next : List ℕ
   pub many : length first ≡ 1025
   pub each : length next ≡ length numbers
   pub first_is : (c : ℕ) → c < 1025 → IsNextIn numbers c from (slice_index first c)
-  pub next_is : (k : ℕ) → from ≤ k → k < length numbers → IsNextIn numbers (slice_index numbers k) (k + 1) (slice_index next k)
+  pub next_is : (k : ℕ) → from ≤ k → k < length numbers
+      → IsNextIn numbers (slice_index numbers k) (k + 1) (slice_index next k)
 
 abbrev pub AreLinks : List ℕ → Chains → Type 0
 AreLinks numbers chains = AreLinksFrom numbers 0 chains.first.items chains.next.items
@@ -54,4 +57,5 @@ StandsIn numbers chain place = slice_index numbers place ≡ chain
 
 -- the item at the place stands in a chain that the table has, or in the last one
 abbrev pub StandsAmong : List ℕ → List Bool → ℕ → Type 0
-StandsAmong numbers table place = StandsIn numbers 1024 place ⊎ (slice_index_or table (slice_index numbers place) false ≡ true)
+StandsAmong numbers table place =
+    StandsIn numbers 1024 place ⊎ (slice_index_or table (slice_index numbers place) false ≡ true)

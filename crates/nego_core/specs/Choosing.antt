@@ -19,4 +19,5 @@ HasOpenDefault items held default = IsSomeAnd default (IsOpenDefault items held)
 abbrev pub IsChosen : List Item → (List ℕ → Bool) → Option (List ℕ) → Choice → Type 0
 IsChosen items held default (Matched text) = IsLookedUp items held (Some (pieces text.now))
 IsChosen items held default Default = IsLookedUp items held None × HasOpenDefault items held default
-IsChosen items held default Nothing = IsLookedUp items held None × ¬ HasOpenDefault items held default
+IsChosen items held default Nothing =
+    IsLookedUp items held None × ¬ HasOpenDefault items held default

@@ -22,8 +22,10 @@ pub record IsMostSpecific (Fits : Item → Type 0) (items : List Item) (place : 
   pub item : Item
   pub stands : slice_get items place ≡ Some item
   pub fits : Fits item
-  pub most : (k : ℕ) (other : Item) → slice_get items k ≡ Some other → Fits other → specificity (pieces other.range) ≤ specificity (pieces item.range)
-  pub first : (k : ℕ) (other : Item) → k < place → slice_get items k ≡ Some other → Fits other → specificity (pieces other.range) < specificity (pieces item.range)
+  pub most : (k : ℕ) (other : Item) → slice_get items k ≡ Some other → Fits other
+      → specificity (pieces other.range) ≤ specificity (pieces item.range)
+  pub first : (k : ℕ) (other : Item) → k < place → slice_get items k ≡ Some other → Fits other
+      → specificity (pieces other.range) < specificity (pieces item.range)
 
 -- the place of the item that decides a tag
 abbrev pub IsDeciding : Scheme → List Item → List (List ℕ) → ℕ → Type 0
@@ -31,14 +33,16 @@ IsDeciding scheme items tag = IsMostSpecific (λ i. Matches scheme (pieces i.ran
 
 -- the same, and the item's weight
 abbrev pub IsDecidedBy : Scheme → List Item → List (List ℕ) → ℕ → ℕ → Type 0
-IsDecidedBy scheme items tag place weight = (d : IsDeciding scheme items tag place) × (d.item.weight ≡ weight)
+IsDecidedBy scheme items tag place weight =
+    (d : IsDeciding scheme items tag place) × (d.item.weight ≡ weight)
 
 abbrev pub IsDecidingWeight : Scheme → List Item → List (List ℕ) → ℕ → Type 0
 IsDecidingWeight scheme items tag weight = (place : ℕ) × IsDecidedBy scheme items tag place weight
 
 -- the same of a language: none decides "@none" (project rule)
 abbrev pub DecidesLang : Scheme → List Item → List ℕ → ℕ → ℕ → Type 0
-DecidesLang scheme items lang place weight = IsSomeAnd (tag_of lang) (λ tag. IsDecidedBy scheme items (pieces tag) place weight)
+DecidesLang scheme items lang place weight =
+    IsSomeAnd (tag_of lang) (λ tag. IsDecidedBy scheme items (pieces tag) place weight)
 
 -- the deciding item of the language has weight 0: "@none" is never refused (project rule)
 abbrev pub RefusesLang : Scheme → List Item → List ℕ → Type 0
@@ -71,7 +75,9 @@ NamedRefuse items tag = (place : ℕ) × ((d : IsDecidingNamed items tag place) 
 
 -- the other has more subtags other than "*", or as many and stands before
 abbrev pub is_worse : MostSpecific → MostSpecific → Bool
-is_worse best other = nat_lt best.specificity other.specificity || ((best.specificity == other.specificity) && nat_lt other.place best.place)
+is_worse best other =
+    nat_lt best.specificity other.specificity ||
+    ((best.specificity == other.specificity) && nat_lt other.place best.place)
 
 abbrev pub better_of : Option MostSpecific → Option MostSpecific → Option MostSpecific
 better_of None other = other
@@ -84,13 +90,16 @@ is_above None n = true
 is_above (Some best) n = nat_lt best.specificity n
 
 -- of the items that fit at their places, the most specific, the first among equals
-pub record IsBestOf (Fits : ℕ → Item → Type 0) (items : List Item) (best : MostSpecific) : Type 0 where
-  pub item : Item
-  pub stands : slice_get items best.place ≡ Some item
-  pub specificity_is : best.specificity ≡ specificity (pieces item.range)
-  pub fits : Fits best.place item
-  pub most : (k : ℕ) (other : Item) → slice_get items k ≡ Some other → Fits k other → specificity (pieces other.range) ≤ best.specificity
-  pub first : (k : ℕ) (other : Item) → k < best.place → slice_get items k ≡ Some other → Fits k other → specificity (pieces other.range) < best.specificity
+pub record IsBestOf (Fits : ℕ → Item → Type 0) (items : List Item) (best : MostSpecific) : Type 0
+  where
+    pub item : Item
+    pub stands : slice_get items best.place ≡ Some item
+    pub specificity_is : best.specificity ≡ specificity (pieces item.range)
+    pub fits : Fits best.place item
+    pub most : (k : ℕ) (other : Item) → slice_get items k ≡ Some other → Fits k other
+        → specificity (pieces other.range) ≤ best.specificity
+    pub first : (k : ℕ) (other : Item) → k < best.place → slice_get items k ≡ Some other
+        → Fits k other → specificity (pieces other.range) < best.specificity
 
 abbrev pub NoneFits : (ℕ → Item → Type 0) → List Item → Type 0
 NoneFits Fits items = (k : ℕ) (other : Item) → slice_get items k ≡ Some other → ¬ Fits k other

@@ -26,8 +26,11 @@ GivesNone scheme PassedOver piece = (item : Item) → ¬ IsPadded scheme piece i
 abbrev pub ArePieces : Scheme → Malformed → List (List ℕ) → List Item → Type 0
 ArePieces scheme malformed [] [] = Unit {0}
 ArePieces scheme malformed [] (i ∷ items) = ⊥
-ArePieces scheme malformed (p ∷ pieces) [] = GivesNone scheme malformed p × ArePieces scheme malformed pieces []
-ArePieces scheme malformed (p ∷ pieces) (i ∷ items) = (GivesNone scheme malformed p × ArePieces scheme malformed pieces (i ∷ items)) ⊎ (IsPadded scheme p i × ArePieces scheme malformed pieces items)
+ArePieces scheme malformed (p ∷ pieces) [] =
+    GivesNone scheme malformed p × ArePieces scheme malformed pieces []
+ArePieces scheme malformed (p ∷ pieces) (i ∷ items) =
+    (GivesNone scheme malformed p × ArePieces scheme malformed pieces (i ∷ items))
+    ⊎ (IsPadded scheme p i × ArePieces scheme malformed pieces items)
 
 -- RFC 9110 section 5.6.1: the bytes are pieces between commas, which give the items
 abbrev pub IsField : Scheme → Malformed → List ℕ → List Item → Type 0
@@ -47,7 +50,8 @@ abbrev pub IsOfOneKind : List Item → Type 0
 IsOfOneKind items = All (λ i. BasicRange (pieces i.range)) items ⊎ All (λ i. i.weight ≡ 1000) items
 
 -- the pieces of a field up to one that is not blank
-pub record IsReadTo (scheme : Scheme) (malformed : Malformed) (bytes : List ℕ) (before : List (List ℕ)) (piece : List ℕ) : Type 0 where
+pub record IsReadTo (scheme : Scheme) (malformed : Malformed) (bytes : List ℕ)
+    (before : List (List ℕ)) (piece : List ℕ) : Type 0 where
   pub after : List (List ℕ)
   pub items : List Item
   pub whole : pieces_by 44 bytes ≡ before ++ piece ∷ after
@@ -74,9 +78,11 @@ pub record HasElement (scheme : Scheme) (malformed : Malformed) (bytes : List �
 -- can end only where an element was read, and never in place of the limit.
 abbrev pub RefusesField : Scheme → Malformed → List ℕ → NegoFault → Type 0
 RefusesField scheme malformed bytes FieldTooLong = 65535 < length bytes
-RefusesField scheme Refused bytes (FieldMalformed offset) = (length bytes ≤ 65535) × IsFirstMalformed scheme bytes offset
+RefusesField scheme Refused bytes (FieldMalformed offset) =
+    (length bytes ≤ 65535) × IsFirstMalformed scheme bytes offset
 RefusesField scheme PassedOver bytes (FieldMalformed offset) = ⊥
-RefusesField scheme malformed bytes NoMemory = (length bytes ≤ 65535) × HasElement scheme malformed bytes
+RefusesField scheme malformed bytes NoMemory =
+    (length bytes ≤ 65535) × HasElement scheme malformed bytes
 
 -- ---- from element to element
 
@@ -91,4 +97,6 @@ skip_separators (b ∷ text) = if is_separator b then skip_separators text else 
 
 -- a text up to its first comma, and what follows that comma, if there is one
 abbrev pub IsFirstPiece : List ℕ → List ℕ → List ℕ → Type 0
-IsFirstPiece text piece after = (pieces_by 44 text ≡ piece ∷ pieces_by 44 after) ⊎ ((pieces_by 44 text ≡ piece ∷ []) × (after ≡ []))
+IsFirstPiece text piece after =
+    (pieces_by 44 text ≡ piece ∷ pieces_by 44 after)
+    ⊎ ((pieces_by 44 text ≡ piece ∷ []) × (after ≡ []))

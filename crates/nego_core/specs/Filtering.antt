@@ -21,20 +21,28 @@ pub record Key : Type 0 where
 
 -- by missing weight, then the item's place, then the language's bytes, then place (project rule)
 abbrev pub key_cmp : Key → Key → Ordering
-key_cmp = then_cmp (on (λ k. k.missing_weight) nat_cmp) (then_cmp (on (λ k. k.item) nat_cmp) (then_cmp (on (λ k. k.lang) (slice_cmp nat_cmp)) (on (λ k. k.place) nat_cmp)))
+key_cmp =
+    then_cmp (on (λ k. k.missing_weight) nat_cmp)
+    (then_cmp (on (λ k. k.item) nat_cmp)
+    (then_cmp (on (λ k. k.lang) (slice_cmp nat_cmp)) (on (λ k. k.place) nat_cmp)))
 
 -- the same of the keys that are sorted
 abbrev pub filter_key_cmp : FilterKey → FilterKey → Ordering
-filter_key_cmp = then_cmp (on (λ r. r.missing_weight) nat_cmp) (then_cmp (on (λ r. r.item) nat_cmp) (then_cmp (on (λ r. r.lang) (slice_cmp nat_cmp)) (on (λ r. r.place) nat_cmp)))
+filter_key_cmp =
+    then_cmp (on (λ r. r.missing_weight) nat_cmp)
+    (then_cmp (on (λ r. r.item) nat_cmp)
+    (then_cmp (on (λ r. r.lang) (slice_cmp nat_cmp)) (on (λ r. r.place) nat_cmp)))
 
 abbrev pub key_of : FilterKey → Key
-key_of r = record { missing_weight = r.missing_weight; item = r.item; lang = r.lang; place = r.place }
+key_of r =
+    record { missing_weight = r.missing_weight; item = r.item; lang = r.lang; place = r.place }
 
 abbrev pub pick_of : Key → Pick
 pick_of k = record { place = k.place; weight = 1000 - k.missing_weight }
 
 -- the key of a language at a place: an item of positive weight decides it
-pub record IsKey (scheme : Scheme) (items : List Item) (lang : List ℕ) (place : ℕ) (key : Key) : Type 0 where
+pub record IsKey (scheme : Scheme) (items : List Item) (lang : List ℕ) (place : ℕ)
+    (key : Key) : Type 0 where
   pub weight : ℕ
   pub decided : DecidesLang scheme items lang key.item weight
   pub positive : 0 < weight
@@ -49,12 +57,16 @@ HasNoKey scheme items lang place = (key : Key) → ¬ IsKey scheme items lang pl
 abbrev pub AreKeys : Scheme → List Item → ℕ → List (List ℕ) → List Key → Type 0
 AreKeys scheme items place [] [] = Unit {0}
 AreKeys scheme items place [] (k ∷ keys) = ⊥
-AreKeys scheme items place (lang ∷ langs) [] = HasNoKey scheme items lang place × AreKeys scheme items (place + 1) langs []
-AreKeys scheme items place (lang ∷ langs) (k ∷ keys) = (HasNoKey scheme items lang place × AreKeys scheme items (place + 1) langs (k ∷ keys)) ⊎ (IsKey scheme items lang place k × AreKeys scheme items (place + 1) langs keys)
+AreKeys scheme items place (lang ∷ langs) [] =
+    HasNoKey scheme items lang place × AreKeys scheme items (place + 1) langs []
+AreKeys scheme items place (lang ∷ langs) (k ∷ keys) =
+    (HasNoKey scheme items lang place × AreKeys scheme items (place + 1) langs (k ∷ keys))
+    ⊎ (IsKey scheme items lang place k × AreKeys scheme items (place + 1) langs keys)
 
 -- RFC 4647 section 3.3: the languages that an item of positive weight decides, each once, in the
 -- order of their keys
-pub record IsFiltered (scheme : Scheme) (items : List Item) (langs : List (List ℕ)) (picks : List Pick) : Type 0 where
+pub record IsFiltered (scheme : Scheme) (items : List Item) (langs : List (List ℕ))
+    (picks : List Pick) : Type 0 where
   pub all : List Key
   pub keys : List Key
   pub all_ok : AreKeys scheme items 0 langs all
@@ -63,7 +75,8 @@ pub record IsFiltered (scheme : Scheme) (items : List Item) (langs : List (List 
   pub picks_are : picks ≡ map pick_of keys
 
 -- a language that an item of positive weight decides, by its place, and that weight
-pub record IsPicked (scheme : Scheme) (items : List Item) (langs : List (List ℕ)) (pick : Pick) : Type 0 where
+pub record IsPicked (scheme : Scheme) (items : List Item) (langs : List (List ℕ))
+    (pick : Pick) : Type 0 where
   pub lang : List ℕ
   pub stands : slice_get langs pick.place ≡ Some lang
   pub item : ℕ
@@ -83,4 +96,6 @@ abbrev pub pick_eq : Pick → Pick → Bool
 pick_eq = eq_of_both (on (λ p. p.place) nat_eq) (on (λ p. p.weight) nat_eq)
 
 pub pick_equiv : IsEquivalence pick_eq
-pick_equiv = and_equiv (on_equiv (λ (p : Pick). p.place) nat_eq_equiv) (on_equiv (λ (p : Pick). p.weight) nat_eq_equiv)
+pick_equiv =
+    and_equiv (on_equiv (λ (p : Pick). p.place) nat_eq_equiv)
+    (on_equiv (λ (p : Pick). p.weight) nat_eq_equiv)

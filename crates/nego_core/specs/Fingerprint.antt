@@ -19,7 +19,8 @@ worth (suc k) = 256 * worth k
 unfoldable pub head_from : ℕ → List ℕ → ℕ
 head_from zero text = 0
 head_from (suc k) [] = 0
-head_from (suc k) (b ∷ text) = if nat_lt b 256 then b * worth k + head_from k text else worth (suc k)
+head_from (suc k) (b ∷ text) = if nat_lt b 256 then
+    b * worth k + head_from k text else worth (suc k)
 
 -- the first eight bytes
 unfoldable pub head_of : List ℕ → ℕ
@@ -37,6 +38,7 @@ unfoldable pub fingerprint_of : List ℕ → ℕ
 fingerprint_of subtag = fold fingerprint_step 0 subtag
 
 -- the numbers of all texts of the list are set in a table of this size
-pub record IsTableOf (number : List ℕ → ℕ) (size : ℕ) (list : List (List ℕ)) (table : List Bool) : Type 0 where
+pub record IsTableOf (number : List ℕ → ℕ) (size : ℕ) (list : List (List ℕ))
+    (table : List Bool) : Type 0 where
   pub full : length table ≡ size
   pub set : (s : List ℕ) → Contains list s → slice_index_or table (number s) false ≡ true

@@ -42,19 +42,24 @@ range_key_cmp = then_cmp (on (λ e. e.text) (slice_cmp nat_cmp)) (on (λ e. e.pl
 -- the places before this one are those of the ranges below the text
 pub record IsSeat (items : List Item) (places : List ℕ) (text : List ℕ) (seat : ℕ) : Type 0 where
   pub within : seat ≤ length places
-  pub below : (k : ℕ) → k < seat → is_lt (slice_cmp nat_cmp (text_at items (slice_index places k)) text) ≡ true
-  pub above : (k : ℕ) → seat ≤ k → k < length places → is_lt (slice_cmp nat_cmp (text_at items (slice_index places k)) text) ≡ false
+  pub below : (k : ℕ) → k < seat
+      → is_lt (slice_cmp nat_cmp (text_at items (slice_index places k)) text) ≡ true
+  pub above : (k : ℕ) → seat ≤ k → k < length places
+      → is_lt (slice_cmp nat_cmp (text_at items (slice_index places k)) text) ≡ false
 
 -- the place of the first item whose range has this text
 pub record IsFirstWith (items : List Item) (text : List ℕ) (place : ℕ) : Type 0 where
   pub item : Item
   pub stands : slice_get items place ≡ Some item
   pub same : item.range ≡ text
-  pub first : (k : ℕ) (other : Item) → k < place → slice_get items k ≡ Some other → other.range ≢ text
+  pub first : (k : ℕ) (other : Item) → k < place → slice_get items k ≡ Some other
+      → other.range ≢ text
 
 -- the same, or none where no range has this text
 abbrev pub MatchFirst : List Item → List ℕ → Option ℕ → Type 0
-MatchFirst items text place = MatchOption place ((k : ℕ) (other : Item) → slice_get items k ≡ Some other → other.range ≢ text) (IsFirstWith items text)
+MatchFirst items text place =
+    MatchOption place ((k : ℕ) (other : Item) → slice_get items k ≡ Some other → other.range ≢ text)
+    (IsFirstWith items text)
 
 -- ---- one index or the other
 

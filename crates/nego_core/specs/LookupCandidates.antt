@@ -40,7 +40,8 @@ MatchFirstOf Passes list (Some x) = IsFirst Passes list x
 
 -- RFC 4647 section 3.4: the first candidate of the items, in their order, that is held and not
 -- refused
-pub record IsLookedUp (items : List Item) (held : List ℕ → Bool) (found : Option (List (List ℕ))) : Type 0 where
+pub record IsLookedUp (items : List Item) (held : List ℕ → Bool)
+    (found : Option (List (List ℕ))) : Type 0 where
   pub ordered : List Item
   pub order_ok : IsOrder items ordered
   pub found_is : MatchFirstOf (IsOpen items held) (all_candidates ordered) found

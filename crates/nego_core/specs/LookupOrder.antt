@@ -20,7 +20,9 @@ order_key_cmp = then_cmp (on (λ t. t.missing_weight) nat_cmp) (on (λ t. t.plac
 -- the keys of the items that are tried, from a place on
 abbrev pub order_keys_from : List Item → ℕ → List OrderKey
 order_keys_from [] place = []
-order_keys_from (i ∷ items) place = if is_tried i then record { missing_weight = 1000 - i.weight; place = place } ∷ order_keys_from items (place + 1) else order_keys_from items (place + 1)
+order_keys_from (i ∷ items) place = if is_tried i then
+    record { missing_weight = 1000 - i.weight; place = place }
+    ∷ order_keys_from items (place + 1) else order_keys_from items (place + 1)
 
 -- each key once, in order
 pub record AreOrderKeys (items : List Item) (keys : List OrderKey) : Type 0 where

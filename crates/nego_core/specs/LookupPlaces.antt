@@ -15,6 +15,12 @@ least_place langs text = position (λ l. bytes_eq l text) langs
 -- RFC 4647 section 3.4, over a slice of languages: each place is the least one of the language
 -- found
 abbrev pub IsFound : List Item → List (List ℕ) → Option (List ℕ) → Found → Type 0
-IsFound items langs default (Matched place) = (text : List ℕ) × IsLookedUp items (is_among langs) (Some (pieces text)) × (least_place langs text ≡ Some place)
-IsFound items langs default (Default place) = IsLookedUp items (is_among langs) None × ((lang : List ℕ) × (default ≡ Some lang) × IsOpenDefault items (is_among langs) lang × (least_place langs lang ≡ Some place))
-IsFound items langs default Nothing = IsLookedUp items (is_among langs) None × ¬ HasOpenDefault items (is_among langs) default
+IsFound items langs default (Matched place) =
+    (text : List ℕ) × IsLookedUp items (is_among langs) (Some (pieces text))
+    × (least_place langs text ≡ Some place)
+IsFound items langs default (Default place) =
+    IsLookedUp items (is_among langs) None
+    × ((lang : List ℕ) × (default ≡ Some lang) × IsOpenDefault items (is_among langs) lang
+    × (least_place langs lang ≡ Some place))
+IsFound items langs default Nothing =
+    IsLookedUp items (is_among langs) None × ¬ HasOpenDefault items (is_among langs) default

@@ -26,7 +26,8 @@ MatchesSome scheme items tag = Any (λ i. Matches scheme (pieces i.range) (piece
 
 -- RFC 4647 section 3.3: at the place stands a tag that some range of the list matches
 abbrev pub IsMatchedAt : Scheme → List Item → List (List ℕ) → ℕ → Type 0
-IsMatchedAt scheme items langs place = IsSomeAnd (slice_get langs place) (λ lang. IsSomeAnd (tag_of lang) (MatchesSome scheme items))
+IsMatchedAt scheme items langs place =
+    IsSomeAnd (slice_get langs place) (λ lang. IsSomeAnd (tag_of lang) (MatchesSome scheme items))
 
 -- whether a range is other than "*" as a basic one
 abbrev pub is_other : Item → Bool
@@ -35,4 +36,5 @@ is_other i = not (is_lone_star (as_basic (pieces i.range)))
 -- RFC 4647 section 3.4: of the ranges other than "*", as written, each through its truncations,
 -- the first text that is held, or none where none is
 abbrev pub IsFirstHeld : List Item → (List ℕ → Bool) → Option (List (List ℕ)) → Type 0
-IsFirstHeld items held found = MatchFirstOf (λ c. IsTrue (held (joined c))) (all_candidates (filter is_other items)) found
+IsFirstHeld items held found =
+    MatchFirstOf (λ c. IsTrue (held (joined c))) (all_candidates (filter is_other items)) found

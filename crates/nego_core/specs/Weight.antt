@@ -6,7 +6,9 @@ use Rattle.nego_core.specs.Blanks.{AreBlanks}
 
 -- The digits after the point, filled up to three with zeros: a digit that is not there counts 0.
 abbrev pub thousandths : List ℕ → ℕ
-thousandths digits = 100 * (slice_index digits 0 - 48) + 10 * (slice_index digits 1 - 48) + (slice_index digits 2 - 48)
+thousandths digits =
+    100 * (slice_index digits 0 - 48) + 10 * (slice_index digits 1 - 48)
+    + (slice_index digits 2 - 48)
 
 abbrev pub is_zero_digit : ℕ → Bool
 is_zero_digit b = b == 48
@@ -17,7 +19,8 @@ abbrev pub IsQvalue : List ℕ → ℕ → Type 0
 IsQvalue [] n = ⊥
 IsQvalue (b ∷ []) n = ((b ≡ 48) × (n ≡ 0)) ⊎ ((b ≡ 49) × (n ≡ 1000))
 IsQvalue (b ∷ point ∷ digits) n = (point ≡ 46) × (length digits ≤ 3)
-    × (((b ≡ 48) × IsTrue (list_all is_digit digits) × (n ≡ thousandths digits)) ⊎ ((b ≡ 49) × IsTrue (list_all is_zero_digit digits) × (n ≡ 1000)))
+    × (((b ≡ 48) × IsTrue (list_all is_digit digits) × (n ≡ thousandths digits))
+    ⊎ ((b ≡ 49) × IsTrue (list_all is_zero_digit digits) × (n ≡ 1000)))
 
 -- RFC 9110 section 12.4.2: weight = OWS ";" OWS "q=" qvalue, "q" in either case
 pub record HasWeight (text : List ℕ) (n : ℕ) : Type 0 where
@@ -61,7 +64,8 @@ pub record FollowsSemicolon (text : List ℕ) (n : ℕ) : Type 0 where
 
 -- the same without the blanks before it
 abbrev pub IsNamedQvalue : List ℕ → ℕ → Type 0
-IsNamedQvalue (letter ∷ sign ∷ qvalue) n = ((letter ≡ 113) ⊎ (letter ≡ 81)) × (sign ≡ 61) × IsLastQvalue qvalue n
+IsNamedQvalue (letter ∷ sign ∷ qvalue) n =
+    ((letter ≡ 113) ⊎ (letter ≡ 81)) × (sign ≡ 61) × IsLastQvalue qvalue n
 IsNamedQvalue _ n = ⊥
 
 -- what may follow a range: a weight of the grammar, then blanks

@@ -25,7 +25,8 @@ IsChosenWidened scheme items langs default Default =
 IsChosenWidened scheme items langs default Nothing =
     IsLookedUpWidened scheme items langs None × ¬ HasOpenDefault items (is_among langs) default
 
--- whatever the languages are that the item matches, the first of its widened candidates that is open
+-- whatever the languages are that the item matches, the first of its widened candidates that is
+-- open
 abbrev pub IsFirstWidened : Scheme → List Item → List (List ℕ) → Item → Option (List (List ℕ))
     → Type 0
 IsFirstWidened scheme items langs i found =

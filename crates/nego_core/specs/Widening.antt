@@ -22,14 +22,16 @@ use Rattle.nego_core.specs.declared.widening.Widening.TheVariants.{Off, By}
 
 -- the range of the item matches the language: none matches "@none"
 abbrev pub MatchesLang : Scheme → Item → List ℕ → Type 0
-MatchesLang scheme i lang = IsSomeAnd (tag_of lang) (λ tag. Matches scheme (pieces i.range) (pieces tag))
+MatchesLang scheme i lang =
+    IsSomeAnd (tag_of lang) (λ tag. Matches scheme (pieces i.range) (pieces tag))
 
 -- one text is below another by their bytes
 abbrev pub IsBelow : List ℕ → List ℕ → Type 0
 IsBelow a b = slice_cmp nat_cmp a b ≡ Less
 
 -- the languages that the range of an item matches, each once, in rising order of bytes
-pub record AreMatched (scheme : Scheme) (langs : List (List ℕ)) (i : Item) (matched : List (List ℕ)) : Type 0 where
+pub record AreMatched (scheme : Scheme) (langs : List (List ℕ)) (i : Item)
+    (matched : List (List ℕ)) : Type 0 where
   pub each : (lang : List ℕ)
       → Contains matched lang ↔ (Contains langs lang × MatchesLang scheme i lang)
   pub rising : AllPairs IsBelow matched
@@ -40,18 +42,26 @@ widened i matched = candidates_of i ++ map pieces matched
 
 -- the first widened candidate of the items, in their order, that is among the languages and not
 -- refused
-pub record IsLookedUpWidened (scheme : Scheme) (items : List Item) (langs : List (List ℕ)) (found : Option (List (List ℕ))) : Type 0 where
+pub record IsLookedUpWidened (scheme : Scheme) (items : List Item) (langs : List (List ℕ))
+    (found : Option (List (List ℕ))) : Type 0 where
   pub ordered : List Item
   pub order_ok : IsOrder items ordered
   pub matched : Item → List (List ℕ)
   pub matched_ok : (i : Item) → AreMatched scheme langs i (matched i)
-  pub found_is : MatchFirstOf (IsOpen items (is_among langs)) (flat_map (λ i. widened i (matched i)) ordered) found
+  pub found_is : MatchFirstOf (IsOpen items (is_among langs))
+      (flat_map (λ i. widened i (matched i)) ordered) found
 
 -- the same by the least place of the language found, with the default where none is found
 abbrev pub IsFoundWidened : Scheme → List Item → List (List ℕ) → Option (List ℕ) → Found → Type 0
-IsFoundWidened scheme items langs default (Matched place) = (text : List ℕ) × IsLookedUpWidened scheme items langs (Some (pieces text)) × (least_place langs text ≡ Some place)
-IsFoundWidened scheme items langs default (Default place) = IsLookedUpWidened scheme items langs None × ((lang : List ℕ) × (default ≡ Some lang) × IsOpenDefault items (is_among langs) lang × (least_place langs lang ≡ Some place))
-IsFoundWidened scheme items langs default Nothing = IsLookedUpWidened scheme items langs None × ¬ HasOpenDefault items (is_among langs) default
+IsFoundWidened scheme items langs default (Matched place) =
+    (text : List ℕ) × IsLookedUpWidened scheme items langs (Some (pieces text))
+    × (least_place langs text ≡ Some place)
+IsFoundWidened scheme items langs default (Default place) =
+    IsLookedUpWidened scheme items langs None
+    × ((lang : List ℕ) × (default ≡ Some lang) × IsOpenDefault items (is_among langs) lang
+    × (least_place langs lang ≡ Some place))
+IsFoundWidened scheme items langs default Nothing =
+    IsLookedUpWidened scheme items langs None × ¬ HasOpenDefault items (is_among langs) default
 
 -- lookup, or widened lookup under the scheme
 abbrev pub IsFoundBy : Widening → List Item → List (List ℕ) → Option (List ℕ) → Found → Type 0

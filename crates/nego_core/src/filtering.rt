@@ -144,6 +144,17 @@ pub fn filter_lent(
     filter_by::<&Lang>(alloc, list, scheme, langs)
 }
 
+/// Sort key of a filter's answer: its fields are compared in this order.
+#[derive(PartialEq, Eq, PartialOrd, Ord, Drop)]
+pub(crate) struct FilterKey<'a> {
+    /// 1000 less the weight.
+    pub(crate) missing_weight: u16,
+    /// The place of the item.
+    pub(crate) item: usize,
+    pub(crate) lang: OrderedText<'a>,
+    pub(crate) place: usize,
+}
+
 /// Filtering over languages, owned or borrowed.
 fn filter_by<L: AsLang>(
     alloc: Global,
@@ -161,17 +172,6 @@ fn filter_by<L: AsLang>(
     sort_filter_keys(&mut keys);
     let picks = picks_of(alloc, &keys)?;
     Ok(Picks::new(picks))
-}
-
-/// Sort key of a filter's answer: its fields are compared in this order.
-#[derive(PartialEq, Eq, PartialOrd, Ord, Drop)]
-pub(crate) struct FilterKey<'a> {
-    /// 1000 less the weight.
-    pub(crate) missing_weight: u16,
-    /// The place of the item.
-    pub(crate) item: usize,
-    pub(crate) lang: OrderedText<'a>,
-    pub(crate) place: usize,
 }
 
 /// The keys of the languages that are picked, in the order of the languages.

@@ -25,18 +25,6 @@ pub(crate) fn look_up<'a, H: Holds>(list: &'a PriorityList, held: &H) -> Option<
     None
 }
 
-/// The first candidate of the item at the place that is open.
-fn first_at<'a, H: Holds>(list: &'a PriorityList, place: usize, held: &H) -> Option<&'a str>
-    ensures { MatchFirstOf (IsOpen list.now (H.held held.now)) (candidates_at list.now place)
-        (option_map (λ text. pieces text.now) result) }
-{
-    let items = list.items();
-    if place >= items.len() {
-        return None;
-    }
-    first_of(list, items[place].range(), held)
-}
-
 /// The first candidate of the range that is open.
 pub(crate) fn first_of<'a, H: Holds>(
     list: &PriorityList,
@@ -55,13 +43,6 @@ pub(crate) fn first_of<'a, H: Holds>(
     None
 }
 
-/// Whether the text is in the set and not refused.
-fn is_open<H: Holds>(list: &PriorityList, held: &H, text: &str) -> bool
-    ensures { IsTrue result ↔ IsOpen list.now (H.held held.now) (pieces text.now) }
-{
-    held.holds(text) && !named_refuse(list, text)
-}
-
 /// Whether the items other than "*" refuse the text.
 pub(crate) fn named_refuse(list: &PriorityList, text: &str) -> bool
     ensures { IsTrue result ↔ NamedRefuse list.now (pieces text.now) }
@@ -74,4 +55,23 @@ pub(crate) fn named_refuse(list: &PriorityList, text: &str) -> bool
         Some(best) => items[best.place].weight() == 0,
         None => false,
     }
+}
+
+/// The first candidate of the item at the place that is open.
+fn first_at<'a, H: Holds>(list: &'a PriorityList, place: usize, held: &H) -> Option<&'a str>
+    ensures { MatchFirstOf (IsOpen list.now (H.held held.now)) (candidates_at list.now place)
+        (option_map (λ text. pieces text.now) result) }
+{
+    let items = list.items();
+    if place >= items.len() {
+        return None;
+    }
+    first_of(list, items[place].range(), held)
+}
+
+/// Whether the text is in the set and not refused.
+fn is_open<H: Holds>(list: &PriorityList, held: &H, text: &str) -> bool
+    ensures { IsTrue result ↔ IsOpen list.now (H.held held.now) (pieces text.now) }
+{
+    held.holds(text) && !named_refuse(list, text)
 }

@@ -70,7 +70,10 @@ module _ (P : ℕ → Type 0) (digit : (n : ℕ) → n < 10 → P (48 + n)) wher
   tens_each : (n : ℕ) → n < 100 → All P (tens_text n)
   tens_each n h = elim (cases_Bool (n == 0)) [
     | inl e ↦ subst (All P) (sym (tens_none n e)) (All-nil P)
-    | inr e ↦ subst (All P) (sym (tens_some n e)) (All-cons P (48 + n / 10) (ones_text (n % 10)) (digit (n / 10) (omega arith)) (ones_each (n % 10) (omega arith)))
+    | inr e ↦
+        subst (All P) (sym (tens_some n e))
+        (All-cons P (48 + n / 10) (ones_text (n % 10)) (digit (n / 10) (omega arith))
+        (ones_each (n % 10) (omega arith)))
   ]
 
 digit_is : (n : ℕ) → n < 10 → is_digit (48 + n) ≡ true
@@ -78,20 +81,27 @@ digit_is n h = grind (arith, nat_tests)
 
 all_digits : (text : List ℕ) → All (λ b. is_digit b ≡ true) text → list_all is_digit text ≡ true
 all_digits [] h = refl
-all_digits (b ∷ text) h = and_from (is_digit b) (list_all is_digit text) (All-head (λ x. is_digit x ≡ true) b text h) (all_digits text (All-tail (λ x. is_digit x ≡ true) b text h))
+all_digits (b ∷ text) h =
+    and_from (is_digit b) (list_all is_digit text) (All-head (λ x. is_digit x ≡ true) b text h)
+    (all_digits text (All-tail (λ x. is_digit x ≡ true) b text h))
 
 ones_value : (n : ℕ) → slice_index (ones_text n) 0 - 48 ≡ n
 ones_value n = elim (cases_Bool (n == 0)) [
-  | inl e ↦ subst (λ (t : List ℕ). slice_index t 0 - 48 ≡ n) (sym (ones_none n e)) (omega (arith, is_none n e))
+  | inl e ↦
+      subst (λ (t : List ℕ). slice_index t 0 - 48 ≡ n) (sym (ones_none n e))
+      (omega (arith, is_none n e))
   | inr e ↦ subst (λ (t : List ℕ). slice_index t 0 - 48 ≡ n) (sym (ones_some n e)) (omega arith)
 ]
 
 tens_value : (n : ℕ) → n < 100
     → 10 * (slice_index (tens_text n) 0 - 48) + (slice_index (tens_text n) 1 - 48) ≡ n
 tens_value n h = elim (cases_Bool (n == 0)) [
-  | inl e ↦ subst (λ (t : List ℕ). 10 * (slice_index t 0 - 48) + (slice_index t 1 - 48) ≡ n) (sym (tens_none n e)) (omega (arith, is_none n e))
+  | inl e ↦
+      subst (λ (t : List ℕ). 10 * (slice_index t 0 - 48) + (slice_index t 1 - 48) ≡ n)
+      (sym (tens_none n e)) (omega (arith, is_none n e))
   | inr e ↦ (let last = ones_value (n % 10) in
-      subst (λ (t : List ℕ). 10 * (slice_index t 0 - 48) + (slice_index t 1 - 48) ≡ n) (sym (tens_some n e)) (omega arith))
+      subst (λ (t : List ℕ). 10 * (slice_index t 0 - 48) + (slice_index t 1 - 48) ≡ n)
+      (sym (tens_some n e)) (omega arith))
 ]
 
 ones_length : (n : ℕ) → length (ones_text n) ≤ 1
@@ -103,7 +113,9 @@ ones_length n = elim (cases_Bool (n == 0)) [
 tens_length : (n : ℕ) → length (tens_text n) ≤ 2
 tens_length n = elim (cases_Bool (n == 0)) [
   | inl e ↦ subst (λ (t : List ℕ). length t ≤ 2) (sym (tens_none n e)) (omega arith)
-  | inr e ↦ (let last = ones_length (n % 10) in subst (λ (t : List ℕ). length t ≤ 2) (sym (tens_some n e)) (omega arith))
+  | inr e ↦
+      (let last = ones_length (n % 10) in
+      subst (λ (t : List ℕ). length t ≤ 2) (sym (tens_some n e)) (omega arith))
 ]
 
 -- whole tens take one digit
@@ -125,13 +137,25 @@ fraction_length n k h = elim (cases_Bool (n == 0)) [
 
 qvalue_again : (n : ℕ) → n < 1000 → IsQvalue (48 ∷ fraction_text n) n
 qvalue_again n h = elim (cases_Bool (n == 0)) [
-  | inl e ↦ subst (λ (t : List ℕ). IsQvalue (48 ∷ t) n) (sym (fraction_none n e)) (inl (refl, is_none n e))
+  | inl e ↦
+      subst (λ (t : List ℕ). IsQvalue (48 ∷ t) n) (sym (fraction_none n e))
+      (inl (refl, is_none n e))
   | inr e ↦ (let rest : n % 100 < 100 = omega arith in
       let value = tens_value (n % 100) rest in
       let size = tens_length (n % 100) in
-      let digits = all_digits (tens_text (n % 100)) (tens_each (λ b. is_digit b ≡ true) digit_is (n % 100) rest) in
-      subst (λ (t : List ℕ). IsQvalue (48 ∷ t) n) (sym (fraction_some n e))
-      (refl, omega arith, inl (refl, and_from (is_digit (48 + n / 100)) (list_all is_digit (tens_text (n % 100))) (digit_is (n / 100) (omega arith)) digits, omega arith)))
+      let digits =
+      all_digits (tens_text (n % 100))
+      (tens_each (λ b. is_digit b ≡ true) digit_is (n % 100) rest) in
+      subst (λ (t : List ℕ). IsQvalue (48 ∷ t) n) (sym (fraction_some n e)) (
+        refl,
+        omega arith,
+        inl (
+          refl,
+          and_from (is_digit (48 + n / 100)) (list_all is_digit (tens_text (n % 100)))
+              (digit_is (n / 100) (omega arith)) digits,
+          omega arith,
+        ),
+      ))
 ]
 
 low_digit : (b : ℕ) → is_digit b ≡ true → b - 48 ≤ 9
@@ -158,9 +182,14 @@ by_digits (x ∷ []) n all few value =
     let short = fraction_length n 0 (omega arith) in
     omega arith
 by_digits (x ∷ y ∷ []) n all few value =
-    let low = low_digit y (and_parts (is_digit y) true (and_parts (is_digit x) (list_all is_digit (y ∷ [])) all).1).0 in
+    let low =
+    low_digit y
+    (and_parts (is_digit y) true (and_parts (is_digit x) (list_all is_digit (y ∷ [])) all).1).0
+    in
     let hundredths : n ≡ 100 * (x - 48) + 10 * (y - 48) = omega (arith, value) in
-    let short = fraction_length n 1 (tens_short (n % 100) (whole_hundredths n (x - 48) (y - 48) hundredths low)) in
+    let short =
+    fraction_length n 1
+    (tens_short (n % 100) (whole_hundredths n (x - 48) (y - 48) hundredths low)) in
     omega arith
 by_digits (x ∷ y ∷ z ∷ more) n all few value =
     let short = fraction_length n 2 (tens_length (n % 100)) in
@@ -201,7 +230,8 @@ part_again : (text : List ℕ) (n : ℕ) → n < 1000 → HasWeight text n
     → IsShorter (λ t. HasWeight t n) (59 ∷ 113 ∷ 61 ∷ 48 ∷ fraction_text n) text
 part_again text n h w =
     let short = qvalue_shortest w.qvalue n h w.qvalue_ok in
-    let size : length text ≡ length (w.before ++ 59 ∷ (w.after ++ w.letter ∷ 61 ∷ w.qvalue)) = ap length w.whole in
+    let size : length text ≡ length (w.before ++ 59 ∷ (w.after ++ w.letter ∷ 61 ∷ w.qvalue)) =
+    ap length w.whole in
     let split = length-append w.before (59 ∷ (w.after ++ w.letter ∷ 61 ∷ w.qvalue)) in
     let rest = length-append w.after (w.letter ∷ 61 ∷ w.qvalue) in (
       record {
@@ -221,16 +251,21 @@ part_again text n h w =
 weight_again : (scheme : Scheme) (text : List ℕ) (n : ℕ) → n ≤ 1000 → WeightGrammar scheme text n
     → IsShorter (λ t. WeightGrammar scheme t n) (weight_text n) text
 weight_again Basic text n small w = elim (cases_Bool (n == 1000)) [
-  | inl e ↦ subst (λ (t : List ℕ). IsShorter (λ u. WeightGrammar Basic u n) t text) (sym (weight_full n e)) (inl (refl, is_full n e), omega arith)
+  | inl e ↦
+      subst (λ (t : List ℕ). IsShorter (λ u. WeightGrammar Basic u n) t text)
+      (sym (weight_full n e)) (inl (refl, is_full n e), omega arith)
   | inr e ↦ elim w [
-    | inl none ↦ absurd (let full : n ≡ 1000 = none.1 in let part = is_part n e small in omega arith)
+    | inl none ↦
+        absurd (let full : n ≡ 1000 = none.1 in let part = is_part n e small in omega arith)
     | inr some ↦ (let again = part_again text n (is_part n e small) some in
-        subst (λ (t : List ℕ). IsShorter (λ u. WeightGrammar Basic u n) t text) (sym (weight_part n e)) (inr again.0, again.1))
+        subst (λ (t : List ℕ). IsShorter (λ u. WeightGrammar Basic u n) t text)
+        (sym (weight_part n e)) (inr again.0, again.1))
   ]
 ]
 weight_again Extended text n small w =
     let none : weight_text n ≡ [] = ap weight_text w.1 in
-    subst (λ (t : List ℕ). IsShorter (λ u. WeightGrammar Extended u n) t text) (sym none) ((refl, w.1), omega arith)
+    subst (λ (t : List ℕ). IsShorter (λ u. WeightGrammar Extended u n) t text) (sym none)
+    ((refl, w.1), omega arith)
 
 -- ---- no byte is a comma
 
@@ -257,7 +292,8 @@ plain_fraction n h = elim (cases_Bool (n == 0)) [
   | inl e ↦ subst IsPlain (sym (fraction_none n e)) (All-nil (λ b. (b == 44) ≡ false))
   | inr e ↦ subst IsPlain (sym (fraction_some n e))
       (plain_more 46 ((48 + n / 100) ∷ tens_text (n % 100)) refl
-      (plain_more (48 + n / 100) (tens_text (n % 100)) (plain_digit (n / 100) (omega arith)) (tens_each (λ b. (b == 44) ≡ false) plain_digit (n % 100) (omega arith))))
+      (plain_more (48 + n / 100) (tens_text (n % 100)) (plain_digit (n / 100) (omega arith))
+      (tens_each (λ b. (b == 44) ≡ false) plain_digit (n % 100) (omega arith))))
 ]
 
 plain_weight : (n : ℕ) → n ≤ 1000 → IsPlain (weight_text n)
@@ -288,7 +324,8 @@ element_again : (scheme : Scheme) (piece : List ℕ) (item : Item) → item.weig
 element_again scheme piece item small p =
     let e = p.element_ok in
     let lower_size : length (str_to_ascii_lowercase e.range) ≡ length e.range = simp length-map in
-    let range_ok : IsRange (RangeGrammar scheme) item.range = subst (IsRange (RangeGrammar scheme)) (sym e.range_is) e.range_ok in
+    let range_ok : IsRange (RangeGrammar scheme) item.range =
+    subst (IsRange (RangeGrammar scheme)) (sym e.range_is) e.range_ok in
     let extended = extended_of scheme item.range range_ok in
     let own : str_to_ascii_lowercase item.range ≡ item.range = lower-range item.range extended in
     let weight = weight_again scheme e.weight item.weight small e.weight_ok in
@@ -319,7 +356,10 @@ element_again scheme piece item small p =
         element_ok = element;
       };
       shorter = omega arith;
-      plain = All-append (λ b. (b == 44) ≡ false) item.range (weight_text item.weight) (plain_range item.range (range_bytes item.range extended)) (plain_weight item.weight small);
+      plain =
+          All-append (λ b. (b == 44) ≡ false) item.range (weight_text item.weight)
+          (plain_range item.range (range_bytes item.range extended))
+          (plain_weight item.weight small);
     }
 
 -- ---- a field
@@ -345,19 +385,27 @@ pieces_again : (scheme : Scheme) (pieces : List (List ℕ)) (items : List Item) 
     → ArePieces scheme Refused pieces items → AreAgain scheme pieces items
 pieces_again scheme [] [] small a = record { fits = tt; shorter = omega arith; plain = tt }
 pieces_again scheme [] (i ∷ items) small a = absurd a
-pieces_again scheme (p ∷ pieces) [] small a = record { fits = tt; shorter = omega arith; plain = tt }
+pieces_again scheme (p ∷ pieces) [] small a =
+    record { fits = tt; shorter = omega arith; plain = tt }
 pieces_again scheme (p ∷ pieces) (i ∷ items) small a = elim a [
   | inl x ↦ (let rest = pieces_again scheme pieces (i ∷ items) small x.1 in
       let short = rest.shorter in
       let size = size_cons p pieces in
       record { fits = rest.fits; shorter = omega arith; plain = rest.plain })
-  | inr x ↦ (let rest = pieces_again scheme pieces items (All-tail (λ j. j.weight ≤ 1000) i items small) x.1 in
+  | inr x ↦
+      (let rest =
+      pieces_again scheme pieces items (All-tail (λ j. j.weight ≤ 1000) i items small) x.1 in
       let first = element_again scheme p i (All-head (λ j. j.weight ≤ 1000) i items small) x.0 in
       let short = rest.shorter in
       let shorter = first.shorter in
       let size = size_cons p pieces in
       let own = size_cons (item_text i) (map item_text items) in
-      record { fits = inr (first.fits, rest.fits); shorter = omega arith; plain = (first.plain, rest.plain) })
+      record {
+        fits = inr (first.fits, rest.fits);
+        shorter = omega arith;
+        plain =
+            (first.plain, rest.plain);
+      })
 ]
 
 abbrev behind_commas : List Item → List ℕ
@@ -365,7 +413,8 @@ behind_commas items = flat_map (λ i. (44 ∷ []) ++ item_text i) items
 
 split_again : (text : List ℕ) (items : List Item) → IsPlain text → ArePlain items
     → slice_split (λ b. b == 44) (text ++ behind_commas items) ≡ text ∷ map item_text items
-split_again text [] first rest = ap (slice_split (λ b. b == 44)) (append-nil text) ∙ slice_split_none (λ b. b == 44) text first
+split_again text [] first rest =
+    ap (slice_split (λ b. b == 44)) (append-nil text) ∙ slice_split_none (λ b. b == 44) text first
 split_again text (i ∷ items) first rest =
     slice_split_at (λ b. b == 44) text 44 (item_text i ++ behind_commas items) first refl
     ∙ ap (λ (t : List (List ℕ)). text ∷ t) (split_again (item_text i) items rest.0 rest.1)
@@ -382,15 +431,24 @@ no_pieces = refl
 field_again : (scheme : Scheme) (text : List ℕ) (items : List Item)
     → IsField scheme Refused text items
     → IsField scheme Refused (field_text items) items × (length (field_text items) ≤ length text)
-field_again scheme text [] f = (subst (λ (ps : List (List ℕ)). ArePieces scheme Refused ps []) (sym no_pieces) (refl, tt), omega arith)
+field_again scheme text [] f = (
+  subst (λ (ps : List (List ℕ)). ArePieces scheme Refused ps []) (sym no_pieces) (refl, tt),
+  omega arith,
+)
 field_again scheme text (i ∷ items) f =
-    let again = pieces_again scheme (pieces_by 44 text) (i ∷ items) (small_weights scheme Refused text (i ∷ items) f) f in
+    let again =
+    pieces_again scheme (pieces_by 44 text) (i ∷ items)
+    (small_weights scheme Refused text (i ∷ items) f) f in
     let same = field_pieces i items again.plain in
     let size = size_pieces 44 text in
     let own = size_pieces 44 (field_text (i ∷ items)) in
-    let same_size : sum_by (λ s. length s + 1) (pieces_by 44 (field_text (i ∷ items))) ≡ sum_by (λ s. length s + 1) (map item_text (i ∷ items)) = ap (sum_by (λ s. length s + 1)) same in
-    let short = again.shorter in
-    (subst (λ (ps : List (List ℕ)). ArePieces scheme Refused ps (i ∷ items)) (sym same) again.fits, omega arith)
+    let same_size : sum_by (λ s. length s + 1) (pieces_by 44 (field_text (i ∷ items)))
+    ≡ sum_by (λ s. length s + 1) (map item_text (i ∷ items)) =
+    ap (sum_by (λ s. length s + 1)) same in
+    let short = again.shorter in (
+      subst (λ (ps : List (List ℕ)). ArePieces scheme Refused ps (i ∷ items)) (sym same) again.fits,
+      omega arith,
+    )
 
 -- the field that is written reads as the list, and is no longer than one that does
 pub shortest : (scheme : Scheme) (field : List ℕ) (items : List Item) → Lists scheme field items
@@ -411,12 +469,16 @@ listed_again scheme items listed = (shortest scheme listed.0 items listed.1).0
 -- a field that is refused is of no list
 pub refused_lists_none : (scheme : Scheme) (text : List ℕ) (items : List Item) (fault : NegoFault)
     → (fault ≡ NoMemory → ⊥) → RefusesField scheme Refused text fault → ¬ Lists scheme text items
-refused_lists_none scheme text items FieldTooLong other refuses lists = let few : length text ≤ 65535 = lists.0 in omega (arith, refuses)
-refused_lists_none scheme text items (FieldMalformed offset) other refuses lists = malformed_is_no_field scheme text offset items refuses.1 lists.1
+refused_lists_none scheme text items FieldTooLong other refuses lists =
+    let few : length text ≤ 65535 = lists.0 in omega (arith, refuses)
+refused_lists_none scheme text items (FieldMalformed offset) other refuses lists =
+    malformed_is_no_field scheme text offset items refuses.1 lists.1
 refused_lists_none scheme text items NoMemory other refuses lists = other refl
 
 item_is : (i j : Item) → i.range ≡ j.range → i.weight ≡ j.weight → i ≡ j
-item_is i j r w = ap (λ (x : List ℕ). record { range = x; weight = i.weight }) r ∙ ap (λ (n : ℕ). record { range = j.range; weight = n }) w
+item_is i j r w =
+    ap (λ (x : List ℕ). record { range = x; weight = i.weight }) r
+    ∙ ap (λ (n : ℕ). record { range = j.range; weight = n }) w
 
 same_number : (m n : ℕ) → (m == n) ≡ true → m ≡ n
 same_number m n h = grind (arith, nat_tests)
@@ -424,7 +486,8 @@ same_number m n h = grind (arith, nat_tests)
 item_decides : (i j : Item) → Decides (item_eq i j) (i ≡ j)
 item_decides i j = (
   λ h. (let parts = and_parts (pointwise nat_eq i.range j.range) (nat_eq i.weight j.weight) h in
-      item_is i j ((bytes_decides i.range j.range).0 parts.0) (same_number i.weight j.weight parts.1)),
+      item_is i j ((bytes_decides i.range j.range).0 parts.0)
+      (same_number i.weight j.weight parts.1)),
   λ e. subst (λ (x : Item). item_eq i x ≡ true) e (item_equiv.refl i),
 )
 
@@ -436,5 +499,10 @@ same_items xs ys = pointwise_decides item_decides xs ys
 pub lists_where_same : (scheme : Scheme) (text : List ℕ) (read items : List Item)
     → Lists scheme text read → (same : Bool) → same ≡ pointwise item_eq read items
     → MatchBool same (Lists scheme text items) (¬ Lists scheme text items)
-lists_where_same scheme text read items lists true is = subst (Lists scheme text) ((same_items read items).0 (sym is)) lists
-lists_where_same scheme text read items lists false is = λ other. true≢false (sym ((same_items read items).1 (one_items scheme Refused text read items lists.1 other.1)) ∙ sym is)
+lists_where_same scheme text read items lists true is =
+    subst (Lists scheme text) ((same_items read items).0 (sym is)) lists
+lists_where_same scheme text read items lists false is =
+    λ other.
+    true≢false
+    (sym ((same_items read items).1 (one_items scheme Refused text read items lists.1 other.1))
+    ∙ sym is)

@@ -1,5 +1,7 @@
 -- A script that was written reads as it was.
-use Rattle.std.proofs.Common.{◌≡◌, ◌∙◌, ◌+◌, ◌<◌, ◌^◌, ◌||◌, ◌++◌, ℕ, List, [], ◌∷◌, Bool, true, false, codes, decimal, get_or, inl, inr, length, map, refl, ap, subst, sym, take, arith}
+use Rattle.std.proofs.Common.{◌≡◌, ◌∙◌, ◌+◌, ◌<◌, ◌^◌, ◌||◌, ◌++◌, ℕ, List, [], ◌∷◌, Bool, true}
+use Rattle.std.proofs.Common.{false, codes, decimal, get_or, inl, inr, length, map, refl, ap, subst}
+use Rattle.std.proofs.Common.{sym, take, arith}
 use Rattle.std.specs.Prelude.{All, IsUtf8, Option, Some, is_some, nat_le}
 use Rattle.std.specs.Ordering.{is_eq, match_ordering, nat_cmp}
 use Rattle.std.specs.declared.cmp.Ordering.{Ordering}
@@ -43,30 +45,42 @@ use Rattle.script_docs.proofs.StepsWrittenLemmas.{writable_of}
 
 -- ---- the draft
 
-adds_row : (a b : Written) (sites : ℕ) (rows : List Data) (d : Data) → HoldsSteps a sites rows → Adds a b (value_tokens d) → HoldsSteps b sites (rows ++ d ∷ [])
+adds_row : (a b : Written) (sites : ℕ) (rows : List Data) (d : Data) → HoldsSteps a sites rows
+    → Adds a b (value_tokens d) → HoldsSteps b sites (rows ++ d ∷ [])
 adds_row a b sites rows d holds adds = (
   adds.0 ∙ holds.0,
   adds.1 ∙ (ap (λ t. t ++ value_tokens d) holds.1
-      ∙ ap (λ t. begin_object ∷ key (codes "kind") ∷ string (codes "script") ∷ key (codes "sites") ∷ number (decimal sites) ∷ key (codes "steps") ∷ begin_array ∷ t) (sym (row_tokens-push rows d))),
+      ∙ ap (λ t. begin_object ∷ key (codes "kind") ∷ string (codes "script") ∷ key (codes "sites")
+      ∷ number (decimal sites) ∷ key (codes "steps") ∷ begin_array ∷ t)
+      (sym (row_tokens-push rows d))),
 )
 
 -- a row more
-pub row_more : (a b : Written) (sites : ℕ) (steps : List Step) (k : ℕ) (step : Step) → k < length steps → step ≡ get_or steps k step → HasRows a sites (take k steps) → WritesStep step a b → HasRows b sites (take (k + 1) steps)
+pub row_more : (a b : Written) (sites : ℕ) (steps : List Step) (k : ℕ) (step : Step)
+    → k < length steps → step ≡ get_or steps k step → HasRows a sites (take k steps)
+    → WritesStep step a b → HasRows b sites (take (k + 1) steps)
 row_more a b sites steps k step within is held wrote =
-    let taken : take (k + 1) steps ≡ take k steps ++ step ∷ [] = take_more steps k step within ∙ ap (λ (s : Step). take k steps ++ s ∷ []) (sym is) in (
+    let taken : take (k + 1) steps ≡ take k steps ++ step ∷ [] =
+    take_more steps k step within ∙ ap (λ (s : Step). take k steps ++ s ∷ []) (sym is) in (
       held.0 ++ wrote.0 ∷ [],
-      subst (AreRowsOf (held.0 ++ wrote.0 ∷ [])) (sym taken) (rows_push held.0 (take k steps) wrote.0 step held.1 wrote.1),
-      subst (HoldsSteps b sites) (sym (map-append step_value held.0 (wrote.0 ∷ []))) (adds_row a b sites (map step_value held.0) (step_value wrote.0) held.2 wrote.2),
+      subst (AreRowsOf (held.0 ++ wrote.0 ∷ [])) (sym taken)
+          (rows_push held.0 (take k steps) wrote.0 step held.1 wrote.1),
+      subst (HoldsSteps b sites) (sym (map-append step_value held.0 (wrote.0 ∷ [])))
+          (adds_row a b sites (map step_value held.0) (step_value wrote.0) held.2 wrote.2),
     )
 
-all_writable : (texts : List StepText) (steps : List Step) → AreRowsOf texts steps → All IsWritable steps
+all_writable : (texts : List StepText) (steps : List Step) → AreRowsOf texts steps
+    → All IsWritable steps
 all_writable [] [] rows = All-nil IsWritable
 all_writable [] (s ∷ ss) rows = absurd rows
 all_writable (t ∷ ts) [] rows = absurd rows
-all_writable (t ∷ ts) (s ∷ ss) rows = All-cons IsWritable s ss (writable_of t s rows.0) (all_writable ts ss rows.1)
+all_writable (t ∷ ts) (s ∷ ss) rows =
+    All-cons IsWritable s ss (writable_of t s rows.0) (all_writable ts ss rows.1)
 
 -- the step after these rows is the first that is not writable
-first_unwritable : (a : Written) (sites : ℕ) (steps : List Step) (k : ℕ) (step : Step) → k < length steps → step ≡ get_or steps k step → HasRows a sites (take k steps) → ¬ IsWritable step → IsFirstUnwritable steps k
+first_unwritable : (a : Written) (sites : ℕ) (steps : List Step) (k : ℕ) (step : Step)
+    → k < length steps → step ≡ get_or steps k step → HasRows a sites (take k steps)
+    → ¬ IsWritable step → IsFirstUnwritable steps k
 first_unwritable a sites steps k step within is held refused = record {
   step = step;
   there = slice_get-get_or steps k step within ∙ ap Some (sym is);
@@ -75,7 +89,9 @@ first_unwritable a sites steps k step within is held refused = record {
 }
 
 -- why its row is not written is why the script is not
-pub writing_refused : (a : Written) (sites : ℕ) (steps : List Step) (k : ℕ) (step : Step) (cause : DocCause) → k < length steps → step ≡ get_or steps k step → HasRows a sites (take k steps) → RefusesStep k step cause → RefusesWriting steps cause
+pub writing_refused : (a : Written) (sites : ℕ) (steps : List Step) (k : ℕ) (step : Step)
+    (cause : DocCause) → k < length steps → step ≡ get_or steps k step
+    → HasRows a sites (take k steps) → RefusesStep k step cause → RefusesWriting steps cause
 writing_refused a sites steps k step cause within is held refused = elim refused [
   | inl none ↦ inl none
   | inr x ↦ inr (k, first_unwritable a sites steps k step within is held x.0, x.1)
@@ -83,25 +99,33 @@ writing_refused a sites steps k step cause within is held refused = elim refused
 
 -- Closing a draft of a script's steps gives the text of the script.
 pub script_closed : (draft : Written) (sites : ℕ) (rows : List Data) → HoldsSteps draft sites rows
-    → draft.before ++ (print (draft.tokens ++ end_array ∷ version_tokens) ++ 10 ∷ []) ≡ text (script_value sites rows)
+    → draft.before ++ (print (draft.tokens ++ end_array ∷ version_tokens) ++ 10 ∷ [])
+    ≡ text (script_value sites rows)
 script_closed draft sites rows holds =
     ap (λ b. b ++ (print (draft.tokens ++ end_array ∷ version_tokens) ++ 10 ∷ [])) holds.0
     ∙ printed (draft.tokens ++ end_array ∷ version_tokens) (script_value sites rows)
     (ap (λ t. t ++ end_array ∷ version_tokens) holds.1
-    ∙ ap (λ t. begin_object ∷ key (codes "kind") ∷ string (codes "script") ∷ key (codes "sites") ∷ number (decimal sites) ∷ key (codes "steps") ∷ begin_array ∷ t)
+    ∙ ap (λ t. begin_object ∷ key (codes "kind") ∷ string (codes "script") ∷ key (codes "sites")
+    ∷ number (decimal sites) ∷ key (codes "steps") ∷ begin_array ∷ t)
     (sym (rows_member rows version_tokens)))
 
 -- ---- members by their names
 
-by_order : (r : Ordering) (x : Option Data) (d : Data) → is_some (match_ordering r x (Some d) x) ≡ (is_eq r || is_some x)
+by_order : (r : Ordering) (x : Option Data) (d : Data)
+    → is_some (match_ordering r x (Some d) x) ≡ (is_eq r || is_some x)
 by_order Less x d = refl
 by_order Equal x d = refl
 by_order Greater x d = refl
 
-some_member : (name k : List ℕ) (d : Data) (ms : Members) → is_some (get_member name (member k d ms)) ≡ (bytes_eq name k || is_some (get_member name ms))
-some_member name k d ms = by_order (slice_cmp nat_cmp name k) (get_member name ms) d ∙ ap (λ b. b || is_some (get_member name ms)) (is_eq-slice_cmp name k)
+some_member : (name k : List ℕ) (d : Data) (ms : Members)
+    → is_some (get_member name (member k d ms)) ≡ (bytes_eq name k || is_some (get_member name ms))
+some_member name k d ms =
+    by_order (slice_cmp nat_cmp name k) (get_member name ms) d
+    ∙ ap (λ b. b || is_some (get_member name ms)) (is_eq-slice_cmp name k)
 
-in_turn : (kind own rows version : Bool) → (kind || (own || (rows || (version || false)))) ≡ (kind || (version || (own || (rows || false))))
+in_turn : (kind own rows version : Bool)
+    → (kind || (own || (rows || (version || false))))
+    ≡ (kind || (version || (own || (rows || false))))
 in_turn true own rows version = refl
 in_turn false true rows true = refl
 in_turn false true rows false = refl
@@ -112,35 +136,62 @@ in_turn false false false false = refl
 
 script_names : (sites : ℕ) (rows : List Data) → HasJust (names_of Script) (script_value sites rows)
 script_names sites rows q =
-    rw (some_member q (codes "kind"), some_member q (codes "sites"), some_member q (codes "steps"), some_member q (codes "version"))
-    (in_turn (bytes_eq q (codes "kind")) (bytes_eq q (codes "sites")) (bytes_eq q (codes "steps")) (bytes_eq q (codes "version")))
+    rw (
+      some_member q (codes "kind"),
+      some_member q (codes "sites"),
+      some_member q (codes "steps"),
+      some_member q (codes "version"),
+    )
+    (in_turn (bytes_eq q (codes "kind")) (bytes_eq q (codes "sites")) (bytes_eq q (codes "steps"))
+    (bytes_eq q (codes "version")))
 
 -- ---- the document
 
 few : (sites : ℕ) → IsSiteCount sites → sites < 2 ^ 64
-few sites h = let most : nat_le sites 1024 ≡ true = (and_parts (nat_le 1 sites) (nat_le sites 1024) h).1 in grind (arith, nat_tests)
+few sites h = let most : nat_le sites 1024 ≡ true =
+    (and_parts (nat_le 1 sites) (nat_le sites 1024) h).1 in grind (arith, nat_tests)
 
 two : 2 < 2 ^ 64
 two = omega arith
 
 abbrev rest_checks : Data → List Check
-rest_checks d = sites_check (subject_data Script d) ∷ rows_checks (step_checks (version_of d)) [] (rows_in Script d)
+rest_checks d =
+    sites_check (subject_data Script d)
+    ∷ rows_checks (step_checks (version_of d)) [] (rows_in Script d)
 
 -- The text that is written for a script reads as that script.
-pub script_again : (script : ScriptState) (texts : List StepText) → IsSiteCount script.sites → AreRowsOf texts script.steps → IsUtf8 (text (script_value script.sites (map step_value texts)))
+pub script_again : (script : ScriptState) (texts : List StepText) → IsSiteCount script.sites
+    → AreRowsOf texts script.steps
+    → IsUtf8 (text (script_value script.sites (map step_value texts)))
     → ReadsAsScript (text (script_value script.sites (map step_value texts))) script
 script_again script texts count held utf8 =
     let d = script_value script.sites (map step_value texts) in
     let rows = rows_sound texts script.steps held in
     let small = few script.sites count in
-    let head : AllPass (header_checks Script d) = ((refl, refl), (inr refl, ((script_names script.sites (map step_value texts), refl), tt))) in
-    let rest : AllPass (rest_checks d) = (rw count refl, rw (list_of-items_of (map step_value texts)) (steps_pass [] texts script.steps held)) in (
+    let head : AllPass (header_checks Script d) =
+    ((refl, refl), (inr refl, ((script_names script.sites (map step_value texts), refl), tt)))
+    in
+    let rest : AllPass (rest_checks d) = (
+      rw count refl,
+      rw (list_of-items_of (map step_value texts))
+          (steps_pass [] texts script.steps held),
+    ) in (
       d,
       (
         utf8,
-        read-text d (tt, (IsNumber-decimal script.sites small, (rows.numbers, (IsNumber-decimal 2 two, tt)))) (omega (arith, rows.shallow))
+        read-text d (
+          tt,
+          (
+            IsNumber-decimal script.sites small,
+            (rows.numbers, (IsNumber-decimal 2 two, tt)),
+          ),
+        ) (omega (arith, rows.shallow))
             (rw (number_of-decimal script.sites small, rows.back, number_of-decimal 2 two) refl),
       ),
       AllPass-both (header_checks Script d) (rest_checks d) head rest,
-      record { sites = rw count refl; steps = rw (list_of-items_of (map step_value texts)) (steps_again texts script.steps held) },
+      record {
+        sites = rw count refl;
+        steps =
+            rw (list_of-items_of (map step_value texts)) (steps_again texts script.steps held);
+      },
     )

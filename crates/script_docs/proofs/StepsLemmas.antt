@@ -9,12 +9,16 @@ use Rattle.script_docs.specs.StepFields.{AreSteps, IsStep, step_checks, step_fie
 use Rattle.script_docs.specs.Steps.{StepText, step_in}
 
 -- Rows of steps and one more row of a step are the rows of all of them in order.
-pub AreSteps-push : (version : Version) (ds : List Data) (d : Data) (steps : List Step) (step : Step) → AreSteps version ds steps → IsStep version d step → AreSteps version (ds ++ d ∷ []) (steps ++ step ∷ [])
+pub AreSteps-push : (version : Version) (ds : List Data) (d : Data) (steps : List Step)
+    (step : Step) → AreSteps version ds steps → IsStep version d step
+    → AreSteps version (ds ++ d ∷ []) (steps ++ step ∷ [])
 AreSteps-push version [] d [] step so_far last = (last, tt)
 AreSteps-push version [] d (s ∷ ss) step so_far last = absurd so_far
 AreSteps-push version (e ∷ ds) d [] step so_far last = absurd so_far
-AreSteps-push version (e ∷ ds) d (s ∷ ss) step so_far last = (so_far.0, AreSteps-push version ds d ss step so_far.1 last)
+AreSteps-push version (e ∷ ds) d (s ∷ ss) step so_far last =
+    (so_far.0, AreSteps-push version ds d ss step so_far.1 last)
 
 module _ (version : Version) (before : List Data) (d : Data) where
-  pub step_passes : (text : StepText) → Some text ≡ step_in version d → AllPass (step_fields (length before) text) → AllPass (step_checks version before d)
+  pub step_passes : (text : StepText) → Some text ≡ step_in version d
+      → AllPass (step_fields (length before) text) → AllPass (step_checks version before d)
   step_passes text is pass = rw (← is) (refl, pass)

@@ -77,7 +77,9 @@ one_more d ds most p q = record {
 
 texts_sound : (texts : List (List ℕ)) → AreSound (items_of (map string texts)) 0
 texts_sound [] = record { numbers = tt; shallow = omega arith; back = refl }
-texts_sound (t ∷ ts) = one_more (string t) (items_of (map string ts)) 0 (record { numbers = tt; shallow = omega arith; back = refl }) (texts_sound ts)
+texts_sound (t ∷ ts) =
+    one_more (string t) (items_of (map string ts)) 0
+    (record { numbers = tt; shallow = omega arith; back = refl }) (texts_sound ts)
 
 label_sound : (label : Option (List (List ℕ))) → IsSound (label_value label) 1
 label_sound None = record { numbers = tt; shallow = omega arith; back = refl }
@@ -93,42 +95,101 @@ cell_sound : (row : Row) (label : Option (List (List ℕ))) → row.time < 2 ^ 6
 cell_sound row texts late few =
     let label = label_sound texts in
     record {
-      numbers = (tt, (tt, (IsNumber-decimal row.time late, (tt, (IsNumber-decimal row.count (wide row.count few), (label.numbers, tt))))));
+      numbers = (
+        tt,
+        (
+          tt,
+          (
+            IsNumber-decimal row.time late,
+            (tt, (IsNumber-decimal row.count (wide row.count few), (label.numbers, tt))),
+          ),
+        ),
+      );
       shallow = omega (arith, label.shallow);
-      back = rw (number_of-decimal row.time late, number_of-decimal row.count (wide row.count few), label.back) refl;
+      back =
+          rw (
+            number_of-decimal row.time late,
+            number_of-decimal row.count (wide row.count few),
+            label.back,
+          ) refl;
     }
 
 row_sound : (text : StepText) → HasRoom text → IsSound (step_value text) 3
 row_sound (edit_step site row) h =
     let cell = cell_sound row.0 row.1 h.1 h.2 in
     let n = wide site h.0 in
-    record { numbers = (tt, (IsNumber-decimal site n, (cell.numbers, tt))); shallow = omega (arith, cell.shallow); back = rw (number_of-decimal site n, cell.back) refl }
+    record {
+      numbers = (tt, (IsNumber-decimal site n, (cell.numbers, tt)));
+      shallow =
+          omega (arith, cell.shallow);
+      back = rw (number_of-decimal site n, cell.back) refl;
+    }
 row_sound (merge_step into source) h =
     let m = wide into h.0 in
     let n = wide source h.1 in
-    record { numbers = (tt, (IsNumber-decimal into m, (IsNumber-decimal source n, tt))); shallow = omega arith; back = rw (number_of-decimal into m, number_of-decimal source n) refl }
+    record {
+      numbers = (tt, (IsNumber-decimal into m, (IsNumber-decimal source n, tt)));
+      shallow =
+          omega arith;
+      back = rw (number_of-decimal into m, number_of-decimal source n) refl;
+    }
 row_sound (filter_step site id scheme field) h =
     let n = wide site h in
-    record { numbers = (tt, (IsNumber-decimal site n, (tt, (tt, (tt, tt))))); shallow = omega arith; back = rw (number_of-decimal site n) refl }
+    record {
+      numbers = (tt, (IsNumber-decimal site n, (tt, (tt, (tt, tt)))));
+      shallow =
+          omega arith;
+      back = rw (number_of-decimal site n) refl;
+    }
 row_sound (lookup_step site id field None) h =
     let n = wide site h in
-    record { numbers = (tt, (IsNumber-decimal site n, (tt, (tt, (tt, tt))))); shallow = omega arith; back = rw (number_of-decimal site n) refl }
+    record {
+      numbers = (tt, (IsNumber-decimal site n, (tt, (tt, (tt, tt)))));
+      shallow =
+          omega arith;
+      back = rw (number_of-decimal site n) refl;
+    }
 row_sound (lookup_step site id field (Some default)) h =
     let n = wide site h in
-    record { numbers = (tt, (IsNumber-decimal site n, (tt, (tt, (tt, tt))))); shallow = omega arith; back = rw (number_of-decimal site n) refl }
+    record {
+      numbers = (tt, (IsNumber-decimal site n, (tt, (tt, (tt, tt)))));
+      shallow =
+          omega arith;
+      back = rw (number_of-decimal site n) refl;
+    }
 row_sound (cells_step site) h =
     let n = wide site h in
-    record { numbers = (tt, (IsNumber-decimal site n, tt)); shallow = omega arith; back = rw (number_of-decimal site n) refl }
+    record {
+      numbers = (tt, (IsNumber-decimal site n, tt));
+      shallow = omega arith;
+      back =
+          rw (number_of-decimal site n) refl;
+    }
 row_sound (tell_step site) h =
     let n = wide site h in
-    record { numbers = (tt, (IsNumber-decimal site n, tt)); shallow = omega arith; back = rw (number_of-decimal site n) refl }
+    record {
+      numbers = (tt, (IsNumber-decimal site n, tt));
+      shallow = omega arith;
+      back =
+          rw (number_of-decimal site n) refl;
+    }
 row_sound (post_step site told) h =
     let m = wide site h.0 in
     let n = wide told h.1 in
-    record { numbers = (tt, (IsNumber-decimal site m, (IsNumber-decimal told n, tt))); shallow = omega arith; back = rw (number_of-decimal site m, number_of-decimal told n) refl }
+    record {
+      numbers = (tt, (IsNumber-decimal site m, (IsNumber-decimal told n, tt)));
+      shallow =
+          omega arith;
+      back = rw (number_of-decimal site m, number_of-decimal told n) refl;
+    }
 row_sound (deliver_step post) h =
     let n = wide post h in
-    record { numbers = (tt, (IsNumber-decimal post n, tt)); shallow = omega arith; back = rw (number_of-decimal post n) refl }
+    record {
+      numbers = (tt, (IsNumber-decimal post n, tt));
+      shallow = omega arith;
+      back =
+          rw (number_of-decimal post n) refl;
+    }
 
 -- ---- rows of steps
 
@@ -138,7 +199,9 @@ pub rows_sound : (texts : List StepText) (steps : List Step) → AreRowsOf texts
 rows_sound [] [] rows = record { numbers = tt; shallow = omega arith; back = refl }
 rows_sound [] (s ∷ ss) rows = absurd rows
 rows_sound (t ∷ ts) [] rows = absurd rows
-rows_sound (t ∷ ts) (s ∷ ss) rows = one_more (step_value t) (items_of (map step_value ts)) 3 (row_sound t rows.0.room) (rows_sound ts ss rows.1)
+rows_sound (t ∷ ts) (s ∷ ss) rows =
+    one_more (step_value t) (items_of (map step_value ts)) 3 (row_sound t rows.0.room)
+    (rows_sound ts ss rows.1)
 
 -- The rows that are written for steps are read as these steps.
 pub steps_again : (texts : List StepText) (steps : List Step) → AreRowsOf texts steps
@@ -146,7 +209,8 @@ pub steps_again : (texts : List StepText) (steps : List Step) → AreRowsOf text
 steps_again [] [] rows = tt
 steps_again [] (s ∷ ss) rows = absurd rows
 steps_again (t ∷ ts) [] rows = absurd rows
-steps_again (t ∷ ts) (s ∷ ss) rows = ((t, row_again t rows.0.room, rows.0.makes), steps_again ts ss rows.1)
+steps_again (t ∷ ts) (s ∷ ss) rows =
+    ((t, row_again t rows.0.room, rows.0.makes), steps_again ts ss rows.1)
 
 -- The rows that are written for steps pass all checks, whatever rows come before them.
 pub steps_pass : (done : List Data) (texts : List StepText) (steps : List Step)
@@ -173,7 +237,9 @@ pub rows_written : (texts : List StepText) (steps : List Step) → AreRowsOf tex
 rows_written [] [] rows = refl
 rows_written [] (s ∷ ss) rows = absurd rows
 rows_written (t ∷ ts) [] rows = absurd rows
-rows_written (t ∷ ts) (s ∷ ss) rows = ap₂ (λ (d : Data) (ds : List Data). d ∷ ds) (ap step_value rows.0.written) (rows_written ts ss rows.1)
+rows_written (t ∷ ts) (s ∷ ss) rows =
+    ap₂ (λ (d : Data) (ds : List Data). d ∷ ds) (ap step_value rows.0.written)
+    (rows_written ts ss rows.1)
 
 -- ---- the row of a step
 
@@ -181,8 +247,10 @@ rows_written (t ∷ ts) (s ∷ ss) rows = ap₂ (λ (d : Data) (ds : List Data).
 pub writable_of : (text : StepText) (step : Step) → IsRowOf text step → IsWritable step
 writable_of (edit_step site row) step r = subst IsWritable (sym r.makes) r.room.0
 writable_of (merge_step into source) step r = subst IsWritable (sym r.makes) r.room
-writable_of (filter_step site id scheme field) step r = subst IsWritable (sym r.makes.2) (r.room, (field, r.makes.1))
-writable_of (lookup_step site id field default) step r = subst IsWritable (sym r.makes.2) (r.room, (field, r.makes.1))
+writable_of (filter_step site id scheme field) step r =
+    subst IsWritable (sym r.makes.2) (r.room, (field, r.makes.1))
+writable_of (lookup_step site id field default) step r =
+    subst IsWritable (sym r.makes.2) (r.room, (field, r.makes.1))
 writable_of (cells_step site) step r = subst IsWritable (sym r.makes) r.room
 writable_of (tell_step site) step r = subst IsWritable (sym r.makes) r.room
 writable_of (post_step site told) step r = subst IsWritable (sym r.makes) r.room
@@ -193,7 +261,8 @@ pub edit_row_of : (site : ℕ) (e : Entry) → FitsMember site → IsKeptCell e
     → IsRowOf (edit_step site (row_of e, e.1.label)) (Edit site e)
 edit_row_of site e h kept = record {
   room = (h, kept.0.time, kept.0.count);
-  fields = λ k. (kept.0.id, ((e.0.1, spells-IsLang e.0.1 kept.0.lang), (kept.0.site, (kept.1, tt))));
+  fields =
+      λ k. (kept.0.id, ((e.0.1, spells-IsLang e.0.1 kept.0.lang), (kept.0.site, (kept.1, tt))));
   makes = rw (lower-IsLang e.0.1 kept.0.lang) refl;
   written = refl;
 }
@@ -220,7 +289,8 @@ lower_default None is = refl
 lower_default (Some lang) is = ap Some (lower-IsLang lang is)
 
 -- What is written for a lookup with a valid id, list and default is a row of that step.
-pub lookup_row_of : (site : ℕ) (id : List ℕ) (items : List Item) (default : Option (List ℕ)) (field : List ℕ)
+pub lookup_row_of : (site : ℕ) (id : List ℕ) (items : List Item) (default : Option (List ℕ))
+    (field : List ℕ)
     → FitsMember site → IsMessageId id → field ≡ field_text items → Lists Basic field items
     → IsDefault default
     → IsRowOf (lookup_step site id field default) (AskLookup site id items default)

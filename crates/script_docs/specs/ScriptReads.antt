@@ -1,5 +1,6 @@
 -- Documents of scripts: their tests in order, and what they read as. Own rule.
-use Rattle.std.specs.Prelude.{◌≡◌, ℕ, List, [], ◌∷◌, ◌++◌, true, Option, None, Some, is_some, if◌then◌else◌, option_and_then}
+use Rattle.std.specs.Prelude.{◌≡◌, ℕ, List, [], ◌∷◌, ◌++◌, true, Option, None, Some, is_some}
+use Rattle.std.specs.Prelude.{if◌then◌else◌, option_and_then}
 use Rattle.serde_json.specs.Data.{Data}
 use Rattle.json_docs.specs.Checks.{Check, IsRefusal, check, rows_checks}
 use Rattle.json_docs.specs.Parts.{u64_in}
@@ -24,7 +25,10 @@ abbrev pub sites_check : Data → Check
 sites_check subject = check (is_some (sites_in subject) ≡ true) (Shape spot.Document)
 
 abbrev pub script_checks : Data → List Check
-script_checks d = header_checks Script d ++ (sites_check (subject_data Script d) ∷ rows_checks (step_checks (version_of d)) [] (rows_in Script d))
+script_checks d =
+    header_checks Script d
+    ++ (sites_check (subject_data Script d)
+    ∷ rows_checks (step_checks (version_of d)) [] (rows_in Script d))
 
 -- the document has these sites and steps
 pub record IsScriptDocument (d : Data) (script : ScriptState) : Type 0 where

@@ -30,7 +30,9 @@ pub record IsFirstUnwritable (steps : List Step) (place : ℕ) : Type 0 where
 -- why a script of these steps has no document: memory ran out, or its first step that none can
 -- have, whose row is meant
 abbrev pub RefusesWriting : List Step → DocCause → Type 0
-RefusesWriting steps = OrMemory NoMemory (λ cause. (place : ℕ) × IsFirstUnwritable steps place × (cause ≡ Shape (spot.Row place)))
+RefusesWriting steps =
+    OrMemory NoMemory
+    (λ cause. (place : ℕ) × IsFirstUnwritable steps place × (cause ≡ Shape (spot.Row place)))
 
 -- a refusal that means no input document
 abbrev pub IsOfNone : (DocCause → Type 0) → DocFault → Type 0
@@ -48,13 +50,16 @@ script_value sites rows = object
 
 -- the text of a script: a row for each step in order; and it reads as the script
 abbrev pub IsScriptText : ScriptState → List ℕ → Type 0
-IsScriptText script doc = (doc ≡ text (script_value script.sites (map step_row script.steps))) × ReadsAsScript doc script
+IsScriptText script doc =
+    (doc ≡ text (script_value script.sites (map step_row script.steps))) × ReadsAsScript doc script
 
 -- a script's draft with this number of sites: it is open after these rows
 abbrev pub HoldsSteps : Written → ℕ → List Data → Type 0
 HoldsSteps draft sites rows =
     (draft.before ≡ [])
-    × (draft.tokens ≡ begin_object ∷ key (codes "kind") ∷ string_token (codes "script") ∷ key (codes "sites") ∷ number_token (decimal sites) ∷ key (codes "steps") ∷ begin_array ∷ row_tokens rows)
+    × (draft.tokens
+    ≡ begin_object ∷ key (codes "kind") ∷ string_token (codes "script") ∷ key (codes "sites")
+    ∷ number_token (decimal sites) ∷ key (codes "steps") ∷ begin_array ∷ row_tokens rows)
 
 -- each text is that of the step at its place
 abbrev pub AreRowsOf : List StepText → List Step → Type 0
@@ -65,4 +70,5 @@ AreRowsOf (text ∷ texts) (step ∷ steps) = IsRowOf text step × AreRowsOf tex
 
 -- a script's draft has a row for each of these steps
 abbrev pub HasRows : Written → ℕ → List Step → Type 0
-HasRows draft sites steps = (texts : List StepText) × AreRowsOf texts steps × HoldsSteps draft sites (map step_value texts)
+HasRows draft sites steps =
+    (texts : List StepText) × AreRowsOf texts steps × HoldsSteps draft sites (map step_value texts)

@@ -1,5 +1,6 @@
 -- The tests of a step, in their order, and the step that its fields make. Own rule.
-use Rattle.std.specs.Prelude.{◌≡◌, ◌≢◌, ◌≤◌, ℕ, true, List, [], ◌∷◌, length, Option, None, Some, is_some, option_map}
+use Rattle.std.specs.Prelude.{◌≡◌, ◌≢◌, ◌≤◌, ℕ, true, List, [], ◌∷◌, length, Option, None, Some}
+use Rattle.std.specs.Prelude.{is_some, option_map}
 use Rattle.std.specs.Str.{str_to_ascii_lowercase}
 use Rattle.nego_core.specs.Field.{IsField, RefusesField}
 use Rattle.nego_core.specs.Item.{Item}
@@ -9,7 +10,8 @@ use Rattle.nego_core.specs.declared.field.Malformed.TheVariants.{Refused}
 use Rattle.nego_core.specs.declared.scheme.Scheme.{Scheme}
 use Rattle.nego_core.specs.declared.scheme.Scheme.TheVariants.{Basic}
 use Rattle.cata_core.specs.declared.step.Step.{Step}
-use Rattle.cata_core.specs.declared.step.Step.TheVariants.{Edit, Merge, AskFilter, AskLookup, AskCells, Tell, Post, Deliver}
+use Rattle.cata_core.specs.declared.step.Step.TheVariants.{Edit, Merge, AskFilter, AskLookup}
+use Rattle.cata_core.specs.declared.step.Step.TheVariants.{AskCells, Tell, Post, Deliver}
 use Rattle.serde_json.specs.Data.{Data}
 use Rattle.json_docs.specs.Checks.{Check, check}
 use Rattle.json_docs.specs.declared.fault.DocCause.{DocCause}
@@ -29,10 +31,17 @@ Lists scheme text items = (length text ≤ 65535) × IsField scheme Refused text
 
 -- e says why the text in row k is no priority list
 abbrev pub IsListRefusal : ℕ → Scheme → List ℕ → DocCause → Type 0
-IsListRefusal k scheme text e = (fault : NegoFault) × (fault ≢ nego.NoMemory) × RefusesField scheme Refused text fault × (e ≡ Field k (Priorities fault))
+IsListRefusal k scheme text e =
+    (fault : NegoFault) × (fault ≢ nego.NoMemory) × RefusesField scheme Refused text fault
+    × (e ≡ Field k (Priorities fault))
 
 abbrev pub list_check : ℕ → Scheme → List ℕ → Check
-list_check k scheme text = record { passes = (items : List Item) × Lists scheme text items; refuses = IsListRefusal k scheme text }
+list_check k scheme text =
+    record {
+      passes = (items : List Item) × Lists scheme text items;
+      refuses =
+          IsListRefusal k scheme text;
+    }
 
 -- ---- the tests of a step
 
@@ -46,7 +55,8 @@ abbrev pub step_fields : ℕ → StepText → List Check
 step_fields k (edit_step site row) = cell_fields k row.0 row.1
 step_fields k (merge_step into source) = []
 step_fields k (filter_step site id scheme field) = id_check k id ∷ list_check k scheme field ∷ []
-step_fields k (lookup_step site id field default) = id_check k id ∷ list_check k Basic field ∷ default_checks k default
+step_fields k (lookup_step site id field default) =
+    id_check k id ∷ list_check k Basic field ∷ default_checks k default
 step_fields k (cells_step site) = []
 step_fields k (tell_step site) = []
 step_fields k (post_step site told) = []
@@ -58,7 +68,9 @@ shaped_fields k (Some text) = step_fields k text
 
 -- a row of a script after these rows
 abbrev pub step_checks : Version → List Data → Data → List Check
-step_checks version before d = check (is_some (step_in version d) ≡ true) (Shape (spot.Row (length before))) ∷ shaped_fields (length before) (step_in version d)
+step_checks version before d =
+    check (is_some (step_in version d) ≡ true) (Shape (spot.Row (length before)))
+    ∷ shaped_fields (length before) (step_in version d)
 
 -- ---- the step that is made
 
@@ -66,8 +78,11 @@ step_checks version before d = check (is_some (step_in version d) ≡ true) (Sha
 abbrev pub Makes : StepText → Step → Type 0
 Makes (edit_step site row) step = step ≡ Edit site (entry_of row.0 row.1)
 Makes (merge_step into source) step = step ≡ Merge into source
-Makes (filter_step site id scheme field) step = (items : List Item) × Lists scheme field items × (step ≡ AskFilter site id scheme items)
-Makes (lookup_step site id field default) step = (items : List Item) × Lists Basic field items × (step ≡ AskLookup site id items (option_map str_to_ascii_lowercase default))
+Makes (filter_step site id scheme field) step =
+    (items : List Item) × Lists scheme field items × (step ≡ AskFilter site id scheme items)
+Makes (lookup_step site id field default) step =
+    (items : List Item) × Lists Basic field items
+    × (step ≡ AskLookup site id items (option_map str_to_ascii_lowercase default))
 Makes (cells_step site) step = step ≡ AskCells site
 Makes (tell_step site) step = step ≡ Tell site
 Makes (post_step site told) step = step ≡ Post site told

@@ -1,5 +1,6 @@
 -- The steps of a script as JSON data, in both versions. Own rule.
-use Rattle.std.specs.Prelude.{ℕ, List, [], ◌∷◌, codes, Option, None, Some, if◌then◌else◌, option_map, option_and_then}
+use Rattle.std.specs.Prelude.{ℕ, List, [], ◌∷◌, codes, Option, None, Some, if◌then◌else◌}
+use Rattle.std.specs.Prelude.{option_map, option_and_then}
 use Rattle.std.specs.Str.{bytes_eq}
 use Rattle.nego_core.specs.declared.scheme.Scheme.{Scheme}
 use Rattle.nego_core.specs.declared.scheme.Scheme.TheVariants.{Basic, Extended}
@@ -58,20 +59,26 @@ default_in (object ms) = None
 
 -- `site,CELL`
 abbrev pub edit_of : Version → List Data → Option StepText
-edit_of version (s ∷ c ∷ []) = option_and_then (λ site. option_map (λ cell. edit_step site cell) (cell_in version c)) (u32_in s)
+edit_of version (s ∷ c ∷ []) =
+    option_and_then (λ site. option_map (λ cell. edit_step site cell) (cell_in version c))
+    (u32_in s)
 edit_of version _ = None
 
 -- `site,id,scheme,field`
 abbrev pub filter_of : List Data → Option StepText
 filter_of (s ∷ i ∷ c ∷ f ∷ []) =
-    option_and_then (λ site. option_and_then (λ id. option_and_then (λ scheme. option_map (λ field. filter_step site id scheme field)
+    option_and_then
+    (λ site. option_and_then
+    (λ id. option_and_then (λ scheme. option_map (λ field. filter_step site id scheme field)
     (as_str f)) (scheme_in c)) (as_str i)) (u32_in s)
 filter_of _ = None
 
 -- `site,id,field,default`
 abbrev pub lookup_of : List Data → Option StepText
 lookup_of (s ∷ i ∷ f ∷ l ∷ []) =
-    option_and_then (λ site. option_and_then (λ id. option_and_then (λ field. option_map (λ default. lookup_step site id field default)
+    option_and_then
+    (λ site. option_and_then
+    (λ id. option_and_then (λ field. option_map (λ default. lookup_step site id field default)
     (default_in l)) (as_str f)) (as_str i)) (u32_in s)
 lookup_of _ = None
 
@@ -97,7 +104,9 @@ step_after version Deliver ds = one_of deliver_step ds
 
 abbrev pub step_of : Version → List Data → Option StepText
 step_of version [] = None
-step_of version (d ∷ ds) = option_and_then (λ text. option_and_then (λ word. step_after version word ds) (word_of text)) (as_str d)
+step_of version (d ∷ ds) =
+    option_and_then (λ text. option_and_then (λ word. step_after version word ds) (word_of text))
+    (as_str d)
 
 -- a row of a script
 abbrev pub step_in : Version → Data → Option StepText

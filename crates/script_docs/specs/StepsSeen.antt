@@ -11,7 +11,8 @@ abbrev pub text_of : StepRow → StepText
 text_of (Edit site cell) = edit_step site (cell_of cell)
 text_of (Merge into source) = merge_step into source
 text_of (Filter site id scheme field) = filter_step site id.now scheme field.now
-text_of (Lookup site id field default) = lookup_step site id.now field.now (option_map (λ s. s.now) default)
+text_of (Lookup site id field default) =
+    lookup_step site id.now field.now (option_map (λ s. s.now) default)
 text_of (Cells site) = cells_step site
 text_of (Tell site) = tell_step site
 text_of (Post site told) = post_step site told

@@ -52,11 +52,14 @@ single_value word n = array (item (string word) (item (number (unsigned n)) no_i
 
 -- `[word, number, number]`
 abbrev pub pair_value : List ℕ → ℕ → ℕ → Data
-pair_value word m n = array (item (string word) (item (number (unsigned m)) (item (number (unsigned n)) no_items)))
+pair_value word m n =
+    array (item (string word) (item (number (unsigned m)) (item (number (unsigned n)) no_items)))
 
 -- `["edit", site, CELL]`
 abbrev pub edit_value : ℕ → Row → Option (List (List ℕ)) → Data
-edit_value site row label = array (item (string (codes "edit")) (item (number (unsigned site)) (item (cell_value row label) no_items)))
+edit_value site row label =
+    array (item (string (codes "edit"))
+    (item (number (unsigned site)) (item (cell_value row label) no_items)))
 
 abbrev pub scheme_text : Scheme → List ℕ
 scheme_text Basic = codes "basic"
@@ -64,7 +67,10 @@ scheme_text Extended = codes "extended"
 
 -- `["filter", site, id, scheme, field]`
 abbrev pub filter_value : ℕ → List ℕ → Scheme → List ℕ → Data
-filter_value site id scheme field = array (item (string (codes "filter")) (item (number (unsigned site)) (item (string id) (item (string (scheme_text scheme)) (item (string field) no_items)))))
+filter_value site id scheme field =
+    array (item (string (codes "filter"))
+    (item (number (unsigned site))
+    (item (string id) (item (string (scheme_text scheme)) (item (string field) no_items)))))
 
 -- no default is null
 abbrev pub default_value : Option (List ℕ) → Data
@@ -73,7 +79,10 @@ default_value (Some text) = string text
 
 -- `["lookup", site, id, field, default]`
 abbrev pub lookup_value : ℕ → List ℕ → List ℕ → Option (List ℕ) → Data
-lookup_value site id field default = array (item (string (codes "lookup")) (item (number (unsigned site)) (item (string id) (item (string field) (item (default_value default) no_items)))))
+lookup_value site id field default =
+    array (item (string (codes "lookup"))
+    (item (number (unsigned site))
+    (item (string id) (item (string field) (item (default_value default) no_items)))))
 
 abbrev pub step_value : StepText → Data
 step_value (edit_step site row) = edit_value site row.0 row.1
@@ -127,4 +136,5 @@ pub record IsRowOf (text : StepText) (step : Step) : Type 0 where
 
 -- a draft grew by a row of the step
 abbrev pub WritesStep : Step → Written → Written → Type 0
-WritesStep step old new = (text : StepText) × IsRowOf text step × Adds old new (value_tokens (step_value text))
+WritesStep step old new =
+    (text : StepText) × IsRowOf text step × Adds old new (value_tokens (step_value text))

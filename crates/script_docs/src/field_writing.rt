@@ -22,7 +22,8 @@ pub fn field_of(
     list: &PriorityList,
 ) -> Result<Option<String>, AllocError>
     ensures { IfOk result (λ found. MatchOption found (¬ IsListed scheme list.now)
-        (λ field. (string_bytes field ≡ field_text list.now) × Lists scheme (string_bytes field) list.now)) }
+        (λ field. (string_bytes field ≡ field_text list.now)
+        × Lists scheme (string_bytes field) list.now)) }
 {
     let field = joined_items(alloc, list.items())?;
     let same = reads_as(alloc, scheme, field.as_str(), list)?;

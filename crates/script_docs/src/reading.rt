@@ -29,7 +29,8 @@ const MOST_SITES: u64 = 1024;
 /// default (1 to 4) of a question; 26, which may come before a later one. All but 26 name document
 /// 1.
 pub fn read_script(alloc: Global, bytes: &[u8]) -> Result<Script, DocFault>
-    ensures { MatchResult result (ReadsAsScript bytes.now) (OrMemory no_memory (IsOfDocument 1 (RefusesScript bytes.now))) }
+    ensures { MatchResult result (ReadsAsScript bytes.now)
+        (OrMemory no_memory (IsOfDocument 1 (RefusesScript bytes.now))) }
 {
     match script_from(alloc, bytes) {
         Ok(script) => Ok(script),
@@ -39,7 +40,8 @@ pub fn read_script(alloc: Global, bytes: &[u8]) -> Result<Script, DocFault>
 
 /// The script of a document, or why it is refused.
 fn script_from(alloc: Global, bytes: &[u8]) -> Result<Script, DocCause>
-    ensures { MatchResult result (ReadsAsScript bytes.now) (OrMemory NoMemory (RefusesScript bytes.now)) }
+    ensures { MatchResult result (ReadsAsScript bytes.now)
+        (OrMemory NoMemory (RefusesScript bytes.now)) }
 {
     let mut steps = Steps::new(alloc);
     match read_steps(alloc, bytes, &mut steps) {
@@ -51,7 +53,8 @@ fn script_from(alloc: Global, bytes: &[u8]) -> Result<Script, DocCause>
 /// Reads the steps, and answers how many sites there are.
 fn read_steps(alloc: Global, bytes: &[u8], steps: &mut Steps) -> Result<usize, DocCause>
     ensures { MatchResult result
-        (λ sites. (d : Data) × AreJson bytes.now d × AllPass (script_checks d) × IsSiteCount sites × (sites_in (subject_data kind.Script d) ≡ Some sites)
+        (λ sites. (d : Data) × AreJson bytes.now d × AllPass (script_checks d) × IsSiteCount sites
+        × (sites_in (subject_data kind.Script d) ≡ Some sites)
         × AreSteps (version_of d) (rows_in kind.Script d) steps.new.steps.items)
         (OrMemory NoMemory (RefusesScript bytes.now)) }
 {

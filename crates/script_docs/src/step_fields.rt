@@ -24,7 +24,8 @@ use std::alloc::Global;
 /// of a question; or since memory ran out (26).
 pub fn read_step(alloc: Global, place: usize, row: StepRow<'_, '_>) -> Result<Step, DocCause>
     requires { HasTexts row }
-    ensures { MatchResult result (λ step. AllPass (step_fields place (text_of row.entry)) × Makes (text_of row.entry) step)
+    ensures { MatchResult result
+        (λ step. AllPass (step_fields place (text_of row.entry)) × Makes (text_of row.entry) step)
         (OrMemory NoMemory (FirstFails (step_fields place (text_of row.entry)))) }
 {
     match row {
@@ -112,7 +113,9 @@ fn read_lookup(
     field: &str,
     default: Option<&str>,
 ) -> Result<Step, DocCause>
-    ensures { let text = lookup_step site id.now field.now (option_map (λ s. s.now) default.entry) in MatchResult result
+    ensures { let text =
+        lookup_step site id.now field.now (option_map (λ s. s.now) default.entry) in
+        MatchResult result
         (λ step. AllPass (step_fields place text) × Makes text step)
         (OrMemory NoMemory (FirstFails (step_fields place text))) }
 {
@@ -150,7 +153,8 @@ fn list_of(
 /// The default of a lookup; no text is none.
 fn default_of(alloc: Global, place: usize, default: Option<&str>) -> Result<Option<Lang>, DocCause>
     ensures { let text = option_map (λ s. s.now) default.entry in MatchResult result
-        (λ lang. AllPass (default_checks place text) × (lang ≡ option_map str_to_ascii_lowercase text))
+        (λ lang. AllPass (default_checks place text)
+        × (lang ≡ option_map str_to_ascii_lowercase text))
         (OrMemory NoMemory (FirstFails (default_checks place text))) }
 {
     match default {

@@ -1,6 +1,8 @@
 //! The steps of a script as rows of its document, written.
 ghost use Rattle.std.specs.Prelude.{◌≡◌, IfErr, IfOk, OnOk};
-ghost use Rattle.cata_core.specs.declared.step.Step.TheVariants.{AskCells, AskFilter, AskLookup, Deliver, Edit as EditStep, Merge, Post, Tell};
+ghost use Rattle.cata_core.specs.declared.step.Step.TheVariants.{AskCells, AskFilter, AskLookup};
+ghost use Rattle.cata_core.specs.declared.step.Step.TheVariants.{Deliver, Edit as EditStep, Merge};
+ghost use Rattle.cata_core.specs.declared.step.Step.TheVariants.{Post, Tell};
 ghost use Rattle.cell_core.specs.MessageIds.{IsMessageId};
 ghost use Rattle.json_docs.specs.declared.fault.DocCause.TheVariants.{Shape};
 ghost use Rattle.site_docs.specs.Entries.{row_of};
@@ -111,7 +113,8 @@ fn write_lookup(
     list: &PriorityList,
     default: &Option<Lang>,
 ) -> Result<(), DocCause>
-    ensures ok { OnOk result (WritesStep (AskLookup site id.now list.now default.now) out.old out.new) }
+    ensures ok { OnOk result
+        (WritesStep (AskLookup site id.now list.now default.now) out.old out.new) }
     ensures err { IfErr result (RefusesStep place (AskLookup site id.now list.now default.now)) }
 {
     let number = number_of(place, site)?;
@@ -156,7 +159,8 @@ fn write_deliver(out: &mut Writer, place: usize, post: usize) -> Result<(), DocC
 
 /// Adds a step of one number.
 fn write_single(out: &mut Writer, place: usize, word: &str, first: usize) -> Result<(), DocCause>
-    ensures ok { OnOk result (FitsMember first × Adds out.old out.new (value_tokens (single_value word.now first))) }
+    ensures ok { OnOk result
+        (FitsMember first × Adds out.old out.new (value_tokens (single_value word.now first))) }
     ensures err { IfErr result (RefusesRow place (FitsMember first)) }
 {
     let Ok(number) = number_of(place, first) else {
@@ -174,7 +178,9 @@ fn write_pair(
     first: usize,
     second: usize,
 ) -> Result<(), DocCause>
-    ensures ok { OnOk result (FitsMember first × FitsMember second × Adds out.old out.new (value_tokens (pair_value word.now first second))) }
+    ensures ok { OnOk result
+        (FitsMember first × FitsMember second
+        × Adds out.old out.new (value_tokens (pair_value word.now first second))) }
     ensures err { IfErr result (RefusesRow place (FitsMember first × FitsMember second)) }
 {
     let Ok(number) = number_of(place, first) else {
@@ -190,7 +196,8 @@ fn write_pair(
 /// The number, where it is of 32 bits.
 fn number_of(place: usize, number: usize) -> Result<u64, DocCause>
     ensures ok { IfOk result (λ n. FitsMember number × (n ≡ number)) }
-    ensures err { IfErr result (λ cause. (¬ (FitsMember number)) × (cause ≡ Shape (spot.Row place))) }
+    ensures err { IfErr result
+        (λ cause. (¬ (FitsMember number)) × (cause ≡ Shape (spot.Row place))) }
 {
     if number <= MOST_NUMBER {
         Ok(number as u64)
@@ -231,7 +238,8 @@ fn pair_row(out: &mut Writer, word: &str, first: u64, second: u64) -> Result<(),
 
 /// Adds `["edit", SITE, CELL]`, with the row of the cell.
 fn edit_row(out: &mut Writer, site: u64, edit: &Edit) -> Result<(), AllocError>
-    ensures tokens { OnOk result (Adds out.old out.new (value_tokens (edit_value site (row_of edit.now) edit.now.1.label))) }
+    ensures tokens { OnOk result
+        (Adds out.old out.new (value_tokens (edit_value site (row_of edit.now) edit.now.1.label))) }
     ensures kept { OnOk result (IsKeptCell edit.now) }
 {
     out.begin_array()?;
@@ -249,7 +257,8 @@ fn filter_row(
     scheme: Scheme,
     field: &str,
 ) -> Result<(), AllocError>
-    ensures tokens { OnOk result (Adds out.old out.new (value_tokens (filter_value site id.now scheme field.now))) }
+    ensures tokens { OnOk result
+        (Adds out.old out.new (value_tokens (filter_value site id.now scheme field.now))) }
     ensures id { OnOk result (IsMessageId id.now) }
 {
     out.begin_array()?;
@@ -269,7 +278,8 @@ fn lookup_row(
     field: &str,
     default: &Option<Lang>,
 ) -> Result<(), AllocError>
-    ensures tokens { OnOk result (Adds out.old out.new (value_tokens (lookup_value site id.now field.now default.now))) }
+    ensures tokens { OnOk result
+        (Adds out.old out.new (value_tokens (lookup_value site id.now field.now default.now))) }
     ensures id { OnOk result (IsMessageId id.now) }
     ensures default { OnOk result (IsDefault default.now) }
 {

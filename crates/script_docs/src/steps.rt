@@ -183,7 +183,8 @@ fn one_of(parts: &[Value<'_>]) -> Option<u32>
 
 /// The two numbers, where they are the only parts.
 fn two_of(parts: &[Value<'_>]) -> Option<(u32, u32)>
-    ensures { (step : ℕ → ℕ → StepText) → option_map (λ p. step p.0 p.1) result ≡ two_of step (map seen parts.now) }
+    ensures { (step : ℕ → ℕ → StepText)
+        → option_map (λ p. step p.0 p.1) result ≡ two_of step (map seen parts.now) }
 {
     let [first, second] = parts else {
         return None;

@@ -23,7 +23,8 @@ use std::alloc::{AllocError, Global};
 /// priority list. The one other refusal is out of memory (26). Both mean no document, since none is
 /// read.
 pub fn write_script(alloc: Global, script: &Script) -> Result<Doc, DocFault>
-    ensures { MatchResult result (IsScriptText script.now) (IsOfNone (RefusesWriting script.now.steps)) }
+    ensures { MatchResult result (IsScriptText script.now)
+        (IsOfNone (RefusesWriting script.now.steps)) }
 {
     match script_document(alloc, script) {
         Ok(doc) => Ok(doc),

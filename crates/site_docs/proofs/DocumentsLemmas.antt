@@ -1,5 +1,6 @@
 -- Rows that are written one after another, and documents that read as what they were written for.
-use Rattle.std.proofs.Common.{◌≡◌, ◌∙◌, ◌+◌, ◌<◌, ◌++◌, ℕ, zero, suc, List, [], ◌∷◌, codes, take, length, ap, sym, subst, append_assoc, add-one, arith}
+use Rattle.std.proofs.Common.{◌≡◌, ◌∙◌, ◌+◌, ◌<◌, ◌++◌, ℕ, zero, suc, List, [], ◌∷◌, codes, take}
+use Rattle.std.proofs.Common.{length, ap, sym, subst, append_assoc, add-one, arith}
 use Rattle.std.proofs.lemmas.List.{map-append}
 use Rattle.std.proofs.lemmas.List.Elements.{All-append, All-cons, All-nil}
 use Rattle.std.specs.List.{All}
@@ -13,38 +14,50 @@ use Rattle.site_docs.specs.Documents.{cells_values, entry_value, stamps_values, 
 use Rattle.site_docs.specs.Texts.{Adds, HoldsCells, HoldsStamps, value_tokens}
 use Rattle.site_docs.proofs.TextsLemmas.{row_tokens-push}
 
-HoldsCells-adds : (a b : Written) (rows : List Data) (d : Data) → HoldsCells a rows → Adds a b (value_tokens d) → HoldsCells b (rows ++ d ∷ [])
+HoldsCells-adds : (a b : Written) (rows : List Data) (d : Data) → HoldsCells a rows
+    → Adds a b (value_tokens d) → HoldsCells b (rows ++ d ∷ [])
 HoldsCells-adds a b rows d holds adds = (
   adds.0 ∙ holds.0,
-  adds.1 ∙ (ap (λ t. t ++ value_tokens d) holds.1 ∙ ap (λ t. begin_object ∷ key (codes "cells") ∷ begin_array ∷ t) (sym (row_tokens-push rows d))),
+  adds.1
+      ∙ (ap (λ t. t ++ value_tokens d) holds.1
+      ∙ ap (λ t. begin_object ∷ key (codes "cells") ∷ begin_array ∷ t)
+      (sym (row_tokens-push rows d))),
 )
 
-HoldsStamps-adds : (a b : Written) (owner : List ℕ) (rows : List Data) (d : Data) → HoldsStamps a owner rows → Adds a b (value_tokens d) → HoldsStamps b owner (rows ++ d ∷ [])
+HoldsStamps-adds : (a b : Written) (owner : List ℕ) (rows : List Data) (d : Data)
+    → HoldsStamps a owner rows → Adds a b (value_tokens d) → HoldsStamps b owner (rows ++ d ∷ [])
 HoldsStamps-adds a b owner rows d holds adds = (
   adds.0 ∙ holds.0,
   adds.1 ∙ (ap (λ t. t ++ value_tokens d) holds.1
-      ∙ ap (λ t. begin_object ∷ key (codes "kind") ∷ string (codes "summary") ∷ key (codes "owner") ∷ string owner ∷ key (codes "stamps") ∷ begin_array ∷ t) (sym (row_tokens-push rows d))),
+      ∙ ap (λ t. begin_object ∷ key (codes "kind") ∷ string (codes "summary") ∷ key (codes "owner")
+      ∷ string owner ∷ key (codes "stamps") ∷ begin_array ∷ t) (sym (row_tokens-push rows d))),
 )
 
 -- one cell more is written, and one less is left
-pub cell_more : (a b : Written) (done left all : Entries) (next : Entries) (e : Entry) → HoldsCells a (cells_values done) → Adds a b (value_tokens (entry_value e))
+pub cell_more : (a b : Written) (done left all : Entries) (next : Entries) (e : Entry)
+    → HoldsCells a (cells_values done) → Adds a b (value_tokens (entry_value e))
     → done ++ left ≡ all → left ≡ e ∷ next
     → HoldsCells b (cells_values (done ++ e ∷ [])) × ((done ++ e ∷ []) ++ next ≡ all)
 cell_more a b done left all next e holds adds so_far first = (
-  rw (map-append entry_value done (e ∷ [])) (HoldsCells-adds a b (cells_values done) (entry_value e) holds adds),
+  rw (map-append entry_value done (e ∷ []))
+      (HoldsCells-adds a b (cells_values done) (entry_value e) holds adds),
   append_assoc done (e ∷ []) next ∙ (ap (λ t. done ++ t) (sym first) ∙ so_far),
 )
 
-taken : {A : Type 0} (xs : List A) (k : ℕ) (x : A) → slice_get xs k ≡ Some x → take (suc k) xs ≡ take k xs ++ x ∷ []
+taken : {A : Type 0} (xs : List A) (k : ℕ) (x : A) → slice_get xs k ≡ Some x
+    → take (suc k) xs ≡ take k xs ++ x ∷ []
 taken [] k x is = cc
 taken (y ∷ xs) zero x is = cc
 taken (y ∷ xs) (suc k) x is = ap (λ t. y ∷ t) (taken xs k x is)
 
 -- one stamp more is written
-pub stamp_more : (a b : Written) (owner : List ℕ) (stamps : List (EntryKey × Stamp)) (k : ℕ) (t : EntryKey × Stamp) → HoldsStamps a owner (stamps_values (take k stamps))
-    → Adds a b (value_tokens (told_value t)) → slice_get stamps k ≡ Some t → HoldsStamps b owner (stamps_values (take (k + 1) stamps))
+pub stamp_more : (a b : Written) (owner : List ℕ) (stamps : List (EntryKey × Stamp)) (k : ℕ)
+    (t : EntryKey × Stamp) → HoldsStamps a owner (stamps_values (take k stamps))
+    → Adds a b (value_tokens (told_value t)) → slice_get stamps k ≡ Some t
+    → HoldsStamps b owner (stamps_values (take (k + 1) stamps))
 stamp_more a b owner stamps k t holds adds is =
-    rw (add-one, taken stamps k t is, map-append told_value (take k stamps) (t ∷ [])) (HoldsStamps-adds a b owner (stamps_values (take k stamps)) (told_value t) holds adds)
+    rw (add-one, taken stamps k t is, map-append told_value (take k stamps) (t ∷ []))
+    (HoldsStamps-adds a b owner (stamps_values (take k stamps)) (told_value t) holds adds)
 
 -- there is a stamp at each place
 pub some_at : {A : Type 0} (xs : List A) (k : ℕ) → k < length xs → slice_get xs k ≡ None → ⊥
@@ -53,15 +66,19 @@ some_at (x ∷ xs) zero h is = cc
 some_at (x ∷ xs) (suc k) h is = some_at xs k (omega (arith, h)) is
 
 -- one more is as all before it
-pub kept_more : {X : Type 0} (P : X → Type 0) (xs : List X) (x : X) → All P xs → P x → All P (xs ++ x ∷ [])
+pub kept_more : {X : Type 0} (P : X → Type 0) (xs : List X) (x : X) → All P xs → P x
+    → All P (xs ++ x ∷ [])
 kept_more P xs x all one = All-append P xs (x ∷ []) all (All-cons P x [] one (All-nil P))
 
 -- A property of the elements before a place and of the one there is one of all up to it.
-pub kept_next : {X : Type 0} (P : X → Type 0) (xs : List X) (k : ℕ) (x : X) → slice_get xs k ≡ Some x → All P (take k xs) → P x → All P (take (k + 1) xs)
+pub kept_next : {X : Type 0} (P : X → Type 0) (xs : List X) (k : ℕ) (x : X)
+    → slice_get xs k ≡ Some x → All P (take k xs) → P x → All P (take (k + 1) xs)
 kept_next P xs k x is all one = rw (add-one, taken xs k x is) (kept_more P (take k xs) x all one)
 
 -- a text that was written reads back where it does so as UTF-8
-pub written_reads : {E : Type 0} (written : List ℕ) (Back : List ℕ → Type 0) (result : Result (List ℕ) E) → IfOk result (λ doc. doc ≡ written) → IfOk result (λ doc. IsUtf8 doc)
+pub written_reads : {E : Type 0} (written : List ℕ) (Back : List ℕ → Type 0)
+    (result : Result (List ℕ) E) → IfOk result (λ doc. doc ≡ written)
+    → IfOk result (λ doc. IsUtf8 doc)
     → (IsUtf8 written → Back written) → IfOk result Back
 written_reads written Back (Ok doc) is utf8 back = subst Back (sym is) (back (subst IsUtf8 is utf8))
 written_reads written Back (Err e) is utf8 back = tt

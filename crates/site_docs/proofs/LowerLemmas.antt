@@ -1,5 +1,6 @@
 -- Languages are in lower case.
-use Rattle.std.proofs.Common.{◌≡◌, ◌∙◌, ℕ, List, [], ◌∷◌, Bool, true, false, ◌&&◌, map, refl, ap, ap₂, sym, subst, inl, inr, arith, ◌+◌}
+use Rattle.std.proofs.Common.{◌≡◌, ◌∙◌, ℕ, List, [], ◌∷◌, Bool, true, false, ◌&&◌, map, refl, ap}
+use Rattle.std.proofs.Common.{ap₂, sym, subst, inl, inr, arith, ◌+◌}
 use Rattle.std.proofs.lemmas.Bool.Decides.{nat_tests}
 use Rattle.std.specs.Char.{to_ascii_lowercase}
 use Rattle.std.specs.List.{list_all}
@@ -23,17 +24,21 @@ lower_byte b h = grind (arith, nat_tests)
 
 lower_piece : (s : List ℕ) → list_all is_alphanum s ≡ true → str_to_ascii_lowercase s ≡ s
 lower_piece [] h = refl
-lower_piece (b ∷ s) h = let both = both_true (is_alphanum b) (list_all is_alphanum s) h in ap₂ (λ x xs. x ∷ xs) (lower_byte b both.0) (lower_piece s both.1)
+lower_piece (b ∷ s) h = let both = both_true (is_alphanum b) (list_all is_alphanum s) h in
+    ap₂ (λ x xs. x ∷ xs) (lower_byte b both.0) (lower_piece s both.1)
 
 run_bytes : (s : List ℕ) → is_private_piece s ≡ true → list_all is_alphanum s ≡ true
 unfolding is_private_piece is_run
 run_bytes s h = second_true _ (list_all is_alphanum s) h
 
-lower_pieces : (k : ℕ) (ss : List (List ℕ)) → are_allowed tag_piece k ss ≡ true → map str_to_ascii_lowercase ss ≡ ss
+lower_pieces : (k : ℕ) (ss : List (List ℕ)) → are_allowed tag_piece k ss ≡ true
+    → map str_to_ascii_lowercase ss ≡ ss
 lower_pieces k [] h = refl
-lower_pieces k (s ∷ ss) h = let both = both_true (is_private_piece s) _ h in ap₂ (λ x xs. x ∷ xs) (lower_piece s (run_bytes s both.0)) (lower_pieces (k + 1) ss both.1)
+lower_pieces k (s ∷ ss) h = let both = both_true (is_private_piece s) _ h in
+    ap₂ (λ x xs. x ∷ xs) (lower_piece s (run_bytes s both.0)) (lower_pieces (k + 1) ss both.1)
 
-lower_tag : (text : List ℕ) → are_allowed tag_piece 0 (pieces text) ≡ true → str_to_ascii_lowercase text ≡ text
+lower_tag : (text : List ℕ) → are_allowed tag_piece 0 (pieces text) ≡ true
+    → str_to_ascii_lowercase text ≡ text
 lower_tag text h =
     sym (joined-pieces (str_to_ascii_lowercase text))
     ∙ (ap joined (pieces-lower text ∙ lower_pieces 0 (pieces text) h)

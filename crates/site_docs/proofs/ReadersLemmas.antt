@@ -8,5 +8,8 @@ use Rattle.json_docs.specs.declared.fault.DocCause.TheVariants.{NoMemory}
 use Rattle.site_docs.specs.ReadsAs.{IsOfDocument, no_memory}
 
 -- a reader's refusal, as that of an input document
-pub of_reader : (document : ℕ) (Refuses : DocCause → Type 0) (cause : DocCause) → OrMemory NoMemory Refuses cause → OrMemory no_memory (IsOfDocument document Refuses) (of_document document cause)
-of_reader document Refuses cause why = elim why [ inl memory ↦ inl (ap (of_document document) memory) | inr h ↦ inr (cause, h, refl) ]
+pub of_reader : (document : ℕ) (Refuses : DocCause → Type 0) (cause : DocCause)
+    → OrMemory NoMemory Refuses cause
+    → OrMemory no_memory (IsOfDocument document Refuses) (of_document document cause)
+of_reader document Refuses cause why =
+    elim why [ inl memory ↦ inl (ap (of_document document) memory) | inr h ↦ inr (cause, h, refl) ]

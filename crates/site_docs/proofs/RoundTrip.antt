@@ -1,5 +1,6 @@
 -- A document that was written passes all tests, and reads as what it was written for.
-use Rattle.std.proofs.Common.{◌≡◌, ◌∙◌, ◌||◌, ◌++◌, ℕ, List, [], Bool, true, false, codes, refl, ap, inr}
+use Rattle.std.proofs.Common.{◌≡◌, ◌∙◌, ◌||◌, ◌++◌, ℕ, List, [], Bool, true, false, codes, refl, ap}
+use Rattle.std.proofs.Common.{inr}
 use Rattle.std.specs.Prelude.{Option, Some, IsUtf8, is_some}
 use Rattle.std.specs.Ordering.{is_eq, match_ordering, nat_cmp}
 use Rattle.std.specs.declared.cmp.Ordering.{Ordering}
@@ -33,15 +34,21 @@ use Rattle.site_docs.proofs.WrittenTexts.{read-delta, read-site, read-summary}
 
 -- ---- members by their names
 
-by_order : (r : Ordering) (x : Option Data) (d : Data) → is_some (match_ordering r x (Some d) x) ≡ (is_eq r || is_some x)
+by_order : (r : Ordering) (x : Option Data) (d : Data)
+    → is_some (match_ordering r x (Some d) x) ≡ (is_eq r || is_some x)
 by_order Less x d = refl
 by_order Equal x d = refl
 by_order Greater x d = refl
 
-some_member : (name k : List ℕ) (d : Data) (ms : Members) → is_some (get_member name (member k d ms)) ≡ (bytes_eq name k || is_some (get_member name ms))
-some_member name k d ms = by_order (slice_cmp nat_cmp name k) (get_member name ms) d ∙ ap (λ b. b || is_some (get_member name ms)) (is_eq-slice_cmp name k)
+some_member : (name k : List ℕ) (d : Data) (ms : Members)
+    → is_some (get_member name (member k d ms)) ≡ (bytes_eq name k || is_some (get_member name ms))
+some_member name k d ms =
+    by_order (slice_cmp nat_cmp name k) (get_member name ms) d
+    ∙ ap (λ b. b || is_some (get_member name ms)) (is_eq-slice_cmp name k)
 
-rows_first : (rows kind subject version : Bool) → (rows || (kind || (subject || (version || false)))) ≡ (kind || (version || (subject || (rows || false))))
+rows_first : (rows kind subject version : Bool)
+    → (rows || (kind || (subject || (version || false))))
+    ≡ (kind || (version || (subject || (rows || false))))
 rows_first true true subject version = refl
 rows_first true false true true = refl
 rows_first true false true false = refl
@@ -53,7 +60,9 @@ rows_first false false true false = refl
 rows_first false false false true = refl
 rows_first false false false false = refl
 
-rows_third : (kind subject rows version : Bool) → (kind || (subject || (rows || (version || false)))) ≡ (kind || (version || (subject || (rows || false))))
+rows_third : (kind subject rows version : Bool)
+    → (kind || (subject || (rows || (version || false))))
+    ≡ (kind || (version || (subject || (rows || false))))
 rows_third true subject rows version = refl
 rows_third false true rows true = refl
 rows_third false true rows false = refl
@@ -65,61 +74,110 @@ rows_third false false false false = refl
 -- The value that is written for a site has exactly the members of its kind of document.
 pub site_names : (name : List ℕ) (rows : List Data) → HasJust (names_of Site) (site_value name rows)
 site_names name rows q =
-    rw (some_member q (codes "cells"), some_member q (codes "kind"), some_member q (codes "site"), some_member q (codes "version"))
-    (rows_first (bytes_eq q (codes "cells")) (bytes_eq q (codes "kind")) (bytes_eq q (codes "site")) (bytes_eq q (codes "version")))
+    rw (
+      some_member q (codes "cells"),
+      some_member q (codes "kind"),
+      some_member q (codes "site"),
+      some_member q (codes "version"),
+    )
+    (rows_first (bytes_eq q (codes "cells")) (bytes_eq q (codes "kind")) (bytes_eq q (codes "site"))
+    (bytes_eq q (codes "version")))
 
 -- The value that is written for a delta has exactly the members of its kind of document.
-pub delta_names : (name : List ℕ) (rows : List Data) → HasJust (names_of Delta) (delta_value name rows)
+pub delta_names : (name : List ℕ) (rows : List Data)
+    → HasJust (names_of Delta) (delta_value name rows)
 delta_names name rows q =
-    rw (some_member q (codes "cells"), some_member q (codes "kind"), some_member q (codes "to"), some_member q (codes "version"))
-    (rows_first (bytes_eq q (codes "cells")) (bytes_eq q (codes "kind")) (bytes_eq q (codes "to")) (bytes_eq q (codes "version")))
+    rw (
+      some_member q (codes "cells"),
+      some_member q (codes "kind"),
+      some_member q (codes "to"),
+      some_member q (codes "version"),
+    )
+    (rows_first (bytes_eq q (codes "cells")) (bytes_eq q (codes "kind")) (bytes_eq q (codes "to"))
+    (bytes_eq q (codes "version")))
 
-summary_names : (name : List ℕ) (rows : List Data) → HasJust (names_of Summary) (summary_value name rows)
+summary_names : (name : List ℕ) (rows : List Data)
+    → HasJust (names_of Summary) (summary_value name rows)
 summary_names name rows q =
-    rw (some_member q (codes "kind"), some_member q (codes "owner"), some_member q (codes "stamps"), some_member q (codes "version"))
-    (rows_third (bytes_eq q (codes "kind")) (bytes_eq q (codes "owner")) (bytes_eq q (codes "stamps")) (bytes_eq q (codes "version")))
+    rw (
+      some_member q (codes "kind"),
+      some_member q (codes "owner"),
+      some_member q (codes "stamps"),
+      some_member q (codes "version"),
+    )
+    (rows_third (bytes_eq q (codes "kind")) (bytes_eq q (codes "owner"))
+    (bytes_eq q (codes "stamps")) (bytes_eq q (codes "version")))
 
 -- ---- documents
 
 -- the tests after those of the header
 abbrev pub rest_checks : Kind → (Version → List Data → Data → List Check) → Data → List Check
-rest_checks kind checks d = subject_checks (version_of d) (subject_data kind d) ++ rows_checks (checks (version_of d)) [] (rows_in kind d)
+rest_checks kind checks d =
+    subject_checks (version_of d) (subject_data kind d)
+    ++ rows_checks (checks (version_of d)) [] (rows_in kind d)
 
 -- The text that is written for a site with a valid name and valid cells reads as that site.
-pub site_again : (site : SiteState) → IsSiteName site.name → AreKeptCells site.cells → IsUtf8 (site_text site) → ReadsAsSite (site_text site) site
+pub site_again : (site : SiteState) → IsSiteName site.name → AreKeptCells site.cells
+    → IsUtf8 (site_text site) → ReadsAsSite (site_text site) site
 site_again site name kept utf8 =
     let d = site_value site.name (cells_values site.cells) in
-    let header : AllPass (header_checks Site d) = ((refl, refl), (inr refl, ((site_names site.name (cells_values site.cells), refl), tt))) in
+    let header : AllPass (header_checks Site d) =
+    ((refl, refl), (inr refl, ((site_names site.name (cells_values site.cells), refl), tt))) in
     let rows = cells_pass site.cells kept in
-    let rest : AllPass (rest_checks Site cell_checks d) = (refl, (name, rw (list_of-items_of (cells_values site.cells)) rows)) in (
+    let rest : AllPass (rest_checks Site cell_checks d) =
+    (refl, (name, rw (list_of-items_of (cells_values site.cells)) rows)) in (
       d,
       (utf8, read-site site.name site.cells kept.each),
       AllPass-both (header_checks Site d) (rest_checks Site cell_checks d) header rest,
-      record { name = refl; cells = rw (list_of-items_of (cells_values site.cells)) (entries_again site.cells kept.each) },
+      record {
+        name = refl;
+        cells =
+            rw (list_of-items_of (cells_values site.cells)) (entries_again site.cells kept.each);
+      },
     )
 
 -- The text that is written for a delta with a valid name and valid cells reads as that delta.
-pub delta_again : (delta : DeltaState) → IsSiteName delta.addressee → AreKeptCells delta.cells → IsUtf8 (delta_text delta) → ReadsAsDelta (delta_text delta) delta
+pub delta_again : (delta : DeltaState) → IsSiteName delta.addressee → AreKeptCells delta.cells
+    → IsUtf8 (delta_text delta) → ReadsAsDelta (delta_text delta) delta
 delta_again delta name kept utf8 =
     let d = delta_value delta.addressee (cells_values delta.cells) in
-    let header : AllPass (header_checks Delta d) = ((refl, refl), (inr refl, ((delta_names delta.addressee (cells_values delta.cells), refl), tt))) in
+    let header : AllPass (header_checks Delta d) = (
+      (refl, refl),
+      (inr refl, ((delta_names delta.addressee (cells_values delta.cells), refl), tt)),
+    ) in
     let rows = cells_pass delta.cells kept in
-    let rest : AllPass (rest_checks Delta cell_checks d) = (refl, (name, rw (list_of-items_of (cells_values delta.cells)) rows)) in (
+    let rest : AllPass (rest_checks Delta cell_checks d) =
+    (refl, (name, rw (list_of-items_of (cells_values delta.cells)) rows)) in (
       d,
       (utf8, read-delta delta.addressee delta.cells kept.each),
       AllPass-both (header_checks Delta d) (rest_checks Delta cell_checks d) header rest,
-      record { addressee = refl; cells = rw (list_of-items_of (cells_values delta.cells)) (entries_again delta.cells kept.each) },
+      record {
+        addressee = refl;
+        cells =
+            rw (list_of-items_of (cells_values delta.cells)) (entries_again delta.cells kept.each);
+      },
     )
 
 -- The text that is written for a summary with a valid name and stamps reads as that summary.
-pub summary_again : (summary : SummaryState) → IsSiteName summary.owner → AreKeptStamps summary.stamps → IsUtf8 (summary_text summary) → ReadsAsSummary (summary_text summary) summary
+pub summary_again : (summary : SummaryState) → IsSiteName summary.owner
+    → AreKeptStamps summary.stamps → IsUtf8 (summary_text summary)
+    → ReadsAsSummary (summary_text summary) summary
 summary_again summary name kept utf8 =
     let d = summary_value summary.owner (stamps_values summary.stamps) in
-    let header : AllPass (header_checks Summary d) = ((refl, refl), (inr refl, ((summary_names summary.owner (stamps_values summary.stamps), refl), tt))) in
+    let header : AllPass (header_checks Summary d) = (
+      (refl, refl),
+      (inr refl, ((summary_names summary.owner (stamps_values summary.stamps), refl), tt)),
+    ) in
     let rows = stamps_pass summary.stamps kept in
-    let rest : AllPass (rest_checks Summary stamp_checks d) = (refl, (name, rw (list_of-items_of (stamps_values summary.stamps)) rows)) in (
+    let rest : AllPass (rest_checks Summary stamp_checks d) =
+    (refl, (name, rw (list_of-items_of (stamps_values summary.stamps)) rows)) in (
       d,
       (utf8, read-summary summary.owner summary.stamps kept.each),
       AllPass-both (header_checks Summary d) (rest_checks Summary stamp_checks d) header rest,
-      record { owner = refl; stamps = rw (list_of-items_of (stamps_values summary.stamps)) (stamps_again summary.stamps kept.each) },
+      record {
+        owner = refl;
+        stamps =
+            rw (list_of-items_of (stamps_values summary.stamps))
+            (stamps_again summary.stamps kept.each);
+      },
     )

@@ -1,5 +1,6 @@
 -- The text of a document that was written is read as its value.
-use Rattle.std.proofs.Common.{◌≡◌, ◌∙◌, ◌<◌, ◌≤◌, ◌^◌, ℕ, List, [], ◌∷◌, map, refl, append-nil, arith}
+use Rattle.std.proofs.Common.{◌≡◌, ◌∙◌, ◌<◌, ◌≤◌, ◌^◌, ℕ, List, [], ◌∷◌, map, refl, append-nil}
+use Rattle.std.proofs.Common.{arith}
 use Rattle.std.specs.List.{All}
 use Rattle.std.specs.Prelude.{Option, None, Some}
 use Rattle.json.specs.Json.{value}
@@ -26,11 +27,14 @@ use Rattle.site_docs.specs.Values.{delta_value, label_value, site_value, summary
 use Rattle.json_docs.proofs.LineFeed.{read-line_feed}
 
 -- a value without floats that nests at most 127 levels deep is read from its text
-pub read-text : (d : Data) → HasNumbers (outline d) → tree.depth (outline d) ≤ 127 → of_json (outline d) ≡ Some d → read (text d) ≡ Some d
+pub read-text : (d : Data) → HasNumbers (outline d) → tree.depth (outline d) ≤ 127
+    → of_json (outline d) ≡ Some d → read (text d) ≡ Some d
 read-text d numbers shallow back =
     let j = outline d in
-    let ts : tokens (print (json_tokens j)) ≡ json_tokens j = tokens-print (json_tokens j) (ArePrintable-json_tokens j numbers) in
-    let whole : value 127 (json_tokens j) ≡ Some (j, []) = rw append-nil at (value-json_tokens j 127 [] shallow) in
+    let ts : tokens (print (json_tokens j)) ≡ json_tokens j =
+    tokens-print (json_tokens j) (ArePrintable-json_tokens j numbers) in
+    let whole : value 127 (json_tokens j) ≡ Some (j, []) =
+    rw append-nil at (value-json_tokens j 127 [] shallow) in
     read-line_feed _ ∙ rw (← print-outline d, ts, whole) back
 
 -- ---- rows that were written hold what a text may
@@ -46,7 +50,8 @@ record IsWritten (d : Data) (most : ℕ) : Type 0 where
   shallow : tree.depth (outline d) ≤ most
   back : of_json (outline d) ≡ Some d
 
-one_more : (d : Data) (ds : Items) (most : ℕ) → IsWritten d most → AreWritten ds most → AreWritten (item d ds) most
+one_more : (d : Data) (ds : Items) (most : ℕ) → IsWritten d most → AreWritten ds most
+    → AreWritten (item d ds) most
 one_more d ds most p q = record {
   numbers = (p.numbers, q.numbers);
   shallow = omega (arith, p.shallow, q.shallow);
@@ -55,7 +60,9 @@ one_more d ds most p q = record {
 
 texts_written : (texts : List (List ℕ)) → AreWritten (items_of (map string texts)) 0
 texts_written [] = record { numbers = tt; shallow = omega arith; back = refl }
-texts_written (t ∷ ts) = one_more (string t) (items_of (map string ts)) 0 (record { numbers = tt; shallow = omega arith; back = refl }) (texts_written ts)
+texts_written (t ∷ ts) =
+    one_more (string t) (items_of (map string ts)) 0
+    (record { numbers = tt; shallow = omega arith; back = refl }) (texts_written ts)
 
 label_written : (label : Option (List (List ℕ))) → IsWritten (label_value label) 1
 label_written None = record { numbers = tt; shallow = omega arith; back = refl }
@@ -72,7 +79,12 @@ cell_written e kept =
     record {
       numbers = (tt, (tt, (time, (tt, (count, (label.numbers, tt))))));
       shallow = omega (arith, label.shallow);
-      back = rw (number_of-decimal e.1.stamp.time kept.0.time, number_of-decimal e.1.stamp.count small, label.back) refl;
+      back =
+          rw (
+            number_of-decimal e.1.stamp.time kept.0.time,
+            number_of-decimal e.1.stamp.count small,
+            label.back,
+          ) refl;
     }
 
 stamp_written : (t : EntryKey × Stamp) → IsKeptStamp t → IsWritten (told_value t) 2
@@ -89,12 +101,17 @@ stamp_written t kept =
 cells_written : (es : Entries) → All IsKeptCell es → AreWritten (items_of (cells_values es)) 2
 cells_written [] kept = record { numbers = tt; shallow = omega arith; back = refl }
 cells_written (e ∷ es) kept =
-    one_more (entry_value e) (items_of (cells_values es)) 2 (cell_written e (all_first IsKeptCell e es kept)) (cells_written es (all_rest IsKeptCell e es kept))
+    one_more (entry_value e) (items_of (cells_values es)) 2
+    (cell_written e (all_first IsKeptCell e es kept))
+    (cells_written es (all_rest IsKeptCell e es kept))
 
-stamps_written : (ts : List (EntryKey × Stamp)) → All IsKeptStamp ts → AreWritten (items_of (stamps_values ts)) 2
+stamps_written : (ts : List (EntryKey × Stamp)) → All IsKeptStamp ts
+    → AreWritten (items_of (stamps_values ts)) 2
 stamps_written [] kept = record { numbers = tt; shallow = omega arith; back = refl }
 stamps_written (t ∷ ts) kept =
-    one_more (told_value t) (items_of (stamps_values ts)) 2 (stamp_written t (all_first IsKeptStamp t ts kept)) (stamps_written ts (all_rest IsKeptStamp t ts kept))
+    one_more (told_value t) (items_of (stamps_values ts)) 2
+    (stamp_written t (all_first IsKeptStamp t ts kept))
+    (stamps_written ts (all_rest IsKeptStamp t ts kept))
 
 -- ---- documents that were written
 
@@ -102,19 +119,30 @@ two : 2 < 2 ^ 64
 two = omega arith
 
 -- The text that is written for a site with valid cells is read as the value that was written.
-pub read-site : (name : List ℕ) (es : Entries) → All IsKeptCell es → read (text (site_value name (cells_values es))) ≡ Some (site_value name (cells_values es))
+pub read-site : (name : List ℕ) (es : Entries) → All IsKeptCell es
+    → read (text (site_value name (cells_values es))) ≡ Some (site_value name (cells_values es))
 read-site name es kept =
     let rows = cells_written es kept in
-    read-text (site_value name (cells_values es)) (rows.numbers, (tt, (tt, (IsNumber-decimal 2 two, tt)))) (omega (arith, rows.shallow)) (rw (rows.back, number_of-decimal 2 two) refl)
+    read-text (site_value name (cells_values es))
+    (rows.numbers, (tt, (tt, (IsNumber-decimal 2 two, tt)))) (omega (arith, rows.shallow))
+    (rw (rows.back, number_of-decimal 2 two) refl)
 
 -- The text that is written for a delta with valid cells is read as the value that was written.
-pub read-delta : (addressee : List ℕ) (es : Entries) → All IsKeptCell es → read (text (delta_value addressee (cells_values es))) ≡ Some (delta_value addressee (cells_values es))
+pub read-delta : (addressee : List ℕ) (es : Entries) → All IsKeptCell es
+    → read (text (delta_value addressee (cells_values es)))
+    ≡ Some (delta_value addressee (cells_values es))
 read-delta addressee es kept =
     let rows = cells_written es kept in
-    read-text (delta_value addressee (cells_values es)) (rows.numbers, (tt, (tt, (IsNumber-decimal 2 two, tt)))) (omega (arith, rows.shallow)) (rw (rows.back, number_of-decimal 2 two) refl)
+    read-text (delta_value addressee (cells_values es))
+    (rows.numbers, (tt, (tt, (IsNumber-decimal 2 two, tt)))) (omega (arith, rows.shallow))
+    (rw (rows.back, number_of-decimal 2 two) refl)
 
 -- The text that is written for valid stamps is read as the summary's value that was written.
-pub read-summary : (owner : List ℕ) (ts : List (EntryKey × Stamp)) → All IsKeptStamp ts → read (text (summary_value owner (stamps_values ts))) ≡ Some (summary_value owner (stamps_values ts))
+pub read-summary : (owner : List ℕ) (ts : List (EntryKey × Stamp)) → All IsKeptStamp ts
+    → read (text (summary_value owner (stamps_values ts)))
+    ≡ Some (summary_value owner (stamps_values ts))
 read-summary owner ts kept =
     let rows = stamps_written ts kept in
-    read-text (summary_value owner (stamps_values ts)) (tt, (tt, (rows.numbers, (IsNumber-decimal 2 two, tt)))) (omega (arith, rows.shallow)) (rw (rows.back, number_of-decimal 2 two) refl)
+    read-text (summary_value owner (stamps_values ts))
+    (tt, (tt, (rows.numbers, (IsNumber-decimal 2 two, tt)))) (omega (arith, rows.shallow))
+    (rw (rows.back, number_of-decimal 2 two) refl)

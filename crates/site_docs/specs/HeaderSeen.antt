@@ -1,5 +1,6 @@
 -- What was read of a document's members so far.
-use Rattle.std.specs.Prelude.{◌≡◌, ℕ, List, [], Bool, true, false, codes, Option, None, Some, is_some, option_and_then}
+use Rattle.std.specs.Prelude.{◌≡◌, ℕ, List, [], Bool, true, false, codes, Option, None, Some}
+use Rattle.std.specs.Prelude.{is_some, option_and_then}
 use Rattle.std.specs.Str.{bytes_eq}
 use Rattle.serde_json.specs.Data.{Data, Members}
 use Rattle.serde_json.specs.Find.{as_str, get_member}
@@ -24,19 +25,26 @@ ShowsSubject None m = m ≡ None
 ShowsSubject (Some subject) m = (d : Data) × (m ≡ Some d) × IsSubject subject d
 
 -- no array, or its rows as far as they pass
-abbrev pub ShowsRows : {S : Type 0} → (List Data → Data → List Check) → (S → List Data → Type 0) → Option (Option DocCause) → S → Option (List Data) → Type 0
+abbrev pub ShowsRows : {S : Type 0} → (List Data → Data → List Check) → (S → List Data → Type 0)
+    → Option (Option DocCause) → S → Option (List Data) → Type 0
 ShowsRows checks Holds None rows ds = ds ≡ None
-ShowsRows checks Holds (Some refusal) rows ds = (found : List Data) × (ds ≡ Some found) × TakesRows checks Holds [] rows refusal found
+ShowsRows checks Holds (Some refusal) rows ds =
+    (found : List Data) × (ds ≡ Some found) × TakesRows checks Holds [] rows refusal found
 
 -- whether there is a member of another name
 pub record ShowsOthers (kind : Kind) (has_other : Bool) (ms : Members) : Type 0 where
-  pub there : has_other ≡ true → (name : List ℕ) × (member_of kind name ≡ Other) × (is_some (get_member name ms) ≡ true)
-  pub told : (name : List ℕ) → member_of kind name ≡ Other → is_some (get_member name ms) ≡ true → has_other ≡ true
+  pub there : has_other ≡ true
+      → (name : List ℕ) × (member_of kind name ≡ Other) × (is_some (get_member name ms) ≡ true)
+  pub told : (name : List ℕ) → member_of kind name ≡ Other → is_some (get_member name ms) ≡ true
+      → has_other ≡ true
 
 -- what was read is of these members
-pub record Shows {S : Type 0} (kind : Kind) (checks : List Data → Data → List Check) (Holds : S → List Data → Type 0) (header : Header) (rows : S) (ms : Members) : Type 0 where
-  pub is_kind : header.is_kind ≡ is_text (kind_text kind) (option_and_then as_str (get_member (codes "kind") ms))
+pub record Shows {S : Type 0} (kind : Kind) (checks : List Data → Data → List Check)
+    (Holds : S → List Data → Type 0) (header : Header) (rows : S) (ms : Members) : Type 0 where
+  pub is_kind : header.is_kind
+      ≡ is_text (kind_text kind) (option_and_then as_str (get_member (codes "kind") ms))
   pub version : header.version ≡ option_and_then u64_in (get_member (codes "version") ms)
   pub subject : ShowsSubject header.subject (get_member (subject_of kind) ms)
-  pub rows_part : ShowsRows checks Holds header.rows rows (option_and_then items_in (get_member (rows_of kind) ms))
+  pub rows_part : ShowsRows checks Holds header.rows rows
+      (option_and_then items_in (get_member (rows_of kind) ms))
   pub others : ShowsOthers kind header.has_other ms

@@ -1,5 +1,6 @@
 -- The tests of a document before its rows, in their order. Own rule.
-use Rattle.std.specs.Prelude.{◌≡◌, ◌⊎◌, ◌==◌, ℕ, List, [], ◌∷◌, true, codes, Option, None, Some, is_some, if◌then◌else◌, unwrap_or, option_and_then}
+use Rattle.std.specs.Prelude.{◌≡◌, ◌⊎◌, ◌==◌, ℕ, List, [], ◌∷◌, true, codes, Option, None, Some}
+use Rattle.std.specs.Prelude.{is_some, if◌then◌else◌, unwrap_or, option_and_then}
 use Rattle.cell_core.specs.SiteNames.{IsSiteName}
 use Rattle.serde_json.specs.Data.{Data, null}
 use Rattle.serde_json.specs.Find.{as_str, get}
@@ -60,7 +61,8 @@ HasJust names d = (name : List ℕ) → is_some (get name d) ≡ is_among name n
 
 -- exactly its members, and the rows in an array
 abbrev pub HasMembers : Kind → Data → Type 0
-HasMembers kind d = HasJust (names_of kind) d × (is_some (option_and_then items_in (get (rows_of kind) d)) ≡ true)
+HasMembers kind d =
+    HasJust (names_of kind) d × (is_some (option_and_then items_in (get (rows_of kind) d)) ≡ true)
 
 abbrev pub header_checks : Kind → Data → List Check
 header_checks kind d =

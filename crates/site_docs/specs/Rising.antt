@@ -1,5 +1,6 @@
 -- Rows that are entries in rising order of key: their tests, and what they make. Own rule.
-use Rattle.std.specs.Prelude.{◌≡◌, ℕ, true, List, [], ◌∷◌, ◌++◌, ◌-◌, length, map, slice_get, Option, None, Some, is_some, unwrap_or, option_map, option_and_then}
+use Rattle.std.specs.Prelude.{◌≡◌, ℕ, true, List, [], ◌∷◌, ◌++◌, ◌-◌, length, map, slice_get}
+use Rattle.std.specs.Prelude.{Option, None, Some, is_some, unwrap_or, option_map, option_and_then}
 use Rattle.serde_json.specs.Data.{Data}
 use Rattle.cell_core.specs.declared.stamp.Stamp.{Stamp}
 use Rattle.cell_core.specs.Maps.{IsMap}
@@ -23,10 +24,12 @@ told_in version d = option_map told_of (stamp_in version d)
 
 -- the key of the last row
 abbrev pub last_key : {J : Type 0} → (Data → Option (EntryKey × J)) → List Data → Option EntryKey
-last_key entry rows = option_map (λ e. e.0) (option_and_then entry (slice_get rows (length rows - 1)))
+last_key entry rows =
+    option_map (λ e. e.0) (option_and_then entry (slice_get rows (length rows - 1)))
 
 -- each row is the entry at its place
-abbrev pub AreEntries : {J : Type 0} → (Data → Option (EntryKey × J)) → List Data → List (EntryKey × J) → Type 0
+abbrev pub AreEntries : {J : Type 0} → (Data → Option (EntryKey × J)) → List Data
+    → List (EntryKey × J) → Type 0
 AreEntries entry rows entries = map entry rows ≡ map Some entries
 
 -- the empty row, in place of data that are no row
@@ -55,15 +58,18 @@ own_stamp_checks version k d =
 abbrev pub cell_checks : Version → List Data → Data → List Check
 cell_checks version before d =
     own_cell_checks version (length before) d
-    ++ order_check (length before) (last_key (entry_in version) before) (key_of (cell_row version d).0) ∷ []
+    ++ order_check (length before) (last_key (entry_in version) before)
+    (key_of (cell_row version d).0) ∷ []
 
 -- the tests of a row of a summary after these rows, in their order
 abbrev pub stamp_checks : Version → List Data → Data → List Check
 stamp_checks version before d =
     own_stamp_checks version (length before) d
-    ++ order_check (length before) (last_key (told_in version) before) (key_of (stamp_row version d)) ∷ []
+    ++ order_check (length before) (last_key (told_in version) before)
+    (key_of (stamp_row version d)) ∷ []
 
 -- these rows make these entries, whose keys rise
-pub record MakesEntries {J : Type 0} (entry : Data → Option (EntryKey × J)) (rows : List Data) (entries : List (EntryKey × J)) : Type 0 where
+pub record MakesEntries {J : Type 0} (entry : Data → Option (EntryKey × J)) (rows : List Data)
+    (entries : List (EntryKey × J)) : Type 0 where
   pub are : AreEntries entry rows entries
   pub rising : IsMap key_cmp entries

@@ -27,7 +27,9 @@ label_in (object ms) = None
 
 abbrev pub parts_in : Version → Data → Data → Data → Data → Data → Option Row
 parts_in version i l t s c =
-    option_and_then (λ id. option_and_then (λ language. option_and_then (λ time. option_and_then (λ site. option_map (λ count.
+    option_and_then
+    (λ id. option_and_then
+    (λ language. option_and_then (λ time. option_and_then (λ site. option_map (λ count.
     record { id = id; language = language; time = time; site = site; count = count })
     (u32_in c)) (site_in version s)) (u64_in t)) (as_str l)) (as_str i)
 
@@ -42,7 +44,9 @@ abbrev pub stamp_in : Version → Data → Option Row
 stamp_in version d = option_and_then (stamp_of version) (items_in d)
 
 abbrev pub cell_of : Version → List Data → Option (Row × Option (List (List ℕ)))
-cell_of version (i ∷ l ∷ t ∷ s ∷ c ∷ b ∷ []) = option_and_then (λ row. option_map (λ label. (row, label)) (label_in b)) (parts_in version i l t s c)
+cell_of version (i ∷ l ∷ t ∷ s ∷ c ∷ b ∷ []) =
+    option_and_then (λ row. option_map (λ label. (row, label)) (label_in b))
+    (parts_in version i l t s c)
 cell_of version _ = None
 
 -- a row of a site or a delta

@@ -1,5 +1,6 @@
 -- A row that was read, without where it lies in memory.
-use Rattle.std.specs.Prelude.{◌≡◌, ℕ, List, [], true, map, Option, None, Some, is_some, option_map, unwrap_or}
+use Rattle.std.specs.Prelude.{◌≡◌, ℕ, List, [], true, map, Option, None, Some, is_some, option_map}
+use Rattle.std.specs.Prelude.{unwrap_or}
 use Rattle.std.specs.Borrow.{Bor}
 use Rattle.cell_core.specs.SiteNames.{padded_name}
 use Rattle.json.specs.declared.value.Value.{Value}
@@ -16,7 +17,15 @@ site_of (Number n) = padded_name n
 site_of (Name text) = text.now
 
 abbrev pub row_of : Row → Plain
-row_of row = record { id = row.id.now; language = row.language.now; time = row.time; site = site_of row.site; count = row.count }
+row_of row =
+    record {
+      id = row.id.now;
+      language = row.language.now;
+      time = row.time;
+      site =
+          site_of row.site;
+      count = row.count;
+    }
 
 -- the texts of values that are texts
 abbrev pub texts_of : {A : Type 0} → List (Value A) → List (List ℕ)

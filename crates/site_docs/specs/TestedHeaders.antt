@@ -11,7 +11,8 @@ use Rattle.site_docs.specs.declared.document.kind.Kind.{Kind}
 use Rattle.site_docs.specs.declared.document.tested_header.TestedHeader.{TestedHeader}
 
 -- the header of a document that passes its tests, with the rows as far as they pass theirs
-pub record HasHeader {S : Type 0} (kind : Kind) (checks : List Data → Data → List Check) (Holds : S → List Data → Type 0) (d : Data) (tested : TestedHeader) (rows : S) : Type 0 where
+pub record HasHeader {S : Type 0} (kind : Kind) (checks : List Data → Data → List Check)
+    (Holds : S → List Data → Type 0) (d : Data) (tested : TestedHeader) (rows : S) : Type 0 where
   pub passes : AllPass (header_checks kind d)
   pub version : tested.version ≡ version_of d
   pub subject : IsSubject tested.subject (subject_data kind d)
@@ -19,7 +20,9 @@ pub record HasHeader {S : Type 0} (kind : Kind) (checks : List Data → Data →
 
 -- why the text is refused, which is UTF-8
 abbrev pub RefusesText : Kind → List ℕ → DocCause → Type 0
-RefusesText kind text e = ((e ≡ NotJson) × (read text ≡ None)) ⊎ ((d : Data) × (read text ≡ Some d) × FirstFails (header_checks kind d) e)
+RefusesText kind text e =
+    ((e ≡ NotJson) × (read text ≡ None))
+    ⊎ ((d : Data) × (read text ≡ Some d) × FirstFails (header_checks kind d) e)
 
 -- why the bytes are refused before the rows are looked at
 abbrev pub RefusesHeader : Kind → List ℕ → DocCause → Type 0

@@ -1,7 +1,8 @@
 -- The JSON values of the documents, version 2. Own rule: the members of an object are in byte
 -- order of their names.
 use Rattle.std.specs.Prelude.{ℕ, List, map, codes, Option, None, Some}
-use Rattle.serde_json.specs.Data.{Data, null, object, array, number, unsigned, string, no_items, item, no_members, member}
+use Rattle.serde_json.specs.Data.{Data, null, object, array, number, unsigned, string, no_items}
+use Rattle.serde_json.specs.Data.{item, no_members, member}
 use Rattle.serde_json.specs.View.{items_of}
 
 -- the key and the stamp of a row; the site is the bytes of its name
@@ -22,11 +23,20 @@ label_value (Some texts) = texts_value texts
 
 -- `[id, language, time, site, count]`
 abbrev pub stamp_value : Row → Data
-stamp_value row = array (item (string row.id) (item (string row.language) (item (number (unsigned row.time)) (item (string row.site) (item (number (unsigned row.count)) no_items)))))
+stamp_value row =
+    array (item (string row.id)
+    (item (string row.language)
+    (item (number (unsigned row.time))
+    (item (string row.site) (item (number (unsigned row.count)) no_items)))))
 
 -- `[id, language, time, site, count, label]`
 abbrev pub cell_value : Row → Option (List (List ℕ)) → Data
-cell_value row label = array (item (string row.id) (item (string row.language) (item (number (unsigned row.time)) (item (string row.site) (item (number (unsigned row.count)) (item (label_value label) no_items))))))
+cell_value row label =
+    array (item (string row.id)
+    (item (string row.language)
+    (item (number (unsigned row.time))
+    (item (string row.site)
+    (item (number (unsigned row.count)) (item (label_value label) no_items))))))
 
 -- `{"cells":[..],"kind":"site","site":NAME,"version":2}`
 abbrev pub site_value : List ℕ → List Data → Data

@@ -5,11 +5,21 @@ use Rattle.site_docs.specs.Values.{Row}
 use Rattle.site_docs.specs.declared.row.writing.WrittenRow.{WrittenRow}
 
 abbrev pub row_of : WrittenRow → Row
-row_of row = record { id = row.id.now; language = row.language.now; time = row.time; site = row.site.now; count = row.count }
+row_of row =
+    record {
+      id = row.id.now;
+      language = row.language.now;
+      time = row.time;
+      site =
+          row.site.now;
+      count = row.count;
+    }
 
 abbrev pub texts_of : {A : Type 0} → List (String A) → List (List ℕ)
 texts_of texts = map string_bytes texts
 
 -- the tokens of a key and a stamp
 abbrev pub parts_tokens : Row → List Token
-parts_tokens row = string row.id ∷ string row.language ∷ number (decimal row.time) ∷ string row.site ∷ number (decimal row.count) ∷ []
+parts_tokens row =
+    string row.id ∷ string row.language ∷ number (decimal row.time) ∷ string row.site
+    ∷ number (decimal row.count) ∷ []

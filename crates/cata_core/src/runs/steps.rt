@@ -1,7 +1,9 @@
 //! One function for each kind of step of a run.
 
 ghost use Rattle.std.specs.Prelude.{◌≡◌, [], ◌∷◌, IfErr, OnOk, length};
-ghost use Rattle.cata_core.specs.declared.step.Step.TheVariants.{Edit as EditStep, Merge, AskFilter, AskLookup, AskCells, Tell, Post, Deliver};
+ghost use Rattle.cata_core.specs.declared.step.Step.TheVariants.{Edit as EditStep, Merge};
+ghost use Rattle.cata_core.specs.declared.step.Step.TheVariants.{AskFilter, AskLookup, AskCells};
+ghost use Rattle.cata_core.specs.declared.step.Step.TheVariants.{Tell, Post, Deliver};
 ghost use Rattle.cata_core.specs.Entries.{Entries, Agree, joined};
 ghost use Rattle.cata_core.specs.CataFaults.{IsRefusal, IsOfCells};
 ghost use Rattle.cata_core.specs.Faulty.{IsFaultOf};
@@ -21,6 +23,40 @@ use lang_core::Lang;
 use nego_core::{PriorityList, Scheme};
 use std::alloc::Global;
 use std::mem;
+
+/// One step of a run, with its number.
+pub(crate) fn take_step(
+    world: &mut World,
+    alloc: Global,
+    number: usize,
+    step: &Step,
+) -> Result<(), PlayFault>
+    requires { IsRunning (length world.old.sites.items) (held_in world.old) }
+    ensures ok { OnOk result (IsStepped world.old world.new step.now) }
+    ensures err { IfErr result
+        (IsFaultOf (length world.old.sites.items) (held_in world.old) number step.now) }
+{
+    match step {
+        Step::Edit { site, edit: made } => edit(world, alloc, number, *site, made),
+        Step::Merge { into, source } => merge(world, alloc, number, *into, *source),
+        Step::AskFilter {
+            site,
+            id,
+            scheme,
+            list,
+        } => ask_filter(world, alloc, number, *site, id, *scheme, list),
+        Step::AskLookup {
+            site,
+            id,
+            list,
+            default,
+        } => ask_lookup(world, alloc, number, *site, id, list, default),
+        Step::AskCells { site } => ask_cells(world, alloc, number, *site),
+        Step::Tell { site } => tell(world, alloc, number, *site),
+        Step::Post { site, told } => post(world, alloc, number, *site, *told),
+        Step::Deliver { post } => deliver(world, alloc, number, *post),
+    }
+}
 
 /// The refusal of cells, with the number of the step.
 fn at_step(fault: CataFault, step: usize) -> PlayFault
@@ -73,7 +109,9 @@ fn edit(
 ) -> Result<(), PlayFault>
     requires { IsRunning (length world.old.sites.items) (held_in world.old) }
     ensures ok { OnOk result (IsStepped world.old world.new (EditStep site edit.now)) }
-    ensures err { IfErr result (IsFaultOf (length world.old.sites.items) (held_in world.old) number (EditStep site edit.now)) }
+    ensures err { IfErr result
+        (IsFaultOf (length world.old.sites.items) (held_in world.old) number
+        (EditStep site edit.now)) }
 {
     if site >= world.sites.len() {
         return Err(PlayFault::NoSuchSite { step: number });
@@ -91,7 +129,8 @@ fn merge(
 ) -> Result<(), PlayFault>
     requires { IsRunning (length world.old.sites.items) (held_in world.old) }
     ensures ok { OnOk result (IsStepped world.old world.new (Merge into source)) }
-    ensures err { IfErr result (IsFaultOf (length world.old.sites.items) (held_in world.old) number (Merge into source)) }
+    ensures err { IfErr result
+        (IsFaultOf (length world.old.sites.items) (held_in world.old) number (Merge into source)) }
 {
     if into >= world.sites.len() || source >= world.sites.len() {
         return Err(PlayFault::NoSuchSite { step: number });
@@ -116,8 +155,11 @@ fn ask_filter(
     list: &PriorityList,
 ) -> Result<(), PlayFault>
     requires { IsRunning (length world.old.sites.items) (held_in world.old) }
-    ensures ok { OnOk result (IsStepped world.old world.new (AskFilter site id.now scheme list.now)) }
-    ensures err { IfErr result (IsFaultOf (length world.old.sites.items) (held_in world.old) number (AskFilter site id.now scheme list.now)) }
+    ensures ok { OnOk result
+        (IsStepped world.old world.new (AskFilter site id.now scheme list.now)) }
+    ensures err { IfErr result
+        (IsFaultOf (length world.old.sites.items) (held_in world.old) number
+        (AskFilter site id.now scheme list.now)) }
 {
     if site >= world.sites.len() {
         return Err(PlayFault::NoSuchSite { step: number });
@@ -139,8 +181,11 @@ fn ask_lookup(
     default: &Option<Lang>,
 ) -> Result<(), PlayFault>
     requires { IsRunning (length world.old.sites.items) (held_in world.old) }
-    ensures ok { OnOk result (IsStepped world.old world.new (AskLookup site id.now list.now default.now)) }
-    ensures err { IfErr result (IsFaultOf (length world.old.sites.items) (held_in world.old) number (AskLookup site id.now list.now default.now)) }
+    ensures ok { OnOk result
+        (IsStepped world.old world.new (AskLookup site id.now list.now default.now)) }
+    ensures err { IfErr result
+        (IsFaultOf (length world.old.sites.items) (held_in world.old) number
+        (AskLookup site id.now list.now default.now)) }
 {
     if site >= world.sites.len() {
         return Err(PlayFault::NoSuchSite { step: number });
@@ -155,7 +200,8 @@ fn ask_lookup(
 fn ask_cells(world: &mut World, alloc: Global, number: usize, site: usize) -> Result<(), PlayFault>
     requires { IsRunning (length world.old.sites.items) (held_in world.old) }
     ensures ok { OnOk result (IsStepped world.old world.new (AskCells site)) }
-    ensures err { IfErr result (IsFaultOf (length world.old.sites.items) (held_in world.old) number (AskCells site)) }
+    ensures err { IfErr result
+        (IsFaultOf (length world.old.sites.items) (held_in world.old) number (AskCells site)) }
 {
     if site >= world.sites.len() {
         return Err(PlayFault::NoSuchSite { step: number });
@@ -169,7 +215,8 @@ fn ask_cells(world: &mut World, alloc: Global, number: usize, site: usize) -> Re
 fn tell(world: &mut World, alloc: Global, number: usize, site: usize) -> Result<(), PlayFault>
     requires { IsRunning (length world.old.sites.items) (held_in world.old) }
     ensures ok { OnOk result (IsStepped world.old world.new (Tell site)) }
-    ensures err { IfErr result (IsFaultOf (length world.old.sites.items) (held_in world.old) number (Tell site)) }
+    ensures err { IfErr result
+        (IsFaultOf (length world.old.sites.items) (held_in world.old) number (Tell site)) }
 {
     if site >= world.sites.len() {
         return Err(PlayFault::NoSuchSite { step: number });
@@ -190,7 +237,8 @@ fn post(
 ) -> Result<(), PlayFault>
     requires { IsRunning (length world.old.sites.items) (held_in world.old) }
     ensures ok { OnOk result (IsStepped world.old world.new (Post site told)) }
-    ensures err { IfErr result (IsFaultOf (length world.old.sites.items) (held_in world.old) number (Post site told)) }
+    ensures err { IfErr result
+        (IsFaultOf (length world.old.sites.items) (held_in world.old) number (Post site told)) }
 {
     if site >= world.sites.len() {
         return Err(PlayFault::NoSuchSite { step: number });
@@ -209,7 +257,8 @@ fn post(
 fn deliver(world: &mut World, alloc: Global, number: usize, post: usize) -> Result<(), PlayFault>
     requires { IsRunning (length world.old.sites.items) (held_in world.old) }
     ensures ok { OnOk result (IsStepped world.old world.new (Deliver post)) }
-    ensures err { IfErr result (IsFaultOf (length world.old.sites.items) (held_in world.old) number (Deliver post)) }
+    ensures err { IfErr result
+        (IsFaultOf (length world.old.sites.items) (held_in world.old) number (Deliver post)) }
 {
     if post >= world.posts.len() {
         return Err(PlayFault::NoSuchPost { step: number });
@@ -217,37 +266,4 @@ fn deliver(world: &mut World, alloc: Global, number: usize, post: usize) -> Resu
     let post = &world.posts[post];
     let addressee = post.addressee();
     take_in(&mut world.sites[addressee], alloc, number, post.cells())
-}
-
-/// One step of a run, with its number.
-pub(crate) fn take_step(
-    world: &mut World,
-    alloc: Global,
-    number: usize,
-    step: &Step,
-) -> Result<(), PlayFault>
-    requires { IsRunning (length world.old.sites.items) (held_in world.old) }
-    ensures ok { OnOk result (IsStepped world.old world.new step.now) }
-    ensures err { IfErr result (IsFaultOf (length world.old.sites.items) (held_in world.old) number step.now) }
-{
-    match step {
-        Step::Edit { site, edit: made } => edit(world, alloc, number, *site, made),
-        Step::Merge { into, source } => merge(world, alloc, number, *into, *source),
-        Step::AskFilter {
-            site,
-            id,
-            scheme,
-            list,
-        } => ask_filter(world, alloc, number, *site, id, *scheme, list),
-        Step::AskLookup {
-            site,
-            id,
-            list,
-            default,
-        } => ask_lookup(world, alloc, number, *site, id, list, default),
-        Step::AskCells { site } => ask_cells(world, alloc, number, *site),
-        Step::Tell { site } => tell(world, alloc, number, *site),
-        Step::Post { site, told } => post(world, alloc, number, *site, *told),
-        Step::Deliver { post } => deliver(world, alloc, number, *post),
-    }
 }

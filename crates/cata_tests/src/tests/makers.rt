@@ -68,11 +68,6 @@ pub fn catalogue(alloc: Global, text: &str) -> Result<Catalogue, Fail> {
     Ok(catalogue)
 }
 
-fn apply(alloc: Global, catalogue: &mut Catalogue, text: &str) -> Result<(), Fail> {
-    let edit = edit(alloc, text)?;
-    Ok(catalogue.apply(alloc, &edit)?)
-}
-
 /// A site that holds edits.
 pub fn site(alloc: Global, word: &str, text: &str) -> Result<Site, Fail> {
     Ok(Site::from_catalogue(name(word)?, catalogue(alloc, text)?))
@@ -115,4 +110,9 @@ pub fn default(alloc: Global, word: &str) -> Result<Option<Lang>, Fail> {
         "-" => Ok(None),
         _ => Ok(Some(lang(alloc, word)?)),
     }
+}
+
+fn apply(alloc: Global, catalogue: &mut Catalogue, text: &str) -> Result<(), Fail> {
+    let edit = edit(alloc, text)?;
+    Ok(catalogue.apply(alloc, &edit)?)
 }

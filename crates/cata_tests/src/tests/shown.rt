@@ -37,14 +37,6 @@ pub fn cell(alloc: Global, cell: &Cell) -> Result<String, AllocError> {
     format!(in alloc; "{stamp} {label}")
 }
 
-/// Adds an item to a list.
-fn push(list: &mut String, item: &str) -> Result<(), AllocError> {
-    if !list.is_empty() {
-        list.push_str("; ")?;
-    }
-    list.push_str(item)
-}
-
 /// All cells of a catalogue.
 pub fn cells(alloc: Global, catalogue: &Catalogue) -> Result<String, AllocError> {
     let mut list = String::new(alloc);
@@ -54,14 +46,6 @@ pub fn cells(alloc: Global, catalogue: &Catalogue) -> Result<String, AllocError>
         push(&mut list, &item)?;
     }
     Ok(list)
-}
-
-/// The cell, or none.
-fn cell_if(alloc: Global, held: Option<&Cell>) -> Result<String, AllocError> {
-    match held {
-        Some(held) => cell(alloc, held),
-        None => "none".to_string(alloc),
-    }
 }
 
 /// Each key that changed, with the cells before and after.
@@ -75,26 +59,6 @@ pub fn changes(alloc: Global, changes: Changes<'_>) -> Result<String, AllocError
         push(&mut list, &item)?;
     }
     Ok(list)
-}
-
-fn edit(alloc: Global, edit: &Edit) -> Result<String, AllocError> {
-    let held = cell(alloc, edit.cell())?;
-    format!(in alloc; "{} {} {held}", edit.id().as_str(), edit.lang().as_str())
-}
-
-fn edits(alloc: Global, edits: &Edits) -> Result<String, AllocError> {
-    let mut list = "cells".to_string(alloc)?;
-    for place in 0..edits.len() {
-        if let Some(found) = edits.nth(place) {
-            let item = edit(alloc, found)?;
-            push(&mut list, &item)?;
-        }
-    }
-    Ok(list)
-}
-
-fn labelled(alloc: Global, lang: &Lang, label: &Label) -> Result<String, AllocError> {
-    format!(in alloc; "{} {}", lang.as_str(), text_of(label))
 }
 
 pub fn entries(alloc: Global, entries: &Entries) -> Result<String, AllocError> {
@@ -120,14 +84,6 @@ pub fn reply(alloc: Global, reply: &Reply) -> Result<String, AllocError> {
             format!(in alloc; "default {found}")
         }
         Reply::Nothing => "nothing".to_string(alloc),
-    }
-}
-
-fn answer(alloc: Global, answer: &Answer) -> Result<String, AllocError> {
-    match answer {
-        Answer::Cells(found) => edits(alloc, found),
-        Answer::Filter(found) => entries(alloc, found),
-        Answer::Lookup(found) => reply(alloc, found),
     }
 }
 
@@ -166,5 +122,49 @@ pub fn stamped(alloc: Global, ended: &Result<Stamp, CataFault>) -> Result<String
     match ended {
         Ok(found) => stamp(alloc, *found),
         Err(found) => fault(alloc, found),
+    }
+}
+
+/// Adds an item to a list.
+fn push(list: &mut String, item: &str) -> Result<(), AllocError> {
+    if !list.is_empty() {
+        list.push_str("; ")?;
+    }
+    list.push_str(item)
+}
+
+/// The cell, or none.
+fn cell_if(alloc: Global, held: Option<&Cell>) -> Result<String, AllocError> {
+    match held {
+        Some(held) => cell(alloc, held),
+        None => "none".to_string(alloc),
+    }
+}
+
+fn edit(alloc: Global, edit: &Edit) -> Result<String, AllocError> {
+    let held = cell(alloc, edit.cell())?;
+    format!(in alloc; "{} {} {held}", edit.id().as_str(), edit.lang().as_str())
+}
+
+fn edits(alloc: Global, edits: &Edits) -> Result<String, AllocError> {
+    let mut list = "cells".to_string(alloc)?;
+    for place in 0..edits.len() {
+        if let Some(found) = edits.nth(place) {
+            let item = edit(alloc, found)?;
+            push(&mut list, &item)?;
+        }
+    }
+    Ok(list)
+}
+
+fn labelled(alloc: Global, lang: &Lang, label: &Label) -> Result<String, AllocError> {
+    format!(in alloc; "{} {}", lang.as_str(), text_of(label))
+}
+
+fn answer(alloc: Global, answer: &Answer) -> Result<String, AllocError> {
+    match answer {
+        Answer::Cells(found) => edits(alloc, found),
+        Answer::Filter(found) => entries(alloc, found),
+        Answer::Lookup(found) => reply(alloc, found),
     }
 }

@@ -8,6 +8,36 @@ use nego_core::Scheme;
 use std::alloc::Global;
 use std::test::Fail;
 
+/// The answers of a run over so many sites.
+pub fn answered(alloc: Global, sites: u8, text: &str) -> Result<Answers, Fail> {
+    let steps = steps(alloc, text)?;
+    Ok(play(alloc, usize::from(sites), &steps)?)
+}
+
+/// What a run over so many sites answers, or its refusal.
+pub fn played(alloc: Global, sites: u8, text: &str) -> Result<String, Fail> {
+    let steps = steps(alloc, text)?;
+    match play(alloc, usize::from(sites), &steps) {
+        Ok(answers) => Ok(shown::answers(alloc, &answers)?),
+        Err(fault) => shown_fault(alloc, fault),
+    }
+}
+
+/// A case: a run over so many sites, and what it answers.
+pub struct Run {
+    pub case: &'static str,
+    pub sites: u8,
+    pub steps: &'static str,
+    pub gives: &'static str,
+}
+
+pub fn all_give(alloc: Global, runs: &[Run]) -> Result<(), Fail> {
+    for run in runs {
+        gives_in(run.case, played(alloc, run.sites, run.steps), run.gives)?;
+    }
+    Ok(())
+}
+
 /// A site, a message, a scheme and a list.
 fn filter_step(alloc: Global, words: &mut Words) -> Result<Step, Fail> {
     let site = words.place()?;
@@ -81,36 +111,6 @@ fn steps(alloc: Global, text: &str) -> Result<Vec<Step>, Fail> {
     Ok(steps)
 }
 
-/// The answers of a run over so many sites.
-pub fn answered(alloc: Global, sites: u8, text: &str) -> Result<Answers, Fail> {
-    let steps = steps(alloc, text)?;
-    Ok(play(alloc, usize::from(sites), &steps)?)
-}
-
-/// What a run over so many sites answers, or its refusal.
-pub fn played(alloc: Global, sites: u8, text: &str) -> Result<String, Fail> {
-    let steps = steps(alloc, text)?;
-    match play(alloc, usize::from(sites), &steps) {
-        Ok(answers) => Ok(shown::answers(alloc, &answers)?),
-        Err(fault) => shown_fault(alloc, fault),
-    }
-}
-
 fn shown_fault(alloc: Global, fault: PlayFault) -> Result<String, Fail> {
     Ok(shown::play_fault(alloc, &fault)?)
-}
-
-/// A case: a run over so many sites, and what it answers.
-pub struct Run {
-    pub case: &'static str,
-    pub sites: u8,
-    pub steps: &'static str,
-    pub gives: &'static str,
-}
-
-pub fn all_give(alloc: Global, runs: &[Run]) -> Result<(), Fail> {
-    for run in runs {
-        gives_in(run.case, played(alloc, run.sites, run.steps), run.gives)?;
-    }
-    Ok(())
 }

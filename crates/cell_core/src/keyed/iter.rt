@@ -51,7 +51,9 @@ pub(crate) fn are_equal<K: PartialEq, J: PartialEq>(
     mine: Iter<'_, K, J>,
     others: Iter<'_, K, J>,
 ) -> bool
-    ensures { result ≡ pointwise (λ p q. K.eq p.0 q.0 && J.eq p.1 q.1) (entries_left mine.entry) (entries_left others.entry) }
+    ensures { result
+        ≡ pointwise (λ p q. K.eq p.0 q.0 && J.eq p.1 q.1) (entries_left mine.entry)
+        (entries_left others.entry) }
 {
     let mut mine = mine;
     let mut others = others;
@@ -68,7 +70,8 @@ pub(crate) fn are_equal<K: PartialEq, J: PartialEq>(
 
 /// Whether the keys are equal, and the values.
 fn is_equal<K: PartialEq, J: PartialEq>(entry: (&K, &J), other: (&K, &J)) -> bool
-    ensures { result ≡ (K.eq entry.entry.0.now other.entry.0.now && J.eq entry.entry.1.now other.entry.1.now) }
+    ensures { result
+        ≡ (K.eq entry.entry.0.now other.entry.0.now && J.eq entry.entry.1.now other.entry.1.now) }
 {
     entry.0 == other.0 && entry.1 == other.1
 }

@@ -34,7 +34,8 @@ pub fn ask_document(
     id: &MessageId,
     ask: &Ask,
 ) -> Result<(Doc, bool), DocFault>
-    ensures { MatchResult result (λ answer. IsAsked site.now id.now ask.now answer.0 answer.1) (OrMemory no_memory (IsOfDocument 1 (RefusesSite site.now))) }
+    ensures { MatchResult result (λ answer. IsAsked site.now id.now ask.now answer.0 answer.1)
+        (OrMemory no_memory (IsOfDocument 1 (RefusesSite site.now))) }
 {
     let site = site_at(alloc, 1, site)?;
     let answer = answer_of(alloc, site.catalogue(), id, ask)?;
@@ -68,7 +69,8 @@ fn filter_answer(
     scheme: Scheme,
     list: &PriorityList,
 ) -> Result<(Doc, bool), AllocError>
-    ensures { IfOk result (λ answer. Answers catalogue.now id.now (Ask.Filter scheme list.now) answer.0 answer.1) }
+    ensures { IfOk result
+        (λ answer. Answers catalogue.now id.now (Ask.Filter scheme list.now) answer.0 answer.1) }
 {
     let entries = catalogue.ask_filter(alloc, id, list, scheme)?;
     let lines = filter_lines(alloc, &entries)?;

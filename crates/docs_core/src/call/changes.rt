@@ -59,6 +59,19 @@ pub fn changes_lines(
     Ok((written.into_doc(), count != 0))
 }
 
+/// Adds `[id, language, before, after]`.
+pub(crate) fn write_change(out: &mut Writer, change: &Change<'_>) -> Result<(), AllocError>
+    ensures { OnOk result (Adds out.old out.new (value_tokens (change_value
+        (change_seen change.now)))) }
+{
+    out.begin_array()?;
+    out.string(change.id.as_str())?;
+    out.string(change.lang.as_str())?;
+    write_side(out, change.before)?;
+    write_side(out, change.after)?;
+    out.end_array()
+}
+
 /// How many keys changed; there is no memory for more than 128 bits count.
 fn change_count(before: &Catalogue, after: &Catalogue) -> Result<u128, AllocError>
     ensures { IfOk result (λ count. (changes : Changed) → AreChanges before.now after.now changes
@@ -72,19 +85,6 @@ fn change_count(before: &Catalogue, after: &Catalogue) -> Result<u128, AllocErro
         count = more;
     }
     Ok(count)
-}
-
-/// Adds `[id, language, before, after]`.
-pub(crate) fn write_change(out: &mut Writer, change: &Change<'_>) -> Result<(), AllocError>
-    ensures { OnOk result (Adds out.old out.new (value_tokens (change_value
-        (change_seen change.now)))) }
-{
-    out.begin_array()?;
-    out.string(change.id.as_str())?;
-    out.string(change.lang.as_str())?;
-    write_side(out, change.before)?;
-    write_side(out, change.after)?;
-    out.end_array()
 }
 
 /// Adds `[time, site, count, label]` of a cell, or null where there is none.

@@ -66,6 +66,20 @@ pub(crate) fn write_live(
     Ok((doc, current.is_some()))
 }
 
+/// The live label of a message in a language.
+pub(crate) fn label_at<'a>(
+    catalogue: &'a Catalogue,
+    id: &MessageId,
+    lang: &Lang,
+) -> Option<&'a Label>
+    ensures { option_copied result ≡ label_at (id.now, lang.now) catalogue.now }
+{
+    match catalogue.cell(id, lang) {
+        Some(cell) => cell.label(),
+        None => None,
+    }
+}
+
 /// Whether the message is one of these.
 fn is_chosen(catalogue: &Catalogue, id: &MessageId, messages: Messages<'_>) -> bool
     ensures { result ≡ is_chosen messages.entry catalogue.now id.now }
@@ -97,20 +111,6 @@ fn live_time(catalogue: &Catalogue, id: &MessageId, lang: &Lang) -> Option<u64>
     let cell = catalogue.cell(id, lang)?;
     match cell.label() {
         Some(_) => Some(cell.stamp().time),
-        None => None,
-    }
-}
-
-/// The live label of a message in a language.
-pub(crate) fn label_at<'a>(
-    catalogue: &'a Catalogue,
-    id: &MessageId,
-    lang: &Lang,
-) -> Option<&'a Label>
-    ensures { option_copied result ≡ label_at (id.now, lang.now) catalogue.now }
-{
-    match catalogue.cell(id, lang) {
-        Some(cell) => cell.label(),
         None => None,
     }
 }

@@ -25,7 +25,8 @@ pub fn import_document(
     now: u64,
     langmaps: &[u8],
 ) -> Result<Doc, DocFault>
-    ensures { MatchResult result (IsImported site.now now langmaps.now) (OrMemory no_memory (RefusesImport site.now now langmaps.now)) }
+    ensures { MatchResult result (IsImported site.now now langmaps.now)
+        (OrMemory no_memory (RefusesImport site.now now langmaps.now)) }
 {
     let mut site = site_at(alloc, 1, site)?;
     let maps = langmaps_of_document(alloc, 2, langmaps)?;
@@ -40,7 +41,8 @@ pub fn import_document(
 ///
 /// Refusals: a reader's with document 1. Out of memory (26) may come before.
 pub fn export_document(alloc: Global, site: &[u8]) -> Result<Doc, DocFault>
-    ensures { MatchResult result (IsExported site.now) (OrMemory no_memory (IsOfDocument 1 (RefusesSite site.now))) }
+    ensures { MatchResult result (IsExported site.now)
+        (OrMemory no_memory (IsOfDocument 1 (RefusesSite site.now))) }
 {
     let site = site_at(alloc, 1, site)?;
     let doc = write_live_labels(alloc, site.catalogue())?;
@@ -53,7 +55,8 @@ pub fn export_document(alloc: Global, site: &[u8]) -> Result<Doc, DocFault>
 ///
 /// Refusals: a reader's with document 1. Out of memory (26) may come before.
 pub fn missing_document(alloc: Global, site: &[u8], lang: &Lang) -> Result<(Doc, bool), DocFault>
-    ensures { MatchResult result (λ answer. IsMissing site.now lang.now answer.0 answer.1) (OrMemory no_memory (IsOfDocument 1 (RefusesSite site.now))) }
+    ensures { MatchResult result (λ answer. IsMissing site.now lang.now answer.0 answer.1)
+        (OrMemory no_memory (IsOfDocument 1 (RefusesSite site.now))) }
 {
     let site = site_at(alloc, 1, site)?;
     let answer = write_missing(alloc, site.catalogue(), lang)?;

@@ -54,54 +54,6 @@ pub fn reply_line(alloc: Global, reply: &LentReply<'_>) -> Result<Doc, AllocErro
     Ok(written.into_doc())
 }
 
-/// The answer of a filter, owned or borrowed.
-trait Weights {
-    ghost weighed: { Self → Weighed };
-
-    /// How many entries there are.
-    fn count(&self) -> usize
-        ensures { result ≡ length (weighed self.now) };
-
-    /// The entry at a place, from 0; none from `count` on.
-    fn entry(&self, place: usize) -> Option<(&Lang, &Label, u16)>
-        ensures { lent_weighed result ≡ slice_get (weighed self.now) place };
-}
-
-impl Weights for Entries {
-    ghost weighed = { λ entries. entries };
-
-    fn count(&self) -> usize {
-        self.len()
-    }
-
-    fn entry(&self, place: usize) -> Option<(&Lang, &Label, u16)> {
-        self.nth(place)
-    }
-}
-
-impl Weights for LentEntries<'_> {
-    ghost weighed = { λ entries. entries };
-
-    fn count(&self) -> usize {
-        self.len()
-    }
-
-    fn entry(&self, place: usize) -> Option<(&Lang, &Label, u16)> {
-        self.nth(place)
-    }
-}
-
-/// Borrows the answer of a lookup.
-fn lent(reply: &Reply) -> LentReply<'_>
-    ensures { reply_of result ≡ reply.now }
-{
-    match reply {
-        Reply::Matched(lang, label) => LentReply::Matched(lang, label),
-        Reply::Default(lang, label) => LentReply::Default(lang, label),
-        Reply::Nothing => LentReply::Nothing,
-    }
-}
-
 /// Lines that are being written, all into one buffer.
 #[derive(Drop)]
 pub(crate) struct Lines {
@@ -261,5 +213,53 @@ impl Lines {
             Answer::Lookup(reply) => self.reply(&lent(reply)),
             Answer::Cells(cells) => self.cells(cells),
         }
+    }
+}
+
+/// The answer of a filter, owned or borrowed.
+trait Weights {
+    ghost weighed: { Self → Weighed };
+
+    /// How many entries there are.
+    fn count(&self) -> usize
+        ensures { result ≡ length (weighed self.now) };
+
+    /// The entry at a place, from 0; none from `count` on.
+    fn entry(&self, place: usize) -> Option<(&Lang, &Label, u16)>
+        ensures { lent_weighed result ≡ slice_get (weighed self.now) place };
+}
+
+impl Weights for Entries {
+    ghost weighed = { λ entries. entries };
+
+    fn count(&self) -> usize {
+        self.len()
+    }
+
+    fn entry(&self, place: usize) -> Option<(&Lang, &Label, u16)> {
+        self.nth(place)
+    }
+}
+
+impl Weights for LentEntries<'_> {
+    ghost weighed = { λ entries. entries };
+
+    fn count(&self) -> usize {
+        self.len()
+    }
+
+    fn entry(&self, place: usize) -> Option<(&Lang, &Label, u16)> {
+        self.nth(place)
+    }
+}
+
+/// Borrows the answer of a lookup.
+fn lent(reply: &Reply) -> LentReply<'_>
+    ensures { reply_of result ≡ reply.now }
+{
+    match reply {
+        Reply::Matched(lang, label) => LentReply::Matched(lang, label),
+        Reply::Default(lang, label) => LentReply::Default(lang, label),
+        Reply::Nothing => LentReply::Nothing,
     }
 }

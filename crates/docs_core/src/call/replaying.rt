@@ -31,14 +31,20 @@ pub fn replay<R: Source, W: Sink>(
 ) -> Result<(), DocFault>
     requires reads { R.failed reader.old ≡ false }
     requires writes { W.failed writer.old ≡ false }
-    ensures ok { OnOk result ((bytes text : List ℕ) × ReadsWhole R.failed R.remaining reader.old reader.new bytes × Replays bytes text
-        × Appends (W.contents writer.old) (W.contents writer.new) text × (W.failed writer.new ≡ false)) }
+    ensures ok { OnOk result
+        ((bytes text : List ℕ) × ReadsWhole R.failed R.remaining reader.old reader.new bytes
+        × Replays bytes text
+        × Appends (W.contents writer.old) (W.contents writer.new) text
+        × (W.failed writer.new ≡ false)) }
     // Of the first stage that refuses: reading, the script with its run and its lines, or writing.
     ensures err { IfErr result (λ fault.
         (IsReadFault R.failed R.remaining reader.old reader.new fault × (writer.new ≡ writer.old))
-        ⊎ ((bytes : List ℕ) × ReadsWhole R.failed R.remaining reader.old reader.new bytes × OrMemory no_memory (RefusesReplay bytes) fault × (writer.new ≡ writer.old))
-        ⊎ ((bytes text : List ℕ) × ReadsWhole R.failed R.remaining reader.old reader.new bytes × Replays bytes text
-        × (fault ≡ of_no_document WriteFault) × (W.failed writer.new ≡ true) × AppendsFront (W.contents writer.old) (W.contents writer.new) text)) }
+        ⊎ ((bytes : List ℕ) × ReadsWhole R.failed R.remaining reader.old reader.new bytes
+        × OrMemory no_memory (RefusesReplay bytes) fault × (writer.new ≡ writer.old))
+        ⊎ ((bytes text : List ℕ) × ReadsWhole R.failed R.remaining reader.old reader.new bytes
+        × Replays bytes text
+        × (fault ≡ of_no_document WriteFault) × (W.failed writer.new ≡ true)
+        × AppendsFront (W.contents writer.old) (W.contents writer.new) text)) }
 {
     let lines = read_and_play(alloc, reader)?;
     write_out(writer, lines.bytes())
@@ -48,9 +54,11 @@ pub fn replay<R: Source, W: Sink>(
 fn read_and_play<R: Source>(alloc: Global, reader: &mut R) -> Result<Doc, DocFault>
     requires { R.failed reader.old ≡ false }
     ensures { MatchResult result
-        (λ text. (bytes : List ℕ) × ReadsWhole R.failed R.remaining reader.old reader.new bytes × Replays bytes text)
+        (λ text. (bytes : List ℕ) × ReadsWhole R.failed R.remaining reader.old reader.new bytes
+        × Replays bytes text)
         (λ fault. IsReadFault R.failed R.remaining reader.old reader.new fault
-        ⊎ ((bytes : List ℕ) × ReadsWhole R.failed R.remaining reader.old reader.new bytes × OrMemory no_memory (RefusesReplay bytes) fault)) }
+        ⊎ ((bytes : List ℕ) × ReadsWhole R.failed R.remaining reader.old reader.new bytes
+        × OrMemory no_memory (RefusesReplay bytes) fault)) }
 {
     let bytes = read_all(alloc, reader)?;
     play_script(alloc, bytes)
@@ -68,7 +76,8 @@ fn play_script(alloc: Global, bytes: Doc) -> Result<Doc, DocFault>
 
 /// The script of a document, whose bytes are given back.
 fn script_in(alloc: Global, bytes: Doc) -> Result<Script, DocFault>
-    ensures { MatchResult result (ReadsAsScript bytes) (OrMemory no_memory (IsOfDocument 1 (RefusesScript bytes))) }
+    ensures { MatchResult result (ReadsAsScript bytes)
+        (OrMemory no_memory (IsOfDocument 1 (RefusesScript bytes))) }
 {
     read_script(alloc, bytes.bytes())
 }

@@ -32,7 +32,9 @@ pub fn edit_document(
     lang: &Lang,
     label: Option<&Label>,
 ) -> Result<Doc, DocFault>
-    ensures { MatchResult result (IsEdited site.now now (id.now, lang.now) (option_map (λ l. l.now) label.entry)) (OrMemory no_memory (RefusesEditing site.now now)) }
+    ensures { MatchResult result
+        (IsEdited site.now now (id.now, lang.now) (option_map (λ l. l.now) label.entry))
+        (OrMemory no_memory (RefusesEditing site.now now)) }
 {
     let mut site = site_at(alloc, 1, site)?;
     edit(alloc, &mut site, now, id, lang, label)?;
@@ -50,7 +52,14 @@ pub(crate) fn edit(
     label: Option<&Label>,
 ) -> Result<Stamp, CataFault>
     ensures ok { IfOk result (λ stamp. IsNext (latest_of site.old.cells) now site.old.name stamp
-        × (site.new ≡ record { name = site.old.name; cells = put key_cmp (id.now, lang.now) (record { stamp = stamp; label = option_map (λ l. l.now) label.entry }) site.old.cells })) }
+        × (site.new
+        ≡ record {
+          name = site.old.name;
+          cells =
+              put key_cmp (id.now, lang.now)
+              (record { stamp = stamp; label = option_map (λ l. l.now) label.entry })
+              site.old.cells;
+        })) }
     ensures err { IfErr result (RefusesEdit site.old now) }
 {
     match label {
@@ -64,7 +73,8 @@ pub(crate) fn edit(
 /// Refusals, in their order: a reader's with document 1, a reader's with document 2, then 13 with
 /// the place in the first site. Out of memory (26) may come before.
 pub fn sync_documents(alloc: Global, first: &[u8], second: &[u8]) -> Result<(Doc, Doc), DocFault>
-    ensures { MatchResult result (λ docs. AreSynced first.now second.now docs.0 docs.1) (OrMemory no_memory (RefusesSync first.now second.now)) }
+    ensures { MatchResult result (λ docs. AreSynced first.now second.now docs.0 docs.1)
+        (OrMemory no_memory (RefusesSync first.now second.now)) }
 {
     sync_documents_until(alloc, first, second, None)
 }
@@ -73,7 +83,8 @@ pub fn sync_documents(alloc: Global, first: &[u8], second: &[u8]) -> Result<(Doc
 ///
 /// Refusals: a reader's with document 1. Out of memory (26) may come before.
 pub fn summary_document(alloc: Global, site: &[u8]) -> Result<Doc, DocFault>
-    ensures { MatchResult result (IsSummarised site.now) (OrMemory no_memory (IsOfDocument 1 (RefusesSite site.now))) }
+    ensures { MatchResult result (IsSummarised site.now)
+        (OrMemory no_memory (IsOfDocument 1 (RefusesSite site.now))) }
 {
     let site = site_at(alloc, 1, site)?;
     let summary = site.summary(alloc)?;
@@ -87,7 +98,8 @@ pub fn summary_document(alloc: Global, site: &[u8]) -> Result<Doc, DocFault>
 /// Refusals, in their order: a reader's with document 1, a reader's with document 2. Out of memory
 /// (26) may come before.
 pub fn delta_document(alloc: Global, site: &[u8], summary: &[u8]) -> Result<Doc, DocFault>
-    ensures { MatchResult result (IsDeltaFor site.now summary.now) (OrMemory no_memory (RefusesDeltaFor site.now summary.now)) }
+    ensures { MatchResult result (IsDeltaFor site.now summary.now)
+        (OrMemory no_memory (RefusesDeltaFor site.now summary.now)) }
 {
     let site = site_at(alloc, 1, site)?;
     let summary = summary_at(alloc, 2, summary)?;
@@ -103,7 +115,8 @@ pub fn delta_document(alloc: Global, site: &[u8], summary: &[u8]) -> Result<Doc,
 /// the delta is for another site, then 13 with the place in the site. Out of memory (26) may come
 /// before.
 pub fn take_document(alloc: Global, site: &[u8], delta: &[u8]) -> Result<Doc, DocFault>
-    ensures { MatchResult result (IsTaken site.now delta.now) (OrMemory no_memory (RefusesTaking site.now delta.now)) }
+    ensures { MatchResult result (IsTaken site.now delta.now)
+        (OrMemory no_memory (RefusesTaking site.now delta.now)) }
 {
     take_document_until(alloc, site, delta, None)
 }
@@ -112,7 +125,8 @@ pub fn take_document(alloc: Global, site: &[u8], delta: &[u8]) -> Result<Doc, Do
 ///
 /// Refusals: a reader's with document 1. Out of memory (26) may come before.
 pub fn status_document(alloc: Global, site: &[u8]) -> Result<Doc, DocFault>
-    ensures { MatchResult result (IsStatus site.now) (OrMemory no_memory (IsOfDocument 1 (RefusesSite site.now))) }
+    ensures { MatchResult result (IsStatus site.now)
+        (OrMemory no_memory (IsOfDocument 1 (RefusesSite site.now))) }
 {
     let site = site_at(alloc, 1, site)?;
     let line = status_line(alloc, &site)?;

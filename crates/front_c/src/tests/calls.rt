@@ -23,14 +23,6 @@ impl Ended {
     }
 }
 
-/// Whether this text is all that was written into dots.
-fn begins(out: &[u8], text: &[u8]) -> bool {
-    match out.strip_prefix(text) {
-        Some(rest) => rest.iter().all(|byte| *byte == b'.'),
-        None => false,
-    }
-}
-
 /// What is told of an answer of this length.
 pub fn answer(len: usize) -> Told {
     counted(len, 0)
@@ -63,17 +55,6 @@ pub fn refusal_at(number: u32, offset: usize, row: usize) -> Told {
     }
 }
 
-/// What a call finds where it tells: nothing of it may stay.
-fn before() -> Told {
-    Told {
-        len: 77,
-        offset: 77,
-        row: 77,
-        count: 77,
-        number: 77,
-    }
-}
-
 pub fn closed(rt: &HostRuntime) -> SiteHandle {
     SiteHandle::closed(rt.alloc())
 }
@@ -92,15 +73,6 @@ pub fn picked(
     let buffer = &mut out[..room.min(AMPLE)];
     let status = sw_pick(rt.alloc(), flags, field, tags, default, buffer, &mut told);
     Ended { status, told, out }
-}
-
-/// What a call left that has no buffer.
-fn without_answer(status: i32, told: Told) -> Ended {
-    Ended {
-        status,
-        told,
-        out: [b'.'; AMPLE],
-    }
 }
 
 /// Opens a document.
@@ -342,4 +314,32 @@ pub fn bundled(
     let buffer = &mut out[..room.min(AMPLE)];
     let status = sw_site_bundle(rt.alloc(), site, flags, field, default, buffer, &mut told);
     Ended { status, told, out }
+}
+
+/// Whether this text is all that was written into dots.
+fn begins(out: &[u8], text: &[u8]) -> bool {
+    match out.strip_prefix(text) {
+        Some(rest) => rest.iter().all(|byte| *byte == b'.'),
+        None => false,
+    }
+}
+
+/// What a call finds where it tells: nothing of it may stay.
+fn before() -> Told {
+    Told {
+        len: 77,
+        offset: 77,
+        row: 77,
+        count: 77,
+        number: 77,
+    }
+}
+
+/// What a call left that has no buffer.
+fn without_answer(status: i32, told: Told) -> Ended {
+    Ended {
+        status,
+        told,
+        out: [b'.'; AMPLE],
+    }
 }

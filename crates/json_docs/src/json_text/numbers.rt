@@ -1,5 +1,6 @@
 //! Numbers as `serde_json` reads them from the text of a JSON number.
-ghost use Rattle.std.specs.Prelude.{◌≡◌, ◌==◌, true, false, option_and_then, is_some, slice_index, IsTrue, ◌<◌, length};
+ghost use Rattle.std.specs.Prelude.{◌≡◌, ◌==◌, true, false, option_and_then, is_some, slice_index};
+ghost use Rattle.std.specs.Prelude.{IsTrue, ◌<◌, length};
 ghost use Rattle.fast_float.specs.Text.{Parts};
 ghost use Rattle.serde_json.specs.Find.{as_u64};
 ghost use Rattle.serde_json.specs.Read.{float_of, number_from, number_of};

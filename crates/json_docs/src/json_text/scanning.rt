@@ -26,16 +26,6 @@ pub fn has_numbers_in_range(reader: &mut Reader<'_>) -> bool
     true
 }
 
-/// Whether a token, where it is a number, is in range.
-fn is_token_in_range(token: Token<'_>) -> bool
-    ensures { result ≡ is_token_in_range (token_of token.entry) }
-{
-    match token {
-        Token::Number(text) => is_in_range(text),
-        _ => true,
-    }
-}
-
 /// The next value, which nests at most this deep.
 pub fn next_value<'t>(
     alloc: Global,
@@ -47,7 +37,8 @@ pub fn next_value<'t>(
     ensures read { IfOk result (λ v. IsRead (value_view v)) }
     ensures left { OnOk result (are_in_range reader.new ≡ true) }
     ensures shorter { OnOk result (length reader.new < length reader.old) }
-    ensures err { IfErr result (OrMemory NoMemory (λ e. (e ≡ NotJson) × (value depth reader.old ≡ None))) }
+    ensures err { IfErr result
+        (OrMemory NoMemory (λ e. (e ≡ NotJson) × (value depth reader.old ≡ None))) }
 {
     match Value::read(alloc, reader, depth) {
         Ok(value) => Ok(value),
@@ -64,4 +55,14 @@ pub fn is_scalar(token: Token<'_>) -> bool
         token,
         Token::String(_) | Token::Number(_) | Token::Bool(_) | Token::Null
     )
+}
+
+/// Whether a token, where it is a number, is in range.
+fn is_token_in_range(token: Token<'_>) -> bool
+    ensures { result ≡ is_token_in_range (token_of token.entry) }
+{
+    match token {
+        Token::Number(text) => is_in_range(text),
+        _ => true,
+    }
 }

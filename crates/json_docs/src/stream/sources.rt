@@ -1,5 +1,6 @@
 //! Sources of bytes, and a whole document from one.
-ghost use Rattle.std.specs.Prelude.{◌≡◌, ◌||◌, ◌<◌, ◌≤◌, ◌+◌, ℕ, List, Bool, Option, false, take, drop, vec_len, is_err, IfOk, MatchResult, OnOk};
+ghost use Rattle.std.specs.Prelude.{◌≡◌, ◌||◌, ◌<◌, ◌≤◌, ◌+◌, ℕ, List, Bool, Option, false, take};
+ghost use Rattle.std.specs.Prelude.{drop, vec_len, is_err, IfOk, MatchResult, OnOk};
 ghost use Rattle.std.specs.Io.{ReadsAtMost};
 ghost use Rattle.std.specs.Io.KnownBytes.{ReadConsumes};
 ghost use Rattle.json_docs.specs.Sources.{IsReadFault, ReadsWhole, has_failed, reader_of};
@@ -87,7 +88,8 @@ impl<R: Read> Source for Input<R> {
 /// answer, and no read is given more room than what is left of `MOST_BYTES + 1`.
 pub fn read_all<S: Source>(alloc: Global, reader: &mut S) -> Result<Doc, DocFault>
     requires { S.failed reader.old ≡ false }
-    ensures { MatchResult result (ReadsWhole S.failed S.remaining reader.old reader.new) (IsReadFault S.failed S.remaining reader.old reader.new) }
+    ensures { MatchResult result (ReadsWhole S.failed S.remaining reader.old reader.new)
+        (IsReadFault S.failed S.remaining reader.old reader.new) }
 {
     let mut buffer = Vec::new(alloc);
     let mut filled = 0;
@@ -110,7 +112,8 @@ fn read_behind<S: Source>(reader: &mut S, buffer: &mut Vec<u8>, filled: usize) -
     requires { filled ≤ vec_len buffer.old }
     ensures bound { IfOk result (λ count. filled + count ≤ vec_len buffer.new) }
     ensures len { vec_len buffer.new ≡ vec_len buffer.old }
-    ensures bytes { ReadConsumes (S.remaining reader.old) (S.remaining reader.new) result (drop filled buffer.new.items) }
+    ensures bytes { ReadConsumes (S.remaining reader.old) (S.remaining reader.new) result
+        (drop filled buffer.new.items) }
     ensures front { take filled buffer.new.items ≡ take filled buffer.old.items }
     ensures failed { S.failed reader.new ≡ (S.failed reader.old || is_err result) }
 {

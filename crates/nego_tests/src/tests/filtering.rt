@@ -4,6 +4,42 @@ use nego_core::{Picks, PriorityList, Scheme, filter, filter_lent};
 use std::process::Abort;
 use std::test::Fail;
 
+/// Rows of `FIELD|LANGUAGES|PLACE;WEIGHT ..` under the basic scheme. RFC 4647 section 3.3.1 has the
+/// first.
+const BASIC: &str = "de-de|de-DE-1996 de-Deva de-Latn-DE|0;1000
+en, en-GB;q=0|en en-gb en-us|0;1000 2;1000
+da, en-gb;q=0.8, en;q=0.7|en da-DK en-GB-oed @none en|1;1000 2;800 0;700 4;700
+fr;q=0.5, en|@none en fr|1;1000 2;500
+|en|
+en;q=0, en;q=0.5|en|
+*|@none en|1;1000
+en, *;q=0|fr en|1;1000
+en;q=0.5|en-us en-gb en|2;500 1;500 0;500";
+
+/// The same under the extended scheme. RFC 4647 section 3.3.2 has the last two: first the tags that
+/// the ranges match, then those that they do not.
+const EXTENDED: &str =
+    "ranges: de-*-DE|de-DE de-Latn-DE de-DE-x-goethe de-Deva-DE de de-x-DE de-Deva|0;1000 2;1000 3;1000 1;1000
+ranges: de-DE|de-DE de-de de-Latn-DE de-Latf-DE de-DE-x-goethe de-Latn-DE-1996 de-Deva-DE de de-x-DE de-Deva|0;1000 1;1000 4;1000 6;1000 3;1000 2;1000 5;1000
+ranges: de-*-DE|de-DE de-de de-Latn-DE de-Latf-DE de-DE-x-goethe de-Latn-DE-1996 de-Deva-DE de de-x-DE de-Deva|0;1000 1;1000 4;1000 6;1000 3;1000 2;1000 5;1000";
+
+/// Checks what is picked among languages, handed in or lent.
+pub fn picks(
+    rt: &(impl Abort + AllocGlobal),
+    list: &PriorityList,
+    scheme: Scheme,
+    texts: &str,
+    expected: &str,
+) -> Result<(), Fail> {
+    let langs = langs(rt, texts)?;
+    let found = shown(rt, &filter(rt.alloc(), list, scheme, &langs)?)?;
+    assert!(rt; found.as_str().trim() == expected, "{found} of {texts}");
+    let lent = langs.iter().collect::<Vec<_>>(rt.alloc())?;
+    let same = shown(rt, &filter_lent(rt.alloc(), list, scheme, &lent)?)?;
+    assert!(rt; same == found, "{same} of {texts}");
+    Ok(())
+}
+
 /// Each pick's place with its weight.
 fn shown(rt: &(impl Abort + AllocGlobal), picks: &Picks) -> Result<String, Fail> {
     assert_places(rt, picks);
@@ -23,42 +59,6 @@ fn assert_places(rt: &impl Abort, picks: &Picks) {
     assert!(rt; picks.nth(picks.len()) == None);
     assert!(rt; picks.is_empty() == (picks.len() == 0));
 }
-
-/// Checks what is picked among languages, handed in or lent.
-pub fn picks(
-    rt: &(impl Abort + AllocGlobal),
-    list: &PriorityList,
-    scheme: Scheme,
-    texts: &str,
-    expected: &str,
-) -> Result<(), Fail> {
-    let langs = langs(rt, texts)?;
-    let found = shown(rt, &filter(rt.alloc(), list, scheme, &langs)?)?;
-    assert!(rt; found.as_str().trim() == expected, "{found} of {texts}");
-    let lent = langs.iter().collect::<Vec<_>>(rt.alloc())?;
-    let same = shown(rt, &filter_lent(rt.alloc(), list, scheme, &lent)?)?;
-    assert!(rt; same == found, "{same} of {texts}");
-    Ok(())
-}
-
-/// Rows of `FIELD|LANGUAGES|PLACE;WEIGHT ..` under the basic scheme. RFC 4647 section 3.3.1 has the
-/// first.
-const BASIC: &str = "de-de|de-DE-1996 de-Deva de-Latn-DE|0;1000
-en, en-GB;q=0|en en-gb en-us|0;1000 2;1000
-da, en-gb;q=0.8, en;q=0.7|en da-DK en-GB-oed @none en|1;1000 2;800 0;700 4;700
-fr;q=0.5, en|@none en fr|1;1000 2;500
-|en|
-en;q=0, en;q=0.5|en|
-*|@none en|1;1000
-en, *;q=0|fr en|1;1000
-en;q=0.5|en-us en-gb en|2;500 1;500 0;500";
-
-/// The same under the extended scheme. RFC 4647 section 3.3.2 has the last two: first the tags that
-/// the ranges match, then those that they do not.
-const EXTENDED: &str =
-    "ranges: de-*-DE|de-DE de-Latn-DE de-DE-x-goethe de-Deva-DE de de-x-DE de-Deva|0;1000 2;1000 3;1000 1;1000
-ranges: de-DE|de-DE de-de de-Latn-DE de-Latf-DE de-DE-x-goethe de-Latn-DE-1996 de-Deva-DE de de-x-DE de-Deva|0;1000 1;1000 4;1000 6;1000 3;1000 2;1000 5;1000
-ranges: de-*-DE|de-DE de-de de-Latn-DE de-Latf-DE de-DE-x-goethe de-Latn-DE-1996 de-Deva-DE de de-x-DE de-Deva|0;1000 1;1000 4;1000 6;1000 3;1000 2;1000 5;1000";
 
 fn rows(rt: &(impl Abort + AllocGlobal), scheme: Scheme, rows: &str) -> Result<(), Fail> {
     for row in rows.lines() {

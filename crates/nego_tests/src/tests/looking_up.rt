@@ -5,50 +5,6 @@ use nego_core::{Choice, Found, PriorityList, choose, lookup};
 use std::process::Abort;
 use std::test::Fail;
 
-/// The language of a text, or none of the empty one.
-fn default_of(rt: &(impl Abort + AllocGlobal), text: &str) -> Result<Option<Lang>, Fail> {
-    if text.is_empty() {
-        return Ok(None);
-    }
-    Ok(Some(lang(rt, text)?))
-}
-
-/// Whether a choice is what was found among the languages.
-fn agrees(choice: Choice, found: Found, langs: &[Lang]) -> bool {
-    match (choice, found) {
-        (Choice::Matched(text), Found::Matched(place)) => {
-            langs.get(place).map(|lang| lang.as_str()) == Some(text)
-        }
-        (Choice::Default, Found::Default(_)) => true,
-        (Choice::Nothing, Found::Nothing) => true,
-        _ => false,
-    }
-}
-
-/// Checks what `lookup` and `choose` answer.
-pub fn finds(
-    rt: &(impl Abort + AllocGlobal),
-    list: &PriorityList,
-    texts: &str,
-    default: &str,
-    expected: &str,
-) -> Result<(), Fail> {
-    let langs = langs(rt, texts)?;
-    let default = default_of(rt, default)?;
-    let found = lookup(list, &langs, default.as_ref());
-    let shown = format!(in rt.alloc(); "{found:?}")?;
-    assert!(rt; shown.as_str() == expected, "{shown} in {texts}");
-    assert!(rt;
-        agrees(
-            choose(list, &langs.as_slice(), default.as_ref()),
-            found,
-            &langs
-        ),
-        "{texts}"
-    );
-    Ok(())
-}
-
 /// Rows of `FIELD|LANGUAGES|DEFAULT|ANSWER`. The first eight are the example of RFC 4647 section
 /// 3.4, at each of its steps.
 const ROWS: &str =
@@ -93,6 +49,50 @@ ranges: zh-*-a-*-foo|zh||Matched(0)
 ranges: *-CH, fr|fr||Matched(0)
 ranges: *-CH|fr||Nothing
 ranges: *-CH|fr|fr|Default(0)";
+
+/// Checks what `lookup` and `choose` answer.
+pub fn finds(
+    rt: &(impl Abort + AllocGlobal),
+    list: &PriorityList,
+    texts: &str,
+    default: &str,
+    expected: &str,
+) -> Result<(), Fail> {
+    let langs = langs(rt, texts)?;
+    let default = default_of(rt, default)?;
+    let found = lookup(list, &langs, default.as_ref());
+    let shown = format!(in rt.alloc(); "{found:?}")?;
+    assert!(rt; shown.as_str() == expected, "{shown} in {texts}");
+    assert!(rt;
+        agrees(
+            choose(list, &langs.as_slice(), default.as_ref()),
+            found,
+            &langs
+        ),
+        "{texts}"
+    );
+    Ok(())
+}
+
+/// The language of a text, or none of the empty one.
+fn default_of(rt: &(impl Abort + AllocGlobal), text: &str) -> Result<Option<Lang>, Fail> {
+    if text.is_empty() {
+        return Ok(None);
+    }
+    Ok(Some(lang(rt, text)?))
+}
+
+/// Whether a choice is what was found among the languages.
+fn agrees(choice: Choice, found: Found, langs: &[Lang]) -> bool {
+    match (choice, found) {
+        (Choice::Matched(text), Found::Matched(place)) => {
+            langs.get(place).map(|lang| lang.as_str()) == Some(text)
+        }
+        (Choice::Default, Found::Default(_)) => true,
+        (Choice::Nothing, Found::Nothing) => true,
+        _ => false,
+    }
+}
 
 #[test]
 fn found(rt: HostRuntime) -> Result<(), Fail> {

@@ -45,16 +45,6 @@ pub fn list_of(rt: &(impl Abort + AllocGlobal), field: &str) -> Result<PriorityL
     }
 }
 
-/// Each range of the list with its weight.
-fn shown(rt: &(impl Abort + AllocGlobal), list: &PriorityList) -> Result<String, Fail> {
-    let mut text = String::new(rt.alloc());
-    for item in list.items() {
-        let shown = format!(in rt.alloc(); " {};{}", item.range(), item.weight())?;
-        text.push_str(shown.as_str())?;
-    }
-    Ok(text)
-}
-
 /// Checks the ranges and weights of a list.
 pub fn has_items(
     rt: &(impl Abort + AllocGlobal),
@@ -64,4 +54,14 @@ pub fn has_items(
     let shown = shown(rt, list)?;
     assert!(rt; shown.as_str().trim() == items, "{shown}");
     Ok(())
+}
+
+/// Each range of the list with its weight.
+fn shown(rt: &(impl Abort + AllocGlobal), list: &PriorityList) -> Result<String, Fail> {
+    let mut text = String::new(rt.alloc());
+    for item in list.items() {
+        let shown = format!(in rt.alloc(); " {};{}", item.range(), item.weight())?;
+        text.push_str(shown.as_str())?;
+    }
+    Ok(text)
 }

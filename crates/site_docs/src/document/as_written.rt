@@ -1,8 +1,10 @@
 //! The fast path for sites and deltas: documents in the form in which they are written, read in one
 //! pass.
-ghost use Rattle.std.specs.Prelude.{◌≡◌, ◌∷◌, ◌++◌, [], ℕ, List, Some, IfSome, IsTrue, codes, map, string_bytes};
+ghost use Rattle.std.specs.Prelude.{◌≡◌, ◌∷◌, ◌++◌, [], ℕ, List, Some, IfSome, IsTrue, codes, map};
+ghost use Rattle.std.specs.Prelude.{string_bytes};
 ghost use Rattle.json.specs.Lex.{tokens};
-ghost use Rattle.json.specs.Token.{Token as Read, begin_array, begin_object, end_object, key, number, string};
+ghost use Rattle.json.specs.Token.{Token as Read, begin_array, begin_object, end_object, key};
+ghost use Rattle.json.specs.Token.{number, string};
 ghost use Rattle.serde_json.specs.Data.{unsigned};
 ghost use Rattle.serde_json.specs.Read.{number_of};
 ghost use Rattle.cata_core.specs.Entries.{IsAboveAll};
@@ -37,9 +39,41 @@ pub fn cells_as_written(alloc: Global, bytes: &[u8], kind: Kind) -> Option<(Site
     cells_of_text(alloc, text, kind)
 }
 
+/// Appends the entry, where its key is greater than all others.
+pub fn put_above(alloc: Global, cells: &mut Catalogue, entry: CellEntry) -> bool
+    ensures { IsTrue result
+        → IsAboveAll (entry_by entry).0 cells.old × (cells.new ≡ cells.old ++ entry_by entry ∷ []) }
+{
+    let CellEntry { id, lang, cell } = entry;
+    if !cells.is_above_all(&id, &lang) {
+        return false;
+    }
+    match cells.push(alloc, id, lang, cell) {
+        Ok(()) => true,
+        Err(_) => false,
+    }
+}
+
+/// Appends a copy of the text.
+pub fn push_text(alloc: Global, texts: &mut Vec<String>, text: &str) -> bool
+    ensures { IsTrue result
+        → map string_bytes texts.new.items ≡ map string_bytes texts.old.items ++ text.now ∷ [] }
+{
+    match String::from_str(alloc, text) {
+        Ok(copy) => match texts.push(copy) {
+            Ok(()) => true,
+            Err(_) => false,
+        },
+        Err(_) => false,
+    }
+}
+
 /// The name and the cells of a text.
 fn cells_of_text(alloc: Global, text: &str, kind: Kind) -> Option<(SiteName, Catalogue)>
-    ensures { IfSome result (λ r. (rest : List Read) × (rows : List Read) × (tokens text.now ≡ begin_object ∷ key (codes "cells") ∷ begin_array ∷ rows) × BeginsRows rows r.1 rest × EndsNamed kind rest r.0) }
+    ensures { IfSome result
+        (λ r. (rest : List Read) × (rows : List Read)
+        × (tokens text.now ≡ begin_object ∷ key (codes "cells") ∷ begin_array ∷ rows)
+        × BeginsRows rows r.1 rest × EndsNamed kind rest r.0) }
 {
     let mut scratch = Scratch::new(alloc);
     let Ok(mut reader) = Reader::new(text, &mut scratch) else {
@@ -55,7 +89,8 @@ fn cells_of_text(alloc: Global, text: &str, kind: Kind) -> Option<(SiteName, Cat
 
 /// Takes what comes before the rows.
 fn begins_rows(reader: &mut Reader<'_>) -> bool
-    ensures { IsTrue result → reader.old ≡ begin_object ∷ key (codes "cells") ∷ begin_array ∷ reader.new }
+    ensures { IsTrue result
+        → reader.old ≡ begin_object ∷ key (codes "cells") ∷ begin_array ∷ reader.new }
 {
     matches!(reader.next(), Some(Token::BeginObject))
         && takes_key(reader, "cells")
@@ -76,20 +111,6 @@ fn next_rows(alloc: Global, reader: &mut Reader<'_>) -> Option<Catalogue>
         }
     }
     Some(cells)
-}
-
-/// Appends the entry, where its key is greater than all others.
-pub fn put_above(alloc: Global, cells: &mut Catalogue, entry: CellEntry) -> bool
-    ensures { IsTrue result → IsAboveAll (entry_by entry).0 cells.old × (cells.new ≡ cells.old ++ entry_by entry ∷ []) }
-{
-    let CellEntry { id, lang, cell } = entry;
-    if !cells.is_above_all(&id, &lang) {
-        return false;
-    }
-    match cells.push(alloc, id, lang, cell) {
-        Ok(()) => true,
-        Err(_) => false,
-    }
 }
 
 /// The next row.
@@ -151,7 +172,8 @@ fn next_label(alloc: Global, reader: &mut Reader<'_>) -> Option<Option<Label>>
 
 /// Texts, up to and including the closing bracket.
 fn next_texts(alloc: Global, reader: &mut Reader<'_>) -> Option<Vec<String>>
-    ensures { IfSome result (λ texts. BeginsTexts reader.old (map string_bytes texts.items) reader.new) }
+    ensures { IfSome result
+        (λ texts. BeginsTexts reader.old (map string_bytes texts.items) reader.new) }
 {
     let Ok(mut texts) = Vec::with_capacity(alloc, 1) else {
         return None;
@@ -165,19 +187,6 @@ fn next_texts(alloc: Global, reader: &mut Reader<'_>) -> Option<Vec<String>>
         }
     }
     Some(texts)
-}
-
-/// Appends a copy of the text.
-pub fn push_text(alloc: Global, texts: &mut Vec<String>, text: &str) -> bool
-    ensures { IsTrue result → map string_bytes texts.new.items ≡ map string_bytes texts.old.items ++ text.now ∷ [] }
-{
-    match String::from_str(alloc, text) {
-        Ok(copy) => match texts.push(copy) {
-            Ok(()) => true,
-            Err(_) => false,
-        },
-        Err(_) => false,
-    }
 }
 
 /// The name, and the members about it.
@@ -199,14 +208,18 @@ fn last_members(reader: &mut Reader<'_>, kind: Kind) -> Option<SiteName>
 
 /// Takes the kind.
 fn takes_kind(reader: &mut Reader<'_>, kind: Kind) -> bool
-    ensures { IsTrue result → reader.old ≡ key (codes "kind") ∷ string (kind_text kind) ∷ reader.new }
+    ensures { IsTrue result
+        → reader.old ≡ key (codes "kind") ∷ string (kind_text kind) ∷ reader.new }
 {
     takes_key(reader, "kind") && takes_text(reader, kind.text())
 }
 
 /// Takes the version, which is 2, and the end of the text.
 fn ends_in_version(reader: &mut Reader<'_>) -> bool
-    ensures { IsTrue result → (version : List ℕ) × (reader.old ≡ key (codes "version") ∷ number version ∷ end_object ∷ []) × (number_of version ≡ Some (unsigned 2)) }
+    ensures { IsTrue result
+        → (version : List ℕ)
+        × (reader.old ≡ key (codes "version") ∷ number version ∷ end_object ∷ [])
+        × (number_of version ≡ Some (unsigned 2)) }
 {
     takes_key(reader, "version")
         && next_number(reader) == Some(2)

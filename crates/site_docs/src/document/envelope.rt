@@ -1,7 +1,8 @@
 //! The parts of a document before and after its rows, written.
 ghost use Rattle.std.specs.Prelude.{◌≡◌, ◌∷◌, [], ◌++◌, ℕ, List, IfOk, IsUtf8, OnOk, codes};
 ghost use Rattle.json.specs.Print.{print};
-ghost use Rattle.json.specs.Token.{begin_object, end_object, begin_array, end_array, key, number, string};
+ghost use Rattle.json.specs.Token.{begin_object, end_object, begin_array, end_array, key, number};
+ghost use Rattle.json.specs.Token.{string};
 ghost use Rattle.serde_json.specs.Data.{Data};
 ghost use Rattle.site_docs.specs.Envelope.{name_tokens, version_tokens};
 ghost use Rattle.site_docs.specs.Texts.{Adds, HoldsCells, HoldsStamps, text};
@@ -62,9 +63,21 @@ pub fn close_summary(draft: Writer) -> Result<Doc, AllocError>
     close_rows(draft)
 }
 
+/// The text with its line feed.
+pub fn finish(draft: Writer) -> Result<Doc, AllocError>
+    ensures text { IfOk result (λ doc. doc ≡ draft.before ++ (print draft.tokens ++ 10 ∷ [])) }
+    ensures utf8 { IfOk result (λ doc. draft.before ≡ [] → IsUtf8 doc) }
+{
+    let mut bytes = draft.into_inner();
+    bytes.push(b'\n')?;
+    Ok(Doc::from(bytes))
+}
+
 /// Closes the rows, and adds the version.
 fn close_rows(mut draft: Writer) -> Result<Doc, AllocError>
-    ensures text { IfOk result (λ doc. doc ≡ draft.before ++ (print (draft.tokens ++ end_array ∷ version_tokens) ++ 10 ∷ [])) }
+    ensures text { IfOk result
+        (λ doc. doc
+        ≡ draft.before ++ (print (draft.tokens ++ end_array ∷ version_tokens) ++ 10 ∷ [])) }
     ensures utf8 { IfOk result (λ doc. draft.before ≡ [] → IsUtf8 doc) }
 {
     draft.end_array()?;
@@ -74,7 +87,13 @@ fn close_rows(mut draft: Writer) -> Result<Doc, AllocError>
 
 /// Closes the rows, and adds the kind, a name and the version.
 fn close_named(mut draft: Writer, kind: &str, member: &str, name: &str) -> Result<Doc, AllocError>
-    ensures text { IfOk result (λ doc. doc ≡ draft.before ++ (print (draft.tokens ++ end_array ∷ (name_tokens (codes "kind") kind.now ++ (name_tokens member.now name.now ++ version_tokens))) ++ 10 ∷ [])) }
+    ensures text { IfOk result
+        (λ doc. doc
+        ≡ draft.before
+        ++ (print
+        (draft.tokens ++ end_array
+        ∷ (name_tokens (codes "kind") kind.now
+        ++ (name_tokens member.now name.now ++ version_tokens))) ++ 10 ∷ [])) }
     ensures utf8 { IfOk result (λ doc. draft.before ≡ [] → IsUtf8 doc) }
 {
     draft.end_array()?;
@@ -99,14 +118,4 @@ fn write_version(draft: &mut Writer) -> Result<(), AllocError>
     draft.key("version")?;
     draft.u64(2)?;
     draft.end_object()
-}
-
-/// The text with its line feed.
-pub fn finish(draft: Writer) -> Result<Doc, AllocError>
-    ensures text { IfOk result (λ doc. doc ≡ draft.before ++ (print draft.tokens ++ 10 ∷ [])) }
-    ensures utf8 { IfOk result (λ doc. draft.before ≡ [] → IsUtf8 doc) }
-{
-    let mut bytes = draft.into_inner();
-    bytes.push(b'\n')?;
-    Ok(Doc::from(bytes))
 }

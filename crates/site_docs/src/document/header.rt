@@ -1,5 +1,6 @@
 //! The members of a document, each taken as it is read.
-ghost use Rattle.std.specs.Prelude.{◌≡◌, ◌<◌, ◌^◌, ℕ, List, Some, None, Option, true, length, MatchResult, OnOk};
+ghost use Rattle.std.specs.Prelude.{◌≡◌, ◌<◌, ◌^◌, ℕ, List, Some, None, Option, true, length};
+ghost use Rattle.std.specs.Prelude.{MatchResult, OnOk};
 ghost use Rattle.serde_json.specs.Data.{Data, Members, put};
 ghost use Rattle.serde_json.specs.Find.{as_str};
 ghost use Rattle.json_docs.specs.Checks.{OrMemory};
@@ -61,7 +62,8 @@ pub fn read_members<R: Rows>(
     requires numbers { are_in_range reader.old ≡ true }
     requires places { length reader.old < 2 ^ 64 }
     ensures { MatchResult result
-        (λ header. (ms : Members) × ReadsMembers 126 reader.old ms reader.new × Shows kind (R.Checks version) (R.Holds version) header rows.new ms)
+        (λ header. (ms : Members) × ReadsMembers 126 reader.old ms reader.new
+        × Shows kind (R.Checks version) (R.Holds version) header rows.new ms)
         (OrMemory NoMemory (λ e. (e ≡ NotJson) × ReadsNoMembers 126 reader.old)) }
 {
     let mut header = Header {
@@ -92,7 +94,8 @@ fn read_member<R: Rows>(
     requires places { length reader.old < 2 ^ 64 }
     ensures { MatchResult result
         (λ next. (d : Data) × ReadsNext reader.old d reader.new
-        × ((name : List ℕ) (ms : Members) → member_of kind name ≡ member → Shows kind (R.Checks version) (R.Holds version) header rows.old ms
+        × ((name : List ℕ) (ms : Members) → member_of kind name ≡ member
+        → Shows kind (R.Checks version) (R.Holds version) header rows.old ms
         → Shows kind (R.Checks version) (R.Holds version) next rows.new (put name d ms)))
         (OrMemory NoMemory (ReadsNone 126 reader.old)) }
 {
@@ -114,7 +117,8 @@ fn read_kind(
 ) -> Result<Header, DocCause>
     requires { are_in_range reader.old ≡ true }
     ensures { MatchResult result
-        (λ next. (d : Data) × ReadsNext reader.old d reader.new × (next ≡ record header { is_kind = is_text (kind_text kind) (as_str d) }))
+        (λ next. (d : Data) × ReadsNext reader.old d reader.new
+        × (next ≡ record header { is_kind = is_text (kind_text kind) (as_str d) }))
         (OrMemory NoMemory (ReadsNone 126 reader.old)) }
 {
     let value = next_value(alloc, reader, MEMBER_DEPTH)?;
@@ -128,7 +132,8 @@ fn read_kind(
 fn read_version(alloc: Global, reader: &mut Reader<'_>, header: Header) -> Result<Header, DocCause>
     requires { are_in_range reader.old ≡ true }
     ensures { MatchResult result
-        (λ next. (d : Data) × ReadsNext reader.old d reader.new × (next ≡ record header { version = u64_in d }))
+        (λ next. (d : Data) × ReadsNext reader.old d reader.new
+        × (next ≡ record header { version = u64_in d }))
         (OrMemory NoMemory (ReadsNone 126 reader.old)) }
 {
     let version = next_value(alloc, reader, MEMBER_DEPTH)?;
@@ -142,7 +147,9 @@ fn read_version(alloc: Global, reader: &mut Reader<'_>, header: Header) -> Resul
 fn read_subject(alloc: Global, reader: &mut Reader<'_>, header: Header) -> Result<Header, DocCause>
     requires { are_in_range reader.old ≡ true }
     ensures { MatchResult result
-        (λ next. (d : Data) × ReadsNext reader.old d reader.new × ((subject : Subject) × IsSubject subject d × (next ≡ record header { subject = Some subject })))
+        (λ next. (d : Data) × ReadsNext reader.old d reader.new
+        × ((subject : Subject) × IsSubject subject d
+        × (next ≡ record header { subject = Some subject })))
         (OrMemory NoMemory (ReadsNone 126 reader.old)) }
 {
     let subject = next_value(alloc, reader, MEMBER_DEPTH)?;
@@ -164,7 +171,9 @@ fn read_array<R: Rows>(
     requires places { length reader.old < 2 ^ 64 }
     ensures { MatchResult result
         (λ next. (d : Data) × ReadsNext reader.old d reader.new
-        × ((read : Option (Option DocCause)) × ShowsRows (R.Checks version) (R.Holds version) read rows.new (items_in d) × (next ≡ record header { rows = read })))
+        × ((read : Option (Option DocCause))
+        × ShowsRows (R.Checks version) (R.Holds version) read rows.new (items_in d)
+        × (next ≡ record header { rows = read })))
         (OrMemory NoMemory (ReadsNone 126 reader.old)) }
 {
     let Some(token) = reader.next() else {
@@ -219,7 +228,8 @@ fn pass_members(reader: &mut Reader<'_>) -> Result<(), DocCause>
 fn pass_over(reader: &mut Reader<'_>, header: Header) -> Result<Header, DocCause>
     requires { are_in_range reader.old ≡ true }
     ensures { MatchResult result
-        (λ next. (d : Data) × ReadsNext reader.old d reader.new × (next ≡ record header { has_other = true }))
+        (λ next. (d : Data) × ReadsNext reader.old d reader.new
+        × (next ≡ record header { has_other = true }))
         (OrMemory NoMemory (ReadsNone 126 reader.old)) }
 {
     match reader.skip_value(MEMBER_DEPTH) {

@@ -16,14 +16,16 @@ use std::alloc::Global;
 /// document; each row 20, 10, 1 to 4, 27, 12, 11, 21; 26, which may come before a later one. All
 /// but 26 name document 1.
 pub fn read_site(alloc: Global, bytes: &[u8]) -> Result<Site, DocFault>
-    ensures { MatchResult result (ReadsAsSite bytes.now) (OrMemory no_memory (IsOfDocument 1 (RefusesSite bytes.now))) }
+    ensures { MatchResult result (ReadsAsSite bytes.now)
+        (OrMemory no_memory (IsOfDocument 1 (RefusesSite bytes.now))) }
 {
     site_at(alloc, 1, bytes)
 }
 
 /// The delta of a document of version 1 or 2; refusals as of [`read_site`].
 pub fn read_delta(alloc: Global, bytes: &[u8]) -> Result<Delta, DocFault>
-    ensures { MatchResult result (ReadsAsDelta bytes.now) (OrMemory no_memory (IsOfDocument 1 (RefusesDelta bytes.now))) }
+    ensures { MatchResult result (ReadsAsDelta bytes.now)
+        (OrMemory no_memory (IsOfDocument 1 (RefusesDelta bytes.now))) }
 {
     delta_at(alloc, 1, bytes)
 }
@@ -31,14 +33,16 @@ pub fn read_delta(alloc: Global, bytes: &[u8]) -> Result<Delta, DocFault>
 /// The summary of a document of version 1 or 2; refusals as of [`read_site`], without those of
 /// labels (12, 11).
 pub fn read_summary(alloc: Global, bytes: &[u8]) -> Result<Summary, DocFault>
-    ensures { MatchResult result (ReadsAsSummary bytes.now) (OrMemory no_memory (IsOfDocument 1 (RefusesSummary bytes.now))) }
+    ensures { MatchResult result (ReadsAsSummary bytes.now)
+        (OrMemory no_memory (IsOfDocument 1 (RefusesSummary bytes.now))) }
 {
     summary_at(alloc, 1, bytes)
 }
 
 /// The site of the input document with this number.
 pub fn site_at(alloc: Global, document: u8, bytes: &[u8]) -> Result<Site, DocFault>
-    ensures { MatchResult result (ReadsAsSite bytes.now) (OrMemory no_memory (IsOfDocument document (RefusesSite bytes.now))) }
+    ensures { MatchResult result (ReadsAsSite bytes.now)
+        (OrMemory no_memory (IsOfDocument document (RefusesSite bytes.now))) }
 {
     match site_from(alloc, bytes) {
         Ok(site) => Ok(site),
@@ -48,7 +52,8 @@ pub fn site_at(alloc: Global, document: u8, bytes: &[u8]) -> Result<Site, DocFau
 
 /// The delta of the input document with this number.
 pub fn delta_at(alloc: Global, document: u8, bytes: &[u8]) -> Result<Delta, DocFault>
-    ensures { MatchResult result (ReadsAsDelta bytes.now) (OrMemory no_memory (IsOfDocument document (RefusesDelta bytes.now))) }
+    ensures { MatchResult result (ReadsAsDelta bytes.now)
+        (OrMemory no_memory (IsOfDocument document (RefusesDelta bytes.now))) }
 {
     match delta_from(alloc, bytes) {
         Ok(delta) => Ok(delta),
@@ -58,7 +63,8 @@ pub fn delta_at(alloc: Global, document: u8, bytes: &[u8]) -> Result<Delta, DocF
 
 /// The summary of the input document with this number.
 pub fn summary_at(alloc: Global, document: u8, bytes: &[u8]) -> Result<Summary, DocFault>
-    ensures { MatchResult result (ReadsAsSummary bytes.now) (OrMemory no_memory (IsOfDocument document (RefusesSummary bytes.now))) }
+    ensures { MatchResult result (ReadsAsSummary bytes.now)
+        (OrMemory no_memory (IsOfDocument document (RefusesSummary bytes.now))) }
 {
     match summary_from(alloc, bytes) {
         Ok(summary) => Ok(summary),

@@ -22,14 +22,41 @@ use cell_core::SiteName;
 use json_docs::{DocCause, Spot};
 use std::alloc::Global;
 
+/// It is no document of its kind.
+const NO_DOCUMENT: DocCause = DocCause::Shape {
+    spot: Spot::Document,
+};
+
 /// The site of a document, or why it is refused.
 pub fn site_from(alloc: Global, bytes: &[u8]) -> Result<Site, DocCause>
-    ensures { MatchResult result (ReadsAsSite bytes.now) (OrMemory NoMemory (RefusesSite bytes.now)) }
+    ensures { MatchResult result (ReadsAsSite bytes.now)
+        (OrMemory NoMemory (RefusesSite bytes.now)) }
 {
     match cells_of_plain(alloc, bytes, Kind::Site) {
         Some((name, cells)) => Ok(Site::from_catalogue(name, cells)),
         None => site_of_tokens(alloc, bytes),
     }
+}
+
+/// The delta of a document, or why it is refused.
+pub fn delta_from(alloc: Global, bytes: &[u8]) -> Result<Delta, DocCause>
+    ensures { MatchResult result (ReadsAsDelta bytes.now)
+        (OrMemory NoMemory (RefusesDelta bytes.now)) }
+{
+    match cells_of_plain(alloc, bytes, Kind::Delta) {
+        Some((to, cells)) => Ok(Delta::from_catalogue(to, cells)),
+        None => delta_of_tokens(alloc, bytes),
+    }
+}
+
+/// The summary of a document, or why it is refused.
+pub fn summary_from(alloc: Global, bytes: &[u8]) -> Result<Summary, DocCause>
+    ensures { MatchResult result (ReadsAsSummary bytes.now)
+        (OrMemory NoMemory (RefusesSummary bytes.now)) }
+{
+    let mut summary = Summary::new(alloc, SiteName::of_number(0));
+    let owner = read_named(alloc, bytes, Kind::Summary, &mut summary)?;
+    Ok(summary.with_owner(owner))
 }
 
 // The site of a document that is in any form.
@@ -45,21 +72,12 @@ fn site_of_tokens(alloc: Global, bytes: &[u8]) -> Result<Site, DocCause>
 
 /// The site of a document whose members may be in any order.
 fn site_of_members(alloc: Global, bytes: &[u8]) -> Result<Site, DocCause>
-    ensures { MatchResult result (ReadsAsSite bytes.now) (OrMemory NoMemory (RefusesSite bytes.now)) }
+    ensures { MatchResult result (ReadsAsSite bytes.now)
+        (OrMemory NoMemory (RefusesSite bytes.now)) }
 {
     let mut cells = Catalogue::new(alloc);
     let name = read_named(alloc, bytes, Kind::Site, &mut cells)?;
     Ok(Site::from_catalogue(name, cells))
-}
-
-/// The delta of a document, or why it is refused.
-pub fn delta_from(alloc: Global, bytes: &[u8]) -> Result<Delta, DocCause>
-    ensures { MatchResult result (ReadsAsDelta bytes.now) (OrMemory NoMemory (RefusesDelta bytes.now)) }
-{
-    match cells_of_plain(alloc, bytes, Kind::Delta) {
-        Some((to, cells)) => Ok(Delta::from_catalogue(to, cells)),
-        None => delta_of_tokens(alloc, bytes),
-    }
 }
 
 // The delta of a document that is in any form.
@@ -75,20 +93,12 @@ fn delta_of_tokens(alloc: Global, bytes: &[u8]) -> Result<Delta, DocCause>
 
 /// The delta of a document whose members may be in any order.
 fn delta_of_members(alloc: Global, bytes: &[u8]) -> Result<Delta, DocCause>
-    ensures { MatchResult result (ReadsAsDelta bytes.now) (OrMemory NoMemory (RefusesDelta bytes.now)) }
+    ensures { MatchResult result (ReadsAsDelta bytes.now)
+        (OrMemory NoMemory (RefusesDelta bytes.now)) }
 {
     let mut cells = Catalogue::new(alloc);
     let addressee = read_named(alloc, bytes, Kind::Delta, &mut cells)?;
     Ok(Delta::from_catalogue(addressee, cells))
-}
-
-/// The summary of a document, or why it is refused.
-pub fn summary_from(alloc: Global, bytes: &[u8]) -> Result<Summary, DocCause>
-    ensures { MatchResult result (ReadsAsSummary bytes.now) (OrMemory NoMemory (RefusesSummary bytes.now)) }
-{
-    let mut summary = Summary::new(alloc, SiteName::of_number(0));
-    let owner = read_named(alloc, bytes, Kind::Summary, &mut summary)?;
-    Ok(summary.with_owner(owner))
 }
 
 /// Reads the rows, and answers the name.
@@ -98,8 +108,11 @@ fn read_named<R: Rows>(
     kind: Kind,
     rows: &mut R,
 ) -> Result<SiteName, DocCause>
-    ensures ok { IfOk result (λ name. (d : Data) × AreJson bytes.now d × AllPass (document_checks kind R.Checks d) × (named_in kind d ≡ Some name) × R.Holds (version_of d) rows.new (rows_in kind d)) }
-    ensures err { IfErr result (OrMemory NoMemory (IsRefusal (document_checks kind R.Checks) bytes.now)) }
+    ensures ok { IfOk result
+        (λ name. (d : Data) × AreJson bytes.now d × AllPass (document_checks kind R.Checks d)
+        × (named_in kind d ≡ Some name) × R.Holds (version_of d) rows.new (rows_in kind d)) }
+    ensures err { IfErr result
+        (OrMemory NoMemory (IsRefusal (document_checks kind R.Checks) bytes.now)) }
 {
     let tested = read_header(alloc, bytes, kind, rows)?;
     let name = subject_name(tested.version, tested.subject)?;
@@ -148,8 +161,3 @@ fn written_name(subject: Subject) -> Result<SiteName, DocCause>
         _ => Err(NO_DOCUMENT),
     }
 }
-
-/// It is no document of its kind.
-const NO_DOCUMENT: DocCause = DocCause::Shape {
-    spot: Spot::Document,
-};

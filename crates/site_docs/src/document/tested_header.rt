@@ -1,5 +1,6 @@
 //! The header of a document, tested, and its rows as they were taken.
-ghost use Rattle.std.specs.Prelude.{◌≡◌, ◌<◌, ◌^◌, [], None, Some, true, length, MatchOption, MatchResult};
+ghost use Rattle.std.specs.Prelude.{◌≡◌, ◌<◌, ◌^◌, [], None, Some, true, length, MatchOption};
+ghost use Rattle.std.specs.Prelude.{MatchResult};
 ghost use Rattle.json.specs.Lex.{tokens};
 ghost use Rattle.serde_json.specs.Data.{Data, Members, object};
 ghost use Rattle.serde_json.specs.Find.{as_object};
@@ -44,7 +45,8 @@ pub fn read_header<R: Rows>(
     rows: &mut R,
 ) -> Result<TestedHeader, DocCause>
     ensures { MatchResult result
-        (λ tested. (d : Data) × AreJson bytes.now d × HasHeader kind (R.Checks tested.version) (R.Holds tested.version) d tested rows.new)
+        (λ tested. (d : Data) × AreJson bytes.now d
+        × HasHeader kind (R.Checks tested.version) (R.Holds tested.version) d tested rows.new)
         (OrMemory NoMemory (RefusesHeader kind bytes.now)) }
 {
     let text = text_in(bytes)?;
@@ -68,7 +70,8 @@ fn read_as<R: Rows>(
 ) -> Result<TestedHeader, DocCause>
     requires { are_in_range (tokens text.now) ≡ true }
     ensures { MatchResult result
-        (λ tested. (d : Data) × (read text.now ≡ Some d) × HasHeader kind (R.Checks version) (R.Holds version) d tested rows.new)
+        (λ tested. (d : Data) × (read text.now ≡ Some d)
+        × HasHeader kind (R.Checks version) (R.Holds version) d tested rows.new)
         (OrMemory NoMemory (RefusesText kind text.now)) }
 {
     match read_object(alloc, text, scratch, kind, version, rows)? {
@@ -91,7 +94,8 @@ fn read_object<R: Rows>(
     requires { are_in_range (tokens text.now) ≡ true }
     ensures { MatchResult result
         (λ header. MatchOption header ((d : Data) × (read text.now ≡ Some d) × (as_object d ≡ None))
-        (λ h. (ms : Members) × (read text.now ≡ Some (object ms)) × Shows kind (R.Checks version) (R.Holds version) h rows.new ms))
+        (λ h. (ms : Members) × (read text.now ≡ Some (object ms))
+        × Shows kind (R.Checks version) (R.Holds version) h rows.new ms))
         (OrMemory NoMemory (λ e. (e ≡ NotJson) × (read text.now ≡ None))) }
 {
     let Ok(mut reader) = Reader::new(text, scratch) else {
@@ -117,7 +121,8 @@ fn read_rest<R: Rows>(
     requires numbers { are_in_range reader.old ≡ true }
     requires places { length reader.old < 2 ^ 64 }
     ensures { MatchResult result
-        (λ header. (ms : Members) × ReadsMembers 126 reader.old ms [] × Shows kind (R.Checks version) (R.Holds version) header rows.new ms)
+        (λ header. (ms : Members) × ReadsMembers 126 reader.old ms []
+        × Shows kind (R.Checks version) (R.Holds version) header rows.new ms)
         (OrMemory NoMemory (λ e. (e ≡ NotJson) × IsNotWhole reader.old)) }
 {
     let header = read_members(alloc, reader, kind, version, rows)?;

@@ -66,7 +66,8 @@ fn cells_draft(alloc: Global, cells: &Catalogue) -> Result<Writer, AllocError>
 
 /// A summary's document with all its stamps, not yet closed.
 fn stamps_draft(alloc: Global, summary: &Summary) -> Result<Writer, AllocError>
-    ensures rows { IfOk result (λ draft. HoldsStamps draft summary.now.owner (stamps_values summary.now.stamps)) }
+    ensures rows { IfOk result
+        (λ draft. HoldsStamps draft summary.now.owner (stamps_values summary.now.stamps)) }
     ensures owner { IfOk result (λ _. IsSiteName summary.now.owner) }
     ensures kept { IfOk result (λ _. AreKeptStamps summary.now.stamps) }
 {
@@ -81,7 +82,8 @@ fn stamps_draft(alloc: Global, summary: &Summary) -> Result<Writer, AllocError>
 
 /// Adds the `STAMP` of a key.
 fn write_told(out: &mut Writer, id: &MessageId, lang: &Lang, stamp: Stamp) -> Result<(), AllocError>
-    ensures tokens { OnOk result (Adds out.old out.new (value_tokens (told_value ((id.now, lang.now), stamp)))) }
+    ensures tokens { OnOk result
+        (Adds out.old out.new (value_tokens (told_value ((id.now, lang.now), stamp)))) }
     ensures kept { OnOk result (IsKeptStamp ((id.now, lang.now), stamp)) }
 {
     let row = WrittenRow {

@@ -1,5 +1,6 @@
 //! The rows of an array, taken one after another as they are read.
-ghost use Rattle.std.specs.Prelude.{◌≡◌, ◌≢◌, ◌∷◌, [], ◌++◌, ◌<◌, ◌+◌, ◌≤◌, ◌^◌, ℕ, List, None, true, length, MatchResult, OnOk, IfErr};
+ghost use Rattle.std.specs.Prelude.{◌≡◌, ◌≢◌, ◌∷◌, [], ◌++◌, ◌<◌, ◌+◌, ◌≤◌, ◌^◌, ℕ, List, None};
+ghost use Rattle.std.specs.Prelude.{true, length, MatchResult, OnOk, IfErr};
 ghost use Rattle.json.specs.Json.{value};
 ghost use Rattle.json.specs.Value.{value_view};
 ghost use Rattle.serde_json.specs.Data.{Data, Items};
@@ -37,9 +38,13 @@ pub trait Rows {
         row: &Value<'_>,
     ) -> Result<(), DocCause>
         requires { IsRead (value_view row.now) }
-        ensures ok { OnOk result ((before : List Data) → length before ≡ place → Holds version self.old before
-            → AllPass (Checks version before (seen row.now)) × Holds version self.new (before ++ seen row.now ∷ [])) }
-        ensures err { IfErr result (OrMemory NoMemory (λ e. (before : List Data) → length before ≡ place → Holds version self.old before
+        ensures ok { OnOk result
+            ((before : List Data) → length before ≡ place → Holds version self.old before
+            → AllPass (Checks version before (seen row.now))
+            × Holds version self.new (before ++ seen row.now ∷ [])) }
+        ensures err { IfErr result
+            (OrMemory NoMemory
+            (λ e. (before : List Data) → length before ≡ place → Holds version self.old before
             → FirstFails (Checks version before (seen row.now)) e)) };
 }
 
@@ -55,7 +60,8 @@ pub fn read_rows<R: Rows>(
     requires numbers { are_in_range reader.old ≡ true }
     requires places { length reader.old < 2 ^ 64 }
     ensures read { MatchResult result
-        (λ refusal. (ds : Items) × ReadsItems depth reader.old ds reader.new × TakesRows (R.Checks version) (R.Holds version) [] rows.new refusal (list_of ds))
+        (λ refusal. (ds : Items) × ReadsItems depth reader.old ds reader.new
+        × TakesRows (R.Checks version) (R.Holds version) [] rows.new refusal (list_of ds))
         (OrMemory NoMemory (λ e. (e ≡ NotJson) × ReadsNoItems depth reader.old)) }
     ensures left { OnOk result (are_in_range reader.new ≡ true) }
     ensures shorter { OnOk result (length reader.new < length reader.old) }
@@ -85,7 +91,10 @@ fn read_row<R: Rows>(
 ) -> Result<Option<DocCause>, DocCause>
     requires { are_in_range reader.old ≡ true }
     ensures read { MatchResult result
-        (λ next. (d : Data) × Reads depth reader.old d reader.new × ((before : List Data) → length before ≡ place → TakesNext (R.Checks version) (R.Holds version) before refusal rows.old rows.new next d))
+        (λ next. (d : Data) × Reads depth reader.old d reader.new
+        × ((before : List Data) → length before ≡ place
+        → TakesNext (R.Checks version) (R.Holds version) before refusal rows.old rows.new next
+        d))
         (OrMemory NoMemory (λ e. (e ≡ NotJson) × (value depth reader.old ≡ None))) }
     ensures left { OnOk result (are_in_range reader.new ≡ true) }
     ensures shorter { OnOk result (length reader.new < length reader.old) }
@@ -105,7 +114,9 @@ fn take_row<R: Rows>(
 ) -> Result<Option<DocCause>, DocCause>
     requires { IsRead (value_view row.now) }
     ensures { MatchResult result
-        (λ next. (before : List Data) → length before ≡ place → TakesNext (R.Checks version) (R.Holds version) before refusal rows.old rows.new next (seen row.now))
+        (λ next. (before : List Data) → length before ≡ place
+        → TakesNext (R.Checks version) (R.Holds version) before refusal rows.old rows.new next
+        (seen row.now))
         (λ e. e ≡ NoMemory) }
 {
     match refusal {
@@ -124,7 +135,9 @@ fn take_or_refuse<R: Rows>(
 ) -> Result<Option<DocCause>, DocCause>
     requires { IsRead (value_view row.now) }
     ensures { MatchResult result
-        (λ refusal. (before : List Data) → length before ≡ place → R.Holds version rows.old before → TakesRows (R.Checks version) (R.Holds version) before rows.new refusal (seen row.now ∷ []))
+        (λ refusal. (before : List Data) → length before ≡ place → R.Holds version rows.old before
+        → TakesRows (R.Checks version) (R.Holds version) before rows.new refusal
+        (seen row.now ∷ []))
         (λ e. e ≡ NoMemory) }
 {
     match rows.take(alloc, version, place, row) {

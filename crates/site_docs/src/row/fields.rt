@@ -2,7 +2,8 @@
 ghost use Rattle.std.specs.Prelude.{◌≡◌, Some, map, option_map, string_bytes, MatchResult, IfOk};
 ghost use Rattle.cell_core.specs.MessageIds.{IsMessageId};
 ghost use Rattle.cell_core.specs.SiteNames.{IsSiteName};
-ghost use Rattle.cell_core.specs.declared.fault.CellFault.TheVariants.{IdRefused, SiteName as NameRefused};
+ghost use Rattle.cell_core.specs.declared.fault.CellFault.TheVariants.{IdRefused};
+ghost use Rattle.cell_core.specs.declared.fault.CellFault.TheVariants.{SiteName as NameRefused};
 ghost use Rattle.lang_core.specs.Lang.{SpellsLang};
 ghost use Rattle.json_docs.specs.Checks.{AllPass, FirstFails, OrMemory};
 ghost use Rattle.json_docs.specs.Reads.{seen};
@@ -25,7 +26,8 @@ use std::alloc::{AllocError, Global};
 /// The id of a row.
 pub fn id_of(alloc: Global, place: usize, text: &str) -> Result<MessageId, DocCause>
     ensures { MatchResult result (λ id. IsMessageId text.now × (id ≡ text.now))
-        (OrMemory NoMemory (λ e. (¬ (IsMessageId text.now)) × (e ≡ Field place (CellRefused IdRefused)))) }
+        (OrMemory NoMemory
+        (λ e. (¬ (IsMessageId text.now)) × (e ≡ Field place (CellRefused IdRefused)))) }
 {
     match MessageId::new(alloc, text) {
         Ok(id) => Ok(id),
@@ -50,7 +52,8 @@ pub fn language_of(alloc: Global, place: usize, text: &str) -> Result<Lang, DocC
 
 /// The name of a row's site; a number has its padded name.
 pub fn name_of(place: usize, site: SiteText<'_>) -> Result<SiteName, DocCause>
-    ensures { MatchResult result (λ name. IsSiteName (site_of site.entry) × (name ≡ site_of site.entry))
+    ensures { MatchResult result
+        (λ name. IsSiteName (site_of site.entry) × (name ≡ site_of site.entry))
         (λ e. (¬ (IsSiteName (site_of site.entry))) × (e ≡ Field place (CellRefused NameRefused))) }
 {
     match site {
@@ -69,7 +72,8 @@ pub fn label_of(
     texts: Option<&[Value<'_>]>,
 ) -> Result<Option<Label>, DocCause>
     requires { AreTextsOf texts }
-    ensures { let plain = option_map (λ values. texts_of values.now) texts.entry in MatchResult result (λ label. IsLabelText plain × (label ≡ plain))
+    ensures { let plain = option_map (λ values. texts_of values.now) texts.entry in
+        MatchResult result (λ label. IsLabelText plain × (label ≡ plain))
         (OrMemory NoMemory (IsLabelRefusal place plain)) }
 {
     match texts {
@@ -79,32 +83,6 @@ pub fn label_of(
             Ok(Some(label))
         }
     }
-}
-
-/// The label of these values, all of them texts.
-fn label_from(alloc: Global, place: usize, values: &[Value<'_>]) -> Result<Label, DocCause>
-    requires { AreTexts values.now }
-    ensures { let plain = texts_of values.now in MatchResult result (λ label. IsLabelText (Some plain) × (label ≡ plain))
-        (OrMemory NoMemory (IsLabelRefusal place (Some plain))) }
-{
-    let texts = copied_texts(alloc, values)?;
-    match Label::from_texts(texts) {
-        Ok(label) => Ok(label),
-        Err(fault) => Err(of_cell(place, fault)),
-    }
-}
-
-/// Copies of the values that are texts.
-fn copied_texts(alloc: Global, values: &[Value<'_>]) -> Result<Vec<String>, AllocError>
-    ensures { IfOk result (λ texts. map string_bytes texts.items ≡ filter_map as_str (map seen values.now)) }
-{
-    let mut texts = Vec::with_capacity(alloc, values.len())?;
-    'values: for value in values {
-        if let Some(text) = text_of(value) {
-            texts.push(String::from_str(alloc, text)?)?;
-        }
-    }
-    Ok(texts)
 }
 
 /// The key and the stamp of a row of a summary.
@@ -149,7 +127,8 @@ pub fn stamp_entry(alloc: Global, place: usize, row: Row<'_>) -> Result<StampEnt
 /// What the fields of a row with a label make.
 pub fn cell_entry(alloc: Global, place: usize, cell: CellRow<'_, '_>) -> Result<CellEntry, DocCause>
     requires { AreTextsOf cell.texts }
-    ensures { let plain = row_of cell.entry.row in let texts = option_map (λ values. texts_of values.now) cell.entry.texts in MatchResult result
+    ensures { let plain = row_of cell.entry.row in let texts =
+        option_map (λ values. texts_of values.now) cell.entry.texts in MatchResult result
         (λ x. AllPass (cell_fields place plain texts) × (entry_by x ≡ entry_of plain texts))
         (OrMemory NoMemory (FirstFails (cell_fields place plain texts))) }
 {
@@ -170,4 +149,32 @@ pub fn of_cell(place: usize, fault: CellFault) -> DocCause
             fault: FieldFault::Cell(fault),
         },
     }
+}
+
+/// The label of these values, all of them texts.
+fn label_from(alloc: Global, place: usize, values: &[Value<'_>]) -> Result<Label, DocCause>
+    requires { AreTexts values.now }
+    ensures { let plain = texts_of values.now in
+        MatchResult result (λ label. IsLabelText (Some plain) × (label ≡ plain))
+        (OrMemory NoMemory (IsLabelRefusal place (Some plain))) }
+{
+    let texts = copied_texts(alloc, values)?;
+    match Label::from_texts(texts) {
+        Ok(label) => Ok(label),
+        Err(fault) => Err(of_cell(place, fault)),
+    }
+}
+
+/// Copies of the values that are texts.
+fn copied_texts(alloc: Global, values: &[Value<'_>]) -> Result<Vec<String>, AllocError>
+    ensures { IfOk result
+        (λ texts. map string_bytes texts.items ≡ filter_map as_str (map seen values.now)) }
+{
+    let mut texts = Vec::with_capacity(alloc, values.len())?;
+    'values: for value in values {
+        if let Some(text) = text_of(value) {
+            texts.push(String::from_str(alloc, text)?)?;
+        }
+    }
+    Ok(texts)
 }

@@ -76,7 +76,8 @@ fn own_cell(
 ) -> Result<CellEntry, DocCause>
     requires { IsRead (value_view row.now) }
     ensures { MatchResult result
-        (λ x. AllPass (own_cell_checks version place (seen row.now)) × (entry_in version (seen row.now) ≡ Some (entry_by x)))
+        (λ x. AllPass (own_cell_checks version place (seen row.now))
+        × (entry_in version (seen row.now) ≡ Some (entry_by x)))
         (OrMemory NoMemory (FirstFails (own_cell_checks version place (seen row.now)))) }
 {
     let Some(cell) = cell_of(version, row) else {
@@ -96,7 +97,8 @@ fn own_stamp(
 ) -> Result<StampEntry, DocCause>
     requires { IsRead (value_view row.now) }
     ensures { MatchResult result
-        (λ x. AllPass (own_stamp_checks version place (seen row.now)) × (told_in version (seen row.now) ≡ Some (told_by x)))
+        (λ x. AllPass (own_stamp_checks version place (seen row.now))
+        × (told_in version (seen row.now) ≡ Some (told_by x)))
         (OrMemory NoMemory (FirstFails (own_stamp_checks version place (seen row.now)))) }
 {
     let Some(stamp) = stamp_of(version, row) else {

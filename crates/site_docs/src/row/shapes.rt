@@ -67,7 +67,8 @@ pub fn stamp_of<'t>(version: Version, value: &Value<'t>) -> Option<Row<'t>>
 /// The texts of a label, where the value is one; none for null.
 pub fn label_of<'v, 't>(value: &'v Value<'t>) -> Option<Option<&'v [Value<'t>]>>
     requires { IsRead (value_view value.now) }
-    ensures label { option_map (λ o. option_map (λ s. texts_of s.now) o) result ≡ label_in (seen value.now) }
+    ensures label { option_map (λ o. option_map (λ s. texts_of s.now) o) result
+        ≡ label_in (seen value.now) }
     ensures texts { IfSome result (λ o. AreTextsOf o) }
 {
     if value.is_null() {
@@ -79,20 +80,6 @@ pub fn label_of<'v, 't>(value: &'v Value<'t>) -> Option<Option<&'v [Value<'t>]>>
     } else {
         None
     }
-}
-
-/// Whether all items are texts.
-fn are_texts(items: &[Value<'_>]) -> bool
-    ensures { result ≡ is_some (texts_in (map seen items.now)) }
-{
-    each_is_text(items)
-}
-
-/// Whether each item is a text.
-fn each_is_text(items: &[Value<'_>]) -> bool
-    ensures { result ≡ list_all (λ item. is_some (as_str (seen item))) items.now }
-{
-    items.iter().all(|item| text_of(item).is_some())
 }
 
 /// The row of a site or a delta, where the value has its shape.
@@ -109,6 +96,20 @@ pub fn cell_of<'v, 't>(version: Version, value: &'v Value<'t>) -> Option<CellRow
     Some(CellRow { row, texts })
 }
 
+/// Whether all items are texts.
+fn are_texts(items: &[Value<'_>]) -> bool
+    ensures { result ≡ is_some (texts_in (map seen items.now)) }
+{
+    each_is_text(items)
+}
+
+/// Whether each item is a text.
+fn each_is_text(items: &[Value<'_>]) -> bool
+    ensures { result ≡ list_all (λ item. is_some (as_str (seen item))) items.now }
+{
+    items.iter().all(|item| text_of(item).is_some())
+}
+
 /// What a row of either kind begins with.
 fn parts_of<'t>(
     version: Version,
@@ -118,7 +119,9 @@ fn parts_of<'t>(
     site: &Value<'t>,
     count: &Value<'t>,
 ) -> Option<Row<'t>>
-    ensures { option_map row_of result ≡ parts_in version (seen id.now) (seen language.now) (seen time.now) (seen site.now) (seen count.now) }
+    ensures { option_map row_of result
+        ≡ parts_in version (seen id.now) (seen language.now) (seen time.now) (seen site.now)
+        (seen count.now) }
 {
     Some(Row {
         id: text_of(id)?,

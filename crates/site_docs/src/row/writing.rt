@@ -1,6 +1,8 @@
 //! The texts of documents, written piece by piece into one buffer.
-ghost use Rattle.std.specs.Prelude.{◌≡◌, ◌∷◌, [], ◌++◌, List, ℕ, codes, map, option_map, IfOk, OnOk, string_bytes};
-ghost use Rattle.json.specs.Token.{begin_object, end_object, begin_array, end_array, key, number, string, null};
+ghost use Rattle.std.specs.Prelude.{◌≡◌, ◌∷◌, [], ◌++◌, List, ℕ, codes, map, option_map, IfOk};
+ghost use Rattle.std.specs.Prelude.{OnOk, string_bytes};
+ghost use Rattle.json.specs.Token.{begin_object, end_object, begin_array, end_array, key, number};
+ghost use Rattle.json.specs.Token.{string, null};
 ghost use Rattle.serde_json.specs.Data.{Data};
 ghost use Rattle.site_docs.specs.Texts.{Adds, value_tokens};
 ghost use Rattle.site_docs.specs.Values.{cell_value, label_value, stamp_value, texts_value};
@@ -40,13 +42,27 @@ pub fn write_cell(
     row: &WrittenRow<'_>,
     label: Option<&[String]>,
 ) -> Result<(), AllocError>
-    ensures { OnOk result (Adds out.old out.new (value_tokens (cell_value (row_of row.now) (option_map (λ texts. texts_of texts.now) label.entry)))) }
+    ensures { OnOk result
+        (Adds out.old out.new
+        (value_tokens
+        (cell_value (row_of row.now) (option_map (λ texts. texts_of texts.now) label.entry)))) }
 {
     out.begin_array()?;
     write_parts(out, row)?;
     match label {
         None => out.null()?,
         Some(texts) => write_texts(out, texts)?,
+    }
+    out.end_array()
+}
+
+/// Adds the array of the texts.
+pub fn write_texts(out: &mut Writer, texts: &[String]) -> Result<(), AllocError>
+    ensures { OnOk result (Adds out.old out.new (value_tokens (texts_value (texts_of texts.now)))) }
+{
+    out.begin_array()?;
+    'texts: for text in texts {
+        out.string(text.as_str())?;
     }
     out.end_array()
 }
@@ -60,15 +76,4 @@ fn write_parts(out: &mut Writer, row: &WrittenRow<'_>) -> Result<(), AllocError>
     out.u64(row.time)?;
     out.string(row.site)?;
     out.u64(u64::from(row.count))
-}
-
-/// Adds the array of the texts.
-pub fn write_texts(out: &mut Writer, texts: &[String]) -> Result<(), AllocError>
-    ensures { OnOk result (Adds out.old out.new (value_tokens (texts_value (texts_of texts.now)))) }
-{
-    out.begin_array()?;
-    'texts: for text in texts {
-        out.string(text.as_str())?;
-    }
-    out.end_array()
 }

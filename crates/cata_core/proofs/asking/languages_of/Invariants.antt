@@ -5,4 +5,5 @@ use Rattle.cata_core.specs.LentEntries.{labelled_of}
 use Rattle.cata_core.proofs.asking.languages_of.Given as goal
 
 abbrev pub invariant-loop-lang : goal.invariant-loop-lang
-invariant-loop-lang l = texts_of l.langs.items ≡ languages (labelled_of (take l.lang-index l.labels))
+invariant-loop-lang l =
+    texts_of l.langs.items ≡ languages (labelled_of (take l.lang-index l.labels))

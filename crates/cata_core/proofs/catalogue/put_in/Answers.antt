@@ -11,18 +11,22 @@ returns-in-Some-clause-nested c =
     let inner = c.in-Some.cells.now in
     let new = c.put.new.map in
     either_way c.put.result c.put.ensures.ok c.put.ensures.err
-    (λ is. IsCatalogue-put m c.requires c.args.id c.args.lang c.args.cell inner new (ap inner_of c.in-Some.ensures.value) is)
-    (λ is. subst IsCatalogue (sym (put_back m c.requires c.args.id inner new c.in-Some.ensures.value is)) c.requires)
+    (λ is. IsCatalogue-put m c.requires c.args.id c.args.lang c.args.cell inner new
+    (ap inner_of c.in-Some.ensures.value) is)
+    (λ is. subst IsCatalogue
+    (sym (put_back m c.requires c.args.id inner new c.in-Some.ensures.value is)) c.requires)
 
 pub returns-in-Some-clause-ok : goal.returns-in-Some-clause-ok
 returns-in-Some-clause-ok c =
     let m = c.args.map.now in
     on_ok_weaker c.put.result
-    (λ is. flat-put m c.requires c.args.id c.args.lang c.args.cell c.in-Some.cells.now c.put.new.map (ap inner_of c.in-Some.ensures.value) is)
+    (λ is. flat-put m c.requires c.args.id c.args.lang c.args.cell c.in-Some.cells.now c.put.new.map
+    (ap inner_of c.in-Some.ensures.value) is)
     c.put.ensures.ok
 
 pub returns-in-Some-clause-err : goal.returns-in-Some-clause-err
 returns-in-Some-clause-err c =
     on_err_weaker c.put.result
-    (λ is. put_back c.args.map.now c.requires c.args.id c.in-Some.cells.now c.put.new.map c.in-Some.ensures.value is)
+    (λ is. put_back c.args.map.now c.requires c.args.id c.in-Some.cells.now c.put.new.map
+    c.in-Some.ensures.value is)
     c.put.ensures.err

@@ -9,7 +9,10 @@ pub returns-clause-nested : goal.returns-clause-nested
 returns-clause-nested c =
     let m = c.args.map.now in
     either_way c.put-2.result c.put-2.ensures.ok c.put-2.ensures.err
-    (λ is. subst IsCatalogue (sym is) (IsCatalogue-put m c.requires.nested c.args.id c.args.lang c.args.cell c.new-cells.result c.put.new.map (c.new-cells.ensures ∙ ap inner_of (sym c.requires.new)) c.in_ok-put.ensures.ok))
+    (λ is. subst IsCatalogue (sym is)
+    (IsCatalogue-put m c.requires.nested c.args.id c.args.lang c.args.cell c.new-cells.result
+    c.put.new.map (c.new-cells.ensures ∙ ap inner_of (sym c.requires.new))
+    c.in_ok-put.ensures.ok))
     (λ is. subst IsCatalogue (sym is) c.requires.nested)
 
 pub returns-clause-ok : goal.returns-clause-ok
@@ -17,5 +20,7 @@ returns-clause-ok c =
     let m = c.args.map.now in
     on_ok_weaker c.put-2.result
     (λ is. ap flat is
-    ∙ flat-put m c.requires.nested c.args.id c.args.lang c.args.cell c.new-cells.result c.put.new.map (c.new-cells.ensures ∙ ap inner_of (sym c.requires.new)) c.in_ok-put.ensures.ok)
+    ∙ flat-put m c.requires.nested c.args.id c.args.lang c.args.cell c.new-cells.result
+    c.put.new.map (c.new-cells.ensures ∙ ap inner_of (sym c.requires.new))
+    c.in_ok-put.ensures.ok)
     c.put-2.ensures.ok

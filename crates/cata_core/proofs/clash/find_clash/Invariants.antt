@@ -5,4 +5,5 @@ use Rattle.cata_core.proofs.ClashWalks.{IsAgreed}
 use Rattle.cata_core.proofs.clash.find_clash.Given as goal
 
 abbrev pub invariant-loop-id : goal.invariant-loop-id
-invariant-loop-id l = IsAgreed key_cmp (flat l.mine) (flat l.theirs) (flat (entries_left l.id-iterator)) l.front
+invariant-loop-id l =
+    IsAgreed key_cmp (flat l.mine) (flat l.theirs) (flat (entries_left l.id-iterator)) l.front

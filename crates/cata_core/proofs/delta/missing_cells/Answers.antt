@@ -16,10 +16,15 @@ push_copy-requires c =
     let rest = stamps_of c.loop-id.rest.now in
     let more = stamps_of c.stamp_at-stamp.result.1.now in
     let k : EntryKey = (c.in-Some.id.now, c.in-Some.lang.now) in
-    let h = subst (λ (left : Entries). AreMissingSoFar c.args.catalogue.now left c.loop-id.missing c.args.summary.now.stamps (stamps_of c.loop-id.rest.now)) c.in-Some.ensures.steps c.loop-id.invariant in
+    let h =
+    subst (λ (left : Entries). AreMissingSoFar c.args.catalogue.now left c.loop-id.missing
+    c.args.summary.now.stamps (stamps_of c.loop-id.rest.now)) c.in-Some.ensures.steps
+    c.loop-id.invariant in
     let found = c.stamp_at-stamp.ensures.stamp ∙ h.same k (not_greater_self k) in
-    sent_above all left c.loop-id.missing summary rest more k c.in-Some.cell.now h c.stamp_at-stamp.ensures.rest
-    ((λ i. is_missing (sym found i) (sym c.stamp.ensures i)) ∙ sym c.is_missing.ensures ∙ c.if-not-is_missing.false)
+    sent_above all left c.loop-id.missing summary rest more k c.in-Some.cell.now h
+    c.stamp_at-stamp.ensures.rest
+    ((λ i. is_missing (sym found i) (sym c.stamp.ensures i)) ∙ sym c.is_missing.ensures
+    ∙ c.if-not-is_missing.false)
 
 pub loop-id-preserved : goal.loop-id-preserved
 loop-id-preserved c =
@@ -29,11 +34,18 @@ loop-id-preserved c =
     let rest = stamps_of c.loop-id.rest.now in
     let more = stamps_of c.stamp_at-stamp.result.1.now in
     let k : EntryKey = (c.in-Some.id.now, c.in-Some.lang.now) in
-    let h = subst (λ (left : Entries). AreMissingSoFar c.args.catalogue.now left c.loop-id.missing c.args.summary.now.stamps (stamps_of c.loop-id.rest.now)) c.in-Some.ensures.steps c.loop-id.invariant in
+    let h =
+    subst (λ (left : Entries). AreMissingSoFar c.args.catalogue.now left c.loop-id.missing
+    c.args.summary.now.stamps (stamps_of c.loop-id.rest.now)) c.in-Some.ensures.steps
+    c.loop-id.invariant in
     let found = c.stamp_at-stamp.ensures.stamp ∙ h.same k (not_greater_self k) in
-    subst (λ (missing : Entries). AreMissingSoFar c.args.catalogue.now (cells_left c.next.new.self) missing c.args.summary.now.stamps (stamps_of c.stamp_at-stamp.result.1.now)) (sym c.in_ok-push_copy.ensures.ok)
-    (missing_more all left c.loop-id.missing summary rest more k c.in-Some.cell.now h c.stamp_at-stamp.ensures.rest
-    ((λ i. is_missing (sym found i) (sym c.stamp.ensures i)) ∙ sym c.is_missing.ensures ∙ c.if-not-is_missing.false))
+    subst (λ (missing : Entries). AreMissingSoFar c.args.catalogue.now (cells_left c.next.new.self)
+    missing c.args.summary.now.stamps (stamps_of c.stamp_at-stamp.result.1.now))
+    (sym c.in_ok-push_copy.ensures.ok)
+    (missing_more all left c.loop-id.missing summary rest more k c.in-Some.cell.now h
+    c.stamp_at-stamp.ensures.rest
+    ((λ i. is_missing (sym found i) (sym c.stamp.ensures i)) ∙ sym c.is_missing.ensures
+    ∙ c.if-not-is_missing.false))
 
 pub loop-id-preserved-then-not-is_missing : goal.loop-id-preserved-then-not-is_missing
 loop-id-preserved-then-not-is_missing c =
@@ -43,7 +55,12 @@ loop-id-preserved-then-not-is_missing c =
     let rest = stamps_of c.loop-id.rest.now in
     let more = stamps_of c.stamp_at-stamp.result.1.now in
     let k : EntryKey = (c.in-Some.id.now, c.in-Some.lang.now) in
-    let h = subst (λ (left : Entries). AreMissingSoFar c.args.catalogue.now left c.loop-id.missing c.args.summary.now.stamps (stamps_of c.loop-id.rest.now)) c.in-Some.ensures.steps c.loop-id.invariant in
+    let h =
+    subst (λ (left : Entries). AreMissingSoFar c.args.catalogue.now left c.loop-id.missing
+    c.args.summary.now.stamps (stamps_of c.loop-id.rest.now)) c.in-Some.ensures.steps
+    c.loop-id.invariant in
     let found = c.stamp_at-stamp.ensures.stamp ∙ h.same k (not_greater_self k) in
-    missing_same all left c.loop-id.missing summary rest more k c.in-Some.cell.now h c.stamp_at-stamp.ensures.rest
-    ((λ i. is_missing (sym found i) (sym c.stamp.ensures i)) ∙ sym c.is_missing.ensures ∙ c.if-not-is_missing.true)
+    missing_same all left c.loop-id.missing summary rest more k c.in-Some.cell.now h
+    c.stamp_at-stamp.ensures.rest
+    ((λ i. is_missing (sym found i) (sym c.stamp.ensures i)) ∙ sym c.is_missing.ensures
+    ∙ c.if-not-is_missing.true)

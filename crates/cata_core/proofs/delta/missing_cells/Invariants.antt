@@ -4,4 +4,6 @@ use Rattle.cata_core.proofs.MissingCells.{AreMissingSoFar}
 use Rattle.cata_core.proofs.delta.missing_cells.Given as goal
 
 abbrev pub invariant-loop-id : goal.invariant-loop-id
-invariant-loop-id l = AreMissingSoFar l.catalogue (cells_left l.id-iterator) l.missing l.summary.stamps (stamps_of l.rest)
+invariant-loop-id l =
+    AreMissingSoFar l.catalogue (cells_left l.id-iterator) l.missing l.summary.stamps
+    (stamps_of l.rest)

@@ -7,7 +7,10 @@ use Rattle.cata_core.specs.Summary.{stamps_of}
 use Rattle.cata_core.proofs.delta.stamp_at.Given as goal
 
 abbrev pub invariant-loop-first : goal.invariant-loop-first
-invariant-loop-first l = IsMap key_cmp (stamps_of l.rest) × ((q : EntryKey) → key_cmp (l.id, l.lang) q ≢ Greater → find key_cmp q (stamps_of l.rest) ≡ find key_cmp q (stamps_of l.entries))
+invariant-loop-first l =
+    IsMap key_cmp (stamps_of l.rest)
+    × ((q : EntryKey) → key_cmp (l.id, l.lang) q ≢ Greater
+    → find key_cmp q (stamps_of l.rest) ≡ find key_cmp q (stamps_of l.entries))
 
 abbrev pub decreases-loop-first : goal.decreases-loop-first
 decreases-loop-first l = length l.rest

@@ -6,7 +6,8 @@ use Rattle.cata_core.proofs.Basics.{append_nil}
 use Rattle.cata_core.proofs.LentLists.{weighed_push, picked_more}
 use Rattle.cata_core.proofs.Worlds.{there}
 use Rattle.cata_core.proofs.entries.pick_all.Goals as goal
-use Rattle.cata_core.proofs.entries.pick_all.Goals.{in-Some+in-Some-pick_one+in_ok-push, in-Some+in_default-pick_one, in_default}
+use Rattle.cata_core.proofs.entries.pick_all.Goals.{in-Some+in-Some-pick_one+in_ok-push}
+use Rattle.cata_core.proofs.entries.pick_all.Goals.{in-Some+in_default-pick_one, in_default}
 
 pub loop-place-preserved : goal.loop-place-preserved
 loop-place-preserved c =
@@ -14,14 +15,18 @@ loop-place-preserved c =
     let picks = c.args.picks.now in
     let place = c.loop-place.place in
     let front = picked labels (take place picks) in
-    let lt : place < length picks = omega (arith, c.loop-place-test.true, c.len-place-end.ensures) in
-    elim c.match-nth.branch as (λ _. weighed_of c.match-nth.items.items ≡ picked labels (take (place + 1) picks)) [
+    let lt : place < length picks =
+    omega (arith, c.loop-place-test.true, c.len-place-end.ensures) in
+    elim c.match-nth.branch as
+    (λ _. weighed_of c.match-nth.items.items ≡ picked labels (take (place + 1) picks)) [
       | in-Some+in-Some-pick_one+in_ok-push w ↦
-          ap (λ v. weighed_of v.items) w.items-is ∙ ap weighed_of w.in_ok-push.ensures.items ∙ weighed_push c.loop-place.items.items w.in-Some-pick_one.item
+          ap (λ v. weighed_of v.items) w.items-is ∙ ap weighed_of w.in_ok-push.ensures.items
+          ∙ weighed_push c.loop-place.items.items w.in-Some-pick_one.item
           ∙ (λ i. c.loop-place.invariant i ++ cons_option (w.in-Some-pick_one.ensures i) [])
           ∙ picked_more labels picks place w.in-Some.pick lt (sym w.in-Some.ensures)
       | in-Some+in_default-pick_one w ↦
-          ap (λ v. weighed_of v.items) w.items-is ∙ c.loop-place.invariant ∙ sym (append_nil front) ∙ ap (λ o. front ++ cons_option o []) w.in_default-pick_one.ensures
+          ap (λ v. weighed_of v.items) w.items-is ∙ c.loop-place.invariant ∙ sym (append_nil front)
+          ∙ ap (λ o. front ++ cons_option o []) w.in_default-pick_one.ensures
           ∙ picked_more labels picks place w.in-Some.pick lt (sym w.in-Some.ensures)
       | in_default w ↦ absurd (there picks place lt (sym w.in_default.ensures))
     ]

@@ -4,4 +4,5 @@ use Rattle.cata_core.specs.LentEntries.{labelled_of, weighed_of}
 use Rattle.cata_core.proofs.entries.pick_all.Given as goal
 
 abbrev pub invariant-loop-place : goal.invariant-loop-place
-invariant-loop-place l = weighed_of l.items.items ≡ picked (labelled_of l.labels) (take l.place l.picks)
+invariant-loop-place l =
+    weighed_of l.items.items ≡ picked (labelled_of l.labels) (take l.place l.picks)

@@ -4,7 +4,9 @@ use Rattle.cata_core.specs.Equality.{entries_eq}
 use Rattle.cata_core.proofs.equality.are_equal.Given as goal
 
 abbrev pub invariant-loop-cell : goal.invariant-loop-cell
-invariant-loop-cell l = entries_eq (cells_left l.mine) (cells_left l.others) ≡ entries_eq (cells_left l.initial.mine) (cells_left l.initial.others)
+invariant-loop-cell l =
+    entries_eq (cells_left l.mine) (cells_left l.others)
+    ≡ entries_eq (cells_left l.initial.mine) (cells_left l.initial.others)
 
 abbrev pub decreases-loop-cell : goal.decreases-loop-cell
 decreases-loop-cell l = length (cells_left l.mine)

@@ -6,4 +6,6 @@ use Rattle.cata_core.specs.Latest.{latest_of}
 use Rattle.cata_core.proofs.latest.latest_of.Given as goal
 
 abbrev pub invariant-loop-cell : goal.invariant-loop-cell
-invariant-loop-cell l = joined_if_both joined_stamps l.latest (latest_of (cells_left l.cell-iterator)) ≡ latest_of l.catalogue
+invariant-loop-cell l =
+    joined_if_both joined_stamps l.latest (latest_of (cells_left l.cell-iterator))
+    ≡ latest_of l.catalogue

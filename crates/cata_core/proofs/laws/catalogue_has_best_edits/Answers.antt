@@ -11,4 +11,5 @@ pub returns-clause-best : goal.returns-clause-best
 returns-clause-best c = λ xs settled k cell. (found_best xs k cell, best_found xs settled k cell)
 
 pub returns-clause-all : goal.returns-clause-all
-returns-clause-all c = λ xs e has. let d = has_cell xs e.0 e.1 (in_from_Contains xs e has) in subst IsSome (sym d.1) refl
+returns-clause-all c = λ xs e has. let d = has_cell xs e.0 e.1 (in_from_Contains xs e has) in
+    subst IsSome (sym d.1) refl

@@ -4,11 +4,15 @@ use Rattle.cata_core.proofs.live.label_in.Goals as goal
 
 pub returns-in-Some-label : goal.returns-in-Some-label
 returns-in-Some-label c =
-    with_label c.args.text.now c.args.cells.now c.in-Some.lang.now c.in-Some.cell.now (Some c.in-Some-label.label.now) c.in-Some.ensures.map c.in-Some.ensures.entry (sym c.in-Some-label.ensures)
+    with_label c.args.text.now c.args.cells.now c.in-Some.lang.now c.in-Some.cell.now
+    (Some c.in-Some-label.label.now) c.in-Some.ensures.map c.in-Some.ensures.entry
+    (sym c.in-Some-label.ensures)
 
 pub returns-in-None-label : goal.returns-in-None-label
 returns-in-None-label c =
-    with_label c.args.text.now c.args.cells.now c.in-Some.lang.now c.in-Some.cell.now None c.in-Some.ensures.map c.in-Some.ensures.entry (sym c.in-None-label.ensures)
+    with_label c.args.text.now c.args.cells.now c.in-Some.lang.now c.in-Some.cell.now None
+    c.in-Some.ensures.map c.in-Some.ensures.entry (sym c.in-None-label.ensures)
 
 pub returns-in-None : goal.returns-in-None
-returns-in-None c = with_none c.args.text.now c.args.cells.now c.in-None.ensures.map c.in-None.ensures.entry
+returns-in-None c =
+    with_none c.args.text.now c.args.cells.now c.in-None.ensures.map c.in-None.ensures.entry

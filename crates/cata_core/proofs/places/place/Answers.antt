@@ -2,39 +2,64 @@ use Rattle.std.proofs.Common.{◌+◌, sym, ◌∙◌, ap, subst, arith}
 use Rattle.cell_core.specs.EntriesLeft.{entries_left}
 use Rattle.cata_core.specs.Entries.{EntryKey, text_cmp}
 use Rattle.cata_core.proofs.KeyPlaces.{place_of-le}
-use Rattle.cata_core.proofs.NestedPlaces.{IsInFront, in_front_less, in_front_same, in_front_next, in_front_fits}
+use Rattle.cata_core.proofs.NestedPlaces.{IsInFront, in_front_less, in_front_same, in_front_next}
+use Rattle.cata_core.proofs.NestedPlaces.{in_front_fits}
 use Rattle.cata_core.proofs.places.place.Goals as goal
 
 pub returns-in-Less : goal.returns-in-Less
 returns-in-Less c =
     let key : EntryKey = (c.args.id.now, c.args.lang.now) in
-    let h = subst (λ left. IsInFront c.args.map.now left key c.loop-key.total) c.in-Some.ensures.steps c.loop-key.invariant in
-    in_front_less c.args.map.now (entries_left c.next.new.self) key c.in-Some.key.now c.in-Some.cells.now c.loop-key.total h (sym c.cmp.ensures ∙ c.in-Less.is)
+    let h =
+    subst (λ left. IsInFront c.args.map.now left key c.loop-key.total) c.in-Some.ensures.steps
+    c.loop-key.invariant in
+    in_front_less c.args.map.now (entries_left c.next.new.self) key c.in-Some.key.now
+    c.in-Some.cells.now c.loop-key.total h (sym c.cmp.ensures ∙ c.in-Less.is)
 
 pub overflow_add-result : goal.overflow_add-result
 overflow_add-result c =
     let key : EntryKey = (c.args.id.now, c.args.lang.now) in
-    let h = subst (λ left. IsInFront c.args.map.now left key c.loop-key.total) c.in-Some.ensures.steps c.loop-key.invariant in
-    let fits = in_front_fits c.args.map.now (entries_left c.next.new.self) key c.in-Some.key.now c.in-Some.cells.now c.loop-key.total h c.requires.fits in
-    omega (arith, fits, c.place_in.ensures, place_of-le text_cmp c.args.lang.now c.in-Some.cells.now)
+    let h =
+    subst (λ left. IsInFront c.args.map.now left key c.loop-key.total) c.in-Some.ensures.steps
+    c.loop-key.invariant in
+    let fits =
+    in_front_fits c.args.map.now (entries_left c.next.new.self) key c.in-Some.key.now
+    c.in-Some.cells.now c.loop-key.total h c.requires.fits in
+    omega (
+      arith,
+      fits,
+      c.place_in.ensures,
+      place_of-le text_cmp c.args.lang.now
+          c.in-Some.cells.now,
+    )
 
 pub returns-in-Equal : goal.returns-in-Equal
 returns-in-Equal c =
     let key : EntryKey = (c.args.id.now, c.args.lang.now) in
-    let h = subst (λ left. IsInFront c.args.map.now left key c.loop-key.total) c.in-Some.ensures.steps c.loop-key.invariant in
+    let h =
+    subst (λ left. IsInFront c.args.map.now left key c.loop-key.total) c.in-Some.ensures.steps
+    c.loop-key.invariant in
     ap (λ n. c.loop-key.total + n) c.place_in.ensures
-    ∙ in_front_same c.args.map.now (entries_left c.next.new.self) key c.in-Some.key.now c.in-Some.cells.now c.loop-key.total h (sym c.cmp.ensures ∙ c.in-Equal.is)
+    ∙ in_front_same c.args.map.now (entries_left c.next.new.self) key c.in-Some.key.now
+    c.in-Some.cells.now c.loop-key.total h (sym c.cmp.ensures ∙ c.in-Equal.is)
 
 pub overflow_add-total : goal.overflow_add-total
 overflow_add-total c =
     let key : EntryKey = (c.args.id.now, c.args.lang.now) in
-    let h = subst (λ left. IsInFront c.args.map.now left key c.loop-key.total) c.in-Some.ensures.steps c.loop-key.invariant in
-    let fits = in_front_fits c.args.map.now (entries_left c.next.new.self) key c.in-Some.key.now c.in-Some.cells.now c.loop-key.total h c.requires.fits in
+    let h =
+    subst (λ left. IsInFront c.args.map.now left key c.loop-key.total) c.in-Some.ensures.steps
+    c.loop-key.invariant in
+    let fits =
+    in_front_fits c.args.map.now (entries_left c.next.new.self) key c.in-Some.key.now
+    c.in-Some.cells.now c.loop-key.total h c.requires.fits in
     omega (arith, fits, c.len.ensures.len)
 
 pub loop-key-preserved : goal.loop-key-preserved
 loop-key-preserved c =
     let key : EntryKey = (c.args.id.now, c.args.lang.now) in
-    let h = subst (λ left. IsInFront c.args.map.now left key c.loop-key.total) c.in-Some.ensures.steps c.loop-key.invariant in
-    subst (λ n. IsInFront c.args.map.now (entries_left c.next.new.self) key (c.loop-key.total + n)) (sym c.len.ensures.len)
-    (in_front_next c.args.map.now (entries_left c.next.new.self) key c.in-Some.key.now c.in-Some.cells.now c.loop-key.total h (sym c.cmp.ensures ∙ c.in-Greater.is))
+    let h =
+    subst (λ left. IsInFront c.args.map.now left key c.loop-key.total) c.in-Some.ensures.steps
+    c.loop-key.invariant in
+    subst (λ n. IsInFront c.args.map.now (entries_left c.next.new.self) key (c.loop-key.total + n))
+    (sym c.len.ensures.len)
+    (in_front_next c.args.map.now (entries_left c.next.new.self) key c.in-Some.key.now
+    c.in-Some.cells.now c.loop-key.total h (sym c.cmp.ensures ∙ c.in-Greater.is))

@@ -5,4 +5,7 @@ use Rattle.cata_core.specs.Entries.{text_cmp}
 use Rattle.cata_core.proofs.places.place_in.Given as goal
 
 abbrev pub invariant-loop-key : goal.invariant-loop-key
-invariant-loop-key l = (l.place + place_of text_cmp l.lang (entries_left l.key-iterator) ≡ place_of text_cmp l.lang l.cells) × (l.place + length (entries_left l.key-iterator) ≡ length l.cells)
+invariant-loop-key l =
+    (l.place + place_of text_cmp l.lang (entries_left l.key-iterator)
+    ≡ place_of text_cmp l.lang l.cells)
+    × (l.place + length (entries_left l.key-iterator) ≡ length l.cells)

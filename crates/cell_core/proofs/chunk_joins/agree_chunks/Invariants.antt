@@ -6,4 +6,6 @@ use Rattle.cell_core.proofs.chunk_joins.agree_chunks.Given as goal
 
 abbrev pub invariant-loop-pairs : goal.invariant-loop-pairs
 invariant-loop-pairs g l =
-    (q : g.row.K.Denot) → AgreeIfBoth g.J.Join.agree (find g.K.Ord.cmp q (all_of (take l.pairs-index l.mine))) (find g.K.Ord.cmp q (all_of l.theirs))
+    (q : g.row.K.Denot)
+    → AgreeIfBoth g.J.Join.agree (find g.K.Ord.cmp q (all_of (take l.pairs-index l.mine)))
+    (find g.K.Ord.cmp q (all_of l.theirs))

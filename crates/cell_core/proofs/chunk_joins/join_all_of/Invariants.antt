@@ -8,7 +8,8 @@ invariant-loop-from g l = record {
   within : l.from ≤ length l.pairs;
   some : 0 < vec_len l.chunks.list;
   kept : IsKept g.K.Ord.cmp l.chunks;
-  joined : IsJoinedWith g.K.Ord.cmp g.J.Join.joined (all_of l.fn.chunks.list.items) (take l.from l.pairs) (all_of l.chunks.list.items);
+  joined : IsJoinedWith g.K.Ord.cmp g.J.Join.joined (all_of l.fn.chunks.list.items)
+      (take l.from l.pairs) (all_of l.chunks.list.items);
 }
 
 abbrev pub decreases-loop-from : goal.decreases-loop-from

@@ -10,5 +10,7 @@ returns-then-is_gt g c =
     let bound = c.args.bound.now in
     let pairs = c.args.pairs.now in
     let greater = is_greater c.cmp.result (sym c.is_gt.ensures ∙ c.if-is_gt.true) in
-    let after = place_after cmp g.met.K.Ord.total bound pairs (length pairs - 1) c.index-pairs-pairs.result c.requires.pairs (sym c.cmp.ensures ∙ greater) (omega arith) in
+    let after =
+    place_after cmp g.met.K.Ord.total bound pairs (length pairs - 1) c.index-pairs-pairs.result
+    c.requires.pairs (sym c.cmp.ensures ∙ greater) (omega arith) in
     omega (arith, after, place_of-le cmp bound pairs)

@@ -15,8 +15,12 @@ returns-in-Ok-clause-kept g c =
     let es = all_of c.args.chunks.now.list.items in
     record {
       chunked = record {
-        map = subst (IsMap g.K.Ord.cmp) (sym (returns-in-Ok-clause-ok g c)) (is_sorted-put g.K.Ord.cmp g.met.K.Ord.total c.args.key c.args.value es c.requires.kept.chunked.map);
+        map = subst (IsMap g.K.Ord.cmp) (sym (returns-in-Ok-clause-ok g c))
+            (is_sorted-put g.K.Ord.cmp g.met.K.Ord.total c.args.key c.args.value es
+            c.requires.kept.chunked.map);
         filled = c.push_last.ensures.filled;
       };
-      counted = let len = ap length c.in-Ok.ensures.ok ∙ length-append es ((c.args.key, c.args.value) ∷ []) in omega (arith, len, c.requires.kept.counted, c.in-Some.ensures);
+      counted = let len =
+          ap length c.in-Ok.ensures.ok ∙ length-append es ((c.args.key, c.args.value) ∷ []) in
+          omega (arith, len, c.requires.kept.counted, c.in-Some.ensures);
     }

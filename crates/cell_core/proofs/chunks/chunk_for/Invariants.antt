@@ -9,7 +9,8 @@ abbrev pub invariant-loop-low : goal.invariant-loop-low
 invariant-loop-low g l = record {
   order : l.low < l.high;
   within : l.high ≤ length l.chunks;
-  front : place_of g.K.Ord.cmp (g.Q.Query.sought l.query) (all_of (take l.low l.chunks)) ≡ length (all_of (take l.low l.chunks));
+  front : place_of g.K.Ord.cmp (g.Q.Query.sought l.query) (all_of (take l.low l.chunks))
+      ≡ length (all_of (take l.low l.chunks));
   back : T (below_all g.K.Ord.cmp (g.Q.Query.sought l.query) (all_of (drop l.high l.chunks)));
 }
 

@@ -1,4 +1,5 @@
-use Rattle.std.proofs.Common.{◌≡◌, ◌<◌, ◌∷◌, [], ◌++◌, Vec, Global, length, sym, ap, ◌∙◌, subst, append-nil}
+use Rattle.std.proofs.Common.{◌≡◌, ◌<◌, ◌∷◌, [], ◌++◌, Vec, Global, length, sym, ap, ◌∙◌, subst}
+use Rattle.std.proofs.Common.{append-nil}
 use Rattle.cell_core.specs.Chunks.{all_of, AllFilled}
 use Rattle.cell_core.proofs.ChunkLemmas.{filled_at}
 use Rattle.cell_core.proofs.RunLemmas.{all_of-append, all_of_more}
@@ -14,9 +15,15 @@ loop-chunk-preserved g c =
     let x = c.in_ok-copy_pairs.field-0 in
     let same : x.items ≡ chunk.items = c.in_ok-copy_pairs.ensures ∙ c.deref.ensures.value in
     record {
-      same = ap all_of c.in_ok-push.ensures.items ∙ all_of-append copied (x ∷ []) ∙ ap (λ xs. all_of copied ++ xs) (append-nil x.items ∙ same)
-          ∙ ap (λ xs. xs ++ chunk.items) c.loop-chunk.invariant.same ∙ all_of_more cs i chunk c.loop-chunk-test.true c.chunk-item.is;
+      same =
+          ap all_of c.in_ok-push.ensures.items ∙ all_of-append copied (x ∷ [])
+          ∙ ap (λ xs. all_of copied ++ xs) (append-nil x.items ∙ same)
+          ∙ ap (λ xs. xs ++ chunk.items) c.loop-chunk.invariant.same
+          ∙ all_of_more cs i chunk c.loop-chunk-test.true c.chunk-item.is;
       filled = subst AllFilled (sym c.in_ok-push.ensures.items)
           (filled_push copied x c.loop-chunk.invariant.filled
-          (subst (λ xs. 0 < length xs) (ap (λ (y : Vec (g.row.K.Denot × g.row.J.Denot) Global). y.items) (sym c.chunk-item.is) ∙ sym same) (filled_at cs i chunk c.requires c.loop-chunk-test.true)));
+          (subst (λ xs. 0 < length xs)
+          (ap (λ (y : Vec (g.row.K.Denot × g.row.J.Denot) Global). y.items)
+          (sym c.chunk-item.is) ∙ sym same)
+          (filled_at cs i chunk c.requires c.loop-chunk-test.true)));
     }

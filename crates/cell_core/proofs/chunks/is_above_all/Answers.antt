@@ -6,10 +6,24 @@ use Rattle.cell_core.proofs.AppendLemmas.{gap_behind, at_last, some_of_last}
 use Rattle.cell_core.proofs.chunks.is_above_all.Goals as goal
 
 pub overflow_sub-len : goal.overflow_sub-len
-overflow_sub-len g c = omega (arith, some_of_last c.args.chunks.now c.in-Some.chunk.now c.requires.filled c.in-Some.ensures.value, c.len.ensures, c.in-Some.chunk.now.ok.0)
+overflow_sub-len g c =
+    omega (
+      arith,
+      some_of_last c.args.chunks.now c.in-Some.chunk.now c.requires.filled
+          c.in-Some.ensures.value,
+      c.len.ensures,
+      c.in-Some.chunk.now.ok.0,
+    )
 
 pub index-requires : goal.index-requires
-index-requires g c = omega (arith, some_of_last c.args.chunks.now c.in-Some.chunk.now c.requires.filled c.in-Some.ensures.value, c.len.ensures, c.in-Some.chunk.now.ok.0)
+index-requires g c =
+    omega (
+      arith,
+      some_of_last c.args.chunks.now c.in-Some.chunk.now c.requires.filled
+          c.in-Some.ensures.value,
+      c.len.ensures,
+      c.in-Some.chunk.now.ok.0,
+    )
 
 pub returns-in-Some-clause-above : goal.returns-in-Some-clause-above
 returns-in-Some-clause-above g c = λ above.
@@ -18,8 +32,10 @@ returns-in-Some-clause-above g c = λ above.
     let e = c.index.result.now in
     let last = at_last chunks chunk c.in-Some.ensures.value in
     let len : c.len.result ≡ length chunk.items = omega (arith, c.len.ensures, chunk.ok.0) in
-    gap_behind g.K.Ord.cmp g.met.K.Ord.total c.args.key.now chunks (length chunks - 1) chunk e c.requires last.0 last.1
-    (c.index.ensures ∙ ap (λ n. get_or chunk.items (n - 1) e) len) (sym c.cmp.ensures ∙ is_greater c.cmp.result (sym c.is_gt.ensures ∙ above))
+    gap_behind g.K.Ord.cmp g.met.K.Ord.total c.args.key.now chunks (length chunks - 1) chunk e
+    c.requires last.0 last.1
+    (c.index.ensures ∙ ap (λ n. get_or chunk.items (n - 1) e) len)
+    (sym c.cmp.ensures ∙ is_greater c.cmp.result (sym c.is_gt.ensures ∙ above))
 
 pub returns-in-Some-clause-below : goal.returns-in-Some-clause-below
 returns-in-Some-clause-below g c = λ above.

@@ -6,11 +6,15 @@ use Rattle.cell_core.proofs.chunks.put_in.Goals as goal
 
 pub returns-in-Ok-clause-ok : goal.returns-in-Ok-clause-ok
 returns-in-Ok-clause-ok g c =
-    set_as_put c.args.key c.args.value c.deref.result.now c.args.pairs.now.items c.in-Ok.at c.index_mut.result.now c.in-Ok.ensures.found (sym c.deref.ensures.value) c.index_mut.ensures.value
+    set_as_put c.args.key c.args.value c.deref.result.now c.args.pairs.now.items c.in-Ok.at
+    c.index_mut.result.now c.in-Ok.ensures.found (sym c.deref.ensures.value)
+    c.index_mut.ensures.value
     ∙ ap (put g.K.Ord.cmp c.args.key c.args.value) c.deref.ensures.value
 
 pub returns-in-Ok-insert-clause-ok : goal.returns-in-Ok-insert-clause-ok
 returns-in-Ok-insert-clause-ok g c =
-    c.in-Ok-insert.ensures.items ∙ ap (λ xs. insert xs c.in-Err.at (c.args.key, c.args.value)) c.make_room.ensures.items
-    ∙ insert_as_put c.args.key c.args.value c.deref.result.now c.args.pairs.now.items c.in-Err.at c.in-Err.ensures.absent (sym c.deref.ensures.value)
+    c.in-Ok-insert.ensures.items
+    ∙ ap (λ xs. insert xs c.in-Err.at (c.args.key, c.args.value)) c.make_room.ensures.items
+    ∙ insert_as_put c.args.key c.args.value c.deref.result.now c.args.pairs.now.items c.in-Err.at
+    c.in-Err.ensures.absent (sym c.deref.ensures.value)
     ∙ ap (put g.K.Ord.cmp c.args.key c.args.value) c.deref.ensures.value

@@ -10,14 +10,18 @@ use Rattle.cell_core.proofs.interleave.join_pairs.Goals as goal
 
 pub add_missing-requires-clause-sorted : goal.add_missing-requires-clause-sorted
 add_missing-requires-clause-sorted g c =
-    missing_sorted g.met.K.Ord.total g.J.Join.joined c.deref_mut.result.now c.args.run.now c.join_common.new.mine c.in_ok-missing.missing.items c.requires.run c.in_ok-missing.ensures.ok
+    missing_sorted g.met.K.Ord.total g.J.Join.joined c.deref_mut.result.now c.args.run.now
+    c.join_common.new.mine c.in_ok-missing.missing.items c.requires.run
+    c.in_ok-missing.ensures.ok
 
 pub add_missing-requires-clause-gaps : goal.add_missing-requires-clause-gaps
 add_missing-requires-clause-gaps g c =
     let mine = c.join_common.new.mine in
     let len : length mine ≡ c.args.pairs.now.len = omega arith in
-    subst (λ xs. AllGaps g.K.Ord.cmp xs 0 c.in_ok-missing.missing.items) (sym (take_front mine (drop (length mine) c.args.pairs.now.items) c.args.pairs.now.len len))
-    (gaps_after g.met.K.Ord.total g.J.Join.joined c.deref_mut.result.now c.args.run.now mine c.in_ok-missing.missing.items c.in_ok-missing.ensures.ok)
+    subst (λ xs. AllGaps g.K.Ord.cmp xs 0 c.in_ok-missing.missing.items)
+    (sym (take_front mine (drop (length mine) c.args.pairs.now.items) c.args.pairs.now.len len))
+    (gaps_after g.met.K.Ord.total g.J.Join.joined c.deref_mut.result.now c.args.run.now mine
+    c.in_ok-missing.missing.items c.in_ok-missing.ensures.ok)
 
 pub returns-in_err-add_missing-clause-err : goal.returns-in_err-add_missing-clause-err
 returns-in_err-add_missing-clause-err g c =
@@ -30,11 +34,16 @@ returns-in_err-add_missing-clause-err g c =
     let len : length mine ≡ c.args.pairs.now.len = omega arith in
     let front = take_front mine (drop (length mine) old) c.args.pairs.now.len len in
     let le : length other ≤ length other = omega arith in
-    let common = subst (λ xs. IsCommonJoined cmp joined xs (take (length other) other) mine ms) c.deref_mut.ensures.value
-    (subst (λ ys. IsCommonJoined cmp joined c.deref_mut.result.now ys mine ms) (sym (take_all (length other) other le)) c.in_ok-missing.ensures.ok) in
+    let common =
+    subst (λ xs. IsCommonJoined cmp joined xs (take (length other) other) mine ms)
+    c.deref_mut.ensures.value
+    (subst (λ ys. IsCommonJoined cmp joined c.deref_mut.result.now ys mine ms)
+    (sym (take_all (length other) other le)) c.in_ok-missing.ensures.ok) in
     on_err_always c.from_residual-in_err-add_missing.result
-    (subst (λ xs. BetweenAtKeys cmp g.J.Join.between old xs other) (sym (c.in_err-add_missing.ensures.err ∙ front))
-    (stopped_between g.met.K.Ord.total g.met.J.Join.laws old other c.requires.pairs c.requires.run c.requires.agree mine (length other) ms common))
+    (subst (λ xs. BetweenAtKeys cmp g.J.Join.between old xs other)
+    (sym (c.in_err-add_missing.ensures.err ∙ front))
+    (stopped_between g.met.K.Ord.total g.met.J.Join.laws old other c.requires.pairs c.requires.run
+    c.requires.agree mine (length other) ms common))
 
 pub returns-clause-ok : goal.returns-clause-ok
 returns-clause-ok g c =
@@ -46,9 +55,13 @@ returns-clause-ok g c =
     let ms = c.in_ok-missing.missing.items in
     let len : length mine ≡ c.args.pairs.now.len = omega arith in
     let front = take_front mine (drop (length mine) old) c.args.pairs.now.len len in
-    let common = subst (λ xs. IsCommonJoined cmp joined xs other mine ms) c.deref_mut.ensures.value c.in_ok-missing.ensures.ok in
+    let common =
+    subst (λ xs. IsCommonJoined cmp joined xs other mine ms) c.deref_mut.ensures.value
+    c.in_ok-missing.ensures.ok in
     record {
       map = c.add_missing.ensures.map;
-      at = joined_parts g.met.K.Ord.total joined old other mine c.add_missing.new.pairs.items ms common
-          (λ q. c.in_ok-add_missing.ensures.ok q ∙ ap (λ xs. or_other (find cmp q xs) (find cmp q (pairs_of ms))) front);
+      at = joined_parts g.met.K.Ord.total joined old other mine c.add_missing.new.pairs.items ms
+          common
+          (λ q. c.in_ok-add_missing.ensures.ok q
+          ∙ ap (λ xs. or_other (find cmp q xs) (find cmp q (pairs_of ms))) front);
     }

@@ -21,18 +21,23 @@ loop-low-preserved-in-Less g c =
     let pairs = c.args.pairs.now in
     let middle = c.loop-low.low + c.min.result in
     let lt : middle < length pairs = omega arith in
-    let less = λ (d : g.row.K.Denot × g.row.J.Denot). ap (λ (e : g.row.K.Denot × g.row.J.Denot). cmp key e.0) (get_or_default pairs middle d _ lt) ∙ sym c.cmp.ensures ∙ c.in-Less.is in
+    let less =
+    λ (d : g.row.K.Denot × g.row.J.Denot).
+    ap (λ (e : g.row.K.Denot × g.row.J.Denot). cmp key e.0) (get_or_default pairs middle d _ lt)
+    ∙ sym c.cmp.ensures ∙ c.in-Less.is in
     record {
       start = c.loop-low.invariant.start;
       from = c.loop-low.invariant.from;
-      to = place_upto cmp key pairs middle c.index-pairs-middle.result (ap is_gt (less c.index-pairs-middle.result)) lt;
+      to = place_upto cmp key pairs middle c.index-pairs-middle.result
+          (ap is_gt (less c.index-pairs-middle.result)) lt;
       within = omega arith;
       apart = λ d _. less d;
     }
 
 pub returns-in-Equal-clause-found : goal.returns-in-Equal-clause-found
 returns-in-Equal-clause-found g c =
-    place_found_in_map g.K.Ord.cmp g.met.K.Ord.total c.args.key.now c.args.pairs.now (c.loop-low.low + c.min.result) _ c.requires.map (omega arith)
+    place_found_in_map g.K.Ord.cmp g.met.K.Ord.total c.args.key.now c.args.pairs.now
+    (c.loop-low.low + c.min.result) _ c.requires.map (omega arith)
     (sym c.cmp.ensures ∙ c.in-Equal.is)
 
 pub loop-low-preserved : goal.loop-low-preserved
@@ -42,7 +47,9 @@ loop-low-preserved g c =
     let pairs = c.args.pairs.now in
     let middle = c.loop-low.low + c.min.result in
     let lt : middle < length pairs = omega arith in
-    let after = place_after cmp g.met.K.Ord.total key pairs middle _ c.requires.map (sym c.cmp.ensures ∙ c.in-Greater.is) lt in
+    let after =
+    place_after cmp g.met.K.Ord.total key pairs middle _ c.requires.map
+    (sym c.cmp.ensures ∙ c.in-Greater.is) lt in
     record {
       start = omega arith;
       from = omega arith;
@@ -54,5 +61,6 @@ loop-low-preserved g c =
 pub returns-clause-absent : goal.returns-clause-absent
 returns-clause-absent g c =
     let same : c.loop-low.low ≡ c.loop-low.high = omega arith in
-    gap_found g.K.Ord.cmp g.met.K.Ord.total c.args.key.now c.args.pairs.now c.loop-low.low c.requires.map c.loop-low.invariant.from (omega arith)
+    gap_found g.K.Ord.cmp g.met.K.Ord.total c.args.key.now c.args.pairs.now c.loop-low.low
+    c.requires.map c.loop-low.invariant.from (omega arith)
     (λ d lt. rw same (c.loop-low.invariant.apart d (omega (arith, lt))))

@@ -9,7 +9,8 @@ invariant-loop-low g l = record {
   from : l.low ≤ place_of g.K.Ord.cmp l.key l.pairs;
   to : place_of g.K.Ord.cmp l.key l.pairs ≤ l.high;
   within : l.high ≤ length l.pairs;
-  apart : (d : g.row.K.Denot × g.row.J.Denot) → l.high < length l.pairs → (let e = get_or l.pairs l.high d in g.K.Ord.cmp l.key e.0 ≡ Less);
+  apart : (d : g.row.K.Denot × g.row.J.Denot) → l.high < length l.pairs
+      → (let e = get_or l.pairs l.high d in g.K.Ord.cmp l.key e.0 ≡ Less);
 }
 
 abbrev pub decreases-loop-low : goal.decreases-loop-low

@@ -16,5 +16,7 @@ returns-in_default g c =
     (writes g.W.Sink.contents g.W.Sink.failed c.args.writer.now c.finish.new.writer)
     (writes g.F.Sink.contents g.F.Sink.failed c.args.faults.now c.finish.new.faults) in
     record {
-      acts = treated (task_values c.args.task) run c.finish.result c.answer.result c.answer.ensures c.finish.ensures.ends;
+      acts =
+          treated (task_values c.args.task) run c.finish.result c.answer.result c.answer.ensures
+          c.finish.ensures.ends;
     }

@@ -19,6 +19,8 @@ returns-in-Err g c =
     (writes g.W.Sink.contents g.W.Sink.failed c.args.writer.now c.replay.new.writer)
     (writes g.F.Sink.contents g.F.Sink.failed c.args.faults.now c.refuse.new.faults) in
     record {
-      acts = not_replayed c.in-Err.fault run c.refuse.result (rw (← c.from.ensures) c.refuse.ensures.status)
+      acts =
+          not_replayed c.in-Err.fault run c.refuse.result
+          (rw (← c.from.ensures) c.refuse.ensures.status)
           (rw (← c.from.ensures) c.refuse.ensures.reported) c.in-Err.ensures.err;
     }

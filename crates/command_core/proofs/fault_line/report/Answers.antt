@@ -12,4 +12,9 @@ returns-then-not-failed g c =
     reported c.args.number (g.T.Display.output c.args.text.now) c.args.row c.args.document sink
     c.as_str.result.now (search rules)
     (c.as_str.ensures.len, rw c.as_str.ensures.value c.of-text.ensures.text)
-    (rw (← c.line_of-line.ensures, ← c.as_str-then-not-failed.ensures.value, ← c.as_bytes.ensures.value) prints)
+    (rw (
+      ← c.line_of-line.ensures,
+      ← c.as_str-then-not-failed.ensures.value,
+      ←
+          c.as_bytes.ensures.value,
+    ) prints)

@@ -10,5 +10,9 @@ use Rattle.command_core.proofs.matches.number_of.Goals as goal
 pub returns : goal.returns
 returns c =
     let found = found_of c.args.matches.now in
-    subst (λ (one : Option Text). MatchOption one (c.get_one.result ≡ None) (λ text. IsNumberOf text c.get_one.result)) (one_text-rows found c.args.id.now)
-    (gives_number (λ bs r. ParsesUnsigned 64 10 bs r × ExplainsUnsignedError 10 bs r × HasUnsignedDigitsIfOk bs r) (one_text found c.args.id.now) c.get_one.result c.get_one.ensures.none c.get_one.ensures.value (λ t r h. h.0))
+    subst (λ (one : Option Text). MatchOption one (c.get_one.result ≡ None)
+    (λ text. IsNumberOf text c.get_one.result)) (one_text-rows found c.args.id.now)
+    (gives_number
+    (λ bs r. ParsesUnsigned 64 10 bs r × ExplainsUnsignedError 10 bs r
+    × HasUnsignedDigitsIfOk bs r) (one_text found c.args.id.now) c.get_one.result
+    c.get_one.ensures.none c.get_one.ensures.value (λ t r h. h.0))

@@ -1,6 +1,7 @@
 use Rattle.std.proofs.Common.{rules, ◌∙◌, List, ap, map, subst}
 use Rattle.std.proofs.lemmas.Result.{IfOk-weaker}
-use Rattle.clap.specs.Words.{App, FailsBy, Text, fault_of, is_simple, is_simple_and_free, subcommand_of}
+use Rattle.clap.specs.Words.{App, FailsBy, Text, fault_of, is_simple, is_simple_and_free}
+use Rattle.clap.specs.Words.{subcommand_of}
 use Rattle.command_core.proofs.AppLemmas.{lexicat_free, lexicat_simple}
 use Rattle.command_core.proofs.ProgramLemmas.{no_memory}
 use Rattle.command_core.specs.Words.{lexicat_app}
@@ -26,8 +27,10 @@ returns g c =
         app_is = search rules;
       };
       matches = IfOk-weaker c.try_get_matches_from.result _ _
-          (λ m h. (h (ap is_simple is ∙ lexicat_simple schemes numbers)).1 ∙ ap (λ (a : App). subcommand_of a words) is)
+          (λ m h. (h (ap is_simple is ∙ lexicat_simple schemes numbers)).1
+          ∙ ap (λ (a : App). subcommand_of a words) is)
           c.try_get_matches_from.ensures.matches;
       fails = subst (λ (a : App). FailsBy (fault_of a words) c.try_get_matches_from.result) is
-          (c.try_get_matches_from.ensures.kinds (ap is_simple_and_free is ∙ lexicat_free schemes numbers));
+          (c.try_get_matches_from.ensures.kinds
+          (ap is_simple_and_free is ∙ lexicat_free schemes numbers));
     }

@@ -7,9 +7,18 @@ use Rattle.command_core.proofs.questions.bundle.Goals as goal
 
 pub returns-in_err-answer : goal.returns-in_err-answer
 returns-in_err-answer g c =
-    let p = err_from_is_err_and c.from_residual-in_err-answer.result c.from_residual-in_err-answer.ensures.1 in
+    let p =
+    err_from_is_err_and c.from_residual-in_err-answer.result
+    c.from_residual-in_err-answer.ensures.1 in
     let asked = c.in_ok-question.ensures in
     let reader =
     reads g.R.Source.remaining g.R.Source.failed c.args.reader.now c.read_input.new.reader in
     let ended = memory_ended c.in_ok-site.site reader c.in_ok-site.ensures in
-    rw p.1 (inr (((c.in_ok-question.question.default, asked.1), (c.in_ok-question.question.list, asked.0)), (no_memory, ended, p.2)))
+    rw p.1
+    (inr (
+      (
+        (c.in_ok-question.question.default, asked.1),
+        (c.in_ok-question.question.list, asked.0),
+      ),
+      (no_memory, ended, p.2),
+    ))

@@ -7,7 +7,9 @@ use Rattle.command_core.proofs.questions.filter.Goals as goal
 
 pub returns-in_err-answer : goal.returns-in_err-answer
 returns-in_err-answer g c =
-    let p = err_from_is_err_and c.from_residual-in_err-answer.result c.from_residual-in_err-answer.ensures.1 in
+    let p =
+    err_from_is_err_and c.from_residual-in_err-answer.result
+    c.from_residual-in_err-answer.ensures.1 in
     let asked = c.in_ok-question.ensures in
     let reader =
     reads g.R.Source.remaining g.R.Source.failed c.args.reader.now c.read_input.new.reader in

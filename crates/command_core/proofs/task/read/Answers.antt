@@ -6,5 +6,8 @@ use Rattle.command_core.proofs.task.read.Goals as goal
 
 pub returns : goal.returns
 returns c =
-    gives_task (λ b. (out-SubCommand (box_value b)).name.now) (λ b. rows_of (found_of (out-SubCommand (box_value b)).matches)) (out-ArgMatches c.args.matches.now).subcommand
-    c.in_ok-name.name.now (rows_of (found_of c.in_ok-name.arguments.now)) c.numbers_of.result _ c.in_ok-name.ensures.name c.in_ok-name.ensures.rows c.numbers_of.ensures c.task_of.ensures
+    gives_task (λ b. (out-SubCommand (box_value b)).name.now)
+    (λ b. rows_of (found_of (out-SubCommand (box_value b)).matches))
+    (out-ArgMatches c.args.matches.now).subcommand
+    c.in_ok-name.name.now (rows_of (found_of c.in_ok-name.arguments.now)) c.numbers_of.result _
+    c.in_ok-name.ensures.name c.in_ok-name.ensures.rows c.numbers_of.ensures c.task_of.ensures

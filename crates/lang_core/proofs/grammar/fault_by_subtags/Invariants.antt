@@ -11,4 +11,5 @@ use Rattle.lang_core.proofs.grammar.fault_by_subtags.Given as goal
 abbrev pub invariant-loop-piece : goal.invariant-loop-piece
 invariant-loop-piece l =
     ((place : ℕ) × IsWalked tag_piece l.text (pieces_left l.piece-iterator) place l.offset)
-    × (accepts (subtags l.text) (Some Start) ≡ accepts (lowered (pieces_left l.piece-iterator)) l.stage)
+    × (accepts (subtags l.text) (Some Start)
+    ≡ accepts (lowered (pieces_left l.piece-iterator)) l.stage)

@@ -3,4 +3,5 @@ use Rattle.lang_core.specs.Subtag.{class_of}
 use Rattle.lang_core.proofs.subtag.class_sum.Given as goal
 
 abbrev pub invariant-loop-byte : goal.invariant-loop-byte
-invariant-loop-byte l = (l.sum ≡ sum_by class_of (take l.byte-index l.text)) × (l.sum ≤ 16 * l.byte-index)
+invariant-loop-byte l =
+    (l.sum ≡ sum_by class_of (take l.byte-index l.text)) × (l.sum ≤ 16 * l.byte-index)

@@ -15,24 +15,35 @@ use Rattle.map_docs.proofs.labels.add_key.Goals as goal
 pub returns-in_err-lang-clause-err : goal.returns-in_err-lang-clause-err
 returns-in_err-lang-clause-err c =
     let p = err_from_is_err_and c.from_residual.result c.from_residual.ensures.1 in
-    rw (p.1, p.2) (language_fails c.args.found.now.entries c.args.row c.as_str.result.now (string_bytes c.args.key) (strings_seen c.args.strings) _ c.as_str.ensures.value c.in_err-lang.ensures)
+    rw (p.1, p.2)
+    (language_fails c.args.found.now.entries c.args.row c.as_str.result.now
+    (string_bytes c.args.key) (strings_seen c.args.strings) _ c.as_str.ensures.value
+    c.in_err-lang.ensures)
 
 pub returns-then-contains_key-clause-err : goal.returns-then-contains_key-clause-err
 returns-then-contains_key-clause-err c =
-    repeated_fails c.args.found.now.entries c.args.row c.as_str.result.now (string_bytes c.args.key) c.in_ok-lang.lang c.as_str.ensures.value c.in_ok-lang.ensures (strings_seen c.args.strings)
+    repeated_fails c.args.found.now.entries c.args.row c.as_str.result.now (string_bytes c.args.key)
+    c.in_ok-lang.lang c.as_str.ensures.value c.in_ok-lang.ensures (strings_seen c.args.strings)
     (sym c.contains_key.ensures ∙ c.if-contains_key.true)
 
 pub returns-in_default-clause-err : goal.returns-in_default-clause-err
 returns-in_default-clause-err c =
-    shape_fails c.args.found.now.entries c.args.row c.as_str.result.now (string_bytes c.args.key) c.in_ok-lang.lang c.as_str.ensures.value c.in_ok-lang.ensures (sym c.contains_key.ensures ∙ c.if-contains_key.false)
+    shape_fails c.args.found.now.entries c.args.row c.as_str.result.now (string_bytes c.args.key)
+    c.in_ok-lang.lang c.as_str.ensures.value c.in_ok-lang.ensures
+    (sym c.contains_key.ensures ∙ c.if-contains_key.false)
     (strings_seen c.args.strings) (ap strings_seen c.in_default.is)
 
 pub returns-in_err-label-clause-err : goal.returns-in_err-label-clause-err
 returns-in_err-label-clause-err c =
-    let p = err_from_is_err_and c.from_residual-in_err-label.result c.from_residual-in_err-label.ensures.1 in
+    let p =
+    err_from_is_err_and c.from_residual-in_err-label.result
+    c.from_residual-in_err-label.ensures.1 in
     rw (p.1, p.2)
-    (label_fails c.args.found.now.entries c.args.row c.as_str.result.now (string_bytes c.args.key) c.in_ok-lang.lang c.as_str.ensures.value c.in_ok-lang.ensures (sym c.contains_key.ensures ∙ c.if-contains_key.false)
-    (texts_of c.in-Some.strings.items) (strings_seen c.args.strings) _ (ap strings_seen c.in-Some.is) c.in_err-label.ensures)
+    (label_fails c.args.found.now.entries c.args.row c.as_str.result.now (string_bytes c.args.key)
+    c.in_ok-lang.lang c.as_str.ensures.value c.in_ok-lang.ensures
+    (sym c.contains_key.ensures ∙ c.if-contains_key.false)
+    (texts_of c.in-Some.strings.items) (strings_seen c.args.strings) _
+    (ap strings_seen c.in-Some.is) c.in_err-label.ensures)
 
 pub returns-clause-ok : goal.returns-clause-ok
 returns-clause-ok c = λ before holds.
@@ -40,8 +51,20 @@ returns-clause-ok c = λ before holds.
     let key = string_bytes c.args.key in
     let texts = texts_of c.in-Some.strings.items in
     let seen : strings_seen c.args.strings ≡ Some texts = ap strings_seen c.in-Some.is in
-    let absent : is_some (lookup (is_at (text_cmp c.in_ok-lang.lang)) found) ≡ false = sym c.contains_key.ensures ∙ c.if-contains_key.false in
-    let passes = key_passes found c.args.row c.as_str.result.now key c.in_ok-lang.lang c.as_str.ensures.value c.in_ok-lang.ensures absent texts (strings_seen c.args.strings) seen c.in_ok-label.ensures.0 before holds in
-    let lower = lower_of c.as_str.result.now key c.in_ok-lang.lang c.as_str.ensures.value c.in_ok-lang.ensures in
-    let next = HoldsKeys-next before found c.insert.new.self.entries key c.in_ok-lang.lang texts c.in_ok-label.label holds lower absent c.in_ok-label.ensures.1 c.in_ok-insert.ensures.entries c.in_ok-insert.ensures.updates.0 in
-    (passes, subst (λ (o : Strings). HoldsKeys (before ++ (key, o) ∷ []) c.insert.new.self.entries) (sym seen) next)
+    let absent : is_some (lookup (is_at (text_cmp c.in_ok-lang.lang)) found) ≡ false =
+    sym c.contains_key.ensures ∙ c.if-contains_key.false in
+    let passes =
+    key_passes found c.args.row c.as_str.result.now key c.in_ok-lang.lang c.as_str.ensures.value
+    c.in_ok-lang.ensures absent texts (strings_seen c.args.strings) seen c.in_ok-label.ensures.0
+    before holds in
+    let lower =
+    lower_of c.as_str.result.now key c.in_ok-lang.lang c.as_str.ensures.value
+    c.in_ok-lang.ensures in
+    let next =
+    HoldsKeys-next before found c.insert.new.self.entries key c.in_ok-lang.lang texts
+    c.in_ok-label.label holds lower absent c.in_ok-label.ensures.1
+    c.in_ok-insert.ensures.entries c.in_ok-insert.ensures.updates.0 in (
+      passes,
+      subst (λ (o : Strings). HoldsKeys (before ++ (key, o) ∷ []) c.insert.new.self.entries)
+          (sym seen) next,
+    )

@@ -1,4 +1,5 @@
-use Rattle.std.proofs.Common.{◌∙◌, ◌+◌, List, [], ◌∷◌, ◌++◌, String, Global, Option, ap, refl, string_bytes, string_cmp, subst, sym, length-append}
+use Rattle.std.proofs.Common.{◌∙◌, ◌+◌, List, [], ◌∷◌, ◌++◌, String, Global, Option, ap, refl}
+use Rattle.std.proofs.Common.{string_bytes, string_cmp, subst, sym, length-append}
 use Rattle.std.specs.List.Sorted.{IsStrictlySortedBy}
 use Rattle.std.specs.Map.{keys_of}
 use Rattle.std.proofs.lemmas.Result.{err_from_is_err_and}
@@ -16,13 +17,24 @@ pub rows-init : goal.rows-init
 rows-init c =
     let left = c.into_iter-name-iterator.result in
     let gives = c.into_iter-name-iterator.ensures.into_iter_gives in
-    let rising = subst (λ (es : List (String Global × Option HeldKeys)). IsStrictlySortedBy string_cmp (keys_of es)) (sym gives.0) gives.5 in
-    ([], sym gives.0, refl, tt, subst (λ (labels : List Labelled). HoldsRows [] labels left) (sym c.in_ok-maps.ensures) (HoldsRows-none left rising))
+    let rising =
+    subst (λ (es : List (String Global × Option HeldKeys)). IsStrictlySortedBy string_cmp
+    (keys_of es)) (sym gives.0) gives.5 in (
+      [],
+      sym gives.0,
+      refl,
+      tt,
+      subst (λ (labels : List Labelled). HoldsRows [] labels left)
+          (sym c.in_ok-maps.ensures) (HoldsRows-none left rising),
+    )
 
 pub add_row-requires-clause-lesser : goal.add_row-requires-clause-lesser
 add_row-requires-clause-lesser c =
-    first_lesser (rows_seen c.rows.invariant.0) c.rows.maps (c.in-Some.name, c.in-Some.keys) c.next.new.self
-    (subst (λ (es : List (String Global × Option HeldKeys)). HoldsRows (rows_seen c.rows.invariant.0) c.rows.maps es) c.in-Some.ensures.steps c.rows.invariant.4)
+    first_lesser (rows_seen c.rows.invariant.0) c.rows.maps (c.in-Some.name, c.in-Some.keys)
+    c.next.new.self
+    (subst
+    (λ (es : List (String Global × Option HeldKeys)). HoldsRows (rows_seen c.rows.invariant.0)
+    c.rows.maps es) c.in-Some.ensures.steps c.rows.invariant.4)
 
 pub returns-in_err-add_row : goal.returns-in_err-add_row
 returns-in_err-add_row c =
@@ -30,11 +42,17 @@ returns-in_err-add_row c =
     let front = inv.0 in
     let left = c.next.new.self in
     let e = c.in_err-add_row.field-0.0 in
-    let all = ap rows_seen (inv.1 ∙ ap (λ t. front ++ t) c.in-Some.ensures.steps) ∙ rows_seen_behind front ((c.in-Some.name, c.in-Some.keys) ∷ left) in
-    let p = err_from_is_err_and c.from_residual-in_err-add_row.result c.from_residual-in_err-add_row.ensures.1 in
+    let all =
+    ap rows_seen (inv.1 ∙ ap (λ t. front ++ t) c.in-Some.ensures.steps)
+    ∙ rows_seen_behind front ((c.in-Some.name, c.in-Some.keys) ∷ left) in
+    let p =
+    err_from_is_err_and c.from_residual-in_err-add_row.result
+    c.from_residual-in_err-add_row.ensures.1 in
     rw (p.1, p.2)
-    (else_by c.in_err-add_row.ensures.err (λ fails. subst (λ (rs : Rows). FirstFails (rows_checks 0 rs) e) (sym all)
-    (rows_fail (rows_seen front) (string_bytes c.in-Some.name, keys_in_seen c.in-Some.keys) (rows_seen left) c.rows.row e (inv.2 ∙ same_length front) inv.3 fails)))
+    (else_by c.in_err-add_row.ensures.err
+    (λ fails. subst (λ (rs : Rows). FirstFails (rows_checks 0 rs) e) (sym all)
+    (rows_fail (rows_seen front) (string_bytes c.in-Some.name, keys_in_seen c.in-Some.keys)
+    (rows_seen left) c.rows.row e (inv.2 ∙ same_length front) inv.3 fails)))
 
 pub rows-preserved : goal.rows-preserved
 rows-preserved c =
@@ -43,11 +61,18 @@ rows-preserved c =
     let left = c.next.new.self in
     let took = c.in_ok-add_row.ensures.ok in
     let pushed = rows_seen_behind front ((c.in-Some.name, c.in-Some.keys) ∷ []) in
-    let before = subst (λ (es : List (String Global × Option HeldKeys)). HoldsRows (rows_seen front) c.rows.maps es) c.in-Some.ensures.steps inv.4 in
-    let holds = HoldsRows-next (rows_seen front) c.rows.maps c.add_row.new.maps (c.in-Some.name, c.in-Some.keys) left before took.1 in (
+    let before =
+    subst (λ (es : List (String Global × Option HeldKeys)). HoldsRows (rows_seen front)
+    c.rows.maps es) c.in-Some.ensures.steps inv.4 in
+    let holds =
+    HoldsRows-next (rows_seen front) c.rows.maps c.add_row.new.maps
+    (c.in-Some.name, c.in-Some.keys) left before took.1 in (
       front ++ (c.in-Some.name, c.in-Some.keys) ∷ [],
-      one_further c.args.rows.entries front (c.in-Some.name, c.in-Some.keys) c.rows.name-iterator left inv.1 c.in-Some.ensures.steps,
+      one_further c.args.rows.entries front (c.in-Some.name, c.in-Some.keys) c.rows.name-iterator
+          left inv.1 c.in-Some.ensures.steps,
       ap (λ n. n + 1) inv.2 ∙ sym (length-append front ((c.in-Some.name, c.in-Some.keys) ∷ [])),
-      subst (λ (rs : Rows). AllPass (rows_checks 0 rs)) (sym pushed) (rows_pass (rows_seen front) (string_bytes c.in-Some.name, keys_in_seen c.in-Some.keys) c.rows.row (inv.2 ∙ same_length front) inv.3 took.0),
+      subst (λ (rs : Rows). AllPass (rows_checks 0 rs)) (sym pushed)
+          (rows_pass (rows_seen front) (string_bytes c.in-Some.name, keys_in_seen c.in-Some.keys)
+          c.rows.row (inv.2 ∙ same_length front) inv.3 took.0),
       subst (λ (rs : Rows). HoldsRows rs c.add_row.new.maps left) (sym pushed) holds,
     )

@@ -18,8 +18,11 @@ keys-preserved c =
     let took = c.in_ok-add_key.ensures.ok (keys_seen front) inv.3 in
     let pushed = keys_seen_behind front ((key, strings) ∷ []) in (
       front ++ (key, strings) ∷ [],
-      one_further c.args.keys.items front (key, strings) (into_iter_items c.keys.key-iterator) (into_iter_items c.next.new.self) inv.1 c.in-Some.ensures.steps.0,
-      subst (λ (ms : Keys). AllPass (keys_checks c.args.row [] ms)) (sym pushed) (keys_pass c.args.row (keys_seen front) (string_bytes key) (strings_seen strings) inv.2 took.0),
+      one_further c.args.keys.items front (key, strings) (into_iter_items c.keys.key-iterator)
+          (into_iter_items c.next.new.self) inv.1 c.in-Some.ensures.steps.0,
+      subst (λ (ms : Keys). AllPass (keys_checks c.args.row [] ms)) (sym pushed)
+          (keys_pass c.args.row (keys_seen front) (string_bytes key) (strings_seen strings) inv.2
+          took.0),
       subst (λ (ms : Keys). HoldsKeys ms c.add_key.new.found.entries) (sym pushed) took.1,
     )
 
@@ -31,8 +34,12 @@ returns-in_err-add_key c =
     let strings = c.in-Some.strings in
     let left = into_iter_items c.next.new.self in
     let e = c.in_err-add_key.field-0.0 in
-    let all = ap keys_seen (inv.1 ∙ ap (λ t. front ++ t) c.in-Some.ensures.steps.0) ∙ keys_seen_behind front ((key, strings) ∷ left) in
+    let all =
+    ap keys_seen (inv.1 ∙ ap (λ t. front ++ t) c.in-Some.ensures.steps.0)
+    ∙ keys_seen_behind front ((key, strings) ∷ left) in
     let p = err_from_is_err_and c.from_residual.result c.from_residual.ensures.1 in
     rw (p.1, p.2)
-    (else_by c.in_err-add_key.ensures.err (λ fails. subst (λ (ms : Keys). FirstFails (keys_checks c.args.row [] ms) e) (sym all)
-    (keys_fail c.args.row (keys_seen front) (string_bytes key) (strings_seen strings) (keys_seen left) e inv.2 (fails (keys_seen front) inv.3))))
+    (else_by c.in_err-add_key.ensures.err
+    (λ fails. subst (λ (ms : Keys). FirstFails (keys_checks c.args.row [] ms) e) (sym all)
+    (keys_fail c.args.row (keys_seen front) (string_bytes key) (strings_seen strings)
+    (keys_seen left) e inv.2 (fails (keys_seen front) inv.3))))

@@ -8,4 +8,7 @@ use Rattle.map_docs.proofs.labels.languages_of.Given as goal
 -- the keys so far pass, and are held
 abbrev pub invariant-keys : goal.invariant-keys
 invariant-keys l =
-    (front : List (String Global × HeldStrings)) × (l.fn.keys.items ≡ front ++ into_iter_items l.key-iterator) × AllPass (keys_checks l.row [] (keys_seen front)) × HoldsKeys (keys_seen front) l.found.entries
+    (front : List (String Global × HeldStrings))
+    × (l.fn.keys.items ≡ front ++ into_iter_items l.key-iterator)
+    × AllPass (keys_checks l.row [] (keys_seen front))
+    × HoldsKeys (keys_seen front) l.found.entries

@@ -8,6 +8,7 @@ use Rattle.map_docs.proofs.labels.push_languages.Given as goal
 -- what was put, and what is left to put, rise
 abbrev pub invariant-found : goal.invariant-found
 invariant-found l = record {
-  all : l.maps ++ under l.id (live l.lang-iterator) ≡ l.fn.maps ++ under l.id (live l.fn.found.entries);
+  all : l.maps ++ under l.id (live l.lang-iterator)
+      ≡ l.fn.maps ++ under l.id (live l.fn.found.entries);
   sorted : IsMap key_cmp (l.maps ++ under l.id (live l.lang-iterator));
 }

@@ -10,7 +10,8 @@ use Rattle.map_docs.proofs.members.pass_items.Given as goal
 abbrev pub invariant-items : goal.invariant-items
 invariant-items l =
     (n : ℕ) × (front : List Data) × (length l.reader ≤ n)
-    × (converted of_items (items (value 125) (length l.fn.reader) l.fn.reader) ≡ parse_map (before front) (converted of_items (items (value 125) n l.reader)))
+    × (converted of_items (items (value 125) (length l.fn.reader) l.fn.reader)
+    ≡ parse_map (before front) (converted of_items (items (value 125) n l.reader)))
     × (are_in_range l.reader ≡ true)
     × (length l.reader ≤ length l.fn.reader)
 

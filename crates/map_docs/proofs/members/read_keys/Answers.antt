@@ -12,19 +12,26 @@ use Rattle.map_docs.proofs.LangMapLabelsLemmas.{else_by}
 use Rattle.map_docs.proofs.members.read_keys.Goals as goal
 
 pub returns-in_default-clause-read : goal.returns-in_default-clause-read
-returns-in_default-clause-read c = inr (refl, nothing_read c.args.reader.now c.in_default.ensures.value.0)
+returns-in_default-clause-read c =
+    inr (refl, nothing_read c.args.reader.now c.in_default.ensures.value.0)
 
-pub returns-in_err-members-in-BeginObject-clause-read : goal.returns-in_err-members-in-BeginObject-clause-read
+pub returns-in_err-members-in-BeginObject-clause-read :
+    goal.returns-in_err-members-in-BeginObject-clause-read
 returns-in_err-members-in-BeginObject-clause-read c =
     let ts = c.next.new.self in
-    let is : c.args.reader.now ≡ begin_object ∷ ts = c.in-Some.ensures.value ∙ ap (λ t. token_of t ∷ ts) c.in-BeginObject.is in
+    let is : c.args.reader.now ≡ begin_object ∷ ts =
+    c.in-Some.ensures.value ∙ ap (λ t. token_of t ∷ ts) c.in-BeginObject.is in
     let p = err_from_is_err_and c.from_residual.result c.from_residual.ensures.1 in
-    rw (p.1, p.2) (else_by c.in_err-members-in-BeginObject.ensures.read (λ h. (h.0, no_object c.args.reader.now ts is h.1)))
+    rw (p.1, p.2)
+    (else_by c.in_err-members-in-BeginObject.ensures.read
+    (λ h. (h.0, no_object c.args.reader.now ts is h.1)))
 
-pub returns-in_err-pass_items-in-BeginArray-clause-read : goal.returns-in_err-pass_items-in-BeginArray-clause-read
+pub returns-in_err-pass_items-in-BeginArray-clause-read :
+    goal.returns-in_err-pass_items-in-BeginArray-clause-read
 returns-in_err-pass_items-in-BeginArray-clause-read c =
     let ts = c.next.new.self in
-    let is : c.args.reader.now ≡ begin_array ∷ ts = c.in-Some.ensures.value ∙ ap (λ t. token_of t ∷ ts) c.in-BeginArray.is in
+    let is : c.args.reader.now ≡ begin_array ∷ ts =
+    c.in-Some.ensures.value ∙ ap (λ t. token_of t ∷ ts) c.in-BeginArray.is in
     let from = c.from_residual-in_err-pass_items-in-BeginArray in
     let p = err_from_is_err_and from.result from.ensures.1 in
     let e = c.in_err-pass_items-in-BeginArray.ensures.read in
@@ -33,19 +40,31 @@ returns-in_err-pass_items-in-BeginArray-clause-read c =
 pub returns-then-not-is_scalar-clause-read : goal.returns-then-not-is_scalar-clause-read
 returns-then-not-is_scalar-clause-read c =
     let first = c.in-Some.ensures.value in
-    inr (refl, rw first (no_scalar c.in-Some.token c.next.new.self c.in_default-token.not-BeginArray c.in_default-token.not-BeginObject (sym c.if-not-is_scalar.ensures)))
+    inr (
+      refl,
+      rw first
+          (no_scalar c.in-Some.token c.next.new.self c.in_default-token.not-BeginArray
+          c.in_default-token.not-BeginObject (sym c.if-not-is_scalar.ensures)),
+    )
 
-pub returns-in_ok-keys-in-BeginObject-clause-read : goal.returns-in_ok-keys-in-BeginObject-clause-read
+pub returns-in_ok-keys-in-BeginObject-clause-read :
+    goal.returns-in_ok-keys-in-BeginObject-clause-read
 returns-in_ok-keys-in-BeginObject-clause-read c =
     let ts = c.next.new.self in
-    let is : c.args.reader.now ≡ begin_object ∷ ts = c.in-Some.ensures.value ∙ ap (λ t. token_of t ∷ ts) c.in-BeginObject.is in
-    let read = c.in_ok-members-in-BeginObject.ensures.read in
-    (object read.0, object_read c.args.reader.now ts c.read_members.new.reader read.0 is read.1, ap Some (ap keys_seen c.in_ok-keys-in-BeginObject.ensures ∙ read.2))
+    let is : c.args.reader.now ≡ begin_object ∷ ts =
+    c.in-Some.ensures.value ∙ ap (λ t. token_of t ∷ ts) c.in-BeginObject.is in
+    let read = c.in_ok-members-in-BeginObject.ensures.read in (
+      object read.0,
+      object_read c.args.reader.now ts c.read_members.new.reader read.0 is read.1,
+      ap Some (ap keys_seen c.in_ok-keys-in-BeginObject.ensures ∙ read.2),
+    )
 
-pub returns-in_ok-pass_items-in-BeginArray-clause-read : goal.returns-in_ok-pass_items-in-BeginArray-clause-read
+pub returns-in_ok-pass_items-in-BeginArray-clause-read :
+    goal.returns-in_ok-pass_items-in-BeginArray-clause-read
 returns-in_ok-pass_items-in-BeginArray-clause-read c =
     let ts = c.next.new.self in
-    let is : c.args.reader.now ≡ begin_array ∷ ts = c.in-Some.ensures.value ∙ ap (λ t. token_of t ∷ ts) c.in-BeginArray.is in
+    let is : c.args.reader.now ≡ begin_array ∷ ts =
+    c.in-Some.ensures.value ∙ ap (λ t. token_of t ∷ ts) c.in-BeginArray.is in
     let read = c.in_ok-pass_items-in-BeginArray.ensures.read in
     (array read.0, array_read c.args.reader.now ts c.pass_items.new.reader read.0 is read.1, refl)
 
@@ -53,5 +72,7 @@ pub returns-else-not-is_scalar-clause-read : goal.returns-else-not-is_scalar-cla
 returns-else-not-is_scalar-clause-read c =
     let first = c.in-Some.ensures.value in
     let ts = c.next.new.self in
-    let read = scalar_read (token_of c.in-Some.token) ts (sym c.if-not-is_scalar.ensures) (rw first at c.requires) in
+    let read =
+    scalar_read (token_of c.in-Some.token) ts (sym c.if-not-is_scalar.ensures)
+    (rw first at c.requires) in
     (read.0, rw first read.1, ap (option_map keys_of) read.3)

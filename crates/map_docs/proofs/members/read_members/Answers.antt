@@ -1,4 +1,5 @@
-use Rattle.std.proofs.Common.{◌≡◌, ◌∙◌, ◌-◌, ◌<◌, length, None, Some, string_bytes, ap, inr, refl, arith, rules}
+use Rattle.std.proofs.Common.{◌≡◌, ◌∙◌, ◌-◌, ◌<◌, length, None, Some, string_bytes, ap, inr, refl}
+use Rattle.std.proofs.Common.{arith, rules}
 use Rattle.std.proofs.lemmas.Result.{err_from_is_err_and}
 use Rattle.json.specs.Json.{read_key, value}
 use Rattle.json.proofs.Grammar.{read_key-shorter}
@@ -10,23 +11,43 @@ use Rattle.map_docs.proofs.LangMapMembersLemmas.{member_inserted}
 use Rattle.map_docs.proofs.members.read_members.Goals as goal
 
 pub members-init : goal.members-init
-members-init g c = (length c.args.reader.now, no_members, omega arith, refl, ap (members_seen g.V.MemberValue.seen_of) c.new-found.ensures.empty, c.requires, omega arith)
+members-init g c = (
+  length c.args.reader.now,
+  no_members,
+  omega arith,
+  refl,
+  ap (members_seen g.V.MemberValue.seen_of) c.new-found.ensures.empty,
+  c.requires,
+  omega arith,
+)
 
 pub returns-in_err-name-clause-read : goal.returns-in_err-name-clause-read
 returns-in_err-name-clause-read g c =
     let inv = c.members.invariant in
     let e = c.in_err-name.ensures in
     let p = err_from_is_err_and c.from_residual.result c.from_residual.ensures.1 in
-    rw (p.1, p.2) (inr (e.0, inv.3 ∙ key_refused (value g.V.MemberValue.most_depth) inv.1 inv.0 c.members.reader e.1))
+    rw (p.1, p.2)
+    (inr (
+      e.0,
+      inv.3
+          ∙ key_refused (value g.V.MemberValue.most_depth) inv.1 inv.0 c.members.reader e.1,
+    ))
 
 pub returns-in_err-value-clause-read : goal.returns-in_err-value-clause-read
 returns-in_err-value-clause-read g c =
     let inv = c.members.invariant in
     let name = c.in-Some.name.now in
     let s = c.next_name.new.reader in
-    let named : read_key c.members.reader ≡ Some (Some name, s) = rw c.in-Some.is at c.in_ok-name.ensures in
-    let p = err_from_is_err_and c.from_residual-in_err-value.result c.from_residual-in_err-value.ensures.1 in
-    rw (p.1, p.2) (not_json _ _ _ (λ none. inv.3 ∙ member_refused (value g.V.MemberValue.most_depth) inv.1 inv.0 name c.members.reader s named none) c.in_err-value.ensures.read)
+    let named : read_key c.members.reader ≡ Some (Some name, s) =
+    rw c.in-Some.is at c.in_ok-name.ensures in
+    let p =
+    err_from_is_err_and c.from_residual-in_err-value.result
+    c.from_residual-in_err-value.ensures.1 in
+    rw (p.1, p.2)
+    (not_json _ _ _
+    (λ none. inv.3
+    ∙ member_refused (value g.V.MemberValue.most_depth) inv.1 inv.0 name c.members.reader s
+    named none) c.in_err-value.ensures.read)
 
 pub members-preserved : goal.members-preserved
 members-preserved g c =
@@ -36,7 +57,8 @@ members-preserved g c =
     let k = c.in-Some.name.now in
     let s = c.next_name.new.reader in
     let r = c.read.new.reader in
-    let named : read_key c.members.reader ≡ Some (Some k, s) = rw c.in-Some.is at c.in_ok-name.ensures in
+    let named : read_key c.members.reader ≡ Some (Some k, s) =
+    rw c.in-Some.is at c.in_ok-name.ensures in
     let less = read_key-shorter c.members.reader (Some k) s named in
     let lesser : length r < length s = c.in_ok-value.ensures.shorter in
     let read = c.in_ok-value.ensures.read in
@@ -45,8 +67,11 @@ members-preserved g c =
       n - 1,
       put k d old,
       omega (arith, inv.2, less, lesser),
-      inv.3 ∙ member_read (value g.V.MemberValue.most_depth) old n k c.members.reader s r d (omega (arith, inv.2, less)) named read.1,
-      ap (members_seen g.V.MemberValue.seen_of) c.in_ok-insert.ensures.entries ∙ member_inserted g.V.MemberValue.seen_of g.V.MemberValue.in_data c.members.found.entries c.in_ok-name-2.name c.in_ok-value.value k d old inv.4 copied read.2,
+      inv.3 ∙ member_read (value g.V.MemberValue.most_depth) old n k c.members.reader s r d
+          (omega (arith, inv.2, less)) named read.1,
+      ap (members_seen g.V.MemberValue.seen_of) c.in_ok-insert.ensures.entries
+          ∙ member_inserted g.V.MemberValue.seen_of g.V.MemberValue.in_data c.members.found.entries
+          c.in_ok-name-2.name c.in_ok-value.value k d old inv.4 copied read.2,
       c.in_ok-value.ensures.left,
       omega (arith, inv.6, less, lesser),
     )
@@ -54,5 +79,11 @@ members-preserved g c =
 pub returns-clause-read : goal.returns-clause-read
 returns-clause-read g c =
     let inv = c.members.invariant in
-    let over : read_key c.members.reader ≡ Some (None, c.next_name.new.reader) = rw c.in_default.is at c.in_ok-name.ensures in
-    (inv.1, inv.3 ∙ members_over (value g.V.MemberValue.most_depth) inv.1 inv.0 c.members.reader c.next_name.new.reader inv.2 over, inv.4)
+    let over : read_key c.members.reader ≡ Some (None, c.next_name.new.reader) =
+    rw c.in_default.is at c.in_ok-name.ensures in (
+      inv.1,
+      inv.3
+          ∙ members_over (value g.V.MemberValue.most_depth) inv.1 inv.0 c.members.reader
+          c.next_name.new.reader inv.2 over,
+      inv.4,
+    )

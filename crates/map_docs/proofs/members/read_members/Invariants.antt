@@ -11,8 +11,12 @@ use Rattle.map_docs.proofs.members.read_members.Given as goal
 abbrev pub invariant-members : goal.invariant-members
 invariant-members g l =
     (n : ℕ) × (old : Members) × (length l.reader ≤ n)
-    × (converted (λ ms. of_members ms no_members) (members (value g.V.MemberValue.most_depth) (length l.fn.reader) l.fn.reader) ≡ converted (λ ms. of_members ms old) (members (value g.V.MemberValue.most_depth) n l.reader))
-    × (members_seen g.V.MemberValue.seen_of l.found.entries ≡ members_by g.V.MemberValue.in_data old)
+    × (converted (λ ms. of_members ms no_members)
+    (members (value g.V.MemberValue.most_depth) (length l.fn.reader) l.fn.reader)
+    ≡ converted (λ ms. of_members ms old)
+    (members (value g.V.MemberValue.most_depth) n l.reader))
+    × (members_seen g.V.MemberValue.seen_of l.found.entries
+    ≡ members_by g.V.MemberValue.in_data old)
     × (are_in_range l.reader ≡ true)
     × (length l.reader ≤ length l.fn.reader)
 

@@ -11,18 +11,28 @@ use Rattle.map_docs.proofs.members.read_rows.Goals as goal
 pub returns-in_err-rows : goal.returns-in_err-rows
 returns-in_err-rows c =
     let ts = c.begins_object.new.reader in
-    let first : tokens c.args.text.now ≡ begin_object ∷ ts = sym c.in_ok-reader.ensures.ok ∙ c.if-begins_object.ensures in
-    let p = err_from_is_err_and c.from_residual-in_err-rows.result c.from_residual-in_err-rows.ensures.1 in
+    let first : tokens c.args.text.now ≡ begin_object ∷ ts =
+    sym c.in_ok-reader.ensures.ok ∙ c.if-begins_object.ensures in
+    let p =
+    err_from_is_err_and c.from_residual-in_err-rows.result
+    c.from_residual-in_err-rows.ensures.1 in
     rw (p.1, p.2) (not_json _ _ _ (not_whole c.args.text.now ts first) c.in_err-rows.ensures)
 
 pub returns-then-begins_object : goal.returns-then-begins_object
 returns-then-begins_object c =
     let ts = c.begins_object.new.reader in
-    let first : tokens c.args.text.now ≡ begin_object ∷ ts = sym c.in_ok-reader.ensures.ok ∙ c.if-begins_object.ensures in
+    let first : tokens c.args.text.now ≡ begin_object ∷ ts =
+    sym c.in_ok-reader.ensures.ok ∙ c.if-begins_object.ensures in
     let e = c.in_ok-rows.ensures in
     (_, object_whole c.args.text.now ts first e.0 e.1, ap (λ rows. Some rows) e.2)
 
 pub returns : goal.returns
 returns c =
-    let e = c.in_ok-check_value.ensures in
-    (e.0, e.1, sym (ap (option_map rows_of) (not_object (tokens c.args.text.now) e.0 (rw c.in_ok-reader.ensures.ok at c.if-begins_object.ensures) e.1)))
+    let e = c.in_ok-check_value.ensures in (
+      e.0,
+      e.1,
+      sym
+          (ap (option_map rows_of)
+          (not_object (tokens c.args.text.now) e.0
+          (rw c.in_ok-reader.ensures.ok at c.if-begins_object.ensures) e.1)),
+    )

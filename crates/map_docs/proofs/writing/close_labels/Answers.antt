@@ -14,5 +14,6 @@ returns c = λ labels m w.
     let none : closed.before ≡ [] = adds.0 ∙ w.before in
     let tokens : closed.tokens ≡ begin_object ∷ labels_tokens None labels = adds.1 ∙ w.tokens in
     text_of labels c.finish.result m (w.writable tt)
-    (IfOk-weaker c.finish.result _ _ (λ _ is. is ∙ written_whole closed labels none tokens) c.finish.ensures.text)
+    (IfOk-weaker c.finish.result _ _ (λ _ is. is ∙ written_whole closed labels none tokens)
+    c.finish.ensures.text)
     (IfOk-weaker c.finish.result _ _ (λ _ utf8. utf8 none) c.finish.ensures.utf8)

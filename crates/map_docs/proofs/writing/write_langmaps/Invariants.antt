@@ -6,4 +6,6 @@ use Rattle.map_docs.proofs.writing.write_langmaps.Given as goal
 
 -- with the labels that are left it comes to all
 abbrev pub invariant-labels : goal.invariant-labels
-invariant-labels l = IsWriting l.draft (option_map (λ id. id.now) l.current) (labels_of (drop l.label-index l.label-items)) (labels_of l.label-items)
+invariant-labels l =
+    IsWriting l.draft (option_map (λ id. id.now) l.current)
+    (labels_of (drop l.label-index l.label-items)) (labels_of l.label-items)

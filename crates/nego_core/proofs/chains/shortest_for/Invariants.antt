@@ -6,4 +6,6 @@ use Rattle.nego_core.proofs.ChainsLaws.{AreAmong}
 use Rattle.nego_core.proofs.chains.shortest_for.Given as goal
 
 abbrev pub invariant-loop-subtag : goal.invariant-loop-subtag
-invariant-loop-subtag l = AreAmong (subtags_left l.subtag-iterator) (pieces l.range) × MayStandIn (pieces l.range) l.shortest × (l.shortest < 1025)
+invariant-loop-subtag l =
+    AreAmong (subtags_left l.subtag-iterator) (pieces l.range)
+    × MayStandIn (pieces l.range) l.shortest × (l.shortest < 1025)

@@ -6,7 +6,10 @@ use Rattle.nego_core.proofs.ChainsLaws.{IsAskedTo}
 use Rattle.nego_core.proofs.deciding.best_in.Given as goal
 
 abbrev pub invariant-loop-place : goal.invariant-loop-place
-invariant-loop-place l = (numbers : List ℕ) → AreLinked l.items numbers l.chains → IsAskedTo (λ i. Extended (pieces i.range) (pieces l.tag)) l.items numbers l.chain l.place l.best
+invariant-loop-place l =
+    (numbers : List ℕ) → AreLinked l.items numbers l.chains
+    → IsAskedTo (λ i. Extended (pieces i.range) (pieces l.tag)) l.items numbers l.chain l.place
+    l.best
 
 abbrev pub decreases-loop-place : goal.decreases-loop-place
 decreases-loop-place l = length l.items - l.place

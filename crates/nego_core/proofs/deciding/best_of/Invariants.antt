@@ -4,4 +4,5 @@ use Rattle.nego_core.proofs.MostSpecificLaws.{Before}
 use Rattle.nego_core.proofs.deciding.best_of.Given as goal
 
 abbrev pub invariant-loop-place : goal.invariant-loop-place
-invariant-loop-place l = IsBest (Before (λ _ i. Matches l.scheme (pieces i.range) (pieces l.tag)) l.place) l.items l.best
+invariant-loop-place l =
+    IsBest (Before (λ _ i. Matches l.scheme (pieces i.range) (pieces l.tag)) l.place) l.items l.best

@@ -12,18 +12,30 @@ use Rattle.nego_core.proofs.field.read_items.Goals.{in-None+in_ok-pass_over-in-N
 use Rattle.nego_core.proofs.field.read_items.Goals as goal
 
 pub loop-rest-init : goal.loop-rest-init
-loop-rest-init c = (omega arith, rw (c.new-items.ensures.items, c.skip_separators-rest.ensures) (walked_from c.args.scheme c.args.malformed c.args.field.now), rw c.skip_separators-rest.ensures (begins_element c.args.field.now))
+loop-rest-init c = (
+  omega arith,
+  rw (c.new-items.ensures.items, c.skip_separators-rest.ensures)
+      (walked_from c.args.scheme c.args.malformed c.args.field.now),
+  rw c.skip_separators-rest.ensures
+      (begins_element c.args.field.now),
+)
 
 pub returns-in_err-item : goal.returns-in_err-item
 returns-in_err-item c =
     let some : 0 < length c.loop-rest.rest.now = search rules in
-    let element : HasElement c.args.scheme c.args.malformed c.args.field.now = element_fits c.args.scheme c.args.malformed c.args.field.now _ c.loop-rest.rest.now _ _ c.loop-rest.invariant.1 c.loop-rest.invariant.2 some c.cut_piece.ensures c.in_err-item.ensures.1 in
+    let element : HasElement c.args.scheme c.args.malformed c.args.field.now =
+    element_fits c.args.scheme c.args.malformed c.args.field.now _ c.loop-rest.rest.now _ _
+    c.loop-rest.invariant.1 c.loop-rest.invariant.2 some c.cut_piece.ensures
+    c.in_err-item.ensures.1 in
     search rules
 
 pub returns-in_err-push-in-Some : goal.returns-in_err-push-in-Some
 returns-in_err-push-in-Some c =
     let some : 0 < length c.loop-rest.rest.now = search rules in
-    let element : HasElement c.args.scheme c.args.malformed c.args.field.now = element_fits c.args.scheme c.args.malformed c.args.field.now _ c.loop-rest.rest.now _ _ c.loop-rest.invariant.1 c.loop-rest.invariant.2 some c.cut_piece.ensures (c.in-Some.item, rw c.in-Some.is at c.in_ok-item.ensures) in
+    let element : HasElement c.args.scheme c.args.malformed c.args.field.now =
+    element_fits c.args.scheme c.args.malformed c.args.field.now _ c.loop-rest.rest.now _ _
+    c.loop-rest.invariant.1 c.loop-rest.invariant.2 some c.cut_piece.ensures
+    (c.in-Some.item, rw c.in-Some.is at c.in_ok-item.ensures) in
     search rules
 
 pub overflow_sub-offset : goal.overflow_sub-offset
@@ -34,30 +46,59 @@ loop-rest-smaller c =
     let some : 0 < length c.loop-rest.rest.now = search rules in
     let shorter = cut_shorter _ _ _ c.cut_piece.ensures some in
     let fewer = no_more c.cut_piece.result.1.now in
-    let size : length c.skip_separators-rest-in-loop-rest.result.now ≡ _ = ap length c.skip_separators-rest-in-loop-rest.ensures in
+    let size : length c.skip_separators-rest-in-loop-rest.result.now ≡ _ =
+    ap length c.skip_separators-rest-in-loop-rest.ensures in
     omega arith
 
 pub returns-in_err-pass_over : goal.returns-in_err-pass_over
 returns-in_err-pass_over c =
     let some : 0 < length c.loop-rest.rest.now = search rules in
     let long : BeginsOverlong c.loop-rest.rest.now = search rules in
-    let refused : RefusesField c.args.scheme c.args.malformed c.args.field.now (FieldMalformed (length c.args.field.now - length c.loop-rest.rest.now)) = overlong_refused c.args.scheme c.args.malformed c.args.field.now _ c.loop-rest.rest.now c.in_err-pass_over.ensures.0 c.loop-rest.invariant.0 c.loop-rest.invariant.1 c.loop-rest.invariant.2 some long in
+    let refused : RefusesField c.args.scheme c.args.malformed c.args.field.now
+    (FieldMalformed (length c.args.field.now - length c.loop-rest.rest.now)) =
+    overlong_refused c.args.scheme c.args.malformed c.args.field.now _ c.loop-rest.rest.now
+    c.in_err-pass_over.ensures.0 c.loop-rest.invariant.0 c.loop-rest.invariant.1
+    c.loop-rest.invariant.2 some long in
     search rules
 
 pub returns-in_err-pass_over-in-None : goal.returns-in_err-pass_over-in-None
 returns-in_err-pass_over-in-None c =
     let some : 0 < length c.loop-rest.rest.now = search rules in
     let none = rw c.in-None.is at c.in_ok-item.ensures in
-    let refused : RefusesField c.args.scheme c.args.malformed c.args.field.now (FieldMalformed (length c.args.field.now - length c.loop-rest.rest.now)) = element_refused c.args.scheme c.args.malformed c.args.field.now _ c.loop-rest.rest.now _ _ c.in_err-pass_over-in-None.ensures.0 c.loop-rest.invariant.0 c.loop-rest.invariant.1 c.loop-rest.invariant.2 some c.cut_piece.ensures none in
+    let refused : RefusesField c.args.scheme c.args.malformed c.args.field.now
+    (FieldMalformed (length c.args.field.now - length c.loop-rest.rest.now)) =
+    element_refused c.args.scheme c.args.malformed c.args.field.now _ c.loop-rest.rest.now _ _
+    c.in_err-pass_over-in-None.ensures.0 c.loop-rest.invariant.0 c.loop-rest.invariant.1
+    c.loop-rest.invariant.2 some c.cut_piece.ensures none in
     search rules
 
 pub loop-rest-preserved : goal.loop-rest-preserved
 loop-rest-preserved c =
     let some : 0 < length c.loop-rest.rest.now = search rules in
-    let begins : BeginsElement c.skip_separators-rest-in-loop-rest.result.now = rw c.skip_separators-rest-in-loop-rest.ensures (begins_element c.cut_piece.result.1.now) in
+    let begins : BeginsElement c.skip_separators-rest-in-loop-rest.result.now =
+    rw c.skip_separators-rest-in-loop-rest.ensures (begins_element c.cut_piece.result.1.now) in
     elim c.match-branch-3.branch [
-      | in-Some+in_ok-push-in-Some w ↦ (c.loop-rest.invariant.0, rw (w.items-is, w.in_ok-push-in-Some.ensures.items, c.skip_separators-rest-in-loop-rest.ensures) (element_read c.args.scheme c.args.malformed c.args.field.now c.loop-rest.items.items w.in-Some.item c.loop-rest.rest.now _ _ c.loop-rest.invariant.1 c.loop-rest.invariant.2 some c.cut_piece.ensures (rw w.in-Some.is at c.in_ok-item.ensures)), begins)
-      | in-None+in_ok-pass_over-in-None w ↦ (c.loop-rest.invariant.0, rw (w.items-is, c.skip_separators-rest-in-loop-rest.ensures) (element_passed c.args.scheme c.args.malformed c.args.field.now c.loop-rest.items.items c.loop-rest.rest.now _ _ w.in_ok-pass_over-in-None.ensures c.loop-rest.invariant.1 c.loop-rest.invariant.2 some c.cut_piece.ensures (rw w.in-None.is at c.in_ok-item.ensures)), begins)
+      | in-Some+in_ok-push-in-Some w ↦ (
+        c.loop-rest.invariant.0,
+        rw (
+          w.items-is,
+          w.in_ok-push-in-Some.ensures.items,
+          c.skip_separators-rest-in-loop-rest.ensures,
+        )
+            (element_read c.args.scheme c.args.malformed c.args.field.now c.loop-rest.items.items
+            w.in-Some.item c.loop-rest.rest.now _ _ c.loop-rest.invariant.1 c.loop-rest.invariant.2
+            some c.cut_piece.ensures (rw w.in-Some.is at c.in_ok-item.ensures)),
+        begins,
+      )
+      | in-None+in_ok-pass_over-in-None w ↦ (
+        c.loop-rest.invariant.0,
+        rw (w.items-is, c.skip_separators-rest-in-loop-rest.ensures)
+            (element_passed c.args.scheme c.args.malformed c.args.field.now c.loop-rest.items.items
+            c.loop-rest.rest.now _ _ w.in_ok-pass_over-in-None.ensures c.loop-rest.invariant.1
+            c.loop-rest.invariant.2 some c.cut_piece.ensures
+            (rw w.in-None.is at c.in_ok-item.ensures)),
+        begins,
+      )
     ]
 
 pub returns : goal.returns

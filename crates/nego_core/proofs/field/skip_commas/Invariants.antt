@@ -3,7 +3,8 @@ use Rattle.nego_core.specs.Field.{skip_separators}
 use Rattle.nego_core.proofs.field.skip_commas.Given as goal
 
 abbrev pub invariant-loop-others : goal.invariant-loop-others
-invariant-loop-others l = (skip_separators l.rest ≡ skip_separators l.text) × (length l.rest ≤ length l.text)
+invariant-loop-others l =
+    (skip_separators l.rest ≡ skip_separators l.text) × (length l.rest ≤ length l.text)
 
 abbrev pub decreases-loop-others : goal.decreases-loop-others
 decreases-loop-others l = length l.rest

@@ -13,8 +13,16 @@ returns-in_err-picks g c =
     let keys = c.in_ok-keys.keys.items in
     let size : length (map key_of keys) ≡ length keys = simp length-map in
     let some : 0 < length keys = grind (arith, nat_tests) in
-    refused_by (IsFiltered c.args.scheme c.args.list.now langs) (HasPick c.args.scheme c.args.list.now langs) c.from_residual-in_err-picks.result c.from_residual-in_err-picks.ensures.0 c.from_residual-in_err-picks.ensures.1
-    (some_pick c.args.scheme c.args.list.now langs (map key_of keys) c.in_ok-keys.ensures (omega arith))
+    refused_by (IsFiltered c.args.scheme c.args.list.now langs)
+    (HasPick c.args.scheme c.args.list.now langs) c.from_residual-in_err-picks.result
+    c.from_residual-in_err-picks.ensures.0 c.from_residual-in_err-picks.ensures.1
+    (some_pick c.args.scheme c.args.list.now langs (map key_of keys) c.in_ok-keys.ensures
+    (omega arith))
 
 pub returns : goal.returns
-returns g c = rw c.new-2.ensures (filtered c.args.scheme c.args.list.now (map g.L.AsLang.text c.args.langs.now) c.in_ok-keys.keys.items c.sort_filter_keys.new.keys.items c.in_ok-picks.picks.items c.in_ok-keys.ensures c.sort_filter_keys.ensures.same c.sort_filter_keys.ensures.rising (rw c.deref.ensures.value at c.in_ok-picks.ensures))
+returns g c =
+    rw c.new-2.ensures
+    (filtered c.args.scheme c.args.list.now (map g.L.AsLang.text c.args.langs.now)
+    c.in_ok-keys.keys.items c.sort_filter_keys.new.keys.items c.in_ok-picks.picks.items
+    c.in_ok-keys.ensures c.sort_filter_keys.ensures.same c.sort_filter_keys.ensures.rising
+    (rw c.deref.ensures.value at c.in_ok-picks.ensures))

@@ -5,4 +5,7 @@ use Rattle.nego_core.proofs.index.places_of.Goals as goal
 
 pub returns : goal.returns
 returns c =
-    if_ok _ (λ places. IsRangeIndex c.args.items.now places.items) c.places_by_key.result (λ places p. index_made c.args.items.now _ _ places.items c.in_ok-keys.ensures c.sort_range_keys.ensures.same c.sort_range_keys.ensures.rising (rw c.deref.ensures.value at p)) c.places_by_key.ensures
+    if_ok _ (λ places. IsRangeIndex c.args.items.now places.items) c.places_by_key.result
+    (λ places p. index_made c.args.items.now _ _ places.items c.in_ok-keys.ensures
+    c.sort_range_keys.ensures.same c.sort_range_keys.ensures.rising
+    (rw c.deref.ensures.value at p)) c.places_by_key.ensures

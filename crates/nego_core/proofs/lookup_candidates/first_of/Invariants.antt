@@ -8,4 +8,8 @@ use Rattle.nego_core.specs.LookupCandidates.{IsOpen, MatchFirstOf}
 use Rattle.nego_core.proofs.lookup_candidates.first_of.Given as goal
 
 abbrev pub invariant-loop-text : goal.invariant-loop-text
-invariant-loop-text g l = (found : Option (List (List ℕ))) → MatchFirstOf (IsOpen l.list (g.H.Holds.held l.held)) (truncations_left l.text-iterator) found → MatchFirstOf (IsOpen l.list (g.H.Holds.held l.held)) (candidates (as_basic (pieces l.range))) found
+invariant-loop-text g l =
+    (found : Option (List (List ℕ)))
+    → MatchFirstOf (IsOpen l.list (g.H.Holds.held l.held)) (truncations_left l.text-iterator) found
+    → MatchFirstOf (IsOpen l.list (g.H.Holds.held l.held)) (candidates (as_basic (pieces l.range)))
+    found

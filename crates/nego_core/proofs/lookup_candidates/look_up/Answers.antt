@@ -11,10 +11,24 @@ zero = record { missing_weight = 0; place = 0 }
 pub returns-in-Some : goal.returns-in-Some
 returns-in-Some g c =
     let passes = IsOpen c.args.list.now (g.H.Holds.held c.args.held.now) in
-    looked_up c.args.list.now (g.H.Holds.held c.args.held.now) c.order-keys.result.now _ c.order-keys.ensures (c.loop-key.invariant (Some (pieces c.in-Some.text.now)) (key_found passes c.args.list.now c.order-keys.result.now c.loop-key.key-index zero (pieces c.in-Some.text.now) c.loop-key-test.true c.in-Some.ensures))
+    looked_up c.args.list.now (g.H.Holds.held c.args.held.now) c.order-keys.result.now _
+    c.order-keys.ensures
+    (c.loop-key.invariant (Some (pieces c.in-Some.text.now))
+    (key_found passes c.args.list.now c.order-keys.result.now c.loop-key.key-index zero
+    (pieces c.in-Some.text.now) c.loop-key-test.true c.in-Some.ensures))
 
 pub loop-key-preserved : goal.loop-key-preserved
-loop-key-preserved g c = λ found f. c.loop-key.invariant found (key_passed (IsOpen c.args.list.now (g.H.Holds.held c.args.held.now)) c.args.list.now c.order-keys.result.now c.loop-key.key-index zero found c.loop-key-test.true c.in-None.ensures f)
+loop-key-preserved g c =
+    λ found f.
+    c.loop-key.invariant found
+    (key_passed (IsOpen c.args.list.now (g.H.Holds.held c.args.held.now)) c.args.list.now
+    c.order-keys.result.now c.loop-key.key-index zero found c.loop-key-test.true c.in-None.ensures
+    f)
 
 pub returns : goal.returns
-returns g c = looked_up c.args.list.now (g.H.Holds.held c.args.held.now) c.order-keys.result.now _ c.order-keys.ensures (c.loop-key.invariant None (keys_over (IsOpen c.args.list.now (g.H.Holds.held c.args.held.now)) c.args.list.now c.order-keys.result.now c.loop-key.key-index c.loop-key-test.false))
+returns g c =
+    looked_up c.args.list.now (g.H.Holds.held c.args.held.now) c.order-keys.result.now _
+    c.order-keys.ensures
+    (c.loop-key.invariant None
+    (keys_over (IsOpen c.args.list.now (g.H.Holds.held c.args.held.now)) c.args.list.now
+    c.order-keys.result.now c.loop-key.key-index c.loop-key-test.false))

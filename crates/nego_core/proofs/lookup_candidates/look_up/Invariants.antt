@@ -5,4 +5,7 @@ use Rattle.nego_core.proofs.LookupCandidatesLaws.{FirstFrom}
 use Rattle.nego_core.proofs.lookup_candidates.look_up.Given as goal
 
 abbrev pub invariant-loop-key : goal.invariant-loop-key
-invariant-loop-key g l = (found : Option (List (List ℕ))) → FirstFrom (IsOpen l.list (g.H.Holds.held l.held)) l.list l.keys l.key-index found → FirstFrom (IsOpen l.list (g.H.Holds.held l.held)) l.list l.keys 0 found
+invariant-loop-key g l =
+    (found : Option (List (List ℕ)))
+    → FirstFrom (IsOpen l.list (g.H.Holds.held l.held)) l.list l.keys l.key-index found
+    → FirstFrom (IsOpen l.list (g.H.Holds.held l.held)) l.list l.keys 0 found

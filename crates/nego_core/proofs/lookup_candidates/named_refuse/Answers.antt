@@ -2,4 +2,8 @@ use Rattle.nego_core.proofs.LookupCandidatesLaws.{named_refused}
 use Rattle.nego_core.proofs.lookup_candidates.named_refuse.Goals as goal
 
 pub returns-in-Some : goal.returns-in-Some
-returns-in-Some c = rw c.weight.ensures.value (named_refused c.args.list.now _ c.in-Some.best c.index-items-best.result (rw (c.as_bytes.ensures.value, c.items-items.ensures.items) at c.in-Some.ensures) (rw c.items-items.ensures.items at c.index-items-best.is))
+returns-in-Some c =
+    rw c.weight.ensures.value
+    (named_refused c.args.list.now _ c.in-Some.best c.index-items-best.result
+    (rw (c.as_bytes.ensures.value, c.items-items.ensures.items) at c.in-Some.ensures)
+    (rw c.items-items.ensures.items at c.index-items-best.is))

@@ -5,4 +5,6 @@ use Rattle.script_docs.proofs.field_writing.push_others.Given as goal
 
 -- the items so far, each after a comma
 abbrev pub invariant-items : goal.invariant-items
-invariant-items l = string_bytes l.text ≡ string_bytes l.fn.text ++ flat_map (λ i. (44 ∷ []) ++ item_text i) (take l.item-index l.items)
+invariant-items l =
+    string_bytes l.text
+    ≡ string_bytes l.fn.text ++ flat_map (λ i. (44 ∷ []) ++ item_text i) (take l.item-index l.items)

@@ -12,9 +12,12 @@ use Rattle.script_docs.proofs.field_writing.reads_as.Goals as goal
 -- a field is of one list
 pub returns-in-Ok : goal.returns-in-Ok
 returns-in-Ok c =
-    let lists : Lists c.args.scheme c.args.field.now c.in-Ok.read = rw c.as_bytes.ensures.value at c.in-Ok.ensures in
-    let is : c.eq.result ≡ pointwise item_eq c.in-Ok.read c.args.list.now = c.eq.ensures ∙ ap₂ (pointwise item_eq) c.items.ensures.items c.items-in-Ok.ensures.items in
-    lists_where_same c.args.scheme c.args.field.now c.in-Ok.read c.args.list.now lists c.eq.result is
+    let lists : Lists c.args.scheme c.args.field.now c.in-Ok.read =
+    rw c.as_bytes.ensures.value at c.in-Ok.ensures in
+    let is : c.eq.result ≡ pointwise item_eq c.in-Ok.read c.args.list.now =
+    c.eq.ensures ∙ ap₂ (pointwise item_eq) c.items.ensures.items c.items-in-Ok.ensures.items in
+    lists_where_same c.args.scheme c.args.field.now c.in-Ok.read c.args.list.now lists c.eq.result
+    is
 
 -- a field that is refused is of none
 pub returns-in-Err : goal.returns-in-Err
@@ -22,7 +25,10 @@ returns-in-Err c =
     let scheme = c.args.scheme in
     let text = c.args.field.now in
     let items = c.args.list.now in
-    let refuses : RefusesField scheme Refused text c.in-Err.fault = rw c.as_bytes.ensures.value at c.in-Err.ensures in
+    let refuses : RefusesField scheme Refused text c.in-Err.fault =
+    rw c.as_bytes.ensures.value at c.in-Err.ensures in
     IfOk-weaker c.no_list.result _ _
-    (λ same e. subst (λ (b : Bool). MatchBool b (Lists scheme text items) (¬ Lists scheme text items)) (sym e.0) (refused_lists_none scheme text items c.in-Err.fault e.1 refuses))
+    (λ same e.
+    subst (λ (b : Bool). MatchBool b (Lists scheme text items) (¬ Lists scheme text items))
+    (sym e.0) (refused_lists_none scheme text items c.in-Err.fault e.1 refuses))
     c.no_list.ensures

@@ -13,5 +13,6 @@ returns-clause-ok c =
     let wrote = c.in_ok-edit_row.ensures in (
       edit_step c.args.site (row_of e, e.1.label),
       edit_row_of c.args.site e number.0 wrote.kept,
-      subst (λ (n : ℕ). Adds c.args.out.now c.edit_row.new.out (value_tokens (edit_value n (row_of e) e.1.label))) number.1 wrote.tokens,
+      subst (λ (n : ℕ). Adds c.args.out.now c.edit_row.new.out
+          (value_tokens (edit_value n (row_of e) e.1.label))) number.1 wrote.tokens,
     )

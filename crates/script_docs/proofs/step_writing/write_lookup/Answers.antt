@@ -14,10 +14,15 @@ returns-clause-ok c =
     let field = c.as_str.result.now in
     let number = c.in_ok-number.ensures.ok in
     let found = rw c.in-Some.is at c.in_ok-field.ensures in
-    let lists : Lists Basic field c.args.list.now = subst (λ (t : List ℕ). Lists Basic t c.args.list.now) (sym c.as_str.ensures.value) found.1 in
+    let lists : Lists Basic field c.args.list.now =
+    subst (λ (t : List ℕ). Lists Basic t c.args.list.now) (sym c.as_str.ensures.value)
+    found.1 in
     let joined : field ≡ field_text c.args.list.now = c.as_str.ensures.value ∙ found.0 in
     let wrote = c.in_ok-lookup_row.ensures in (
       lookup_step c.args.site c.args.id.now field c.args.default.now,
-      lookup_row_of c.args.site c.args.id.now c.args.list.now c.args.default.now field number.0 wrote.id joined lists wrote.default,
-      subst (λ (n : ℕ). Adds c.args.out.now c.lookup_row.new.out (value_tokens (lookup_value n c.args.id.now field c.args.default.now))) number.1 wrote.tokens,
+      lookup_row_of c.args.site c.args.id.now c.args.list.now c.args.default.now field number.0
+          wrote.id joined lists wrote.default,
+      subst (λ (n : ℕ). Adds c.args.out.now c.lookup_row.new.out
+          (value_tokens (lookup_value n c.args.id.now field c.args.default.now))) number.1
+          wrote.tokens,
     )

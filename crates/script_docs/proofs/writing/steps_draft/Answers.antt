@@ -6,24 +6,38 @@ use Rattle.script_docs.proofs.writing.steps_draft.Goals as goal
 
 -- none is written yet
 pub steps-init : goal.steps-init
-steps-init c = ([], tt, subst (λ (n : ℕ). HoldsSteps c.in_ok-draft.draft n []) c.sites.ensures.value c.in_ok-draft.ensures)
+steps-init c = (
+  [],
+  tt,
+  subst (λ (n : ℕ). HoldsSteps c.in_ok-draft.draft n []) c.sites.ensures.value
+      c.in_ok-draft.ensures,
+)
 
 pub steps-preserved : goal.steps-preserved
 steps-preserved c =
     let script = c.args.script.now in
     let step = c.index-steps-place.result in
-    let size : length c.steps-steps.result.now ≡ length script.steps = ap length c.steps-steps.ensures in
+    let size : length c.steps-steps.result.now ≡ length script.steps =
+    ap length c.steps-steps.ensures in
     let within : c.steps.place < length script.steps = omega (arith, size, c.steps-test.true) in
-    let is : step ≡ get_or script.steps c.steps.place step = rw c.steps-steps.ensures at c.index-steps-place.is in
-    row_more c.steps.draft c.write_step.new.out script.sites script.steps c.steps.place step within is c.steps.invariant c.in_ok-write_step.ensures.ok
+    let is : step ≡ get_or script.steps c.steps.place step =
+    rw c.steps-steps.ensures at c.index-steps-place.is in
+    row_more c.steps.draft c.write_step.new.out script.sites script.steps c.steps.place step within
+    is c.steps.invariant c.in_ok-write_step.ensures.ok
 
 pub returns-in_err-write_step-clause-err : goal.returns-in_err-write_step-clause-err
 returns-in_err-write_step-clause-err c =
     let script = c.args.script.now in
     let step = c.index-steps-place.result in
-    let size : length c.steps-steps.result.now ≡ length script.steps = ap length c.steps-steps.ensures in
+    let size : length c.steps-steps.result.now ≡ length script.steps =
+    ap length c.steps-steps.ensures in
     let within : c.steps.place < length script.steps = omega (arith, size, c.steps-test.true) in
-    let is : step ≡ get_or script.steps c.steps.place step = rw c.steps-steps.ensures at c.index-steps-place.is in
-    let refused = writing_refused c.steps.draft script.sites script.steps c.steps.place step _ within is c.steps.invariant c.in_err-write_step.ensures.err in
-    let p = err_from_is_err_and c.from_residual-in_err-write_step.result c.from_residual-in_err-write_step.ensures.1 in
+    let is : step ≡ get_or script.steps c.steps.place step =
+    rw c.steps-steps.ensures at c.index-steps-place.is in
+    let refused =
+    writing_refused c.steps.draft script.sites script.steps c.steps.place step _ within is
+    c.steps.invariant c.in_err-write_step.ensures.err in
+    let p =
+    err_from_is_err_and c.from_residual-in_err-write_step.result
+    c.from_residual-in_err-write_step.ensures.1 in
     rw (p.1, p.2) refused

@@ -7,16 +7,21 @@ use Rattle.cata_core.proofs.catalogue.Catalogue.apply.Goals as goal
 
 pub returns-clause-ok : goal.returns-clause-ok
 returns-clause-ok c =
-    subst (λ (e : Entry). OnOk c.apply_cell.result (c.apply_cell.new.self ≡ joined c.args.self.now (e ∷ []))) (λ i. ((c.id.ensures i, c.lang.ensures i), c.cell.ensures i)) c.apply_cell.ensures.ok
+    subst (λ (e : Entry). OnOk c.apply_cell.result
+    (c.apply_cell.new.self ≡ joined c.args.self.now (e ∷ [])))
+    (λ i. ((c.id.ensures i, c.lang.ensures i), c.cell.ensures i)) c.apply_cell.ensures.ok
 
 pub returns-clause-agree : goal.returns-clause-agree
 returns-clause-agree c =
-    subst (λ (e : Entry). OnOk c.apply_cell.result (Agree c.args.self.now (e ∷ []))) (λ i. ((c.id.ensures i, c.lang.ensures i), c.cell.ensures i)) c.apply_cell.ensures.agree
+    subst (λ (e : Entry). OnOk c.apply_cell.result (Agree c.args.self.now (e ∷ [])))
+    (λ i. ((c.id.ensures i, c.lang.ensures i), c.cell.ensures i)) c.apply_cell.ensures.agree
 
 pub returns-clause-fault : goal.returns-clause-fault
 returns-clause-fault c =
-    subst (λ (e : Entry). IfErr c.apply_cell.result (IsRefusal c.args.self.now (e ∷ []))) (λ i. ((c.id.ensures i, c.lang.ensures i), c.cell.ensures i)) c.apply_cell.ensures.fault
+    subst (λ (e : Entry). IfErr c.apply_cell.result (IsRefusal c.args.self.now (e ∷ [])))
+    (λ i. ((c.id.ensures i, c.lang.ensures i), c.cell.ensures i)) c.apply_cell.ensures.fault
 
 pub returns-clause-settled : goal.returns-clause-settled
 returns-clause-settled c =
-    subst (λ (e : Entry). IsSettledIn c.args.self.now e → IsOk c.apply_cell.result) (λ i. ((c.id.ensures i, c.lang.ensures i), c.cell.ensures i)) c.apply_cell.ensures.settled
+    subst (λ (e : Entry). IsSettledIn c.args.self.now e → IsOk c.apply_cell.result)
+    (λ i. ((c.id.ensures i, c.lang.ensures i), c.cell.ensures i)) c.apply_cell.ensures.settled

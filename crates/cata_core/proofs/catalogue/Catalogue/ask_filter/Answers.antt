@@ -13,13 +13,19 @@ returns-in-Ok c =
     let scheme = c.args.scheme in
     let items = c.args.list.now in
     let picks = c.in-Ok.picks in
-    let labels_are : labelled_of c.in_ok-labels.labels.items ≡ live cells id = c.in_ok-labels.ensures ∙ c.labels.ensures in
+    let labels_are : labelled_of c.in_ok-labels.labels.items ≡ live cells id =
+    c.in_ok-labels.ensures ∙ c.labels.ensures in
     let langs_are : texts_of c.deref-2.result.now ≡ languages (live cells id) =
-    ap texts_of c.deref-2.ensures.value ∙ c.in_ok-langs.ensures ∙ ap (λ xs. languages (labelled_of xs)) c.deref.ensures.value ∙ ap languages labels_are in
-    IfOk-weaker c.pick_all.result (λ entries. entries ≡ picked (labelled_of c.deref-in-Ok.result.now) picks) (IsFilterAnswer cells id scheme items)
+    ap texts_of c.deref-2.ensures.value ∙ c.in_ok-langs.ensures
+    ∙ ap (λ xs. languages (labelled_of xs)) c.deref.ensures.value ∙ ap languages labels_are in
+    IfOk-weaker c.pick_all.result
+    (λ entries. entries ≡ picked (labelled_of c.deref-in-Ok.result.now) picks)
+    (IsFilterAnswer cells id scheme items)
     (λ entries is. record {
       picks = picks;
       filtered = subst (λ langs. IsFiltered scheme items langs picks) langs_are c.in-Ok.ensures;
-      answer_is = is ∙ ap (λ xs. picked (labelled_of xs) picks) c.deref-in-Ok.ensures.value ∙ ap (λ labels. picked labels picks) labels_are;
+      answer_is =
+          is ∙ ap (λ xs. picked (labelled_of xs) picks) c.deref-in-Ok.ensures.value
+          ∙ ap (λ labels. picked labels picks) labels_are;
     })
     c.pick_all.ensures

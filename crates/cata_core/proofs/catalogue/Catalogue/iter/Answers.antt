@@ -5,4 +5,5 @@ use Rattle.cata_core.proofs.NestedCatalogues.{IsMap-catalogue}
 use Rattle.cata_core.proofs.catalogue.Catalogue.iter.Goals as goal
 
 pub returns-clause-sorted : goal.returns-clause-sorted
-returns-clause-sorted c = subst (IsMap key_cmp) c.self.view_is (IsMap-catalogue c.self.inside.map c.self.invariant.nested)
+returns-clause-sorted c =
+    subst (IsMap key_cmp) c.self.view_is (IsMap-catalogue c.self.inside.map c.self.invariant.nested)

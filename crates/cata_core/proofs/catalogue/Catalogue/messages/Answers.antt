@@ -11,8 +11,10 @@ pub returns-clause-messages : goal.returns-clause-messages
 returns-clause-messages c =
     let m = c.map.result.now in
     subst (λ (ms : List LiveMessage). AreMessages c.args.self.now ms) (sym c.new.ensures)
-    (subst (λ (cells : Entries). AreMessages cells (live_messages m)) c.map.ensures.flat (are_messages m c.map.ensures.nested.outer))
+    (subst (λ (cells : Entries). AreMessages cells (live_messages m)) c.map.ensures.flat
+    (are_messages m c.map.ensures.nested.outer))
 
 pub returns-clause-languages : goal.returns-clause-languages
 returns-clause-languages c =
-    subst (λ (cells : Entries). (id : List ℕ) → IsMap text_cmp (live cells id)) c.map.ensures.flat (languages_rise c.map.result.now c.map.ensures.nested)
+    subst (λ (cells : Entries). (id : List ℕ) → IsMap text_cmp (live cells id)) c.map.ensures.flat
+    (languages_rise c.map.result.now c.map.ensures.nested)

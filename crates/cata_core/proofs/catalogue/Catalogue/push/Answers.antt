@@ -9,7 +9,8 @@ pub returns-clause-ok : goal.returns-clause-ok
 returns-clause-ok c =
     let key : EntryKey = (c.args.id, c.args.lang) in
     c.in_ok-put_in.ensures.ok
-    ∙ put_behind (flat c.self.inside.map) key c.args.cell (subst (λ (es : Entries). IsAboveAll key es) (sym c.self.view_is) c.requires)
+    ∙ put_behind (flat c.self.inside.map) key c.args.cell
+    (subst (λ (es : Entries). IsAboveAll key es) (sym c.self.view_is) c.requires)
     ∙ ap (λ es. es ++ (key, c.args.cell) ∷ []) c.self.view_is
 
 pub invariant_of-self-2 : goal.invariant_of-self-2
@@ -19,5 +20,6 @@ invariant_of-self-2 c =
     record {
       nested = c.put_in.ensures.nested;
       counted = c.in_ok-len.ensures ∙ ap (λ es. length es + 1) (sym c.self.view_is)
-          ∙ sym (length_behind (flat c.self.inside.map) (flat c.put_in.new.map) key c.args.cell above c.in_ok-put_in.ensures.ok);
+          ∙ sym (length_behind (flat c.self.inside.map) (flat c.put_in.new.map) key c.args.cell
+          above c.in_ok-put_in.ensures.ok);
     }

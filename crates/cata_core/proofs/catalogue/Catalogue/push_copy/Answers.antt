@@ -9,7 +9,8 @@ pub returns-clause-ok : goal.returns-clause-ok
 returns-clause-ok c =
     let key : EntryKey = (c.args.id.now, c.args.lang.now) in
     c.in_ok-write_in.ensures.ok
-    ∙ put_behind (flat c.self.inside.map) key c.in_ok-cell.cell (subst (λ (es : Entries). IsAboveAll key es) (sym c.self.view_is) c.requires)
+    ∙ put_behind (flat c.self.inside.map) key c.in_ok-cell.cell
+    (subst (λ (es : Entries). IsAboveAll key es) (sym c.self.view_is) c.requires)
     ∙ ap (λ es. es ++ (key, c.in_ok-cell.cell) ∷ []) c.self.view_is
     ∙ ap (λ v. c.args.self.now ++ (key, v) ∷ []) c.in_ok-cell.ensures
 
@@ -20,5 +21,6 @@ invariant_of-self-2 c =
     record {
       nested = c.write_in.ensures.nested;
       counted = c.in_ok-len.ensures ∙ ap (λ es. length es + 1) (sym c.self.view_is)
-          ∙ sym (length_behind (flat c.self.inside.map) (flat c.write_in.new.map) key c.in_ok-cell.cell above c.in_ok-write_in.ensures.ok);
+          ∙ sym (length_behind (flat c.self.inside.map) (flat c.write_in.new.map) key
+          c.in_ok-cell.cell above c.in_ok-write_in.ensures.ok);
     }

@@ -9,7 +9,8 @@ pub returns-in-Some : goal.returns-in-Some
 returns-in-Some c =
     let lang = c.args.lang.now in
     let cells = c.self.inside.cells.now in
-    c.label.ensures ∙ ap label_of c.in-Some.ensures.value ∙ sym (find-live_of lang cells c.in-Some.ensures.map)
+    c.label.ensures ∙ ap label_of c.in-Some.ensures.value
+    ∙ sym (find-live_of lang cells c.in-Some.ensures.map)
     ∙ ap (λ (m : LiveMessage). find text_cmp lang m.1) c.self.view_is
 
 pub returns-in-None : goal.returns-in-None

@@ -17,15 +17,29 @@ returns-clause-ok c =
     let cells_are = at_site xs c.args.site c.index.result.now there c.index.ensures in
     let entries = c.in_ok-entries.entries in
     record {
-      sound = record { sites_there = named_one (length xs) c.args.site there; posts_there = tt; agrees = tt };
-      held = λ i. record { of_site = at_sites xs; told = sym (append_nil w.told.items) i; posts = sym (append_nil w.posts.items) i };
+      sound =
+          record {
+            sites_there = named_one (length xs) c.args.site there;
+            posts_there = tt;
+            agrees =
+                tt;
+          };
+      held =
+          λ i. record {
+            of_site = at_sites xs;
+            told = sym (append_nil w.told.items) i;
+            posts =
+                sym (append_nil w.posts.items) i;
+          };
       answered = Filter entries ∷ [];
       answers = c.in_ok-push.ensures.items;
       are_answers = (
         entries,
         refl,
-        subst (λ (x : Weighed). IsFilterAnswer (at_sites xs c.args.site) id c.args.scheme items x) (sym c.in_ok-entries.ensures)
-            (subst (λ (x : Entries). IsFilterAnswer x id c.args.scheme items c.in_ok-lent.lent) cells_are c.in_ok-lent.ensures),
+        subst (λ (x : Weighed). IsFilterAnswer (at_sites xs c.args.site) id c.args.scheme items x)
+            (sym c.in_ok-entries.ensures)
+            (subst (λ (x : Entries). IsFilterAnswer x id c.args.scheme items c.in_ok-lent.lent)
+            cells_are c.in_ok-lent.ensures),
       );
       sites = refl;
       addressed = record { few = c.requires.few; told = c.requires.told; posts = c.requires.posts };

@@ -21,16 +21,32 @@ returns-clause-ok c =
     let lent = reply_of c.ask_lookup-lent.result in
     let reply = c.in_ok-reply.reply in
     record {
-      sound = record { sites_there = named_one (length xs) c.args.site there; posts_there = tt; agrees = tt };
-      held = λ i. record { of_site = at_sites xs; told = sym (append_nil w.told.items) i; posts = sym (append_nil w.posts.items) i };
+      sound =
+          record {
+            sites_there = named_one (length xs) c.args.site there;
+            posts_there = tt;
+            agrees =
+                tt;
+          };
+      held =
+          λ i. record {
+            of_site = at_sites xs;
+            told = sym (append_nil w.told.items) i;
+            posts =
+                sym (append_nil w.posts.items) i;
+          };
       answered = Lookup reply ∷ [];
       answers = c.in_ok-push.ensures.items;
       are_answers = (
         reply,
         refl,
-        subst (λ (x : Reply). IsLookupAnswer (at_sites xs c.args.site) id items c.args.default.now x) (sym c.in_ok-reply.ensures)
-            (subst (λ (x : Option (List ℕ)). IsLookupAnswer (at_sites xs c.args.site) id items x lent) c.as_ref.ensures.value
-            (subst (λ (x : Entries). IsLookupAnswer x id items (option_copied c.as_ref.result) lent) cells_are c.ask_lookup-lent.ensures)),
+        subst (λ (x : Reply). IsLookupAnswer (at_sites xs c.args.site) id items c.args.default.now
+            x) (sym c.in_ok-reply.ensures)
+            (subst
+            (λ (x : Option (List ℕ)). IsLookupAnswer (at_sites xs c.args.site) id items x lent)
+            c.as_ref.ensures.value
+            (subst (λ (x : Entries). IsLookupAnswer x id items (option_copied c.as_ref.result) lent)
+            cells_are c.ask_lookup-lent.ensures)),
       );
       sites = refl;
       addressed = record { few = c.requires.few; told = c.requires.told; posts = c.requires.posts };

@@ -11,9 +11,17 @@ returns-then-into-source-clause-ok c =
     let w = c.args.world.now in
     let xs = w.sites.items in
     let into_there : c.args.into < length xs = omega (arith, c.if-into-len.false, c.len.ensures) in
-    let there : c.args.source < length xs = omega (arith, c.if-source-len.false, c.len-else-into-len.ensures) in
+    let there : c.args.source < length xs =
+    omega (arith, c.if-source-len.false, c.len-else-into-len.ensures) in
     record {
-      sound = record { sites_there = named_two (length xs) c.args.into c.args.source into_there there; posts_there = tt; agrees = inl (ap (at_sites xs) c.if-into-source.true) };
+      sound =
+          record {
+            sites_there =
+                named_two (length xs) c.args.into c.args.source into_there there;
+            posts_there =
+                tt;
+            agrees = inl (ap (at_sites xs) c.if-into-source.true);
+          };
       held = merged_self (held_in w) c.args.into c.args.source c.if-into-source.true;
       answered = [];
       answers = sym (append_nil w.answers.items);
@@ -29,16 +37,28 @@ returns-clause-ok c =
     let theirs = c.index.result.now in
     let gap = c.replace-own.new.dest in
     let into_there : c.args.into < length xs = omega (arith, c.if-into-len.false, c.len.ensures) in
-    let there : c.args.source < length xs = omega (arith, c.if-source-len.false, c.len-else-into-len.ensures) in
-    let own_is = c.replace-own.ensures.value ∙ at_site xs c.args.into c.index_mut.result.now into_there c.index_mut.ensures.value in
-    let theirs_is = at_site xs c.args.source theirs there (c.index.ensures ∙ get_or-set_other xs c.args.into c.args.source gap theirs (λ e. c.if-into-source.false (sym e))) in
+    let there : c.args.source < length xs =
+    omega (arith, c.if-source-len.false, c.len-else-into-len.ensures) in
+    let own_is =
+    c.replace-own.ensures.value
+    ∙ at_site xs c.args.into c.index_mut.result.now into_there c.index_mut.ensures.value in
+    let theirs_is =
+    at_site xs c.args.source theirs there
+    (c.index.ensures
+    ∙ get_or-set_other xs c.args.into c.args.source gap theirs
+    (λ e. c.if-into-source.false (sym e))) in
     record {
       sound = record {
         sites_there = named_two (length xs) c.args.into c.args.source into_there there;
         posts_there = tt;
-        agrees = subst (λ a. Agree a (at_sites xs c.args.source)) own_is (subst (Agree c.replace-own.result) theirs_is c.in_ok-take_in.ensures.agree);
+        agrees =
+            subst (λ a. Agree a (at_sites xs c.args.source)) own_is
+            (subst (Agree c.replace-own.result) theirs_is c.in_ok-take_in.ensures.agree);
       };
-      held = merged xs w.told.items w.posts.items c.args.into c.args.source gap c.take_in.new.own theirs into_there theirs_is (c.in_ok-take_in.ensures.ok ∙ ap (λ x. joined x theirs) own_is);
+      held =
+          merged xs w.told.items w.posts.items c.args.into c.args.source gap c.take_in.new.own
+          theirs into_there theirs_is
+          (c.in_ok-take_in.ensures.ok ∙ ap (λ x. joined x theirs) own_is);
       answered = [];
       answers = sym (append_nil w.answers.items);
       are_answers = refl;

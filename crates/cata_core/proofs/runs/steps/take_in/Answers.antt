@@ -2,7 +2,9 @@ use Rattle.cata_core.proofs.CataFaults.{of_cells}
 use Rattle.cata_core.proofs.runs.steps.take_in.Goals as goal
 
 pub at_step-requires : goal.at_step-requires
-at_step-requires c = of_cells c.args.own.now c.args.incoming.now c.in-Err.fault c.in-Err.ensures.fault
+at_step-requires c =
+    of_cells c.args.own.now c.args.incoming.now c.in-Err.fault c.in-Err.ensures.fault
 
 pub returns-in-Err-clause-err : goal.returns-in-Err-clause-err
-returns-in-Err-clause-err c = c.at_step.ensures c.args.own.now c.args.incoming.now c.in-Err.ensures.fault
+returns-in-Err-clause-err c =
+    c.at_step.ensures c.args.own.now c.args.incoming.now c.in-Err.ensures.fault

@@ -5,4 +5,6 @@ use Rattle.cata_core.proofs.LatestStamps.{latest_is}
 use Rattle.cata_core.proofs.site.Site.last.Goals as goal
 
 pub returns-clause-latest : goal.returns-clause-latest
-returns-clause-latest c = latest_is c.args.self.now.cells c.self.inside.latest (c.self.invariant ∙ ap (λ (s : SiteState). latest_of s.cells) c.self.view_is)
+returns-clause-latest c =
+    latest_is c.args.self.now.cells c.self.inside.latest
+    (c.self.invariant ∙ ap (λ (s : SiteState). latest_of s.cells) c.self.view_is)

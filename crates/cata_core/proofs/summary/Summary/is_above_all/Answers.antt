@@ -18,10 +18,18 @@ returns-in-Some c =
     let key : EntryKey = (c.args.id.now, c.args.lang.now) in
     let last = c.in-Some.last.now in
     let held : EntryKey = (last.id, last.lang) in
-    let from : slice_get c.self.inside.entries.items (length c.self.inside.entries.items - 1) ≡ Some c.in-Some.last.now =
+    let from : slice_get c.self.inside.entries.items (length c.self.inside.entries.items - 1)
+    ≡ Some c.in-Some.last.now =
     sym (c.in-Some.ensures.value ∙ ap (λ xs. slice_get xs (length xs - 1)) c.deref.ensures.value) in
-    let there : slice_get (stamps_of c.self.inside.entries.items) (length (stamps_of c.self.inside.entries.items) - 1) ≡ Some (entry_of c.in-Some.last.now) =
-    ap (λ n. slice_get (stamps_of c.self.inside.entries.items) (n - 1)) (length-map entries entry_of) ∙ slice_get-map entry_of entries (length entries - 1) ∙ ap (option_map entry_of) from in
+    let there : slice_get (stamps_of c.self.inside.entries.items)
+    (length (stamps_of c.self.inside.entries.items) - 1) ≡ Some (entry_of c.in-Some.last.now) =
+    ap (λ n. slice_get (stamps_of c.self.inside.entries.items) (n - 1))
+    (length-map entries entry_of) ∙ slice_get-map entry_of entries (length entries - 1)
+    ∙ ap (option_map entry_of) from in
     let tells = c.is_lt.ensures ∙ ap is_lt c.compare.ensures in
-    subst (λ (b : Bool). IsTrue b ↔ IsAboveAll (c.args.id.now, c.args.lang.now) c.args.self.now.stamps) (sym tells)
-    (above_last c.args.self.now.stamps key held last.stamp (subst (IsMap key_cmp) stamps_are c.self.invariant) (subst (λ (es : Stamps). slice_get es (length es - 1) ≡ Some (entry_of c.in-Some.last.now)) stamps_are there))
+    subst (λ (b : Bool). IsTrue b
+    ↔ IsAboveAll (c.args.id.now, c.args.lang.now) c.args.self.now.stamps) (sym tells)
+    (above_last c.args.self.now.stamps key held last.stamp
+    (subst (IsMap key_cmp) stamps_are c.self.invariant)
+    (subst (λ (es : Stamps). slice_get es (length es - 1) ≡ Some (entry_of c.in-Some.last.now))
+    stamps_are there))

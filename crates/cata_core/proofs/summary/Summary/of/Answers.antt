@@ -10,5 +10,9 @@ use Rattle.cata_core.proofs.summary.Summary.of.Goals as goal
 pub invariant_of-result : goal.invariant_of-result
 invariant_of-result c =
     let all : stamps_of c.loop-id.entries.items ≡ summary_of c.args.catalogue.now =
-    sym (append_nil (stamps_of c.loop-id.entries.items)) ∙ subst (λ (left : Entries). stamps_of c.loop-id.entries.items ++ summary_of left ≡ summary_of c.args.catalogue.now) c.in-None.ensures.steps.0 c.loop-id.invariant in
-    subst (IsMap key_cmp) (sym all) (summary-IsMap c.args.catalogue.now c.iter-id-items.ensures.sorted)
+    sym (append_nil (stamps_of c.loop-id.entries.items))
+    ∙ subst
+    (λ (left : Entries). stamps_of c.loop-id.entries.items ++ summary_of left
+    ≡ summary_of c.args.catalogue.now) c.in-None.ensures.steps.0 c.loop-id.invariant in
+    subst (IsMap key_cmp) (sym all)
+    (summary-IsMap c.args.catalogue.now c.iter-id-items.ensures.sorted)

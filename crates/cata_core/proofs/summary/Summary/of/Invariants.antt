@@ -5,4 +5,5 @@ use Rattle.cata_core.specs.Summary.{stamps_of}
 use Rattle.cata_core.proofs.summary.Summary.of.Given as goal
 
 abbrev pub invariant-loop-id : goal.invariant-loop-id
-invariant-loop-id l = stamps_of l.entries.items ++ summary_of (cells_left l.id-iterator) ≡ summary_of l.catalogue
+invariant-loop-id l =
+    stamps_of l.entries.items ++ summary_of (cells_left l.id-iterator) ≡ summary_of l.catalogue

@@ -9,6 +9,11 @@ use Rattle.cata_core.proofs.summary.Summary.push.Goals as goal
 pub invariant_of-self-2 : goal.invariant_of-self-2
 invariant_of-self-2 c =
     let entries = c.self.inside.entries.items in
-    subst (IsMap key_cmp) (sym (ap stamps_of c.in_ok-push.ensures.items ∙ entries_push c.self.inside.entries.items (record { id = c.args.id; lang = c.args.lang; stamp = c.args.stamp })))
-    (IsMap-behind (stamps_of c.self.inside.entries.items) (c.args.id, c.args.lang) c.args.stamp c.self.invariant
-    (subst (λ (s : SummaryState). IsAboveAll (c.args.id, c.args.lang) s.stamps) (sym c.self.view_is) c.requires))
+    subst (IsMap key_cmp)
+    (sym (ap stamps_of c.in_ok-push.ensures.items
+    ∙ entries_push c.self.inside.entries.items
+    (record { id = c.args.id; lang = c.args.lang; stamp = c.args.stamp })))
+    (IsMap-behind (stamps_of c.self.inside.entries.items) (c.args.id, c.args.lang) c.args.stamp
+    c.self.invariant
+    (subst (λ (s : SummaryState). IsAboveAll (c.args.id, c.args.lang) s.stamps) (sym c.self.view_is)
+    c.requires))

@@ -12,7 +12,10 @@ same = partial_equiv_from_equiv nat_list_eq_equiv
 
 pub returns-then-eq : goal.returns-then-eq
 returns-then-eq c =
-    let owners : pointwise nat_eq c.self.inside.owner c.other.inside.owner ≡ true = same.symm c.self.inside.owner c.other.inside.owner ∙ sym c.eq.ensures ∙ c.if-eq.true in
-    c.eq-then-eq.ensures ∙ pointwise_entries c.self.inside.entries.items c.other.inside.entries.items
-    ∙ ap (λ b. b && pointwise summary_entry_eq (stamps_of c.self.inside.entries.items) (stamps_of c.other.inside.entries.items)) (sym owners)
+    let owners : pointwise nat_eq c.self.inside.owner c.other.inside.owner ≡ true =
+    same.symm c.self.inside.owner c.other.inside.owner ∙ sym c.eq.ensures ∙ c.if-eq.true in
+    c.eq-then-eq.ensures
+    ∙ pointwise_entries c.self.inside.entries.items c.other.inside.entries.items
+    ∙ ap (λ b. b && pointwise summary_entry_eq (stamps_of c.self.inside.entries.items)
+    (stamps_of c.other.inside.entries.items)) (sym owners)
     ∙ (λ i. summary_eq (c.self.view_is i) (c.other.view_is i))

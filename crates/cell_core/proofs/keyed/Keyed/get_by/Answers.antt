@@ -13,8 +13,12 @@ bisect-requires g c =
     let cs = c.self.inside.chunks.list.items in
     let at = c.chunk_for-at.result in
     let chunk = c.index-chunk.result.now in
-    let place = subst (λ xs. IsChunkFor cmp (g.Q.Query.sought c.args.query) xs at) c.deref.ensures.value c.chunk_for-at.ensures in
-    subst (IsMap cmp) (ap (λ (x : Vec (g.row.K.Denot × g.row.J.Denot) Global). x.items) (sym c.index-chunk.ensures) ∙ sym c.deref-2.ensures.value)
+    let place =
+    subst (λ xs. IsChunkFor cmp (g.Q.Query.sought c.args.query) xs at) c.deref.ensures.value
+    c.chunk_for-at.ensures in
+    subst (IsMap cmp)
+    (ap (λ (x : Vec (g.row.K.Denot × g.row.J.Denot) Global). x.items)
+    (sym c.index-chunk.ensures) ∙ sym c.deref-2.ensures.value)
     (chunk_map cmp g.met.K.Ord.total cs c.self.invariant.chunked at chunk place.in_range)
 
 pub returns-in-Ok : goal.returns-in-Ok
@@ -25,12 +29,20 @@ returns-in-Ok g c =
     let at = c.chunk_for-at.result in
     let chunk = c.index-chunk.result.now in
     let e = c.index-entry.result.now in
-    let place = subst (λ xs. IsChunkFor cmp key xs at) c.deref.ensures.value c.chunk_for-at.ensures in
+    let place =
+    subst (λ xs. IsChunkFor cmp key xs at) c.deref.ensures.value c.chunk_for-at.ensures in
     let whole : find cmp key c.args.self.now ≡ find cmp key chunk.items =
-    ap (find cmp key) (sym c.self.view_is) ∙ find-chunk cmp g.met.K.Ord.total cs c.self.invariant.chunked key at chunk place ∙ ap (λ (x : Vec (g.row.K.Denot × g.row.J.Denot) Global). find cmp key x.items) (sym c.index-chunk.ensures) in
+    ap (find cmp key) (sym c.self.view_is)
+    ∙ find-chunk cmp g.met.K.Ord.total cs c.self.invariant.chunked key at chunk place
+    ∙ ap (λ (x : Vec (g.row.K.Denot × g.row.J.Denot) Global). find cmp key x.items)
+    (sym c.index-chunk.ensures) in
     record {
-      entry = ap (λ (f : g.row.K.Denot × g.row.J.Denot). with_key f.0 (Some f.1)) (c.index-entry.ensures ∙ ap (λ xs. get_or xs c.in-Ok.place e) (sym c.deref-2.ensures.value))
-          ∙ entry_at_place g.met.K.Key.exact key c.deref-2.result.now c.in-Ok.place e c.in-Ok.ensures.found
+      entry =
+          ap (λ (f : g.row.K.Denot × g.row.J.Denot). with_key f.0 (Some f.1))
+          (c.index-entry.ensures
+          ∙ ap (λ xs. get_or xs c.in-Ok.place e) (sym c.deref-2.ensures.value))
+          ∙ entry_at_place g.met.K.Key.exact key c.deref-2.result.now c.in-Ok.place e
+          c.in-Ok.ensures.found
           ∙ ap (with_key key) (ap (find cmp key) c.deref-2.ensures.value ∙ sym whole);
       map = subst (IsMap cmp) c.self.view_is c.self.invariant.chunked.map;
     }
@@ -42,10 +54,17 @@ returns-in-Err g c =
     let cs = c.self.inside.chunks.list.items in
     let at = c.chunk_for-at.result in
     let chunk = c.index-chunk.result.now in
-    let place = subst (λ xs. IsChunkFor cmp key xs at) c.deref.ensures.value c.chunk_for-at.ensures in
+    let place =
+    subst (λ xs. IsChunkFor cmp key xs at) c.deref.ensures.value c.chunk_for-at.ensures in
     let whole : find cmp key c.args.self.now ≡ find cmp key chunk.items =
-    ap (find cmp key) (sym c.self.view_is) ∙ find-chunk cmp g.met.K.Ord.total cs c.self.invariant.chunked key at chunk place ∙ ap (λ (x : Vec (g.row.K.Denot × g.row.J.Denot) Global). find cmp key x.items) (sym c.index-chunk.ensures) in
+    ap (find cmp key) (sym c.self.view_is)
+    ∙ find-chunk cmp g.met.K.Ord.total cs c.self.invariant.chunked key at chunk place
+    ∙ ap (λ (x : Vec (g.row.K.Denot × g.row.J.Denot) Global). find cmp key x.items)
+    (sym c.index-chunk.ensures) in
     record {
-      entry = ap (with_key key) (sym (whole ∙ ap (find cmp key) (sym c.deref-2.ensures.value) ∙ c.in-Err.ensures.absent.absent));
+      entry =
+          ap (with_key key)
+          (sym (whole ∙ ap (find cmp key) (sym c.deref-2.ensures.value)
+          ∙ c.in-Err.ensures.absent.absent));
       map = subst (IsMap cmp) c.self.view_is c.self.invariant.chunked.map;
     }

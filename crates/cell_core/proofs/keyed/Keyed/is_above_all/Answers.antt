@@ -9,7 +9,8 @@ returns g c =
     let cmp = g.K.Ord.cmp in
     let key = c.args.key.now in
     let chunks = c.deref.result.now in
-    let same : all_of chunks ≡ c.args.self.now = ap all_of c.deref.ensures.value ∙ c.self.view_is in (
+    let same : all_of chunks ≡ c.args.self.now =
+    ap all_of c.deref.ensures.value ∙ c.self.view_is in (
       λ above.
           let gap = c.is_above_all.ensures.above above in
           let shown = above_gap cmp g.met.K.Ord.total key (all_of chunks) gap.is in

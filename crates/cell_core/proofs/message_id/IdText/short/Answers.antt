@@ -7,6 +7,7 @@ use Rattle.cell_core.proofs.message_id.IdText.short.Goals as goal
 pub returns : goal.returns
 returns c =
     let padded = c.zero_padded.ensures ∙ ap (zero_padded 32) c.as_bytes.ensures.value in (
-      subst KeepsShortId (sym padded) (KeepsShortId-padded _ c.requires.id c.requires.short c.utf8.text),
+      subst KeepsShortId (sym padded)
+          (KeepsShortId-padded _ c.requires.id c.requires.short c.utf8.text),
       ap before_zeros padded ∙ before_zeros-id _ c.requires.id,
     )

@@ -13,10 +13,14 @@ is_name c = subst IsSiteName c.as_bytes-bytes.ensures.value (record {
 })
 
 pub invariant_of-result : goal.invariant_of-result
-invariant_of-result c = subst KeepsName (ap (zero_padded 16) (sym c.as_bytes-bytes.ensures.value) ∙ sym c.zero_padded.ensures) (KeepsName-padded c.args.text.now (is_name c))
+invariant_of-result c =
+    subst KeepsName
+    (ap (zero_padded 16) (sym c.as_bytes-bytes.ensures.value) ∙ sym c.zero_padded.ensures)
+    (KeepsName-padded c.args.text.now (is_name c))
 
 pub returns : goal.returns
 returns c = (
   is_name c,
-  ap before_zeros (c.zero_padded.ensures ∙ ap (zero_padded 16) c.as_bytes-bytes.ensures.value) ∙ before_zeros-name c.args.text.now (is_name c),
+  ap before_zeros (c.zero_padded.ensures ∙ ap (zero_padded 16) c.as_bytes-bytes.ensures.value)
+      ∙ before_zeros-name c.args.text.now (is_name c),
 )

@@ -16,7 +16,9 @@ returns c =
     let with_sync = with_command _ _ c.with_command-program-3.result c.sync.result
     c.with_command-program-4.result with_take c.sync.ensures
     c.with_command-program-4.ensures in
-    let with_replay = with_command _ _ c.with_command-program-4.result (Ok c.described-replay.result)
+    let with_replay =
+    with_command _ _ c.with_command-program-4.result (Ok c.described-replay.result)
     c.with_command-program-5.result with_sync c.described-replay.ensures
     c.with_command-program-5.ensures in
-    with_command _ _ c.with_command-program-5.result c.explain.result c.with_command.result with_replay c.explain.ensures c.with_command.ensures
+    with_command _ _ c.with_command-program-5.result c.explain.result c.with_command.result
+    with_replay c.explain.ensures c.with_command.ensures

@@ -4,8 +4,18 @@ use Rattle.command_core.proofs.commands.sites.with_sites.Goals as goal
 
 pub returns : goal.returns
 returns c =
-    let with_pick = with_command _ _ (Ok c.args.program) c.pick.result c.with_command-program.result refl c.pick.ensures c.with_command-program.ensures in
-    let with_new = with_command _ _ c.with_command-program.result c.new.result c.with_command-program-2.result with_pick c.new.ensures c.with_command-program-2.ensures in
-    let with_put = with_command _ _ c.with_command-program-2.result c.put.result c.with_command-program-3.result with_new c.put.ensures c.with_command-program-3.ensures in
-    let with_delete = with_command _ _ c.with_command-program-3.result c.delete.result c.with_command-program-4.result with_put c.delete.ensures c.with_command-program-4.ensures in
-    with_command _ _ c.with_command-program-4.result (Ok c.described-status.result) c.with_command.result with_delete c.described-status.ensures c.with_command.ensures
+    let with_pick =
+    with_command _ _ (Ok c.args.program) c.pick.result c.with_command-program.result refl
+    c.pick.ensures c.with_command-program.ensures in
+    let with_new =
+    with_command _ _ c.with_command-program.result c.new.result c.with_command-program-2.result
+    with_pick c.new.ensures c.with_command-program-2.ensures in
+    let with_put =
+    with_command _ _ c.with_command-program-2.result c.put.result
+    c.with_command-program-3.result with_new c.put.ensures c.with_command-program-3.ensures in
+    let with_delete =
+    with_command _ _ c.with_command-program-3.result c.delete.result
+    c.with_command-program-4.result with_put c.delete.ensures
+    c.with_command-program-4.ensures in
+    with_command _ _ c.with_command-program-4.result (Ok c.described-status.result)
+    c.with_command.result with_delete c.described-status.ensures c.with_command.ensures

@@ -8,6 +8,9 @@ use Rattle.docs_core.proofs.call.importing.put_labels.Given as goal
 abbrev pub invariant-labels : goal.invariant-labels
 invariant-labels l = record {
   name : l.site.name ≡ l.fn.site.name;
-  put : (new : Entries) → Imports l.now l.fn.site.name (labels_of (drop l.found-index l.found-items)) l.site.cells new → Imports l.now l.fn.site.name (labels_of l.found-items) l.fn.site.cells new;
-  spent : SpendsImport l.now l.fn.site.name (labels_of (drop l.found-index l.found-items)) l.site.cells → SpendsImport l.now l.fn.site.name (labels_of l.found-items) l.fn.site.cells;
+  put : (new : Entries)
+      → Imports l.now l.fn.site.name (labels_of (drop l.found-index l.found-items)) l.site.cells new
+      → Imports l.now l.fn.site.name (labels_of l.found-items) l.fn.site.cells new;
+  spent : SpendsImport l.now l.fn.site.name (labels_of (drop l.found-index l.found-items))
+      l.site.cells → SpendsImport l.now l.fn.site.name (labels_of l.found-items) l.fn.site.cells;
 }

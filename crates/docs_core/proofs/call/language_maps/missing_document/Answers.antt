@@ -6,5 +6,10 @@ use Rattle.docs_core.proofs.call.language_maps.missing_document.Goals as goal
 
 pub returns : goal.returns
 returns c =
-    let answer = c.in_ok-answer.answer in
-    (c.in_ok-site.site, c.in_ok-site.ensures, subst (λ (cells : Entries). AreWritten (missing_labels c.args.lang.now cells) c.in_ok-answer.answer.0 c.in_ok-answer.answer.1) c.catalogue.ensures c.in_ok-answer.ensures)
+    let answer = c.in_ok-answer.answer in (
+      c.in_ok-site.site,
+      c.in_ok-site.ensures,
+      subst (λ (cells : Entries). AreWritten (missing_labels c.args.lang.now cells)
+          c.in_ok-answer.answer.0 c.in_ok-answer.answer.1) c.catalogue.ensures
+          c.in_ok-answer.ensures,
+    )

@@ -10,6 +10,11 @@ answers-preserved c =
     let answers = c.args.answers.now in
     elim c.match-nth.branch [
       | in-Some+in_ok-written w ↦
-          w.written-is ∙ w.in_ok-written.ensures ∙ more_lines lines_of [] answers c.answers.place w.in-Some.answer.now c.answers.written (sym w.in-Some.ensures) c.answers.invariant
-      | in_default w ↦ absurd (item_there answers c.answers.place (rw c.len-place-end.ensures at c.answers-test.true) (sym w.in_default.ensures))
+          w.written-is ∙ w.in_ok-written.ensures
+          ∙ more_lines lines_of [] answers c.answers.place w.in-Some.answer.now
+          c.answers.written (sym w.in-Some.ensures) c.answers.invariant
+      | in_default w ↦
+          absurd
+          (item_there answers c.answers.place (rw c.len-place-end.ensures at c.answers-test.true)
+          (sym w.in_default.ensures))
     ]

@@ -8,4 +8,5 @@ pub returns : goal.returns
 returns c =
     let label = option_map (λ l. l.now) c.args.label in
     let other = option_map (λ l. l.now) c.args.other in
-    subst (λ (b : Bool). Decides b (label ≡ other)) (sym c.eq.ensures) (lent_decides c.args.label c.args.other)
+    subst (λ (b : Bool). Decides b (label ≡ other)) (sym c.eq.ensures)
+    (lent_decides c.args.label c.args.other)

@@ -20,16 +20,25 @@ returns-after-compare-clause-first c =
     let new_is : c.args.new.now ≡ right ∷ news = c.in-Some-Some.ensures'.cases.0 in
     let m = subst (λ (ls : List KeyedLabel). IsMap key_cmp (labels_of ls)) old_is c.requires.old in
     let n = subst (λ (ls : List KeyedLabel). IsMap key_cmp (labels_of ls)) new_is c.requires.new in
-    rw (old_is, new_is) (elim c.match-compare.branch as (λ _. IsFirstRevised c.match-compare.result.0 (labels_of (left ∷ olds)) (labels_of (right ∷ news)) (labels_of c.match-compare.result.1.now) (labels_of c.match-compare.result.2.now)) [
+    rw (old_is, new_is)
+    (elim c.match-compare.branch as
+    (λ _. IsFirstRevised c.match-compare.result.0 (labels_of (left ∷ olds))
+    (labels_of (right ∷ news)) (labels_of c.match-compare.result.1.now)
+    (labels_of c.match-compare.result.2.now)) [
       | in-Less w ↦
           rw (w.result-is, new_is)
-          (first_removed w.removed-in-Less.result was is (labels_of olds) (labels_of news) left.label right.label w.removed-in-Less.ensures.key w.removed-in-Less.ensures.old w.removed-in-Less.ensures.new
+          (first_removed w.removed-in-Less.result was is (labels_of olds) (labels_of news)
+          left.label right.label w.removed-in-Less.ensures.key w.removed-in-Less.ensures.old
+          w.removed-in-Less.ensures.new
           (sym w.in-Less.ensures) m n)
       | in-Greater w ↦
           rw (w.result-is, old_is)
-          (first_added w.added-in-Greater.result was is (labels_of olds) (labels_of news) left.label right.label w.added-in-Greater.ensures.key w.added-in-Greater.ensures.old w.added-in-Greater.ensures.new
+          (first_added w.added-in-Greater.result was is (labels_of olds) (labels_of news) left.label
+          right.label w.added-in-Greater.ensures.key w.added-in-Greater.ensures.old
+          w.added-in-Greater.ensures.new
           (sym w.in-Greater.ensures) m n)
       | in-Equal w ↦
           rw w.result-is
-          (first_kept w.kept.result was is (labels_of olds) (labels_of news) left.label right.label w.kept.ensures.key w.kept.ensures.old w.kept.ensures.new (sym w.in-Equal.ensures) m n)
+          (first_kept w.kept.result was is (labels_of olds) (labels_of news) left.label right.label
+          w.kept.ensures.key w.kept.ensures.old w.kept.ensures.new (sym w.in-Equal.ensures) m n)
     ])

@@ -15,8 +15,14 @@ returns-in-Err-clause-err c =
     (λ spent. (
       spent.0,
       inv.spent
-          (SpendsUpdate-here c.args.now c.args.site.now.name c.in-Some.revised (labels_of c.keys.olds.now) (labels_of c.keys.news.now) (labels_of c.in-Some.old_rest.now) (labels_of c.in-Some.new_rest.now)
-          c.in-Some.ensures.first cells (spent.1.0, subst (λ (name : List ℕ). NoNext (latest_of c.keys.site.cells) c.args.now name) inv.name spent.1.1)),
+          (SpendsUpdate-here c.args.now c.args.site.now.name c.in-Some.revised
+          (labels_of c.keys.olds.now) (labels_of c.keys.news.now)
+          (labels_of c.in-Some.old_rest.now) (labels_of c.in-Some.new_rest.now)
+          c.in-Some.ensures.first cells (
+            spent.1.0,
+            subst (λ (name : List ℕ). NoNext (latest_of c.keys.site.cells) c.args.now name)
+                inv.name spent.1.1,
+          )),
     ))
 
 pub keys-preserved : goal.keys-preserved
@@ -30,10 +36,20 @@ keys-preserved c =
     let news = labels_of c.keys.news.now in
     let old_rest = labels_of c.in-Some.old_rest.now in
     let new_rest = labels_of c.in-Some.new_rest.now in
-    let done = subst (λ (n : List ℕ). IsRevised c.args.now n c.in-Some.revised c.keys.site.cells c.revise.new.site.cells) inv.name c.in-Ok.ensures.ok in record {
+    let done =
+    subst (λ (n : List ℕ). IsRevised c.args.now n c.in-Some.revised c.keys.site.cells
+    c.revise.new.site.cells) inv.name c.in-Ok.ensures.ok in record {
       name = c.in-Ok.ensures.name ∙ inv.name;
       old_map = first.old_head.rises;
       new_map = first.new_head.rises;
-      made = λ final updates. inv.made final (Updates-next c.args.now name c.in-Some.revised olds news old_rest new_rest first old mid done final updates);
-      spent = λ spends. inv.spent (SpendsUpdate-next c.args.now name c.in-Some.revised olds news old_rest new_rest first old mid done spends);
+      made =
+          λ final updates.
+          inv.made final
+          (Updates-next c.args.now name c.in-Some.revised olds news old_rest new_rest first old mid
+          done final updates);
+      spent =
+          λ spends.
+          inv.spent
+          (SpendsUpdate-next c.args.now name c.in-Some.revised olds news old_rest new_rest first old
+          mid done spends);
     }

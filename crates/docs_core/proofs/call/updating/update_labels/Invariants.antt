@@ -11,8 +11,11 @@ invariant-keys l = record {
   name : l.site.name ≡ l.fn.site.name;
   old_map : IsMap key_cmp (labels_of l.olds);
   new_map : IsMap key_cmp (labels_of l.news);
-  made : (final : Entries) → Updates l.now l.fn.site.name (labels_of l.olds) (labels_of l.news) l.site.cells final → Updates l.now l.fn.site.name l.old l.new l.fn.site.cells final;
-  spent : SpendsUpdate l.now l.fn.site.name (labels_of l.olds) (labels_of l.news) l.site.cells → SpendsUpdate l.now l.fn.site.name l.old l.new l.fn.site.cells;
+  made : (final : Entries)
+      → Updates l.now l.fn.site.name (labels_of l.olds) (labels_of l.news) l.site.cells final
+      → Updates l.now l.fn.site.name l.old l.new l.fn.site.cells final;
+  spent : SpendsUpdate l.now l.fn.site.name (labels_of l.olds) (labels_of l.news) l.site.cells
+      → SpendsUpdate l.now l.fn.site.name l.old l.new l.fn.site.cells;
 }
 
 abbrev pub decreases-keys : goal.decreases-keys

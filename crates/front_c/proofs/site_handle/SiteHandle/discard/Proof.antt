@@ -31,17 +31,28 @@ stayed = (stay_dropped (plain (λ _. R)) yes, tt)
 
 pub discard_spec : {M : Type 1} → statement M
 discard_spec 𝓤 𝓛 𝓜 𝓡 wired =
-    let c = f.clauses 𝓛 𝓜.mem 𝓡.returns in let W = walk_of 𝓛 f.ended stayed c in let 𝓣 = tables 𝓤 𝓛.H 𝓜 𝓡 𝓡.env in
-    proved_at 𝓛 f.ended stayed c 𝓜 𝓡 (Goes-dropped 𝓛 0 (plain (λ _. R)) yes (λ κs x w. refl), tt) key code.function (code.unfolded 𝓤 𝓛.H 𝓜 𝓡 wired)
+    let c = f.clauses 𝓛 𝓜.mem 𝓡.returns in let W = walk_of 𝓛 f.ended stayed c in let 𝓣 =
+    tables 𝓤 𝓛.H 𝓜 𝓡 𝓡.env in
+    proved_at 𝓛 f.ended stayed c 𝓜 𝓡 (Goes-dropped 𝓛 0 (plain (λ _. R)) yes (λ κs x w. refl), tt)
+    key code.function (code.unfolded 𝓤 𝓛.H 𝓜 𝓡 wired)
     (λ z are.
-    let d = z.0.3.0 in let Run : List Val → SProp 𝓤 = λ ws. WpFn 𝓤 𝓛.H 𝓣.C 𝓣.Λ code.function ws (W.post z) in
-    qed 𝓛 ((‵ ftrue ⊛ ‵ (owns (types_at f.ended.signature.params z.0.0) z.0.3 z.0.4)) ∷ raw (fact 𝓤 (d.value ≡ None)) ∷ []) ∵ move ! (1 ∷ []) $ heard ! _ (λ none.
-    split ! $ move ! (1 ∷ []) $ fsplit ! $ fsplit ! $ move ! (1 ∷ []) $ rewrite ! 0 (λ (v : Option Share). ‵ (site_held d.at d.alloc v)) none refl $ feq_l ! (λ e. keep ! [] $
+    let d = z.0.3.0 in let Run : List Val → SProp 𝓤 =
+    λ ws. WpFn 𝓤 𝓛.H 𝓣.C 𝓣.Λ code.function ws (W.post z) in
+    qed 𝓛 ((‵ ftrue ⊛ ‵ (owns (types_at f.ended.signature.params z.0.0) z.0.3 z.0.4))
+    ∷ raw (fact 𝓤 (d.value ≡ None)) ∷ []) ∵ move ! (1 ∷ []) $ heard ! _ (λ none.
+    split ! $ move ! (1 ∷ []) $ fsplit ! $ fsplit ! $ move ! (1 ∷ []) $ rewrite ! 0
+    (λ (v : Option Share). ‵ (site_held d.at d.alloc v)) none refl $ feq_l ! (λ e. keep ! [] $
     let w : Val = vstruct (vcons vnull vnil) in
-    let ws : z.0.4.0 ≡ w ∷ [] = lowers.val_is d z.0.4.0 are.0 ∙ ap (λ (p : Ptr). lowers.lowered (record d { at = p }) ∷ []) e in
-    suffices ! (Run (w ∷ [])) (subst (λ (us : List Val). ent 𝓤 (Run (w ∷ [])) (Run us)) (sym (λ i. ws i ++ [])) (id⊢ 𝓤 (Run (w ∷ [])))) $
-    enter ! 𝓣.C 𝓣.Λ code.function (w ∷ []) (W.post z) $ alloc_all ! (λ l. pass_all ! refl ((tt, (record { fits = lit< tt }, tt)), tt) $
+    let ws : z.0.4.0 ≡ w ∷ [] =
+    lowers.val_is d z.0.4.0 are.0
+    ∙ ap (λ (p : Ptr). lowers.lowered (record d { at = p }) ∷ []) e in
+    suffices ! (Run (w ∷ []))
+    (subst (λ (us : List Val). ent 𝓤 (Run (w ∷ [])) (Run us)) (sym (λ i. ws i ++ []))
+    (id⊢ 𝓤 (Run (w ∷ [])))) $
+    enter ! 𝓣.C 𝓣.Λ code.function (w ∷ []) (W.post z) $ alloc_all !
+    (λ l. pass_all ! refl ((tt, (record { fits = lit< tt }, tt)), tt) $
     sets ! (of_opd ! (unit_lit !)) refl (tt, tt) $
     returns ! (look_at ! 0 refl) $ free_all ! refl $
     suffices ! _ (ends_at 𝓛 f.ended stayed c z vunit tt (tt, tt) (tt, tt)) $
-    nothing ! $ feq_i ! _ (vunit ∷ []) _ refl $ nothing ! $ nothing ! $ join ! $ nothing ! $ group ! 3 $ done !))))
+    nothing ! $ feq_i ! _ (vunit ∷ []) _ refl $ nothing ! $ nothing ! $ join ! $ nothing ! $ group !
+    3 $ done !))))

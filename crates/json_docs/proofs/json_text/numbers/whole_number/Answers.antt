@@ -9,11 +9,17 @@ use Rattle.json_docs.proofs.json_text.numbers.whole_number.Goals as goal
 pub returns-then-has_minus : goal.returns-then-has_minus
 returns-then-has_minus c =
     let s = c.as_bytes-bytes.result.now in
-    let read = sym (ap number_of c.as_bytes-bytes.ensures.value) ∙ number_of-minus s (sym c.if-has_minus.ensures.value) in
+    let read =
+    sym (ap number_of c.as_bytes-bytes.ensures.value)
+    ∙ number_of-minus s (sym c.if-has_minus.ensures.value) in
     sym (ap (option_and_then as_u64) read ∙ negative_no_whole (scan (drop 1 s)))
 
 pub returns : goal.returns
 returns c =
     let s = c.as_bytes-bytes.result.now in
-    let read = sym (ap number_of c.as_bytes-bytes.ensures.value) ∙ number_of-plain s (sym c.if-has_minus.ensures.value) in
-    c.positive_whole.ensures ∙ (ap (λ p. option_and_then as_u64 (number_from false p)) c.scan.ensures.parts ∙ sym (ap (option_and_then as_u64) read))
+    let read =
+    sym (ap number_of c.as_bytes-bytes.ensures.value)
+    ∙ number_of-plain s (sym c.if-has_minus.ensures.value) in
+    c.positive_whole.ensures
+    ∙ (ap (λ p. option_and_then as_u64 (number_from false p)) c.scan.ensures.parts
+    ∙ sym (ap (option_and_then as_u64) read))

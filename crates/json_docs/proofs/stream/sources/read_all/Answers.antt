@@ -10,6 +10,8 @@ reads-preserved g c =
     record {
       room = omega arith;
       within = c.in-Ok.ensures.bound;
-      given = Consumes-behind _ _ _ c.reads.filled c.in-Ok.count _ _ inv.given front c.in-Ok.ensures.bytes.0;
+      given =
+          Consumes-behind _ _ _ c.reads.filled c.in-Ok.count _ _ inv.given front
+          c.in-Ok.ensures.bytes.0;
       unfailed = rw inv.unfailed at c.in-Ok.ensures.failed;
     }

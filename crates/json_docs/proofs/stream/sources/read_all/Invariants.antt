@@ -7,7 +7,8 @@ abbrev pub invariant-reads : goal.invariant-reads
 invariant-reads g l = record {
   room : vec_len l.buffer ≤ 67108864 + 1;
   within : l.filled ≤ vec_len l.buffer;
-  given : Consumes (g.S.Source.remaining l.fn.reader) (g.S.Source.remaining l.reader) (take l.filled l.buffer.items);
+  given : Consumes (g.S.Source.remaining l.fn.reader) (g.S.Source.remaining l.reader)
+      (take l.filled l.buffer.items);
   unfailed : g.S.Source.failed l.reader ≡ false;
 }
 

@@ -15,7 +15,9 @@ new-requires c = basic_plain _ c.in_default.ensures
 pub invariant_of-result : goal.invariant_of-result
 invariant_of-result c =
     let basic : BasicRange (subtags c.args.text.now) = c.in_default.ensures in
-    let size : length (str_to_ascii_lowercase c.args.text.now) ≡ length c.args.text.now = length-map c.args.text.now to_ascii_lowercase in
+    let size : length (str_to_ascii_lowercase c.args.text.now) ≡ length c.args.text.now =
+    length-map c.args.text.now to_ascii_lowercase in
     let sized : IsSized (str_to_ascii_lowercase c.args.text.now) = (grind arith, omega arith) in
-    let range : IsRange ExtendedRange (str_to_ascii_lowercase c.args.text.now) = (sized, basic_extended _ basic) in
+    let range : IsRange ExtendedRange (str_to_ascii_lowercase c.args.text.now) =
+    (sized, basic_extended _ basic) in
     (rw c.in_ok-text.ensures range, rw c.in_ok-text.ensures (lookup_text-basic _ basic), tt)

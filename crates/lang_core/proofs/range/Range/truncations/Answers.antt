@@ -5,4 +5,7 @@ use Rattle.lang_core.proofs.LookupLaws.{pieces-lookup_text}
 use Rattle.lang_core.proofs.range.Range.truncations.Goals as goal
 
 pub returns : goal.returns
-returns c = c.new.ensures ∙ (ap (λ (text : List ℕ). candidates (pieces text)) c.lookup_text.ensures ∙ ap candidates (pieces-lookup_text c.args.self.now))
+returns c =
+    c.new.ensures
+    ∙ (ap (λ (text : List ℕ). candidates (pieces text)) c.lookup_text.ensures
+    ∙ ap candidates (pieces-lookup_text c.args.self.now))

@@ -4,4 +4,5 @@ use Rattle.lang_core.proofs.Walks.{IsWalked}
 use Rattle.lang_core.proofs.range_syntax.RangeSyntax.first_refused.Given as goal
 
 abbrev pub invariant-loop-piece : goal.invariant-loop-piece
-invariant-loop-piece l = IsWalked (allowed_by l.self) l.text (pieces_left l.piece-iterator) l.place l.offset
+invariant-loop-piece l =
+    IsWalked (allowed_by l.self) l.text (pieces_left l.piece-iterator) l.place l.offset

@@ -16,12 +16,26 @@ returns-then-is_empty c = elim c.then-is_empty.branch [
 ]
 
 pub returns-then-sum-ge-OTHER : goal.returns-then-sum-ge-OTHER
-returns-then-sum-ge-OTHER c = no_alphanum c.args.text.now (sum_of_other c.args.text.now _ (omega arith) c.class_sum-sum.ensures (omega arith))
+returns-then-sum-ge-OTHER c =
+    no_alphanum c.args.text.now
+    (sum_of_other c.args.text.now _ (omega arith) c.class_sum-sum.ensures (omega arith))
 
 pub invariant_of-result : goal.invariant_of-result
 invariant_of-result c =
-    let piece : is_private_piece (str_to_ascii_lowercase c.args.text.now) ≡ true = alphanums_read c.args.text.now (grind arith) (omega arith) (sum_of_alphanums c.args.text.now _ c.class_sum-sum.ensures (omega arith)) in
-    (piece, sum_of_letters c.args.text.now _ c.class_sum-sum.ensures ∙ letters-lower c.args.text.now, sum_of_digits c.args.text.now _ (c.from.ensures ∙ c.class_sum-sum.ensures) (omega (arith, c.from.ensures)) ∙ digits-lower c.args.text.now)
+    let piece : is_private_piece (str_to_ascii_lowercase c.args.text.now) ≡ true =
+    alphanums_read c.args.text.now (grind arith) (omega arith)
+    (sum_of_alphanums c.args.text.now _ c.class_sum-sum.ensures (omega arith)) in (
+      piece,
+      sum_of_letters c.args.text.now _ c.class_sum-sum.ensures
+          ∙ letters-lower c.args.text.now,
+      sum_of_digits c.args.text.now _
+          (c.from.ensures ∙ c.class_sum-sum.ensures) (omega (arith, c.from.ensures))
+          ∙ digits-lower c.args.text.now,
+    )
 
 pub returns : goal.returns
-returns c = (refl, alphanums_read c.args.text.now (grind arith) (omega arith) (sum_of_alphanums c.args.text.now _ c.class_sum-sum.ensures (omega arith)))
+returns c = (
+  refl,
+  alphanums_read c.args.text.now (grind arith) (omega arith)
+      (sum_of_alphanums c.args.text.now _ c.class_sum-sum.ensures (omega arith)),
+)

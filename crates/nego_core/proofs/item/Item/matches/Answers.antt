@@ -6,4 +6,7 @@ use Rattle.nego_core.proofs.FirstByteLaws.{other_first}
 use Rattle.nego_core.proofs.item.Item.matches.Goals as goal
 
 pub returns-then-self-ne42 : goal.returns-then-self-ne42
-returns-then-self-ne42 c = other_first c.args.scheme c.args.self.now.range c.args.tag.now c.self.inside.first c.args.first (c.self.invariant.2 ∙ ap (λ (i : Item). first_byte (pieces i.range)) c.self.view_is) c.requires c.if-self-first.true c.if-self-ne42.true
+returns-then-self-ne42 c =
+    other_first c.args.scheme c.args.self.now.range c.args.tag.now c.self.inside.first c.args.first
+    (c.self.invariant.2 ∙ ap (λ (i : Item). first_byte (pieces i.range)) c.self.view_is) c.requires
+    c.if-self-first.true c.if-self-ne42.true

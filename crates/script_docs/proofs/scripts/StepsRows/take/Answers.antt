@@ -14,5 +14,7 @@ returns-clause-ok c = λ before at held.
     let is : Some text ≡ step_in c.args.version d = c.in-Some.ensures.step in
     let read = c.in_ok-step.ensures in (
       step_passes c.args.version before d text is (rw at read.0),
-      rw c.in_ok-push.ensures.items (AreSteps-push c.args.version before d c.args.self.now.steps.items c.in_ok-step.step held (text, sym is, read.1)),
+      rw c.in_ok-push.ensures.items
+          (AreSteps-push c.args.version before d c.args.self.now.steps.items c.in_ok-step.step held
+          (text, sym is, read.1)),
     )

@@ -17,11 +17,19 @@ rows-preserved c =
     let r = c.next_entry.new.reader in
     let e = c.in-Some.ensures in
     let d = cell_value e.row e.label in
-    let reads = row_reads c.take_end_array.new.self e.begins.0 r e.row e.label e.begins.1 e.begins.2 in
-    let less : length r < length c.rows.reader = rw (← going.1) (entry_shorter c.take_end_array.new.self e.begins.0 r e.row e.label e.begins.1 e.begins.2) in
-    let turn = item_read p inv.0 c.rows.reader r d (omega (arith, inv.2, less)) going.0 (rw (← going.1) reads) in
+    let reads =
+    row_reads c.take_end_array.new.self e.begins.0 r e.row e.label e.begins.1 e.begins.2 in
+    let less : length r < length c.rows.reader =
+    rw (← going.1)
+    (entry_shorter c.take_end_array.new.self e.begins.0 r e.row e.label e.begins.1 e.begins.2)
+    in
+    let turn =
+    item_read p inv.0 c.rows.reader r d (omega (arith, inv.2, less)) going.0
+    (rw (← going.1) reads) in
     let above = c.if-not-put_above.ensures refl in
-    let next = entry_taken inv.1 c.rows.cells c.put_above.new.cells e.row e.label (entry_by c.in-Some.entry) e.begins.1.fits e.passes e.is inv.4 inv.5 above.0 above.1 in (
+    let next =
+    entry_taken inv.1 c.rows.cells c.put_above.new.cells e.row e.label
+    (entry_by c.in-Some.entry) e.begins.1.fits e.passes e.is inv.4 inv.5 above.0 above.1 in (
       inv.0 - 1,
       inv.1 ++ d ∷ [],
       omega (arith, inv.2, less),

@@ -12,7 +12,8 @@ use Rattle.site_docs.proofs.document.as_written.next_rows.Given as goal
 abbrev pub invariant-rows : goal.invariant-rows
 invariant-rows l =
     (n : ℕ) × (front : List Data) × (length l.reader ≤ n)
-    × (converted of_items (items (value 125) (length l.fn.reader) l.fn.reader) ≡ parse_map (before front) (converted of_items (items (value 125) n l.reader)))
+    × (converted of_items (items (value 125) (length l.fn.reader) l.fn.reader)
+    ≡ parse_map (before front) (converted of_items (items (value 125) n l.reader)))
     × AllPass (rows_checks (cell_checks Two) [] front)
     × MakesEntries (entry_in Two) front l.cells
     × (length l.reader ≤ length l.fn.reader)

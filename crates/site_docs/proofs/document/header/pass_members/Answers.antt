@@ -22,8 +22,13 @@ returns-in-Err-clause-read c =
     let inv = c.members.invariant in
     let name = c.in-Some.field-0.now in
     let s = c.next_name.new.reader in
-    let named : read_key c.members.reader ≡ Some (Some name, s) = rw c.in-Some.is at c.in_ok-next_name.ensures in
-    (refl, inv.3 ∙ member_refused (value 125) inv.1 inv.0 name c.members.reader s named (not_skipped 125 s c.in-Err.ensures.value))
+    let named : read_key c.members.reader ≡ Some (Some name, s) =
+    rw c.in-Some.is at c.in_ok-next_name.ensures in (
+      refl,
+      inv.3
+          ∙ member_refused (value 125) inv.1 inv.0 name c.members.reader s named
+          (not_skipped 125 s c.in-Err.ensures.value),
+    )
 
 pub members-preserved : goal.members-preserved
 members-preserved c =
@@ -31,14 +36,18 @@ members-preserved c =
     let name = c.in-Some.field-0.now in
     let s = c.next_name.new.reader in
     let r = c.skip_value.new.self in
-    let named : read_key c.members.reader ≡ Some (Some name, s) = rw c.in-Some.is at c.in_ok-next_name.ensures in
-    let next = skipped 125 s r (range_behind_key c.members.reader (Some name) s named inv.4) c.in-Ok.ensures.value in
+    let named : read_key c.members.reader ≡ Some (Some name, s) =
+    rw c.in-Some.is at c.in_ok-next_name.ensures in
+    let next =
+    skipped 125 s r (range_behind_key c.members.reader (Some name) s named inv.4)
+    c.in-Ok.ensures.value in
     let less = read_key-shorter c.members.reader (Some name) s named in
     let more = c.in-Ok.ensures.shorter in (
       inv.0 - 1,
       put name next.0 inv.1,
       omega (arith, inv.2),
-      inv.3 ∙ member_read (value 125) inv.1 inv.0 name c.members.reader s r next.0 (omega (arith, inv.2)) named next.1,
+      inv.3 ∙ member_read (value 125) inv.1 inv.0 name c.members.reader s r next.0
+          (omega (arith, inv.2)) named next.1,
       next.2,
       omega (arith, inv.5),
     )
@@ -46,5 +55,9 @@ members-preserved c =
 pub returns-clause-read : goal.returns-clause-read
 returns-clause-read c =
     let inv = c.members.invariant in
-    let over : read_key c.members.reader ≡ Some (None, c.next_name.new.reader) = rw c.in_default.is at c.in_ok-next_name.ensures in
-    (inv.1, inv.3 ∙ members_over (value 125) inv.1 inv.0 c.members.reader c.next_name.new.reader inv.2 over)
+    let over : read_key c.members.reader ≡ Some (None, c.next_name.new.reader) =
+    rw c.in_default.is at c.in_ok-next_name.ensures in (
+      inv.1,
+      inv.3
+          ∙ members_over (value 125) inv.1 inv.0 c.members.reader c.next_name.new.reader inv.2 over,
+    )

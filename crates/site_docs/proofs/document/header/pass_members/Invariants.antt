@@ -9,7 +9,9 @@ use Rattle.site_docs.proofs.document.header.pass_members.Given as goal
 abbrev pub invariant-members : goal.invariant-members
 invariant-members l =
     (n : ℕ) × (found : Members) × (length l.reader ≤ n)
-    × (converted (λ ms. of_members ms no_members) (members (value 125) (length l.fn.reader) l.fn.reader) ≡ converted (λ ms. of_members ms found) (members (value 125) n l.reader))
+    × (converted (λ ms. of_members ms no_members)
+    (members (value 125) (length l.fn.reader) l.fn.reader)
+    ≡ converted (λ ms. of_members ms found) (members (value 125) n l.reader))
     × (are_in_range l.reader ≡ true)
     × (length l.reader ≤ length l.fn.reader)
 

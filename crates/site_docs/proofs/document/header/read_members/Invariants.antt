@@ -10,7 +10,9 @@ use Rattle.site_docs.proofs.document.header.read_members.Given as goal
 abbrev pub invariant-members : goal.invariant-members
 invariant-members g l =
     (n : ℕ) × (found : Members) × (length l.reader ≤ n)
-    × (converted (λ ms. of_members ms no_members) (members (value 126) (length l.fn.reader) l.fn.reader) ≡ converted (λ ms. of_members ms found) (members (value 126) n l.reader))
+    × (converted (λ ms. of_members ms no_members)
+    (members (value 126) (length l.fn.reader) l.fn.reader)
+    ≡ converted (λ ms. of_members ms found) (members (value 126) n l.reader))
     × Shows l.kind (g.R.Rows.Checks l.version) (g.R.Rows.Holds l.version) l.header l.rows found
     × (are_in_range l.reader ≡ true)
     × (length l.reader ≤ length l.fn.reader)

@@ -17,14 +17,26 @@ stamps-preserved c =
           let there = sym w.in-Some.ensures in
           let wrote = w.in_ok-write_told.ensures in
           record {
-            rows = rw w.draft-is (stamp_more c.stamps.draft w.write_told.new.out c.args.summary.now.owner stamps c.stamps.place told c.stamps.invariant.rows wrote.tokens there);
-            kept = kept_next IsKeptStamp stamps c.stamps.place told there c.stamps.invariant.kept wrote.kept;
+            rows =
+                rw w.draft-is
+                (stamp_more c.stamps.draft w.write_told.new.out c.args.summary.now.owner stamps
+                c.stamps.place told c.stamps.invariant.rows wrote.tokens there);
+            kept =
+                kept_next IsKeptStamp stamps c.stamps.place told there c.stamps.invariant.kept
+                wrote.kept;
           }
-      | in_default w ↦ absurd (some_at stamps c.stamps.place (rw c.len-place-end.ensures.len at c.stamps-test.true) (sym w.in_default.ensures))
+      | in_default w ↦
+          absurd
+          (some_at stamps c.stamps.place (rw c.len-place-end.ensures.len at c.stamps-test.true)
+          (sym w.in_default.ensures))
     ]
 
 -- all stamps are written
 pub returns-clause-kept : goal.returns-clause-kept
 returns-clause-kept c =
     let all : c.stamps.place ≡ length c.args.summary.now.stamps = omega arith in
-    record { each = rw (all, take-length) at c.stamps.invariant.kept; map = c.len-place-end.ensures.sorted }
+    record {
+      each = rw (all, take-length) at c.stamps.invariant.kept;
+      map =
+          c.len-place-end.ensures.sorted;
+    }

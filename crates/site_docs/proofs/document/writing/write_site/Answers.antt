@@ -17,9 +17,12 @@ returns-clause-reads c =
     let held = c.in_ok-draft.ensures in
     let name = subst IsSiteName c.name.ensures c.as_str.ensures.name in
     let kept = subst AreKeptCells c.catalogue.ensures held.kept in
-    let same = ap₂ (λ n cells. text (site_value n (cells_values cells))) (c.as_str.ensures.text ∙ c.name.ensures) c.catalogue.ensures in
+    let same =
+    ap₂ (λ n cells. text (site_value n (cells_values cells)))
+    (c.as_str.ensures.text ∙ c.name.ensures) c.catalogue.ensures in
     let closed = c.close_site.ensures in
     written_reads (site_text site) (λ doc. ReadsAsSite doc site) c.close_site.result
-    (IfOk-weaker c.close_site.result _ _ (λ _ is. is ∙ same) (closed.text (cells_values c.catalogue.result.now) held.rows))
+    (IfOk-weaker c.close_site.result _ _ (λ _ is. is ∙ same)
+    (closed.text (cells_values c.catalogue.result.now) held.rows))
     (IfOk-weaker c.close_site.result _ _ (λ _ utf8. utf8 held.rows.0) closed.utf8)
     (site_again site name kept)

@@ -11,7 +11,14 @@ use Rattle.site_docs.proofs.row.entries.write_entry.Goals as goal
 pub returns-in-Some-clause-tokens : goal.returns-in-Some-clause-tokens
 returns-in-Some-clause-tokens c =
     let label : Some c.in-Some.label.now ≡ c.args.cell.now.label = c.in-Some.ensures in
-    rw (← label) (rw (c.as_str.ensures.text, c.as_str-2.ensures.text, c.as_str-3.ensures.text, c.texts.ensures.texts, c.stamp-stamp.ensures) at c.write_cell.ensures)
+    rw (← label)
+    (rw (
+      c.as_str.ensures.text,
+      c.as_str-2.ensures.text,
+      c.as_str-3.ensures.text,
+      c.texts.ensures.texts,
+      c.stamp-stamp.ensures,
+    ) at c.write_cell.ensures)
 
 -- its label is one, and the rest is as all have it
 pub returns-in-Some-clause-kept : goal.returns-in-Some-clause-kept
@@ -26,4 +33,9 @@ returns-in-Some-clause-kept c =
       site = c.as_str-3.ensures.name;
       count = omega (arith, fits);
     } in
-    IfOk-weaker c.write_cell.result _ _ (λ _ _. (subst (IsKept key) c.stamp-stamp.ensures kept, subst IsLabelText label c.texts.ensures.label)) c.write_cell.ensures
+    IfOk-weaker c.write_cell.result _ _
+    (λ _ _. (
+      subst (IsKept key) c.stamp-stamp.ensures kept,
+      subst IsLabelText label
+          c.texts.ensures.label,
+    )) c.write_cell.ensures

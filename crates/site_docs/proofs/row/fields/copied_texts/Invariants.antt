@@ -5,4 +5,5 @@ use Rattle.json_docs.specs.Reads.{seen}
 use Rattle.site_docs.proofs.row.fields.copied_texts.Given as goal
 
 abbrev pub invariant-values : goal.invariant-values
-invariant-values l = map string_bytes l.texts.items ≡ filter_map as_str (map seen (take l.value-index l.values))
+invariant-values l =
+    map string_bytes l.texts.items ≡ filter_map as_str (map seen (take l.value-index l.values))

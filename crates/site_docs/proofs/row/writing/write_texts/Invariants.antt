@@ -6,4 +6,6 @@ use Rattle.site_docs.specs.Written.{texts_of}
 use Rattle.site_docs.proofs.row.writing.write_texts.Given as goal
 
 abbrev pub invariant-texts : goal.invariant-texts
-invariant-texts l = Adds l.fn.out l.out (begin_array ∷ row_tokens (map string (texts_of (take l.text-index l.texts))))
+invariant-texts l =
+    Adds l.fn.out l.out
+    (begin_array ∷ row_tokens (map string (texts_of (take l.text-index l.texts))))

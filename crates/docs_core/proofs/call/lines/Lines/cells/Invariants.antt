@@ -5,4 +5,7 @@ use Rattle.docs_core.proofs.call.lines.Lines.cells.Given as goal
 
 -- the lines of the cells so far
 abbrev pub invariant-cells : goal.invariant-cells
-invariant-cells l = l.written ≡ (l.fn.self ++ line (codes "cells" ++ 32 ∷ decimal (length l.cells))) ++ flat_map cell_line (take l.place l.cells)
+invariant-cells l =
+    l.written
+    ≡ (l.fn.self ++ line (codes "cells" ++ 32 ∷ decimal (length l.cells)))
+    ++ flat_map cell_line (take l.place l.cells)

@@ -6,4 +6,7 @@ use Rattle.docs_core.proofs.call.lines.Lines.filter.Given as goal
 -- the lines of the languages so far
 abbrev pub invariant-entries : goal.invariant-entries
 invariant-entries g l =
-    l.written ≡ (l.fn.self ++ line (codes "filter" ++ 32 ∷ decimal (length (g.W.Weights.weighed l.entries)))) ++ flat_map weighed_line (take l.place (g.W.Weights.weighed l.entries))
+    l.written
+    ≡ (l.fn.self
+    ++ line (codes "filter" ++ 32 ∷ decimal (length (g.W.Weights.weighed l.entries))))
+    ++ flat_map weighed_line (take l.place (g.W.Weights.weighed l.entries))

@@ -10,8 +10,10 @@ returns-clause-ok c = λ before is makes.
     let version = c.args.version in
     let own = c.in_ok-id.ensures in
     let above = c.if-not-is_above_all.ensures.0 refl in (
-      passes_row (entry_in version) (own_cell_checks version) before c.args.place d c.args.self.now _ _ is makes own.1 (key_of_cell _ _) own.0 above,
-      MakesEntries-push (entry_in version) before c.args.self.now c.push.new.self d _ makes own.1 above (c.in_ok-push.ensures.ok),
+      passes_row (entry_in version) (own_cell_checks version) before c.args.place d c.args.self.now
+          _ _ is makes own.1 (key_of_cell _ _) own.0 above,
+      MakesEntries-push (entry_in version) before c.args.self.now c.push.new.self d _ makes own.1
+          above (c.in_ok-push.ensures.ok),
     )
 
 pub returns-then-not-is_above_all-clause-err : goal.returns-then-not-is_above_all-clause-err
@@ -19,4 +21,6 @@ returns-then-not-is_above_all-clause-err c = inr (λ before is makes.
     let d = seen c.args.row.now in
     let version = c.args.version in
     let own = c.in_ok-id.ensures in
-    fails_row (entry_in version) (own_cell_checks version) before c.args.place d c.args.self.now _ _ is makes own.1 (key_of_cell _ _) own.0 (λ above. let never : false ≡ true = c.if-not-is_above_all.ensures.1 above in absurd (cc)))
+    fails_row (entry_in version) (own_cell_checks version) before c.args.place d c.args.self.now _ _
+    is makes own.1 (key_of_cell _ _) own.0
+    (λ above. let never : false ≡ true = c.if-not-is_above_all.ensures.1 above in absurd (cc)))

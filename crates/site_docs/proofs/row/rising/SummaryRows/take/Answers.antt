@@ -11,8 +11,10 @@ returns-clause-ok c = λ before is makes.
     let version = c.args.version in
     let own = c.in_ok-id.ensures in
     let above = c.if-not-is_above_all.ensures.0 refl in (
-      passes_row (told_in version) (own_stamp_checks version) before c.args.place d c.args.self.now.stamps _ _ is makes own.1 (key_of_stamp _ _) own.0 above,
-      MakesEntries-push (told_in version) before c.args.self.now.stamps c.push.new.self.stamps d _ makes own.1 above (ap (λ (s : SummaryState). s.stamps) c.in_ok-push.ensures.ok),
+      passes_row (told_in version) (own_stamp_checks version) before c.args.place d
+          c.args.self.now.stamps _ _ is makes own.1 (key_of_stamp _ _) own.0 above,
+      MakesEntries-push (told_in version) before c.args.self.now.stamps c.push.new.self.stamps d _
+          makes own.1 above (ap (λ (s : SummaryState). s.stamps) c.in_ok-push.ensures.ok),
     )
 
 pub returns-then-not-is_above_all-clause-err : goal.returns-then-not-is_above_all-clause-err
@@ -20,4 +22,6 @@ returns-then-not-is_above_all-clause-err c = inr (λ before is makes.
     let d = seen c.args.row.now in
     let version = c.args.version in
     let own = c.in_ok-id.ensures in
-    fails_row (told_in version) (own_stamp_checks version) before c.args.place d c.args.self.now.stamps _ _ is makes own.1 (key_of_stamp _ _) own.0 (λ above. let never : false ≡ true = c.if-not-is_above_all.ensures.1 above in absurd (cc)))
+    fails_row (told_in version) (own_stamp_checks version) before c.args.place d
+    c.args.self.now.stamps _ _ is makes own.1 (key_of_stamp _ _) own.0
+    (λ above. let never : false ≡ true = c.if-not-is_above_all.ensures.1 above in absurd (cc)))
