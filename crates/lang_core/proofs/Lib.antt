@@ -24,3 +24,4 @@ pub mod LookupLaws
 pub mod TruncationSteps
 pub mod LangLaws
 pub mod LowerTextLemmas
+pub mod ShortTextLemmas

@@ -17,4 +17,5 @@ pub mod Choice
 pub mod LookupText
 pub mod Fronts
 pub mod LowerText
+pub mod ShortText
 pub mod Kept

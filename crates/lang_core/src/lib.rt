@@ -31,6 +31,7 @@ mod matching;
 mod pieces;
 mod range;
 mod range_syntax;
+mod short_text;
 mod stage;
 mod subtag;
 mod subtags;

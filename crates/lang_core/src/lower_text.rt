@@ -1,13 +1,14 @@
 //! Texts of a length that tags and ranges may have.
-ghost use Rattle.std.specs.Prelude.{◌≡◌, ◌==◌, ◌≤◌, length, position, MatchResult, IfOk, IsErr};
+ghost use Rattle.std.specs.Prelude.{◌≡◌, MatchResult, IfOk, IsErr};
 ghost use Rattle.std.specs.String.{string_bytes};
 ghost use Rattle.std.specs.Str.{IsAscii, bytes_eq, str_to_ascii_lowercase};
 ghost use Rattle.std.specs.Ordering.{nat_cmp};
 ghost use Rattle.std.specs.Cmp.Lexicographic.{slice_cmp};
 ghost use Rattle.lang_core.specs.declared.fault.LangFault.TheVariants.{NoMemory};
-ghost use Rattle.lang_core.specs.LowerText.{IsPlain, filled, unfilled, IsFilled, TakesMemory};
+ghost use Rattle.lang_core.specs.LowerText.{IsPlain, TakesMemory};
 
 use crate::fault::LangFault;
+use crate::short_text::{MAX_SHORT_LEN, ShortText};
 use std::alloc::{AllocError, Global};
 use std::cmp::Ordering;
 use std::fmt;
@@ -15,9 +16,6 @@ use std::marker::Model;
 
 /// The most bytes of a tag or a range.
 pub(crate) const MAX_LEN: usize = 255;
-
-/// The most bytes of a text that takes no memory.
-const MAX_SHORT_LEN: usize = 16;
 
 /// A text in lower case of ASCII bytes other than zero.
 #[derive(Drop)]
@@ -45,7 +43,7 @@ impl LowerText {
             (λ fault. (fault ≡ NoMemory) × TakesMemory (str_to_ascii_lowercase bytes.now)) }
     {
         let kept = if bytes.len() <= MAX_SHORT_LEN {
-            Kept::Short(lower_short(bytes))
+            Kept::Short(ShortText::lower(bytes))
         } else {
             Kept::Long(lower_long(alloc, bytes)?)
         };
@@ -57,7 +55,7 @@ impl LowerText {
         ensures { result.now ≡ self.now }
     {
         match &self.kept {
-            Kept::Short(bytes) => short_text(bytes),
+            Kept::Short(text) => text.as_str(),
             Kept::Long(text) => text.as_str(),
         }
     }
@@ -75,7 +73,7 @@ impl LowerText {
         ensures memory { IsErr result → TakesMemory self.now }
     {
         let kept = match &self.kept {
-            Kept::Short(bytes) => Kept::Short(*bytes),
+            Kept::Short(text) => Kept::Short(*text),
             Kept::Long(text) => Kept::Long(String::from_str(alloc, text.as_str())?),
         };
         Ok(LowerText { kept })
@@ -86,7 +84,7 @@ impl LowerText {
         ensures { result ≡ bytes_eq self.now other.now }
     {
         match (&self.kept, &other.kept) {
-            (Kept::Short(bytes), Kept::Short(other_bytes)) => bytes == other_bytes,
+            (Kept::Short(text), Kept::Short(other_text)) => text.equals(other_text),
             _ => self.as_str() == other.as_str(),
         }
     }
@@ -96,7 +94,7 @@ impl LowerText {
         ensures { result ≡ slice_cmp nat_cmp self.now other.now }
     {
         match (&self.kept, &other.kept) {
-            (Kept::Short(bytes), Kept::Short(other_bytes)) => bytes.cmp(other_bytes),
+            (Kept::Short(text), Kept::Short(other_text)) => text.compare(other_text),
             _ => self.as_str().cmp(other.as_str()),
         }
     }
@@ -111,31 +109,8 @@ impl fmt::Debug for LowerText {
 /// A short text lies in the value itself, as most tags are short.
 #[derive(Drop)]
 enum Kept {
-    // The text with zero bytes after it. No text has a zero byte, so the arrays are in the order of
-    // the texts, and are compared in place of them.
-    Short([u8; MAX_SHORT_LEN]),
+    Short(ShortText),
     Long(String),
-}
-
-/// A short text in lower case, with zero bytes after it.
-fn lower_short(bytes: &[u8]) -> [u8; MAX_SHORT_LEN]
-    requires { length bytes.now ≤ 16 }
-    ensures { result ≡ filled (str_to_ascii_lowercase bytes.now) }
-{
-    let mut short = fill(bytes);
-    // All of it at once, as its length is known.
-    short.make_ascii_lowercase();
-    short
-}
-
-/// A short text with zero bytes after it.
-fn fill(text: &[u8]) -> [u8; MAX_SHORT_LEN]
-    requires { length text.now ≤ 16 }
-    ensures { result ≡ filled text.now }
-{
-    let mut bytes = [0; MAX_SHORT_LEN];
-    bytes[..text.len()].copy_from_slice(text);
-    bytes
 }
 
 /// An ASCII text in lower case, by one allocation.
@@ -150,29 +125,4 @@ fn lower_long(alloc: Global, bytes: &[u8]) -> Result<String, LangFault>
     let mut lower = String::from_str(alloc, text)?;
     lower.make_ascii_lowercase();
     Ok(lower)
-}
-
-/// The text before the zero bytes.
-fn short_text(bytes: &[u8; MAX_SHORT_LEN]) -> &str
-    requires { IsFilled bytes.now }
-    ensures { result.now ≡ unfilled bytes.now }
-{
-    let len = unfilled_len(bytes);
-    // The text is ASCII, and so UTF-8.
-    unsafe { str::from_utf8_unchecked(&bytes[..len]) }
-}
-
-/// How many bytes come before the zero bytes.
-fn unfilled_len(bytes: &[u8; MAX_SHORT_LEN]) -> usize
-    ensures text { result ≡ length (unfilled bytes.now) }
-    ensures bound { result ≤ 16 }
-{
-    first_zero(bytes).unwrap_or(MAX_SHORT_LEN)
-}
-
-/// The place of the first zero byte.
-fn first_zero(bytes: &[u8]) -> Option<usize>
-    ensures { result ≡ position (λ b. b == 0) bytes.now }
-{
-    bytes.iter().position(|b| *b == 0)
 }

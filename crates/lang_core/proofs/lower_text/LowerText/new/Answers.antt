@@ -1,9 +1,8 @@
-use Rattle.std.proofs.Common.{ℕ, ◌≡◌, ◌≤◌, ◌<◌, List, length, sym, subst, arith}
+use Rattle.std.proofs.Common.{ℕ, ◌≡◌, ◌<◌, List, length, arith}
 use Rattle.std.specs.Str.{str_to_ascii_lowercase}
 use Rattle.std.specs.Char.{to_ascii_lowercase}
 use Rattle.std.proofs.lemmas.List.{length-map}
-use Rattle.lang_core.specs.LowerText.{IsFilled}
-use Rattle.lang_core.proofs.LowerTextLemmas.{plain-lower, IsFilled-filled, unfilled-filled}
+use Rattle.lang_core.proofs.LowerTextLemmas.{plain-lower}
 use Rattle.lang_core.proofs.lower_text.LowerText.new.Goals as goal
 use Rattle.lang_core.proofs.lower_text.LowerText.new.Goals.{then-bytes-le-MAX_SHORT_LEN}
 use Rattle.lang_core.proofs.lower_text.LowerText.new.Goals.{else-bytes-le-MAX_SHORT_LEN+in_ok-lower_long}
@@ -18,11 +17,7 @@ pub invariant_of-result : goal.invariant_of-result
 invariant_of-result c =
     let lower : List ℕ = str_to_ascii_lowercase c.args.bytes.now in
     elim c.if-bytes-le-MAX_SHORT_LEN.branch [
-      | then-bytes-le-MAX_SHORT_LEN w ↦
-          (let short : length lower ≤ 16 =
-          omega (arith, lower_size c.args.bytes.now, w.if-bytes-le-MAX_SHORT_LEN.true) in
-          rw w.kept-is
-          (subst IsFilled (sym w.lower_short.ensures) (IsFilled-filled lower short c.requires)))
+      | then-bytes-le-MAX_SHORT_LEN w ↦ rw w.kept-is tt
       | else-bytes-le-MAX_SHORT_LEN+in_ok-lower_long w ↦
           (let long : 16 < length lower =
           omega (arith, lower_size c.args.bytes.now, w.if-bytes-le-MAX_SHORT_LEN.false) in
@@ -31,9 +26,7 @@ invariant_of-result c =
 
 pub returns : goal.returns
 returns c =
-    let lower : List ℕ = str_to_ascii_lowercase c.args.bytes.now in
     elim c.if-bytes-le-MAX_SHORT_LEN.branch [
-      | then-bytes-le-MAX_SHORT_LEN w ↦
-          rw w.kept-is (rw w.lower_short.ensures (unfilled-filled lower c.requires))
+      | then-bytes-le-MAX_SHORT_LEN w ↦ rw w.kept-is w.lower.ensures
       | else-bytes-le-MAX_SHORT_LEN+in_ok-lower_long w ↦ rw w.kept-is w.in_ok-lower_long.ensures
     ]
