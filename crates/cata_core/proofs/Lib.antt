@@ -23,6 +23,7 @@ pub mod LastKeys
 pub mod LatestStamps
 pub mod LatestTaken
 pub mod LeastDeltas
+pub mod LanguageLemmas
 pub mod Lengths
 pub mod LentLists
 pub mod LiveLabels

@@ -26,7 +26,11 @@ use Rattle.nego_core.proofs.Rising.{not_both}
 use Rattle.nego_core.proofs.WideningLemmas.{found_there}
 use Rattle.cell_core.specs.Maps.{IsMap}
 use Rattle.cata_core.specs.Entries.{text_cmp}
-use Rattle.cata_core.specs.Asking.{Finds, IsChosenBy}
+use Rattle.nego_core.specs.Shortlist.{IsChosenBy as IsChosenAmong, IsThere}
+use Rattle.cata_core.specs.declared.reply.Reply.{Reply}
+use Rattle.cata_core.specs.declared.reply.Reply.TheVariants.{Matched, Default, Nothing}
+use Rattle.cata_core.specs.Asking.{Finds, IsChosenBy, IsLookedUpBy}
+use Rattle.cata_core.specs.LiveReplies.{IsReplyTo}
 use Rattle.cata_core.specs.Live.{Labelled, languages, is_live}
 use Rattle.cata_core.proofs.Basics.{false_if, first_part, less_than, second_part, tied}
 use Rattle.cata_core.proofs.NestedCatalogues.{text_exact}
@@ -87,6 +91,42 @@ chosen_by scheme labels items default choice.Nothing h = (
   subst (λ (held : List ℕ → Bool). ¬ HasOpenDefault items held default) (same_sets labels)
       h.1,
 )
+
+-- what is chosen among the languages is chosen among the labels
+pub chosen_within : (widening : Widening) (labels : Labelled) (items : List Item)
+    (default : Option (List ℕ)) (c : Choice)
+    → IsChosenAmong widening items (languages labels) default c
+    → IsChosenBy widening labels items default c
+chosen_within Off labels items default c h = chosen_off labels items default c
+    (subst (λ (held : List ℕ → Bool). IsChosen items held default c) (same_sets labels) h)
+chosen_within (By scheme) labels items default c h = chosen_by scheme labels items default c h
+
+-- what is chosen is live
+pub chosen_there : (widening : Widening) (labels : Labelled) (items : List Item)
+    (default : Option (List ℕ)) (c : Choice) → IsChosenBy widening labels items default c
+    → IsThere (languages labels) default c
+chosen_there widening labels items default (choice.Matched text) h =
+    among_live labels text.now ∙ found_live widening labels items text.now h
+chosen_there widening labels items None choice.Default h = absurd h.1
+chosen_there widening labels items (Some lang) choice.Default h = among_live labels lang ∙ h.1.0
+chosen_there widening labels items default choice.Nothing h = tt
+
+-- the reply to a choice is the answer
+pub replied : (widening : Widening) (labels : Labelled) (items : List Item)
+    (default : Option (List ℕ)) (c : Choice) (reply : Reply)
+    → IsChosenBy widening labels items default c → IsReplyTo labels default c reply
+    → IsLookedUpBy widening labels items default reply
+replied widening labels items default (choice.Matched text) (Matched lang label) h r =
+    (subst (λ t. Finds widening labels items (Some (pieces t))) (sym r.0) h, r.1)
+replied widening labels items default (choice.Matched text) (Default lang label) h r = absurd r
+replied widening labels items default (choice.Matched text) Nothing h r = absurd r
+replied widening labels items default choice.Default (Matched lang label) h r = absurd r
+replied widening labels items default choice.Default (Default lang label) h r =
+    (h.0, h.1, r.0, r.1)
+replied widening labels items default choice.Default Nothing h r = absurd r
+replied widening labels items default choice.Nothing (Matched lang label) h r = absurd r
+replied widening labels items default choice.Nothing (Default lang label) h r = absurd r
+replied widening labels items default choice.Nothing Nothing h r = h
 
 -- ---- the least that passes
 

@@ -16,6 +16,7 @@ pub mod Equality
 pub mod Faulty
 pub mod Flat
 pub mod Held
+pub mod Languages
 pub mod Latest
 pub mod Lent
 pub mod LentAnswers
@@ -24,6 +25,7 @@ pub mod Live
 pub mod LiveIn
 pub mod LiveLeft
 pub mod LiveMessages
+pub mod LiveReplies
 pub mod MessagesLeft
 pub mod Migration
 pub mod Nested

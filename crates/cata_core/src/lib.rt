@@ -2,7 +2,9 @@
 //!
 //! - [`Catalogue`] maps messages and languages to cells, and keeps of each key the edit with the
 //!   greatest stamp. [`Catalogue::ask_lookup`] and [`Catalogue::ask_filter`] answer a reader, and
-//!   [`Catalogue::messages`] lends each [`Message`] that has a live label.
+//!   [`Catalogue::messages`] lends each [`Message`] that has a live label. A list that is cut to
+//!   [`Catalogue::languages`] answers all of them at the cost of few ranges
+//!   ([`Message::lookup_within`]).
 //! - [`Site`] is a catalogue with a name: it puts and deletes labels under stamps of its own.
 //! - Sites exchange cells whole by [`sync`], or by a [`Summary`] of what one has and the [`Delta`]
 //!   of what it lacks, which may come late, again, or out of order.
@@ -33,6 +35,7 @@ mod edit;
 mod entries;
 mod equality;
 mod labels;
+mod languages;
 mod latest;
 pub mod laws;
 mod live;
@@ -56,6 +59,7 @@ pub use delta::Delta;
 pub use edit::Edit;
 pub use entries::{Entries, LentEntries};
 pub use labels::Labels;
+pub use languages::list_languages;
 pub use messages::{Message, Messages};
 pub use play_fault::PlayFault;
 pub use reply::{LentReply, Reply};

@@ -16,7 +16,7 @@ use crate::reply::LentReply;
 use cell_core::{Cell, Keyed, Label};
 use lang_core::Lang;
 use nego_core::{
-    Choice, Holds, Languages, PriorityList, RangeTest, Widening, choose, choose_widened,
+    Choice, Holds, Languages, PriorityList, RangeTest, Shortlist, Widening, choose, choose_widened,
 };
 
 /// The live labels of a message, which a lookup searches by their languages' texts.
@@ -31,6 +31,8 @@ impl<'a> Live<'a> {
     ghost use Rattle.cata_core.specs.Flat.{inner_of};
     ghost use Rattle.cata_core.specs.LentAnswers.{reply_of};
     ghost use Rattle.cata_core.specs.LiveIn.{live_in};
+    ghost use Rattle.cata_core.specs.LiveReplies.{IsReplyTo};
+    ghost use Rattle.nego_core.specs.Shortlist.{AreAmong, IsThere};
 
     /// The live labels of these cells.
     pub(crate) fn new(cells: Option<&'a Keyed<Lang, Cell>>) -> Live<'a>
@@ -59,7 +61,29 @@ impl<'a> Live<'a> {
         ensures { IsLookedUpBy widening (live_in self.now) list.now
             (option_map (λ l. l.now) default.entry) (reply_of result) }
     {
-        match self.choose(list, widening, default) {
+        self.reply(self.choose(list, widening, default), default)
+    }
+
+    /// The same by a shortlist, of languages that have all of the live labels.
+    pub(crate) fn look_up_within(
+        &self,
+        shortlist: &Shortlist<'_>,
+        default: Option<&Lang>,
+    ) -> LentReply<'a>
+        ensures { AreAmong (languages (live_in self.now)) shortlist.now.langs
+            → IsLookedUpBy shortlist.now.widening (live_in self.now) shortlist.now.items
+            (option_map (λ l. l.now) default.entry) (reply_of result) }
+    {
+        self.reply(shortlist.choose(self, default), default)
+    }
+
+    /// The choice, with its label.
+    fn reply(&self, choice: Choice<'_>, default: Option<&Lang>) -> LentReply<'a>
+        requires { IsThere (languages (live_in self.now)) (option_map (λ l. l.now) default) choice }
+        ensures { IsReplyTo (live_in self.now) (option_map (λ l. l.now) default.entry) choice.entry
+            (reply_of result) }
+    {
+        match choice {
             Choice::Matched(text) => match self.label(text) {
                 Some((lang, label)) => LentReply::Matched(lang, label),
                 None => unreachable!(),

@@ -10,7 +10,7 @@ use crate::live::Live;
 use crate::reply::LentReply;
 use cell_core::{Cell, Iter, Keyed, Label, MessageId};
 use lang_core::Lang;
-use nego_core::{PriorityList, Widening};
+use nego_core::{PriorityList, Shortlist, Widening};
 use std::marker::Model;
 
 /// A message with its live labels, borrowed from the catalogue.
@@ -35,7 +35,9 @@ impl<'a> Message<'a> {
     ghost use Rattle.cata_core.specs.Asking.{IsLookedUpBy, IsLookedUpOf};
     ghost use Rattle.cata_core.specs.Entries.{text_cmp};
     ghost use Rattle.cata_core.specs.LentAnswers.{reply_of};
+    ghost use Rattle.cata_core.specs.Live.{languages};
     ghost use Rattle.cata_core.specs.LiveLeft.{labels_left};
+    ghost use Rattle.nego_core.specs.Shortlist.{AreAmong};
 
     /// Its id.
     pub fn id(&self) -> &'a MessageId
@@ -88,6 +90,19 @@ impl<'a> Message<'a> {
             (option_map (λ l. l.now) default.entry) (reply_of result) }
     {
         Live::new(Some(self.cells)).look_up(list, widening, default)
+    }
+
+    /// What [`Message::lookup_by`] answers by the whole list, where the list is cut to languages
+    /// among which are all of its own. For all messages of a catalogue these are its
+    /// [`languages`](crate::Catalogue::languages).
+    ///
+    /// It takes no memory, and tries no more ranges than there are such languages.
+    pub fn lookup_within(&self, shortlist: &Shortlist<'_>, default: Option<&Lang>) -> LentReply<'a>
+        ensures { AreAmong (languages self.now.1) shortlist.now.langs
+            → IsLookedUpBy shortlist.now.widening self.now.1 shortlist.now.items
+            (option_map (λ l. l.now) default.entry) (reply_of result) }
+    {
+        Live::new(Some(self.cells)).look_up_within(shortlist, default)
     }
 }
 

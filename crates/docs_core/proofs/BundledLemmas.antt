@@ -13,14 +13,17 @@ use Rattle.std.specs.FinMap.Entries.{below_all, find, is_sorted}
 use Rattle.cell_core.specs.Maps.{IsMap}
 use Rattle.json.specs.Written.{Written}
 use Rattle.nego_core.specs.Item.{Item}
+use Rattle.nego_core.specs.Shortlist.{AreAmong, IsShortlist, Shortlist}
 use Rattle.nego_core.specs.declared.widening.Widening.{Widening}
 use Rattle.cata_core.specs.Asking.{IsLookedUpBy, IsLookupAnswerBy}
 use Rattle.cata_core.specs.Entries.{Entries, Entry, key_cmp, text_cmp}
-use Rattle.cata_core.specs.Live.{live, live_of}
+use Rattle.cata_core.specs.Languages.{AreLanguages, LanguageMap, texts_in}
+use Rattle.cata_core.specs.Live.{languages, live, live_of}
 use Rattle.cata_core.specs.LiveMessages.{AreMessages, LiveMessage, if_any}
 use Rattle.cata_core.specs.declared.reply.Reply.{Reply}
 use Rattle.cata_core.specs.declared.reply.Reply.TheVariants.{Default, Matched, Nothing}
 use Rattle.cata_core.proofs.Basics.{both_parts, first_part, less_than, second_part, some_same, tied}
+use Rattle.cata_core.proofs.LanguageLemmas.{live_among}
 use Rattle.cata_core.proofs.NestedCatalogues.{text_exact}
 use Rattle.cata_core.proofs.Search.{find_get}
 use Rattle.cata_core.proofs.UniqueAnswers.{one_lookup_answer_by}
@@ -59,7 +62,7 @@ abbrev ids_of : List LiveMessage → List (List ℕ)
 ids_of messages = map (λ m. m.0) messages
 
 -- each has all its live labels
-abbrev AreLive : Entries → List LiveMessage → Type 0
+abbrev pub AreLive : Entries → List LiveMessage → Type 0
 AreLive cells [] = ⊤
 AreLive cells (m ∷ ms) = (m.1 ≡ live cells m.0) × AreLive cells ms
 
@@ -77,7 +80,8 @@ each_live : (cells : Entries) (ms : List LiveMessage)
 each_live cells [] h = tt
 each_live cells (m ∷ ms) h = (h zero m.0 m.1 refl, each_live cells ms (λ i. h (suc i)))
 
-are_live : (cells : Entries) (messages : List LiveMessage) → AreMessages cells messages
+-- the messages of a catalogue have them
+pub are_live : (cells : Entries) (messages : List LiveMessage) → AreMessages cells messages
     → AreLive cells messages
 are_live cells messages are =
     each_live cells messages
@@ -327,6 +331,21 @@ module _ (widening : Widening) (cells : Entries) (items : List Item) (default : 
         (opening_tokens current x ++ label_tokens ((x, lang), label))) same adds)
         (subst (λ (x : List ℕ). IsWritable ((x, lang), label)) same valid))
 
+    -- a message that is not answered is left out
+    pub bundling_passed : (draft : Written) (current : Option (List ℕ)) (m : LiveMessage)
+        (left : List LiveMessage) (reply : Reply)
+        → IsBundling widening cells items default draft current (m ∷ left)
+        → IsLookedUpBy widening m.1 items default reply → None ≡ answered reply
+        → IsBundling widening cells items default draft current left
+    bundling_passed draft current m left reply b is none = record {
+      messages = b.messages;
+      are = b.are;
+      done = b.done;
+      writing = b.writing;
+      looks = λ rest looks.
+          b.looks rest (reply, rest, is, looks, ap (λ o. answered_of m.0 o ++ rest) none);
+    }
+
     pub bundling_last : (draft : Written) (current : Option (List ℕ))
         → IsBundling widening cells items default draft current []
         → (labels : List Labelled) × IsBundleBy widening cells items default labels
@@ -336,6 +355,23 @@ module _ (widening : Widening) (cells : Entries) (items : List Item) (default : 
       bundle_of widening cells items default b.messages (b.done ++ []) b.are (b.looks [] refl),
       b.writing [],
     )
+
+-- ---- a list that is cut to the languages of the catalogue
+
+-- what a message answers by a list that is cut to the languages it answers by the whole list
+pub shortlisted : (widening : Widening) (cells : Entries) (items : List Item)
+    (langs : LanguageMap) (s : Shortlist) (m : LiveMessage) (default : Option (List ℕ))
+    (reply : Reply) (texts : List (List ℕ)) → IsShortlist items widening texts s
+    → texts ≡ texts_in langs → AreLanguages cells langs → m.1 ≡ live cells m.0
+    → (AreAmong (languages m.1) s.langs → IsLookedUpBy s.widening m.1 s.items default reply)
+    → IsLookedUpBy widening m.1 items default reply
+shortlisted widening cells items langs s m default reply texts is all are same found =
+    let among = subst (λ (l : Texts). AreAmong (languages l) (texts_in langs)) (sym same)
+    (live_among cells langs are m.0) in
+    let own = subst (AreAmong (languages m.1)) (sym (is.langs_are ∙ all)) among in
+    subst (λ (w : Widening). IsLookedUpBy w m.1 items default reply) is.widening_is
+    (subst (λ (i : List Item). IsLookedUpBy s.widening m.1 i default reply) is.items_are
+    (found own))
 
 -- ---- they are live labels
 

@@ -18,3 +18,7 @@ pub closed : (Refuses : Type 0) (held : Bool) (h : Bool) → h ≡ held → h �
     ↔ (IsTrue held × ¬ Refuses)
 closed Refuses held h e f =
     ((λ g. absurd (false_true (sym f ∙ g))), (λ p. absurd (false_true (sym f ∙ (e ∙ p.0)))))
+
+-- where nothing is refused the test says so
+pub none_refused : (Refuses : Type 0) → ¬ Refuses → IsTrue false ↔ Refuses
+none_refused Refuses n = ((λ t. absurd (false_true t)), (λ r. absurd (n r)))

@@ -38,3 +38,4 @@ pub mod LookupPlacesLaws
 pub mod LangSetLaws
 pub mod Rising
 pub mod WideningLemmas
+pub mod ShortlistLemmas

@@ -125,12 +125,14 @@ one_matched s langs i a b h g =
 
 -- ---- the first of two lists
 
-none_front : {X : Type 0} (P : X → Type 0) (xs ys : List X) → All P (xs ++ ys) → All P xs
+-- what holds of each of joined lists holds of each of the first
+pub none_front : {X : Type 0} (P : X → Type 0) (xs ys : List X) → All P (xs ++ ys) → All P xs
 none_front P [] ys h = All-nil P
 none_front P (x ∷ xs) ys h =
     All-cons P x xs (All-head P x (xs ++ ys) h) (none_front P xs ys (All-tail P x (xs ++ ys) h))
 
-none_back : {X : Type 0} (P : X → Type 0) (xs ys : List X) → All P (xs ++ ys) → All P ys
+-- and of each of the second
+pub none_back : {X : Type 0} (P : X → Type 0) (xs ys : List X) → All P (xs ++ ys) → All P ys
 none_back P [] ys h = h
 none_back P (x ∷ xs) ys h = none_back P xs ys (All-tail P x (xs ++ ys) h)
 
@@ -154,12 +156,14 @@ split_at P (z ∷ xs) ys (w ∷ before) after x e n p =
       | inr f ↦ inr (All-cons (λ y. ¬ P y) z xs not f.0, f.1)
     ]
 
-first_split : {X : Type 0} (P : X → Type 0) (xs ys : List X) (x : X)
+-- the first of joined lists is that of the first one, or of the second one
+pub first_split : {X : Type 0} (P : X → Type 0) (xs ys : List X) (x : X)
     → MatchFirstOf P (xs ++ ys) (Some x)
     → MatchFirstOf P xs (Some x) ⊎ (MatchFirstOf P xs None × MatchFirstOf P ys (Some x))
 first_split P xs ys x f = split_at P xs ys f.before f.after x f.whole f.none_before f.passes
 
-first_among : {X : Type 0} (P : X → Type 0) (xs : List X) (x : X) → MatchFirstOf P xs (Some x)
+-- the first that passes is one of the list
+pub first_among : {X : Type 0} (P : X → Type 0) (xs : List X) (x : X) → MatchFirstOf P xs (Some x)
     → Contains xs x
 first_among P xs x f =
     subst (λ ys. Contains ys x) (sym f.whole)
@@ -167,7 +171,8 @@ first_among P xs x f =
 
 -- ---- the first open one of an item
 
-abbrev Open : List Item → List (List ℕ) → List (List ℕ) → Type 0
+-- a candidate is among the languages and not refused
+abbrev pub Open : List Item → List (List ℕ) → List (List ℕ) → Type 0
 Open items langs = IsOpen items (is_among langs)
 
 open_lang : (items : List Item) (langs : List (List ℕ)) (lang : List ℕ) → Contains langs lang
@@ -188,7 +193,7 @@ none_fit s items langs i (m ∷ matched) h n =
     (All-tail (λ m. Contains langs m × MatchesLang s i m) m matched h) n)
 
 -- the least that is open is the first in rising order
-least_first : (P : List (List ℕ) → Type 0) (matched : List (List ℕ)) (x : List ℕ)
+pub least_first : (P : List (List ℕ) → Type 0) (matched : List (List ℕ)) (x : List ℕ)
     → Contains matched x → P (pieces x) → AllPairs IsBelow matched
     → All (λ m. P (pieces m) → ¬ IsBelow m x) matched
     → MatchFirstOf P (map pieces matched) (Some (pieces x))
@@ -343,10 +348,11 @@ pub the_item : (s : Scheme) (items : List Item) (langs : List (List ℕ)) (place
 the_item s items langs place i found low e f = rw (stands_at items place i low e) f
 
 -- the widened candidates of items, joined
-abbrev all_widened : (Item → List (List ℕ)) → List Item → List (List (List ℕ))
+abbrev pub all_widened : (Item → List (List ℕ)) → List Item → List (List (List ℕ))
 all_widened m items = flat_map (λ i. widened i (m i)) items
 
-at_place : (s : Scheme) (items : List Item) (langs : List (List ℕ)) (place : ℕ)
+-- what is found at a place is the first of the item there, if there is one
+pub at_place : (s : Scheme) (items : List Item) (langs : List (List ℕ)) (place : ℕ)
     (found : Option (List (List ℕ))) (o : Option Item)
     → slice_get items place ≡ o → IsFirstWidenedAt s items langs place found
     → MatchFirstOf (Open items langs) (all_widened (matched_of s langs) (cons_option o [])) found
@@ -359,7 +365,8 @@ at_place s items langs place found (Some i) e h =
     (sym (append-nil (widened i (matched_of s langs i))))
     (first (matched_of s langs i) (matched_are s langs i))
 
-of_option : (m : Item → List (List ℕ)) (o : Option Item) (rest : List Item)
+-- the widened candidates of an item, if there is one, and those of the others
+pub of_option : (m : Item → List (List ℕ)) (o : Option Item) (rest : List Item)
     → all_widened m (cons_option o rest) ≡ all_widened m (cons_option o []) ++ all_widened m rest
 of_option m None rest = refl
 of_option m (Some i) rest =

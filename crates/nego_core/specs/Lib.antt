@@ -18,3 +18,4 @@ pub mod WidenedChoice
 pub mod Widening
 pub mod Filtering
 pub mod Unweighted
+pub mod Shortlist

@@ -71,6 +71,9 @@ fn is_open_default<H: Holds>(list: &PriorityList, held: &H, lang: &Lang) -> bool
 fn refuses(list: &PriorityList, lang: &Lang) -> bool
     ensures { IsTrue result ↔ RefusesLang scheme.Basic list.now lang.now }
 {
+    if !list.may_refuse() {
+        return false;
+    }
     match list.decision_on(Scheme::Basic, lang) {
         Some(decision) => decision.weight == 0,
         None => false,

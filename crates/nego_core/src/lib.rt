@@ -10,6 +10,8 @@
 //! - [`lookup_widened`] also lets a range find the languages that it matches, as `en` finds en-us.
 //!   [`lookup_by`] does either, as its [`Widening`] says; [`choose_widened`] does so over any
 //!   [`Languages`] that can be searched.
+//! - [`Shortlist`] is a list cut to the items that matter for some languages, so that many lookups
+//!   over these cost the length of a long list once.
 //! - [`NegoFault`] says why a field is refused, and where.
 //!
 //! Of several ranges that match a tag the one with the most subtags other than "*" decides, and
@@ -45,6 +47,7 @@ mod lookup_places;
 mod ordered_text;
 mod priority_list;
 mod scheme;
+mod shortlist;
 mod weight;
 mod widened_choice;
 mod widening;
@@ -58,5 +61,6 @@ pub use lang_set::Holds;
 pub use lookup_places::{Found, lookup};
 pub use priority_list::PriorityList;
 pub use scheme::Scheme;
+pub use shortlist::Shortlist;
 pub use widened_choice::{Languages, RangeTest, choose_widened};
 pub use widening::{Widening, lookup_by, lookup_widened, lookup_widened_lent};

@@ -25,6 +25,22 @@ pub(crate) fn look_up<'a, H: Holds>(list: &'a PriorityList, held: &H) -> Option<
     None
 }
 
+/// The first candidate of the item at the place that is open.
+pub(crate) fn first_at<'a, H: Holds>(
+    list: &'a PriorityList,
+    place: usize,
+    held: &H,
+) -> Option<&'a str>
+    ensures { MatchFirstOf (IsOpen list.now (H.held held.now)) (candidates_at list.now place)
+        (option_map (λ text. pieces text.now) result) }
+{
+    let items = list.items();
+    if place >= items.len() {
+        return None;
+    }
+    first_of(list, items[place].range(), held)
+}
+
 /// The first candidate of the range that is open.
 pub(crate) fn first_of<'a, H: Holds>(
     list: &PriorityList,
@@ -55,18 +71,6 @@ pub(crate) fn named_refuse(list: &PriorityList, text: &str) -> bool
         Some(best) => items[best.place].weight() == 0,
         None => false,
     }
-}
-
-/// The first candidate of the item at the place that is open.
-fn first_at<'a, H: Holds>(list: &'a PriorityList, place: usize, held: &H) -> Option<&'a str>
-    ensures { MatchFirstOf (IsOpen list.now (H.held held.now)) (candidates_at list.now place)
-        (option_map (λ text. pieces text.now) result) }
-{
-    let items = list.items();
-    if place >= items.len() {
-        return None;
-    }
-    first_of(list, items[place].range(), held)
 }
 
 /// Whether the text is in the set and not refused.

@@ -73,6 +73,37 @@ pub fn choose_widened<'a, L: Languages>(
     }
 }
 
+/// The first widened candidate of the item at the place that is open.
+pub(crate) fn first_widened_at<'a, L: Languages>(
+    list: &'a PriorityList,
+    place: usize,
+    scheme: Scheme,
+    langs: &'a L,
+) -> Option<&'a str>
+    ensures { IsFirstWidenedAt scheme list.now (L.texts langs.now) place
+        (option_map (λ text. pieces text.now) result) }
+{
+    let items = list.items();
+    if place >= items.len() {
+        return None;
+    }
+    first_widened(list, &items[place], scheme, langs)
+}
+
+/// The languages, as the set of their texts.
+#[derive(Drop)]
+pub(crate) struct Searched<'a, L> {
+    pub(crate) langs: &'a L,
+}
+
+impl<'a, L: Languages> Holds for Searched<'a, L> {
+    ghost held = { λ s text. is_among (L.texts s.langs.now) text };
+
+    fn holds(&self, lang: &str) -> bool {
+        self.langs.has(lang)
+    }
+}
+
 /// The first widened candidate of the items, in their order by weight, that is open.
 fn look_up_widened<'a, L: Languages>(
     list: &'a PriorityList,
@@ -90,23 +121,6 @@ fn look_up_widened<'a, L: Languages>(
         }
     }
     None
-}
-
-/// The first widened candidate of the item at the place that is open.
-fn first_widened_at<'a, L: Languages>(
-    list: &'a PriorityList,
-    place: usize,
-    scheme: Scheme,
-    langs: &'a L,
-) -> Option<&'a str>
-    ensures { IsFirstWidenedAt scheme list.now (L.texts langs.now) place
-        (option_map (λ text. pieces text.now) result) }
-{
-    let items = list.items();
-    if place >= items.len() {
-        return None;
-    }
-    first_widened(list, &items[place], scheme, langs)
 }
 
 /// The first widened candidate of the item that is open.
@@ -135,19 +149,5 @@ fn matches_lang(item: &Item, scheme: Scheme, lang: &Lang) -> bool
     match lang.tag() {
         Some(tag) => item.matches(scheme, tag, first_byte(tag.as_str())),
         None => false,
-    }
-}
-
-/// The languages, as the set of their texts.
-#[derive(Drop)]
-struct Searched<'a, L> {
-    langs: &'a L,
-}
-
-impl<'a, L: Languages> Holds for Searched<'a, L> {
-    ghost held = { λ s text. is_among (L.texts s.langs.now) text };
-
-    fn holds(&self, lang: &str) -> bool {
-        self.langs.has(lang)
     }
 }

@@ -9,6 +9,7 @@ ghost use Rattle.nego_core.specs.Widening.{IsFoundBy, IsFoundWidened};
 
 use crate::as_lang::AsLang;
 use crate::choosing::Choice;
+use crate::lang_set::is_among;
 use crate::lookup_places::{Found, lookup};
 use crate::priority_list::PriorityList;
 use crate::scheme::Scheme;
@@ -78,6 +79,48 @@ pub fn lookup_widened_lent(
     find_widened::<&Lang>(list, scheme, langs, default)
 }
 
+/// The languages of a slice, owned or borrowed, which are compared one by one.
+#[derive(Drop)]
+pub(crate) struct Listed<'a, L> {
+    pub(crate) langs: &'a [L],
+}
+
+impl<'a, L: AsLang> Languages for Listed<'a, L> {
+    ghost texts = { λ s. map L.text s.langs.now };
+
+    fn has(&self, lang: &str) -> bool {
+        place_among(self.langs, lang).is_some()
+    }
+
+    fn least(&self, test: &RangeTest<'_>) -> Option<&Lang> {
+        least_that_passes(self.langs, test)
+    }
+}
+
+/// The languages of the slice, which are compared one by one.
+impl Languages for &[Lang] {
+    ghost texts = { λ langs. langs.now };
+
+    fn has(&self, lang: &str) -> bool {
+        is_among(self, lang)
+    }
+
+    fn least(&self, test: &RangeTest<'_>) -> Option<&Lang> {
+        least_that_passes(self, test)
+    }
+}
+
+/// The least place of a text that is there.
+pub(crate) fn listed_place<L: AsLang>(langs: &[L], text: &str) -> usize
+    requires { IsTrue (is_among (map L.text langs.now) text.now) }
+    ensures { least_place (map L.text langs.now) text.now ≡ Some result }
+{
+    match place_among(langs, text) {
+        Some(place) => place,
+        None => unreachable!(),
+    }
+}
+
 /// Widened lookup over languages, owned or borrowed.
 fn find_widened<L: AsLang>(
     list: &PriorityList,
@@ -95,24 +138,6 @@ fn find_widened<L: AsLang>(
             None => unreachable!(),
         },
         Choice::Nothing => Found::Nothing,
-    }
-}
-
-/// The languages of a slice, owned or borrowed, which are compared one by one.
-#[derive(Drop)]
-struct Listed<'a, L> {
-    langs: &'a [L],
-}
-
-impl<'a, L: AsLang> Languages for Listed<'a, L> {
-    ghost texts = { λ s. map L.text s.langs.now };
-
-    fn has(&self, lang: &str) -> bool {
-        place_among(self.langs, lang).is_some()
-    }
-
-    fn least(&self, test: &RangeTest<'_>) -> Option<&Lang> {
-        least_that_passes(self.langs, test)
     }
 }
 
@@ -138,17 +163,6 @@ fn is_below(lang: &Lang, least: Option<&Lang>) -> bool
     match least {
         Some(least) => lang.cmp(least).is_lt(),
         None => true,
-    }
-}
-
-/// The least place of a text that is there.
-fn listed_place<L: AsLang>(langs: &[L], text: &str) -> usize
-    requires { IsTrue (is_among (map L.text langs.now) text.now) }
-    ensures { least_place (map L.text langs.now) text.now ≡ Some result }
-{
-    match place_among(langs, text) {
-        Some(place) => place,
-        None => unreachable!(),
     }
 }
 

@@ -10,4 +10,5 @@ mod lenient;
 mod long_lists;
 mod looking_up;
 mod reading;
+mod shortlists;
 mod widening;

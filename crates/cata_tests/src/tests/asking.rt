@@ -3,8 +3,8 @@
 use super::makers::{catalogue, default, id, list};
 use super::shown;
 use super::words::{gives, gives_in};
-use cata_core::{Catalogue, Entries, Labels, LentEntries, Reply};
-use nego_core::{PriorityList, Scheme, Widening};
+use cata_core::{Catalogue, Entries, Labels, LentEntries, Reply, list_languages};
+use nego_core::{PriorityList, Scheme, Shortlist, Widening};
 use std::alloc::Global;
 use std::test::Fail;
 
@@ -162,6 +162,53 @@ fn a_message_without_live_labels_answers_nothing(rt: HostRuntime) -> Result<(), 
     gives(found(alloc, &held, "en", "en"), "nothing")
 }
 
+/// Checks what the messages answer by a list that is cut to the languages of the catalogue.
+fn answer_within(
+    alloc: Global,
+    held: &Catalogue,
+    list: &PriorityList,
+    widening: Widening,
+    tag: &str,
+    answer: &str,
+) -> Result<(), Fail> {
+    let default = default(alloc, tag)?;
+    let langs = held.languages(alloc)?;
+    let listed = list_languages(alloc, &langs)?;
+    let shortlist = Shortlist::new(alloc, list, widening, &listed)?;
+    for message in held.messages() {
+        let own = message.lookup_within(&shortlist, default.as_ref());
+        gives(Ok(shown::reply(alloc, &own.copy(alloc)?)?), answer)?;
+    }
+    Ok(())
+}
+
+#[test]
+fn lookups_by_a_list_that_is_cut(rt: HostRuntime) -> Result<(), Fail> {
+    let alloc = rt.alloc();
+    let held = greetings(alloc)?;
+    for (_case, field, tag, wanted) in LOOKUPS {
+        let list = list(alloc, Scheme::Basic, field)?;
+        answer_within(alloc, &held, &list, Widening::Off, tag, wanted)?;
+    }
+    Ok(())
+}
+
+#[test]
+fn languages_of_live_labels(rt: HostRuntime) -> Result<(), Fail> {
+    let alloc = rt.alloc();
+    let held = catalogue(
+        alloc,
+        "m en 1 1 0 a; m de 1 1 1 -; n @none 1 1 2 b; n en 1 1 3 c; o fr-ca 1 1 4 d",
+    )?;
+    let langs = held.languages(alloc)?;
+    let mut text = String::new(alloc);
+    for lang in list_languages(alloc, &langs)? {
+        let shown = format!(in alloc; "{} ", lang.as_str())?;
+        text.push_str(&shown)?;
+    }
+    gives(Ok(text), "@none en fr-ca ")
+}
+
 /// What a message answers to a list that is widened, which is what its catalogue answers.
 fn widened(alloc: Global, held: &Catalogue, field: &str, tag: &str) -> Result<String, Fail> {
     let list = list(alloc, Scheme::Basic, field)?;
@@ -173,6 +220,7 @@ fn widened(alloc: Global, held: &Catalogue, field: &str, tag: &str) -> Result<St
         let own = message.lookup_by(&list, widening, default.as_ref());
         gives(Ok(shown::reply(alloc, &own.copy(alloc)?)?), answer.as_str())?;
     }
+    answer_within(alloc, held, &list, widening, tag, answer.as_str())?;
     Ok(answer)
 }
 

@@ -9,12 +9,12 @@ ghost use Rattle.map_docs.specs.LangMaps.{Labelled};
 ghost use Rattle.docs_core.specs.Bundled.{IsBundle, IsBundleBy, IsBundled, IsBundledBy};
 ghost use Rattle.docs_core.specs.LooksUp.{answered};
 
-use cata_core::{Catalogue, LentReply};
+use cata_core::{Catalogue, LentReply, list_languages};
 use cell_core::{Label, MessageId};
 use json_docs::{Doc, DocFault};
 use lang_core::Lang;
 use map_docs::{close_labels, open_labels, write_label};
-use nego_core::{PriorityList, Widening};
+use nego_core::{PriorityList, Shortlist, Widening};
 use site_docs::site_at;
 use std::alloc::{AllocError, Global};
 
@@ -75,6 +75,9 @@ pub fn write_bundle(
 /// The same by a lookup that may be widened: what [`bundle_document_by`] gives for the document of
 /// a catalogue in memory.
 ///
+/// The list is cut once to the languages of the catalogue, so a message costs no more ranges than
+/// there are languages, however long the list is.
+///
 /// Out of memory is the only refusal (26).
 pub fn write_bundle_by(
     alloc: Global,
@@ -87,10 +90,13 @@ pub fn write_bundle_by(
         × IsBundleBy widening catalogue.now list.now (option_map
         (λ l. l.now) default.entry) labels × AreWritten labels written.0 written.1) }
 {
+    let langs = catalogue.languages(alloc)?;
+    let listed = list_languages(alloc, &langs)?;
+    let shortlist = Shortlist::new(alloc, list, widening, &listed)?;
     let mut draft = open_labels(alloc)?;
     let mut current: Option<&MessageId> = None;
     'messages: for message in catalogue.messages() {
-        if let Some((lang, label)) = answered(message.lookup_by(list, widening, default)) {
+        if let Some((lang, label)) = answered(message.lookup_within(&shortlist, default)) {
             let id = message.id();
             write_label(&mut draft, current, id, lang, label)?;
             current = Some(id);

@@ -1,7 +1,8 @@
 //! Lookup (RFC 4647 section 3.4) over languages that are handed in, and by `choose` over a set.
 use crate::tests::reading::{columns, lang, langs, list_of};
+use crate::tests::shortlists::agrees_cut;
 use lang_core::Lang;
-use nego_core::{Choice, Found, PriorityList, choose, lookup};
+use nego_core::{Choice, Found, PriorityList, Widening, choose, lookup};
 use std::process::Abort;
 use std::test::Fail;
 
@@ -50,7 +51,19 @@ ranges: *-CH, fr|fr||Matched(0)
 ranges: *-CH|fr||Nothing
 ranges: *-CH|fr|fr|Default(0)";
 
-/// Checks what `lookup` and `choose` answer.
+/// Whether a choice is what was found among the languages.
+pub fn agrees(choice: Choice, found: Found, langs: &[Lang]) -> bool {
+    match (choice, found) {
+        (Choice::Matched(text), Found::Matched(place)) => {
+            langs.get(place).map(|lang| lang.as_str()) == Some(text)
+        }
+        (Choice::Default, Found::Default(_)) => true,
+        (Choice::Nothing, Found::Nothing) => true,
+        _ => false,
+    }
+}
+
+/// Checks what `lookup` and `choose` answer, and a list cut to these languages and others.
 pub fn finds(
     rt: &(impl Abort + AllocGlobal),
     list: &PriorityList,
@@ -71,7 +84,7 @@ pub fn finds(
         ),
         "{texts}"
     );
-    Ok(())
+    agrees_cut(rt, list, Widening::Off, texts, default.as_ref(), found)
 }
 
 /// The language of a text, or none of the empty one.
@@ -80,18 +93,6 @@ fn default_of(rt: &(impl Abort + AllocGlobal), text: &str) -> Result<Option<Lang
         return Ok(None);
     }
     Ok(Some(lang(rt, text)?))
-}
-
-/// Whether a choice is what was found among the languages.
-fn agrees(choice: Choice, found: Found, langs: &[Lang]) -> bool {
-    match (choice, found) {
-        (Choice::Matched(text), Found::Matched(place)) => {
-            langs.get(place).map(|lang| lang.as_str()) == Some(text)
-        }
-        (Choice::Default, Found::Default(_)) => true,
-        (Choice::Nothing, Found::Nothing) => true,
-        _ => false,
-    }
 }
 
 #[test]

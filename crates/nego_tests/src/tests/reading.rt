@@ -29,6 +29,15 @@ pub fn langs(rt: &(impl Abort + AllocGlobal), texts: &str) -> Result<Vec<Lang>, 
     Ok(all)
 }
 
+/// The languages, borrowed.
+pub fn lent<'a>(rt: &(impl Abort + AllocGlobal), langs: &'a [Lang]) -> Result<Vec<&'a Lang>, Fail> {
+    let mut all = Vec::new(rt.alloc());
+    for lang in langs {
+        all.push(lang)?;
+    }
+    Ok(all)
+}
+
 /// The columns of a row, between bars. Those that are not there are empty.
 pub fn columns(row: &str) -> (&str, &str, &str, &str) {
     let (first, rest) = row.split_once("|").unwrap_or((row, ""));

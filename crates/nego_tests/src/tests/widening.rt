@@ -1,6 +1,6 @@
 //! Widened lookup: a range finds the languages that it matches too.
-use crate::tests::reading::{columns, lang, langs, list_of};
-use lang_core::Lang;
+use crate::tests::reading::{columns, lang, langs, lent, list_of};
+use crate::tests::shortlists::agrees_cut;
 use nego_core::{
     Found, PriorityList, Scheme, Widening, lookup_by, lookup_widened, lookup_widened_lent,
 };
@@ -16,16 +16,8 @@ fn scheme_of(field: &str) -> Scheme {
     }
 }
 
-/// The languages, borrowed.
-fn lent<'a>(rt: &(impl Abort + AllocGlobal), langs: &'a [Lang]) -> Result<Vec<&'a Lang>, Fail> {
-    let mut all = Vec::new(rt.alloc());
-    for lang in langs {
-        all.push(lang)?;
-    }
-    Ok(all)
-}
-
-/// What the three calls find, which has to be the same.
+/// What the three calls find, and a list cut to these languages and others, which has to be the
+/// same.
 fn found_by_each(
     rt: &(impl Abort + AllocGlobal),
     list: &PriorityList,
@@ -52,6 +44,7 @@ fn found_by_each(
         lookup_by(list, widening, &langs, default) == found,
         "{texts}"
     );
+    agrees_cut(rt, list, widening, texts, default, found)?;
     Ok(found)
 }
 

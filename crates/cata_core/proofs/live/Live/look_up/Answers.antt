@@ -1,11 +1,16 @@
+use Rattle.std.specs.Option.{option_map}
+use Rattle.cata_core.specs.LentAnswers.{reply_of}
 use Rattle.cata_core.specs.LiveIn.{live_in}
-use Rattle.cata_core.proofs.LiveLanguages.{found_live}
-use Rattle.cata_core.proofs.Replies.{not_live}
+use Rattle.cata_core.proofs.LiveLanguages.{chosen_there, replied}
 use Rattle.cata_core.proofs.live.Live.look_up.Goals as goal
 
-pub unreachable-requires : goal.unreachable-requires
-unreachable-requires c =
-    let labels = live_in c.args.self.now in
-    let text = c.in-Matched.text.now in
-    let live = found_live c.args.widening labels c.args.list.now text c.in-Matched.ensures in
-    not_live labels text c.in-None.ensures live
+pub reply-requires : goal.reply-requires
+reply-requires c =
+    chosen_there c.args.widening (live_in c.args.self.now) c.args.list.now
+    (option_map (λ l. l.now) c.args.default) c.choose.result c.choose.ensures
+
+pub returns : goal.returns
+returns c =
+    replied c.args.widening (live_in c.args.self.now) c.args.list.now
+    (option_map (λ l. l.now) c.args.default) c.choose.result (reply_of c.reply.result)
+    c.choose.ensures c.reply.ensures

@@ -1,0 +1,78 @@
+-- Priority lists cut to some languages.
+use Rattle.std.specs.Prelude.{ℕ, ◌≡◌, ◌≤◌, List, Option, MatchOption, Some, None, All, Contains}
+use Rattle.std.specs.Prelude.{IsSomeAnd, IsTrue, length, option_map}
+use Rattle.std.specs.List.{slice_get}
+use Rattle.lang_core.specs.Text.{pieces}
+use Rattle.nego_core.specs.Item.{Item}
+use Rattle.nego_core.specs.LangSet.{is_among}
+use Rattle.nego_core.specs.LookupCandidates.{IsLookedUp, IsOpen, MatchFirstOf}
+use Rattle.nego_core.specs.LookupCandidates.{candidates_at}
+use Rattle.nego_core.specs.Choosing.{IsChosen}
+use Rattle.nego_core.specs.WidenedChoice.{IsChosenWidened, IsFirstWidenedAt}
+use Rattle.nego_core.specs.Widening.{IsLookedUpWidened}
+use Rattle.nego_core.specs.declared.choosing.Choice.{Choice}
+use Rattle.nego_core.specs.declared.choosing.Choice.TheVariants.{Matched, Default, Nothing}
+use Rattle.nego_core.specs.declared.widening.Widening.{Widening}
+use Rattle.nego_core.specs.declared.widening.Widening.TheVariants.{Off, By}
+
+-- a list, whether its ranges are widened, the languages that it is cut to, and how many of them are
+-- tried
+pub record Shortlist : Type 0 where
+  pub items : List Item
+  pub widening : Widening
+  pub langs : List (List ℕ)
+  pub tried : ℕ
+
+-- the list cut to these languages
+pub record IsShortlist (items : List Item) (widening : Widening) (langs : List (List ℕ))
+    (shortlist : Shortlist) : Type 0 where
+  pub items_are : shortlist.items ≡ items
+  pub widening_is : shortlist.widening ≡ widening
+  pub langs_are : shortlist.langs ≡ langs
+  pub few : shortlist.tried ≤ length langs
+
+-- lookup among the languages, widened or not, with the default where nothing is found
+abbrev pub IsChosenBy : Widening → List Item → List (List ℕ) → Option (List ℕ) → Choice → Type 0
+IsChosenBy Off items langs = IsChosen items (is_among langs)
+IsChosenBy (By scheme) items langs = IsChosenWidened scheme items langs
+
+-- what is chosen is among the languages
+abbrev pub IsThere : List (List ℕ) → Option (List ℕ) → Choice → Type 0
+IsThere langs default (Matched text) = IsTrue (is_among langs text.now)
+IsThere langs default Default = IsSomeAnd default (λ lang. IsTrue (is_among langs lang))
+IsThere langs default Nothing = Unit {0}
+
+-- lookup without a default
+abbrev pub IsLookedUpBy : Widening → List Item → List (List ℕ) → Option (List (List ℕ)) → Type 0
+IsLookedUpBy Off items langs = IsLookedUp items (is_among langs)
+IsLookedUpBy (By scheme) items langs = IsLookedUpWidened scheme items langs
+
+-- the same of the item at one place, through its candidates
+abbrev pub IsFirstAt : Widening → List Item → List (List ℕ) → ℕ → Option (List (List ℕ)) → Type 0
+IsFirstAt Off items langs place =
+    MatchFirstOf (IsOpen items (is_among langs)) (candidates_at items place)
+IsFirstAt (By scheme) items langs place = IsFirstWidenedAt scheme items langs place
+
+-- the place of the language that the item finds first
+abbrev pub IsFoundAt : Widening → List Item → List (List ℕ) → ℕ → Option ℕ → Type 0
+IsFoundAt widening items langs place found = MatchOption found
+    (IsFirstAt widening items langs place None)
+    (λ k. (lang : List ℕ) × (slice_get langs k ≡ Some lang)
+    × IsFirstAt widening items langs place (Some (pieces lang)))
+
+-- all of some languages are among the others
+abbrev pub AreAmong : List (List ℕ) → List (List ℕ) → Type 0
+AreAmong some langs = All (Contains langs) some
+
+-- a language is one of some
+abbrev pub IsOneOf : List (List ℕ) → List ℕ → Type 0
+IsOneOf some lang = IsTrue (is_among some lang)
+
+-- Among any of the languages lookup finds the first that stands in this list, which is no longer
+-- than there are languages.
+pub record IsRanking (widening : Widening) (items : List Item) (langs ranked : List (List ℕ))
+    : Type 0 where
+  pub few : length ranked ≤ length langs
+  pub finds : (some : List (List ℕ)) (found : Option (List ℕ)) → AreAmong some langs
+      → MatchFirstOf (IsOneOf some) ranked found
+      → IsLookedUpBy widening items some (option_map pieces found)
