@@ -1,4 +1,4 @@
--- A document in written order is read as its value.
+-- A document that stands as it is written is read as its value.
 use Rattle.std.proofs.Common.{◌≡◌, ◌∙◌, ◌<◌, ◌≤◌, ◌-◌, ◌^◌, ◌++◌, ℕ, List, [], ◌∷◌, map, length}
 use Rattle.std.proofs.Common.{length-append, refl, ap, sym, append_assoc, arith, codes, inr}
 use Rattle.std.specs.Prelude.{Option, None, Some, option_map}
@@ -52,21 +52,19 @@ label_json (Some ts) = json.array (texts_json ts)
 
 row_json : Row → List ℕ → List ℕ → Option (List (List ℕ)) → Json
 row_json row time count label =
-    json.array
-    (json.item (json.string row.id)
+    json.array (json.item (json.string row.id)
     (json.item (json.string row.language)
-    (json.item (json.number time)
-    (json.item (json.string row.site)
+    (json.item (json.number time) (json.item (json.string row.site)
     (json.item (json.number count) (json.item (label_json label) json.no_items))))))
 
-texts_tokens : (ts : List (List ℕ)) (new : List Token)
-    → map string ts ++ end_array ∷ new ≡ items_tokens (texts_json ts) ++ new
+texts_tokens : (ts : List (List ℕ)) (new : List Token) → map string ts ++ end_array ∷ new
+    ≡ items_tokens (texts_json ts) ++ new
 unfolding texts_json
 texts_tokens [] new = refl
 texts_tokens (t ∷ ts) new = ap (λ r. string t ∷ r) (texts_tokens ts new)
 
-texts_data : (ts : List (List ℕ))
-    → of_items (texts_json ts) ≡ Some (items_of (map json_data.string ts))
+texts_data : (ts : List (List ℕ)) → of_items (texts_json ts)
+    ≡ Some (items_of (map json_data.string ts))
 unfolding texts_json
 texts_data [] = refl
 texts_data (t ∷ ts) = rw (texts_data ts) refl
@@ -82,12 +80,11 @@ label_tokens : (label : Option (List (List ℕ))) (rest new : List Token)
 unfolding label_json
 label_tokens None rest new is = is
 label_tokens (Some ts) rest new is =
-    is ∙ ap (λ r. begin_array ∷ r)
-    (texts_tokens ts (end_array ∷ new)
+    is ∙ ap (λ r. begin_array ∷ r) (texts_tokens ts (end_array ∷ new)
     ∙ sym (append_assoc (items_tokens (texts_json ts)) (end_array ∷ []) new))
 
-label_data : (label : Option (List (List ℕ)))
-    → of_json (label_json label) ≡ Some (label_value label)
+label_data : (label : Option (List (List ℕ))) → of_json (label_json label)
+    ≡ Some (label_value label)
 unfolding label_json
 label_data None = refl
 label_data (Some ts) = rw (texts_data ts) refl
@@ -104,8 +101,7 @@ pub row_reads : (old rest new : List Token) (row : Row) (label : Option (List (L
 unfolding row_json
 row_reads old rest new row label first last =
     let j = row_json row first.time first.count label in
-    let same : old ≡ json_tokens j ++ new =
-    first.tokens
+    let same : old ≡ json_tokens j ++ new = first.tokens
     ∙ ap (λ r. begin_array ∷ string row.id ∷ string row.language ∷ number first.time
     ∷ string row.site ∷ number first.count ∷ r) (label_tokens label rest new last) in
     let shallow : tree.depth j ≤ 125 = let d = label_depth label in omega (arith, d) in
@@ -123,14 +119,12 @@ label_shorter (Some ts) rest new is =
     ap length is in
     omega (arith, l, length-append (map string ts) (end_array ∷ new))
 
--- After a row with its label fewer tokens are left than before it.
+-- a row takes tokens
 pub entry_shorter : (old rest new : List Token) (row : Row) (label : Option (List (List ℕ)))
     → BeginsRow old row rest → BeginsLabel rest label (end_array ∷ new) → length new < length old
 entry_shorter old rest new row label first last =
-    let l : length old
-    ≡ length
-    (begin_array ∷ string row.id ∷ string row.language ∷ number first.time ∷ string row.site
-    ∷ number first.count ∷ rest) = ap length first.tokens in
+    let l : length old ≡ length (begin_array ∷ string row.id ∷ string row.language
+    ∷ number first.time ∷ string row.site ∷ number first.count ∷ rest) = ap length first.tokens in
     omega (arith, l, label_shorter label rest (end_array ∷ new) last)
 
 -- one row more
@@ -149,8 +143,7 @@ entry_taken front old new row label e fits fields is passed makes above pushed =
     ap (option_map (λ (p : Row × Option (List (List ℕ))). entry_of p.0 p.1)) there
     ∙ ap Some (sym is) in
     let own : AllPass (own_cell_checks Two (length front) d) = rw there (refl, fields) in
-    let here =
-    passes_row (entry_in Two) (own_cell_checks Two) front (length front) d old
+    let here = passes_row (entry_in Two) (own_cell_checks Two) front (length front) d old
     (key_of (cell_row Two d).0) e refl makes made (key_of_cell (cell_in Two d) e) own above in (
       rows-pass (cell_checks Two) [] front (d ∷ []) passed
           (AllPass-both (cell_checks Two front d) [] here tt),
@@ -159,8 +152,8 @@ entry_taken front old new row label e fits fields is passed makes above pushed =
 
 -- ---- the members after the rows
 
-scalar_text : (s : List ℕ) (r : List Token)
-    → converted of_json (value 126 (string s ∷ r)) ≡ Some (json_data.string s, r)
+scalar_text : (s : List ℕ) (r : List Token) → converted of_json (value 126 (string s ∷ r))
+    ≡ Some (json_data.string s, r)
 scalar_text s r = ap (converted of_json) (value_is 126 (string s ∷ r))
 
 scalar_number : (s : List ℕ) (n : ℕ) (r : List Token) → number_of s ≡ Some (unsigned n)
@@ -168,13 +161,11 @@ scalar_number : (s : List ℕ) (n : ℕ) (r : List Token) → number_of s ≡ So
 scalar_number s n r is = ap (converted of_json) (value_is 126 (number s ∷ r)) ∙ rw is refl
 
 abbrev last_members : Kind → List ℕ → List ℕ → List Token
-last_members kind name version =
-    key (codes "kind") ∷ string (kind_text kind) ∷ key (subject_of kind) ∷ string name
-    ∷ key (codes "version") ∷ number version ∷ end_object ∷ []
+last_members kind name version = key (codes "kind") ∷ string (kind_text kind) ∷ key
+    (subject_of kind) ∷ string name ∷ key (codes "version") ∷ number version ∷ end_object ∷ []
 
 abbrev with_last : Kind → List ℕ → Members → Members
-with_last kind name found =
-    put (codes "version") (json_data.number (unsigned 2))
+with_last kind name found = put (codes "version") (json_data.number (unsigned 2))
     (put (subject_of kind) (json_data.string name)
     (put (codes "kind") (json_data.string (kind_text kind)) found))
 
@@ -185,9 +176,8 @@ last_read : (kind : Kind) (name version : List ℕ) (n : ℕ) (found : Members) 
     ≡ Some (with_last kind name found, [])
 last_read kind name version n found enough two =
     let p = value 126 in
-    let t2 =
-    key (subject_of kind) ∷ string name ∷ key (codes "version") ∷ number version ∷ end_object
-    ∷ [] in
+    let t2 = key (subject_of kind) ∷ string name ∷ key (codes "version") ∷ number version
+    ∷ end_object ∷ [] in
     let t3 = key (codes "version") ∷ number version ∷ end_object ∷ [] in
     let found2 = put (codes "kind") (json_data.string (kind_text kind)) found in
     let found3 = put (subject_of kind) (json_data.string name) found2 in
@@ -216,11 +206,11 @@ in_order Script name ds = rw (items_of-list_of ds) refl
 
 -- ---- the whole text
 
--- A text whose tokens are a document of cells in written order reads as that document.
+-- the tokens of a document in written order read as its value
 pub document_read : (kind : Kind) (text name : List ℕ) (ts rest : List Token) (ds : Items)
     → tokens text ≡ begin_object ∷ key (codes "cells") ∷ begin_array ∷ ts
-    → ReadsItems 125 ts ds rest → length rest < length ts → EndsNamed kind rest name
-    → read text ≡ Some (cells_document kind name (list_of ds))
+    → ReadsItems 125 ts ds rest → length rest < length ts → EndsNamed kind rest name → read text
+    ≡ Some (cells_document kind name (list_of ds))
 document_read kind text name ts rest ds is rows shorter last =
     let p = value 126 in
     let all = key (codes "cells") ∷ begin_array ∷ ts in
@@ -233,14 +223,14 @@ document_read kind text name ts rest ds is rows shorter last =
     let behind : converted (λ ms. of_members ms found) (json.members p (length all - 1) rest)
     ≡ Some (with_last kind name found, []) =
     ap (λ r. converted (λ ms. of_members ms found) (json.members p (length all - 1) r)) last.tokens
-    ∙ last_read kind name last.version (length all - 1) found (omega (arith, shorter, many))
-    last.version_is in
+    ∙ last_read kind name last.version (length all - 1) found
+    (omega (arith, shorter, many)) last.version_is in
     object_whole text all is (with_last kind name found) (first ∙ behind)
     ∙ ap Some (in_order kind name ds)
 
 -- ---- what it reads as
 
--- A document of a site in written order reads as the site of its name and entries.
+-- a document of a site in written order reads as the site
 pub site_read : (bytes name : List ℕ) (cells : Entries) → ReadsCells Site bytes name cells
     → ReadsAsSite bytes (record { name = name; cells = cells })
 site_read bytes name cells read =
@@ -256,7 +246,7 @@ site_read bytes name cells read =
       record { name = refl; cells = rw same read.makes },
     )
 
--- A document of a delta in written order reads as the delta of its addressee and entries.
+-- a document of a delta in written order reads as the delta
 pub delta_read : (bytes name : List ℕ) (cells : Entries) → ReadsCells Delta bytes name cells
     → ReadsAsDelta bytes (record { addressee = name; cells = cells })
 delta_read bytes name cells read =

@@ -18,8 +18,7 @@ HoldsCells-adds : (a b : Written) (rows : List Data) (d : Data) → HoldsCells a
     → Adds a b (value_tokens d) → HoldsCells b (rows ++ d ∷ [])
 HoldsCells-adds a b rows d holds adds = (
   adds.0 ∙ holds.0,
-  adds.1
-      ∙ (ap (λ t. t ++ value_tokens d) holds.1
+  adds.1 ∙ (ap (λ t. t ++ value_tokens d) holds.1
       ∙ ap (λ t. begin_object ∷ key (codes "cells") ∷ begin_array ∷ t)
       (sym (row_tokens-push rows d))),
 )
@@ -44,8 +43,8 @@ cell_more a b done left all next e holds adds so_far first = (
   append_assoc done (e ∷ []) next ∙ (ap (λ t. done ++ t) (sym first) ∙ so_far),
 )
 
-taken : {A : Type 0} (xs : List A) (k : ℕ) (x : A) → slice_get xs k ≡ Some x
-    → take (suc k) xs ≡ take k xs ++ x ∷ []
+taken : {A : Type 0} (xs : List A) (k : ℕ) (x : A) → slice_get xs k ≡ Some x → take (suc k) xs
+    ≡ take k xs ++ x ∷ []
 taken [] k x is = cc
 taken (y ∷ xs) zero x is = cc
 taken (y ∷ xs) (suc k) x is = ap (λ t. y ∷ t) (taken xs k x is)
@@ -70,9 +69,9 @@ pub kept_more : {X : Type 0} (P : X → Type 0) (xs : List X) (x : X) → All P 
     → All P (xs ++ x ∷ [])
 kept_more P xs x all one = All-append P xs (x ∷ []) all (All-cons P x [] one (All-nil P))
 
--- A property of the elements before a place and of the one there is one of all up to it.
-pub kept_next : {X : Type 0} (P : X → Type 0) (xs : List X) (k : ℕ) (x : X)
-    → slice_get xs k ≡ Some x → All P (take k xs) → P x → All P (take (k + 1) xs)
+-- one more place is as all before it
+pub kept_next : {X : Type 0} (P : X → Type 0) (xs : List X) (k : ℕ) (x : X) → slice_get xs k
+    ≡ Some x → All P (take k xs) → P x → All P (take (k + 1) xs)
 kept_next P xs k x is all one = rw (add-one, taken xs k x is) (kept_more P (take k xs) x all one)
 
 -- a text that was written reads back where it does so as UTF-8

@@ -24,18 +24,17 @@ append_one : (xs : List (List ℕ)) (o : Option (List ℕ)) (ys : List (List ℕ
 append_one xs None ys = refl
 append_one xs (Some x) ys = refl
 
-among-append : (ds es : List Data)
-    → filter_map as_str (ds ++ es) ≡ filter_map as_str ds ++ filter_map as_str es
+among-append : (ds es : List Data) → filter_map as_str (ds ++ es) ≡ filter_map as_str ds
+    ++ filter_map as_str es
 among-append [] es = refl
-among-append (d ∷ ds) es =
-    ap (cons_option (as_str d)) (among-append ds es)
+among-append (d ∷ ds) es = ap (cons_option (as_str d)) (among-append ds es)
     ∙ append_one (filter_map as_str ds) (as_str d) (filter_map as_str es)
 
 -- one value more
 pub among-more : (vs : List (Value Global)) (k : ℕ) (v : Value Global) → k < length vs
     → v ≡ get_or vs k v
-    → filter_map as_str (map seen (take (k + 1) vs))
-    ≡ filter_map as_str (map seen (take k vs)) ++ cons_option (as_str (seen v)) []
+    → filter_map as_str (map seen (take (k + 1) vs)) ≡ filter_map as_str (map seen (take k vs))
+    ++ cons_option (as_str (seen v)) []
 among-more vs k v h is =
     let taken : take (k + 1) vs ≡ take k vs ++ v ∷ [] =
     rw (add-one, take-suc vs k v h) (ap (λ (x : Value Global). take k vs ++ x ∷ []) (sym is)) in
@@ -45,18 +44,18 @@ among-more vs k v h is =
 all_texts : (o : Option (List ℕ)) (r : Option (List (List ℕ))) (rest : List (List ℕ))
     → (is_some r ≡ true → rest ≡ unwrap_or r [])
     → is_some (option_and_then (λ text. option_map (λ texts. text ∷ texts) r) o) ≡ true
-    → cons_option o rest
-    ≡ unwrap_or (option_and_then (λ text. option_map (λ texts. text ∷ texts) r) o) []
+    → cons_option o rest ≡ unwrap_or
+    (option_and_then (λ text. option_map (λ texts. text ∷ texts) r) o) []
 all_texts None r rest same h = cc
 all_texts (Some text) None rest same h = cc
 all_texts (Some text) (Some texts) rest same h = ap (λ t. text ∷ t) (same refl)
 
 -- of values that are all texts none is left out
-pub among-texts_in : (ds : List Data) → is_some (texts_in ds) ≡ true
-    → filter_map as_str ds ≡ unwrap_or (texts_in ds) []
+pub among-texts_in : (ds : List Data) → is_some (texts_in ds) ≡ true → filter_map as_str ds
+    ≡ unwrap_or (texts_in ds) []
 among-texts_in [] h = refl
-among-texts_in (d ∷ ds) h =
-    all_texts (as_str d) (texts_in ds) (filter_map as_str ds) (among-texts_in ds) h
+among-texts_in (d ∷ ds) h = all_texts (as_str d) (texts_in ds) (filter_map as_str ds)
+    (among-texts_in ds) h
 
 -- texts that are no label are refused in this row, or memory has run out
 pub label_cause : (k : ℕ) (texts : List (List ℕ)) (fault : CellFault) → RefusesLabel texts fault
@@ -68,7 +67,7 @@ label_cause k texts ClockSpent why = absurd why
 label_cause k texts NoMemory why = inl refl
 label_cause k texts SiteName why = absurd why
 
--- A string pushed to a list adds its text to the list's texts.
+-- one text more
 pub pushed_text : (items old : List (String Global)) (x : String Global) (text : List ℕ)
     (texts : List (List ℕ))
     → items ≡ old ++ x ∷ [] → string_bytes x ≡ text → map string_bytes old ≡ texts

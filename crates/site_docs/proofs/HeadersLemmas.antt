@@ -21,14 +21,14 @@ use Rattle.site_docs.specs.declared.document.kind.Member.TheVariants.{Subject, R
 
 -- ---- names
 
--- In a document of any kind the name of its subject is classed as its subject.
+-- the name of the subject is that of this member
 pub subject_is : (kind : Kind) → member_of kind (subject_of kind) ≡ Subject
 subject_is Site = refl
 subject_is Delta = refl
 subject_is Summary = refl
 subject_is Script = refl
 
--- In a document of any kind the name of its rows is classed as its rows.
+-- the name of the rows is that of this member
 pub rows_is : (kind : Kind) → member_of kind (rows_of kind) ≡ Rows
 rows_is Site = refl
 rows_is Delta = refl
@@ -68,16 +68,16 @@ module _ (kind : Kind) (name : List ℕ) where
 
   -- a member of another class stays
   pub kept : (other : List ℕ) (d : Data) (ms : Members)
-      → (member_of kind other ≡ member_of kind name → ⊥)
-      → get_member other (put name d ms) ≡ get_member other ms
-  kept other d ms apart =
-      get_member-put_other other name d ms (λ same. apart (ap (member_of kind) same))
+      → (member_of kind other ≡ member_of kind name → ⊥) → get_member other (put name d ms)
+      ≡ get_member other ms
+  kept other d ms apart = get_member-put_other other name d ms
+      (λ same. apart (ap (member_of kind) same))
 
 -- the member of this name is the new one
 here : (name known : List ℕ) (d : Data) (ms : Members) → name ≡ known
     → get_member known (put name d ms) ≡ Some d
-here name known d ms same =
-    ap (λ n. get_member n (put name d ms)) (sym same) ∙ get_member-put name d ms
+here name known d ms same = ap (λ n. get_member n (put name d ms)) (sym same)
+    ∙ get_member-put name d ms
 
 -- ---- what was read
 
@@ -87,19 +87,15 @@ module _ (kind : Kind) (name : List ℕ) (d : Data) (ms : Members) where
   others_kept has_other apart shown = record {
     there = λ h. let o = shown.there h in
         (o.0, o.1, ap is_some (kept kind name o.0 d ms (λ same. apart (sym same ∙ o.1))) ∙ o.2);
-    told =
-        λ n is some.
-        shown.told n is
+    told = λ n is some. shown.told n is
         (sym (ap is_some (kept kind name n d ms (λ same. apart (sym same ∙ is)))) ∙ some);
   }
 
   others_more : member_of kind name ≡ Other → ShowsOthers kind true (put name d ms)
-  others_more is =
-      record {
-        there = λ _. (name, is, ap is_some (get_member-put name d ms));
-        told =
-            λ _ _ _. refl;
-      }
+  others_more is = record {
+    there = λ _. (name, is, ap is_some (get_member-put name d ms));
+    told = λ _ _ _. refl;
+  }
 
 module _ {S : Type 0} (kind : Kind) (checks : List Data → Data → List Check)
     (Holds : S → List Data → Type 0) where
@@ -108,15 +104,13 @@ module _ {S : Type 0} (kind : Kind) (checks : List Data → Data → List Check)
       → Shows kind checks Holds
       (record { is_kind = false; version = None; subject = None; rows = None; has_other = false })
       rows no_members
-  Shows-none rows =
-      record {
-        is_kind = refl;
-        version = refl;
-        subject = refl;
-        rows_part = refl;
-        others =
-            record { there = λ h. absurd (cc); told = λ _ _ h. h };
-      }
+  Shows-none rows = record {
+    is_kind = refl;
+    version = refl;
+    subject = refl;
+    rows_part = refl;
+    others = record { there = λ h. absurd (cc); told = λ _ _ h. h };
+  }
 
   module _ (header : Header) (old : S) (name : List ℕ) (d : Data) (ms : Members)
       (shown : Shows kind checks Holds header old ms) where
@@ -128,12 +122,10 @@ module _ {S : Type 0} (kind : Kind) (checks : List Data → Data → List Check)
         → get_member other (put name d ms) ≡ get_member other ms =
         λ other m was differs. kept kind name other d ms (λ same. differs (sym was ∙ same ∙ is)) in
         record {
-          is_kind =
-              ap (λ m. is_text (kind_text kind) (option_and_then as_str m))
+          is_kind = ap (λ m. is_text (kind_text kind) (option_and_then as_str m))
               (sym (here name (codes "kind") d ms (named_kind kind name is)));
-          version =
-              shown.version
-              ∙ ap (option_and_then u64_in) (sym (apart (codes "version") Version refl (λ e. cc)));
+          version = shown.version ∙ ap (option_and_then u64_in)
+              (sym (apart (codes "version") Version refl (λ e. cc)));
           subject = rw (apart (subject_of kind) Subject (subject_is kind) (λ e. cc)) shown.subject;
           rows_part = rw (apart (rows_of kind) Rows (rows_is kind) (λ e. cc)) shown.rows_part;
           others = others_kept kind name d ms header.has_other (λ e. cc) shown.others;
@@ -146,33 +138,27 @@ module _ {S : Type 0} (kind : Kind) (checks : List Data → Data → List Check)
         → get_member other (put name d ms) ≡ get_member other ms =
         λ other m was differs. kept kind name other d ms (λ same. differs (sym was ∙ same ∙ is)) in
         record {
-          is_kind =
-              shown.is_kind
-              ∙ ap (λ m. is_text (kind_text kind) (option_and_then as_str m))
+          is_kind = shown.is_kind ∙ ap (λ m. is_text (kind_text kind) (option_and_then as_str m))
               (sym (apart (codes "kind") KindMember refl (λ e. cc)));
-          version =
-              ap (option_and_then u64_in)
+          version = ap (option_and_then u64_in)
               (sym (here name (codes "version") d ms (named_version kind name is)));
           subject = rw (apart (subject_of kind) Subject (subject_is kind) (λ e. cc)) shown.subject;
           rows_part = rw (apart (rows_of kind) Rows (rows_is kind) (λ e. cc)) shown.rows_part;
           others = others_kept kind name d ms header.has_other (λ e. cc) shown.others;
         }
 
-    pub Shows-subject : (subject : SubjectValue) → IsSubject subject d
-        → member_of kind name ≡ Subject
-        → Shows kind checks Holds (record header { subject = Some subject }) old (put name d ms)
+    pub Shows-subject : (subject : SubjectValue) → IsSubject subject d → member_of kind name
+        ≡ Subject → Shows kind checks Holds (record header { subject = Some subject }) old
+        (put name d ms)
     Shows-subject subject read is =
         let apart : (other : List ℕ) (m : Member) → member_of kind other ≡ m → (m ≡ Subject → ⊥)
         → get_member other (put name d ms) ≡ get_member other ms =
         λ other m was differs. kept kind name other d ms (λ same. differs (sym was ∙ same ∙ is)) in
         record {
-          is_kind =
-              shown.is_kind
-              ∙ ap (λ m. is_text (kind_text kind) (option_and_then as_str m))
+          is_kind = shown.is_kind ∙ ap (λ m. is_text (kind_text kind) (option_and_then as_str m))
               (sym (apart (codes "kind") KindMember refl (λ e. cc)));
-          version =
-              shown.version
-              ∙ ap (option_and_then u64_in) (sym (apart (codes "version") Version refl (λ e. cc)));
+          version = shown.version ∙ ap (option_and_then u64_in)
+              (sym (apart (codes "version") Version refl (λ e. cc)));
           subject = (d, here name (subject_of kind) d ms (named_subject kind name is), read);
           rows_part = rw (apart (rows_of kind) Rows (rows_is kind) (λ e. cc)) shown.rows_part;
           others = others_kept kind name d ms header.has_other (λ e. cc) shown.others;
@@ -186,13 +172,10 @@ module _ {S : Type 0} (kind : Kind) (checks : List Data → Data → List Check)
         → get_member other (put name d ms) ≡ get_member other ms =
         λ other m was differs. kept kind name other d ms (λ same. differs (sym was ∙ same ∙ is)) in
         record {
-          is_kind =
-              shown.is_kind
-              ∙ ap (λ m. is_text (kind_text kind) (option_and_then as_str m))
+          is_kind = shown.is_kind ∙ ap (λ m. is_text (kind_text kind) (option_and_then as_str m))
               (sym (apart (codes "kind") KindMember refl (λ e. cc)));
-          version =
-              shown.version
-              ∙ ap (option_and_then u64_in) (sym (apart (codes "version") Version refl (λ e. cc)));
+          version = shown.version ∙ ap (option_and_then u64_in)
+              (sym (apart (codes "version") Version refl (λ e. cc)));
           subject = rw (apart (subject_of kind) Subject (subject_is kind) (λ e. cc)) shown.subject;
           rows_part = rw (here name (rows_of kind) d ms (named_rows kind name is)) rows;
           others = others_kept kind name d ms header.has_other (λ e. cc) shown.others;
@@ -205,13 +188,10 @@ module _ {S : Type 0} (kind : Kind) (checks : List Data → Data → List Check)
         → get_member other (put name d ms) ≡ get_member other ms =
         λ other m was differs. kept kind name other d ms (λ same. differs (sym was ∙ same ∙ is)) in
         record {
-          is_kind =
-              shown.is_kind
-              ∙ ap (λ m. is_text (kind_text kind) (option_and_then as_str m))
+          is_kind = shown.is_kind ∙ ap (λ m. is_text (kind_text kind) (option_and_then as_str m))
               (sym (apart (codes "kind") KindMember refl (λ e. cc)));
-          version =
-              shown.version
-              ∙ ap (option_and_then u64_in) (sym (apart (codes "version") Version refl (λ e. cc)));
+          version = shown.version ∙ ap (option_and_then u64_in)
+              (sym (apart (codes "version") Version refl (λ e. cc)));
           subject = rw (apart (subject_of kind) Subject (subject_is kind) (λ e. cc)) shown.subject;
           rows_part = rw (apart (rows_of kind) Rows (rows_is kind) (λ e. cc)) shown.rows_part;
           others = others_more kind name d ms is;

@@ -8,10 +8,12 @@ pub mod PiecesLemmas
 pub mod PlainLemmas
 pub mod PlainReads
 pub mod ReadersLemmas
+pub mod RisingKeys
 pub mod RisingLemmas
 pub mod RoundTrip
 pub mod RowsLemmas
 pub mod SiteDocumentsLemmas
+pub mod StringsLemmas
 pub mod TestsLemmas
 pub mod TextsLemmas
 pub mod WrittenRows

@@ -1,4 +1,4 @@
--- Languages are in lower case.
+-- Languages stand in lower case.
 use Rattle.std.proofs.Common.{◌≡◌, ◌∙◌, ℕ, List, [], ◌∷◌, Bool, true, false, ◌&&◌, map, refl, ap}
 use Rattle.std.proofs.Common.{ap₂, sym, subst, inl, inr, arith, ◌+◌}
 use Rattle.std.proofs.lemmas.Bool.Decides.{nat_tests}

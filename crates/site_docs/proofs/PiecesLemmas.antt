@@ -1,31 +1,40 @@
 -- Pieces of a text.
-use Rattle.std.proofs.Common.{true, ◌≡◌, ◌∙◌, ◌+◌, ◌*◌, ◌/◌, ◌%◌, ◌<◌, ◌^◌, ◌++◌, ℕ, suc, List, []}
-use Rattle.std.proofs.Common.{◌∷◌, take, drop, length, get_or, refl, ap, ap₂, sym, arith, add-one}
-use Rattle.std.proofs.Common.{drop-cons, decimal}
+use Rattle.std.proofs.Common.{true, ◌≡◌, ◌∙◌, ◌+◌, ◌*◌, ◌/◌, ◌%◌, ◌<◌, ◌^◌, ◌++◌, ℕ, List, []}
+use Rattle.std.proofs.Common.{◌∷◌, take, length, get_or, refl, ap, ap₂, sym, arith, add-one}
+use Rattle.std.proofs.Common.{decimal}
 use Rattle.std.proofs.Math.Seq.{take-suc}
+use Rattle.std.proofs.lemmas.Grind.{common_steps}
 use Rattle.std.proofs.lemmas.Fmt.{decimal_digit, decimal_step}
-use Rattle.std.proofs.lemmas.List.{get_or-take, length-take-le, take-append-drop}
+use Rattle.std.proofs.lemmas.List.{get_or-take, length-take-le}
 use Rattle.std.proofs.lemmas.List.Quantifiers.{position-Some}
 use Rattle.std.specs.Prelude.{Some, not}
 use Rattle.std.specs.List.{position}
+use Rattle.std.specs.Str.{IsCharBoundary}
+use Rattle.std.proofs.lemmas.Str.{IsCharBoundary-before_ascii}
 use Rattle.json.specs.Print.{escape}
 use Rattle.json.specs.Run.{is_stop}
 use Rattle.json.proofs.Printed.Plain.{escape_on_plain}
 use Rattle.site_docs.specs.Plain.{IsDecimalFront, IsDigitAt}
 
--- a string without escapes, and what comes after its quote
-pub plain_front : (bs : List ℕ) (end : ℕ) → position is_stop bs ≡ Some end → get_or bs end 0 ≡ 34
-    → bs ≡ escape (take end bs) ++ 34 ∷ drop (end + 1) bs
-plain_front bs end found quote =
+-- what comes before the first stop is written as it is
+pub before_stop : (bs : List ℕ) (end : ℕ) → position is_stop bs ≡ Some end
+    → escape (take end bs) ≡ take end bs
+before_stop bs end found =
     let at = position-Some is_stop bs end 0 found in
     let within : end < length bs = at.0 in
-    let plain : escape (take end bs) ≡ take end bs =
     escape_on_plain true (take end bs) (λ k p q.
     let before : k < end = omega (arith, q, length-take-le end bs (omega (arith, within))) in
-    ap not (ap is_stop (get_or-take end bs k 0 before) ∙ at.2 k before)) in
-    rw plain (sym (take-append-drop end bs)
-    ∙ ap (λ r. take end bs ++ r)
-    (rw (add-one, drop-cons bs end 0 within) (ap (λ b. b ∷ drop (suc end) bs) quote)))
+    ap not (ap is_stop (get_or-take end bs k 0 before) ∙ at.2 k before))
+
+stop_small : (x : ℕ) → is_stop x ≡ true → x < 128
+stop_small x stop = grind (arith, common_steps)
+
+-- a text may be cut before its first stop
+pub stop_boundary : (bs : List ℕ) (end : ℕ) → position is_stop bs ≡ Some end
+    → IsCharBoundary bs end
+stop_boundary bs end found =
+    let at = position-Some is_stop bs end 0 found in
+    IsCharBoundary-before_ascii bs end at.0 (stop_small (get_or bs end 0) at.1)
 
 -- one digit more
 decimal_more : (n d : ℕ) → 0 < n → d < 10 → n * 10 + d < 2 ^ 64

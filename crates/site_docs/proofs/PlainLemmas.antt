@@ -1,8 +1,8 @@
 -- Texts that are put together from what is written.
 use Rattle.std.proofs.Common.{◌≡◌, ◌∙◌, ◌++◌, ℕ, List, [], ◌∷◌, Bool, true, false, codes, decimal}
-use Rattle.std.proofs.Common.{map, refl, ap, sym, subst, append_assoc, append-nil}
+use Rattle.std.proofs.Common.{map, refl, ap, sym, subst, append_assoc, append-nil, inl, inr}
 use Rattle.std.proofs.lemmas.List.{map-append}
-use Rattle.std.specs.Prelude.{Option, IsTrue, ◌↔◌, not}
+use Rattle.std.specs.Prelude.{Option}
 use Rattle.json.specs.Print.{quoted}
 use Rattle.serde_json.specs.Data.{Data, array, string}
 use Rattle.serde_json.specs.View.{items_of}
@@ -14,8 +14,8 @@ use Rattle.site_docs.specs.AsWritten.{cells_document}
 use Rattle.site_docs.specs.Documents.{cells_values, entry_value}
 use Rattle.site_docs.specs.Fields.{IsLabelText, stamp_of}
 use Rattle.site_docs.specs.Kinds.{kind_text, subject_of}
-use Rattle.site_docs.specs.Plain.{last_members, open_items, row_before, rows_text}
-use Rattle.site_docs.specs.Texts.{text as document_text}
+use Rattle.site_docs.specs.Plain.{IsEnd, IsTextOf, is_later, last_members, open_items}
+use Rattle.site_docs.specs.Plain.{row_before, rows_text}
 use Rattle.site_docs.specs.Valid.{AreKeptCells, IsKept, IsKeptCell}
 use Rattle.site_docs.specs.Values.{Row, cell_value, label_value}
 use Rattle.site_docs.specs.declared.document.kind.Kind.{Kind}
@@ -32,11 +32,6 @@ items_closed later (d ∷ ds) =
     ∙ sym (append_assoc (comma_if later) (compact_text d ++ open_items true ds) (93 ∷ [])
     ∙ ap (λ r. comma_if later ++ r)
     (append_assoc (compact_text d) (open_items true ds) (93 ∷ [])))
-
--- some items come before what is pushed
-abbrev pub is_later : {X : Type 0} → List X → Bool
-is_later [] = false
-is_later (d ∷ ds) = true
 
 is_later-map : {X Y : Type 0} (f : X → Y) (xs : List X) → is_later (map f xs) ≡ is_later xs
 is_later-map f [] = refl
@@ -96,17 +91,6 @@ text_taken ts t text rest after later so_far next =
     (item_taken (map string ts) (string t) text rest after so_far
     (rw (is_later-map string ts, later) next))
 
--- the first text
-pub first_taken : (ts old : List (List ℕ)) (t text rest : List ℕ) → old ≡ [] → ts ≡ old ++ t ∷ []
-    → text ≡ 91 ∷ (quoted t ++ rest)
-    → (is_later ts ≡ true) × (text ≡ 91 ∷ (open_items false (map string ts) ++ rest))
-first_taken ts old t text rest none is begins =
-    let one : ts ≡ t ∷ [] = is ∙ ap (λ o. o ++ t ∷ []) none in (
-      ap is_later one,
-      begins ∙ ap (λ q. 91 ∷ (q ++ rest)) (sym (append-nil (quoted t)))
-          ∙ ap (λ xs. 91 ∷ (open_items false (map string xs) ++ rest)) (sym one),
-    )
-
 -- some texts come first where one was pushed
 pub texts_later : (old new : List (List ℕ)) (t : List ℕ) → new ≡ old ++ t ∷ [] → is_later new ≡ true
 texts_later old new t is = ap is_later is ∙ is_later-push old t
@@ -164,21 +148,13 @@ entry_kept e key stamp row label keyed is kept text =
 
 -- ---- cells
 
-first_is : (first : Bool) (cells : Entries) → IsTrue first ↔ (cells ≡ [])
-    → not first ≡ is_later cells
-first_is true [] tells = refl
-first_is true (e ∷ es) tells = let never : e ∷ es ≡ [] = tells.0 refl in cc
-first_is false [] tells = let never : false ≡ true = tells.1 refl in cc
-first_is false (e ∷ es) tells = refl
-
 -- one cell more
-pub cell_taken : (old new : Entries) (e : Entry) (first : Bool) (text rest after : List ℕ)
-    → IsTrue first ↔ (old ≡ []) → text ≡ 91 ∷ (open_items false (cells_values old) ++ rest)
-    → rest ≡ comma_if (not first) ++ (compact_text (entry_value e) ++ after) → new ≡ old ++ e ∷ []
-    → text ≡ 91 ∷ (open_items false (cells_values new) ++ after)
-cell_taken old new e first text rest after tells so_far next pushed =
-    let later : not first ≡ is_later (cells_values old) = first_is first old tells
-    ∙ sym (is_later-map entry_value old) in
+pub cell_taken : (old new : Entries) (e : Entry) (text rest after : List ℕ)
+    → text ≡ 91 ∷ (open_items false (cells_values old) ++ rest)
+    → rest ≡ comma_if (is_later old) ++ (compact_text (entry_value e) ++ after)
+    → new ≡ old ++ e ∷ [] → text ≡ 91 ∷ (open_items false (cells_values new) ++ after)
+cell_taken old new e text rest after so_far next pushed =
+    let later : is_later old ≡ is_later (cells_values old) = sym (is_later-map entry_value old) in
     rw (pushed, map-append entry_value old (e ∷ []))
     (item_taken (cells_values old) (entry_value e) text rest after so_far
     (next ∙ ap (λ b. comma_if b ++ (compact_text (entry_value e) ++ after)) later))
@@ -196,27 +172,54 @@ cells_kept old new e kept one above pushed =
 
 -- ---- documents
 
-closed : (cells rows kind_name kind subject name version two : List ℕ)
+-- the members after the rows, one after another
+pub members_taken : (kind subject name text r1 r2 r3 r4 r5 end : List ℕ)
+    → text ≡ 44 ∷ (quoted (codes "kind") ++ 58 ∷ r1) → r1 ≡ quoted kind ++ r2
+    → r2 ≡ 44 ∷ (quoted subject ++ 58 ∷ r3) → r3 ≡ quoted name ++ r4
+    → r4 ≡ 44 ∷ (quoted (codes "version") ++ 58 ∷ r5) → r5 ≡ decimal 2 ++ end
+    → text ≡ last_members kind subject name end
+members_taken kind subject name text r1 r2 r3 r4 r5 end p1 p2 p3 p4 p5 p6 =
+    p1 ∙ ap (λ r. 44 ∷ (quoted (codes "kind") ++ 58 ∷ r))
+    (p2 ∙ ap (λ r. quoted kind ++ r)
+    (p3 ∙ ap (λ r. 44 ∷ (quoted subject ++ 58 ∷ r))
+    (p4 ∙ ap (λ r. quoted name ++ r)
+    (p5 ∙ ap (λ r. 44 ∷ (quoted (codes "version") ++ 58 ∷ r)) p6))))
+
+closed : (cells rows kind_name kind subject name version two after : List ℕ)
     → 123 ∷ (cells ++ 58 ∷
     (rows ++ 44 ∷
     (kind_name ++ 58 ∷
-    (kind ++ 44 ∷ (subject ++ 58 ∷ (name ++ 44 ∷ (version ++ 58 ∷ (two ++ 125 ∷ 10 ∷ []))))))))
+    (kind ++ 44 ∷ (subject ++ 58 ∷ (name ++ 44 ∷ (version ++ 58 ∷ (two ++ 125 ∷ after))))))))
     ≡ 123 ∷ ((cells ++ 58 ∷
     (rows ++ 44 ∷
     (kind_name ++ 58 ∷
     (kind ++ 44 ∷ (subject ++ 58 ∷ (name ++ 44 ∷ (version ++ 58 ∷ (two ++ 125 ∷ [])))))))) ++
-    10 ∷ [])
-closed cells rows kind_name kind subject name version two = simp append_assoc
+    after)
+closed cells rows kind_name kind subject name version two after = simp append_assoc
 
--- a document is its rows and the members about them
-pub document_taken : (kind : Kind) (text rest left name : List ℕ) (cells : Entries)
+-- a document is its rows and the members about them, and what comes after its brace
+whole : (kind : Kind) (text rest left name after : List ℕ) (cells : Entries)
     → text ≡ 123 ∷ (quoted (codes "cells") ++ 58 ∷ rest) → rest ≡ rows_text cells ++ left
-    → left ≡ last_members (kind_text kind) (subject_of kind) name
-    → text ≡ document_text (cells_document kind name (cells_values cells))
-document_taken kind text rest left name cells first rows last =
+    → left ≡ last_members (kind_text kind) (subject_of kind) name (125 ∷ after)
+    → text ≡ compact_text (cells_document kind name (cells_values cells)) ++ after
+whole kind text rest left name after cells first rows last =
     first
     ∙ ap (λ r. 123 ∷ (quoted (codes "cells") ++ 58 ∷ r))
     (rows ∙ ap (λ r. rows_text cells ++ r) last)
     ∙ closed (quoted (codes "cells")) (rows_text cells) (quoted (codes "kind"))
     (quoted (kind_text kind)) (quoted (subject_of kind)) (quoted name)
-    (quoted (codes "version")) (decimal 2)
+    (quoted (codes "version")) (decimal 2) after
+
+-- a document ends in its line feed, or without it
+pub document_taken : (kind : Kind) (text rest left name end : List ℕ) (cells : Entries)
+    → text ≡ 123 ∷ (quoted (codes "cells") ++ 58 ∷ rest) → rest ≡ rows_text cells ++ left
+    → IsEnd end → left ≡ last_members (kind_text kind) (subject_of kind) name end
+    → IsTextOf (cells_document kind name (cells_values cells)) text
+document_taken kind text rest left name end cells first rows (inl fed) last =
+    inl (whole kind text rest left name (10 ∷ []) cells first rows
+    (last ∙ ap (last_members (kind_text kind) (subject_of kind) name) fed))
+document_taken kind text rest left name end cells first rows (inr cut) last =
+    let is = whole kind text rest left name [] cells first rows
+    (last ∙ ap (last_members (kind_text kind) (subject_of kind) name) cut) in
+    inr (ap (λ t. t ++ 10 ∷ [])
+    (is ∙ append-nil (compact_text (cells_document kind name (cells_values cells)))))

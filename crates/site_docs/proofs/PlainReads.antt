@@ -1,26 +1,32 @@
--- The text that is written for a site or a delta reads as it.
-use Rattle.std.proofs.Common.{ℕ, List, subst, sym}
-use Rattle.std.specs.Prelude.{IsUtf8}
-use Rattle.cata_core.specs.declared.delta.Delta.{Delta as DeltaState}
+-- The text that is written for a site or a delta reads as it, with its line feed or without.
+use Rattle.std.proofs.Common.{◌≡◌, ◌∙◌, ℕ, List, ap, inl, inr, sym}
+use Rattle.serde_json.specs.Data.{Data}
+use Rattle.serde_json.specs.Read.{read}
 use Rattle.cata_core.specs.Entries.{Entries}
-use Rattle.cata_core.specs.Sites.{SiteState}
-use Rattle.site_docs.specs.Plain.{IsPlainText}
+use Rattle.json_docs.proofs.LineFeed.{read-line_feed}
+use Rattle.site_docs.specs.AsWritten.{cells_document}
+use Rattle.site_docs.specs.Documents.{cells_values}
+use Rattle.site_docs.specs.Plain.{IsPlainText, IsTextOf}
 use Rattle.site_docs.specs.ReadsAs.{ReadsAsDelta, ReadsAsSite}
+use Rattle.site_docs.specs.Texts.{text}
 use Rattle.site_docs.specs.declared.document.kind.Kind.TheVariants.{Delta, Site}
-use Rattle.site_docs.proofs.RoundTrip.{delta_again, site_again}
+use Rattle.site_docs.proofs.RoundTrip.{reads_delta, reads_site}
+
+-- a text reads as it does without its line feed
+read_same : (d : Data) (bytes : List ℕ) → IsTextOf d bytes → read bytes ≡ read (text d)
+read_same d bytes (inl is) = ap read is
+read_same d bytes (inr cut) = sym (read-line_feed bytes) ∙ ap read cut
 
 -- a site
 pub plain_site : (bytes name : List ℕ) (cells : Entries) → IsPlainText Site bytes name cells
     → ReadsAsSite bytes (record { name = name; cells = cells })
 plain_site bytes name cells plain =
-    let site : SiteState = record { name = name; cells = cells } in
-    subst (λ (b : List ℕ). ReadsAsSite b site) (sym plain.text)
-    (site_again site plain.is_name plain.kept (subst IsUtf8 plain.text plain.utf8))
+    reads_site bytes (record { name = name; cells = cells }) plain.is_name plain.kept plain.utf8
+    (read_same (cells_document Site name (cells_values cells)) bytes plain.text)
 
 -- a delta
 pub plain_delta : (bytes name : List ℕ) (cells : Entries) → IsPlainText Delta bytes name cells
     → ReadsAsDelta bytes (record { addressee = name; cells = cells })
 plain_delta bytes name cells plain =
-    let delta : DeltaState = record { addressee = name; cells = cells } in
-    subst (λ (b : List ℕ). ReadsAsDelta b delta) (sym plain.text)
-    (delta_again delta plain.is_name plain.kept (subst IsUtf8 plain.text plain.utf8))
+    reads_delta bytes (record { addressee = name; cells = cells }) plain.is_name plain.kept
+    plain.utf8 (read_same (cells_document Delta name (cells_values cells)) bytes plain.text)

@@ -1,6 +1,5 @@
 -- A reader's refusal, as that of an input document.
 use Rattle.std.proofs.Common.{ℕ, ap, inl, inr, refl}
-use Rattle.cata_core.specs.declared.cata_fault.CataFault.TheVariants as cata
 use Rattle.json_docs.specs.Checks.{OrMemory}
 use Rattle.json_docs.specs.Faults.{of_document}
 use Rattle.json_docs.specs.declared.fault.DocCause.{DocCause}
@@ -9,7 +8,7 @@ use Rattle.site_docs.specs.ReadsAs.{IsOfDocument, no_memory}
 
 -- a reader's refusal, as that of an input document
 pub of_reader : (document : ℕ) (Refuses : DocCause → Type 0) (cause : DocCause)
-    → OrMemory NoMemory Refuses cause
-    → OrMemory no_memory (IsOfDocument document Refuses) (of_document document cause)
+    → OrMemory NoMemory Refuses cause → OrMemory no_memory (IsOfDocument document Refuses)
+    (of_document document cause)
 of_reader document Refuses cause why =
     elim why [ inl memory ↦ inl (ap (of_document document) memory) | inr h ↦ inr (cause, h, refl) ]

@@ -36,8 +36,7 @@ module _ {J : Type 0} (entry : Data → Option (EntryKey × J)) where
   AreEntries-push : (rows : List Data) (es : List (EntryKey × J)) (d : Data) (e : EntryKey × J)
       → AreEntries entry rows es → entry d ≡ Some e
       → AreEntries entry (rows ++ d ∷ []) (es ++ e ∷ [])
-  AreEntries-push rows es d e are is =
-      map-append entry rows (d ∷ [])
+  AreEntries-push rows es d e are is = map-append entry rows (d ∷ [])
       ∙ (ap₂ (λ xs x. xs ++ x ∷ []) are is ∙ sym (map-append Some es (e ∷ [])))
 
   pub last_key-push : (rows : List Data) (d : Data) (e : EntryKey × J) → entry d ≡ Some e
@@ -57,8 +56,8 @@ module _ {J : Type 0} (entry : Data → Option (EntryKey × J)) where
   last_is : (rows : List Data) (es : List (EntryKey × J)) → AreEntries entry rows es
       → last_key entry rows ≡ option_map (λ e. e.0) (slice_get es (length es - 1))
   last_is rows es are =
-      let as_many : length rows ≡ length es =
-      sym (length-map rows entry) ∙ ap length are ∙ length-map es Some in
+      let as_many : length rows ≡ length es = sym (length-map rows entry) ∙ ap length are
+      ∙ length-map es Some in
       let at = length rows - 1 in
       let same : option_map entry (slice_get rows at)
       ≡ option_map Some (slice_get es (length es - 1)) =
@@ -67,7 +66,7 @@ module _ {J : Type 0} (entry : Data → Option (EntryKey × J)) where
       ap (option_map (λ (e : EntryKey × J). e.0))
       (found_as (slice_get rows at) (slice_get es (length es - 1)) same)
 
-  -- a key is after the last one where it is above all
+  -- a key is behind the last one where it is above all
   behind_last : (es : List (EntryKey × J)) (key : EntryKey) (last : Option (EntryKey × J))
       → IsMap key_cmp es → slice_get es (length es - 1) ≡ last
       → IsBehind (option_map (λ e. e.0) last) key ↔ IsAboveAll key es
@@ -85,7 +84,7 @@ module _ {J : Type 0} (entry : Data → Option (EntryKey × J)) where
       (sym (last_is rows es makes.are))
       (behind_last es key (slice_get es (length es - 1)) makes.rising refl)
 
-  -- the row comes after all others
+  -- the row goes behind all others
   pub MakesEntries-push : (rows : List Data) (old new : List (EntryKey × J)) (d : Data)
       (e : EntryKey × J)
       → MakesEntries entry rows old → entry d ≡ Some e → IsAboveAll e.0 old → new ≡ old ++ e ∷ []
@@ -102,29 +101,27 @@ module _ {J : Type 0} (entry : Data → Option (EntryKey × J)) where
         (key : EntryKey) (e : EntryKey × J)
         → length before ≡ k → MakesEntries entry before old → entry d ≡ Some e
         → (entry d ≡ Some e → key ≡ e.0) → AllPass (own k d) → IsAboveAll e.0 old
-        → AllPass
-        (own (length before) d ++ order_check (length before) (last_key entry before) key ∷ [])
+        → AllPass (own (length before) d ++ order_check (length before) (last_key entry before) key
+        ∷ [])
     passes_row before k d old key e is makes made same pass above =
         subst (λ (n : ℕ). AllPass (own n d ++ order_check n (last_key entry before) key ∷ []))
         (sym is)
         (subst (λ (q : EntryKey). AllPass (own k d ++ order_check k (last_key entry before) q ∷ []))
-        (sym (same made))
-        (AllPass-both (own k d) _ pass ((behind_all before old e.0 makes).1 above, tt)))
+        (sym (same made)) (AllPass-both (own k d) _ pass
+        ((behind_all before old e.0 makes).1 above, tt)))
 
     -- a row that passes its own tests alone
     pub fails_row : (before : List Data) (k : ℕ) (d : Data) (old : List (EntryKey × J))
         (key : EntryKey) (e : EntryKey × J)
         → length before ≡ k → MakesEntries entry before old → entry d ≡ Some e
         → (entry d ≡ Some e → key ≡ e.0) → AllPass (own k d) → ¬ (IsAboveAll e.0 old)
-        → FirstFails
-        (own (length before) d ++ order_check (length before) (last_key entry before) key ∷ [])
-        (CellOrder k)
+        → FirstFails (own (length before) d ++ order_check (length before)
+        (last_key entry before) key ∷ []) (CellOrder k)
     fails_row before k d old key e is makes made same pass never =
         subst (λ (n : ℕ). FirstFails (own n d ++ order_check n (last_key entry before) key ∷ [])
         (CellOrder k)) (sym is)
-        (subst
-        (λ (q : EntryKey). FirstFails (own k d ++ order_check k (last_key entry before) q ∷ [])
-        (CellOrder k)) (sym (same made))
+        (subst (λ (q : EntryKey). FirstFails
+        (own k d ++ order_check k (last_key entry before) q ∷ []) (CellOrder k)) (sym (same made))
         (FirstFails-behind (own k d) _ (CellOrder k) pass
         (inl ((λ behind. never ((behind_all before old e.0 makes).0 behind)), refl))))
 
@@ -133,8 +130,8 @@ pub own_cell : (r : Result CellEntry DocCause) (version : Version) (k : ℕ) (d 
     (texts : Option (List (List ℕ))) → Some (row, texts) ≡ cell_in version d
     → MatchResult r (λ x. AllPass (cell_fields k row texts) × (entry_by x ≡ entry_of row texts))
     (λ e. (e ≡ NoMemory) ⊎ FirstFails (cell_fields k row texts) e)
-    → MatchResult r
-    (λ x. AllPass (own_cell_checks version k d) × (entry_in version d ≡ Some (entry_by x)))
+    → MatchResult r (λ x. AllPass (own_cell_checks version k d)
+    × (entry_in version d ≡ Some (entry_by x)))
     (λ e. (e ≡ NoMemory) ⊎ FirstFails (own_cell_checks version k d) e)
 own_cell (Ok x) version k d row texts is h = rw (← is) ((refl, h.0), ap Some (sym h.1))
 own_cell (Err e) version k d row texts is h =
@@ -145,20 +142,20 @@ pub own_stamp : (r : Result StampEntry DocCause) (version : Version) (k : ℕ) (
     → Some row ≡ stamp_in version d
     → MatchResult r (λ x. AllPass (stamp_fields k row) × (told_by x ≡ told_of row))
     (λ e. (e ≡ NoMemory) ⊎ FirstFails (stamp_fields k row) e)
-    → MatchResult r
-    (λ x. AllPass (own_stamp_checks version k d) × (told_in version d ≡ Some (told_by x)))
+    → MatchResult r (λ x. AllPass (own_stamp_checks version k d)
+    × (told_in version d ≡ Some (told_by x)))
     (λ e. (e ≡ NoMemory) ⊎ FirstFails (own_stamp_checks version k d) e)
 own_stamp (Ok x) version k d row is h = rw (← is) ((refl, h.0), ap Some (sym h.1))
 own_stamp (Err e) version k d row is h =
     rw (← is) (elim h [ inl m ↦ inl m | inr f ↦ inr (inr (refl, f)) ])
 
--- The key of a row that makes an entry of a cell is the entry's key.
+-- the key of a row is that of the entry that it makes
 pub key_of_cell : (o : Option (Row × Option (List (List ℕ)))) (e : Entry)
     → option_map (λ p. entry_of p.0 p.1) o ≡ Some e → key_of (unwrap_or o (no_row, None)).0 ≡ e.0
 key_of_cell None e is = cc
 key_of_cell (Some p) e is = ap (λ (o : Option Entry). (unwrap_or o e).0) is
 
--- The key of a row that makes a key and a stamp is that key.
+-- the key of a row of a summary is that of the stamp that it makes
 pub key_of_stamp : (o : Option Row) (e : EntryKey × Stamp) → option_map told_of o ≡ Some e
     → key_of (unwrap_or o no_row) ≡ e.0
 key_of_stamp None e is = cc

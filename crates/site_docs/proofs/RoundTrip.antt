@@ -11,6 +11,7 @@ use Rattle.std.proofs.lemmas.Map.Text.{is_eq-slice_cmp}
 use Rattle.cell_core.specs.SiteNames.{IsSiteName}
 use Rattle.serde_json.specs.Data.{Data, Members, member}
 use Rattle.serde_json.specs.Find.{get_member}
+use Rattle.serde_json.specs.Read.{read}
 use Rattle.cata_core.specs.declared.delta.Delta.{Delta as DeltaState}
 use Rattle.cata_core.specs.Sites.{SiteState}
 use Rattle.cata_core.specs.Summary.{SummaryState}
@@ -34,16 +35,15 @@ use Rattle.site_docs.proofs.WrittenTexts.{read-delta, read-site, read-summary}
 
 -- ---- members by their names
 
-by_order : (r : Ordering) (x : Option Data) (d : Data)
-    → is_some (match_ordering r x (Some d) x) ≡ (is_eq r || is_some x)
+by_order : (r : Ordering) (x : Option Data) (d : Data) → is_some (match_ordering r x (Some d) x)
+    ≡ (is_eq r || is_some x)
 by_order Less x d = refl
 by_order Equal x d = refl
 by_order Greater x d = refl
 
 some_member : (name k : List ℕ) (d : Data) (ms : Members)
     → is_some (get_member name (member k d ms)) ≡ (bytes_eq name k || is_some (get_member name ms))
-some_member name k d ms =
-    by_order (slice_cmp nat_cmp name k) (get_member name ms) d
+some_member name k d ms = by_order (slice_cmp nat_cmp name k) (get_member name ms) d
     ∙ ap (λ b. b || is_some (get_member name ms)) (is_eq-slice_cmp name k)
 
 rows_first : (rows kind subject version : Bool)
@@ -71,26 +71,28 @@ rows_third false false true false = refl
 rows_third false false false true = refl
 rows_third false false false false = refl
 
--- The value that is written for a site has exactly the members of its kind of document.
+-- the document of a site has the members of its kind
 pub site_names : (name : List ℕ) (rows : List Data) → HasJust (names_of Site) (site_value name rows)
 site_names name rows q =
     rw (
       some_member q (codes "cells"),
       some_member q (codes "kind"),
-      some_member q (codes "site"),
+      some_member q
+          (codes "site"),
       some_member q (codes "version"),
     )
     (rows_first (bytes_eq q (codes "cells")) (bytes_eq q (codes "kind")) (bytes_eq q (codes "site"))
     (bytes_eq q (codes "version")))
 
--- The value that is written for a delta has exactly the members of its kind of document.
+-- the document of a delta has the members of its kind
 pub delta_names : (name : List ℕ) (rows : List Data)
     → HasJust (names_of Delta) (delta_value name rows)
 delta_names name rows q =
     rw (
       some_member q (codes "cells"),
       some_member q (codes "kind"),
-      some_member q (codes "to"),
+      some_member q
+          (codes "to"),
       some_member q (codes "version"),
     )
     (rows_first (bytes_eq q (codes "cells")) (bytes_eq q (codes "kind")) (bytes_eq q (codes "to"))
@@ -102,7 +104,8 @@ summary_names name rows q =
     rw (
       some_member q (codes "kind"),
       some_member q (codes "owner"),
-      some_member q (codes "stamps"),
+      some_member q
+          (codes "stamps"),
       some_member q (codes "version"),
     )
     (rows_third (bytes_eq q (codes "kind")) (bytes_eq q (codes "owner"))
@@ -112,14 +115,14 @@ summary_names name rows q =
 
 -- the tests after those of the header
 abbrev pub rest_checks : Kind → (Version → List Data → Data → List Check) → Data → List Check
-rest_checks kind checks d =
-    subject_checks (version_of d) (subject_data kind d)
-    ++ rows_checks (checks (version_of d)) [] (rows_in kind d)
+rest_checks kind checks d = subject_checks (version_of d) (subject_data kind d) ++ rows_checks
+    (checks (version_of d)) [] (rows_in kind d)
 
--- The text that is written for a site with a valid name and valid cells reads as that site.
-pub site_again : (site : SiteState) → IsSiteName site.name → AreKeptCells site.cells
-    → IsUtf8 (site_text site) → ReadsAsSite (site_text site) site
-site_again site name kept utf8 =
+-- bytes that read as the text of a site's document
+pub reads_site : (bytes : List ℕ) (site : SiteState) → IsSiteName site.name
+    → AreKeptCells site.cells → IsUtf8 bytes → read bytes ≡ read (site_text site)
+    → ReadsAsSite bytes site
+reads_site bytes site name kept utf8 same =
     let d = site_value site.name (cells_values site.cells) in
     let header : AllPass (header_checks Site d) =
     ((refl, refl), (inr refl, ((site_names site.name (cells_values site.cells), refl), tt))) in
@@ -127,38 +130,48 @@ site_again site name kept utf8 =
     let rest : AllPass (rest_checks Site cell_checks d) =
     (refl, (name, rw (list_of-items_of (cells_values site.cells)) rows)) in (
       d,
-      (utf8, read-site site.name site.cells kept.each),
+      (utf8, same ∙ read-site site.name site.cells kept.each),
       AllPass-both (header_checks Site d) (rest_checks Site cell_checks d) header rest,
       record {
         name = refl;
-        cells =
-            rw (list_of-items_of (cells_values site.cells)) (entries_again site.cells kept.each);
+        cells = rw (list_of-items_of (cells_values site.cells))
+            (entries_again site.cells kept.each);
       },
     )
 
--- The text that is written for a delta with a valid name and valid cells reads as that delta.
-pub delta_again : (delta : DeltaState) → IsSiteName delta.addressee → AreKeptCells delta.cells
-    → IsUtf8 (delta_text delta) → ReadsAsDelta (delta_text delta) delta
-delta_again delta name kept utf8 =
+-- the text of a site's document reads as the site
+pub site_again : (site : SiteState) → IsSiteName site.name → AreKeptCells site.cells
+    → IsUtf8 (site_text site) → ReadsAsSite (site_text site) site
+site_again site name kept utf8 = reads_site (site_text site) site name kept utf8 refl
+
+-- bytes that read as the text of a delta's document
+pub reads_delta : (bytes : List ℕ) (delta : DeltaState) → IsSiteName delta.addressee
+    → AreKeptCells delta.cells → IsUtf8 bytes → read bytes ≡ read (delta_text delta)
+    → ReadsAsDelta bytes delta
+reads_delta bytes delta name kept utf8 same =
     let d = delta_value delta.addressee (cells_values delta.cells) in
-    let header : AllPass (header_checks Delta d) = (
-      (refl, refl),
-      (inr refl, ((delta_names delta.addressee (cells_values delta.cells), refl), tt)),
-    ) in
+    let names = delta_names delta.addressee (cells_values delta.cells) in
+    let header : AllPass (header_checks Delta d) =
+    ((refl, refl), (inr refl, ((names, refl), tt))) in
     let rows = cells_pass delta.cells kept in
     let rest : AllPass (rest_checks Delta cell_checks d) =
     (refl, (name, rw (list_of-items_of (cells_values delta.cells)) rows)) in (
       d,
-      (utf8, read-delta delta.addressee delta.cells kept.each),
+      (utf8, same ∙ read-delta delta.addressee delta.cells kept.each),
       AllPass-both (header_checks Delta d) (rest_checks Delta cell_checks d) header rest,
       record {
         addressee = refl;
-        cells =
-            rw (list_of-items_of (cells_values delta.cells)) (entries_again delta.cells kept.each);
+        cells = rw (list_of-items_of (cells_values delta.cells))
+            (entries_again delta.cells kept.each);
       },
     )
 
--- The text that is written for a summary with a valid name and stamps reads as that summary.
+-- the text of a delta's document reads as the delta
+pub delta_again : (delta : DeltaState) → IsSiteName delta.addressee → AreKeptCells delta.cells
+    → IsUtf8 (delta_text delta) → ReadsAsDelta (delta_text delta) delta
+delta_again delta name kept utf8 = reads_delta (delta_text delta) delta name kept utf8 refl
+
+-- the text of a summary's document reads as the summary
 pub summary_again : (summary : SummaryState) → IsSiteName summary.owner
     → AreKeptStamps summary.stamps → IsUtf8 (summary_text summary)
     → ReadsAsSummary (summary_text summary) summary
@@ -166,7 +179,13 @@ summary_again summary name kept utf8 =
     let d = summary_value summary.owner (stamps_values summary.stamps) in
     let header : AllPass (header_checks Summary d) = (
       (refl, refl),
-      (inr refl, ((summary_names summary.owner (stamps_values summary.stamps), refl), tt)),
+      (
+        inr refl,
+        (
+          (summary_names summary.owner (stamps_values summary.stamps), refl),
+          tt,
+        ),
+      ),
     ) in
     let rows = stamps_pass summary.stamps kept in
     let rest : AllPass (rest_checks Summary stamp_checks d) =
@@ -176,8 +195,7 @@ summary_again summary name kept utf8 =
       AllPass-both (header_checks Summary d) (rest_checks Summary stamp_checks d) header rest,
       record {
         owner = refl;
-        stamps =
-            rw (list_of-items_of (stamps_values summary.stamps))
+        stamps = rw (list_of-items_of (stamps_values summary.stamps))
             (stamps_again summary.stamps kept.each);
       },
     )

@@ -11,7 +11,7 @@ use Rattle.site_docs.specs.declared.document.kind.Kind.{Kind}
 use Rattle.site_docs.specs.declared.document.version.Version.{Version}
 use Rattle.json_docs.proofs.ChecksLemmas.{FirstFails-front}
 
--- A refusal of a document at its header is a refusal of the document.
+-- what refuses the header refuses the document
 pub refused_before : (kind : Kind) (checks : Version → List Data → Data → List Check)
     (bytes : List ℕ) (e : DocCause)
     → OrMemory NoMemory (RefusesHeader kind bytes) e
@@ -20,13 +20,12 @@ refused_before kind checks bytes e why = elim why [
   | inl memory ↦ inl memory
   | inr before ↦ elim before [
     | inl text ↦ inr (inl text)
-    | inr header ↦
-        inr (inr (
-          header.0,
-          header.1,
-          FirstFails-front (header_checks kind header.0)
-              (subject_checks (version_of header.0) (subject_data kind header.0)
-              ++ rows_checks (checks (version_of header.0)) [] (rows_in kind header.0)) e header.2,
-        ))
+    | inr header ↦ inr (inr (
+      header.0,
+      header.1,
+      FirstFails-front (header_checks kind header.0)
+          (subject_checks (version_of header.0) (subject_data kind header.0) ++ rows_checks
+          (checks (version_of header.0)) [] (rows_in kind header.0)) e header.2,
+    ))
   ]
 ]

@@ -46,10 +46,9 @@ among_by false false true d = refl
 among_by false false false true = refl
 among_by false false false false = refl
 
-among_is : (kind : Kind) (name : List ℕ)
-    → is_among name (names_of kind) ≡ is_named (member_of kind name)
-among_is kind name =
-    among_by (bytes_eq name (codes "kind")) (bytes_eq name (codes "version"))
+among_is : (kind : Kind) (name : List ℕ) → is_among name (names_of kind)
+    ≡ is_named (member_of kind name)
+among_is kind name = among_by (bytes_eq name (codes "kind")) (bytes_eq name (codes "version"))
     (bytes_eq name (subject_of kind)) (bytes_eq name (rows_of kind))
 
 -- ---- parts that are there
@@ -61,8 +60,8 @@ text_is text (Some found) h = ap Some ((bytes_eq-Decides found text).0 h)
 is_same : (text : List ℕ) → is_text text (Some text) ≡ true
 is_same text = (bytes_eq-Decides text text).1 refl
 
-first_there : {A : Type 0} (f : Data → Option A) (m : Option Data)
-    → is_some (option_and_then f m) ≡ true → is_some m ≡ true
+first_there : {A : Type 0} (f : Data → Option A) (m : Option Data) → is_some (option_and_then f m)
+    ≡ true → is_some m ≡ true
 first_there f None h = h
 first_there f (Some d) h = refl
 
@@ -99,8 +98,8 @@ module _ {S : Type 0} (checks : List Data → Data → List Check) (Holds : S �
   rows_shown (Some refusal) ds some shown = refl
 
   rows_held : (refusal : Option DocCause) (o : Option (Option DocCause)) (ds : Option (List Data))
-      → o ≡ Some refusal → ShowsRows checks Holds o rows ds
-      → TakesRows checks Holds [] rows refusal (unwrap_or ds [])
+      → o ≡ Some refusal → ShowsRows checks Holds o rows ds → TakesRows checks Holds [] rows refusal
+      (unwrap_or ds [])
   rows_held refusal o ds is shown =
       let there : ShowsRows checks Holds (Some refusal) rows ds = rw is at shown in
       rw there.1 there.2
@@ -112,9 +111,9 @@ module _ {S : Type 0} (kind : Kind) (checks : List Data → Data → List Check)
     (shown : Shows kind checks Holds header rows ms) where
   begins : Starts header → Begins kind (object ms)
   begins starts = (
-    text_is (kind_text kind) (kind_in (object ms)) (sym shown.is_kind ∙ starts.0),
-    sym
-        (ap is_some shown.version) ∙ starts.1,
+    text_is (kind_text kind) (kind_in (object ms))
+        (sym shown.is_kind ∙ starts.0),
+    sym (ap is_some shown.version) ∙ starts.1,
   )
 
   starts_if : Begins kind (object ms) → Starts header
@@ -134,8 +133,8 @@ module _ {S : Type 0} (kind : Kind) (checks : List Data → Data → List Check)
       → is_some (get_member name ms) ≡ is_named m
   unfolding is_named
   just starts whole name KindMember is =
-      rw (named_kind kind name is)
-      (first_there as_str (get_member (codes "kind") ms) (ap is_some (begins starts).0))
+      rw (named_kind kind name is) (first_there as_str (get_member (codes "kind") ms)
+      (ap is_some (begins starts).0))
   just starts whole name Version is =
       rw (named_version kind name is)
       (first_there u64_in (get_member (codes "version") ms) (begins starts).1)
@@ -143,8 +142,7 @@ module _ {S : Type 0} (kind : Kind) (checks : List Data → Data → List Check)
       rw (named_subject kind name is)
       (subject_there header.subject (get_member (subject_of kind) ms) whole.1 shown.subject)
   just starts whole name Rows is =
-      rw (named_rows kind name is)
-      (first_there items_in (get_member (rows_of kind) ms)
+      rw (named_rows kind name is) (first_there items_in (get_member (rows_of kind) ms)
       (rows_there checks Holds rows header.rows _ whole.2 shown.rows_part))
   just starts whole name Other is =
       false_if (is_some (get_member name ms))
@@ -162,12 +160,10 @@ module _ {S : Type 0} (kind : Kind) (checks : List Data → Data → List Check)
   whole_if : HasMembers kind (object ms) → IsWhole header
   unfolding is_named
   whole_if has =
-      let subject_named : is_some (get_member (subject_of kind) ms) ≡ true =
-      has.0 (subject_of kind) ∙ among_is kind (subject_of kind)
-      ∙ ap is_named (subject_is kind) in (
-        false_if header.has_other
-            (λ other. let o = shown.others.there other in let never : true ≡ false =
-            sym o.2 ∙ has.0 o.0 ∙ among_is kind o.0 ∙ ap is_named o.1 in absurd (cc)),
+      let subject_named : is_some (get_member (subject_of kind) ms) ≡ true = has.0 (subject_of kind)
+      ∙ among_is kind (subject_of kind) ∙ ap is_named (subject_is kind) in (
+        false_if header.has_other (λ other. let o = shown.others.there other in let never : true
+            ≡ false = sym o.2 ∙ has.0 o.0 ∙ among_is kind o.0 ∙ ap is_named o.1 in absurd (cc)),
         subject_shown header.subject (get_member (subject_of kind) ms) subject_named shown.subject,
         rows_shown checks Holds rows header.rows _ has.1 shown.rows_part,
       )
@@ -175,12 +171,13 @@ module _ {S : Type 0} (kind : Kind) (checks : List Data → Data → List Check)
   pub has_header : (tested : TestedHeader) → PassesHeader header tested
       → HasHeader kind checks Holds (object ms) tested rows
   has_header tested passes = record {
-    passes =
-        (begins passes.starts, (known passes.known, (has_members passes.starts passes.whole, tt)));
+    passes = (
+      begins passes.starts,
+      (known passes.known, (has_members passes.starts passes.whole, tt)),
+    );
     version = passes.version ∙ ap version_by shown.version;
-    subject =
-        subject_held tested.subject header.subject (get_member (subject_of kind) ms) passes.subject
-        shown.subject;
+    subject = subject_held tested.subject header.subject
+        (get_member (subject_of kind) ms) passes.subject shown.subject;
     taken = rows_held checks Holds rows tested.refusal header.rows _ passes.rows shown.rows_part;
   }
 

@@ -18,30 +18,28 @@ use Rattle.serde_json.specs.Written.{items_outline}
 use Rattle.site_docs.specs.Texts.{Adds, row_tokens, text, value_tokens}
 use Rattle.site_docs.specs.Written.{texts_of}
 
--- Adding some tokens to a draft and then others adds the first followed by the others.
+-- what was added in two steps
 pub Adds-then : (a b c : Written) (x y : List Token) → Adds a b x → Adds b c y → Adds a c (x ++ y)
 Adds-then a b c x y p q = (q.0 ∙ p.0, q.1 ∙ (ap (λ t. t ++ y) p.1 ∙ append_assoc a.tokens x y))
 
 -- an array is its bracket, its values and its bracket
-pub items_tokens-rows : (ds : List Data)
-    → items_tokens (items_outline (items_of ds)) ≡ row_tokens ds ++ end_array ∷ []
+pub items_tokens-rows : (ds : List Data) → items_tokens (items_outline (items_of ds))
+    ≡ row_tokens ds ++ end_array ∷ []
 items_tokens-rows [] = refl
-items_tokens-rows (d ∷ ds) =
-    ap (λ t. value_tokens d ++ t) (items_tokens-rows ds)
+items_tokens-rows (d ∷ ds) = ap (λ t. value_tokens d ++ t) (items_tokens-rows ds)
     ∙ sym (append_assoc (value_tokens d) (row_tokens ds) (end_array ∷ []))
 
--- The tokens of two lists of rows in sequence are those of the first, and then of the second.
+-- the tokens of values that follow others
 pub row_tokens-append : (ds es : List Data) → row_tokens (ds ++ es) ≡ row_tokens ds ++ row_tokens es
 row_tokens-append [] es = refl
-row_tokens-append (d ∷ ds) es =
-    ap (λ t. value_tokens d ++ t) (row_tokens-append ds es)
+row_tokens-append (d ∷ ds) es = ap (λ t. value_tokens d ++ t) (row_tokens-append ds es)
     ∙ sym (append_assoc (value_tokens d) (row_tokens ds) (row_tokens es))
 
--- One row more adds its tokens to those of the rows before it.
-pub row_tokens-push : (ds : List Data) (d : Data)
-    → row_tokens (ds ++ d ∷ []) ≡ row_tokens ds ++ value_tokens d
-row_tokens-push ds d =
-    row_tokens-append ds (d ∷ []) ∙ ap (λ t. row_tokens ds ++ t) (append-nil (value_tokens d))
+-- the tokens of one value more
+pub row_tokens-push : (ds : List Data) (d : Data) → row_tokens (ds ++ d ∷ []) ≡ row_tokens ds
+    ++ value_tokens d
+row_tokens-push ds d = row_tokens-append ds (d ∷ [])
+    ∙ ap (λ t. row_tokens ds ++ t) (append-nil (value_tokens d))
 
 -- one text more
 pub row_tokens-text : (texts : List (String Global)) (k : ℕ) (text : String Global)
@@ -60,14 +58,13 @@ row_tokens-text texts k text h is =
     )
     (row_tokens-push (map string (texts_of (take k texts))) (string (string_bytes text)))
 
--- An array is whole once its closing bracket follows its values.
+-- an array is whole once its bracket stands behind its values
 pub array_closed : {E : Type 0} → (a b c : Written) (ds : List Data)
     → Adds a b (begin_array ∷ row_tokens ds) → (r : Result (Unit {0}) E) → Writes r b c end_array
     → OnOk r (Adds a c (value_tokens (array (items_of ds))))
 array_closed a b c ds p r w =
-    IfOk-weaker r _ _
-    (λ _ wrote. rw items_tokens-rows (Adds-then a b c _ (end_array ∷ []) p (w.room.0, wrote)))
-    w.ok
+    IfOk-weaker r _ _ (λ _ wrote. rw items_tokens-rows
+    (Adds-then a b c _ (end_array ∷ []) p (w.room.0, wrote))) w.ok
 
 -- the tokens of a value print as its compact text
 pub printed : (ts : List Token) (d : Data) → ts ≡ value_tokens d → print ts ++ 10 ∷ [] ≡ text d
@@ -76,5 +73,5 @@ printed ts d is = ap (λ t. print t ++ 10 ∷ []) is ∙ ap (λ t. t ++ 10 ∷ [
 -- The tokens of a member that is an array of rows are those of the rows, and then a bracket.
 pub rows_member : (ds : List Data) (rest : List Token)
     → items_tokens (items_outline (items_of ds)) ++ rest ≡ row_tokens ds ++ end_array ∷ rest
-rows_member ds rest =
-    ap (λ t. t ++ rest) (items_tokens-rows ds) ∙ append_assoc (row_tokens ds) (end_array ∷ []) rest
+rows_member ds rest = ap (λ t. t ++ rest) (items_tokens-rows ds)
+    ∙ append_assoc (row_tokens ds) (end_array ∷ []) rest

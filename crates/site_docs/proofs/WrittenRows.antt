@@ -27,7 +27,7 @@ use Rattle.json_docs.proofs.ChecksLemmas.{AllPass-both}
 use Rattle.site_docs.proofs.LowerLemmas.{lower-IsLang, spells-IsLang}
 use Rattle.site_docs.proofs.RisingLemmas.{last_key-push}
 
--- Data made the items of an array and listed again are the same data.
+-- the list of the items of a list is the list
 pub list_of-items_of : (ds : List Data) → list_of (items_of ds) ≡ ds
 list_of-items_of [] = refl
 list_of-items_of (d ∷ ds) = ap (λ t. d ∷ t) (list_of-items_of ds)
@@ -36,30 +36,22 @@ texts_again : (texts : List (List ℕ)) → texts_in (map string texts) ≡ Some
 texts_again [] = refl
 texts_again (t ∷ ts) = rw (texts_again ts) refl
 
--- The value that is written for a label is read as that label.
+-- the value of a label is read as the label
 pub label_again : (label : Option (List (List ℕ))) → label_in (label_value label) ≡ Some label
 label_again None = refl
 label_again (Some texts) = rw (list_of-items_of (map string texts), texts_again texts) refl
 
--- A number below 2^32 fits 32 bits.
+-- a number below 2 ^ 32 is read as one of 32 bits
 pub narrow : (n : ℕ) → n < 2 ^ 32 → narrowed n ≡ Some n
 narrow n h = rw (lt-ltb n (2 ^ 32) h) refl
 
-cell_again : (e : Entry) → e.1.stamp.count < 2 ^ 32
-    → cell_in Two (entry_value e) ≡ Some (row_of e, e.1.label)
+cell_again : (e : Entry) → e.1.stamp.count < 2 ^ 32 → cell_in Two (entry_value e)
+    ≡ Some (row_of e, e.1.label)
 cell_again e h = rw (narrow e.1.stamp.count h, label_again e.1.label) refl
 
 stamp_again : (t : EntryKey × Stamp) → t.1.count < 2 ^ 32
-    → stamp_in Two (told_value t)
-    ≡ Some
-    (record {
-      id = t.0.0;
-      language = t.0.1;
-      time = t.1.time;
-      site = t.1.site;
-      count =
-          t.1.count;
-    })
+    → stamp_in Two (told_value t) ≡ Some
+    (record { id = t.0.0; language = t.0.1; time = t.1.time; site = t.1.site; count = t.1.count })
 stamp_again t h = rw (narrow t.1.count h) refl
 
 entry_again : (e : Entry) → IsKeptCell e → entry_in Two (entry_value e) ≡ Some e
@@ -68,20 +60,18 @@ entry_again e kept = rw (cell_again e kept.0.count, lower-IsLang e.0.1 kept.0.la
 told_again : (t : EntryKey × Stamp) → IsKeptStamp t → told_in Two (told_value t) ≡ Some t
 told_again t kept = rw (stamp_again t kept.count, lower-IsLang t.0.1 kept.lang) refl
 
--- The rows that are written for valid cells make these cells.
+-- the rows of cells make the cells
 pub entries_again : (es : Entries) → All IsKeptCell es
     → AreEntries (entry_in Two) (cells_values es) es
 entries_again [] kept = refl
-entries_again (e ∷ es) kept =
-    ap₂ (λ x xs. x ∷ xs) (entry_again e (all_first IsKeptCell e es kept))
+entries_again (e ∷ es) kept = ap₂ (λ x xs. x ∷ xs) (entry_again e (all_first IsKeptCell e es kept))
     (entries_again es (all_rest IsKeptCell e es kept))
 
--- The rows that are written for valid stamps make these stamps.
+-- the rows of stamps make the stamps
 pub stamps_again : (ts : List (EntryKey × Stamp)) → All IsKeptStamp ts
     → AreEntries (told_in Two) (stamps_values ts) ts
 stamps_again [] kept = refl
-stamps_again (t ∷ ts) kept =
-    ap₂ (λ x xs. x ∷ xs) (told_again t (all_first IsKeptStamp t ts kept))
+stamps_again (t ∷ ts) kept = ap₂ (λ x xs. x ∷ xs) (told_again t (all_first IsKeptStamp t ts kept))
     (stamps_again ts (all_rest IsKeptStamp t ts kept))
 
 -- ---- the tests
@@ -95,12 +85,13 @@ own_cell_passes k e kept =
 own_stamp_passes : (k : ℕ) (t : EntryKey × Stamp) → IsKeptStamp t
     → AllPass (own_stamp_checks Two k (told_value t))
 own_stamp_passes k t kept =
-    rw (stamp_again t kept.count)
-    (refl, (kept.id, ((t.0.1, spells-IsLang t.0.1 kept.lang), (kept.site, tt))))
+    rw (stamp_again t kept.count) (
+      refl,
+      (kept.id, ((t.0.1, spells-IsLang t.0.1 kept.lang), (kept.site, tt))),
+    )
 
-cell_passes : (done : List Data) (last : Option EntryKey) (e : Entry)
-    → last_key (entry_in Two) done ≡ last → IsBehind last e.0 → IsKeptCell e
-    → AllPass (cell_checks Two done (entry_value e))
+cell_passes : (done : List Data) (last : Option EntryKey) (e : Entry) → last_key (entry_in Two) done
+    ≡ last → IsBehind last e.0 → IsKeptCell e → AllPass (cell_checks Two done (entry_value e))
 cell_passes done last e is behind kept =
     AllPass-both (own_cell_checks Two (length done) (entry_value e))
     (order_check (length done) (last_key (entry_in Two) done)
@@ -112,8 +103,8 @@ stamp_passes : (done : List Data) (last : Option EntryKey) (t : EntryKey × Stam
     → AllPass (stamp_checks Two done (told_value t))
 stamp_passes done last t is behind kept =
     AllPass-both (own_stamp_checks Two (length done) (told_value t))
-    (order_check (length done) (last_key (told_in Two) done)
-    (key_of (stamp_row Two (told_value t))) ∷ []) (own_stamp_passes (length done) t kept)
+    (order_check (length done) (last_key (told_in Two) done) (key_of (stamp_row Two (told_value t)))
+    ∷ []) (own_stamp_passes (length done) t kept)
     (rw (is, stamp_again t kept.count, lower-IsLang t.0.1 kept.lang) (behind, tt))
 
 -- the first key, if any, is after the last one
@@ -124,8 +115,8 @@ Follows last (e ∷ es) = IsBehind last e.0
 follows : {J : Type 0} (e : EntryKey × J) (es : List (EntryKey × J)) → T (below_all key_cmp e.0 es)
     → Follows (Some e.0) es
 follows e [] h = tt
-follows e (f ∷ es) h =
-    less_than (key_cmp e.0 f.0) (first_part (is_lt (key_cmp e.0 f.0)) (below_all key_cmp e.0 es) h)
+follows e (f ∷ es) h = less_than (key_cmp e.0 f.0)
+    (first_part (is_lt (key_cmp e.0 f.0)) (below_all key_cmp e.0 es) h)
 
 cells_from : (done : List Data) (last : Option EntryKey) (es : Entries)
     → last_key (entry_in Two) done ≡ last → Follows last es → T (is_sorted key_cmp es)
@@ -159,12 +150,12 @@ begin : {J : Type 0} (es : List (EntryKey × J)) → Follows None es
 begin [] = tt
 begin (e ∷ es) = tt
 
--- The rows that are written for valid cells in ascending order pass all checks.
+-- the rows of cells that a catalogue keeps pass all tests
 pub cells_pass : (es : Entries) → AreKeptCells es
     → AllPass (rows_checks (cell_checks Two) [] (cells_values es))
 cells_pass es kept = cells_from [] None es refl (begin es) kept.map kept.each
 
--- The rows that are written for valid stamps in ascending order pass all checks.
+-- the rows of stamps that a summary keeps pass all tests
 pub stamps_pass : (ts : List (EntryKey × Stamp)) → AreKeptStamps ts
     → AllPass (rows_checks (stamp_checks Two) [] (stamps_values ts))
 stamps_pass ts kept = stamps_from [] None ts refl (begin ts) kept.map kept.each

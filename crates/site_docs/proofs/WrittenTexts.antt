@@ -60,8 +60,7 @@ one_more d ds most p q = record {
 
 texts_written : (texts : List (List ℕ)) → AreWritten (items_of (map string texts)) 0
 texts_written [] = record { numbers = tt; shallow = omega arith; back = refl }
-texts_written (t ∷ ts) =
-    one_more (string t) (items_of (map string ts)) 0
+texts_written (t ∷ ts) = one_more (string t) (items_of (map string ts)) 0
     (record { numbers = tt; shallow = omega arith; back = refl }) (texts_written ts)
 
 label_written : (label : Option (List (List ℕ))) → IsWritten (label_value label) 1
@@ -79,12 +78,12 @@ cell_written e kept =
     record {
       numbers = (tt, (tt, (time, (tt, (count, (label.numbers, tt))))));
       shallow = omega (arith, label.shallow);
-      back =
-          rw (
-            number_of-decimal e.1.stamp.time kept.0.time,
-            number_of-decimal e.1.stamp.count small,
-            label.back,
-          ) refl;
+      back = rw (
+        number_of-decimal e.1.stamp.time kept.0.time,
+        number_of-decimal e.1.stamp.count
+            small,
+        label.back,
+      ) refl;
     }
 
 stamp_written : (t : EntryKey × Stamp) → IsKeptStamp t → IsWritten (told_value t) 2
@@ -118,7 +117,7 @@ stamps_written (t ∷ ts) kept =
 two : 2 < 2 ^ 64
 two = omega arith
 
--- The text that is written for a site with valid cells is read as the value that was written.
+-- the text of a site's document is read as its value
 pub read-site : (name : List ℕ) (es : Entries) → All IsKeptCell es
     → read (text (site_value name (cells_values es))) ≡ Some (site_value name (cells_values es))
 read-site name es kept =
@@ -127,7 +126,7 @@ read-site name es kept =
     (rows.numbers, (tt, (tt, (IsNumber-decimal 2 two, tt)))) (omega (arith, rows.shallow))
     (rw (rows.back, number_of-decimal 2 two) refl)
 
--- The text that is written for a delta with valid cells is read as the value that was written.
+-- the text of a delta's document is read as its value
 pub read-delta : (addressee : List ℕ) (es : Entries) → All IsKeptCell es
     → read (text (delta_value addressee (cells_values es)))
     ≡ Some (delta_value addressee (cells_values es))
@@ -137,7 +136,7 @@ read-delta addressee es kept =
     (rows.numbers, (tt, (tt, (IsNumber-decimal 2 two, tt)))) (omega (arith, rows.shallow))
     (rw (rows.back, number_of-decimal 2 two) refl)
 
--- The text that is written for valid stamps is read as the summary's value that was written.
+-- the text of a summary's document is read as its value
 pub read-summary : (owner : List ℕ) (ts : List (EntryKey × Stamp)) → All IsKeptStamp ts
     → read (text (summary_value owner (stamps_values ts)))
     ≡ Some (summary_value owner (stamps_values ts))

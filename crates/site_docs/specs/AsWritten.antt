@@ -1,4 +1,4 @@
--- Documents of cells in the order in which they are written, seen by their tokens.
+-- Documents of cells that stand in the order in which they are written, seen by their tokens.
 use Rattle.std.specs.Prelude.{◌≡◌, ◌<◌, ◌^◌, ℕ, List, [], ◌∷◌, ◌++◌, map, codes, length, Option}
 use Rattle.std.specs.Prelude.{None, Some}
 use Rattle.json.specs.Token.{Token, begin_array, end_array, end_object, key, null, number, string}
@@ -28,8 +28,8 @@ cells_document kind name rows = object
 
 -- an unsigned whole number comes first
 abbrev pub BeginsNumber : List Token → ℕ → List Token → Type 0
-BeginsNumber old n new =
-    (text : List ℕ) × (old ≡ number text ∷ new) × (number_of text ≡ Some (unsigned n))
+BeginsNumber old n new = (text : List ℕ) × (old ≡ number text ∷ new)
+    × (number_of text ≡ Some (unsigned n))
 
 -- texts come first, and the bracket after them
 abbrev pub BeginsTexts : List Token → List (List ℕ) → List Token → Type 0
@@ -44,9 +44,8 @@ BeginsLabel old (Some texts) new = old ≡ begin_array ∷ (map string texts ++ 
 pub record BeginsRow (old : List Token) (row : Row) (new : List Token) : Type 0 where
   pub time : List ℕ
   pub count : List ℕ
-  pub tokens : old
-      ≡ begin_array ∷ string row.id ∷ string row.language ∷ number time ∷ string row.site
-      ∷ number count ∷ new
+  pub tokens : old ≡ begin_array ∷ string row.id ∷ string row.language ∷ number time
+      ∷ string row.site ∷ number count ∷ new
   pub time_is : number_of time ≡ Some (unsigned row.time)
   pub count_is : number_of count ≡ Some (unsigned row.count)
   pub fits : row.count < 2 ^ 32
@@ -71,9 +70,8 @@ pub record BeginsRows (old : List Token) (cells : Entries) (new : List Token) : 
 -- the members after the rows come last
 pub record EndsNamed (kind : Kind) (old : List Token) (name : List ℕ) : Type 0 where
   pub version : List ℕ
-  pub tokens : old
-      ≡ key (codes "kind") ∷ string (kind_text kind) ∷ key (subject_of kind) ∷ string name
-      ∷ key (codes "version") ∷ number version ∷ end_object ∷ []
+  pub tokens : old ≡ key (codes "kind") ∷ string (kind_text kind) ∷ key (subject_of kind)
+      ∷ string name ∷ key (codes "version") ∷ number version ∷ end_object ∷ []
   pub version_is : number_of version ≡ Some (unsigned 2)
   pub is_name : IsSiteName name
 

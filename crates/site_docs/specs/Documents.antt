@@ -17,9 +17,13 @@ entry_value e = cell_value (row_of e) e.1.label
 
 -- the STAMP of a key
 abbrev pub told_value : EntryKey × Stamp → Data
-told_value t =
-    stamp_value
-    (record { id = t.0.0; language = t.0.1; time = t.1.time; site = t.1.site; count = t.1.count })
+told_value t = stamp_value (record {
+  id = t.0.0;
+  language = t.0.1;
+  time = t.1.time;
+  site = t.1.site;
+  count = t.1.count;
+})
 
 abbrev pub cells_values : Entries → List Data
 cells_values cells = map entry_value cells

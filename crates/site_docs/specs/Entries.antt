@@ -4,12 +4,10 @@ use Rattle.site_docs.specs.Values.{Row}
 
 -- the key and the stamp of an entry
 abbrev pub row_of : Entry → Row
-row_of entry =
-    record {
-      id = entry.0.0;
-      language = entry.0.1;
-      time = entry.1.stamp.time;
-      site =
-          entry.1.stamp.site;
-      count = entry.1.stamp.count;
-    }
+row_of entry = record {
+  id = entry.0.0;
+  language = entry.0.1;
+  time = entry.1.stamp.time;
+  site = entry.1.stamp.site;
+  count = entry.1.stamp.count;
+}

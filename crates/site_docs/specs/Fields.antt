@@ -49,8 +49,7 @@ IsSpelled text = (lang : List ℕ) × SpellsLang text lang
 
 -- e says why the text of row k is no language
 abbrev pub IsLanguageRefusal : ℕ → List ℕ → DocCause → Type 0
-IsLanguageRefusal k text e =
-    (fault : LangFault) × (fault ≢ lang.NoMemory) × RefusesLang text fault
+IsLanguageRefusal k text e = (fault : LangFault) × (fault ≢ lang.NoMemory) × RefusesLang text fault
     × (e ≡ Field k (Language fault))
 
 -- no texts are a deletion
@@ -61,8 +60,8 @@ IsLabelText (Some texts) = IsLabel texts
 -- e says why the texts of row k are no label
 abbrev pub IsLabelRefusal : ℕ → Option (List (List ℕ)) → DocCause → Type 0
 IsLabelRefusal k None e = ⊥
-IsLabelRefusal k (Some texts) e =
-    (fault : CellFault) × RefusesTexts texts fault × (e ≡ Field k (Cell fault))
+IsLabelRefusal k (Some texts) e = (fault : CellFault) × RefusesTexts texts fault
+    × (e ≡ Field k (Cell fault))
 
 abbrev pub id_check : ℕ → List ℕ → Check
 id_check k id = check (IsMessageId id) (Field k (Cell IdRefused))

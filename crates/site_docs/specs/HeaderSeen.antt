@@ -28,21 +28,21 @@ ShowsSubject (Some subject) m = (d : Data) × (m ≡ Some d) × IsSubject subjec
 abbrev pub ShowsRows : {S : Type 0} → (List Data → Data → List Check) → (S → List Data → Type 0)
     → Option (Option DocCause) → S → Option (List Data) → Type 0
 ShowsRows checks Holds None rows ds = ds ≡ None
-ShowsRows checks Holds (Some refusal) rows ds =
-    (found : List Data) × (ds ≡ Some found) × TakesRows checks Holds [] rows refusal found
+ShowsRows checks Holds (Some refusal) rows ds = (found : List Data) × (ds ≡ Some found)
+    × TakesRows checks Holds [] rows refusal found
 
 -- whether there is a member of another name
 pub record ShowsOthers (kind : Kind) (has_other : Bool) (ms : Members) : Type 0 where
-  pub there : has_other ≡ true
-      → (name : List ℕ) × (member_of kind name ≡ Other) × (is_some (get_member name ms) ≡ true)
+  pub there : has_other ≡ true → (name : List ℕ) × (member_of kind name ≡ Other)
+      × (is_some (get_member name ms) ≡ true)
   pub told : (name : List ℕ) → member_of kind name ≡ Other → is_some (get_member name ms) ≡ true
       → has_other ≡ true
 
 -- what was read is of these members
 pub record Shows {S : Type 0} (kind : Kind) (checks : List Data → Data → List Check)
     (Holds : S → List Data → Type 0) (header : Header) (rows : S) (ms : Members) : Type 0 where
-  pub is_kind : header.is_kind
-      ≡ is_text (kind_text kind) (option_and_then as_str (get_member (codes "kind") ms))
+  pub is_kind : header.is_kind ≡ is_text (kind_text kind)
+      (option_and_then as_str (get_member (codes "kind") ms))
   pub version : header.version ≡ option_and_then u64_in (get_member (codes "version") ms)
   pub subject : ShowsSubject header.subject (get_member (subject_of kind) ms)
   pub rows_part : ShowsRows checks Holds header.rows rows

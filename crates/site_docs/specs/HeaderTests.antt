@@ -14,8 +14,8 @@ abbrev pub HasKnownVersion : Header → Type 0
 HasKnownVersion header = (header.version ≡ Some 1) ⊎ (header.version ≡ Some 2)
 
 abbrev pub IsWhole : Header → Type 0
-IsWhole header =
-    (header.has_other ≡ false) × (is_some header.subject ≡ true) × (is_some header.rows ≡ true)
+IsWhole header = (header.has_other ≡ false) × (is_some header.subject ≡ true)
+    × (is_some header.rows ≡ true)
 
 -- the header passes, and is this one when tested
 pub record PassesHeader (header : Header) (tested : TestedHeader) : Type 0 where

@@ -61,8 +61,8 @@ HasJust names d = (name : List ℕ) → is_some (get name d) ≡ is_among name n
 
 -- exactly its members, and the rows in an array
 abbrev pub HasMembers : Kind → Data → Type 0
-HasMembers kind d =
-    HasJust (names_of kind) d × (is_some (option_and_then items_in (get (rows_of kind) d)) ≡ true)
+HasMembers kind d = HasJust (names_of kind) d
+    × (is_some (option_and_then items_in (get (rows_of kind) d)) ≡ true)
 
 abbrev pub header_checks : Kind → Data → List Check
 header_checks kind d =

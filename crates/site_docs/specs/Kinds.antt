@@ -38,10 +38,9 @@ is_among name names = list_any (λ known. bytes_eq name known) names
 -- which member has the name
 abbrev pub member_by : Bool → Bool → Bool → Bool → Member
 member_by is_kind is_version is_subject is_rows =
-    if is_kind then
-    KindMember else
-    (if is_version then
-    Version else (if is_subject then Subject else (if is_rows then Rows else Other)))
+    if is_kind then KindMember else
+    (if is_version then Version else
+    (if is_subject then Subject else (if is_rows then Rows else Other)))
 
 abbrev pub member_of : Kind → List ℕ → Member
 member_of kind name =

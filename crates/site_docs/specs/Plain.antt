@@ -1,8 +1,8 @@
 -- Documents in the form in which they are written, and texts that begin with a part of one. Own
 -- rule.
-use Rattle.std.specs.Prelude.{◌≡◌, ◌<◌, ◌≤◌, ◌+◌, ◌++◌, ◌∷◌, [], ℕ, List, Bool, true, IsUtf8, codes}
-use Rattle.std.specs.Prelude.{decimal, get_or, length, take}
-use Rattle.json.specs.Print.{quoted}
+use Rattle.std.specs.Prelude.{◌≡◌, ◌⊎◌, ◌<◌, ◌≤◌, ◌+◌, ◌++◌, ◌∷◌, [], ℕ, List, Bool, true, false}
+use Rattle.std.specs.Prelude.{IsUtf8, codes, decimal, get_or, length, take}
+use Rattle.json.specs.Print.{escape_byte, quoted}
 use Rattle.serde_json.specs.Data.{Data, array}
 use Rattle.serde_json.specs.View.{items_of}
 use Rattle.serde_json.specs.Written.{comma_if, compact_text}
@@ -15,9 +15,14 @@ use Rattle.site_docs.specs.Valid.{AreKeptCells}
 use Rattle.site_docs.specs.Values.{Row}
 use Rattle.site_docs.specs.declared.document.kind.Kind.{Kind}
 
--- the bytes are the text that is written for this name and these cells
+-- the bytes are the text of the value, or that text without its last byte, the line feed
+abbrev pub IsTextOf : Data → List ℕ → Type 0
+IsTextOf d bytes = (bytes ≡ text d) ⊎ (bytes ++ 10 ∷ [] ≡ text d)
+
+-- the bytes are the text that is written for this name and these cells, with its line feed or
+-- without
 pub record IsPlainText (kind : Kind) (bytes name : List ℕ) (cells : Entries) : Type 0 where
-  pub text : bytes ≡ text (cells_document kind name (cells_values cells))
+  pub text : IsTextOf (cells_document kind name (cells_values cells)) bytes
   pub utf8 : IsUtf8 bytes
   pub is_name : IsSiteName name
   pub kept : AreKeptCells cells
@@ -27,6 +32,11 @@ pub record IsPlainText (kind : Kind) (bytes name : List ℕ) (cells : Entries) :
 -- the array of the rows
 abbrev pub rows_text : Entries → List ℕ
 rows_text cells = compact_text (array (items_of (cells_values cells)))
+
+-- whether an item after these is a later one, and no first
+abbrev pub is_later : {X : Type 0} → List X → Bool
+is_later [] = false
+is_later (x ∷ xs) = true
 
 -- the text of the items of an array that is still open; `later` says that others come before them
 abbrev pub open_items : Bool → List Data → List ℕ
@@ -40,13 +50,23 @@ row_before row rest =
     (quoted row.language ++ 44 ∷
     (decimal row.time ++ 44 ∷ (quoted row.site ++ 44 ∷ (decimal row.count ++ 44 ∷ rest)))))
 
--- the members after the rows, and the line feed
-abbrev pub last_members : List ℕ → List ℕ → List ℕ → List ℕ
-last_members kind subject name =
+-- the brace that ends a document, with the line feed or without
+abbrev pub IsEnd : List ℕ → Type 0
+IsEnd end = (end ≡ 125 ∷ 10 ∷ []) ⊎ (end ≡ 125 ∷ [])
+
+-- the members after the rows, and the end
+abbrev pub last_members : List ℕ → List ℕ → List ℕ → List ℕ → List ℕ
+last_members kind subject name end =
     44 ∷ (quoted (codes "kind") ++ 58 ∷
     (quoted kind ++ 44 ∷
     (quoted subject ++ 58 ∷
-    (quoted name ++ 44 ∷ (quoted (codes "version") ++ 58 ∷ (decimal 2 ++ 125 ∷ 10 ∷ []))))))
+    (quoted name ++ 44 ∷ (quoted (codes "version") ++ 58 ∷ (decimal 2 ++ end))))))
+
+-- ---- strings
+
+-- the text begins with the escape of this byte, which is ASCII, and goes on with the rest
+abbrev pub IsEscaped : ℕ → List ℕ → List ℕ → Type 0
+IsEscaped byte text rest = (text ≡ escape_byte byte ++ rest) × (byte < 128)
 
 -- ---- numbers
 

@@ -37,8 +37,8 @@ RefusesSummary = IsRefusal summary_checks
 
 -- it is the refusal of this input document by its reader
 abbrev pub IsOfDocument : ℕ → (DocCause → Type 0) → DocFault → Type 0
-IsOfDocument document Refuses fault =
-    (cause : DocCause) × Refuses cause × (fault ≡ of_document document cause)
+IsOfDocument document Refuses fault = (cause : DocCause) × Refuses cause
+    × (fault ≡ of_document document cause)
 
 -- 26, which means no document
 abbrev pub no_memory : DocFault

@@ -27,9 +27,8 @@ label_in (object ms) = None
 
 abbrev pub parts_in : Version → Data → Data → Data → Data → Data → Option Row
 parts_in version i l t s c =
-    option_and_then
-    (λ id. option_and_then
-    (λ language. option_and_then (λ time. option_and_then (λ site. option_map (λ count.
+    option_and_then (λ id. option_and_then (λ language. option_and_then (λ time. option_and_then
+    (λ site. option_map (λ count.
     record { id = id; language = language; time = time; site = site; count = count })
     (u32_in c)) (site_in version s)) (u64_in t)) (as_str l)) (as_str i)
 

@@ -17,15 +17,13 @@ site_of (Number n) = padded_name n
 site_of (Name text) = text.now
 
 abbrev pub row_of : Row → Plain
-row_of row =
-    record {
-      id = row.id.now;
-      language = row.language.now;
-      time = row.time;
-      site =
-          site_of row.site;
-      count = row.count;
-    }
+row_of row = record {
+  id = row.id.now;
+  language = row.language.now;
+  time = row.time;
+  site = site_of row.site;
+  count = row.count;
+}
 
 -- the texts of values that are texts
 abbrev pub texts_of : {A : Type 0} → List (Value A) → List (List ℕ)

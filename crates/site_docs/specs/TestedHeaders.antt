@@ -20,8 +20,7 @@ pub record HasHeader {S : Type 0} (kind : Kind) (checks : List Data → Data →
 
 -- why the text is refused, which is UTF-8
 abbrev pub RefusesText : Kind → List ℕ → DocCause → Type 0
-RefusesText kind text e =
-    ((e ≡ NotJson) × (read text ≡ None))
+RefusesText kind text e = ((e ≡ NotJson) × (read text ≡ None))
     ⊎ ((d : Data) × (read text ≡ Some d) × FirstFails (header_checks kind d) e)
 
 -- why the bytes are refused before the rows are looked at

@@ -29,14 +29,12 @@ Adds old new tokens = (new.before ≡ old.before) × (new.tokens ≡ old.tokens 
 
 -- a site's or a delta's draft: it is open after these rows
 abbrev pub HoldsCells : Written → List Data → Type 0
-HoldsCells draft rows =
-    (draft.before ≡ [])
+HoldsCells draft rows = (draft.before ≡ [])
     × (draft.tokens ≡ begin_object ∷ key (codes "cells") ∷ begin_array ∷ row_tokens rows)
 
 -- a summary's draft of this owner: it is open after these rows
 abbrev pub HoldsStamps : Written → List ℕ → List Data → Type 0
 HoldsStamps draft owner rows =
     (draft.before ≡ [])
-    × (draft.tokens
-    ≡ begin_object ∷ key (codes "kind") ∷ string (codes "summary") ∷ key (codes "owner")
-    ∷ string owner ∷ key (codes "stamps") ∷ begin_array ∷ row_tokens rows)
+    × (draft.tokens ≡ begin_object ∷ key (codes "kind") ∷ string (codes "summary")
+    ∷ key (codes "owner") ∷ string owner ∷ key (codes "stamps") ∷ begin_array ∷ row_tokens rows)

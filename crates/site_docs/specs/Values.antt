@@ -23,16 +23,16 @@ label_value (Some texts) = texts_value texts
 
 -- `[id, language, time, site, count]`
 abbrev pub stamp_value : Row → Data
-stamp_value row =
-    array (item (string row.id)
+stamp_value row = array
+    (item (string row.id)
     (item (string row.language)
     (item (number (unsigned row.time))
     (item (string row.site) (item (number (unsigned row.count)) no_items)))))
 
 -- `[id, language, time, site, count, label]`
 abbrev pub cell_value : Row → Option (List (List ℕ)) → Data
-cell_value row label =
-    array (item (string row.id)
+cell_value row label = array
+    (item (string row.id)
     (item (string row.language)
     (item (number (unsigned row.time))
     (item (string row.site)

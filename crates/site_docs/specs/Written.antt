@@ -5,15 +5,13 @@ use Rattle.site_docs.specs.Values.{Row}
 use Rattle.site_docs.specs.declared.row.writing.WrittenRow.{WrittenRow}
 
 abbrev pub row_of : WrittenRow → Row
-row_of row =
-    record {
-      id = row.id.now;
-      language = row.language.now;
-      time = row.time;
-      site =
-          row.site.now;
-      count = row.count;
-    }
+row_of row = record {
+  id = row.id.now;
+  language = row.language.now;
+  time = row.time;
+  site = row.site.now;
+  count = row.count;
+}
 
 abbrev pub texts_of : {A : Type 0} → List (String A) → List (List ℕ)
 texts_of texts = map string_bytes texts

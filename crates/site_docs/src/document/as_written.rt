@@ -30,7 +30,11 @@ use std::alloc::Global;
 ///
 /// `None` says nothing of the document: it may be valid in another order, it may be refused, or
 /// memory ran out.
-pub fn cells_as_written(alloc: Global, bytes: &[u8], kind: Kind) -> Option<(SiteName, Catalogue)>
+pub(crate) fn cells_as_written(
+    alloc: Global,
+    bytes: &[u8],
+    kind: Kind,
+) -> Option<(SiteName, Catalogue)>
     ensures { IfSome result (λ r. ReadsCells kind bytes.now r.0 r.1) }
 {
     let Ok(text) = text_in(bytes) else {
@@ -40,9 +44,9 @@ pub fn cells_as_written(alloc: Global, bytes: &[u8], kind: Kind) -> Option<(Site
 }
 
 /// Appends the entry, where its key is greater than all others.
-pub fn put_above(alloc: Global, cells: &mut Catalogue, entry: CellEntry) -> bool
-    ensures { IsTrue result
-        → IsAboveAll (entry_by entry).0 cells.old × (cells.new ≡ cells.old ++ entry_by entry ∷ []) }
+pub(crate) fn put_above(alloc: Global, cells: &mut Catalogue, entry: CellEntry) -> bool
+    ensures { IsTrue result → IsAboveAll (entry_by entry).0 cells.old
+        × (cells.new ≡ cells.old ++ entry_by entry ∷ []) }
 {
     let CellEntry { id, lang, cell } = entry;
     if !cells.is_above_all(&id, &lang) {
@@ -54,24 +58,9 @@ pub fn put_above(alloc: Global, cells: &mut Catalogue, entry: CellEntry) -> bool
     }
 }
 
-/// Appends a copy of the text.
-pub fn push_text(alloc: Global, texts: &mut Vec<String>, text: &str) -> bool
-    ensures { IsTrue result
-        → map string_bytes texts.new.items ≡ map string_bytes texts.old.items ++ text.now ∷ [] }
-{
-    match String::from_str(alloc, text) {
-        Ok(copy) => match texts.push(copy) {
-            Ok(()) => true,
-            Err(_) => false,
-        },
-        Err(_) => false,
-    }
-}
-
 /// The name and the cells of a text.
 fn cells_of_text(alloc: Global, text: &str, kind: Kind) -> Option<(SiteName, Catalogue)>
-    ensures { IfSome result
-        (λ r. (rest : List Read) × (rows : List Read)
+    ensures { IfSome result (λ r. (rest : List Read) × (rows : List Read)
         × (tokens text.now ≡ begin_object ∷ key (codes "cells") ∷ begin_array ∷ rows)
         × BeginsRows rows r.1 rest × EndsNamed kind rest r.0) }
 {
@@ -102,7 +91,7 @@ fn next_rows(alloc: Global, reader: &mut Reader<'_>) -> Option<Catalogue>
     ensures { IfSome result (λ cells. BeginsRows reader.old cells reader.new) }
 {
     let mut cells = Catalogue::new(alloc);
-    'rows: while !reader.take_end_array() {
+    while !reader.take_end_array() {
         let Some(entry) = next_entry(alloc, reader) else {
             return None;
         };
@@ -178,7 +167,7 @@ fn next_texts(alloc: Global, reader: &mut Reader<'_>) -> Option<Vec<String>>
     let Ok(mut texts) = Vec::with_capacity(alloc, 1) else {
         return None;
     };
-    'texts: while !reader.take_end_array() {
+    while !reader.take_end_array() {
         let Some(text) = next_text(reader) else {
             return None;
         };
@@ -187,6 +176,20 @@ fn next_texts(alloc: Global, reader: &mut Reader<'_>) -> Option<Vec<String>>
         }
     }
     Some(texts)
+}
+
+/// Appends a copy of the text.
+fn push_text(alloc: Global, texts: &mut Vec<String>, text: &str) -> bool
+    ensures { IsTrue result → map string_bytes texts.new.items
+        ≡ map string_bytes texts.old.items ++ text.now ∷ [] }
+{
+    match String::from_str(alloc, text) {
+        Ok(copy) => match texts.push(copy) {
+            Ok(()) => true,
+            Err(_) => false,
+        },
+        Err(_) => false,
+    }
 }
 
 /// The name, and the members about it.
@@ -216,8 +219,7 @@ fn takes_kind(reader: &mut Reader<'_>, kind: Kind) -> bool
 
 /// Takes the version, which is 2, and the end of the text.
 fn ends_in_version(reader: &mut Reader<'_>) -> bool
-    ensures { IsTrue result
-        → (version : List ℕ)
+    ensures { IsTrue result → (version : List ℕ)
         × (reader.old ≡ key (codes "version") ∷ number version ∷ end_object ∷ [])
         × (number_of version ≡ Some (unsigned 2)) }
 {

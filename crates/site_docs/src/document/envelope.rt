@@ -13,7 +13,7 @@ use json_docs::Doc;
 use std::alloc::{AllocError, Global};
 
 /// Opens a site's or a delta's document, with no row yet.
-pub fn open_cells(alloc: Global) -> Result<Writer, AllocError>
+pub(crate) fn open_cells(alloc: Global) -> Result<Writer, AllocError>
     ensures { IfOk result (λ draft. HoldsCells draft []) }
 {
     let mut draft = Writer::new(Vec::new(alloc));
@@ -24,7 +24,7 @@ pub fn open_cells(alloc: Global) -> Result<Writer, AllocError>
 }
 
 /// Closes the document of a site after its rows.
-pub fn close_site(draft: Writer, site: &str) -> Result<Doc, AllocError>
+pub(crate) fn close_site(draft: Writer, site: &str) -> Result<Doc, AllocError>
     ensures text { (rows : List Data) → HoldsCells draft rows
         → IfOk result (λ doc. doc ≡ text (site_value site.now rows)) }
     ensures utf8 { IfOk result (λ doc. draft.before ≡ [] → IsUtf8 doc) }
@@ -33,7 +33,7 @@ pub fn close_site(draft: Writer, site: &str) -> Result<Doc, AllocError>
 }
 
 /// Closes the document of a delta after its rows.
-pub fn close_delta(draft: Writer, addressee: &str) -> Result<Doc, AllocError>
+pub(crate) fn close_delta(draft: Writer, addressee: &str) -> Result<Doc, AllocError>
     ensures text { (rows : List Data) → HoldsCells draft rows
         → IfOk result (λ doc. doc ≡ text (delta_value addressee.now rows)) }
     ensures utf8 { IfOk result (λ doc. draft.before ≡ [] → IsUtf8 doc) }
@@ -42,7 +42,7 @@ pub fn close_delta(draft: Writer, addressee: &str) -> Result<Doc, AllocError>
 }
 
 /// Opens a summary's document, with no row yet.
-pub fn open_stamps(alloc: Global, owner: &str) -> Result<Writer, AllocError>
+pub(crate) fn open_stamps(alloc: Global, owner: &str) -> Result<Writer, AllocError>
     ensures { IfOk result (λ draft. HoldsStamps draft owner.now []) }
 {
     let mut draft = Writer::new(Vec::new(alloc));
@@ -55,7 +55,7 @@ pub fn open_stamps(alloc: Global, owner: &str) -> Result<Writer, AllocError>
 }
 
 /// Closes the document of a summary after its rows.
-pub fn close_summary(draft: Writer) -> Result<Doc, AllocError>
+pub(crate) fn close_summary(draft: Writer) -> Result<Doc, AllocError>
     ensures text { (owner : List ℕ) (rows : List Data) → HoldsStamps draft owner rows
         → IfOk result (λ doc. doc ≡ text (summary_value owner rows)) }
     ensures utf8 { IfOk result (λ doc. draft.before ≡ [] → IsUtf8 doc) }
@@ -75,9 +75,8 @@ pub fn finish(draft: Writer) -> Result<Doc, AllocError>
 
 /// Closes the rows, and adds the version.
 fn close_rows(mut draft: Writer) -> Result<Doc, AllocError>
-    ensures text { IfOk result
-        (λ doc. doc
-        ≡ draft.before ++ (print (draft.tokens ++ end_array ∷ version_tokens) ++ 10 ∷ [])) }
+    ensures text { IfOk result (λ doc. doc ≡ draft.before
+        ++ (print (draft.tokens ++ end_array ∷ version_tokens) ++ 10 ∷ [])) }
     ensures utf8 { IfOk result (λ doc. draft.before ≡ [] → IsUtf8 doc) }
 {
     draft.end_array()?;
@@ -87,12 +86,8 @@ fn close_rows(mut draft: Writer) -> Result<Doc, AllocError>
 
 /// Closes the rows, and adds the kind, a name and the version.
 fn close_named(mut draft: Writer, kind: &str, member: &str, name: &str) -> Result<Doc, AllocError>
-    ensures text { IfOk result
-        (λ doc. doc
-        ≡ draft.before
-        ++ (print
-        (draft.tokens ++ end_array
-        ∷ (name_tokens (codes "kind") kind.now
+    ensures text { IfOk result (λ doc. doc ≡ draft.before
+        ++ (print (draft.tokens ++ end_array ∷ (name_tokens (codes "kind") kind.now
         ++ (name_tokens member.now name.now ++ version_tokens))) ++ 10 ∷ [])) }
     ensures utf8 { IfOk result (λ doc. draft.before ≡ [] → IsUtf8 doc) }
 {

@@ -38,7 +38,7 @@ pub enum Subject {
 
 /// The header as far as it was read. Of two members with one name the last one counts.
 #[derive(Clone, Copy, Debug)]
-pub struct Header {
+pub(crate) struct Header {
     /// The kind is the wanted one.
     pub is_kind: bool,
     /// The version, where its member is a whole number of 64 bits.
@@ -52,7 +52,7 @@ pub struct Header {
 }
 
 /// Reads the members of an object whose brace was read.
-pub fn read_members<R: Rows>(
+pub(crate) fn read_members<R: Rows>(
     alloc: Global,
     reader: &mut Reader<'_>,
     kind: Kind,
@@ -73,7 +73,7 @@ pub fn read_members<R: Rows>(
         rows: None,
         has_other: false,
     };
-    'members: while let Some(name) = next_name(reader)? {
+    while let Some(name) = next_name(reader)? {
         let member = kind.member(name);
         header = read_member(alloc, reader, kind, version, member, header, rows)?;
     }
@@ -215,7 +215,7 @@ fn pass_members(reader: &mut Reader<'_>) -> Result<(), DocCause>
     ensures left { OnOk result (are_in_range reader.new ≡ true) }
     ensures shorter { OnOk result (length reader.new < length reader.old) }
 {
-    'members: while let Some(_) = next_name(reader)? {
+    while let Some(_) = next_name(reader)? {
         match reader.skip_value(MEMBER_DEPTH - 1) {
             Ok(()) => {}
             Err(_) => return Err(DocCause::NotJson),

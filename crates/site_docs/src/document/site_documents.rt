@@ -22,13 +22,8 @@ use cell_core::SiteName;
 use json_docs::{DocCause, Spot};
 use std::alloc::Global;
 
-/// It is no document of its kind.
-const NO_DOCUMENT: DocCause = DocCause::Shape {
-    spot: Spot::Document,
-};
-
 /// The site of a document, or why it is refused.
-pub fn site_from(alloc: Global, bytes: &[u8]) -> Result<Site, DocCause>
+pub(crate) fn site_from(alloc: Global, bytes: &[u8]) -> Result<Site, DocCause>
     ensures { MatchResult result (ReadsAsSite bytes.now)
         (OrMemory NoMemory (RefusesSite bytes.now)) }
 {
@@ -39,7 +34,7 @@ pub fn site_from(alloc: Global, bytes: &[u8]) -> Result<Site, DocCause>
 }
 
 /// The delta of a document, or why it is refused.
-pub fn delta_from(alloc: Global, bytes: &[u8]) -> Result<Delta, DocCause>
+pub(crate) fn delta_from(alloc: Global, bytes: &[u8]) -> Result<Delta, DocCause>
     ensures { MatchResult result (ReadsAsDelta bytes.now)
         (OrMemory NoMemory (RefusesDelta bytes.now)) }
 {
@@ -50,7 +45,7 @@ pub fn delta_from(alloc: Global, bytes: &[u8]) -> Result<Delta, DocCause>
 }
 
 /// The summary of a document, or why it is refused.
-pub fn summary_from(alloc: Global, bytes: &[u8]) -> Result<Summary, DocCause>
+pub(crate) fn summary_from(alloc: Global, bytes: &[u8]) -> Result<Summary, DocCause>
     ensures { MatchResult result (ReadsAsSummary bytes.now)
         (OrMemory NoMemory (RefusesSummary bytes.now)) }
 {
@@ -59,7 +54,7 @@ pub fn summary_from(alloc: Global, bytes: &[u8]) -> Result<Summary, DocCause>
     Ok(summary.with_owner(owner))
 }
 
-// The site of a document that is in any form.
+/// The site of a document that is in any form.
 fn site_of_tokens(alloc: Global, bytes: &[u8]) -> Result<Site, DocCause>
     ensures { MatchResult result
         (ReadsAsSite bytes.now) (OrMemory NoMemory (RefusesSite bytes.now)) }
@@ -80,7 +75,7 @@ fn site_of_members(alloc: Global, bytes: &[u8]) -> Result<Site, DocCause>
     Ok(Site::from_catalogue(name, cells))
 }
 
-// The delta of a document that is in any form.
+/// The delta of a document that is in any form.
 fn delta_of_tokens(alloc: Global, bytes: &[u8]) -> Result<Delta, DocCause>
     ensures { MatchResult result
         (ReadsAsDelta bytes.now) (OrMemory NoMemory (RefusesDelta bytes.now)) }
@@ -108,9 +103,9 @@ fn read_named<R: Rows>(
     kind: Kind,
     rows: &mut R,
 ) -> Result<SiteName, DocCause>
-    ensures ok { IfOk result
-        (λ name. (d : Data) × AreJson bytes.now d × AllPass (document_checks kind R.Checks d)
-        × (named_in kind d ≡ Some name) × R.Holds (version_of d) rows.new (rows_in kind d)) }
+    ensures ok { IfOk result (λ name. (d : Data) × AreJson bytes.now d
+        × AllPass (document_checks kind R.Checks d) × (named_in kind d ≡ Some name)
+        × R.Holds (version_of d) rows.new (rows_in kind d)) }
     ensures err { IfErr result
         (OrMemory NoMemory (IsRefusal (document_checks kind R.Checks) bytes.now)) }
 {
@@ -161,3 +156,8 @@ fn written_name(subject: Subject) -> Result<SiteName, DocCause>
         _ => Err(NO_DOCUMENT),
     }
 }
+
+/// It is no document of its kind.
+const NO_DOCUMENT: DocCause = DocCause::Shape {
+    spot: Spot::Document,
+};

@@ -58,7 +58,7 @@ fn cells_draft(alloc: Global, cells: &Catalogue) -> Result<Writer, AllocError>
     ensures kept { IfOk result (λ _. AreKeptCells cells.now) }
 {
     let mut draft = open_cells(alloc)?;
-    'cells: for (id, lang, cell) in cells.iter() {
+    for (id, lang, cell) in cells.iter() {
         write_entry(&mut draft, id, lang, cell)?;
     }
     Ok(draft)
@@ -66,13 +66,13 @@ fn cells_draft(alloc: Global, cells: &Catalogue) -> Result<Writer, AllocError>
 
 /// A summary's document with all its stamps, not yet closed.
 fn stamps_draft(alloc: Global, summary: &Summary) -> Result<Writer, AllocError>
-    ensures rows { IfOk result
-        (λ draft. HoldsStamps draft summary.now.owner (stamps_values summary.now.stamps)) }
+    ensures rows { IfOk result (λ draft. HoldsStamps draft summary.now.owner
+        (stamps_values summary.now.stamps)) }
     ensures owner { IfOk result (λ _. IsSiteName summary.now.owner) }
     ensures kept { IfOk result (λ _. AreKeptStamps summary.now.stamps) }
 {
     let mut draft = open_stamps(alloc, summary.owner().as_str())?;
-    'stamps: for place in 0..summary.len() {
+    for place in 0..summary.len() {
         if let Some((id, lang, stamp)) = summary.nth(place) {
             write_told(&mut draft, id, lang, stamp)?;
         }
@@ -82,8 +82,8 @@ fn stamps_draft(alloc: Global, summary: &Summary) -> Result<Writer, AllocError>
 
 /// Adds the `STAMP` of a key.
 fn write_told(out: &mut Writer, id: &MessageId, lang: &Lang, stamp: Stamp) -> Result<(), AllocError>
-    ensures tokens { OnOk result
-        (Adds out.old out.new (value_tokens (told_value ((id.now, lang.now), stamp)))) }
+    ensures tokens { OnOk result (Adds out.old out.new
+        (value_tokens (told_value ((id.now, lang.now), stamp)))) }
     ensures kept { OnOk result (IsKeptStamp ((id.now, lang.now), stamp)) }
 {
     let row = WrittenRow {

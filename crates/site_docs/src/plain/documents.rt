@@ -1,9 +1,9 @@
 //! Whole documents of sites and deltas.
-ghost use Rattle.std.specs.Prelude.{◌≡◌, ◌++◌, ◌∷◌, [], IfSome, IsTrue, decimal};
+ghost use Rattle.std.specs.Prelude.{◌≡◌, ◌++◌, ◌∷◌, List, ℕ, IfSome, IsTrue, decimal};
 ghost use Rattle.json.specs.Print.{quoted};
 ghost use Rattle.cell_core.specs.SiteNames.{IsSiteName};
 ghost use Rattle.site_docs.specs.Kinds.{kind_text, subject_of};
-ghost use Rattle.site_docs.specs.Plain.{IsPlainText, last_members};
+ghost use Rattle.site_docs.specs.Plain.{IsEnd, IsPlainText, last_members};
 
 use crate::document::kind::Kind;
 use crate::plain::pieces::{after, after_text, number_after, text_after};
@@ -14,11 +14,15 @@ use json_docs::text_in;
 use std::alloc::Global;
 
 /// The name and the cells of a document of this kind, where the bytes are the text that is written
-/// for them, and no text in it has an escape.
+/// for them, with its last line feed or without, and no id in it has an escape.
 ///
 /// `None` says nothing of the document: it may be valid in another form, it may be refused, or
 /// memory ran out.
-pub fn cells_of_plain(alloc: Global, bytes: &[u8], kind: Kind) -> Option<(SiteName, Catalogue)>
+pub(crate) fn cells_of_plain(
+    alloc: Global,
+    bytes: &[u8],
+    kind: Kind,
+) -> Option<(SiteName, Catalogue)>
     ensures { IfSome result (λ r. IsPlainText kind bytes.now r.0 r.1) }
 {
     let Ok(text) = text_in(bytes) else {
@@ -30,10 +34,10 @@ pub fn cells_of_plain(alloc: Global, bytes: &[u8], kind: Kind) -> Option<(SiteNa
     Some((name, cells))
 }
 
-// The name in the members after the rows.
+/// The name in the members after the rows.
 fn last_name(text: &str, kind: Kind) -> Option<SiteName>
-    ensures text { IfSome result
-        (λ name. text.now ≡ last_members (kind_text kind) (subject_of kind) name) }
+    ensures text { IfSome result (λ name. (end : List ℕ) × IsEnd end
+        × (text.now ≡ last_members (kind_text kind) (subject_of kind) name end)) }
     ensures name { IfSome result (λ name. IsSiteName name) }
 {
     let rest = member_after(text, ",", "kind")?;
@@ -50,17 +54,24 @@ fn last_name(text: &str, kind: Kind) -> Option<SiteName>
     }
 }
 
-// Whether the text is the version, which is 2, and the end of the document.
+/// Whether the text is the version, which is 2, and the end of the document.
 fn is_version(text: &str) -> bool
-    ensures { IsTrue result → text.now ≡ decimal 2 ++ 125 ∷ 10 ∷ [] }
+    ensures { IsTrue result → (end : List ℕ) × IsEnd end × (text.now ≡ decimal 2 ++ end) }
 {
     match number_after(text, "") {
-        Some((2, rest)) => rest == "}\n",
+        Some((2, rest)) => is_end(rest),
         _ => false,
     }
 }
 
-// What comes after the literal and the name of this member with its colon.
+/// Whether the text is the brace that ends a document, with a line feed or without.
+fn is_end(text: &str) -> bool
+    ensures { IsTrue result → IsEnd text.now }
+{
+    text == "}\n" || text == "}"
+}
+
+/// What comes after the literal and the name of this member with its colon.
 fn member_after<'t>(text: &'t str, literal: &str, name: &str) -> Option<&'t str>
     ensures { IfSome result (λ rest. text.now ≡ literal.now ++ (quoted name.now ++ 58 ∷ rest.now)) }
 {

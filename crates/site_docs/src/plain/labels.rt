@@ -1,17 +1,18 @@
 //! The labels of rows.
-ghost use Rattle.std.specs.Prelude.{◌≡◌, ◌++◌, ◌∷◌, [], IfSome};
+ghost use Rattle.std.specs.Prelude.{◌≡◌, ◌++◌, ◌∷◌, [], IfSome, string_bytes};
+ghost use Rattle.json.specs.Print.{quoted};
 ghost use Rattle.serde_json.specs.Written.{compact_text};
 ghost use Rattle.cell_core.specs.Labels.{IsLabel};
 ghost use Rattle.site_docs.specs.Fields.{IsLabelText};
 ghost use Rattle.site_docs.specs.Values.{label_value, texts_value};
 
-use crate::document::as_written::push_text;
-use crate::plain::pieces::{after, text_after};
+use crate::plain::pieces::after;
+use crate::plain::strings::string_after;
 use cell_core::Label;
 use std::alloc::Global;
 
 /// The label that the text begins with, none for null, and what comes after it.
-pub fn next_label(alloc: Global, text: &str) -> Option<(Option<Label>, &str)>
+pub(crate) fn next_label(alloc: Global, text: &str) -> Option<(Option<Label>, &str)>
     ensures text { IfSome result (λ r. text.now ≡ compact_text (label_value r.0) ++ r.1.now) }
     ensures label { IfSome result (λ r. IsLabelText r.0) }
 {
@@ -22,47 +23,48 @@ pub fn next_label(alloc: Global, text: &str) -> Option<(Option<Label>, &str)>
     Some((Some(label), rest))
 }
 
-// The label whose array the text begins with.
+/// The label whose array the text begins with.
 fn array_label(alloc: Global, text: &str) -> Option<(Label, &str)>
     ensures text { IfSome result (λ r. text.now ≡ compact_text (texts_value r.0) ++ r.1.now) }
     ensures label { IfSome result (λ r. IsLabel r.0) }
 {
-    let (first, rest) = text_after(text, "[")?;
+    let (first, rest) = string_after(alloc, text, "[")?;
     match after(rest, "]") {
         Some(rest) => {
-            let label = one_text(alloc, first)?;
+            let label = one_text(first)?;
             Some((label, rest))
         }
-        None => several_texts(alloc, text),
+        None => several_texts(alloc, first, rest),
     }
 }
 
-// The label of one text.
-fn one_text(alloc: Global, text: &str) -> Option<Label>
-    ensures { IfSome result (λ label. (label ≡ text.now ∷ []) × IsLabel label) }
+/// The label of one text.
+fn one_text(text: String) -> Option<Label>
+    ensures { IfSome result (λ label. (label ≡ string_bytes text ∷ []) × IsLabel label) }
 {
-    let Ok(text) = String::from_str(alloc, text) else {
-        return None;
-    };
     match Label::from_text(text) {
         Ok(label) => Some(label),
         Err(_) => None,
     }
 }
 
-// The label of at least one text whose array the text begins with.
-fn several_texts(alloc: Global, text: &str) -> Option<(Label, &str)>
-    ensures text { IfSome result (λ r. text.now ≡ compact_text (texts_value r.0) ++ r.1.now) }
+/// The label of the first text and those that the text begins with, up to and including the
+/// bracket.
+fn several_texts(alloc: Global, first: String, text: &str) -> Option<(Label, &str)>
+    ensures text { IfSome result (λ r. 91 ∷ (quoted (string_bytes first) ++ text.now)
+        ≡ compact_text (texts_value r.0) ++ r.1.now) }
     ensures label { IfSome result (λ r. IsLabel r.0) }
 {
-    let (first, mut rest) = text_after(text, "[")?;
+    let mut rest = text;
     let mut texts = Vec::new(alloc);
-    if !push_text(alloc, &mut texts, first) {
-        return None;
+    match texts.push(first) {
+        Ok(()) => {}
+        Err(_) => return None,
     }
-    'texts: while let Some((next, left)) = text_after(rest, ",") {
-        if !push_text(alloc, &mut texts, next) {
-            return None;
+    while let Some((next, left)) = string_after(alloc, rest, ",") {
+        match texts.push(next) {
+            Ok(()) => {}
+            Err(_) => return None,
         }
         rest = left;
     }

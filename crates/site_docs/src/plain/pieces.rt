@@ -1,7 +1,7 @@
 //! Literals, numbers and strings without escapes at the beginning of a text.
 ghost use Rattle.std.specs.Prelude.{◌≡◌, ◌<◌, ◌++◌, IfSome, Some, decimal, get_or, length};
 ghost use Rattle.std.specs.List.{position};
-ghost use Rattle.json.specs.Print.{quoted};
+ghost use Rattle.json.specs.Print.{escape, quoted};
 ghost use Rattle.json.specs.Run.{is_stop};
 ghost use Rattle.site_docs.specs.Plain.{IsDigitAt, IsDecimalFront};
 
@@ -9,14 +9,14 @@ ghost use Rattle.site_docs.specs.Plain.{IsDigitAt, IsDecimalFront};
 const MOST_TENTH: u64 = (u64::MAX - 9) / 10;
 
 /// What comes after the literal that the text begins with.
-pub fn after<'t>(text: &'t str, literal: &str) -> Option<&'t str>
+pub(crate) fn after<'t>(text: &'t str, literal: &str) -> Option<&'t str>
     ensures { IfSome result (λ rest. text.now ≡ literal.now ++ rest.now) }
 {
     text.strip_prefix(literal)
 }
 
 /// What comes after the literal and this string, where it needs no escape.
-pub fn after_text<'t>(text: &'t str, literal: &str, wanted: &str) -> Option<&'t str>
+pub(crate) fn after_text<'t>(text: &'t str, literal: &str, wanted: &str) -> Option<&'t str>
     ensures { IfSome result (λ rest. text.now ≡ literal.now ++ (quoted wanted.now ++ rest.now)) }
 {
     let (found, rest) = text_after(text, literal)?;
@@ -24,15 +24,24 @@ pub fn after_text<'t>(text: &'t str, literal: &str, wanted: &str) -> Option<&'t 
 }
 
 /// The string after the literal, where it has no escape, and what comes after it.
-pub fn text_after<'t>(text: &'t str, literal: &str) -> Option<(&'t str, &'t str)>
+pub(crate) fn text_after<'t>(text: &'t str, literal: &str) -> Option<(&'t str, &'t str)>
     ensures { IfSome result (λ r. text.now ≡ literal.now ++ (quoted r.0.now ++ r.1.now)) }
 {
     let rest = after(text, literal)?;
     plain_text(rest)
 }
 
+/// What comes before the first byte that ends a string or is escaped in it, and the rest.
+pub(crate) fn plain_front(text: &str) -> Option<(&str, &str)>
+    ensures cut { IfSome result (λ r. text.now ≡ r.0.now ++ r.1.now) }
+    ensures plain { IfSome result (λ r. escape r.0.now ≡ r.0.now) }
+{
+    let end = stop_in(text.as_bytes())?;
+    Some((&text[..end], &text[end..]))
+}
+
 /// The number after the literal, in decimal without leading zeros, and what comes after it.
-pub fn number_after<'t>(text: &'t str, literal: &str) -> Option<(u64, &'t str)>
+pub(crate) fn number_after<'t>(text: &'t str, literal: &str) -> Option<(u64, &'t str)>
     ensures { IfSome result (λ r. text.now ≡ literal.now ++ (decimal r.0 ++ r.1.now)) }
 {
     let rest = after(text, literal)?;
@@ -40,40 +49,31 @@ pub fn number_after<'t>(text: &'t str, literal: &str) -> Option<(u64, &'t str)>
     Some((number, &rest[len..]))
 }
 
-// The string that the text begins with.
+/// The string that the text begins with.
 fn plain_text(text: &str) -> Option<(&str, &str)>
     ensures { IfSome result (λ r. text.now ≡ quoted r.0.now ++ r.1.now) }
 {
     let rest = after(text, "\"")?;
-    let end = plain_end(rest.as_bytes())?;
-    Some((&rest[..end], &rest[end + 1..]))
+    let (plain, rest) = plain_front(rest)?;
+    let rest = after(rest, "\"")?;
+    Some((plain, rest))
 }
 
-// The place of the closing quote, where nothing before it is escaped.
-fn plain_end(bytes: &[u8]) -> Option<usize>
-    ensures { IfSome result
-        (λ end. (position is_stop bytes.now ≡ Some end) × (get_or bytes.now end 0 ≡ 34)
-        × (end < length bytes.now)) }
-{
-    let end = stop_in(bytes)?;
-    if bytes[end] == b'"' { Some(end) } else { None }
-}
-
-// The place of the first byte that ends a string or is escaped in it.
+/// The place of the first byte that ends a string or is escaped in it.
 fn stop_in(bytes: &[u8]) -> Option<usize>
     ensures { result ≡ position is_stop bytes.now }
 {
     bytes.iter().position(|&b| is_stop(b))
 }
 
-// Whether the byte ends a string or is escaped in it.
+/// Whether the byte ends a string or is escaped in it.
 fn is_stop(b: u8) -> bool
     ensures { result ≡ is_stop b }
 {
     b == b'"' || b == b'\\' || b < 0x20
 }
 
-// The number that the bytes begin with, and how many digits it has.
+/// The number that the bytes begin with, and how many digits it has.
 fn leading_number(bytes: &[u8]) -> Option<(u64, usize)>
     ensures { IfSome result (λ r. IsDecimalFront bytes.now r.0 r.1) }
 {
@@ -82,7 +82,7 @@ fn leading_number(bytes: &[u8]) -> Option<(u64, usize)>
     if number == 0 {
         return Some((number, len));
     }
-    'digits: while let Some(digit) = digit_at(bytes, len) {
+    while let Some(digit) = digit_at(bytes, len) {
         if number > MOST_TENTH {
             return None;
         }
@@ -92,7 +92,7 @@ fn leading_number(bytes: &[u8]) -> Option<(u64, usize)>
     Some((number, len))
 }
 
-// The digit at the place.
+/// The digit at the place.
 fn digit_at(bytes: &[u8], place: usize) -> Option<u64>
     ensures { IfSome result (IsDigitAt bytes.now place) }
 {

@@ -1,10 +1,10 @@
 //! The rows of sites and deltas.
-ghost use Rattle.std.specs.Prelude.{◌≡◌, ◌++◌, IfSome, not};
+ghost use Rattle.std.specs.Prelude.{◌≡◌, ◌++◌, IfSome};
 ghost use Rattle.serde_json.specs.Written.{comma_if, compact_text};
 ghost use Rattle.site_docs.specs.Documents.{entry_value};
 ghost use Rattle.site_docs.specs.EntriesSeen.{entry_by, told_by};
 ghost use Rattle.site_docs.specs.Fields.{stamp_of};
-ghost use Rattle.site_docs.specs.Plain.{row_before, rows_text};
+ghost use Rattle.site_docs.specs.Plain.{is_later, row_before, rows_text};
 ghost use Rattle.site_docs.specs.RowsSeen.{row_of};
 ghost use Rattle.site_docs.specs.Valid.{AreKeptCells, IsKept, IsKeptCell};
 
@@ -19,14 +19,14 @@ use std::alloc::Global;
 
 /// The cells of the array of rows that the text begins with, and what comes after it. The keys
 /// rise.
-pub fn next_cells(alloc: Global, text: &str) -> Option<(Catalogue, &str)>
+pub(crate) fn next_cells(alloc: Global, text: &str) -> Option<(Catalogue, &str)>
     ensures text { IfSome result (λ r. text.now ≡ rows_text r.0 ++ r.1.now) }
     ensures kept { IfSome result (λ r. AreKeptCells r.0) }
 {
     let mut rest = after(text, "[")?;
     let mut cells = Catalogue::new(alloc);
-    'rows: while !rest.starts_with("]") {
-        let Some((entry, left)) = next_item(alloc, rest, cells.is_empty()) else {
+    while !rest.starts_with("]") {
+        let Some((entry, left)) = next_item(alloc, rest, &cells) else {
             return None;
         };
         if !put_above(alloc, &mut cells, entry) {
@@ -38,21 +38,21 @@ pub fn next_cells(alloc: Global, text: &str) -> Option<(Catalogue, &str)>
     Some((cells, rest))
 }
 
-// The next row, after a comma where it is not the first.
-fn next_item(alloc: Global, text: &str, is_first: bool) -> Option<(CellEntry, &str)>
+/// The row after these, with a comma before it where it is not the first.
+fn next_item<'t>(alloc: Global, text: &'t str, before: &Catalogue) -> Option<(CellEntry, &'t str)>
     ensures text { IfSome result
-        (λ r. text.now ≡ comma_if (not is_first) ++ (compact_text (entry_value (entry_by r.0))
-        ++ r.1.now)) }
+        (λ r. text.now ≡ comma_if (is_later before.now)
+        ++ (compact_text (entry_value (entry_by r.0)) ++ r.1.now)) }
     ensures kept { IfSome result (λ r. IsKeptCell (entry_by r.0)) }
 {
-    if is_first {
+    if before.is_empty() {
         return next_entry(alloc, text);
     }
     let rest = after(text, ",")?;
     next_entry(alloc, rest)
 }
 
-// The row that the text begins with.
+/// The row that the text begins with.
 fn next_entry(alloc: Global, text: &str) -> Option<(CellEntry, &str)>
     ensures text { IfSome result
         (λ r. text.now ≡ compact_text (entry_value (entry_by r.0)) ++ r.1.now) }
@@ -65,7 +65,7 @@ fn next_entry(alloc: Global, text: &str) -> Option<(CellEntry, &str)>
     Some((with_label(stamped, label), rest))
 }
 
-// The entry of this key and this stamp that has this label.
+/// The entry of this key and this stamp that has this label.
 fn with_label(stamped: StampEntry, label: Option<Label>) -> CellEntry
     ensures { entry_by result
         ≡ ((stamped.id, stamped.lang), record { stamp = stamped.stamp; label = label }) }
@@ -75,7 +75,7 @@ fn with_label(stamped: StampEntry, label: Option<Label>) -> CellEntry
     CellEntry { id, lang, cell }
 }
 
-// What a row begins with, up to and including the comma after its count.
+/// What a row begins with, up to and including the comma after its count.
 fn next_row(text: &str) -> Option<(Row<'_>, &str)>
     ensures { IfSome result (λ r. text.now ≡ row_before (row_of r.0) r.1.now) }
 {
@@ -98,7 +98,7 @@ fn next_row(text: &str) -> Option<(Row<'_>, &str)>
     Some((row, rest))
 }
 
-// What the row's fields make, where its language is in lower case.
+/// What the row's fields make, where its language is in lower case.
 fn lower_entry(alloc: Global, row: Row<'_>) -> Option<StampEntry>
     ensures is { let plain = row_of row.entry in IfSome result
         (λ x. told_by x ≡ ((plain.id, plain.language), stamp_of plain)) }

@@ -38,19 +38,18 @@ pub trait Rows {
         row: &Value<'_>,
     ) -> Result<(), DocCause>
         requires { IsRead (value_view row.now) }
-        ensures ok { OnOk result
-            ((before : List Data) → length before ≡ place → Holds version self.old before
+        ensures ok { OnOk result ((before : List Data) → length before ≡ place
+            → Holds version self.old before
             → AllPass (Checks version before (seen row.now))
             × Holds version self.new (before ++ seen row.now ∷ [])) }
-        ensures err { IfErr result
-            (OrMemory NoMemory
-            (λ e. (before : List Data) → length before ≡ place → Holds version self.old before
+        ensures err { IfErr result (OrMemory NoMemory (λ e. (before : List Data)
+            → length before ≡ place → Holds version self.old before
             → FirstFails (Checks version before (seen row.now)) e)) };
 }
 
 /// Reads an array after its `[`. Returns the first refused row, if any, but reads on: a syntax
 /// error later in the text takes precedence.
-pub fn read_rows<R: Rows>(
+pub(crate) fn read_rows<R: Rows>(
     alloc: Global,
     reader: &mut Reader<'_>,
     depth: usize,
@@ -69,7 +68,7 @@ pub fn read_rows<R: Rows>(
     rows.clear(alloc);
     let mut refusal = None;
     let mut place = 0;
-    'rows: while !reader.take_end_array() {
+    while !reader.take_end_array() {
         match read_row(alloc, reader, depth, version, place, rows, refusal) {
             Ok(next) => refusal = next,
             Err(cause) => return Err(cause),
@@ -93,8 +92,7 @@ fn read_row<R: Rows>(
     ensures read { MatchResult result
         (λ next. (d : Data) × Reads depth reader.old d reader.new
         × ((before : List Data) → length before ≡ place
-        → TakesNext (R.Checks version) (R.Holds version) before refusal rows.old rows.new next
-        d))
+        → TakesNext (R.Checks version) (R.Holds version) before refusal rows.old rows.new next d))
         (OrMemory NoMemory (λ e. (e ≡ NotJson) × (value depth reader.old ≡ None))) }
     ensures left { OnOk result (are_in_range reader.new ≡ true) }
     ensures shorter { OnOk result (length reader.new < length reader.old) }
@@ -115,8 +113,8 @@ fn take_row<R: Rows>(
     requires { IsRead (value_view row.now) }
     ensures { MatchResult result
         (λ next. (before : List Data) → length before ≡ place
-        → TakesNext (R.Checks version) (R.Holds version) before refusal rows.old rows.new next
-        (seen row.now))
+        → TakesNext (R.Checks version) (R.Holds version) before refusal rows.old rows.new
+        next (seen row.now))
         (λ e. e ≡ NoMemory) }
 {
     match refusal {

@@ -18,8 +18,7 @@ pub fn write_entry(
     lang: &Lang,
     cell: &Cell,
 ) -> Result<(), AllocError>
-    ensures tokens { OnOk result
-        (Adds out.old out.new
+    ensures tokens { OnOk result (Adds out.old out.new
         (value_tokens (cell_value (row_of ((id.now, lang.now), cell.now)) cell.now.label))) }
     ensures kept { OnOk result (IsKeptCell ((id.now, lang.now), cell.now)) }
 {

@@ -23,11 +23,33 @@ use json_docs::{DocCause, FieldFault, text_of};
 use lang_core::{Lang, LangFault};
 use std::alloc::{AllocError, Global};
 
+/// The key and the stamp of a row of a summary.
+#[derive(Drop)]
+pub(crate) struct StampEntry {
+    /// The message.
+    pub id: MessageId,
+    /// The language.
+    pub lang: Lang,
+    /// The stamp.
+    pub stamp: Stamp,
+}
+
+/// The key and the cell of a row of a site or a delta.
+#[derive(Drop)]
+pub struct CellEntry {
+    /// The message.
+    pub id: MessageId,
+    /// The language.
+    pub lang: Lang,
+    /// The cell.
+    pub cell: Cell,
+}
+
 /// The id of a row.
 pub fn id_of(alloc: Global, place: usize, text: &str) -> Result<MessageId, DocCause>
     ensures { MatchResult result (λ id. IsMessageId text.now × (id ≡ text.now))
-        (OrMemory NoMemory
-        (λ e. (¬ (IsMessageId text.now)) × (e ≡ Field place (CellRefused IdRefused)))) }
+        (OrMemory NoMemory (λ e. (¬ (IsMessageId text.now))
+        × (e ≡ Field place (CellRefused IdRefused)))) }
 {
     match MessageId::new(alloc, text) {
         Ok(id) => Ok(id),
@@ -51,7 +73,7 @@ pub fn language_of(alloc: Global, place: usize, text: &str) -> Result<Lang, DocC
 }
 
 /// The name of a row's site; a number has its padded name.
-pub fn name_of(place: usize, site: SiteText<'_>) -> Result<SiteName, DocCause>
+pub(crate) fn name_of(place: usize, site: SiteText<'_>) -> Result<SiteName, DocCause>
     ensures { MatchResult result
         (λ name. IsSiteName (site_of site.entry) × (name ≡ site_of site.entry))
         (λ e. (¬ (IsSiteName (site_of site.entry))) × (e ≡ Field place (CellRefused NameRefused))) }
@@ -66,7 +88,7 @@ pub fn name_of(place: usize, site: SiteText<'_>) -> Result<SiteName, DocCause>
 }
 
 /// The label of a row; no texts are a deletion.
-pub fn label_of(
+pub(crate) fn label_of(
     alloc: Global,
     place: usize,
     texts: Option<&[Value<'_>]>,
@@ -85,30 +107,8 @@ pub fn label_of(
     }
 }
 
-/// The key and the stamp of a row of a summary.
-#[derive(Drop)]
-pub struct StampEntry {
-    /// The message.
-    pub id: MessageId,
-    /// The language.
-    pub lang: Lang,
-    /// The stamp.
-    pub stamp: Stamp,
-}
-
-/// The key and the cell of a row of a site or a delta.
-#[derive(Drop)]
-pub struct CellEntry {
-    /// The message.
-    pub id: MessageId,
-    /// The language.
-    pub lang: Lang,
-    /// The cell.
-    pub cell: Cell,
-}
-
 /// What the fields of a row without a label make.
-pub fn stamp_entry(alloc: Global, place: usize, row: Row<'_>) -> Result<StampEntry, DocCause>
+pub(crate) fn stamp_entry(alloc: Global, place: usize, row: Row<'_>) -> Result<StampEntry, DocCause>
     ensures { let plain = row_of row.entry in MatchResult result
         (λ x. AllPass (stamp_fields place plain) × (told_by x ≡ told_of plain))
         (OrMemory NoMemory (FirstFails (stamp_fields place plain))) }
@@ -127,8 +127,9 @@ pub fn stamp_entry(alloc: Global, place: usize, row: Row<'_>) -> Result<StampEnt
 /// What the fields of a row with a label make.
 pub fn cell_entry(alloc: Global, place: usize, cell: CellRow<'_, '_>) -> Result<CellEntry, DocCause>
     requires { AreTextsOf cell.texts }
-    ensures { let plain = row_of cell.entry.row in let texts =
-        option_map (λ values. texts_of values.now) cell.entry.texts in MatchResult result
+    ensures { let plain = row_of cell.entry.row in
+        let texts = option_map (λ values. texts_of values.now) cell.entry.texts in
+        MatchResult result
         (λ x. AllPass (cell_fields place plain texts) × (entry_by x ≡ entry_of plain texts))
         (OrMemory NoMemory (FirstFails (cell_fields place plain texts))) }
 {
@@ -167,11 +168,11 @@ fn label_from(alloc: Global, place: usize, values: &[Value<'_>]) -> Result<Label
 
 /// Copies of the values that are texts.
 fn copied_texts(alloc: Global, values: &[Value<'_>]) -> Result<Vec<String>, AllocError>
-    ensures { IfOk result
-        (λ texts. map string_bytes texts.items ≡ filter_map as_str (map seen values.now)) }
+    ensures { IfOk result (λ texts. map string_bytes texts.items
+        ≡ filter_map as_str (map seen values.now)) }
 {
     let mut texts = Vec::with_capacity(alloc, values.len())?;
-    'values: for value in values {
+    for value in values {
         if let Some(text) = text_of(value) {
             texts.push(String::from_str(alloc, text)?)?;
         }

@@ -44,7 +44,7 @@ pub struct CellRow<'v, 't> {
 }
 
 /// The site, where the value names one as this version does.
-pub fn site_of<'t>(version: Version, value: &Value<'t>) -> Option<SiteText<'t>>
+pub(crate) fn site_of<'t>(version: Version, value: &Value<'t>) -> Option<SiteText<'t>>
     ensures { option_map site_of result ≡ site_in version (seen value.now) }
 {
     match version {
@@ -54,7 +54,7 @@ pub fn site_of<'t>(version: Version, value: &Value<'t>) -> Option<SiteText<'t>>
 }
 
 /// The row of a summary, where the value has its shape.
-pub fn stamp_of<'t>(version: Version, value: &Value<'t>) -> Option<Row<'t>>
+pub(crate) fn stamp_of<'t>(version: Version, value: &Value<'t>) -> Option<Row<'t>>
     requires { IsRead (value_view value.now) }
     ensures { option_map row_of result ≡ stamp_in version (seen value.now) }
 {
@@ -65,7 +65,7 @@ pub fn stamp_of<'t>(version: Version, value: &Value<'t>) -> Option<Row<'t>>
 }
 
 /// The texts of a label, where the value is one; none for null.
-pub fn label_of<'v, 't>(value: &'v Value<'t>) -> Option<Option<&'v [Value<'t>]>>
+pub(crate) fn label_of<'v, 't>(value: &'v Value<'t>) -> Option<Option<&'v [Value<'t>]>>
     requires { IsRead (value_view value.now) }
     ensures label { option_map (λ o. option_map (λ s. texts_of s.now) o) result
         ≡ label_in (seen value.now) }
@@ -119,9 +119,8 @@ fn parts_of<'t>(
     site: &Value<'t>,
     count: &Value<'t>,
 ) -> Option<Row<'t>>
-    ensures { option_map row_of result
-        ≡ parts_in version (seen id.now) (seen language.now) (seen time.now) (seen site.now)
-        (seen count.now) }
+    ensures { option_map row_of result ≡ parts_in version (seen id.now) (seen language.now)
+        (seen time.now) (seen site.now) (seen count.now) }
 {
     Some(Row {
         id: text_of(id)?,

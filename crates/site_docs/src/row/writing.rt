@@ -14,7 +14,7 @@ use std::alloc::{AllocError, Global};
 
 /// The key and the stamp of a row, borrowed from what is written.
 #[derive(Clone, Copy)]
-pub struct WrittenRow<'a> {
+pub(crate) struct WrittenRow<'a> {
     /// The id of the message.
     pub id: &'a str,
     /// The language.
@@ -28,7 +28,7 @@ pub struct WrittenRow<'a> {
 }
 
 /// Adds `[id, language, time, site, count]`.
-pub fn write_stamp(out: &mut Writer, row: &WrittenRow<'_>) -> Result<(), AllocError>
+pub(crate) fn write_stamp(out: &mut Writer, row: &WrittenRow<'_>) -> Result<(), AllocError>
     ensures { OnOk result (Adds out.old out.new (value_tokens (stamp_value (row_of row.now)))) }
 {
     out.begin_array()?;
@@ -37,13 +37,12 @@ pub fn write_stamp(out: &mut Writer, row: &WrittenRow<'_>) -> Result<(), AllocEr
 }
 
 /// Adds `[id, language, time, site, count, label]`; no label is null.
-pub fn write_cell(
+pub(crate) fn write_cell(
     out: &mut Writer,
     row: &WrittenRow<'_>,
     label: Option<&[String]>,
 ) -> Result<(), AllocError>
-    ensures { OnOk result
-        (Adds out.old out.new
+    ensures { OnOk result (Adds out.old out.new
         (value_tokens
         (cell_value (row_of row.now) (option_map (λ texts. texts_of texts.now) label.entry)))) }
 {
@@ -61,7 +60,7 @@ pub fn write_texts(out: &mut Writer, texts: &[String]) -> Result<(), AllocError>
     ensures { OnOk result (Adds out.old out.new (value_tokens (texts_value (texts_of texts.now)))) }
 {
     out.begin_array()?;
-    'texts: for text in texts {
+    for text in texts {
         out.string(text.as_str())?;
     }
     out.end_array()

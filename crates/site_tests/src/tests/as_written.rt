@@ -14,6 +14,14 @@ const SITE: &str = concat!(
     "\n"
 );
 
+/// A site with each short escape, control bytes, and a byte that is no control byte of JSON.
+const ESCAPED: &str = concat!(
+    r#"{"cells":[["m","en",5,"a",0,["\"\\\b\f\n\r\t","\u0000\u000b\u001f"#,
+    "\u{7f}",
+    r#" é/","x\\"]]],"kind":"site","site":"paris","version":2}"#,
+    "\n"
+);
+
 /// A site whose text has no escape.
 const PLAIN: &str = concat!(
     r#"{"cells":[["m","@none",0,"a",0,null],"#,
@@ -66,8 +74,38 @@ fn what_is_written_is_read(rt: HostRuntime) {
 
 #[test]
 fn what_is_written_without_escapes_is_read(rt: HostRuntime) {
-    let texts = [PLAIN, PLAIN.trim_end()];
-    assert_all_written(&rt, rt.alloc(), texts.as_slice(), PLAIN);
+    assert_written(&rt, rt.alloc(), PLAIN, PLAIN);
+}
+
+/// Each of these ends of a site's text may be after its brace.
+fn assert_ends(rt: &impl Abort, alloc: Global, site: &str, ends: &[&str]) {
+    for end in ends {
+        let text = format!(in alloc; "{site}{end}").expect(rt, "memory");
+        assert_written(rt, alloc, &text, PLAIN);
+    }
+}
+
+/// Of two documents in one input, the first is cut off before its line feed.
+#[test]
+fn the_line_feed_at_the_end_is_free(rt: HostRuntime) {
+    let ends = ["", "\n", "\n\n", "\r\n", " "];
+    assert_ends(&rt, rt.alloc(), PLAIN.trim_end(), ends.as_slice());
+    assert!(rt; is_document(rewritten_delta(rt.alloc(), DELTA.trim_end()), DELTA));
+}
+
+#[test]
+fn escapes_as_they_are_written(rt: HostRuntime) {
+    assert_written(&rt, rt.alloc(), ESCAPED, ESCAPED);
+}
+
+#[test]
+fn other_escapes_are_read(rt: HostRuntime) {
+    let text = concat!(
+        r#"{"cells":[["m","en",5,"a",0,["\u0022\u005c\u0008\u000C\u000a\u000d\u0009","#,
+        r#""\u0000\u000B\u001F\u007f \u00e9\/","\u0078\u005C"]]],"#,
+        r#""kind":"site","site":"paris","version":2}"#
+    );
+    assert_written(&rt, rt.alloc(), text, ESCAPED);
 }
 
 /// Blanks and escapes are free, and so is the case of a language.
@@ -196,6 +234,19 @@ fn rows_of_another_shape(rt: HostRuntime) {
         r#"["n","en",5,"a",0,"x"]"#,
     ];
     assert_rows_refused(&rt, rt.alloc(), rows.as_slice(), &SHAPE_OF_ROW_1);
+}
+
+#[test]
+fn strings_that_are_no_json(rt: HostRuntime) {
+    let rows = [
+        r#"["n","en",5,"a",0,["\x"]]"#,
+        r#"["n","en",5,"a",0,["\u001g"]]"#,
+        r#"["n","en",5,"a",0,["\u00"]]"#,
+        r#"["n","en",5,"a",0,["\u"]]"#,
+        r#"["n","en",5,"a",0,["\"]]"#,
+        "[\"n\",\"en\",5,\"a\",0,[\"\n\"]]",
+    ];
+    assert_rows_refused(&rt, rt.alloc(), rows.as_slice(), &DocCause::NotJson);
 }
 
 /// A row that does not pass is refused for its first test.

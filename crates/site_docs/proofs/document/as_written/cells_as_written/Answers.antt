@@ -15,10 +15,8 @@ returns c =
       rows = list_of e.3.rows;
       json = (
         text.1,
-        rw (← text.0)
-            (document_read c.args.kind c.in-Ok.text.now r.0 e.1 e.0 e.3.rows e.2 e.3.reads
-            e.3.shorter
-            e.4),
+        rw (← text.0) (document_read c.args.kind c.in-Ok.text.now r.0 e.1 e.0 e.3.rows
+            e.2 e.3.reads e.3.shorter e.4),
       );
       is_name = e.4.is_name;
       passes = e.3.passes;

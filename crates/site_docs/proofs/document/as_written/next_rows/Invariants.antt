@@ -9,8 +9,8 @@ use Rattle.json_docs.proofs.ArraysLemmas.{before}
 use Rattle.site_docs.proofs.document.as_written.next_rows.Given as goal
 
 -- the array is the rows that were read, and then what is left
-abbrev pub invariant-rows : goal.invariant-rows
-invariant-rows l =
+abbrev pub invariant-loop-alloc : goal.invariant-loop-alloc
+invariant-loop-alloc l =
     (n : ℕ) × (front : List Data) × (length l.reader ≤ n)
     × (converted of_items (items (value 125) (length l.fn.reader) l.fn.reader)
     ≡ parse_map (before front) (converted of_items (items (value 125) n l.reader)))
@@ -18,5 +18,5 @@ invariant-rows l =
     × MakesEntries (entry_in Two) front l.cells
     × (length l.reader ≤ length l.fn.reader)
 
-abbrev pub decreases-rows : goal.decreases-rows
-decreases-rows l = length l.reader
+abbrev pub decreases-loop-alloc : goal.decreases-loop-alloc
+decreases-loop-alloc l = length l.reader

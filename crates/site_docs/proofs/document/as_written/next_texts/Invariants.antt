@@ -3,8 +3,8 @@ use Rattle.json.specs.Token.{string}
 use Rattle.site_docs.proofs.document.as_written.next_texts.Given as goal
 
 -- the texts that were read, and what is left
-abbrev pub invariant-texts : goal.invariant-texts
-invariant-texts l = l.fn.reader ≡ map string (map string_bytes l.texts.items) ++ l.reader
+abbrev pub invariant-loop-alloc : goal.invariant-loop-alloc
+invariant-loop-alloc l = l.fn.reader ≡ map string (map string_bytes l.texts.items) ++ l.reader
 
-abbrev pub decreases-texts : goal.decreases-texts
-decreases-texts l = length l.reader
+abbrev pub decreases-loop-alloc : goal.decreases-loop-alloc
+decreases-loop-alloc l = length l.reader

@@ -9,8 +9,7 @@ returns-clause-utf8 c =
     let before = c.args.draft.before in
     let text = print c.args.draft.tokens in
     let is : c.from.result ≡ before ++ (text ++ 10 ∷ []) =
-    c.from.ensures
-    ∙ (c.in_ok-push.ensures.items
+    c.from.ensures ∙ (c.in_ok-push.ensures.items
     ∙ (ap (λ b. b ++ 10 ∷ []) c.into_inner-bytes.ensures.items
     ∙ append_assoc before text (10 ∷ []))) in
     λ none. subst IsUtf8 (sym is) (utf8_line before text c.into_inner-bytes.ensures.utf8 none)

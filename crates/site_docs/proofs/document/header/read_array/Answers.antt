@@ -15,18 +15,17 @@ returns-in_default g c = inr (refl, nothing_read c.args.reader.now c.in_default.
 pub returns-in_err-refusal-in-BeginArray : goal.returns-in_err-refusal-in-BeginArray
 returns-in_err-refusal-in-BeginArray g c =
     let ts = c.next.new.self in
-    let is : c.args.reader.now ≡ begin_array ∷ ts =
-    c.in-Some.ensures.value ∙ ap (λ t. token_of t ∷ ts) c.in-BeginArray.is in
+    let is : c.args.reader.now ≡ begin_array ∷ ts = c.in-Some.ensures.value
+    ∙ ap (λ t. token_of t ∷ ts) c.in-BeginArray.is in
     let p = err_from_is_err_and c.from_residual.result c.from_residual.ensures.1 in
-    rw (p.1, p.2)
-    (not_json _ _ _ (no_array c.args.reader.now ts is)
+    rw (p.1, p.2) (not_json _ _ _ (no_array c.args.reader.now ts is)
     c.in_err-refusal-in-BeginArray.ensures.read)
 
 pub returns-in_err-pass_members-in-BeginObject : goal.returns-in_err-pass_members-in-BeginObject
 returns-in_err-pass_members-in-BeginObject g c =
     let ts = c.next.new.self in
-    let is : c.args.reader.now ≡ begin_object ∷ ts =
-    c.in-Some.ensures.value ∙ ap (λ t. token_of t ∷ ts) c.in-BeginObject.is in
+    let is : c.args.reader.now ≡ begin_object ∷ ts = c.in-Some.ensures.value
+    ∙ ap (λ t. token_of t ∷ ts) c.in-BeginObject.is in
     let from = c.from_residual-in_err-pass_members-in-BeginObject in
     let p = err_from_is_err_and from.result from.ensures.1 in
     let e = c.in_err-pass_members-in-BeginObject.ensures.read in
@@ -37,16 +36,15 @@ returns-then-not-is_scalar g c =
     let first = c.in-Some.ensures.value in
     inr (
       refl,
-      rw first
-          (no_scalar c.in-Some.token c.next.new.self c.in_default-token.not-BeginArray
+      rw first (no_scalar c.in-Some.token c.next.new.self c.in_default-token.not-BeginArray
           c.in_default-token.not-BeginObject (sym c.if-not-is_scalar.ensures)),
     )
 
 pub returns-in_ok-refusal-in-BeginArray : goal.returns-in_ok-refusal-in-BeginArray
 returns-in_ok-refusal-in-BeginArray g c =
     let ts = c.next.new.self in
-    let is : c.args.reader.now ≡ begin_array ∷ ts =
-    c.in-Some.ensures.value ∙ ap (λ t. token_of t ∷ ts) c.in-BeginArray.is in
+    let is : c.args.reader.now ≡ begin_array ∷ ts = c.in-Some.ensures.value
+    ∙ ap (λ t. token_of t ∷ ts) c.in-BeginArray.is in
     let e = c.in_ok-refusal-in-BeginArray.ensures in
     let less = e.shorter in
     let ds = e.read.0 in (
@@ -63,17 +61,15 @@ returns-in_ok-refusal-in-BeginArray g c =
 pub returns-in_ok-pass_members-in-BeginObject : goal.returns-in_ok-pass_members-in-BeginObject
 returns-in_ok-pass_members-in-BeginObject g c =
     let ts = c.next.new.self in
-    let is : c.args.reader.now ≡ begin_object ∷ ts =
-    c.in-Some.ensures.value ∙ ap (λ t. token_of t ∷ ts) c.in-BeginObject.is in
+    let is : c.args.reader.now ≡ begin_object ∷ ts = c.in-Some.ensures.value
+    ∙ ap (λ t. token_of t ∷ ts) c.in-BeginObject.is in
     let e = c.in_ok-pass_members-in-BeginObject.ensures in
     let less = e.shorter in
     let ms = e.read.0 in (
       object ms,
       record {
-        read =
-            object_read c.args.reader.now ts c.pass_members.new.reader ms is e.read.1;
-        left =
-            e.left;
+        read = object_read c.args.reader.now ts c.pass_members.new.reader ms is e.read.1;
+        left = e.left;
         shorter = omega (arith, ap length is);
       },
       (None, refl, refl),
@@ -90,8 +86,7 @@ returns-else-not-is_scalar g c =
         read = rw first read.1;
         left =
             range_behind (token_of c.in-Some.token) ts range;
-        shorter =
-            omega (arith, ap length first);
+        shorter = omega (arith, ap length first);
       },
       (None, read.2, refl),
     )

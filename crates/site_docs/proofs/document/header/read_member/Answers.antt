@@ -11,8 +11,9 @@ returns-in-Kind g c =
       read.0,
       read.1,
       λ name ms is shown. rw read.2
-          (Shows-kind c.args.kind (g.R.Rows.Checks c.args.version) (g.R.Rows.Holds c.args.version)
-          c.args.header c.args.rows.now name read.0 ms shown (is ∙ c.in-Kind.is)),
+          (Shows-kind c.args.kind (g.R.Rows.Checks c.args.version)
+          (g.R.Rows.Holds c.args.version) c.args.header c.args.rows.now name read.0 ms shown
+          (is ∙ c.in-Kind.is)),
     ))
 
 pub returns-in-Version : goal.returns-in-Version
@@ -23,8 +24,8 @@ returns-in-Version g c =
       read.1,
       λ name ms is shown. rw read.2
           (Shows-version c.args.kind (g.R.Rows.Checks c.args.version)
-          (g.R.Rows.Holds c.args.version)
-          c.args.header c.args.rows.now name read.0 ms shown (is ∙ c.in-Version.is)),
+          (g.R.Rows.Holds c.args.version) c.args.header c.args.rows.now name read.0 ms shown
+          (is ∙ c.in-Version.is)),
     ))
 
 pub returns-in-Subject : goal.returns-in-Subject
@@ -35,9 +36,8 @@ returns-in-Subject g c =
       read.1,
       λ name ms is shown. rw read.2.2
           (Shows-subject c.args.kind (g.R.Rows.Checks c.args.version)
-          (g.R.Rows.Holds c.args.version)
-          c.args.header c.args.rows.now name read.0 ms shown read.2.0 read.2.1
-          (is ∙ c.in-Subject.is)),
+          (g.R.Rows.Holds c.args.version) c.args.header c.args.rows.now name read.0 ms shown
+          read.2.0 read.2.1 (is ∙ c.in-Subject.is)),
     ))
 
 pub returns-in-Rows : goal.returns-in-Rows
@@ -47,9 +47,9 @@ returns-in-Rows g c =
       read.0,
       read.1,
       λ name ms is shown. rw read.2.2
-          (Shows-rows c.args.kind (g.R.Rows.Checks c.args.version) (g.R.Rows.Holds c.args.version)
-          c.args.header c.args.rows.now name read.0 ms shown c.read_array.new.rows read.2.0 read.2.1
-          (is ∙ c.in-Rows.is)),
+          (Shows-rows c.args.kind (g.R.Rows.Checks c.args.version)
+          (g.R.Rows.Holds c.args.version) c.args.header c.args.rows.now name read.0 ms shown
+          c.read_array.new.rows read.2.0 read.2.1 (is ∙ c.in-Rows.is)),
     ))
 
 pub returns-in-Other : goal.returns-in-Other
@@ -59,6 +59,7 @@ returns-in-Other g c =
       read.0,
       read.1,
       λ name ms is shown. rw read.2
-          (Shows-other c.args.kind (g.R.Rows.Checks c.args.version) (g.R.Rows.Holds c.args.version)
-          c.args.header c.args.rows.now name read.0 ms shown (is ∙ c.in-Other.is)),
+          (Shows-other c.args.kind (g.R.Rows.Checks c.args.version)
+          (g.R.Rows.Holds c.args.version) c.args.header c.args.rows.now name read.0 ms shown
+          (is ∙ c.in-Other.is)),
     ))

@@ -7,15 +7,15 @@ use Rattle.site_docs.specs.HeaderSeen.{Shows}
 use Rattle.site_docs.proofs.document.header.read_members.Given as goal
 
 -- the members that were read, and what is left
-abbrev pub invariant-members : goal.invariant-members
-invariant-members g l =
+abbrev pub invariant-loop-name : goal.invariant-loop-name
+invariant-loop-name g l =
     (n : ℕ) × (found : Members) × (length l.reader ≤ n)
     × (converted (λ ms. of_members ms no_members)
-    (members (value 126) (length l.fn.reader) l.fn.reader)
-    ≡ converted (λ ms. of_members ms found) (members (value 126) n l.reader))
+    (members (value 126) (length l.fn.reader) l.fn.reader) ≡ converted (λ ms. of_members ms found)
+    (members (value 126) n l.reader))
     × Shows l.kind (g.R.Rows.Checks l.version) (g.R.Rows.Holds l.version) l.header l.rows found
     × (are_in_range l.reader ≡ true)
     × (length l.reader ≤ length l.fn.reader)
 
-abbrev pub decreases-members : goal.decreases-members
-decreases-members g l = length l.reader
+abbrev pub decreases-loop-name : goal.decreases-loop-name
+decreases-loop-name g l = length l.reader

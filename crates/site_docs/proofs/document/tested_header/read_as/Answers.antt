@@ -16,11 +16,10 @@ returns-in-Some g c =
           (g.R.Rows.Holds c.args.version) c.in-Some.header c.read_object.new.rows ms e.2 tested
           passes,
     ))
-    (λ cause fails. inr
-    (inr (
+    (λ cause fails. inr (inr (
       object ms,
       e.1,
-      header_fails c.args.kind (g.R.Rows.Checks c.args.version)
-          (g.R.Rows.Holds c.args.version) c.in-Some.header c.read_object.new.rows ms e.2 cause
-          fails,
+      header_fails c.args.kind
+          (g.R.Rows.Checks c.args.version) (g.R.Rows.Holds c.args.version) c.in-Some.header
+          c.read_object.new.rows ms e.2 cause fails,
     )))

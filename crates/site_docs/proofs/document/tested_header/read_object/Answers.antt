@@ -15,16 +15,16 @@ read_rest-requires-clause-places g c =
 pub returns-in_err-header : goal.returns-in_err-header
 returns-in_err-header g c =
     let ts = c.begins_object.new.reader in
-    let first : tokens c.args.text.now ≡ begin_object ∷ ts =
-    sym c.in-Ok.ensures.ok ∙ c.if-begins_object.ensures in
+    let first : tokens c.args.text.now ≡ begin_object ∷ ts = sym c.in-Ok.ensures.ok
+    ∙ c.if-begins_object.ensures in
     let p = err_from_is_err_and c.from_residual.result c.from_residual.ensures.1 in
     rw (p.1, p.2) (not_json _ _ _ (not_whole c.args.text.now ts first) c.in_err-header.ensures)
 
 pub returns-in_ok-header : goal.returns-in_ok-header
 returns-in_ok-header g c =
     let ts = c.begins_object.new.reader in
-    let first : tokens c.args.text.now ≡ begin_object ∷ ts =
-    sym c.in-Ok.ensures.ok ∙ c.if-begins_object.ensures in
+    let first : tokens c.args.text.now ≡ begin_object ∷ ts = sym c.in-Ok.ensures.ok
+    ∙ c.if-begins_object.ensures in
     let e = c.in_ok-header.ensures in
     (e.0, object_whole c.args.text.now ts first e.0 e.1, e.2)
 

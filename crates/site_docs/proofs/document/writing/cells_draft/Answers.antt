@@ -7,8 +7,8 @@ use Rattle.site_docs.proofs.DocumentsLemmas.{cell_more, kept_more}
 use Rattle.site_docs.proofs.document.writing.cells_draft.Goals as goal
 
 -- none is written yet
-pub cells-init : goal.cells-init
-cells-init c = (
+pub loop-id-init : goal.loop-id-init
+loop-id-init c = (
   [],
   c.in_ok-draft.ensures,
   All-nil IsKeptCell,
@@ -16,30 +16,27 @@ cells-init c = (
       c.into_iter-id-iterator.ensures.into_iter_gives ∙ c.iter-id-items.ensures.cells,
 )
 
-pub cells-preserved : goal.cells-preserved
-cells-preserved c =
-    let inv = c.cells.invariant in
+pub loop-id-preserved : goal.loop-id-preserved
+loop-id-preserved c =
+    let inv = c.loop-id.invariant in
     let wrote = c.in_ok-write_entry.ensures in
     let e : Entry = ((c.in-Some.id.now, c.in-Some.lang.now), c.in-Some.cell.now) in
-    let more =
-    cell_more c.cells.draft c.write_entry.new.out inv.0 (cells_left c.cells.id-iterator)
-    c.args.cells.now (cells_left c.next.new.self) e inv.1 wrote.tokens inv.3
-    c.in-Some.ensures.steps in
+    let more = cell_more c.loop-id.draft c.write_entry.new.out inv.0
+    (cells_left c.loop-id.id-iterator) c.args.cells.now (cells_left c.next.new.self) e inv.1
+    wrote.tokens inv.3 c.in-Some.ensures.steps in
     (inv.0 ++ e ∷ [], more.0, kept_more IsKeptCell inv.0 e inv.2 wrote.kept, more.1)
 
 -- all cells are written
 pub returns-clause-rows : goal.returns-clause-rows
 returns-clause-rows c =
-    let inv = c.cells.invariant in
-    let all : inv.0 ≡ c.args.cells.now =
-    sym (append-nil inv.0)
+    let inv = c.loop-id.invariant in
+    let all : inv.0 ≡ c.args.cells.now = sym (append-nil inv.0)
     ∙ (ap (λ (t : Entries). inv.0 ++ t) (sym c.in-None.ensures.steps.0) ∙ inv.3) in
     rw (← all) inv.1
 
 pub returns-clause-kept : goal.returns-clause-kept
 returns-clause-kept c =
-    let inv = c.cells.invariant in
-    let all : inv.0 ≡ c.args.cells.now =
-    sym (append-nil inv.0)
+    let inv = c.loop-id.invariant in
+    let all : inv.0 ≡ c.args.cells.now = sym (append-nil inv.0)
     ∙ (ap (λ (t : Entries). inv.0 ++ t) (sym c.in-None.ensures.steps.0) ∙ inv.3) in
     record { each = rw (← all) inv.2; map = c.iter-id-items.ensures.sorted }

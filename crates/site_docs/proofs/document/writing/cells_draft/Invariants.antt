@@ -8,7 +8,7 @@ use Rattle.site_docs.specs.Valid.{IsKeptCell}
 use Rattle.site_docs.proofs.document.writing.cells_draft.Given as goal
 
 -- the cells that were written, and those that are left
-abbrev pub invariant-cells : goal.invariant-cells
-invariant-cells l =
-    (done : Entries) × HoldsCells l.draft (cells_values done) × All IsKeptCell done
+abbrev pub invariant-loop-id : goal.invariant-loop-id
+invariant-loop-id l = (done : Entries) × HoldsCells l.draft (cells_values done)
+    × All IsKeptCell done
     × (done ++ cells_left l.id-iterator ≡ l.fn.cells)

@@ -8,8 +8,8 @@ use Rattle.site_docs.proofs.document.writing.stamps_draft.Goals as goal
 use Rattle.site_docs.proofs.document.writing.stamps_draft.Goals.{in-Some+in_ok-write_told}
 use Rattle.site_docs.proofs.document.writing.stamps_draft.Goals.{in_default}
 
-pub stamps-preserved : goal.stamps-preserved
-stamps-preserved c =
+pub loop-place-preserved : goal.loop-place-preserved
+loop-place-preserved c =
     let stamps = c.args.summary.now.stamps in
     elim c.match-nth.branch [
       | in-Some+in_ok-write_told w ↦
@@ -17,26 +17,23 @@ stamps-preserved c =
           let there = sym w.in-Some.ensures in
           let wrote = w.in_ok-write_told.ensures in
           record {
-            rows =
-                rw w.draft-is
-                (stamp_more c.stamps.draft w.write_told.new.out c.args.summary.now.owner stamps
-                c.stamps.place told c.stamps.invariant.rows wrote.tokens there);
-            kept =
-                kept_next IsKeptStamp stamps c.stamps.place told there c.stamps.invariant.kept
+            rows = rw w.draft-is (stamp_more c.loop-place.draft w.write_told.new.out
+                c.args.summary.now.owner stamps c.loop-place.place told c.loop-place.invariant.rows
+                wrote.tokens there);
+            kept = kept_next IsKeptStamp stamps c.loop-place.place told there
+                c.loop-place.invariant.kept
                 wrote.kept;
           }
-      | in_default w ↦
-          absurd
-          (some_at stamps c.stamps.place (rw c.len-place-end.ensures.len at c.stamps-test.true)
-          (sym w.in_default.ensures))
+      | in_default w ↦ absurd (some_at stamps c.loop-place.place
+          (rw c.len-place-end.ensures.len at c.loop-place-test.true) (sym w.in_default.ensures))
     ]
 
 -- all stamps are written
 pub returns-clause-kept : goal.returns-clause-kept
 returns-clause-kept c =
-    let all : c.stamps.place ≡ length c.args.summary.now.stamps = omega arith in
+    let all : c.loop-place.place ≡ length c.args.summary.now.stamps = omega arith in
     record {
-      each = rw (all, take-length) at c.stamps.invariant.kept;
+      each = rw (all, take-length) at c.loop-place.invariant.kept;
       map =
           c.len-place-end.ensures.sorted;
     }

@@ -5,8 +5,8 @@ use Rattle.site_docs.specs.Texts.{HoldsStamps}
 use Rattle.site_docs.specs.Valid.{IsKeptStamp}
 use Rattle.site_docs.proofs.document.writing.stamps_draft.Given as goal
 
-abbrev pub invariant-stamps : goal.invariant-stamps
-invariant-stamps l = record {
+abbrev pub invariant-loop-place : goal.invariant-loop-place
+invariant-loop-place l = record {
   rows : HoldsStamps l.draft l.fn.summary.owner (stamps_values (take l.place l.fn.summary.stamps));
   kept : All IsKeptStamp (take l.place l.fn.summary.stamps);
 }

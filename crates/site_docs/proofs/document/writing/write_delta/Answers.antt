@@ -17,8 +17,7 @@ returns-clause-reads c =
     let held = c.in_ok-draft.ensures in
     let name = subst IsSiteName c.addressee.ensures c.as_str.ensures.name in
     let kept = subst AreKeptCells c.cells.ensures held.kept in
-    let same =
-    ap₂ (λ n cells. text (delta_value n (cells_values cells)))
+    let same = ap₂ (λ n cells. text (delta_value n (cells_values cells)))
     (c.as_str.ensures.text ∙ c.addressee.ensures) c.cells.ensures in
     let closed = c.close_delta.ensures in
     written_reads (delta_text delta) (λ doc. ReadsAsDelta doc delta) c.close_delta.result

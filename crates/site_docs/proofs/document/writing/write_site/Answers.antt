@@ -17,8 +17,7 @@ returns-clause-reads c =
     let held = c.in_ok-draft.ensures in
     let name = subst IsSiteName c.name.ensures c.as_str.ensures.name in
     let kept = subst AreKeptCells c.catalogue.ensures held.kept in
-    let same =
-    ap₂ (λ n cells. text (site_value n (cells_values cells)))
+    let same = ap₂ (λ n cells. text (site_value n (cells_values cells)))
     (c.as_str.ensures.text ∙ c.name.ensures) c.catalogue.ensures in
     let closed = c.close_site.ensures in
     written_reads (site_text site) (λ doc. ReadsAsSite doc site) c.close_site.result

@@ -6,17 +6,18 @@ pub returns-then-number-eq0 : goal.returns-then-number-eq0
 returns-then-number-eq0 c = first_digit c.args.bytes.now c.in_ok-number.number
     c.in_ok-number.ensures
 
-pub digits-init : goal.digits-init
-digits-init c = record {
+pub loop-digit-init : goal.loop-digit-init
+loop-digit-init c = record {
   front = first_digit c.args.bytes.now c.in_ok-number.number c.in_ok-number.ensures;
   some = omega arith;
 }
 
-pub digits-preserved : goal.digits-preserved
-digits-preserved c =
-    let inv = c.digits.invariant in
+pub loop-digit-preserved : goal.loop-digit-preserved
+loop-digit-preserved c =
+    let inv = c.loop-digit.invariant in
     record {
-      front = next_digit c.args.bytes.now c.digits.number c.in-Some.digit c.digits.len inv.front
+      front = next_digit c.args.bytes.now c.loop-digit.number c.in-Some.digit c.loop-digit.len
+          inv.front
           c.in-Some.ensures inv.some (omega (arith, c.in-Some.ensures.small));
       some = omega (arith, inv.some);
     }

@@ -7,11 +7,11 @@ use Rattle.site_docs.specs.Valid.{AreKeptCells}
 use Rattle.site_docs.proofs.plain.rows.next_cells.Given as goal
 
 -- the cells that were read, and what is left
-abbrev pub invariant-rows : goal.invariant-rows
-invariant-rows l =
+abbrev pub invariant-loop-alloc : goal.invariant-loop-alloc
+invariant-loop-alloc l =
     shadow (Utf8 l.rest)
     × AreKeptCells l.cells
     × (l.fn.text ≡ 91 ∷ (open_items false (cells_values l.cells) ++ l.rest))
 
-abbrev pub decreases-rows : goal.decreases-rows
-decreases-rows l = length l.rest
+abbrev pub decreases-loop-alloc : goal.decreases-loop-alloc
+decreases-loop-alloc l = length l.rest

@@ -8,8 +8,8 @@ use Rattle.json_docs.proofs.ArraysLemmas.{before, list_of-before, not_json, pars
 use Rattle.json_docs.proofs.ArraysLemmas.{parse_map-push, TakesRows-next}
 use Rattle.site_docs.proofs.row.arrays.read_rows.Goals as goal
 
-pub rows-init : goal.rows-init
-rows-init g c = (
+pub loop-alloc-init : goal.loop-alloc-init
+loop-alloc-init g c = (
   length c.args.reader.now,
   [],
   omega arith,
@@ -20,24 +20,25 @@ rows-init g c = (
   refl,
 )
 
-pub rows-preserved : goal.rows-preserved
-rows-preserved g c =
-    let inv = c.rows.invariant in
+pub loop-alloc-preserved : goal.loop-alloc-preserved
+loop-alloc-preserved g c =
+    let inv = c.loop-alloc.invariant in
     let p = value c.args.depth in
     let row = c.in-Ok.ensures in
     let d = row.read.0 in
     let r = c.read_row.new.reader in
-    let going = c.rows-test.ensures in
-    let less : length r < length c.rows.reader = rw (← going.1) row.shorter in
-    let turn =
-    item_read p inv.0 c.rows.reader r d (omega (arith, inv.2, less)) going.0
+    let going = c.loop-alloc-test.ensures in
+    let less : length r < length c.loop-alloc.reader = rw (← going.1) row.shorter in
+    let turn = item_read p inv.0 c.loop-alloc.reader r d (omega (arith, inv.2, less)) going.0
     (rw (← going.1) row.read.1) in (
       inv.0 - 1,
       inv.1 ++ d ∷ [],
       omega (arith, inv.2, less),
       inv.3 ∙ ap (parse_map (before inv.1)) turn ∙ parse_map-push inv.1 d _,
-      TakesRows-next (g.R.Rows.Checks c.args.version) (g.R.Rows.Holds c.args.version) c.rows.rows
-          c.read_row.new.rows c.rows.refusal c.in-Ok.next inv.1 d inv.4 (row.read.2 inv.1 inv.7),
+      TakesRows-next (g.R.Rows.Checks c.args.version)
+          (g.R.Rows.Holds c.args.version) c.loop-alloc.rows
+          c.read_row.new.rows c.loop-alloc.refusal c.in-Ok.next inv.1 d inv.4
+          (row.read.2 inv.1 inv.7),
       row.left,
       omega (arith, inv.6, less),
       simp length-append (omega (arith, inv.7)),
@@ -45,24 +46,23 @@ rows-preserved g c =
 
 pub returns-in-Err-clause-read : goal.returns-in-Err-clause-read
 returns-in-Err-clause-read g c =
-    let inv = c.rows.invariant in
+    let inv = c.loop-alloc.invariant in
     let p = value c.args.depth in
-    let going = c.rows-test.ensures in
+    let going = c.loop-alloc-test.ensures in
     not_json c.in-Err.cause _ _
-    (λ none. inv.3
-    ∙ ap (parse_map (before inv.1))
-    (item_refused p inv.0 c.rows.reader going.0 (rw (← going.1) (ap (converted of_json) none))))
+    (λ none. inv.3 ∙ ap (parse_map (before inv.1))
+    (item_refused p inv.0 c.loop-alloc.reader going.0
+    (rw (← going.1) (ap (converted of_json) none))))
     c.in-Err.ensures.read
 
 -- the rows that were read are all
 pub returns-clause-read : goal.returns-clause-read
 returns-clause-read g c =
-    let inv = c.rows.invariant in
-    let all =
-    items_over (value c.args.depth) inv.0 c.rows.reader c.take_end_array.new.self inv.2
-    c.rows-test.ensures in (
+    let inv = c.loop-alloc.invariant in
+    let all = items_over (value c.args.depth) inv.0 c.loop-alloc.reader c.take_end_array.new.self
+    inv.2
+    c.loop-alloc-test.ensures in (
       before inv.1 no_items,
-      inv.3
-          ∙ ap (parse_map (before inv.1)) all,
+      inv.3 ∙ ap (parse_map (before inv.1)) all,
       rw (list_of-before, append-nil) inv.4,
     )

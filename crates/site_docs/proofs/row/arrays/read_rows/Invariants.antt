@@ -8,8 +8,8 @@ use Rattle.json_docs.proofs.ArraysLemmas.{before}
 use Rattle.site_docs.proofs.row.arrays.read_rows.Given as goal
 
 -- the array is the rows that were read, and then what is left
-abbrev pub invariant-rows : goal.invariant-rows
-invariant-rows g l =
+abbrev pub invariant-loop-alloc : goal.invariant-loop-alloc
+invariant-loop-alloc g l =
     (n : ℕ) × (front : List Data) × (length l.reader ≤ n)
     × (converted of_items (items (value l.depth) (length l.fn.reader) l.fn.reader)
     ≡ parse_map (before front) (converted of_items (items (value l.depth) n l.reader)))
@@ -19,5 +19,5 @@ invariant-rows g l =
     × (l.place + length l.reader ≤ length l.fn.reader)
     × (length front ≡ l.place)
 
-abbrev pub decreases-rows : goal.decreases-rows
-decreases-rows g l = length l.reader
+abbrev pub decreases-loop-alloc : goal.decreases-loop-alloc
+decreases-loop-alloc g l = length l.reader

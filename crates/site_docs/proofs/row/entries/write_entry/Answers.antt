@@ -11,8 +11,7 @@ use Rattle.site_docs.proofs.row.entries.write_entry.Goals as goal
 pub returns-in-Some-clause-tokens : goal.returns-in-Some-clause-tokens
 returns-in-Some-clause-tokens c =
     let label : Some c.in-Some.label.now ≡ c.args.cell.now.label = c.in-Some.ensures in
-    rw (← label)
-    (rw (
+    rw (← label) (rw (
       c.as_str.ensures.text,
       c.as_str-2.ensures.text,
       c.as_str-3.ensures.text,

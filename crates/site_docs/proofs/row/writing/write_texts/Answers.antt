@@ -4,20 +4,18 @@ use Rattle.site_docs.proofs.TextsLemmas.{Adds-then, array_closed, row_tokens-tex
 use Rattle.site_docs.proofs.row.writing.write_texts.Goals as goal
 
 -- one text more
-pub texts-preserved : goal.texts-preserved
-texts-preserved c =
-    let more =
-    row_tokens-text c.args.texts.now c.texts.text-index c.text-item.result c.texts-test.true
-    c.text-item.is in
+pub loop-text-preserved : goal.loop-text-preserved
+loop-text-preserved c =
+    let more = row_tokens-text c.args.texts.now c.loop-text.text-index c.text-item.result
+    c.loop-text-test.true c.text-item.is in
     let wrote = c.in_ok-string.ensures in
-    rw more
-    (Adds-then c.args.out.now c.texts.out c.string.new.self _ _ c.texts.invariant
+    rw more (Adds-then c.args.out.now c.loop-text.out c.string.new.self _ _ c.loop-text.invariant
     (wrote.room.0, rw c.as_str.ensures.value at wrote.ok))
 
 -- all texts, and the bracket after them
 pub returns : goal.returns
 returns c =
-    let all : c.texts.text-index ≡ length c.args.texts.now = omega arith in
-    let texts = rw (all, take-length) at c.texts.invariant in
-    array_closed c.args.out.now c.texts.out c.end_array.new.self _ texts c.end_array.result
+    let all : c.loop-text.text-index ≡ length c.args.texts.now = omega arith in
+    let texts = rw (all, take-length) at c.loop-text.invariant in
+    array_closed c.args.out.now c.loop-text.out c.end_array.new.self _ texts c.end_array.result
     c.end_array.ensures

@@ -5,7 +5,6 @@ use Rattle.site_docs.specs.Texts.{Adds, row_tokens}
 use Rattle.site_docs.specs.Written.{texts_of}
 use Rattle.site_docs.proofs.row.writing.write_texts.Given as goal
 
-abbrev pub invariant-texts : goal.invariant-texts
-invariant-texts l =
-    Adds l.fn.out l.out
+abbrev pub invariant-loop-text : goal.invariant-loop-text
+invariant-loop-text l = Adds l.fn.out l.out
     (begin_array ∷ row_tokens (map string (texts_of (take l.text-index l.texts))))

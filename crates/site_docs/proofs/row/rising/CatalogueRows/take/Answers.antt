@@ -22,5 +22,5 @@ returns-then-not-is_above_all-clause-err c = inr (λ before is makes.
     let version = c.args.version in
     let own = c.in_ok-id.ensures in
     fails_row (entry_in version) (own_cell_checks version) before c.args.place d c.args.self.now _ _
-    is makes own.1 (key_of_cell _ _) own.0
-    (λ above. let never : false ≡ true = c.if-not-is_above_all.ensures.1 above in absurd (cc)))
+    is makes own.1 (key_of_cell _ _) own.0 (λ above. let never : false ≡ true =
+    c.if-not-is_above_all.ensures.1 above in absurd (cc)))
