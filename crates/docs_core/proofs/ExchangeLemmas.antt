@@ -15,24 +15,30 @@ use Rattle.docs_core.specs.Imported.{SpendsImport}
 use Rattle.docs_core.specs.Updated.{IsUpdated, RefusesUpdate, SpendsUpdate, Updates}
 use Rattle.docs_core.proofs.CallsLemmas.{site_written}
 
--- A fault in putting the labels of language maps into a site is a stated refusal of import.
+-- why labels are not put is why an import is refused
 pub not_imported : (bytes : List ℕ) (now : ℕ) (maps : List ℕ) (site : SiteState)
     (labels : List Labelled) (cause : CataFault) (fault : DocFault)
     → ReadsAsSite bytes site → AreLangMaps maps labels
-    → OrMemory NoMemory (λ c. (c ≡ ClockSpent) × SpendsImport now site.name labels site.cells)
-    cause
+    → OrMemory NoMemory (λ c. (c ≡ ClockSpent) × SpendsImport now site.name labels site.cells) cause
     → fault ≡ of_no_document (of_site cause)
     → OrMemory no_memory (RefusesImport bytes now maps) fault
 not_imported bytes now maps site labels cause fault reads are why is = elim why [
   | inl memory ↦ inl (is ∙ ap (λ c. of_no_document (of_site c)) memory)
-  | inr spent ↦
-      inr (inr
-      (inr (site, labels, reads, are, spent.1, is ∙ ap (λ c. of_no_document (of_site c)) spent.0)))
+  | inr spent ↦ inr
+      (inr
+      (inr (
+        site,
+        labels,
+        reads,
+        are,
+        spent.1,
+        is ∙ ap (λ c. of_no_document (of_site c)) spent.0,
+      )))
 ]
 
 -- ---- updates
 
--- The text of a site whose cells were updated from the old labels to the new is what update gives.
+-- the document of a site after an update of its cells is that of the updated document
 pub updated : (bytes : List ℕ) (now : ℕ) (old new : List ℕ) (site : SiteState)
     (before after : List Labelled) (left : SiteState) (doc : List ℕ) → ReadsAsSite bytes site
     → AreLangMaps old before → AreLangMaps new after
@@ -49,23 +55,23 @@ updated bytes now old new site before after left doc reads olds news name update
       olds,
       news,
       updates,
-      site_written doc left _ same text
-          again,
+      site_written doc left _ same text again,
     )
 
--- A fault in updating a site from the old labels to the new is a stated refusal of update.
+-- why cells are not updated is why an update is refused
 pub not_updated : (bytes : List ℕ) (now : ℕ) (old new : List ℕ) (site : SiteState)
     (before after : List Labelled) (cause : CataFault) (fault : DocFault)
     → ReadsAsSite bytes site → AreLangMaps old before → AreLangMaps new after
-    → OrMemory NoMemory
-    (λ c. (c ≡ ClockSpent) × SpendsUpdate now site.name before after site.cells) cause
+    → OrMemory NoMemory (λ c. (c ≡ ClockSpent) × SpendsUpdate now site.name before after site.cells)
+    cause
     → fault ≡ of_no_document (of_site cause)
     → OrMemory no_memory (RefusesUpdate bytes now old new) fault
 not_updated bytes now old new site before after cause fault reads olds news why is = elim why [
   | inl memory ↦ inl (is ∙ ap (λ c. of_no_document (of_site c)) memory)
-  | inr spent ↦
-      inr (inr
-      (inr (inr (
+  | inr spent ↦ inr
+      (inr
+      (inr
+      (inr (
         site,
         before,
         after,
@@ -73,7 +79,6 @@ not_updated bytes now old new site before after cause fault reads olds news why 
         olds,
         news,
         spent.1,
-        is
-            ∙ ap (λ c. of_no_document (of_site c)) spent.0,
+        is ∙ ap (λ c. of_no_document (of_site c)) spent.0,
       ))))
 ]

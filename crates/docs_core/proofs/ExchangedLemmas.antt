@@ -15,7 +15,7 @@ use Rattle.docs_core.specs.Calls.{AreSynced, IsDeltaFor, IsSummarised, IsTaken}
 use Rattle.docs_core.proofs.CallsLemmas.{site_written}
 use Rattle.docs_core.proofs.OneDocument.{one_delta, one_site, one_summary}
 
--- A site that takes a delta against a summary of which it has all gets all cells of the sender.
+-- a delta made against what the site has leaves it with all cells of the sender
 pub taken_suffices : (a b text : List ℕ) (site : SiteState) (sender : Entries) (told : Stamps)
     → ReadsAsSite a site
     → ReadsAsDelta b (record { addressee = site.name; cells = delta_of sender told })
@@ -48,7 +48,8 @@ exchanged a b told delta taken site other reads_site reads_other agree (s, s_rea
     one_summary told summary _ summary_reads summarised.1
     ∙ ap (λ (x : SiteState). let r : SummaryState =
     record { owner = x.name; stamps = summary_of x.cells } in r) own in
-    let reads_delta : ReadsAsDelta delta
+    let reads_delta :
+    ReadsAsDelta delta
     (record { addressee = site.name; cells = delta_of other.cells (summary_of site.cells) }) =
     subst (ReadsAsDelta delta)
     (ap₂ (λ (x : SiteState) (y : SummaryState). let r : Delta =
@@ -57,7 +58,7 @@ exchanged a b told delta taken site other reads_site reads_other agree (s, s_rea
     taken_suffices a delta taken site other.cells (summary_of site.cells) reads_site reads_delta
     agree (has_own site.cells) takes
 
--- Each document that a sync gives has its site's own name and the joined cells of both sites.
+-- both synced documents have the cells of both sites
 pub synced_cells : (a b x y : List ℕ) (first second : SiteState) → ReadsAsSite a first
     → ReadsAsSite b second → AreSynced a b x y
     → let cells = cells_values (joined first.cells second.cells) in

@@ -28,7 +28,7 @@ use Rattle.nego_core.proofs.FieldLaws.{malformed_is_no_field, one_malformed}
 
 -- ---- languages
 
--- a piece that is refused is not in a list of allowed ones
+-- a piece that is refused does not stand in a list of allowed ones
 not_allowed : (allowed : ℕ → List ℕ → Bool) (from : ℕ) (before after : List (List ℕ))
     (piece : List ℕ) → are_allowed allowed from (before ++ piece ∷ after) ≡ true
     → allowed (from + length before) piece ≡ false → ⊥
@@ -93,20 +93,18 @@ one_tag_cause text a b p q = elim p [
   | inl h ↦ elim q [
     | inl k ↦ h.0 ∙ sym k.0
     | inr q ↦ elim q [
-      | inl k ↦
-          absurd (let l : length text ≡ 0 = ap length h.1 in let m = k.1 in omega (arith, l, m))
-      | inr q ↦
-          elim q [
-            | inl k ↦ absurd (empty_not_sized text h.1 k.2.0)
-            | inr k ↦
-                absurd (empty_not_sized text h.1 k.1.0)
-          ]
+      | inl k ↦ absurd (let l : length text ≡ 0 = ap length h.1 in let m = k.1 in
+          omega (arith, l, m))
+      | inr q ↦ elim q [
+        | inl k ↦ absurd (empty_not_sized text h.1 k.2.0)
+        | inr k ↦ absurd (empty_not_sized text h.1 k.1.0)
+      ]
     ]
   ]
   | inr p ↦ elim p [
     | inl h ↦ elim q [
-      | inl k ↦
-          absurd (let l : length text ≡ 0 = ap length k.1 in let m = h.1 in omega (arith, l, m))
+      | inl k ↦ absurd (let l : length text ≡ 0 = ap length k.1 in let m = h.1 in
+          omega (arith, l, m))
       | inr q ↦ elim q [
         | inl k ↦ h.0 ∙ sym k.0
         | inr q ↦ elim q [
@@ -121,8 +119,7 @@ one_tag_cause text a b p q = elim p [
         | inr q ↦ elim q [
           | inl k ↦ absurd (let l = k.1 in let m = h.2.1 in omega (arith, l, m))
           | inr q ↦ elim q [
-            | inl k ↦
-                h.1 ∙ ap lang.TagSubtag (one_offset tag_piece (pieces text) h.0 k.0 h.3 k.3)
+            | inl k ↦ h.1 ∙ ap lang.TagSubtag (one_offset tag_piece (pieces text) h.0 k.0 h.3 k.3)
                 ∙ sym k.1
             | inr k ↦ absurd (has_no_subtags text h.0 k.2 h.3)
           ]
@@ -142,7 +139,7 @@ one_tag_cause text a b p q = elim p [
   ]
 ]
 
--- A text that spells a language is not refused as one, out of memory apart.
+-- a text that spells a language is not refused as one
 pub no_language : (text held : List ℕ) (fault : LangFault) → fault ≢ lang.NoMemory
     → SpellsLang text held → RefusesLang text fault → ⊥
 no_language text held fault n spells why = elim spells [
@@ -150,7 +147,7 @@ no_language text held fault n spells why = elim spells [
   | inr tag ↦ no_tag (str_to_ascii_lowercase text) fault (tag_cause _ fault n why.1) tag.0
 ]
 
--- A text is refused as a language for only one cause, out of memory apart.
+-- a text is refused as a language for one reason
 pub one_language_fault : (text : List ℕ) (a b : LangFault) → a ≢ lang.NoMemory → b ≢ lang.NoMemory
     → RefusesLang text a → RefusesLang text b → a ≡ b
 one_language_fault text a b m n p q =
@@ -176,7 +173,7 @@ texts_cause texts cell.SiteName h = absurd h
 too_long : (text : List ℕ) → is_too_long text ≡ true → length text ≤ 65535 → ⊥
 too_long text h short = grind (arith, nat_tests)
 
--- Texts that are a label are not refused as one.
+-- texts that are a label are not refused as one
 pub no_label : (texts : List (List ℕ)) (fault : CellFault) → IsLabel texts
     → RefusesTexts texts fault → ⊥
 no_label texts fault is why = elim (texts_cause texts fault why) [
@@ -186,7 +183,7 @@ no_label texts fault is why = elim (texts_cause texts fault why) [
       too_long (get_or texts h.0 []) found.1 (is.short h.0 [] found.0)
 ]
 
--- Texts are refused as a label for only one cause.
+-- texts are refused as a label for one reason
 pub one_label_fault : (texts : List (List ℕ)) (a b : CellFault) → RefusesTexts texts a
     → RefusesTexts texts b → a ≡ b
 one_label_fault texts a b p q = elim (texts_cause texts a p) [
@@ -213,7 +210,7 @@ field_cause scheme text nego.FieldTooLong n h = inl (refl, h)
 field_cause scheme text (nego.FieldMalformed offset) n h = inr (offset, refl, h.0, h.1)
 field_cause scheme text nego.NoMemory n h = absurd (n refl)
 
--- A text that is a priority list is not refused as one, out of memory apart.
+-- a field of a priority list is not refused as one
 pub no_list : (scheme : Scheme) (text : List ℕ) (fault : NegoFault) → fault ≢ nego.NoMemory
     → (items : List Item) → length text ≤ 65535 → IsField scheme Refused text items
     → RefusesField scheme Refused text fault → ⊥
@@ -222,7 +219,7 @@ no_list scheme text fault n items short is why = elim (field_cause scheme text f
   | inr h ↦ malformed_is_no_field scheme text h.0 items h.3 is
 ]
 
--- A text is refused as a priority list for only one cause, out of memory apart.
+-- a text is refused as a priority list for one reason
 pub one_list_fault : (scheme : Scheme) (text : List ℕ) (a b : NegoFault) → a ≢ nego.NoMemory
     → b ≢ nego.NoMemory
     → RefusesField scheme Refused text a → RefusesField scheme Refused text b → a ≡ b

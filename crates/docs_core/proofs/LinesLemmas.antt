@@ -1,4 +1,4 @@
--- Lines after lines.
+-- Lines behind lines.
 use Rattle.std.proofs.Common.{◌≡◌, ◌∙◌, ◌+◌, ◌<◌, ◌++◌, ℕ, List, [], ◌∷◌, arith, ap, sym, length}
 use Rattle.std.proofs.Common.{take, get_or}
 use Rattle.std.specs.Prelude.{Option, flat_map, slice_get, Some, None}
@@ -11,7 +11,7 @@ use Rattle.serde_json.specs.Written.{compact_text}
 use Rattle.serde_json.proofs.Texts.{print-outline}
 use Rattle.site_docs.specs.Texts.{Adds, value_tokens}
 
--- A value that is written follows the bytes that were written before it.
+-- a value written behind some bytes
 pub printed_behind : (a b : Written) (start : List ℕ) (d : Data) → a.before ≡ start → a.tokens ≡ []
     → Adds a b (value_tokens d)
     → b.before ++ print b.tokens ≡ start ++ compact_text d
@@ -36,7 +36,7 @@ module _ {A : Type 0} (each : A → List ℕ) (start : List ℕ) (xs : List A) w
 some_none : {A : Type 0} (x : A) (o : Option A) → o ≡ Some x → o ≡ None → ⊥
 some_none x o some none = cc
 
--- Each place within a list has an item.
+-- there is an item at each place within a list
 pub item_there : {A : Type 0} → (xs : List A) (k : ℕ) → k < length xs → slice_get xs k ≡ None → ⊥
 item_there xs k within none =
     let is = slice_get-get_or_some xs k within in

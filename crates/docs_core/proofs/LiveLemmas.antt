@@ -34,7 +34,7 @@ below_live key (e ∷ es) h =
           (first_part (is_lt (key_cmp key e.0)) (below_all key_cmp key es) h) rest
     ]
 
--- The keys of a catalogue's live labels strictly ascend.
+-- the keys of the live labels rise
 pub live-IsMap : (es : Entries) → IsMap key_cmp es → IsMap key_cmp (live_labels es)
 live-IsMap [] h = tt
 live-IsMap (e ∷ es) h =
@@ -47,7 +47,7 @@ live-IsMap (e ∷ es) h =
           rest
     ]
 
--- The keys of the live labels of chosen messages strictly ascend.
+-- the keys of the chosen labels rise
 pub chosen-IsMap : (messages : Messages) (cells : Entries) → IsMap key_cmp cells
     → IsMap key_cmp (chosen_labels messages cells)
 chosen-IsMap messages cells m =
@@ -68,15 +68,14 @@ all_chosen cells = all_pass (live_labels cells)
 abbrev pub label_in : Option Cell → Option (List (List ℕ))
 label_in o = option_and_then (λ c. c.label) o
 
--- The live label of a key is the label of the cell there, if it has one.
+-- the live label of a key is that of its cell
 pub find-live : (q : EntryKey) (es : Entries) → IsMap key_cmp es
     → find key_cmp q (live_labels es) ≡ label_at q es
 find-live q [] m = refl
 find-live q (e ∷ es) m =
     let below = first_part (below_all key_cmp e.0 es) (is_sorted key_cmp es) m in
     let rest = find-live q es (second_part (below_all key_cmp e.0 es) (is_sorted key_cmp es) m) in
-    elim (eq_by_cmp key_cmp q e.0) as
-    (λ t. eq_by_cmp key_cmp q e.0 ≡ t
+    elim (eq_by_cmp key_cmp q e.0) as (λ t. eq_by_cmp key_cmp q e.0 ≡ t
     → find key_cmp q (labelled e.0 e.1.label (live_labels es))
     ≡ label_in (cond t (Some e.1) (find key_cmp q es))) [
       | true ↦ λ t.
@@ -87,9 +86,9 @@ find-live q (e ∷ es) m =
             | None ↦ rest ∙ ap label_in none
             | Some label ↦ ap (λ b. cond b (Some label) (find key_cmp q (live_labels es))) t
           ]
-      | false ↦
-          λ t. elim e.1.label as
-          (λ o. find key_cmp q (labelled e.0 o (live_labels es)) ≡ label_in (find key_cmp q es)) [
+      | false ↦ λ t.
+          elim e.1.label as (λ o. find key_cmp q (labelled e.0 o (live_labels es))
+          ≡ label_in (find key_cmp q es)) [
             | None ↦ rest
             | Some label ↦ ap (λ b. cond b (Some label) (find key_cmp q (live_labels es))) t ∙ rest
           ]

@@ -38,10 +38,10 @@ use Rattle.script_docs.specs.Steps.{StepText, edit_step, merge_step, filter_step
 use Rattle.script_docs.specs.Steps.{cells_step, tell_step, post_step, deliver_step, step_after}
 use Rattle.script_docs.specs.Steps.{default_in, edit_of, filter_of, lookup_of, one_of, scheme_in}
 use Rattle.script_docs.specs.Steps.{step_of, two_of, word_of}
-use Rattle.docs_core.specs.OldRows.{AreOldStepsOf, IsOldDeltaDocument, IsOldScriptDocument}
+use Rattle.docs_core.specs.OldRows.{◌>>=◌, AreOldStepsOf, IsOldDeltaDocument, IsOldScriptDocument}
 use Rattle.docs_core.specs.OldRows.{IsOldSiteDocument, IsOldStepOf, IsOldSummaryDocument, OldScript}
 use Rattle.docs_core.specs.OldRows.{migrated_script, old_entry_in, old_entry_of, old_told_in}
-use Rattle.docs_core.specs.OldRows.{old_told_of}
+use Rattle.docs_core.specs.OldRows.{old_told, old_told_of}
 use Rattle.site_docs.specs.declared.document.kind.Kind.TheVariants as kind
 use Rattle.site_docs.specs.declared.document.version.Version.TheVariants.{One}
 use Rattle.script_docs.specs.declared.steps.Word.{Word}
@@ -50,24 +50,32 @@ use Rattle.script_docs.specs.declared.steps.Word.TheVariants.{Tell, Post, Delive
 
 -- ---- rows
 
+-- the key and the stamp that five parts give
+abbrev pub old_parts_by : Option (List ℕ) → Option (List ℕ) → Option ℕ → Option ℕ → Option ℕ
+    → Option (EntryKey × OldStamp)
+old_parts_by oi ol ot os oc = do
+  id ← oi
+  language ← ol
+  time ← ot
+  site ← os
+  option_map (λ count. old_told id language time site count) oc
+
 parts_by : (oi ol : Option (List ℕ)) (ot os oc : Option ℕ) (row : Row)
     → option_and_then
     (λ id. option_and_then
     (λ language. option_and_then
     (λ time. option_and_then
-    (λ site. option_map
-    (λ (count : ℕ). let r : Row =
-    record { id = id; language = language; time = time; site = site; count = count } in r) oc)
-    (option_map padded_name os)) ot) ol) oi ≡ Some row
+    (λ site. option_map (λ (count : ℕ). let r : Row =
+    record {
+      id = id;
+      language = language;
+      time = time;
+      site = site;
+      count = count;
+    } in r) oc) (option_map padded_name os)) ot) ol) oi
+    ≡ Some row
     → (old : OldStamp)
-    × (option_and_then
-    (λ id. option_and_then
-    (λ language. option_and_then
-    (λ time. option_and_then
-    (λ site. option_map
-    (λ (count : ℕ). let p : EntryKey × OldStamp =
-    ((id, str_to_ascii_lowercase language), record { time = time; site = site; count = count })
-    in p) oc) os) ot) ol) oi ≡ Some (key_of row, old))
+    × (old_parts_by oi ol ot os oc ≡ Some (key_of row, old))
     × (migrated_stamp old ≡ stamp_of row)
 parts_by None ol ot os oc row is = cc
 parts_by (Some i) None ot os oc row is = cc
@@ -96,19 +104,20 @@ row_migrated (i ∷ l ∷ t ∷ s ∷ c ∷ b ∷ []) p is =
     let parts = parts_by (as_str i) (as_str l) (u64_in t) (u32_in s) (u32_in c) p.0 both.0 in
     let old : OldEntry = (key_of p.0, record { stamp = parts.0; label = p.1 }) in (
       old,
-      ap (option_and_then
+      ap
+          (option_and_then
           (λ (q : EntryKey × OldStamp). option_map
           (λ label. let e : OldEntry = (q.0, record { stamp = q.1; label = label }) in e)
           (label_in b))) parts.1
-          ∙ ap (option_map
-          (λ label. let e : OldEntry =
+          ∙ ap
+          (option_map (λ label. let e : OldEntry =
           (key_of p.0, record { stamp = parts.0; label = label }) in e)) both.1,
       ap (λ stamp. let e : EntryKey × Rattle.cell_core.specs.declared.cell.Cell.Cell =
           (key_of p.0, record { stamp = stamp; label = p.1 }) in e) parts.2,
     )
 row_migrated ds p is = absurd (cc)
 
--- A cell read in version 1 is the migration of the old entry in the same data.
+-- a row with a cell is read as the migrated cell that it has
 pub cell_migrated : (d : Data) (p : Row × Option (List (List ℕ))) → cell_in One d ≡ Some p
     → (old : OldEntry) × (old_entry_in d ≡ Some old) × (migrated_entry old ≡ entry_of p.0 p.1)
 cell_migrated d p is = go (items_in d) is
@@ -154,7 +163,8 @@ four_by : {A B C : Type 0} (step : ℕ → A → B → C → StepText)
     → (o : Option ℕ) (p : Option A) (q : Option B) (r : Option C)
     → NoEdit
     (option_and_then
-    (λ n. option_and_then (λ a. option_and_then (λ b. option_map (λ c. step n a b c) r) q) p) o)
+    (λ n. option_and_then (λ a. option_and_then (λ b. option_map (λ c. step n a b c) r) q)
+    p) o)
 four_by step apart None p q r site row is = cc
 four_by step apart (Some n) None q r site row is = cc
 four_by step apart (Some n) (Some a) None r site row is = cc
@@ -192,8 +202,8 @@ edit_by : (o : Option ℕ) (p : Option (Row × Option (List (List ℕ)))) (site 
     → (o ≡ Some site) × (p ≡ Some row)
 edit_by None p site row is = absurd (cc)
 edit_by (Some n) None site row is = absurd (cc)
-edit_by (Some n) (Some cell) site row is = let place : n ≡ site = cc in let same : cell ≡ row =
-    cc in (ap Some place, ap Some same)
+edit_by (Some n) (Some cell) site row is = let place : n ≡ site = cc in
+    let same : cell ≡ row = cc in (ap Some place, ap Some same)
 
 edit_parts : (ds : List Data) (site : ℕ) (row : Row × Option (List (List ℕ)))
     → edit_of One ds ≡ Some (edit_step site row)
@@ -204,18 +214,13 @@ edit_parts (s ∷ c ∷ []) site row is = let both = edit_by (u32_in s) (cell_in
 edit_parts ds site row is = absurd (cc)
 
 word_by : (a b c d e f g h : Bool)
-    → (if a then
-    Some Edit else
-    (if b then
-    Some Merge else
-    (if c then
-    Some Filter else
-    (if d then
-    Some Lookup else
-    (if e then
-    Some Cells else
-    (if f then
-    Some Tell else (if g then Some Post else (if h then Some Deliver else None))))))))
+    → (if a then Some Edit
+    else (if b then Some Merge
+    else (if c then Some Filter
+    else (if d then Some Lookup
+    else (if e then Some Cells
+    else (if f then Some Tell
+    else (if g then Some Post else (if h then Some Deliver else None))))))))
     ≡ Some Edit
     → a ≡ true
 word_by true b c d e f g h is = refl
@@ -249,8 +254,7 @@ edit_behind w ds text (Some word) site row spelled known is =
       parts.0,
       parts.1,
       ap (λ t. w ∷ t) parts.2,
-      spelled
-          ∙ ap Some (edit_text text (known ∙ ap Some edit)),
+      spelled ∙ ap Some (edit_text text (known ∙ ap Some edit)),
       parts.3,
       parts.4,
     )
@@ -282,8 +286,7 @@ step_migrated d taken (edit_step site row, is, made) =
     let old = cell_migrated parts.2 row parts.6 in (
       OldEdit site old.0,
       (parts.0, parts.1, parts.2, listed.1 ∙ ap Some parts.3, parts.4, parts.5, old.1),
-      made
-          ∙ ap (λ e. step.Edit site e) (sym old.2),
+      made ∙ ap (λ e. step.Edit site e) (sym old.2),
     )
 step_migrated d taken (merge_step into source, is, made) = (OldMerge into source, is, made)
 step_migrated d taken (filter_step site id scheme field, is, made) =
@@ -308,11 +311,10 @@ steps_migrated (d ∷ ds) (s ∷ ss) are =
     let rest = steps_migrated ds ss are.1 in (
       first.0 ∷ rest.0,
       (first.1, rest.1),
-      ap (λ t. t ∷ ss) first.2
-          ∙ ap (λ t. migrated_step first.0 ∷ t) rest.2,
+      ap (λ t. t ∷ ss) first.2 ∙ ap (λ t. migrated_step first.0 ∷ t) rest.2,
     )
 
--- A script read in version 1 is the migration of the old script in the same data.
+-- a script is read as the migrated script that its document has
 pub script_migrated : (d : Data) (script : ScriptState) → version_of d ≡ One
     → IsScriptDocument d script
     → (old : OldScript) × IsOldScriptDocument d old × (script ≡ migrated_script old)
@@ -345,10 +347,8 @@ entries_migrated (d ∷ ds) (e ∷ es) are =
     let old = cell_migrated d row.0 row.1 in
     let rest = entries_migrated ds es later in (
       old.0 ∷ rest.0,
-      ap (λ o. o ∷ map old_entry_in ds) old.1
-          ∙ ap (λ t. Some old.0 ∷ t) rest.1,
-      ap (λ x. x ∷ es) (sym row.2 ∙ sym old.2)
-          ∙ ap (λ t. migrated_entry old.0 ∷ t) rest.2,
+      ap (λ o. o ∷ map old_entry_in ds) old.1 ∙ ap (λ t. Some old.0 ∷ t) rest.1,
+      ap (λ x. x ∷ es) (sym row.2 ∙ sym old.2) ∙ ap (λ t. migrated_entry old.0 ∷ t) rest.2,
     )
 
 told_row : (ds : List Data) (row : Row) → stamp_row_of One ds ≡ Some row
@@ -391,7 +391,7 @@ subject_number : (kind : Kind) (d : Data) (name : List ℕ) → version_of d ≡
 subject_number kind d name first named =
     mapped_by padded_name (u32_in (subject_data kind d)) name (rw first at named)
 
--- A site read in version 1 is the migration of the old site in the same data.
+-- a site is read as the migrated site that its document has
 pub site_migrated : (d : Data) (site : SiteState) → version_of d ≡ One → IsSiteDocument d site
     → (old : OldSite) × IsOldSiteDocument d old × (site ≡ migrated_site old)
 site_migrated d site first reads =
@@ -406,7 +406,7 @@ site_migrated d site first reads =
           cells.2,
     )
 
--- A delta read in version 1 is the migration of the old delta in the same data.
+-- a delta is read as the migrated delta that its document has
 pub delta_migrated : (d : Data) (delta : DeltaState) → version_of d ≡ One → IsDeltaDocument d delta
     → (old : OldDelta) × IsOldDeltaDocument d old × (delta ≡ migrated_delta old)
 delta_migrated d delta first reads =
@@ -421,7 +421,7 @@ delta_migrated d delta first reads =
           record { addressee = padded_name subject.0; cells = es } in r) cells.2,
     )
 
--- A summary read in version 1 is the migration of the old summary in the same data.
+-- a summary is read as the migrated summary that its document has
 pub summary_migrated : (d : Data) (summary : SummaryState) → version_of d ≡ One
     → IsSummaryDocument d summary
     → (old : OldSummary) × IsOldSummaryDocument d old × (summary ≡ migrated_summary old)

@@ -4,7 +4,6 @@ use Rattle.std.proofs.Common.{T, ap, ap₂, cond, map, refl, subst, sym}
 use Rattle.std.specs.Prelude.{All, Option, None, Some, option_map, option_and_then, unwrap_or}
 use Rattle.std.specs.FinMap.Entries.{below_all, find, is_sorted}
 use Rattle.std.specs.Ordering.{eq_by_cmp, is_lt}
-use Rattle.std.specs.Str.{str_to_ascii_lowercase}
 use Rattle.std.proofs.lemmas.List.Elements.{All-cons, All-nil}
 use Rattle.serde_json.specs.Data.{Data}
 use Rattle.serde_json.specs.Find.{as_str, get}
@@ -12,9 +11,9 @@ use Rattle.cell_core.specs.Maps.{IsMap}
 use Rattle.cell_core.specs.Migration.{IsOldStamp, OldCell, OldStamp, migrated_cell, migrated_stamp}
 use Rattle.cell_core.specs.SiteNames.{padded_name}
 use Rattle.cata_core.specs.Entries.{Agree, Entries, EntryKey, joined, key_cmp}
-use Rattle.cata_core.specs.Migration.{AgreeOld, OldDelta, OldEntries, OldEntry, OldSite, OldStamps}
-use Rattle.cata_core.specs.Migration.{OldSummary, joined_old, migrated_delta, migrated_entries}
-use Rattle.cata_core.specs.Migration.{migrated_site, migrated_summary}
+use Rattle.cata_core.specs.Migration.{AgreeOld, IsOldMap, OldDelta, OldEntries, OldEntry, OldSite}
+use Rattle.cata_core.specs.Migration.{OldStamps, OldSummary, joined_old, migrated_delta}
+use Rattle.cata_core.specs.Migration.{migrated_entries, migrated_site, migrated_summary}
 use Rattle.cata_core.specs.OldSteps.{OldStep, OldEdit, OldMerge, OldAskFilter, OldAskLookup}
 use Rattle.cata_core.specs.OldSteps.{OldAskCells, OldTell, OldPost, OldDeliver}
 use Rattle.cata_core.specs.Sites.{SiteState}
@@ -25,32 +24,32 @@ use Rattle.cata_core.proofs.Migration.{keeps_catalogue_joins}
 use Rattle.json_docs.specs.Checks.{AllPass, AreJson, Check, rows_checks}
 use Rattle.json_docs.specs.Parts.{items_in, u32_in, u64_in}
 use Rattle.json_docs.proofs.ChecksLemmas.{AllPass-behind}
-use Rattle.docs_core.proofs.SmallNumbers.{AreSmall, IsSmall, get_small, items_in_small, read_small}
-use Rattle.docs_core.proofs.SmallNumbers.{u32_in_small, u64_in_small}
+use Rattle.json_docs.proofs.SmallNumbers.{AreSmall, IsSmall, get_small, items_in_small, read_small}
+use Rattle.json_docs.proofs.SmallNumbers.{u32_in_small, u64_in_small}
 use Rattle.site_docs.specs.Headers.{header_checks, rows_in, subject_data, version_of}
 use Rattle.site_docs.specs.Kinds.{rows_of}
-use Rattle.site_docs.specs.ReadsAs.{ReadsAsDelta, ReadsAsSite, ReadsAsSummary}
+use Rattle.site_docs.specs.ReadsAs.{Reads, ReadsAsDelta, ReadsAsSite, ReadsAsSummary}
 use Rattle.site_docs.specs.Rows.{label_in}
 use Rattle.site_docs.specs.SiteDocuments.{IsDeltaDocument, IsSiteDocument, IsSummaryDocument}
-use Rattle.site_docs.specs.Rising.{cell_checks, stamp_checks}
+use Rattle.site_docs.specs.Rising.{AreEntries, cell_checks, entry_in, stamp_checks}
 use Rattle.site_docs.specs.SiteDocuments.{delta_checks, document_checks, site_checks}
 use Rattle.site_docs.specs.SiteDocuments.{subject_checks, summary_checks}
 use Rattle.site_docs.specs.declared.document.kind.Kind.{Kind}
 use Rattle.site_docs.specs.declared.document.kind.Kind.TheVariants as kind
 use Rattle.site_docs.specs.declared.document.version.Version.{Version}
 use Rattle.site_docs.specs.declared.document.version.Version.TheVariants.{One}
-use Rattle.docs_core.proofs.RisingKeys.{cells_rise, stamps_rise}
+use Rattle.site_docs.proofs.RisingKeys.{cells_rise, stamps_rise}
 use Rattle.script_docs.specs.ScriptReads.{IsScriptDocument, ReadsAsScript, script_checks}
 use Rattle.script_docs.specs.Scripts.{ScriptState}
 use Rattle.docs_core.specs.Calls.{AreSynced}
 use Rattle.docs_core.specs.OldRows.{AreOldStepsOf, IsOldDeltaDocument, IsOldScriptDocument}
 use Rattle.docs_core.specs.OldRows.{IsOldSiteDocument, IsOldStepOf, IsOldSummaryDocument, OldScript}
 use Rattle.docs_core.specs.OldRows.{migrated_script, old_entry_in, old_entry_of, old_parts_in}
-use Rattle.docs_core.specs.OldRows.{old_told_in, old_told_of}
+use Rattle.docs_core.specs.OldRows.{old_told, old_told_in, old_told_of}
 use Rattle.docs_core.specs.OldSites.{AreOldStamps, IsOldDelta, IsOldScript, IsOldSite, IsOldStep}
 use Rattle.docs_core.specs.OldSites.{IsOldSummary}
-use Rattle.docs_core.proofs.OldRowsLemmas.{delta_migrated, script_migrated, site_migrated}
-use Rattle.docs_core.proofs.OldRowsLemmas.{summary_migrated}
+use Rattle.docs_core.proofs.OldRowsLemmas.{delta_migrated, old_parts_by, script_migrated}
+use Rattle.docs_core.proofs.OldRowsLemmas.{site_migrated, summary_migrated}
 use Rattle.docs_core.proofs.OneDocument.{read_is, read_passes, same_some}
 
 -- ---- rows
@@ -75,15 +74,7 @@ found_holds P (e ∷ es) all k y is =
 parts_fit : (oi ol : Option (List ℕ)) (ot os oc : Option ℕ) (p : EntryKey × OldStamp)
     → ((n : ℕ) → ot ≡ Some n → n < 2 ^ 64) → ((n : ℕ) → os ≡ Some n → n < 2 ^ 32)
     → ((n : ℕ) → oc ≡ Some n → n < 2 ^ 32)
-    → option_and_then (λ id. option_and_then (λ language. option_and_then (λ time. option_and_then
-    (λ site. option_map (λ (count : ℕ). let q : EntryKey × OldStamp = (
-      (
-        id,
-        str_to_ascii_lowercase
-            language,
-      ),
-      record { time = time; site = site; count = count },
-    ) in q) oc) os) ot) ol) oi ≡ Some p
+    → old_parts_by oi ol ot os oc ≡ Some p
     → IsOldStamp p.1
 parts_fit None ol ot os oc p time site count is = absurd (cc)
 parts_fit (Some i) None ot os oc p time site count is = absurd (cc)
@@ -91,9 +82,7 @@ parts_fit (Some i) (Some l) None os oc p time site count is = absurd (cc)
 parts_fit (Some i) (Some l) (Some t) None oc p time site count is = absurd (cc)
 parts_fit (Some i) (Some l) (Some t) (Some s) None p time site count is = absurd (cc)
 parts_fit (Some i) (Some l) (Some t) (Some s) (Some c) p time site count is =
-    let made : EntryKey × OldStamp =
-    ((i, str_to_ascii_lowercase l), record { time = t; site = s; count = c }) in
-    subst (λ (q : EntryKey × OldStamp). IsOldStamp q.1) (some_same made p is)
+    subst (λ (q : EntryKey × OldStamp). IsOldStamp q.1) (some_same (old_told i l t s c) p is)
     (record { time_fits = time t refl; site_fits = site s refl; count_fits = count c refl })
 
 row_fits : (i l t s c : Data) (p : EntryKey × OldStamp) → IsSmall t
@@ -102,17 +91,17 @@ row_fits i l t s c p small is =
     parts_fit (as_str i) (as_str l) (u64_in t) (u32_in s) (u32_in c) p
     (λ n e. u64_in_small t n small e) (u32_in_small s) (u32_in_small c) is
 
+-- an entry of a key with its stamp, and of a label
+abbrev entry_with : EntryKey × OldStamp → Option (List (List ℕ)) → OldEntry
+entry_with p label = (p.0, record { stamp = p.1; label = label })
+
 labelled : (o : Option (EntryKey × OldStamp)) (label : Option (Option (List (List ℕ))))
-    (old : OldEntry) → option_and_then (λ parts. option_map (λ label. let e : OldEntry = (
-      parts.0,
-      record { stamp = parts.1; label = label },
-    ) in e) label) o ≡ Some old
+    (old : OldEntry) → option_and_then (λ p. option_map (entry_with p) label) o ≡ Some old
     → (p : EntryKey × OldStamp) × (o ≡ Some p) × (p.1 ≡ old.1.stamp)
 labelled None label old is = absurd (cc)
 labelled (Some p) None old is = absurd (cc)
 labelled (Some p) (Some label) old is =
-    let made : OldEntry = (p.0, record { stamp = p.1; label = label }) in
-    (p, refl, ap (λ (e : OldEntry). e.1.stamp) (some_same made old is))
+    (p, refl, ap (λ (e : OldEntry). e.1.stamp) (some_same (entry_with p label) old is))
 
 cell_fits : (ds : List Data) (old : OldEntry) → AreSmall ds → old_entry_of ds ≡ Some old
     → IsOldStamp old.1.stamp
@@ -196,7 +185,23 @@ old_rise : (olds : OldEntries) (es : Entries) → es ≡ migrated_entries olds �
 old_rise olds es same rise =
     subst T (ap (is_sorted key_cmp) same ∙ same_sorted migrated_cell olds) rise
 
--- ---- documents that name a site
+-- ---- documents
+
+-- what a text of version 1 reads as is migrated from old data of its document, of which holds what
+-- follows for such data where the document passes its tests and its numbers are small
+fits : {X Old : Type 0} (checks : Data → List Check) (Is : Data → X → Type 0)
+    (IsOld : Data → Old → Type 0) (Fits : Old → Type 0) (migrated : Old → X)
+    → ((d : Data) (x : X) → version_of d ≡ One → Is d x
+    → (old : Old) × IsOld d old × (x ≡ migrated old))
+    → ((d : Data) (x : X) (old : Old) → AllPass (checks d) → IsSmall d → Is d x → IsOld d old
+    → x ≡ migrated old → Fits old)
+    → (bytes : List ℕ) (d : Data) (x : X) → AreJson bytes d → version_of d ≡ One
+    → Reads checks Is bytes x → (old : Old) × Fits old × IsOld d old × (x ≡ migrated old)
+fits checks Is IsOld Fits migrated becomes holds bytes d x json first reads =
+    let is = read_is checks Is bytes d x json reads in
+    let pass = read_passes checks Is bytes d x json reads in
+    let old = becomes d x first is in
+    (old.0, holds d x old.0 pass (read_small bytes d json.1) is old.1 old.2, old.1, old.2)
 
 -- the tests of the rows of a document that passes
 document_rows : (kind : Kind) (checks : Version → List Data → Data → List Check) (d : Data)
@@ -207,79 +212,77 @@ document_rows kind checks d pass =
     let rows = rows_checks (checks (version_of d)) [] (rows_in kind d) in
     AllPass-behind subject rows (AllPass-behind (header_checks kind d) (subject ++ rows) pass)
 
+-- the cells of a document of version 1 are an old map
+cells_fit : (kind : Kind) (d : Data) (es : Entries) (olds : OldEntries)
+    → AllPass (document_checks kind cell_checks d) → IsSmall d
+    → AreEntries (entry_in (version_of d)) (rows_in kind d) es
+    → map old_entry_in (rows_in kind d) ≡ map Some olds → es ≡ migrated_entries olds
+    → IsOldMap olds
+cells_fit kind d es olds pass small are olds_are same = record {
+  map = old_rise olds es same
+      (cells_rise (version_of d) (rows_in kind d) es (document_rows kind cell_checks d pass) are);
+  stamps = found_holds (λ (c : OldCell). IsOldStamp c.stamp) olds
+      (entries_fit (rows_in kind d) olds (rows_small kind d small) olds_are);
+}
+
+site_holds : (d : Data) (site : SiteState) (old : OldSite) → AllPass (site_checks d) → IsSmall d
+    → IsSiteDocument d site → IsOldSiteDocument d old → site ≡ migrated_site old → IsOldSite old
+site_holds d site old pass small is was same = record {
+  number_fits = u32_in_small (subject_data kind.Site d) old.number was.number;
+  cells = cells_fit kind.Site d site.cells old.cells pass small is.cells was.cells
+      (ap (λ (s : SiteState). s.cells) same);
+}
+
 -- what a text of version 1 reads as is a migrated site, whose numbers fit and whose keys rise
 pub site_fits : (bytes : List ℕ) (d : Data) (site : SiteState) → AreJson bytes d
     → version_of d ≡ One → ReadsAsSite bytes site
     → (old : OldSite) × IsOldSite old × IsOldSiteDocument d old × (site ≡ migrated_site old)
-site_fits bytes d site json first reads =
-    let is = read_is site_checks IsSiteDocument bytes d site json reads in
-    let pass = read_passes site_checks IsSiteDocument bytes d site json reads in
-    let rows = document_rows kind.Site cell_checks d pass in
-    let rise = cells_rise (version_of d) (rows_in kind.Site d) site.cells rows is.cells in
-    let old = site_migrated d site first is in
-    let small = rows_small kind.Site d (read_small bytes d json.1) in (
-      old.0,
-      record {
-        number_fits = u32_in_small (subject_data kind.Site d) old.0.number old.1.number;
-        cells = record {
-          map = old_rise old.0.cells site.cells (ap (λ (s : SiteState). s.cells) old.2) rise;
-          stamps = found_holds (λ (c : OldCell). IsOldStamp c.stamp) old.0.cells
-              (entries_fit (rows_in kind.Site d) old.0.cells small old.1.cells);
-        };
-      },
-      old.1,
-      old.2,
-    )
+site_fits =
+    fits site_checks IsSiteDocument IsOldSiteDocument IsOldSite migrated_site site_migrated
+    site_holds
+
+delta_holds : (d : Data) (delta : DeltaState) (old : OldDelta) → AllPass (delta_checks d)
+    → IsSmall d → IsDeltaDocument d delta → IsOldDeltaDocument d old → delta ≡ migrated_delta old
+    → IsOldDelta old
+delta_holds d delta old pass small is was same = record {
+  addressee_fits = u32_in_small (subject_data kind.Delta d) old.addressee was.addressee;
+  cells = cells_fit kind.Delta d delta.cells old.cells pass small is.cells was.cells
+      (ap (λ (s : DeltaState). s.cells) same);
+}
 
 -- the same of deltas
 pub delta_fits : (bytes : List ℕ) (d : Data) (delta : DeltaState) → AreJson bytes d
     → version_of d ≡ One → ReadsAsDelta bytes delta
     → (old : OldDelta) × IsOldDelta old × IsOldDeltaDocument d old × (delta ≡ migrated_delta old)
-delta_fits bytes d delta json first reads =
-    let is = read_is delta_checks IsDeltaDocument bytes d delta json reads in
-    let pass = read_passes delta_checks IsDeltaDocument bytes d delta json reads in
-    let rows = document_rows kind.Delta cell_checks d pass in
-    let rise = cells_rise (version_of d) (rows_in kind.Delta d) delta.cells rows is.cells in
-    let old = delta_migrated d delta first is in
-    let small = rows_small kind.Delta d (read_small bytes d json.1) in (
-      old.0,
-      record {
-        addressee_fits = u32_in_small (subject_data kind.Delta d) old.0.addressee old.1.addressee;
-        cells = record {
-          map = old_rise old.0.cells delta.cells (ap (λ (s : DeltaState). s.cells) old.2) rise;
-          stamps = found_holds (λ (c : OldCell). IsOldStamp c.stamp) old.0.cells
-              (entries_fit (rows_in kind.Delta d) old.0.cells small old.1.cells);
-        };
-      },
-      old.1,
-      old.2,
-    )
+delta_fits =
+    fits delta_checks IsDeltaDocument IsOldDeltaDocument IsOldDelta migrated_delta delta_migrated
+    delta_holds
+
+summary_holds : (d : Data) (summary : SummaryState) (old : OldSummary)
+    → AllPass (summary_checks d) → IsSmall d → IsSummaryDocument d summary
+    → IsOldSummaryDocument d old → summary ≡ migrated_summary old → IsOldSummary old
+summary_holds d summary old pass small is was same =
+    let rows = document_rows kind.Summary stamp_checks d pass in
+    let rise = stamps_rise (version_of d) (rows_in kind.Summary d) summary.stamps rows is.stamps in
+    record {
+      owner_fits = u32_in_small (subject_data kind.Summary d) old.owner was.owner;
+      stamps = record {
+        map = subst T (ap (λ (s : SummaryState). is_sorted key_cmp s.stamps) same
+            ∙ same_sorted migrated_stamp old.stamps) rise;
+        stamps = found_holds IsOldStamp old.stamps
+            (stamps_fit (rows_in kind.Summary d) old.stamps (rows_small kind.Summary d small)
+            was.stamps);
+      };
+    }
 
 -- the same of summaries
 pub summary_fits : (bytes : List ℕ) (d : Data) (summary : SummaryState) → AreJson bytes d
     → version_of d ≡ One → ReadsAsSummary bytes summary
     → (old : OldSummary) × IsOldSummary old × IsOldSummaryDocument d old
     × (summary ≡ migrated_summary old)
-summary_fits bytes d summary json first reads =
-    let is = read_is summary_checks IsSummaryDocument bytes d summary json reads in
-    let pass = read_passes summary_checks IsSummaryDocument bytes d summary json reads in
-    let rows = document_rows kind.Summary stamp_checks d pass in
-    let rise = stamps_rise (version_of d) (rows_in kind.Summary d) summary.stamps rows is.stamps in
-    let old = summary_migrated d summary first is in
-    let small = rows_small kind.Summary d (read_small bytes d json.1) in (
-      old.0,
-      record {
-        owner_fits = u32_in_small (subject_data kind.Summary d) old.0.owner old.1.owner;
-        stamps = record {
-          map = subst T (ap (λ (s : SummaryState). is_sorted key_cmp s.stamps) old.2
-              ∙ same_sorted migrated_stamp old.0.stamps) rise;
-          stamps = found_holds IsOldStamp old.0.stamps
-              (stamps_fit (rows_in kind.Summary d) old.0.stamps small old.1.stamps);
-        };
-      },
-      old.1,
-      old.2,
-    )
+summary_fits =
+    fits summary_checks IsSummaryDocument IsOldSummaryDocument IsOldSummary migrated_summary
+    summary_migrated summary_holds
 
 -- ---- scripts
 
@@ -304,16 +307,20 @@ steps_fit (d ∷ ds) (step ∷ steps) small are =
     All-cons IsOldStep step steps (step_fits d step small.0 are.0)
     (steps_fit ds steps small.1 are.1)
 
+script_holds : (d : Data) (script : ScriptState) (old : OldScript) → AllPass (script_checks d)
+    → IsSmall d → IsScriptDocument d script → IsOldScriptDocument d old
+    → script ≡ migrated_script old → IsOldScript old
+script_holds d script old pass small is was same =
+    steps_fit (rows_in kind.Script d) old.steps (rows_small kind.Script d small) was.steps
+
 -- the same of scripts, whose stamps fit
 pub script_fits : (bytes : List ℕ) (d : Data) (script : ScriptState) → AreJson bytes d
     → version_of d ≡ One → ReadsAsScript bytes script
     → (old : OldScript) × IsOldScript old × IsOldScriptDocument d old
     × (script ≡ migrated_script old)
-script_fits bytes d script json first reads =
-    let is = read_is script_checks IsScriptDocument bytes d script json reads in
-    let old = script_migrated d script first is in
-    let small = rows_small kind.Script d (read_small bytes d json.1) in
-    (old.0, steps_fit (rows_in kind.Script d) old.0.steps small old.1.steps, old.1, old.2)
+script_fits =
+    fits script_checks IsScriptDocument IsOldScriptDocument IsOldScript migrated_script
+    script_migrated script_holds
 
 -- ---- two sites
 

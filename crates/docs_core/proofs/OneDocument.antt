@@ -126,7 +126,7 @@ script_is d s t p q =
     (inside s.sites t.sites (sym p.sites ∙ q.sites))
     (one_list_of_steps _ _ s.steps t.steps p.steps q.steps)
 
--- A text reads as one script at most.
+-- a text reads as one script at most
 pub one_script : (bytes : List ℕ) (s t : ScriptState) → ReadsAsScript bytes s
     → ReadsAsScript bytes t → s ≡ t
 one_script = one_read script_checks IsScriptDocument script_is
@@ -141,16 +141,16 @@ one_replay bytes x y p q =
 
 -- ---- sites, deltas and summaries
 
--- A text reads as one site at most.
+-- a text reads as one site at most
 pub one_site : (bytes : List ℕ) (s t : SiteState) → ReadsAsSite bytes s → ReadsAsSite bytes t
     → s ≡ t
 one_site = one_read site_checks IsSiteDocument site_is
 
--- A text reads as one delta at most.
+-- a text reads as one delta at most
 pub one_delta : (bytes : List ℕ) (s t : Delta) → ReadsAsDelta bytes s → ReadsAsDelta bytes t → s ≡ t
 one_delta = one_read delta_checks IsDeltaDocument delta_is
 
--- A text reads as one summary at most.
+-- a text reads as one summary at most
 pub one_summary : (bytes : List ℕ) (s t : SummaryState) → ReadsAsSummary bytes s
     → ReadsAsSummary bytes t → s ≡ t
 one_summary = one_read summary_checks IsSummaryDocument summary_is

@@ -38,7 +38,7 @@ pub record IsTest (c : Check) : Type 0 where
   pub apart : (e : DocCause) → c.passes → c.refuses e → ⊥
   pub one : (e f : DocCause) → c.refuses e → c.refuses f → e ≡ f
 
--- Each of the checks is such a test.
+-- each of them is one
 abbrev pub AreTests : List Check → Type 0
 AreTests [] = Unit {0}
 AreTests (c ∷ cs) = IsTest c × AreTests cs
@@ -49,8 +49,10 @@ both (x ∷ xs) ys p q = (p.0, both xs ys p.1 q)
 
 apart_all : (cs : List Check) (e : DocCause) → AreTests cs → AllPass cs → FirstFails cs e → ⊥
 apart_all [] e t p q = q
-apart_all (c ∷ cs) e t p q =
-    elim q [ inl h ↦ t.0.apart e p.0 h | inr h ↦ apart_all cs e t.1 p.1 h.1 ]
+apart_all (c ∷ cs) e t p q = elim q [
+  | inl h ↦ t.0.apart e p.0 h
+  | inr h ↦ apart_all cs e t.1 p.1 h.1
+]
 
 one_all : (cs : List Check) (e f : DocCause) → AreTests cs → FirstFails cs e → FirstFails cs f
     → e ≡ f
@@ -68,7 +70,8 @@ plain p cause = record { apart = λ e h r. r.0 h; one = λ e f r s. r.1 ∙ sym 
 language : (k : ℕ) (text : List ℕ) → IsTest (language_check k text)
 language k text = record {
   apart = λ e h r. no_language text h.0 r.0 r.1 h.1 r.2;
-  one = λ e f r s. r.3
+  one =
+      λ e f r s. r.3
       ∙ ap (λ (x : LangFault). Field k (Language x))
       (one_language_fault text r.0 s.0 r.1 s.1 r.2 s.2) ∙ sym s.3;
 }
@@ -97,13 +100,14 @@ strings_one : (k : ℕ) (texts : List (List ℕ)) (e f : DocCause) → maps.IsSt
 strings_one k [] e f r s = absurd r
 strings_one k (t ∷ ts) e f r s = label_one k (Some (t ∷ ts)) e f r s
 
-strings : (k : ℕ) (texts : List (List ℕ)) → IsTest (maps.label_check k texts)
+strings : (k : ℕ) (texts : List (List ℕ)) → IsTest (maps.strings_check k texts)
 strings k texts = record { apart = strings_apart k texts; one = strings_one k texts }
 
 list : (k : ℕ) (scheme : Scheme) (text : List ℕ) → IsTest (list_check k scheme text)
 list k scheme text = record {
   apart = λ e h r. no_list scheme text r.0 r.1 h.0 h.1.0 h.1.1 r.2;
-  one = λ e f r s. r.3
+  one =
+      λ e f r s. r.3
       ∙ ap (λ (x : NegoFault). Field k (Priorities x))
       (one_list_fault scheme text r.0 s.0 r.1 s.1 r.2 s.2) ∙ sym s.3;
 }
@@ -131,14 +135,16 @@ cell_rows version before d =
     both (own_cell_checks version (length before) d)
     (order_check (length before) (last_key (entry_in version) before)
     (key_of (cell_row version d).0) ∷ [])
-    (plain _ _, cells (length before) (cell_row version d).0 (cell_row version d).1) (plain _ _, tt)
+    (plain _ _, cells (length before) (cell_row version d).0 (cell_row version d).1)
+    (plain _ _, tt)
 
 stamp_rows : (version : Version) (before : List Data) (d : Data)
     → AreTests (stamp_checks version before d)
 stamp_rows version before d =
     both (own_stamp_checks version (length before) d)
-    (order_check (length before) (last_key (told_in version) before) (key_of (stamp_row version d))
-    ∷ []) (plain _ _, stamps (length before) (stamp_row version d)) (plain _ _, tt)
+    (order_check (length before) (last_key (told_in version) before)
+    (key_of (stamp_row version d)) ∷ [])
+    (plain _ _, stamps (length before) (stamp_row version d)) (plain _ _, tt)
 
 defaults : (k : ℕ) (text : Option (List ℕ)) → AreTests (default_checks k text)
 defaults k None = tt
@@ -178,21 +184,24 @@ named kind checks each d =
     (rows_checks (checks (version_of d)) [] (rows_in kind d)) (plain _ _, (plain _ _, tt))
     (rows (checks (version_of d)) (each (version_of d)) [] (rows_in kind d)))
 
--- No check of a document of cells both passes and refuses, and each refuses for one cause.
+-- each test of a document of cells is one
 pub cells_named : (kind : Kind) (d : Data) → AreTests (document_checks kind cell_checks d)
 cells_named kind d = named kind cell_checks cell_rows d
 
--- No check of a document of stamps both passes and refuses, and each refuses for one cause.
+-- each test of a document of stamps is one
 pub stamps_named : (kind : Kind) (d : Data) → AreTests (document_checks kind stamp_checks d)
 stamps_named kind d = named kind stamp_checks stamp_rows d
 
--- No check of a script both passes and refuses, and each refuses for one cause.
+-- each test of a document of a script is one
 pub scripts : (d : Data) → AreTests (script_checks d)
 scripts d =
     both (header_checks Script d)
     (sites_check (subject_data Script d)
-    ∷ rows_checks (step_checks (version_of d)) [] (rows_in Script d)) (headers Script d)
-    (plain _ _, rows (step_checks (version_of d)) (step_rows (version_of d)) [] (rows_in Script d))
+    ∷ rows_checks (step_checks (version_of d)) [] (rows_in Script d)) (headers Script d) (
+      plain _ _,
+      rows (step_checks (version_of d)) (step_rows (version_of d)) []
+          (rows_in Script d),
+    )
 
 -- ---- language maps
 
@@ -201,22 +210,23 @@ map_keys : (k : ℕ) (before : List (List ℕ)) (keys : map_rows.Keys)
 map_keys k before [] = tt
 map_keys k before (m ∷ ms) =
     both (maps.key_checks k before m.0 m.1) (maps.keys_checks k (before ++ m.0 ∷ []) ms)
-    (language _ _, (plain _ _, (plain _ _, (strings _ _, tt)))) (map_keys k (before ++ m.0 ∷ []) ms)
+    (language _ _, (plain _ _, (plain _ _, (strings _ _, tt))))
+    (map_keys k (before ++ m.0 ∷ []) ms)
 
 unless : (marked : Bool) (cs : List Check) → AreTests cs → AreTests (maps.unless_marked marked cs)
 unless true cs t = tt
 unless false cs t = t
 
-map_rows_tests : (k : ℕ) (rs : map_rows.Rows) → AreTests (maps.rows_checks k rs)
+map_rows_tests : (k : ℕ) (rs : map_rows.Rows) → AreTests (maps.members_checks k rs)
 map_rows_tests k [] = tt
 map_rows_tests k (r ∷ rs) =
-    both (maps.row_checks k r) (maps.rows_checks (k + 1) rs)
+    both (maps.member_checks k r) (maps.members_checks (k + 1) rs)
     (unless (maps.is_marked r.0) (maps.message_checks k r.0 r.1)
     (plain _ _, (plain _ _, map_keys k [] (unwrap_or r.1 [])))) (map_rows_tests (k + 1) rs)
 
--- No check of language maps both passes and refuses, and each refuses for one cause.
+-- each test of a language-map document is one
 pub langmaps : (d : Data) → AreTests (maps.langmaps_checks d)
-langmaps d = (plain _ _, map_rows_tests 0 (unwrap_or (map_rows.rows_in d) []))
+langmaps d = (plain _ _, map_rows_tests 0 (unwrap_or (map_rows.message_rows_in d) []))
 
 -- ---- texts
 
@@ -234,8 +244,7 @@ module _ (checks : Data → List Check) (tests : (d : Data) → AreTests (checks
       (e : DocCause) → Reads checks Is bytes x → IsRefusal checks bytes e → ⊥
   read_not_refused Is bytes x e reads why = elim why [
     | inl text ↦ no_json bytes reads.0 e reads.1 text
-    | inr row ↦
-        apart_all (checks reads.0) e (tests reads.0) reads.2
+    | inr row ↦ apart_all (checks reads.0) e (tests reads.0) reads.2
         (subst (λ d. FirstFails (checks d) e) (same_data bytes reads.0 row.0 reads.1 row.1) row.2)
   ]
 
@@ -249,16 +258,13 @@ module _ (checks : Data → List Check) (tests : (d : Data) → AreTests (checks
   pub one_cause : (bytes : List ℕ) (e f : DocCause) → IsRefusal checks bytes e
       → IsRefusal checks bytes f → e ≡ f
   one_cause bytes e f p q = elim p [
-    | inl h ↦
-        elim q [
-          | inl k ↦ one_text_refusal bytes e f h k
-          | inr k ↦
-              absurd (no_json bytes k.0 e k.1 h)
-        ]
+    | inl h ↦ elim q [
+      | inl k ↦ one_text_refusal bytes e f h k
+      | inr k ↦ absurd (no_json bytes k.0 e k.1 h)
+    ]
     | inr h ↦ elim q [
       | inl k ↦ absurd (no_json bytes h.0 f h.1 k)
-      | inr k ↦
-          one_all (checks h.0) e f (tests h.0) h.2
+      | inr k ↦ one_all (checks h.0) e f (tests h.0) h.2
           (subst (λ d. FirstFails (checks d) f) (same_data bytes h.0 k.0 h.1 k.1) k.2)
     ]
   ]

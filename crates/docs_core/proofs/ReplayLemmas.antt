@@ -21,13 +21,11 @@ module _ (script : ScriptState) where
   faulty : (fault : PlayFault) → fault ≢ NoMemory
       → (fault ≡ NoMemory) ⊎ IsFirstFault script.sites script.steps fault
       → (IsConsistent (edits_of script.steps) → IsNoClash fault) → RefusesRun script fault
-  faulty fault apart first no_clash =
-      record {
-        apart = apart;
-        first =
-            elim first [ inl memory ↦ absurd (apart memory) | inr h ↦ h ];
-        no_clash = no_clash;
-      }
+  faulty fault apart first no_clash = record {
+    apart = apart;
+    first = elim first [ inl memory ↦ absurd (apart memory) | inr h ↦ h ];
+    no_clash = no_clash;
+  }
 
   run_refused : (fault : PlayFault)
       → (fault ≡ NoMemory) ⊎ IsFirstFault script.sites script.steps fault
@@ -39,7 +37,7 @@ module _ (script : ScriptState) where
   run_refused (NoSuchPost step) first no_clash = inr (faulty _ (λ e. cc) first no_clash)
   run_refused NoMemory first no_clash = inl refl
 
--- The answers of a run are those of its script, and its fault is a stated refusal of the run.
+-- a run answers as the steps say, or is refused by its first fault
 pub played_or_refused : (r : Result (List Answer) PlayFault) (script : ScriptState)
     → OnOk r (NoneFaulty script.sites script.steps) → IfOk r (AreHeldAnswers script.steps)
     → IfOk r (λ answers. IsConsistent (edits_of script.steps) → AreAnswers script.steps answers)
@@ -47,8 +45,12 @@ pub played_or_refused : (r : Result (List Answer) PlayFault) (script : ScriptSta
     → IfErr r (λ fault. (fault ≡ NoMemory) ⊎ IsFirstFault script.sites script.steps fault)
     → IfErr r (λ fault. IsConsistent (edits_of script.steps) → IsNoClash fault)
     → MatchResult r (IsPlayed script) (OrMemory NoMemory (RefusesRun script))
-played_or_refused (Ok answers) script sound held consistent undelivered first no_clash =
-    record { sound = sound; held = held; consistent = consistent; undelivered = undelivered }
+played_or_refused (Ok answers) script sound held consistent undelivered first no_clash = record {
+  sound = sound;
+  held = held;
+  consistent = consistent;
+  undelivered = undelivered;
+}
 played_or_refused (Err fault) script sound held consistent undelivered first no_clash =
     run_refused script fault first no_clash
 
@@ -62,13 +64,13 @@ steps_refused bytes script cause fault reads why is = elim why [
   | inr run ↦ inr (inr (script, reads, (cause, run, is)))
 ]
 
--- What follows from a successful write, and from it not having failed, holds of the result.
+-- at the end of a write
 pub written : (r : Result (Unit {0}) DocFault) (P Q : Type 0) (failed : Bool) → OnOk r P
     → failed ≡ is_err r → (P → failed ≡ false → Q) → OnOk r Q
 written (Ok x) P Q failed h is more = more h is
 written (Err e) P Q failed h is more = tt
 
--- What follows from a fault of a write, and from the write having failed, holds of the result.
+-- what follows from a failed write follows from its refusal
 pub not_written : (r : Result (Unit {0}) DocFault) (P Q : DocFault → Type 0) (failed : Bool)
     → IfErr r P → failed ≡ is_err r → ((e : DocFault) → P e → failed ≡ true → Q e) → IfErr r Q
 not_written (Ok x) P Q failed h is more = tt

@@ -203,11 +203,11 @@ joined_at : (a b : Entries) (key : EntryKey) → Agree a b
 joined_at a b key agree = elim agree as (λ _. find key_cmp key
     (joined a b) ≡ joined_if_both joined_cells (find key_cmp key a) (find key_cmp key b)) [
       | inl same ↦ subst (λ (es : Entries). find key_cmp key
-          (joined a es) ≡ joined_if_both joined_cells (find key_cmp key a) (find key_cmp key es))
-          same
+          (joined a es)
+          ≡ joined_if_both joined_cells (find key_cmp key a) (find key_cmp key es)) same
           (ap (find key_cmp key) (catalogue_laws.idem a) ∙ same_if_both (find key_cmp key a))
-      | inr maps ↦
-          find-joined_maps key_cmp key_cmp_total joined_cells a b maps.first maps.second key
+      | inr maps ↦ find-joined_maps key_cmp key_cmp_total joined_cells a b maps.first maps.second
+          key
     ]
 
 found_in : (es : Entries) (key : EntryKey) (c : Cell) → find key_cmp key es ≡ Some c

@@ -40,8 +40,7 @@ made_at now name (e ∷ es) old new m (stamp, next, rest) q =
     let later =
     made_at now name es mid new
     (second_part (below_all key_cmp e.0 es) (is_sorted key_cmp es) m) rest q in
-    elim (eq_by_cmp key_cmp q e.0) as
-    (λ t. eq_by_cmp key_cmp q e.0 ≡ t
+    elim (eq_by_cmp key_cmp q e.0) as (λ t. eq_by_cmp key_cmp q e.0 ≡ t
     → Left old new q (cond t (Some e.1) (find key_cmp q es))) [
       | true ↦ λ t.
           let none : find key_cmp q es ≡ None =
@@ -49,19 +48,17 @@ made_at now name (e ∷ es) old new m (stamp, next, rest) q =
           ∙ find-below key_cmp e.0 es
           (first_part (below_all key_cmp e.0 es) (is_sorted key_cmp es) m) in
           let here : label_at q new ≡ e.1 =
-          ap label_in
-          (later.0 none ∙ find-put key_cmp key_cmp_total q e.0 cell old
+          ap label_in (later.0 none ∙ find-put key_cmp key_cmp_total q e.0 cell old
           ∙ ap (λ u. cond u (Some cell) (find key_cmp q old)) t) in
           (λ no. cc, λ label is. here ∙ cc)
-      | false ↦
-          λ t. (
-            λ none. later.0 none ∙ find-put key_cmp key_cmp_total q e.0 cell old
-                ∙ ap (λ u. cond u (Some cell) (find key_cmp q old)) t,
-            later.1,
-          )
+      | false ↦ λ t. (
+        λ none. later.0 none ∙ find-put key_cmp key_cmp_total q e.0 cell old
+            ∙ ap (λ u. cond u (Some cell) (find key_cmp q old)) t,
+        later.1,
+      )
     ] refl
 
--- The keys of the cells still strictly ascend after changes are made.
+-- the keys still rise after changes
 pub made-IsMap : (now : ℕ) (name : List ℕ) (changes : List Change) (old new : Entries)
     → IsMap key_cmp old → Makes now name changes old new → IsMap key_cmp new
 made-IsMap now name [] old new m is = subst (IsMap key_cmp) (sym is) m
@@ -91,7 +88,7 @@ nothing_made now name changes old new none makes =
 
 -- ---- the laws
 
--- There is only one list of changes from the old labels to the new over the same cells.
+-- there is one list of changes at most
 pub one_list : (old new : List Labelled) (cells : Entries) (x y : List Change)
     → AreChanges old new cells x → AreChanges old new cells y → x ≡ y
 one_list old new cells x y p q =
@@ -99,7 +96,7 @@ one_list old new cells x y p q =
     (λ k. one_change (find key_cmp k old) (find key_cmp k new) (label_at k cells) (find key_cmp k x)
     (find key_cmp k y) (p.at k) (q.at k))
 
--- An update changes no cell where the old labels are the new ones.
+-- equal labels change nothing
 pub equal_nothing : (now : ℕ) (name : List ℕ) (labels : List Labelled) (cells updated : Entries)
     → Updates now name labels labels cells updated → updated ≡ cells
 equal_nothing now name labels cells updated (changes, are, makes) =
@@ -108,16 +105,15 @@ equal_nothing now name labels cells updated (changes, are, makes) =
     (λ q. quiet (find key_cmp q labels) (find key_cmp q labels) (label_at q cells)
     (find key_cmp q changes) (inl refl) (are.at q))) makes
 
--- An update leaves the cell of a key whose old label is its new one.
+-- a key whose labels are equal keeps its cell
 pub keeps_cell : (now : ℕ) (name : List ℕ) (old new : List Labelled) (cells updated : Entries)
     (q : EntryKey) → Updates now name old new cells updated
     → find key_cmp q old ≡ find key_cmp q new
     → find key_cmp q updated ≡ find key_cmp q cells
 keeps_cell now name old new cells updated q (changes, are, makes) same =
     let left = made_at now name changes cells updated are.rising makes q in
-    left.0
-    (quiet (find key_cmp q old) (find key_cmp q new) (label_at q cells) (find key_cmp q changes)
-    (inl same) (are.at q))
+    left.0 (quiet (find key_cmp q old) (find key_cmp q new) (label_at q cells)
+    (find key_cmp q changes) (inl same) (are.at q))
 
 -- at each key the editor left the label, or the site has the new one now
 new_or_left : (now : ℕ) (name : List ℕ) (old new : List Labelled) (cells updated : Entries)
@@ -134,7 +130,7 @@ new_or_left now name old new cells updated q (changes, are, makes) =
       | inr done ↦ inr (left.1 (find key_cmp q new) done.2)
     ]
 
--- After an update from the site's own live labels, its live labels are exactly the new ones.
+-- an update of the live labels brings the new ones
 pub brings_new : (now : ℕ) (name : List ℕ) (new : List Labelled) (cells updated : Entries)
     → IsMap key_cmp cells → IsMap key_cmp new
     → Updates now name (live_labels cells) new cells updated
@@ -144,13 +140,13 @@ brings_new now name new cells updated m n (changes, are, makes) =
     same_maps key_cmp key_cmp_total key_cmp_exact (live_labels updated) new
     (live-IsMap updated after) n
     (λ q. find-live q updated after
-    ∙ elim
-    (new_or_left now name (live_labels cells) new cells updated q (changes, are, makes)) [
+    ∙ elim (new_or_left now name (live_labels cells) new cells updated q
+    (changes, are, makes)) [
       | inl kept ↦ ap label_in kept.1 ∙ sym (find-live q cells m) ∙ kept.0
       | inr has ↦ has
     ])
 
--- The same update a second time, even at a later moment, changes no cell.
+-- an update that is made twice is made once
 pub twice_once : (now later : ℕ) (name : List ℕ) (old new : List Labelled)
     (cells once twice : Entries) → Updates now name old new cells once
     → Updates later name old new once twice → twice ≡ once
@@ -161,8 +157,7 @@ twice_once now later name old new cells once twice first (changes, are, makes) =
     (find key_cmp q changes)
     (elim (new_or_left now name old new cells once q first) [
       | inl kept ↦ inl kept.0
-      | inr has ↦
-          inr has
+      | inr has ↦ inr has
     ]) (are.at q))) makes
 
 -- ---- the same of documents
@@ -170,7 +165,7 @@ twice_once now later name old new cells once twice first (changes, are, makes) =
 abbrev with_cells : SiteState → Entries → SiteState
 with_cells site cells = record { name = site.name; cells = cells }
 
--- An update with the same labels before and after gives the text of the site as it was.
+-- equal labels leave the document of the site
 pub equal_document : (bytes old new doc : List ℕ) (now : ℕ) (site : SiteState)
     (labels : List Labelled) → ReadsAsSite bytes site → AreLangMaps old labels
     → AreLangMaps new labels
@@ -188,7 +183,7 @@ equal_document bytes old new doc now site labels reads olds news
     (equal_nothing now own.name labels own.cells cells updated)
     ∙ ap site_text (one_site bytes own site own_reads reads)
 
--- The same update of a document a second time gives the document of the first.
+-- a document that is updated twice is updated once
 pub twice_document : (bytes old new once twice : List ℕ) (now later : ℕ)
     → IsUpdated bytes now old new once → IsUpdated once later old new twice → twice ≡ once
 twice_document bytes old new once twice now later
@@ -201,8 +196,8 @@ twice_document bytes old new once twice now later
     let on : Updates later site.name before after cells last =
     subst (λ (s : SiteState). Updates later s.name before after s.cells last) same
     (subst (λ (ls : List Labelled). Updates later own.name ls after own.cells last) was
-    (subst (λ (ls : List Labelled). Updates later own.name olds ls own.cells last) is_now more))
-    in
+    (subst (λ (ls : List Labelled). Updates later own.name olds ls own.cells last) is_now
+    more)) in
     again.0 ∙ ap (λ (s : SiteState). site_text (with_cells s last)) same
     ∙ ap (λ (es : Entries). site_text (with_cells site es))
     (twice_once now later site.name before after site.cells cells last updates on)

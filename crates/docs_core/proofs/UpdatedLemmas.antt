@@ -37,7 +37,7 @@ one_key q k t = key_cmp_exact q k (tied (key_cmp q k) t)
 itself : (k : EntryKey) → eq_by_cmp key_cmp k k ≡ true
 itself k = ap is_eq (tied_itself key_cmp_total k)
 
--- Borrowed labels are the same exactly where the comparison says so.
+-- labels that are lent are the same where the comparison says so
 pub lent_decides : (x y : Option (Bor (List (List ℕ))))
     → Decides (option_eq (λ a b. pointwise (pointwise nat_eq) a.now b.now) x y)
     (option_map (λ l. l.now) x ≡ option_map (λ l. l.now) y)
@@ -48,7 +48,7 @@ lent_decides (Some x) (Some y) = label_decides (Some x.now) (Some y.now)
 
 -- ---- the heads of lists
 
--- An ascending list has its first key at its head, and what follows it as the rest.
+-- the first key of labels has its texts, and the others follow it
 pub head_there : (k : EntryKey) (texts : List (List ℕ)) (rest : List Labelled)
     → IsMap key_cmp ((k, texts) ∷ rest) → IsHead k (Some texts) ((k, texts) ∷ rest) rest
 head_there k texts rest m = record {
@@ -57,16 +57,17 @@ head_there k texts rest m = record {
   at = λ q. refl;
 }
 
--- An ascending list of greater keys has nothing at its head for a key, and is itself the rest.
+-- a key below all labels has none
 pub head_absent : (k : EntryKey) (list : List Labelled) → IsMap key_cmp list
     → T (below_all key_cmp k list) → IsHead k None list list
 head_absent k list m above = record {
   rises = m;
   above = above;
-  at = λ q. elim (eq_by_cmp key_cmp q k) as
-      (λ t. eq_by_cmp key_cmp q k ≡ t → find key_cmp q list ≡ cond t None (find key_cmp q list)) [
-        | true ↦
-            λ t. ap (λ x. find key_cmp x list) (one_key q k t) ∙ find-below key_cmp k list above
+  at =
+      λ q. elim (eq_by_cmp key_cmp q k) as (λ t. eq_by_cmp key_cmp q k ≡ t
+      → find key_cmp q list ≡ cond t None (find key_cmp q list)) [
+        | true ↦ λ t. ap (λ x. find key_cmp x list) (one_key q k t)
+            ∙ find-below key_cmp k list above
         | false ↦ λ t. refl
       ] refl;
 }
@@ -112,9 +113,8 @@ module _ (r : Revised) (was is : EntryKey) (olds news : List Labelled) where
       let same : is ≡ was = sym (key_cmp_exact was is equal) in record {
         old_head = rw (key, old) (head_there was texts olds m);
         new_head =
-            rw (key, new)
-            (subst (λ (k : EntryKey). IsHead k (Some more) ((is, more) ∷ news) news) same
-            (head_there is more news n));
+            rw (key, new) (subst (λ (k : EntryKey). IsHead k (Some more) ((is, more) ∷ news) news)
+            same (head_there is more news n));
       }
 
 -- ---- options
@@ -147,23 +147,22 @@ above_found : {J : Type 0} (k q : EntryKey) (xs : List (EntryKey × J)) → T (b
     → find key_cmp q xs ≢ None → key_cmp k q ≡ Less
 above_found k q [] h found = absurd (found refl)
 above_found k q (x ∷ xs) h found =
-    elim (eq_by_cmp key_cmp q x.0) as
-    (λ t. eq_by_cmp key_cmp q x.0 ≡ t → cond t (Some x.1) (find key_cmp q xs) ≢ None
-    → key_cmp k q ≡ Less) [
-      | true ↦
-          λ t _. ap (key_cmp k) (one_key q x.0 t)
+    elim (eq_by_cmp key_cmp q x.0) as (λ t. eq_by_cmp key_cmp q x.0 ≡ t
+    → cond t (Some x.1) (find key_cmp q xs) ≢ None → key_cmp k q ≡ Less) [
+      | true ↦ λ t _. ap (key_cmp k) (one_key q x.0 t)
           ∙ less_than (key_cmp k x.0)
           (first_part (is_lt (key_cmp k x.0)) (below_all key_cmp k xs) h)
-      | false ↦
-          λ t more.
-          above_found k q xs (second_part (is_lt (key_cmp k x.0)) (below_all key_cmp k xs) h) more
+      | false ↦ λ t more. above_found k q xs
+          (second_part (is_lt (key_cmp k x.0)) (below_all key_cmp k xs) h) more
     ] refl found
 
 found_behind : {J : Type 0} (q : EntryKey) (x : EntryKey × J) (xs : List (EntryKey × J))
     → find key_cmp q xs ≢ None → find key_cmp q (x ∷ xs) ≢ None
 found_behind q x xs found =
-    elim (eq_by_cmp key_cmp q x.0) as
-    (λ t. cond t (Some x.1) (find key_cmp q xs) ≢ None) [ true ↦ Some≢None x.1 | false ↦ found ]
+    elim (eq_by_cmp key_cmp q x.0) as (λ t. cond t (Some x.1) (find key_cmp q xs) ≢ None) [
+      | true ↦ Some≢None x.1
+      | false ↦ found
+    ]
 
 first_found : {J : Type 0} (x : EntryKey × J) (xs : List (EntryKey × J))
     → find key_cmp x.0 (x ∷ xs) ≡ Some x.1
@@ -186,7 +185,7 @@ At old new cells changes q =
 
 module _ (k : EntryKey) (was is : Texts) (old new old_rest new_rest : List Labelled)
     (cells : Entries) (a : IsHead k was old old_rest) (b : IsHead k is new new_rest) where
-  -- the changes of what is left are after the key
+  -- the changes of what is left are behind the key
   changes_above : (mid : Entries) (changes : List Change) → AreChanges old_rest new_rest mid changes
       → T (below_all key_cmp k changes)
   changes_above mid changes h =
@@ -197,11 +196,9 @@ module _ (k : EntryKey) (was is : Texts) (old new old_rest new_rest : List Label
           → find key_cmp q old_rest ≡ x → find key_cmp q new_rest ≡ y → key_cmp k q ≡ Less
       from q found None None p r =
           absurd
-          (found
-          (nothing_done (label_at q mid) (find key_cmp q changes)
+          (found (nothing_done (label_at q mid) (find key_cmp q changes)
           (subst (λ o. IsChangeAt o None (label_at q mid) (find key_cmp q changes)) p
-          (subst
-          (λ n. IsChangeAt (find key_cmp q old_rest) n (label_at q mid)
+          (subst (λ n. IsChangeAt (find key_cmp q old_rest) n (label_at q mid)
           (find key_cmp q changes)) r (h.at q)))))
       from q found None (Some y) p r =
           above_found k q new_rest b.above (λ none. Some≢None y (sym r ∙ none))
@@ -231,8 +228,7 @@ module _ (k : EntryKey) (was is : Texts) (old new old_rest new_rest : List Label
       (sym (a.at q ∙ ap (λ u. cond u was (find key_cmp q old_rest)) t))
       (subst (λ x. IsChangeAt (find key_cmp q old_rest) x (label_at q cells) (find key_cmp q more))
       (sym (b.at q ∙ ap (λ u. cond u is (find key_cmp q new_rest)) t))
-      (subst
-      (λ x. IsChangeAt (find key_cmp q old_rest) (find key_cmp q new_rest) x
+      (subst (λ x. IsChangeAt (find key_cmp q old_rest) (find key_cmp q new_rest) x
       (find key_cmp q more)) label
       (subst (IsChangeAt (find key_cmp q old_rest) (find key_cmp q new_rest) (label_at q mid))
       (sym found) done)))
@@ -242,10 +238,10 @@ module _ (k : EntryKey) (was is : Texts) (old new old_rest new_rest : List Label
       → AreChanges old_rest new_rest cells changes → AreChanges old new cells changes
   skipped done changes h = record {
     rising = h.rising;
-    at = λ q. elim (eq_by_cmp key_cmp q k) as
-        (λ t. eq_by_cmp key_cmp q k ≡ t → At old new cells changes q) [
-          | true ↦
-              λ t. at_key q changes None t done
+    at =
+        λ q. elim (eq_by_cmp key_cmp q k) as (λ t. eq_by_cmp key_cmp q k ≡ t
+        → At old new cells changes q) [
+          | true ↦ λ t. at_key q changes None t done
               (ap (λ x. find key_cmp x changes) (one_key q k t)
               ∙ find-below key_cmp k changes (changes_above cells changes h))
           | false ↦ λ t. at_other q cells changes changes t refl refl (h.at q)
@@ -263,14 +259,13 @@ module _ (k : EntryKey) (was is : Texts) (old new old_rest new_rest : List Label
         rising =
             both_parts (below_all key_cmp k changes) (is_sorted key_cmp changes)
             (changes_above mid changes h) h.rising;
-        at = λ q. elim (eq_by_cmp key_cmp q k) as
-            (λ t. eq_by_cmp key_cmp q k ≡ t → At old new cells ((k, is) ∷ changes) q) [
-              | true ↦
-                  λ t. at_key q ((k, is) ∷ changes) (Some is) t done
+        at =
+            λ q. elim (eq_by_cmp key_cmp q k) as (λ t. eq_by_cmp key_cmp q k ≡ t
+            → At old new cells ((k, is) ∷ changes) q) [
+              | true ↦ λ t. at_key q ((k, is) ∷ changes) (Some is) t done
                   (ap (λ u. cond u (Some is) (find key_cmp q changes)) t)
               | false ↦ λ t. at_other q mid changes ((k, is) ∷ changes) t
-                  (ap label_in
-                  (find-put key_cmp key_cmp_total q k cell cells
+                  (ap label_in (find-put key_cmp key_cmp_total q k cell cells
                   ∙ ap (λ u. cond u (Some cell) (find key_cmp q cells)) t))
                   (ap (λ u. cond u (Some is) (find key_cmp q changes)) t) (h.at q)
             ] refl;
@@ -291,16 +286,14 @@ change_is : (old new held : Texts) → IsChangeAt old new held (change_of old ne
 change_is old new held =
     let decides = label_decides old new in
     let has = label_decides held new in
-    elim (same_texts old new) as
-    (λ t. same_texts old new ≡ t
+    elim (same_texts old new) as (λ t. same_texts old new ≡ t
     → IsChangeAt old new held (cond t None (cond (same_texts held new) None (Some new)))) [
       | true ↦ λ t. inl (inl (decides.0 t), refl)
-      | false ↦
-          λ t. elim (same_texts held new) as
-          (λ u. same_texts held new ≡ u → IsChangeAt old new held (cond u None (Some new))) [
+      | false ↦ λ t. elim (same_texts held new) as (λ u. same_texts held new ≡ u
+          → IsChangeAt old new held (cond u None (Some new))) [
             | true ↦ λ u. inl (inr (has.0 u), refl)
-            | false ↦
-                λ u. inr (
+            | false ↦ λ u.
+                inr (
                   λ same. false≢true (sym t ∙ decides.1 same),
                   λ same. false≢true (sym u ∙ has.1 same),
                   refl,
@@ -328,21 +321,16 @@ changes_at-IsMap done [] = tt
 changes_at-IsMap done (x ∷ xs) =
     put_if-IsMap x.0 (done x.0) (changes_at done xs) (changes_at-IsMap done xs)
 
--- what is found once a change, if there is one, is put
+-- what is found behind a change that may be put
 find-put_if : (q k : EntryKey) (change : Option Texts) (changes : List Change)
     → find key_cmp q (put_if k change changes)
     ≡ cond (eq_by_cmp key_cmp q k && is_some change) change (find key_cmp q changes)
 find-put_if q k None changes =
-    elim (eq_by_cmp key_cmp q k) as
-    (λ t. find key_cmp q changes ≡ cond (t && false) None (find key_cmp q changes)) [
-      | true ↦
-          refl
-      | false ↦ refl
-    ]
+    elim (eq_by_cmp key_cmp q k) as (λ t. find key_cmp q changes
+    ≡ cond (t && false) None (find key_cmp q changes)) [ true ↦ refl | false ↦ refl ]
 find-put_if q k (Some label) changes =
     find-put key_cmp key_cmp_total q k label changes
-    ∙ elim (eq_by_cmp key_cmp q k) as
-    (λ t. cond t (Some label) (find key_cmp q changes)
+    ∙ elim (eq_by_cmp key_cmp q k) as (λ t. cond t (Some label) (find key_cmp q changes)
     ≡ cond (t && true) (Some label) (find key_cmp q changes)) [ true ↦ refl | false ↦ refl ]
 
 -- a change that is the same as what was found
@@ -373,14 +361,13 @@ none_of_both : (q : EntryKey) (xs ys : List Labelled) → find key_cmp q (xs ++ 
     → (find key_cmp q xs ≡ None) × (find key_cmp q ys ≡ None)
 none_of_both q [] ys none = (refl, none)
 none_of_both q (x ∷ xs) ys none =
-    elim (eq_by_cmp key_cmp q x.0) as
-    (λ t. cond t (Some x.1) (find key_cmp q (xs ++ ys)) ≡ None
+    elim (eq_by_cmp key_cmp q x.0) as (λ t. cond t (Some x.1) (find key_cmp q (xs ++ ys)) ≡ None
     → (cond t (Some x.1) (find key_cmp q xs) ≡ None) × (find key_cmp q ys ≡ None)) [
       | true ↦ λ some. absurd (Some≢None x.1 some)
       | false ↦ λ rest. none_of_both q xs ys rest
     ] none
 
--- There are changes from any old labels to any new ones, whatever the cells.
+-- there is a list of changes
 pub there_are_changes : (old new : List Labelled) (cells : Entries)
     → (changes : List Change) × AreChanges old new cells changes
 there_are_changes old new cells = (
@@ -404,8 +391,7 @@ there_are_changes old new cells = (
         let none = none_of_both q old new e in
         inl (
           inl (none.0 ∙ sym none.1),
-          find-changes_at done q both
-              ∙ ap (λ o. cond (is_some o) (done q) None) e,
+          find-changes_at done q both ∙ ap (λ o. cond (is_some o) (done q) None) e,
         )
 
 -- ---- one key more
@@ -471,8 +457,8 @@ SpendsUpdate-here now name r old new old_rest new_rest first cells (done, none) 
     first.new_head.at k ∙ ap (λ u. cond u (new_of r) (find key_cmp k new_rest)) (itself k) in
     let here =
     subst (λ x. IsChangeAt (old_of r) x (label_at k cells) (find key_cmp k there.0)) at_new
-    (subst (λ x. IsChangeAt x (find key_cmp k new) (label_at k cells) (find key_cmp k there.0))
-    at_old (there.1.at k)) in
+    (subst (λ x. IsChangeAt x (find key_cmp k new) (label_at k cells)
+    (find key_cmp k there.0)) at_old (there.1.at k)) in
     let found : find key_cmp k there.0 ≡ Some (new_of r) =
     one_change (old_of r) (new_of r) (label_at k cells) (find key_cmp k there.0)
     (Some (new_of r)) here done in (

@@ -35,8 +35,7 @@ IsEdited bytes now key label text =
     × IsSiteText
     (record {
       name = site.name;
-      cells =
-          put key_cmp key (record { stamp = stamp; label = label }) site.cells;
+      cells = put key_cmp key (record { stamp = stamp; label = label }) site.cells;
     }) text
 
 abbrev pub RefusesEditing : List ℕ → ℕ → DocFault → Type 0

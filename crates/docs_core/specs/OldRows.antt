@@ -21,20 +21,29 @@ use Rattle.script_docs.specs.StepFields.{Lists}
 use Rattle.script_docs.specs.Steps.{merge_step, filter_step, lookup_step, cells_step, tell_step}
 use Rattle.script_docs.specs.Steps.{post_step, deliver_step, step_in}
 
--- the key and the stamp of a row; languages are in lower case
+-- what follows a part that is there
+infixl 10 ◌>>=◌
+abbrev pub ◌>>=◌ : {A B : Type 0} → Option A → (A → Option B) → Option B
+o >>= f = option_and_then f o
+
+-- a key with its stamp, whose language is in lower case
+abbrev pub old_told : List ℕ → List ℕ → ℕ → ℕ → ℕ → EntryKey × OldStamp
+old_told id language time site count =
+    ((id, str_to_ascii_lowercase language), record { time = time; site = site; count = count })
+
+-- the key and the stamp of a row
 abbrev pub old_parts_in : Data → Data → Data → Data → Data → Option (EntryKey × OldStamp)
-old_parts_in i l t s c =
-    option_and_then
-    (λ id. option_and_then
-    (λ language. option_and_then (λ time. option_and_then (λ site. option_map (λ count.
-    ((id, str_to_ascii_lowercase language), record { time = time; site = site; count = count }))
-    (u32_in c)) (u32_in s)) (u64_in t)) (as_str l)) (as_str i)
+old_parts_in i l t s c = do
+  id ← as_str i
+  language ← as_str l
+  time ← u64_in t
+  site ← u32_in s
+  option_map (λ count. old_told id language time site count) (u32_in c)
 
 abbrev pub old_entry_of : List Data → Option OldEntry
-old_entry_of (i ∷ l ∷ t ∷ s ∷ c ∷ b ∷ []) =
-    option_and_then
-    (λ parts. option_map (λ label. (parts.0, record { stamp = parts.1; label = label }))
-    (label_in b)) (old_parts_in i l t s c)
+old_entry_of (i ∷ l ∷ t ∷ s ∷ c ∷ b ∷ []) = do
+  parts ← old_parts_in i l t s c
+  option_map (λ label. (parts.0, record { stamp = parts.1; label = label })) (label_in b)
 old_entry_of _ = None
 
 -- a row of a site or a delta

@@ -26,12 +26,12 @@ IsChangeAt old new held change =
     ⊎ ((old ≢ new) × (held ≢ new) × (change ≡ Some new))
 
 -- the changes from the old labels to the new ones, in rising order of key
-pub record AreChanges (old new : List Labelled) (cells : Entries) (changes : List Change) : Type 0
-  where
-    pub rising : IsMap key_cmp changes
-    pub at : (key : EntryKey)
-        → IsChangeAt (find key_cmp key old) (find key_cmp key new) (label_at key cells)
-        (find key_cmp key changes)
+pub record AreChanges (old new : List Labelled) (cells : Entries)
+    (changes : List Change) : Type 0 where
+  pub rising : IsMap key_cmp changes
+  pub at : (key : EntryKey)
+      → IsChangeAt (find key_cmp key old) (find key_cmp key new) (label_at key cells)
+      (find key_cmp key changes)
 
 -- the cells after each change was made
 abbrev pub Updates : ℕ → List ℕ → List Labelled → List Labelled → Entries → Entries → Type 0

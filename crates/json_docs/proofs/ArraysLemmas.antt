@@ -11,12 +11,12 @@ use Rattle.json_docs.specs.declared.fault.DocCause.{DocCause}
 use Rattle.json_docs.specs.declared.fault.DocCause.TheVariants.{NoMemory, NotJson}
 use Rattle.json_docs.proofs.ChecksLemmas.{rows-fail-behind, rows-fail-front, rows-pass}
 
--- The items of a list, and then these items.
+-- items with others after them
 abbrev pub before : List Data → Items → Items
 before [] rest = rest
 before (d ∷ ds) rest = item d (before ds rest)
 
--- The items of a list followed by others are, as a list, that list followed by the others.
+-- items with others after them are the two lists
 pub list_of-before : (ds : List Data) (rest : Items) → list_of (before ds rest) ≡ ds ++ list_of rest
 list_of-before [] rest = refl
 list_of-before (d ∷ ds) rest = ap (λ t. d ∷ t) (list_of-before ds rest)
@@ -32,14 +32,14 @@ pub parse_map-push : (ds : List Data) (d : Data) (r : Option (Items × List Toke
 parse_map-push ds d None = refl
 parse_map-push ds d (Some p) = ap (λ (i : Items). Some (i, p.1)) (before-push ds d p.0)
 
--- Putting no items before those of a parse changes nothing.
+-- no item is added by none
 pub parse_map-none : (r : Option (Items × List Token)) → r ≡ parse_map (before []) r
 parse_map-none None = refl
 parse_map-none (Some p) = refl
 
 -- ---- one row more
 
--- Rows and one more are taken where each is, and refused as the first that is refused.
+-- one row more is taken, or the first refusal stays
 pub TakesRows-next : {S : Type 0} (checks : List Data → Data → List Check)
     (Holds : S → List Data → Type 0) (mid new : S) (refusal next : Option DocCause)
     (front : List Data) (d : Data)

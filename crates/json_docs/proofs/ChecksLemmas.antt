@@ -5,40 +5,44 @@ use Rattle.serde_json.specs.Data.{Data}
 use Rattle.json_docs.specs.Checks.{AllPass, Check, FirstFails, rows_checks}
 use Rattle.json_docs.specs.declared.fault.DocCause.{DocCause}
 
--- Two lists of checks that pass do so as one.
+-- two lists of tests that pass are one that passes
 pub AllPass-both : (xs ys : List Check) → AllPass xs → AllPass ys → AllPass (xs ++ ys)
 AllPass-both [] ys p q = q
 AllPass-both (x ∷ xs) ys p q = (p.0, AllPass-both xs ys p.1 q)
 
--- Of two lists of checks that pass as one the first passes.
+-- of tests that all pass the first ones pass
 pub AllPass-front : (xs ys : List Check) → AllPass (xs ++ ys) → AllPass xs
 AllPass-front [] ys p = tt
 AllPass-front (x ∷ xs) ys p = (p.0, AllPass-front xs ys p.1)
 
--- Of two lists of checks that pass as one the second passes.
+-- of tests that all pass the last ones pass
 pub AllPass-behind : (xs ys : List Check) → AllPass (xs ++ ys) → AllPass ys
 AllPass-behind [] ys p = p
 AllPass-behind (x ∷ xs) ys p = AllPass-behind xs ys p.1
 
--- The first failure of a list of checks is that of the list with more checks after it.
+-- a test that fails is the first that fails, whatever follows it
 pub FirstFails-front : (xs ys : List Check) (e : DocCause) → FirstFails xs e
     → FirstFails (xs ++ ys) e
 FirstFails-front [] ys e p = absurd p
-FirstFails-front (x ∷ xs) ys e p =
-    elim p [ inl h ↦ inl h | inr h ↦ inr (h.0, FirstFails-front xs ys e h.1) ]
+FirstFails-front (x ∷ xs) ys e p = elim p [
+  | inl h ↦ inl h
+  | inr h ↦ inr (h.0, FirstFails-front xs ys e h.1)
+]
 
--- After checks that pass, the first failure of further checks is that of all.
+-- after tests that pass the first that fails is that of the others
 pub FirstFails-behind : (xs ys : List Check) (e : DocCause) → AllPass xs → FirstFails ys e
     → FirstFails (xs ++ ys) e
 FirstFails-behind [] ys e p q = q
 FirstFails-behind (x ∷ xs) ys e p q = inr (p.0, FirstFails-behind xs ys e p.1 q)
 
--- after the first checks, further ones may be replaced by others that fail where they do
+-- what fails behind the first tests may be any longer list that fails likewise
 fail_in : (xs ys zs : List Check) (e : DocCause) → (FirstFails ys e → FirstFails zs e)
     → FirstFails (xs ++ ys) e → FirstFails (xs ++ zs) e
 fail_in [] ys zs e f p = f p
-fail_in (x ∷ xs) ys zs e f p =
-    elim p [ inl h ↦ inl h | inr h ↦ inr (h.0, fail_in xs ys zs e f h.1) ]
+fail_in (x ∷ xs) ys zs e f p = elim p [
+  | inl h ↦ inl h
+  | inr h ↦ inr (h.0, fail_in xs ys zs e f h.1)
+]
 
 -- ---- rows
 

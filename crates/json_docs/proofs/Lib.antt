@@ -6,5 +6,6 @@ pub mod NumbersLemmas
 pub mod ReadableLemmas
 pub mod ReadingLemmas
 pub mod SeenLemmas
+pub mod SmallNumbers
 pub mod Streams
 pub mod WholeTextLemmas

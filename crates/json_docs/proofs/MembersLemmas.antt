@@ -1,4 +1,4 @@
--- Members that are read or skipped.
+-- Members that are read or passed over.
 use Rattle.std.proofs.Common.{◌≡◌, ◌∙◌, ℕ, List, [], ◌∷◌, ◌&&◌, Bool, true, false, length, ap, sym}
 use Rattle.std.proofs.Common.{refl, arith}
 use Rattle.std.specs.Prelude.{Option, None, Some, Result, MatchResult, Ok, Err, option_map}
@@ -22,13 +22,13 @@ use Rattle.json_docs.specs.Parts.{items_in}
 use Rattle.json_docs.proofs.ReadableLemmas.{parts_in_range, Reads-in_range}
 use Rattle.json_docs.proofs.ReadingLemmas.{converted-array, converted-object}
 
--- A claim on success may be replaced by what follows from it.
+-- what is more holds too
 pub ok_weaker : {T E : Type 0} (r : Result T E) (P Q : T → Type 0) (F : E → Type 0)
     → MatchResult r P F → ((x : T) → P x → Q x) → MatchResult r Q F
 ok_weaker (Ok x) P Q F h more = more x h
 ok_weaker (Err e) P Q F h more = h
 
--- A claim on success and one on failure may each be replaced by what follows from it.
+-- what follows in both cases of a result holds of the result
 pub both_weaker : {T E : Type 0} (r : Result T E) (P Q : T → Type 0) (F G : E → Type 0)
     → MatchResult r P F → ((x : T) → P x → Q x) → ((e : E) → F e → G e) → MatchResult r Q G
 both_weaker (Ok x) P Q F G h more other = more x h
@@ -38,12 +38,12 @@ second_so : (a b : Bool) → (a && b) ≡ true → b ≡ true
 second_so true b h = h
 second_so false b h = cc
 
--- Where the numbers from a token on are in range, so are those after it.
+-- the numbers behind a token
 pub range_behind : (t : Token) (ts : List Token) → are_in_range (t ∷ ts) ≡ true
     → are_in_range ts ≡ true
 range_behind t ts h = second_so (is_token_in_range t) (are_in_range ts) h
 
--- Where the numbers from a name on are in range, so are those after it.
+-- the numbers behind a name
 pub range_behind_key : (ts : List Token) (k : Option (List ℕ)) (r : List Token)
     → read_key ts ≡ Some (k, r) → are_in_range ts ≡ true → are_in_range r ≡ true
 range_behind_key ts None r is range = sym (ap are_in_range (read_key_is ts None r is)) ∙ range
@@ -57,7 +57,7 @@ passed : (o : Option (Json × List Token)) (new : List Token)
 passed None new is = absurd (cc)
 passed (Some p) new is = let same : p.1 ≡ new = cc in (p.0, ap (λ t. Some (p.0, t)) same)
 
--- Skipped tokens with numbers in range are those of some value, with numbers in range after it.
+-- a value that is skipped is one that could be read
 pub skipped : (depth : ℕ) (old new : List Token) → are_in_range old ≡ true
     → skip_value depth old ≡ Some new
     → (d : Data) × Reads depth old d new × (are_in_range new ≡ true)
@@ -73,35 +73,35 @@ passed_none : (o : Option (Json × List Token))
 passed_none None is = refl
 passed_none (Some p) is = absurd (cc)
 
--- Where no value can be skipped, none can be read.
+-- where no value can be skipped none can be read
 pub not_skipped : (depth : ℕ) (old : List Token) → skip_value depth old ≡ None
     → converted of_json (value depth old) ≡ None
 not_skipped depth old is = ap (converted of_json) (passed_none (value depth old) is)
 
 -- ---- arrays, objects and values of their own
 
--- An opening bracket and the items after it are read as the array of these items.
+-- an opening bracket and items are an array
 pub array_read : (old ts new : List Token) (ds : Items) → old ≡ begin_array ∷ ts
     → ReadsItems 125 ts ds new → Reads 126 old (array ds) new
 array_read old ts new ds is read =
     ap (converted of_json) (ap (value 126) is ∙ value-begin_array 126 ts (omega arith))
     ∙ converted-array (json.items (value 125) (length ts) ts) ∙ ap (parse_map array) read
 
--- An opening bracket that no array follows begins no value.
+-- an opening bracket without items after it is no value
 pub no_array : (old ts : List Token) → old ≡ begin_array ∷ ts → ReadsNoItems 125 ts
     → converted of_json (value 126 old) ≡ None
 no_array old ts is none =
     ap (converted of_json) (ap (value 126) is ∙ value-begin_array 126 ts (omega arith))
     ∙ converted-array (json.items (value 125) (length ts) ts) ∙ ap (parse_map array) none
 
--- An opening brace and the members after it are read as the object of these members.
+-- an opening brace and members are an object
 pub object_read : (old ts new : List Token) (ms : Members) → old ≡ begin_object ∷ ts
     → ReadsMembers 125 ts ms new → Reads 126 old (object ms) new
 object_read old ts new ms is read =
     ap (converted of_json) (ap (value 126) is ∙ value-begin_object 126 ts (omega arith))
     ∙ converted-object (json.members (value 125) (length ts) ts) ∙ ap (parse_map object) read
 
--- An opening brace that no object follows begins no value.
+-- an opening brace without members after it is no value
 pub no_object : (old ts : List Token) → old ≡ begin_object ∷ ts → ReadsNoMembers 125 ts
     → converted of_json (value 126 old) ≡ None
 no_object old ts is none =
@@ -145,14 +145,13 @@ scalar_read (token.boolean b) ts is range = (
 )
 scalar_read token.null ts is range = (
   data_of json.null,
-  Reads-in_range 126 (token.null ∷ ts) ts json.null range
-      (value_is 126 (token.null ∷ ts)),
+  Reads-in_range 126 (token.null ∷ ts) ts json.null range (value_is 126 (token.null ∷ ts)),
   refl,
   refl,
 )
 scalar_read token.bad ts is range = absurd (cc)
 
--- A token that opens neither array nor object and is no scalar begins no value.
+-- a token that begins no value reads as none
 pub no_scalar : (t : Read) (ts : List Token) → (t ≡ read.BeginArray → ⊥)
     → (t ≡ read.BeginObject → ⊥) → is_scalar (token_of t) ≡ false
     → converted of_json (value 126 (token_of t ∷ ts)) ≡ None
@@ -171,6 +170,6 @@ no_scalar read.Null ts not_array not_object is = absurd (cc)
 no_scalar read.Bad ts not_array not_object is =
     ap (converted of_json) (value_is 126 (token.bad ∷ ts))
 
--- Where no token is left, no value is read.
+-- no token reads as no value
 pub nothing_read : (old : List Token) → old ≡ [] → converted of_json (value 126 old) ≡ None
 nothing_read old is = ap (converted of_json) (ap (value 126) is ∙ value_is 126 [])

@@ -13,7 +13,7 @@ no_case true b z x = refl
 no_case false true z x = refl
 no_case false false z x = refl
 
--- A number with a minus is no unsigned whole number.
+-- a number below zero is no unsigned whole number
 pub negative_no_whole : (p : Parts) → option_and_then as_u64 (number_from true p) ≡ None
 negative_no_whole p = no_case _ _ _ _
 
@@ -23,7 +23,7 @@ pub number_of-minus : (s : List ℕ) → (get_or s 0 0 == 45) ≡ true
 unfolding number_of
 number_of-minus s h = rw h
 
--- A text that does not begin with a minus is read as a number without one.
+-- a text without a minus is read as it is
 pub number_of-plain : (s : List ℕ) → (get_or s 0 0 == 45) ≡ false
     → number_of s ≡ number_from false (scan s)
 unfolding number_of

@@ -69,11 +69,10 @@ pub parts_in_range : (depth : ℕ) (old new : List Token) (j : json.Json) → ar
     → value depth old ≡ Some (j, new)
     → (are_in_range (json_tokens j) ≡ true) × (are_in_range new ≡ true)
 parts_in_range depth old new j all is =
-    both_true _ _
-    (sym (list_all-append is_token_in_range (json_tokens j) new)
+    both_true _ _ (sym (list_all-append is_token_in_range (json_tokens j) new)
     ∙ (ap are_in_range (sym (value-json_tokens_back depth old new j is)) ∙ all))
 
--- A value that is parsed from numbers in range has data.
+-- a value whose numbers are in range is read
 pub IsRead-in_range : (depth : ℕ) (old new : List Token) (j : json.Json) → are_in_range old ≡ true
     → value depth old ≡ Some (j, new) → IsRead j
 IsRead-in_range depth old new j all is =

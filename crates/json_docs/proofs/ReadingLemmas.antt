@@ -1,4 +1,4 @@
--- The grammar's loops, one step at a time, under the conversion to data.
+-- The grammar's loops, a turn at a time, under the conversion to data.
 use Rattle.std.proofs.Common.{◌≡◌, ℕ, zero, suc, ◌-◌, ◌<◌, ◌≤◌, List, [], ◌∷◌, length, Option, Some}
 use Rattle.std.proofs.Common.{None, option_map, option_and_then, refl, ap, ◌∙◌}
 use Rattle.json.specs.Token.{Token}
@@ -19,7 +19,7 @@ found a r s None b e = absurd (cc)
 found a r s (Some y) b e = let same = ap (pick (y, r)) e in
     (ap (λ p. p.1) same, ap (λ p. Some p.0) same)
 
--- What a parse gives as data comes from a parsed value, with the same tokens left.
+-- a value that was converted was there
 pub converted_some : {A B : Type 0} (f : A → Option B) (o : Option (A × List Token)) (b : B)
     (r : List Token) → converted f o ≡ Some (b, r) → (a : A) × (o ≡ Some (a, r)) × (f a ≡ Some b)
 converted_some f None b r e = absurd (cc)
@@ -36,13 +36,13 @@ twice : {A B : Type 0} (g : A → B) (r : List Token) (x : Option A)
 twice g r None = refl
 twice g r (Some a) = refl
 
--- The data of a parsed array are the array of its items' data.
+-- an array is converted by its items
 pub converted-array : (o : Option (json.Items × List Token))
     → converted of_json (parse_map json.array o) ≡ parse_map array (converted of_items o)
 converted-array None = refl
 converted-array (Some p) = twice array p.1 (of_items p.0)
 
--- The data of a parsed object are the object of its members' data.
+-- an object is converted by its members
 pub converted-object : (o : Option (json.Members × List Token))
     → converted of_json (parse_map json.object o)
     ≡ parse_map object (converted (λ ms. of_members ms no_members) o)
@@ -133,21 +133,21 @@ module _ (p : Parse json.Json) where
 
 -- ---- the whole text
 
--- The data of a parsed value, if no token is left after it.
+-- the value of a whole text, after which nothing may follow
 abbrev pub whole : Option (json.Json × List Token) → Option Data
 whole o = option_and_then of_json (option_and_then (λ p. if_last p.0 p.1) o)
 
--- A value after which no token is left is the whole text's.
+-- a value with nothing after it is that of the whole text
 pub whole_read : (o : Option (json.Json × List Token)) (d : Data)
     → converted of_json o ≡ Some (d, []) → whole o ≡ Some d
 whole_read o d e = let j = converted_some of_json o d [] e in ap whole j.1 ∙ j.2
 
--- A text with a token left after its value has no data as a whole.
+-- a value with something after it is no whole text
 pub whole_and_more : (o : Option (json.Json × List Token)) (d : Data) (t : Token) (r : List Token)
     → converted of_json o ≡ Some (d, t ∷ r) → whole o ≡ None
 whole_and_more o d t r e = ap whole (converted_some of_json o d (t ∷ r) e).1
 
--- A text without a value that has data has none as a whole.
+-- where no value comes first there is no whole text
 pub whole_refused : (o : Option (json.Json × List Token)) → converted of_json o ≡ None
     → whole o ≡ None
 whole_refused None e = refl

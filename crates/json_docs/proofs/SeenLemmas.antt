@@ -53,7 +53,7 @@ read_array value items is h =
     some_array (of_items (items_view items.items))
     (ap (λ j. is_some (of_json j)) (sym (ap value_view is ∙ view-Array items)) ∙ h)
 
--- The items of an array's data are the data of its items.
+-- the items of an array are what is seen of its values
 pub items_in-Array : (value : Value Global) (items : Vec (Value Global) Global)
     (slice : List (Value Global)) → value ≡ Array items → slice ≡ items.items
     → IsRead (value_view value) → Some (map seen slice) ≡ items_in (seen value)
@@ -63,7 +63,7 @@ items_in-Array value items slice is same h =
     ∙ array_items (of_items (items_view items.items)) _
     (items_seen items.items (read_array value items is h)))
 
--- Each item of an array that has data has data.
+-- the values of an array that is read are read
 pub AreRead-Array : (value : Value Global) (items : Vec (Value Global) Global)
     (slice : List (Value Global)) → value ≡ Array items → slice ≡ items.items
     → IsRead (value_view value) → AreRead slice
@@ -85,7 +85,7 @@ both_some None r = refl
 both_some (Some text) None = refl
 both_some (Some text) (Some texts) = refl
 
--- A list of values reads as texts exactly where each of them is a string.
+-- values give texts where each is a text
 pub is_some-texts_in : (vs : List (Value Global))
     → list_all (λ (v : Value Global). is_some (as_str (seen v))) vs
     ≡ is_some (texts_in (map seen vs))

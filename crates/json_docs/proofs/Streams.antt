@@ -6,7 +6,7 @@ use Rattle.std.proofs.Common.{◌+◌}
 use Rattle.std.proofs.Math.Seq.{take-add}
 use Rattle.std.specs.Io.KnownBytes.{Appends, Consumes}
 
--- Writing some bytes and then others writes the first followed by the others.
+-- bytes that are written after others are written with them
 pub Appends-then : (a b c : Option (List ℕ)) (x y : List ℕ) → Appends a b x → Appends b c y
     → Appends a c (x ++ y)
 Appends-then None b c x y p q = tt
@@ -14,7 +14,7 @@ Appends-then (Some u) None c x y p q = absurd p
 Appends-then (Some u) (Some v) None x y p q = absurd q
 Appends-then (Some u) (Some v) (Some w) x y p q = q ∙ (ap (λ t. t ++ y) p ∙ append_assoc u x y)
 
--- Reading some bytes and then others reads the first followed by the others.
+-- bytes that are read after others are read with them
 pub Consumes-then : (a b c : Option (List ℕ)) (x y : List ℕ) → Consumes a b x → Consumes b c y
     → Consumes a c (x ++ y)
 Consumes-then None b c x y p q = tt
@@ -28,7 +28,8 @@ pub split_more : (text front rest : List ℕ) (n : ℕ) → text ≡ front ++ re
     → text ≡ (front ++ take n rest) ++ take (length rest - n) (drop n rest)
 split_more text front rest n e =
     rw (take_rest rest n)
-    (e ∙ (ap (λ t. front ++ t) (sym (take-append-drop n rest))
+    (e
+    ∙ (ap (λ t. front ++ t) (sym (take-append-drop n rest))
     ∙ sym (append_assoc front (take n rest) (drop n rest))))
 
 -- n more bytes come after the first m of a buffer, which stay

@@ -104,8 +104,8 @@ length-punctuate after_key (colon ∷ ls) = let l = length-punctuate fresh ls in
 
 -- a text has at most one token more than bytes
 pub length-tokens : (text : List ℕ) → length (tokens text) ≤ length text + 1
-length-tokens text = let l = length-lex between text in let p =
-    length-punctuate fresh (lex between text) in omega (arith, l, p)
+length-tokens text = let l = length-lex between text in
+    let p = length-punctuate fresh (lex between text) in omega (arith, l, p)
 
 -- ---- the whole text
 
@@ -132,12 +132,10 @@ module _ (text : List ℕ) (ts : List Token) (is : tokens text ≡ begin_object 
       whole_refused (value 127 (tokens text)) (opened ∙ ap (parse_map object) none)
 
   pub not_whole : IsNotWhole ts → read text ≡ None
-  not_whole why =
-      elim why [
-        | inl none ↦ object_refused none
-        | inr more ↦
-            object_and_more more.0 more.1 more.2 more.3
-      ]
+  not_whole why = elim why [
+    | inl none ↦ object_refused none
+    | inr more ↦ object_and_more more.0 more.1 more.2 more.3
+  ]
 
 module _ (text : List ℕ) where
   pub value_whole : are_in_range (tokens text) ≡ true → skip_value 127 (tokens text) ≡ Some []
@@ -207,7 +205,7 @@ none_read : (o : Option (Json × List Token)) (d : Data) → o ≡ None → whol
     → as_object d ≡ None
 none_read o d none h = let never : None ≡ Some d = sym (ap whole none) ∙ h in cc
 
--- Data whose tokens do not begin with an opening brace are no object.
+-- a text that begins without a brace is no object
 pub not_object : (ts : List Token) (d : Data) → NoObject ts → whole (value 127 ts) ≡ Some d
     → as_object d ≡ None
 not_object [] d apart h = none_read (value 127 []) d (value_is 127 []) h

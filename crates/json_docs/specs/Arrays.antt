@@ -17,7 +17,7 @@ ReadsItems depth old ds new =
 abbrev pub ReadsNoItems : ℕ → List Token → Type 0
 ReadsNoItems depth old = converted of_items (items (value depth) (length old) old) ≡ None
 
--- after these rows all of ds pass and are held too, or the first test that fails refuses for e
+-- behind these rows all of ds pass and are held too, or the first test that fails refuses for e
 abbrev pub TakesRows : {S : Type 0} → (List Data → Data → List Check) → (S → List Data → Type 0)
     → List Data → S → Option DocCause → List Data → Type 0
 TakesRows checks Holds before new None ds =
@@ -27,6 +27,6 @@ TakesRows checks Holds before new (Some e) ds = FirstFails (rows_checks checks b
 -- one row more: it is taken where none was refused before it
 abbrev pub TakesNext : {S : Type 0} → (List Data → Data → List Check) → (S → List Data → Type 0)
     → List Data → Option DocCause → S → S → Option DocCause → Data → Type 0
-TakesNext checks Holds before None old new next d =
-    Holds old before → TakesRows checks Holds before new next (d ∷ [])
+TakesNext checks Holds before None old new next d = Holds old before
+    → TakesRows checks Holds before new next (d ∷ [])
 TakesNext checks Holds before (Some e) old new next d = next ≡ Some e

@@ -9,7 +9,7 @@ use Rattle.site_docs.specs.Fields.{cell_cause}
 use Rattle.map_docs.specs.LangMapChecks.{IsStringsRefusal}
 use Rattle.site_docs.proofs.FieldsLemmas.{label_cause}
 
--- A number that does not test as 0 is above 0.
+-- a number that is not 0 is above 0
 pub some_strings : (n : ℕ) → (n == 0) ≡ false → 0 < n
 some_strings n h = grind (arith, nat_tests)
 

@@ -1,4 +1,4 @@
--- Labels that are found key by key, and then put after those of smaller messages.
+-- Labels that are found key by key, and then put behind those of lesser messages.
 use Rattle.std.proofs.Common.{◌≡◌, ◌∙◌, ℕ, suc, ◌+◌, length, arith, add-zero, zero-add, Bool, true}
 use Rattle.std.proofs.Common.{false, List, [], ◌∷◌, ◌++◌, ◌||◌, cond, map, String, string_cmp}
 use Rattle.std.proofs.Common.{Global, Option, None, Some, string_bytes, refl, sym, ap, ap₂, subst}
@@ -36,10 +36,9 @@ use Rattle.json_docs.specs.declared.fault.DocCause.TheVariants.{NoMemory, Repeat
 use Rattle.json_docs.specs.declared.fault.Spot.TheVariants.{Row}
 use Rattle.site_docs.specs.Fields.{IsLanguageRefusal, IsSpelled}
 use Rattle.map_docs.specs.LangMapChecks.{IsLabelOrNone, IsStringsRefusal, is_marked, is_repeated}
-use Rattle.map_docs.specs.LangMapChecks.{key_checks, keys_checks, message_checks, row_checks}
-use Rattle.map_docs.specs.LangMapChecks.{rows_checks}
+use Rattle.map_docs.specs.LangMapChecks.{key_checks, keys_checks, message_checks, member_checks}
+use Rattle.map_docs.specs.LangMapChecks.{members_checks, unless_marked}
 use Rattle.map_docs.specs.LangMapLabels.{labelled, languages_of, row_labels, rows_labels}
-use Rattle.map_docs.specs.LangMapLabels.{unless_skipped}
 use Rattle.map_docs.specs.LangMapRows.{Keys, Rows, Strings}
 use Rattle.map_docs.specs.LangMapRowsSeen.{AddsLanguages, AddsRow, AreLesser, Found, HeldKeys}
 use Rattle.map_docs.specs.LangMapRowsSeen.{HeldStrings, HoldsKeys, IsOneLabel, keys_in_seen}
@@ -50,7 +49,7 @@ use Rattle.json_docs.proofs.ChecksLemmas.{AllPass-both, FirstFails-behind, First
 
 -- ---- a language in lower case
 
--- The language that a text spells is the text in lower case.
+-- a language is its spelling in lower case
 pub spelled_lower : (text lang : List ℕ) → SpellsLang text lang → lang ≡ str_to_ascii_lowercase text
 spelled_lower text lang spells = elim spells [
   | inl none ↦ none.1 ∙ sym (ap str_to_ascii_lowercase none.0)
@@ -79,7 +78,7 @@ one_key : (k : ℕ) (before : List (List ℕ)) (key : List ℕ) (strings : Strin
     → keys_checks k before ((key, strings) ∷ []) ≡ key_checks k before key strings
 one_key k before key strings = append-nil (key_checks k before key strings)
 
--- Keys that pass, and one more that passes after them, pass together.
+-- a key that passes after keys that pass makes keys that pass
 pub keys_pass : (k : ℕ) (ms : Keys) (key : List ℕ) (strings : Strings)
     → AllPass (keys_checks k [] ms) → AllPass (key_checks k (names ms) key strings)
     → AllPass (keys_checks k [] (ms ++ (key, strings) ∷ []))
@@ -89,7 +88,7 @@ keys_pass k ms key strings p q =
     ∙ ap (λ cs. keys_checks k [] ms ++ cs) (one_key k (names ms) key strings)))
     (AllPass-both (keys_checks k [] ms) (key_checks k (names ms) key strings) p q)
 
--- After keys that pass, the first failure of one more is that of all keys.
+-- a key that fails after keys that pass is the first that fails
 pub keys_fail : (k : ℕ) (ms : Keys) (key : List ℕ) (strings : Strings) (ns : Keys) (e : DocCause)
     → AllPass (keys_checks k [] ms) → FirstFails (key_checks k (names ms) key strings) e
     → FirstFails (keys_checks k [] (ms ++ (key, strings) ∷ ns)) e
@@ -103,37 +102,38 @@ later : (k n m : ℕ) → suc n ≡ m → (k + 1) + n ≡ k + m
 later k n m is = omega arith
 
 rows_behind : (k : ℕ) (rs ss : Rows)
-    → rows_checks k (rs ++ ss) ≡ rows_checks k rs ++ rows_checks (k + length rs) ss
-rows_behind k [] ss = ap (λ n. rows_checks n ss) (sym (add-zero k))
+    → members_checks k (rs ++ ss) ≡ members_checks k rs ++ members_checks (k + length rs) ss
+rows_behind k [] ss = ap (λ n. members_checks n ss) (sym (add-zero k))
 rows_behind k (r ∷ rs) ss =
-    let first = row_checks k r in
+    let first = member_checks k r in
     ap (λ cs. first ++ cs)
     (rows_behind (k + 1) rs ss
-    ∙ ap (λ n. rows_checks (k + 1) rs ++ rows_checks n ss)
+    ∙ ap (λ n. members_checks (k + 1) rs ++ members_checks n ss)
     (later k (length rs) (length (r ∷ rs)) refl))
-    ∙ sym (append_assoc first (rows_checks (k + 1) rs) (rows_checks (k + length (r ∷ rs)) ss))
+    ∙ sym (append_assoc first (members_checks (k + 1) rs) (members_checks (k + length (r ∷ rs)) ss))
 
--- Rows that pass, and one more that passes after them, pass together.
+-- a row that passes after rows that pass makes rows that pass
 pub rows_pass : (rs : Rows) (r : List ℕ × Option Keys) (k : ℕ) → k ≡ length rs
-    → AllPass (rows_checks 0 rs) → AllPass (row_checks k r) → AllPass (rows_checks 0 (rs ++ r ∷ []))
+    → AllPass (members_checks 0 rs) → AllPass (member_checks k r)
+    → AllPass (members_checks 0 (rs ++ r ∷ []))
 rows_pass rs r k at p q =
     subst AllPass
     (sym (rows_behind 0 rs (r ∷ [])
-    ∙ ap (λ cs. rows_checks 0 rs ++ cs) (append-nil (row_checks (0 + length rs) r))))
-    (AllPass-both (rows_checks 0 rs) (row_checks (0 + length rs) r) p
-    (subst (λ n. AllPass (row_checks n r)) (at ∙ sym (zero-add (length rs))) q))
+    ∙ ap (λ cs. members_checks 0 rs ++ cs) (append-nil (member_checks (0 + length rs) r))))
+    (AllPass-both (members_checks 0 rs) (member_checks (0 + length rs) r) p
+    (subst (λ n. AllPass (member_checks n r)) (at ∙ sym (zero-add (length rs))) q))
 
--- After rows that pass, the first failure of one more is that of all rows.
+-- a row that fails after rows that pass is the first that fails
 pub rows_fail : (rs : Rows) (r : List ℕ × Option Keys) (ss : Rows) (k : ℕ) (e : DocCause)
-    → k ≡ length rs → AllPass (rows_checks 0 rs) → FirstFails (row_checks k r) e
-    → FirstFails (rows_checks 0 (rs ++ r ∷ ss)) e
+    → k ≡ length rs → AllPass (members_checks 0 rs) → FirstFails (member_checks k r) e
+    → FirstFails (members_checks 0 (rs ++ r ∷ ss)) e
 rows_fail rs r ss k e at p q =
-    let here = row_checks (0 + length rs) r in
-    let rest = rows_checks ((0 + length rs) + 1) ss in
+    let here = member_checks (0 + length rs) r in
+    let rest = members_checks ((0 + length rs) + 1) ss in
     subst (λ cs. FirstFails cs e) (sym (rows_behind 0 rs (r ∷ ss)))
-    (FirstFails-behind (rows_checks 0 rs) (here ++ rest) e p
+    (FirstFails-behind (members_checks 0 rs) (here ++ rest) e p
     (FirstFails-front here rest e
-    (subst (λ n. FirstFails (row_checks n r) e) (at ∙ sym (zero-add (length rs))) q)))
+    (subst (λ n. FirstFails (member_checks n r) e) (at ∙ sym (zero-add (length rs))) q)))
 
 -- ---- keys that were found
 
@@ -155,8 +155,8 @@ insert_is_put : {X : Type 0} (es : List (List ℕ × X)) (k : List ℕ) (v : X)
     → insert_entry text_cmp es k v ≡ put text_cmp k v es
 insert_is_put [] k v = refl
 insert_is_put (e ∷ es) k v =
-    elim (text_cmp k e.0) as
-    (λ o. match_ordering o ((k, v) ∷ e ∷ es) ((e.0, v) ∷ es) (e ∷ insert_entry text_cmp es k v)
+    elim (text_cmp k e.0) as (λ o.
+    match_ordering o ((k, v) ∷ e ∷ es) ((e.0, v) ∷ es) (e ∷ insert_entry text_cmp es k v)
     ≡ by_order o ((k, v) ∷ e ∷ es) ((e.0, v) ∷ es) (e ∷ put text_cmp k v es)) [
       | Less ↦ refl
       | Equal ↦ refl
@@ -204,18 +204,16 @@ live_insert (e ∷ es) lang label new =
     let rest =
     live_insert es lang label
     (still (is_eq (text_cmp lang e.0)) e.1 (lookup (is_at (text_cmp lang)) es) new) in
-    elim (text_cmp lang e.0) as
-    (λ o. is_eq o ≡ false → IsPermutation (one lang label ++ live (e ∷ es))
+    elim (text_cmp lang e.0) as (λ o. is_eq o ≡ false
+    → IsPermutation (one lang label ++ live (e ∷ es))
     (live (match_ordering o ((lang, label) ∷ e ∷ es) ((e.0, label) ∷ es)
     (e ∷ insert_entry text_cmp es lang label)))) [
-      | Less ↦
-          λ _. subst (IsPermutation (one lang label ++ live (e ∷ es)))
+      | Less ↦ λ _. subst (IsPermutation (one lang label ++ live (e ∷ es)))
           (sym (live_cons lang label (e ∷ es)))
           (IsPermutation-refl (one lang label ++ live (e ∷ es)))
       | Equal ↦ λ tied. absurd (true≢false tied)
-      | Greater ↦
-          λ _. subst
-          (λ t. IsPermutation (one lang label ++ t)
+      | Greater ↦ λ _.
+          subst (λ t. IsPermutation (one lang label ++ t)
           (live (e ∷ insert_entry text_cmp es lang label))) (sym (live_cons e.0 e.1 es))
           (subst (IsPermutation (one lang label ++ (one e.0 e.1 ++ live es)))
           (sym (live_cons e.0 e.1 (insert_entry text_cmp es lang label)))
@@ -223,7 +221,7 @@ live_insert (e ∷ es) lang label new =
           (live (insert_entry text_cmp es lang label)) rest))
     ] apart
 
--- the label of a key after others
+-- the label of a key behind others
 one_labelled : (key lang : List ℕ) (texts : List (List ℕ)) (label : Option (List (List ℕ)))
     → lang ≡ str_to_ascii_lowercase key → IsOneLabel texts label
     → languages_of ((key, Some texts) ∷ []) ≡ one lang label
@@ -242,7 +240,7 @@ or_false : (b : Bool) → b ≡ (b || false)
 or_false true = refl
 or_false false = refl
 
--- Inserting the label of one more key, whose language was absent, gives what all the keys hold.
+-- one key more is found with its label
 pub HoldsKeys-next : (before : Keys) (found new : Found) (key lang : List ℕ) (texts : List (List ℕ))
     (label : Option (List (List ℕ)))
     → HoldsKeys before found → lang ≡ str_to_ascii_lowercase key
@@ -274,7 +272,8 @@ HoldsKeys-next before found new key lang texts label holds is absent of_texts en
           (IsPermutation-append_right one_more old (live found) holds.labels)
           (subst (λ t. IsPermutation (one_more ++ live found) (live t)) (sym entries)
           (live_insert found lang label absent))));
-      map = subst (IsMap text_cmp) (sym (entries ∙ insert_is_put found lang label))
+      map =
+          subst (IsMap text_cmp) (sym (entries ∙ insert_is_put found lang label))
           (is_sorted-put text_cmp nat_list_cmp_total lang label found holds.map);
     }
 
@@ -290,7 +289,7 @@ below_live x ((k, Some texts) ∷ es) h =
     (first_part (is_lt (text_cmp x k)) (below_all text_cmp x es) h)
     (below_live x es (second_part (is_lt (text_cmp x k)) (below_all text_cmp x es) h))
 
--- The languages of the labels that were found strictly ascend.
+-- the languages with a label rise as all that were found
 pub live_IsMap : (es : Found) → IsMap text_cmp es → IsMap text_cmp (live es)
 live_IsMap [] h = tt
 live_IsMap ((k, None) ∷ es) h =
@@ -320,7 +319,7 @@ below_under id x (l ∷ ls) h =
     (first_part (is_lt (text_cmp x l.0)) (below_all text_cmp x ls) h)))
     (below_under id x ls (second_part (is_lt (text_cmp x l.0)) (below_all text_cmp x ls) h))
 
--- The labels of a message have strictly ascending keys where their languages strictly ascend.
+-- the labels of a message rise as its languages
 pub under_IsMap : (id : List ℕ) (ls : Languages) → IsMap text_cmp ls → IsMap key_cmp (under id ls)
 under_IsMap id [] h = tt
 under_IsMap id (l ∷ ls) h =
@@ -343,7 +342,7 @@ below_both k (x ∷ xs) ys p q =
     (first_part (is_lt (key_cmp k x.0)) (below_all key_cmp k xs) p)
     (below_both k xs ys (second_part (is_lt (key_cmp k x.0)) (below_all key_cmp k xs) p) q)
 
--- Ascending labels and then those of a greater message strictly ascend.
+-- the labels of a message stand behind those of lesser ones
 pub behind_IsMap : (es : List Labelled) (id : List ℕ) (ls : Languages) → IsMap key_cmp es
     → AreLesser es id → IsMap text_cmp ls → IsMap key_cmp (es ++ under id ls)
 behind_IsMap [] id ls m lesser h = under_IsMap id ls h
@@ -363,7 +362,7 @@ below_in k [] x ys h =
 below_in k (e ∷ es) x ys h =
     below_in k es x ys (second_part (is_lt (key_cmp k e.0)) (below_all key_cmp k (es ++ x ∷ ys)) h)
 
--- In an ascending list each key is above those before it.
+-- in a list that rises each key is above those in front of it
 pub above_front : (es : List Labelled) (x : Labelled) (ys : List Labelled)
     → IsMap key_cmp (es ++ x ∷ ys) → IsAboveAll x.0 es
 above_front [] x ys m = All-nil (λ (e : Labelled). key_cmp e.0 x.0 ≡ Less)
@@ -383,21 +382,19 @@ all_under id other (l ∷ ls) less =
     All-cons (λ (e : Labelled). text_cmp e.0.0 other ≡ Less) ((id, l.0), l.1) (under id ls) less
     (all_under id other ls less)
 
--- The rows left after a row are also greater than the labels that the row adds.
+-- the messages of the labels stay smaller than those of the rows that are left
 pub lesser_next : {X : Type 0} (labels : List Labelled) (name : String Global) (ls : Languages)
     (left : List (String Global × X))
     → All (λ (r : String Global × X). AreLesser labels (string_bytes r.0)) left
     → AllByRecursion (λ y. string_cmp name y ≡ Less) (keys_of left)
-    → All (λ (r : String Global × X). AreLesser (labels ++ under (string_bytes name) ls)
-    (string_bytes r.0)) left
+    → All (λ (r : String Global × X).
+    AreLesser (labels ++ under (string_bytes name) ls) (string_bytes r.0)) left
 lesser_next {X} labels name ls [] all less =
-    All-nil
-    (λ (r : String Global × X). AreLesser (labels ++ under (string_bytes name) ls)
-    (string_bytes r.0))
+    All-nil (λ (r : String Global × X).
+    AreLesser (labels ++ under (string_bytes name) ls) (string_bytes r.0))
 lesser_next {X} labels name ls (r ∷ left) all less =
-    All-cons
-    (λ (r : String Global × X). AreLesser (labels ++ under (string_bytes name) ls)
-    (string_bytes r.0)) r left
+    All-cons (λ (r : String Global × X).
+    AreLesser (labels ++ under (string_bytes name) ls) (string_bytes r.0)) r left
     (All-append (λ (e : Labelled). text_cmp e.0.0 (string_bytes r.0) ≡ Less) labels
     (under (string_bytes name) ls)
     (all_first (λ (r : String Global × X). AreLesser labels (string_bytes r.0)) r left all)
@@ -406,7 +403,7 @@ lesser_next {X} labels name ls (r ∷ left) all less =
     (all_rest (λ (r : String Global × X). AreLesser labels (string_bytes r.0)) r left all)
     less.1)
 
--- Any rows that are left are greater than no labels.
+-- no label is smaller than each message
 pub none_lesser : {X : Type 0} (left : List (String Global × X))
     → All (λ (r : String Global × X). AreLesser [] (string_bytes r.0)) left
 none_lesser {X} [] = All-nil (λ (r : String Global × X). AreLesser [] (string_bytes r.0))
@@ -416,9 +413,9 @@ none_lesser {X} (r ∷ left) =
 
 row_unmarked : (r : List ℕ × Option Keys) → is_marked r.0 ≡ false
     → row_labels r ≡ under r.0 (languages_of (unwrap_or r.1 []))
-row_unmarked r h = ap (λ b. unless_skipped b (under r.0 (languages_of (unwrap_or r.1 [])))) h
+row_unmarked r h = ap (λ b. unless_marked b (under r.0 (languages_of (unwrap_or r.1 [])))) h
 
--- One more row adds its labels to those of the rows before it.
+-- one row more adds its labels
 pub rows_labels_one : (rs : Rows) (r : List ℕ × Option Keys)
     → rows_labels (rs ++ r ∷ []) ≡ rows_labels rs ++ row_labels r
 rows_labels_one rs r =
@@ -432,10 +429,11 @@ pub labels_skip : (rs : Rows) (r : List ℕ × Option Keys) (labels : List Label
 labels_skip rs r labels marked p =
     subst (λ t. IsPermutation t labels)
     (sym (rows_labels_one rs r
-    ∙ ap (λ b. rows_labels rs ++ unless_skipped b (under r.0 (languages_of (unwrap_or r.1 []))))
-    marked ∙ append-nil (rows_labels rs))) p
+    ∙ ap (λ b. rows_labels rs
+    ++ unless_marked b (under r.0 (languages_of (unwrap_or r.1 [])))) marked
+    ∙ append-nil (rows_labels rs))) p
 
--- One more row that is no skipped one adds its labels after those of the rows before it.
+-- a row more, whose labels come behind
 pub labels_next : (rs : Rows) (r : List ℕ × Option Keys) (old new : List Labelled)
     → is_marked r.0 ≡ false → IsPermutation (rows_labels rs) old
     → AddsLanguages old new r.0 (unwrap_or r.1 [])
@@ -460,7 +458,7 @@ IsKeyRefusal found k key strings e =
     ⊎ ((before : Keys) → HoldsKeys before found
     → FirstFails (key_checks k (names before) key strings) e)
 
--- A refusal of the language of a key is one of the key.
+-- why a key is no language is why it is refused
 pub language_fails : (found : Found) (k : ℕ) (text key : List ℕ) (strings : Strings) (e : DocCause)
     → text ≡ key → (e ≡ NoMemory) ⊎ IsLanguageRefusal k text e → IsKeyRefusal found k key strings e
 language_fails found k text key strings e same why = elim why [
@@ -471,7 +469,7 @@ language_fails found k text key strings e same why = elim why [
 spelled : (text key lang : List ℕ) → text ≡ key → SpellsLang text lang → IsSpelled key
 spelled text key lang same spells = subst IsSpelled same (lang, spells)
 
--- The language that a key spells is the key in lower case.
+-- the language of a key is the key in lower case
 pub lower_of : (text key lang : List ℕ) → text ≡ key → SpellsLang text lang
     → lang ≡ str_to_ascii_lowercase key
 lower_of text key lang same spells = spelled_lower text lang spells ∙ ap str_to_ascii_lowercase same
@@ -486,22 +484,24 @@ module _ (found : Found) (k : ℕ) (text key lang : List ℕ) (same : text ≡ k
   pub repeated_fails : (strings : Strings) → is_some (lookup (is_at (text_cmp lang)) found) ≡ true
       → IsKeyRefusal found k key strings (RepeatedTag k)
   repeated_fails strings is =
-      inr (λ before holds. inr (
+      inr
+      (λ before holds.
+      inr (
         spelled text key lang same spells,
-        inl
-            (λ never. true≢false (sym (tested true is before holds) ∙ never), refl),
+        inl (λ never. true≢false (sym (tested true is before holds) ∙ never), refl),
       ))
 
   module _ (absent : is_some (lookup (is_at (text_cmp lang)) found) ≡ false) where
     pub shape_fails : (strings : Strings) → strings ≡ None
         → IsKeyRefusal found k key strings (Shape (Row k))
     shape_fails strings none =
-        inr (λ before holds. inr (
+        inr
+        (λ before holds.
+        inr (
           spelled text key lang same spells,
           inr (
             tested false absent before holds,
-            inl
-                (λ some. true≢false (sym some ∙ ap is_some none), refl),
+            inl (λ some. true≢false (sym some ∙ ap is_some none), refl),
           ),
         ))
 
@@ -511,15 +511,16 @@ module _ (found : Found) (k : ℕ) (text key lang : List ℕ) (same : text ≡ k
     label_fails texts strings e is why = elim why [
       | inl none ↦ inl none
       | inr refused ↦
-          inr (λ before holds. inr (
+          inr
+          (λ before holds.
+          inr (
             spelled text key lang same spells,
             inr (
               tested false absent before holds,
               inr (
                 ap is_some is,
-                inl
-                    (subst (λ t. IsStringsRefusal k t e) (sym (ap (λ o. unwrap_or o []) is))
-                    refused),
+                inl (subst (λ t. IsStringsRefusal k t e)
+                    (sym (ap (λ o. unwrap_or o []) is)) refused),
               ),
             ),
           ))
@@ -541,25 +542,25 @@ module _ (found : Found) (k : ℕ) (text key lang : List ℕ) (same : text ≡ k
 
 -- ---- keys and rows as they are kept
 
--- The keys seen in two lists in sequence are those of the first, and then those of the second.
+-- what is seen of two lists of keys is seen of both
 pub keys_seen_behind : (es fs : List (String Global × HeldStrings))
     → keys_seen (es ++ fs) ≡ keys_seen es ++ keys_seen fs
 keys_seen_behind es fs =
     map-append (λ (e : String Global × HeldStrings). (string_bytes e.0, strings_seen e.1)) es fs
 
--- The rows seen in two lists in sequence are those of the first, and then those of the second.
+-- what is seen of two lists of rows is seen of both
 pub rows_seen_behind : (es fs : List (String Global × Option HeldKeys))
     → rows_seen (es ++ fs) ≡ rows_seen es ++ rows_seen fs
 rows_seen_behind es fs =
     map-append (λ (e : String Global × Option HeldKeys). (string_bytes e.0, keys_in_seen e.1)) es fs
 
--- A list in two pieces is also cut after the first element of the second piece.
+-- the next item goes to those that are done
 pub one_further : {X : Type 0} (all front : List X) (x : X) (left rest : List X)
     → all ≡ front ++ left → left ≡ x ∷ rest → all ≡ (front ++ x ∷ []) ++ rest
 one_further all front x left rest is next =
     is ∙ ap (λ t. front ++ t) next ∙ sym (append_assoc front (x ∷ []) rest)
 
--- Of two alternatives the second may be replaced by what follows from it.
+-- the second case may say what follows from it
 pub else_by : {P Q R : Type 0} → P ⊎ Q → (Q → R) → P ⊎ R
 else_by why follows = elim why [ inl h ↦ inl h | inr h ↦ inr (follows h) ]
 
@@ -577,7 +578,7 @@ pub record HoldsRows (rows : Rows) (labels : List Labelled)
       left
   pub rising : IsStrictlySortedBy string_cmp (keys_of left)
 
--- The labels so far are of smaller messages than the next row.
+-- the messages of the labels are smaller than the next one
 pub first_lesser : (rows : Rows) (labels : List Labelled) (r : String Global × Option HeldKeys)
     (left : List (String Global × Option HeldKeys))
     → HoldsRows rows labels (r ∷ left) → AreLesser labels (string_bytes r.0)
@@ -608,19 +609,20 @@ unfolding IsStrictlySortedBy
 message_next rows old new r left holds unmarked adds =
     let lesser = first_lesser rows old r left holds in record {
       same = labels_next rows (seen_row r) old new unmarked holds.same adds;
-      map = subst (IsMap key_cmp) (sym adds.3)
+      map =
+          subst (IsMap key_cmp) (sym adds.3)
           (behind_IsMap old (string_bytes r.0) adds.0 holds.map lesser adds.2);
       lesser =
-          subst (λ (labels : List Labelled). All
-          (λ (x : String Global × Option HeldKeys). AreLesser labels (string_bytes x.0)) left)
-          (sym adds.3)
+          subst (λ (labels : List Labelled).
+          All (λ (x : String Global × Option HeldKeys). AreLesser labels (string_bytes x.0))
+          left) (sym adds.3)
           (lesser_next old r.0 adds.0 left
           (all_rest (λ (x : String Global × Option HeldKeys). AreLesser old (string_bytes x.0))
           r left holds.lesser) holds.rising.0);
       rising = holds.rising.1;
     }
 
--- The labels of the rows so far, grown by those of the next row, are those of one row more.
+-- one row more is done, and its labels are added
 pub HoldsRows-next : (rows : Rows) (old new : List Labelled) (r : String Global × Option HeldKeys)
     (left : List (String Global × Option HeldKeys))
     → HoldsRows rows old (r ∷ left) → AddsRow old new (seen_row r)
@@ -632,13 +634,17 @@ HoldsRows-next rows old new r left holds adds = elim adds [
   | inr message ↦ message_next rows old new r left holds message.0 message.1
 ]
 
--- Before the first row there are no labels, and the rows left are in strictly ascending order.
+-- at the beginning no row is done
 pub HoldsRows-none : (left : List (String Global × Option HeldKeys))
     → IsStrictlySortedBy string_cmp (keys_of left) → HoldsRows [] [] left
-HoldsRows-none left rising =
-    record { same = IsPermutation-refl []; map = tt; lesser = none_lesser left; rising = rising }
+HoldsRows-none left rising = record {
+  same = IsPermutation-refl [];
+  map = tt;
+  lesser = none_lesser left;
+  rising = rising;
+}
 
--- The number of rows that are seen is the number of rows.
+-- as many rows are seen as were read
 pub same_length : (front : List (String Global × Option HeldKeys))
     → length front ≡ length (rows_seen front)
 same_length [] = refl
@@ -655,8 +661,8 @@ message_added old new k name held keys found is id passes holds added = (
     id,
     (
       ap is_some is,
-      subst (λ (ms : Keys). AllPass (keys_checks k [] ms))
-          (sym (ap (λ o. unwrap_or o []) is)) passes,
+      subst (λ (ms : Keys). AllPass (keys_checks k [] ms)) (sym (ap (λ o. unwrap_or o []) is))
+          passes,
     ),
   ),
   (

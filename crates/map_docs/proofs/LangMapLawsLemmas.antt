@@ -1,4 +1,4 @@
--- A list of labels in ascending order is known by its labels.
+-- A list of labels that rises is told by its labels.
 use Rattle.std.proofs.Common.{◌≡◌, ◌∙◌, ◌<◌, ℕ, zero, suc, List, [], ◌∷◌, length, get_or, false}
 use Rattle.std.proofs.Common.{refl, sym, ap, ap₂, subst, add-one, arith}
 use Rattle.std.specs.Prelude.{IsSorted, IsPermutation}
@@ -57,8 +57,9 @@ not_before x y less =
 
 sorted_labels : (es : List Labelled) → IsMap key_cmp es → IsSorted label_cmp es
 sorted_labels es m =
-    λ k d from lt. rw add-one
-    (not_before (get_or es k d) (get_or es (suc k) d) (rises_at es k d m (omega (arith, lt))))
+    λ k d from lt.
+    rw add-one (not_before (get_or es k d) (get_or es (suc k) d)
+    (rises_at es k d m (omega (arith, lt))))
 
 same_lists : (rows : Rows) (x y : List Labelled) → IsPermutation (rows_labels rows) x
     → IsMap key_cmp x → IsPermutation (rows_labels rows) y → IsMap key_cmp y → x ≡ y
@@ -71,7 +72,7 @@ same_rows d x y (rows, is, p, m) (others, also, q, n) =
     let same : others ≡ rows = same_Some others rows (sym also ∙ is) in
     same_lists rows x y p m (subst (λ (rs : Rows). IsPermutation (rows_labels rs) y) same q) n
 
--- A text is the language maps of one list of labels at most.
+-- a document reads as one list of labels and no other
 pub same_labels : (bytes : List ℕ) (x y : List Labelled) → AreLangMaps bytes x → AreLangMaps bytes y
     → x ≡ y
 same_labels bytes x y (d, json, passes, reads) (e, also, passes_also, reads_also) =

@@ -31,9 +31,10 @@ seen_insert : {X Y : Type 0} (f : X → Y) (es : List (String Global × X)) (k :
     ≡ put text_cmp (string_bytes k) (f v) (map (seen_as f) es)
 seen_insert f [] k v = refl
 seen_insert f (e ∷ es) k v =
-    elim (string_cmp k e.0) as
-    (λ o. map (seen_as f)
-    (match_ordering o ((k, v) ∷ e ∷ es) ((e.0, v) ∷ es) (e ∷ insert_entry string_cmp es k v))
+    elim (string_cmp k e.0) as (λ o.
+    map (seen_as f)
+    (match_ordering o ((k, v) ∷ e ∷ es) ((e.0, v) ∷ es)
+    (e ∷ insert_entry string_cmp es k v))
     ≡ by_order o (seen_as f (k, v) ∷ map (seen_as f) (e ∷ es))
     (seen_as f (e.0, v) ∷ map (seen_as f) es)
     (seen_as f e ∷ put text_cmp (string_bytes k) (f v) (map (seen_as f) es))) [
@@ -46,8 +47,7 @@ members_by-put : {X : Type 0} (of : Data → X) (k : List ℕ) (d : Data) (ms : 
     → members_by of (plain.put k d ms) ≡ put text_cmp k (of d) (members_by of ms)
 members_by-put of k d no_members = refl
 members_by-put of k d (member l e ms) =
-    elim (text_cmp k l) as
-    (λ o. members_by of
+    elim (text_cmp k l) as (λ o. members_by of
     (match_ordering o (member k d (member l e ms)) (member l d ms)
     (member l e (plain.put k d ms)))
     ≡ by_order o ((k, of d) ∷ (l, of e) ∷ members_by of ms) ((l, of d) ∷ members_by of ms)
@@ -57,7 +57,7 @@ members_by-put of k d (member l e ms) =
       | Greater ↦ ap (λ t. (l, of e) ∷ t) (members_by-put of k d ms)
     ]
 
--- Inserting a member that was read gives what is seen of the object with that member.
+-- a member that is inserted is that of the value, and of two of one name the last counts
 pub member_inserted : {X Y : Type 0} (seen_of : X → Y) (in_data : Data → Y)
     (es : List (String Global × X)) (name : String Global) (x : X) (k : List ℕ) (d : Data)
     (ms : Members)
@@ -79,7 +79,7 @@ one_taken : (vs : List (Value Global)) (k : ℕ) (v : Value Global) → k < leng
 one_taken vs k v h is =
     rw (add-one, take-suc vs k v h) (ap (λ (x : Value Global). take k vs ++ x ∷ []) (sym is))
 
--- One item more adds its string, if it is one, to the strings before it.
+-- one item more gives its string, where it is one
 pub item_strings-push : (vs : List (Value Global)) (k : ℕ) (v : Value Global) → k < length vs
     → v ≡ get_or vs k v
     → filter_map as_str (map seen (take (k + 1) vs))
@@ -93,7 +93,7 @@ and_true : (b : Bool) → (b && true) ≡ b
 and_true true = refl
 and_true false = refl
 
--- Items are all strings or nulls exactly where those before the last are, and the last is.
+-- one item more is to be a string or null
 pub items_fit-push : (vs : List (Value Global)) (k : ℕ) (v : Value Global) → k < length vs
     → v ≡ get_or vs k v
     → list_all is_string_or_null (map seen (take (k + 1) vs))

@@ -51,16 +51,15 @@ use Rattle.site_docs.specs.Fields.{IsSpelled}
 use Rattle.site_docs.specs.Texts.{text}
 use Rattle.site_docs.specs.Values.{texts_value}
 use Rattle.map_docs.specs.LangMapChecks.{IsLabelOrNone, is_marked, is_repeated, keys_checks}
-use Rattle.map_docs.specs.LangMapChecks.{langmaps_checks, message_checks, row_checks, rows_checks}
-use Rattle.map_docs.specs.LangMapChecks.{unless_marked}
+use Rattle.map_docs.specs.LangMapChecks.{langmaps_checks, message_checks, member_checks}
+use Rattle.map_docs.specs.LangMapChecks.{members_checks, unless_marked}
 use Rattle.map_docs.specs.LangMaps.{Labelled}
 use Rattle.map_docs.specs.LangMapsValue.{Languages, Messages, by_message, language_value}
 use Rattle.map_docs.specs.LangMapsValue.{languages_members, langmaps_value, messages_members}
 use Rattle.map_docs.specs.LangMapsValue.{with_label}
 use Rattle.map_docs.specs.LangMapLabels.{AreLangMaps, labelled, languages_of, rows_labels}
-use Rattle.map_docs.specs.LangMapLabels.{unless_skipped}
 use Rattle.map_docs.specs.LangMapLaws.{AreWritable}
-use Rattle.map_docs.specs.LangMapRows.{Keys, Strings, is_string_or_null, keys_of, rows_of}
+use Rattle.map_docs.specs.LangMapRows.{Keys, Strings, is_string_or_null, keys_of, message_rows}
 use Rattle.map_docs.specs.LangMapRows.{strings_in, strings_of}
 use Rattle.json_docs.proofs.ChecksLemmas.{AllPass-both}
 use Rattle.json_docs.proofs.LineFeed.{read-line_feed}
@@ -81,7 +80,7 @@ flat-with_label e (m ∷ ms) = by_id (bytes_eq e.0.0 m.0) (bytes_eq-Decides e.0.
     by_id true same = ap (λ (id : List ℕ). e ∷ (under id m.1 ++ flat ms)) (same.0 refl)
     by_id false same = refl
 
--- Labels grouped by message and made one list again are the labels.
+-- labels by message are the labels
 pub flat-by_message : (es : List Labelled) → flat (by_message es) ≡ es
 flat-by_message [] = refl
 flat-by_message (e ∷ es) = flat-with_label e (by_message es) ∙ ap (λ t. e ∷ t) (flat-by_message es)
@@ -129,7 +128,7 @@ language_back (t ∷ u ∷ ts) = ap (option_map plain.array) (items_back (t ∷ 
 above : (k l : List ℕ) → text_cmp l k ≡ Less → text_cmp k l ≡ Greater
 above k l less = nat_list_cmp_total.antisymm k l ∙ ap ordering_reverse less
 
--- a language above those before it is put after them
+-- a language above those before it goes behind them
 put_language : (front : Languages) (l : List ℕ × List (List ℕ)) (rest : Languages)
     → IsMap text_cmp (front ++ l ∷ rest)
     → plain.put l.0 (language_value l.1) (languages_members front)
@@ -163,7 +162,8 @@ languages_back : (front ls : Languages) → IsMap text_cmp (front ++ ls)
 languages_back front [] m = ap (λ l. Some (languages_members l)) (sym (append-nil front))
 languages_back front (l ∷ ls) m =
     let one_more = append_assoc front (l ∷ []) ls in
-    ap (option_and_then
+    ap
+    (option_and_then
     (λ d. of_members (members_outline (languages_members ls))
     (plain.put l.0 d (languages_members front)))) (language_back l.1)
     ∙ ap (of_members (members_outline (languages_members ls))) (put_language front l ls m)
@@ -183,8 +183,8 @@ below_first k id [] rest some h apart = absurd (some refl)
 below_first k id (l ∷ ls) rest some h apart =
     lesser_id (text_cmp k.0 id) (text_cmp k.1 l.0)
     (less_than (key_cmp k (id, l.0))
-    (first_part (is_lt (key_cmp k (id, l.0))) (below_all key_cmp k (under id ls ++ rest)) h))
-    (is_eq-slice_cmp k.0 id ∙ apart)
+    (first_part (is_lt (key_cmp k (id, l.0))) (below_all key_cmp k (under id ls ++ rest))
+    h)) (is_eq-slice_cmp k.0 id ∙ apart)
   where
     lesser_id : (a b : Ordering) → ordering_then a b ≡ Less → is_eq a ≡ false → a ≡ Less
     lesser_id Less b h e = refl
@@ -227,14 +227,15 @@ with_label-rises e (n ∷ ms) h m r = by_id (bytes_eq e.0.0 n.0) refl
     rest = second_part (below_all text_cmp n.0 ms) (is_sorted text_cmp ms) m
 
     by_id : (b : Bool) → bytes_eq e.0.0 n.0 ≡ b
-        → (let made : Messages = if b then
-        (e.0.0, here ∷ n.1) ∷ ms else (e.0.0, here ∷ []) ∷ n ∷ ms in
+        → (let made : Messages =
+        if b then (e.0.0, here ∷ n.1) ∷ ms else (e.0.0, here ∷ []) ∷ n ∷ ms in
         IsMap text_cmp made × AreRising made)
     by_id true is =
         let same : e.0.0 ≡ n.0 = (bytes_eq-Decides e.0.0 n.0).0 is in
         let within =
         below_within n.0 e.0.1 n.1 (flat ms)
-        (subst (λ (id : List ℕ). T (below_all key_cmp (id, e.0.1) (under n.0 n.1 ++ flat ms)))
+        (subst
+        (λ (id : List ℕ). T (below_all key_cmp (id, e.0.1) (under n.0 n.1 ++ flat ms)))
         same h) in (
           both_parts (below_all text_cmp e.0.0 ms) (is_sorted text_cmp ms)
               (subst (λ (id : List ℕ). T (below_all text_cmp id ms)) (sym same) behind) rest,
@@ -271,7 +272,8 @@ put_message : (front : Messages) (m : List ℕ × Languages) (rest : Messages)
     ≡ messages_members (front ++ m ∷ [])
 put_message [] m rest rising = refl
 put_message (f ∷ front) m rest rising =
-    ap (λ o. match_ordering o
+    ap
+    (λ o. match_ordering o
     (member m.0 (plain.object (languages_members m.1)) (messages_members (f ∷ front)))
     (member f.0 (plain.object (languages_members m.1)) (messages_members front))
     (member f.0 (plain.object (languages_members f.1))
@@ -299,7 +301,8 @@ messages_back : (front ms : Messages) → IsMap text_cmp (front ++ ms) → AreRi
 messages_back front [] m r = ap (λ l. Some (messages_members l)) (sym (append-nil front))
 messages_back front (n ∷ ms) m r =
     let one_more = append_assoc front (n ∷ []) ms in
-    ap (option_and_then
+    ap
+    (option_and_then
     (λ d. of_members (members_outline (messages_members ms))
     (plain.put n.0 d (messages_members front))))
     (ap (option_map plain.object) (languages_back [] n.1 r.0))
@@ -307,7 +310,7 @@ messages_back front (n ∷ ms) m r =
     ∙ messages_back (front ++ n ∷ []) ms (subst (IsMap text_cmp) (sym one_more) m) r.2
     ∙ ap (λ l. Some (messages_members l)) one_more
 
--- Language maps that are written as JSON read back as the same data.
+-- the value of labels reads as itself
 pub langmaps_back : (es : List Labelled) → IsMap key_cmp es
     → of_json (outline (langmaps_value es)) ≡ Some (langmaps_value es)
 langmaps_back es m = let rises = by_message-rises es m in
@@ -341,8 +344,8 @@ lower_bytes (b ∷ text) h =
 lower_piece : (s : List ℕ) → is_private_piece s ≡ true → str_to_ascii_lowercase s ≡ s
 unfolding is_private_piece is_run
 lower_piece s h =
-    lower_bytes s
-    (each_true (nat_le 1 (length s) && nat_le (length s) 8) (list_all is_alphanum s) h).1
+    lower_bytes s (each_true (nat_le 1 (length s) && nat_le (length s) 8) (list_all is_alphanum s)
+    h).1
 
 lower_pieces : (place : ℕ) (list : List (List ℕ)) → are_allowed tag_piece place list ≡ true
     → lowered list ≡ list
@@ -383,12 +386,9 @@ writable_rest id (l ∷ ls) rest w = writable_rest id ls rest w.1
 unmarked : (id : List ℕ) → slice_get id 0 ≢ Some 64 → is_marked id ≡ false
 unmarked [] h = refl
 unmarked (b ∷ id) h =
-    elim (b == 64) as
-    (λ t. (b == 64) ≡ t → t ≡ false) [
-      | true ↦
-          λ is. absurd (h (ap Some (eqb-true b 64 is)))
-      | false ↦ λ is. refl
-    ] refl
+    elim (b == 64) as (λ t. (b == 64) ≡ t
+    → t ≡ false) [ true ↦ λ is. absurd (h (ap Some (eqb-true b 64 is))) | false ↦ λ is. refl ]
+    refl
 
 first_id : (id : List ℕ) (ls : Languages) (rest : List Labelled) → length ls ≢ 0
     → AreWritable (under id ls ++ rest) → IsMessageId id
@@ -396,20 +396,20 @@ first_id id [] rest some w = absurd (some refl)
 first_id id (l ∷ ls) rest some w = w.0.id
 
 rows_back : (ms : Messages) → AreRising ms → AreWritable (flat ms)
-    → rows_labels (rows_of (messages_members ms)) ≡ flat ms
+    → rows_labels (message_rows (messages_members ms)) ≡ flat ms
 rows_back [] r w = refl
 rows_back (m ∷ ms) r w =
     let id = first_id m.0 m.1 (flat ms) r.1 w in
     ap₂ (λ (a b : List Labelled). a ++ b)
-    (ap (λ b. unless_skipped b (under m.0 (languages_of (keys_of (languages_members m.1)))))
+    (ap (λ b. unless_marked b (under m.0 (languages_of (keys_of (languages_members m.1)))))
     (unmarked m.0 id.unmarked)
     ∙ ap (λ ks. under m.0 (languages_of ks)) (keys_of-languages m.1)
     ∙ ap (under m.0) (languages_of-back m.0 m.1 (flat ms) w))
     (rows_back ms r.2 (writable_rest m.0 m.1 (flat ms) w))
 
--- The rows of written language maps have the labels that were written.
+-- the rows of the value have the labels
 pub labels_back : (es : List Labelled) → IsMap key_cmp es → AreWritable es
-    → rows_labels (rows_of (messages_members (by_message es))) ≡ es
+    → rows_labels (message_rows (messages_members (by_message es))) ≡ es
 labels_back es m w =
     let rises = by_message-rises es m in
     rows_back (by_message es) rises.1 (subst AreWritable (sym (flat-by_message es)) w)
@@ -472,7 +472,8 @@ keys_pass_back k id before (l ∷ ls) rest w m all = (
 
     laters : (bs : List (List ℕ))
         → AllByRecursion (λ b. T (below_all text_cmp b (l ∷ ls)) × (str_to_ascii_lowercase b ≡ b))
-        bs → AllByRecursion (λ b. T (below_all text_cmp b ls) × (str_to_ascii_lowercase b ≡ b))
+        bs
+        → AllByRecursion (λ b. T (below_all text_cmp b ls) × (str_to_ascii_lowercase b ≡ b))
         (bs ++ l.0 ∷ [])
     laters [] h = (
       (
@@ -483,20 +484,19 @@ keys_pass_back k id before (l ∷ ls) rest w m all = (
     )
     laters (b ∷ bs) h = (
       (second_part (is_lt (text_cmp b l.0)) (below_all text_cmp b ls) h.0.0, h.0.1),
-      laters bs
-          h.1,
+      laters bs h.1,
     )
 
 rows_pass_back : (k : ℕ) (ms : Messages) → AreRising ms → AreWritable (flat ms)
-    → AllPass (rows_checks k (rows_of (messages_members ms)))
+    → AllPass (members_checks k (message_rows (messages_members ms)))
 rows_pass_back k [] r w = tt
 rows_pass_back k (m ∷ ms) r w =
     let id = first_id m.0 m.1 (flat ms) r.1 w in
-    AllPass-both (row_checks k (m.0, Some (keys_of (languages_members m.1))))
-    (rows_checks (k + 1) (rows_of (messages_members ms)))
+    AllPass-both (member_checks k (m.0, Some (keys_of (languages_members m.1))))
+    (members_checks (k + 1) (message_rows (messages_members ms)))
     (subst
-    (λ b. AllPass
-    (unless_marked b (message_checks k m.0 (Some (keys_of (languages_members m.1))))))
+    (λ b. AllPass (unless_marked b
+    (message_checks k m.0 (Some (keys_of (languages_members m.1))))))
     (sym (unmarked m.0 id.unmarked)) (
       id,
       (
@@ -507,7 +507,7 @@ rows_pass_back k (m ∷ ms) r w =
     ))
     (rows_pass_back (k + 1) ms r.2 (writable_rest m.0 m.1 (flat ms) w))
 
--- Written language maps pass all checks.
+-- the value of labels passes all tests
 pub passes_back : (es : List Labelled) → IsMap key_cmp es → AreWritable es
     → AllPass (langmaps_checks (langmaps_value es))
 passes_back es m w =
@@ -571,12 +571,12 @@ text_back : (d : Data) → depth (outline d) ≤ 127 → HasNumbers (outline d)
 text_back d shallow numbers back =
     read-line_feed (compact_text d) ∙ ap whole (value_back d shallow numbers) ∙ back
 
--- The text that is written for labels is the language maps of these labels.
+-- the text of labels reads as them
 pub reads_back : (es : List Labelled) → IsMap key_cmp es → AreWritable es
     → IsUtf8 (text (langmaps_value es)) → AreLangMaps (text (langmaps_value es)) es
 reads_back es m w utf8 =
     let within = messages_shallow (by_message es) in
-    let rows = rows_of (messages_members (by_message es)) in (
+    let rows = message_rows (messages_members (by_message es)) in (
       langmaps_value es,
       (utf8, text_back (langmaps_value es) (omega (arith, within.0)) within.1 (langmaps_back es m)),
       passes_back es m w,

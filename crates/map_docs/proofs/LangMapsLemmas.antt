@@ -17,7 +17,7 @@ use Rattle.map_docs.specs.LangMapsWritten.{label_tokens, labels_tokens, opening_
 use Rattle.map_docs.specs.declared.maps.KeyedLabel.{KeyedLabel}
 use Rattle.site_docs.proofs.TextsLemmas.{printed}
 
--- A label pushed to a list adds its key and texts to the list's.
+-- one label more is pushed after the others
 pub labels_push : (labels : List KeyedLabel) (l : KeyedLabel)
     → labels_of (labels ++ l ∷ []) ≡ labels_of labels ++ ((l.id, l.lang), l.label) ∷ []
 labels_push labels l = map-append (λ (l : KeyedLabel). ((l.id, l.lang), l.label)) labels (l ∷ [])
@@ -32,8 +32,8 @@ messages_tokens ms = members_tokens (members_outline (messages_members ms))
 abbrev tokens_after : List ℕ → Messages → List Token
 tokens_after id [] = end_object ∷ end_object ∷ []
 tokens_after id (m ∷ ms) =
-    if bytes_eq id m.0 then
-    members_tokens (members_outline (languages_members m.1)) ++ messages_tokens ms
+    if bytes_eq id m.0
+    then members_tokens (members_outline (languages_members m.1)) ++ messages_tokens ms
     else end_object ∷ messages_tokens (m ∷ ms)
 
 abbrev tokens_from : Option (List ℕ) → Messages → List Token
@@ -54,18 +54,16 @@ within e [] =
 within e (m ∷ ms) =
     let texts = value_tokens (language_value e.1) in
     let here : List ℕ × List (List ℕ) = (e.0.1, e.1) in
-    elim (bytes_eq e.0.0 m.0) as
-    (λ b. tokens_within (if b then (e.0.0, here ∷ m.1) ∷ ms else (e.0.0, here ∷ []) ∷ m ∷ ms)
+    elim (bytes_eq e.0.0 m.0) as (λ b.
+    tokens_within (if b then (e.0.0, here ∷ m.1) ∷ ms else (e.0.0, here ∷ []) ∷ m ∷ ms)
     ≡ label_tokens e
-    ++ (if b then
-    members_tokens (members_outline (languages_members m.1))
-    ++ messages_tokens ms else end_object ∷ messages_tokens (m ∷ ms))) [
-      | true ↦
-          ap (λ t. key e.0.1 ∷ t)
+    ++ (if b then members_tokens (members_outline (languages_members m.1)) ++ messages_tokens ms
+    else end_object ∷ messages_tokens (m ∷ ms))) [
+      | true ↦ ap (λ t. key e.0.1 ∷ t)
           (append_assoc texts (members_tokens (members_outline (languages_members m.1)))
           (messages_tokens ms))
-      | false ↦
-          ap (λ t. key e.0.1 ∷ t) (append_assoc texts (end_object ∷ []) (messages_tokens (m ∷ ms)))
+      | false ↦ ap (λ t. key e.0.1 ∷ t)
+          (append_assoc texts (end_object ∷ []) (messages_tokens (m ∷ ms)))
     ]
 
 -- the first message is that of the label
@@ -74,34 +72,25 @@ whole_first : (e : Labelled) (ms : Messages)
 whole_first e [] = refl
 whole_first e (m ∷ ms) =
     let here : List ℕ × List (List ℕ) = (e.0.1, e.1) in
-    let two : Bool → Messages = λ b. if b then
-    (e.0.0, here ∷ m.1) ∷ ms else (e.0.0, here ∷ []) ∷ m ∷ ms in
-    elim (bytes_eq e.0.0 m.0) as
-    (λ b. messages_tokens (two b) ≡ key e.0.0 ∷ begin_object ∷ tokens_within (two b)) [
-      | true ↦
-          refl
-      | false ↦ refl
-    ]
+    let two : Bool
+    → Messages = λ b. if b then (e.0.0, here ∷ m.1) ∷ ms else (e.0.0, here ∷ []) ∷ m ∷ ms in
+    elim (bytes_eq e.0.0 m.0) as (λ b. messages_tokens (two b)
+    ≡ key e.0.0 ∷ begin_object ∷ tokens_within (two b)) [ true ↦ refl | false ↦ refl ]
 
 after_first : (id : List ℕ) (e : Labelled) (ms : Messages)
     → tokens_after id (with_label e ms)
-    ≡ (if bytes_eq id e.0.0 then
-    tokens_within (with_label e ms) else end_object ∷ messages_tokens (with_label e ms))
+    ≡ (if bytes_eq id e.0.0 then tokens_within (with_label e ms)
+    else end_object ∷ messages_tokens (with_label e ms))
 after_first id e [] = refl
 after_first id e (m ∷ ms) =
     let here : List ℕ × List (List ℕ) = (e.0.1, e.1) in
-    let two : Bool → Messages = λ b. if b then
-    (e.0.0, here ∷ m.1) ∷ ms else (e.0.0, here ∷ []) ∷ m ∷ ms in
-    elim (bytes_eq e.0.0 m.0) as
-    (λ b. tokens_after id (two b)
-    ≡ (if bytes_eq id e.0.0 then
-    tokens_within (two b) else end_object ∷ messages_tokens (two b))) [
-      | true ↦ refl
-      | false ↦
-          refl
-    ]
+    let two : Bool
+    → Messages = λ b. if b then (e.0.0, here ∷ m.1) ∷ ms else (e.0.0, here ∷ []) ∷ m ∷ ms in
+    elim (bytes_eq e.0.0 m.0) as (λ b. tokens_after id (two b)
+    ≡ (if bytes_eq id e.0.0 then tokens_within (two b)
+    else end_object ∷ messages_tokens (two b))) [ true ↦ refl | false ↦ refl ]
 
--- a label before the messages: what opens its own, its tokens, and what follows it
+-- a label in front of the messages: what opens its own, its tokens, and what follows it
 from_label : (current : Option (List ℕ)) (e : Labelled) (ms : Messages)
     → tokens_from current (with_label e ms)
     ≡ opening_tokens current e.0.0 ++ (label_tokens e ++ tokens_after e.0.0 ms)
@@ -109,17 +98,16 @@ from_label None e ms = whole_first e ms ∙ ap (λ t. key e.0.0 ∷ begin_object
 from_label (Some id) e ms =
     let rest = label_tokens e ++ tokens_after e.0.0 ms in
     after_first id e ms
-    ∙ elim (bytes_eq id e.0.0) as
-    (λ b. (if b then
-    tokens_within (with_label e ms) else end_object ∷ messages_tokens (with_label e ms))
+    ∙ elim (bytes_eq id e.0.0) as (λ b.
+    (if b then tokens_within (with_label e ms)
+    else end_object ∷ messages_tokens (with_label e ms))
     ≡ (if b then [] else end_object ∷ key e.0.0 ∷ begin_object ∷ []) ++ rest) [
       | true ↦ within e ms
-      | false ↦
-          ap (λ t. end_object ∷ t)
+      | false ↦ ap (λ t. end_object ∷ t)
           (whole_first e ms ∙ ap (λ t. key e.0.0 ∷ begin_object ∷ t) (within e ms))
     ]
 
--- The tokens written label by label are those of the labels grouped by message.
+-- labels are written as their messages
 pub all_tokens : (current : Option (List ℕ)) (es : List Labelled)
     → labels_tokens current es ≡ tokens_from current (by_message es)
 all_tokens None [] = refl

@@ -29,14 +29,12 @@ or_false false = refl
 -- nothing is written yet
 pub writing_first : (draft : Written) (all : List Labelled) → draft.before ≡ []
     → draft.tokens ≡ begin_object ∷ [] → IsWriting draft None all all
-writing_first draft all none is =
-    record {
-      before = none;
-      tokens = ap (λ t. t ++ labels_tokens None all) is;
-      writable =
-          λ w. w;
-      found = refl;
-    }
+writing_first draft all none is = record {
+  before = none;
+  tokens = ap (λ t. t ++ labels_tokens None all) is;
+  writable = λ w. w;
+  found = refl;
+}
 
 -- one label more is written
 pub writing_next : (old new : Written) (current : Option (List ℕ)) (e : Labelled)
@@ -58,7 +56,7 @@ pub found_last : (draft : Written) (current : Option (List ℕ)) (all : List Lab
     → IsWriting draft current [] all → is_some current ≡ has_label all
 found_last draft current all w = sym (or_false (is_some current)) ∙ w.found
 
--- There is a borrowed value exactly where there is its value.
+-- a borrowed value is there where the value is
 pub some_lent : {A : Type 0} (o : Option (Bor A)) → is_some o ≡ is_some (option_map (λ x. x.now) o)
 some_lent None = refl
 some_lent (Some x) = refl
@@ -68,11 +66,10 @@ pub text_of : {E : Type 0} (all : List Labelled) (result : Result (List ℕ) E) 
     → AreWritable all → IfOk result (λ doc. doc ≡ text (langmaps_value all))
     → IfOk result (λ doc. IsUtf8 doc)
     → IfOk result (IsTextOf all)
-text_of all (Ok doc) m w is utf8 =
-    record {
-      text_is = is;
-      reads =
-          subst (λ (d : List ℕ). AreLangMaps d all) (sym is)
-          (reads_back all m w (subst IsUtf8 is utf8));
-    }
+text_of all (Ok doc) m w is utf8 = record {
+  text_is = is;
+  reads =
+      subst (λ (d : List ℕ). AreLangMaps d all) (sym is)
+      (reads_back all m w (subst IsUtf8 is utf8));
+}
 text_of all (Err e) m w is utf8 = tt

@@ -10,7 +10,7 @@ use Rattle.json_docs.specs.declared.fault.DocCause.{DocCause}
 use Rattle.json_docs.specs.declared.fault.DocCause.TheVariants.{RepeatedTag, Shape}
 use Rattle.json_docs.specs.declared.fault.Spot.TheVariants.{Document, Row}
 use Rattle.site_docs.specs.Fields.{IsLabelRefusal, id_check, language_check}
-use Rattle.map_docs.specs.LangMapRows.{Keys, Rows, Strings, rows_in}
+use Rattle.map_docs.specs.LangMapRows.{Keys, Rows, Strings, message_rows_in}
 
 -- an earlier key is equal without case
 abbrev pub is_repeated : List (List ℕ) → List ℕ → Bool
@@ -28,9 +28,11 @@ abbrev pub IsStringsRefusal : ℕ → List (List ℕ) → DocCause → Type 0
 IsStringsRefusal k [] e = ⊥
 IsStringsRefusal k (t ∷ ts) e = IsLabelRefusal k (Some (t ∷ ts)) e
 
-abbrev pub label_check : ℕ → List (List ℕ) → Check
-label_check k strings =
-    record { passes = IsLabelOrNone strings; refuses = IsStringsRefusal k strings }
+abbrev pub strings_check : ℕ → List (List ℕ) → Check
+strings_check k strings = record {
+  passes = IsLabelOrNone strings;
+  refuses = IsStringsRefusal k strings;
+}
 
 -- the tests of a key of row k after the keys before it
 abbrev pub key_checks : ℕ → List (List ℕ) → List ℕ → Strings → List Check
@@ -38,7 +40,7 @@ key_checks k before key strings =
     language_check k key
     ∷ check (is_repeated before key ≡ false) (RepeatedTag k)
     ∷ check (is_some strings ≡ true) (Shape (Row k))
-    ∷ label_check k (unwrap_or strings [])
+    ∷ strings_check k (unwrap_or strings [])
     ∷ []
 
 abbrev pub keys_checks : ℕ → List (List ℕ) → Keys → List Check
@@ -57,19 +59,21 @@ message_checks k name keys =
     ∷ check (is_some keys ≡ true) (Shape (Row k))
     ∷ keys_checks k [] (unwrap_or keys [])
 
-abbrev pub unless_marked : Bool → List Check → List Check
-unless_marked true checks = []
-unless_marked false checks = checks
+-- what a member gives, which is nothing where its name is marked
+abbrev pub unless_marked {ℓ} : {X : Type ℓ} → Bool → List X → List X
+unless_marked true xs = []
+unless_marked false xs = xs
 
 -- a member whose name begins with "@" is no message, and its value is free
-abbrev pub row_checks : ℕ → List ℕ × Option Keys → List Check
-row_checks k r = unless_marked (is_marked r.0) (message_checks k r.0 r.1)
+abbrev pub member_checks : ℕ → List ℕ × Option Keys → List Check
+member_checks k r = unless_marked (is_marked r.0) (message_checks k r.0 r.1)
 
 -- the tests of the rows from the k-th on
-abbrev pub rows_checks : ℕ → Rows → List Check
-rows_checks k [] = []
-rows_checks k (r ∷ rs) = row_checks k r ++ rows_checks (k + 1) rs
+abbrev pub members_checks : ℕ → Rows → List Check
+members_checks k [] = []
+members_checks k (r ∷ rs) = member_checks k r ++ members_checks (k + 1) rs
 
 abbrev pub langmaps_checks : Data → List Check
 langmaps_checks d =
-    check (is_some (rows_in d) ≡ true) (Shape Document) ∷ rows_checks 0 (unwrap_or (rows_in d) [])
+    check (is_some (message_rows_in d) ≡ true) (Shape Document)
+    ∷ members_checks 0 (unwrap_or (message_rows_in d) [])

@@ -1,5 +1,5 @@
 -- The labels of a language-map document (JSON-LD 1.1, sections 4.6.2 and 9.8).
-use Rattle.std.specs.Prelude.{◌≡◌, ℕ, Bool, true, false, List, [], ◌∷◌, Option, None, Some}
+use Rattle.std.specs.Prelude.{◌≡◌, ℕ, List, [], ◌∷◌, Option, None, Some}
 use Rattle.std.specs.Prelude.{unwrap_or}
 use Rattle.std.specs.List.{filter_map, flat_map}
 use Rattle.std.specs.List.Sorted.{IsPermutation}
@@ -10,8 +10,8 @@ use Rattle.cata_core.specs.Flat.{under}
 use Rattle.serde_json.specs.Data.{Data}
 use Rattle.json_docs.specs.Checks.{AllPass, AreJson, IsRefusal}
 use Rattle.json_docs.specs.declared.fault.DocCause.{DocCause}
-use Rattle.map_docs.specs.LangMapChecks.{is_marked, langmaps_checks}
-use Rattle.map_docs.specs.LangMapRows.{Keys, Rows, Strings, rows_in}
+use Rattle.map_docs.specs.LangMapChecks.{is_marked, langmaps_checks, unless_marked}
+use Rattle.map_docs.specs.LangMapRows.{Keys, Rows, Strings, message_rows_in}
 use Rattle.map_docs.specs.LangMaps.{Labelled}
 use Rattle.map_docs.specs.LangMapsValue.{Languages}
 
@@ -25,13 +25,9 @@ labelled (key, Some (t ∷ ts)) = Some (str_to_ascii_lowercase key, t ∷ ts)
 abbrev pub languages_of : Keys → Languages
 languages_of keys = filter_map labelled keys
 
-abbrev pub unless_skipped : Bool → List Labelled → List Labelled
-unless_skipped true labels = []
-unless_skipped false labels = labels
-
 -- the labels of a row; a name that begins with "@" is skipped
 abbrev pub row_labels : List ℕ × Option Keys → List Labelled
-row_labels r = unless_skipped (is_marked r.0) (under r.0 (languages_of (unwrap_or r.1 [])))
+row_labels r = unless_marked (is_marked r.0) (under r.0 (languages_of (unwrap_or r.1 [])))
 
 -- the labels of all rows, in the order of the rows and their keys
 abbrev pub rows_labels : Rows → List Labelled
@@ -40,7 +36,7 @@ rows_labels rows = flat_map row_labels rows
 -- the document's labels, in rising order of key
 abbrev pub ReadsAsLangMaps : Data → List Labelled → Type 0
 ReadsAsLangMaps d labels =
-    (rows : Rows) × (rows_in d ≡ Some rows) × IsPermutation (rows_labels rows) labels
+    (rows : Rows) × (message_rows_in d ≡ Some rows) × IsPermutation (rows_labels rows) labels
     × IsMap key_cmp labels
 
 -- the bytes are the text of a language-map document with these labels

@@ -13,8 +13,8 @@ use Rattle.map_docs.specs.LangMapsValue.{langmaps_value}
 
 -- the bytes of a document have one list of labels
 abbrev pub OneReading : Type 0
-OneReading =
-    (bytes : List ℕ) (x y : List Labelled) → AreLangMaps bytes x → AreLangMaps bytes y → x ≡ y
+OneReading = (bytes : List ℕ) (x y : List Labelled) → AreLangMaps bytes x → AreLangMaps bytes y
+    → x ≡ y
 
 -- a label of a message in a language
 pub record IsWritable (e : Labelled) : Type 0 where
@@ -27,6 +27,5 @@ AreWritable labels = AllByRecursion IsWritable labels
 
 -- labels that rise read from their own document
 abbrev pub ReadsBack : Type 0
-ReadsBack =
-    (labels : List Labelled) → IsMap key_cmp labels → AreWritable labels
+ReadsBack = (labels : List Labelled) → IsMap key_cmp labels → AreWritable labels
     → IsUtf8 (text (langmaps_value labels)) → AreLangMaps (text (langmaps_value labels)) labels

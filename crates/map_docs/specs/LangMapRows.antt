@@ -53,9 +53,10 @@ keys_of = members_by strings_in
 abbrev pub keys_in : Data → Option Keys
 keys_in d = option_map keys_of (as_object d)
 
-abbrev pub rows_of : Members → Rows
-rows_of = members_by keys_in
+-- the members of the document: messages with their language maps
+abbrev pub message_rows : Members → Rows
+message_rows = members_by keys_in
 
 -- the document is an object
-abbrev pub rows_in : Data → Option Rows
-rows_in d = option_map rows_of (as_object d)
+abbrev pub message_rows_in : Data → Option Rows
+message_rows_in d = option_map message_rows (as_object d)

@@ -17,8 +17,9 @@ Messages = List (List ℕ × Languages)
 -- the label goes to the first message where that is its own, else to a new one before it
 abbrev pub with_label : Labelled → Messages → Messages
 with_label e [] = (e.0.0, (e.0.1, e.1) ∷ []) ∷ []
-with_label e (m ∷ ms) = if bytes_eq e.0.0 m.0 then
-    (e.0.0, (e.0.1, e.1) ∷ m.1) ∷ ms else (e.0.0, (e.0.1, e.1) ∷ []) ∷ m ∷ ms
+with_label e (m ∷ ms) =
+    if bytes_eq e.0.0 m.0 then (e.0.0, (e.0.1, e.1) ∷ m.1) ∷ ms
+    else (e.0.0, (e.0.1, e.1) ∷ []) ∷ m ∷ ms
 
 -- labels in rising order of key, by their messages
 abbrev pub by_message : List Labelled → Messages

@@ -18,8 +18,8 @@ closing_tokens (Some id) = end_object ∷ []
 -- from the current message to this one
 abbrev pub opening_tokens : Option (List ℕ) → List ℕ → List Token
 opening_tokens None id = key id ∷ begin_object ∷ []
-opening_tokens (Some current) id = if bytes_eq current id then
-    [] else end_object ∷ key id ∷ begin_object ∷ []
+opening_tokens (Some current) id =
+    if bytes_eq current id then [] else end_object ∷ key id ∷ begin_object ∷ []
 
 -- a language and its label
 abbrev pub label_tokens : Labelled → List Token
@@ -32,8 +32,8 @@ labels_tokens current (e ∷ es) =
     opening_tokens current e.0.0 ++ (label_tokens e ++ labels_tokens (Some e.0.0) es)
 
 -- a draft in the current message: with what is left it comes to all labels
-pub record IsWriting (draft : Written) (current : Option (List ℕ)) (left all : List Labelled) : Type
-    0 where
+pub record IsWriting (draft : Written) (current : Option (List ℕ))
+    (left all : List Labelled) : Type 0 where
   pub before : draft.before ≡ []
   pub tokens : draft.tokens ++ labels_tokens current left ≡ begin_object ∷ labels_tokens None all
   pub writable : AreWritable left → AreWritable all

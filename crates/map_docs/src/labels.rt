@@ -11,8 +11,8 @@ ghost use Rattle.json_docs.specs.declared.fault.DocCause.TheVariants.{Shape as S
 ghost use Rattle.json_docs.specs.declared.fault.FieldFault.TheVariants.{Cell};
 ghost use Rattle.json_docs.specs.declared.fault.Spot.TheVariants.{Row as InRow};
 ghost use Rattle.map_docs.specs.LangMapChecks.{IsLabelOrNone, IsStringsRefusal, is_marked};
-ghost use Rattle.map_docs.specs.LangMapChecks.{key_checks, keys_checks, message_checks, row_checks};
-ghost use Rattle.map_docs.specs.LangMapChecks.{rows_checks};
+ghost use Rattle.map_docs.specs.LangMapChecks.{key_checks, keys_checks, message_checks};
+ghost use Rattle.map_docs.specs.LangMapChecks.{member_checks, members_checks};
 ghost use Rattle.map_docs.specs.LangMapLabels.{languages_of, rows_labels};
 ghost use Rattle.map_docs.specs.LangMapRows.{Keys as PlainKeys};
 ghost use Rattle.map_docs.specs.LangMapRowsSeen.{AddsLanguages, AddsRow, AreLesser, HoldsKeys};
@@ -33,13 +33,13 @@ use std::collections::BTreeMap;
 /// The labels of the rows in rising order of key, or the refusal of the first test that fails.
 pub(crate) fn labels_of(alloc: Global, rows: Rows) -> Result<LangMaps, DocCause>
     ensures { MatchResult result
-        (λ maps. AllPass (rows_checks 0 (rows_seen rows.entries))
+        (λ maps. AllPass (members_checks 0 (rows_seen rows.entries))
         × IsPermutation (rows_labels (rows_seen rows.entries)) maps × IsMap key_cmp maps)
-        (OrMemory NoMemory (FirstFails (rows_checks 0 (rows_seen rows.entries)))) }
+        (OrMemory NoMemory (FirstFails (members_checks 0 (rows_seen rows.entries)))) }
 {
     let mut maps = LangMaps::with_capacity(alloc, rows.len())?;
     let mut row = 0;
-    'rows: for (name, keys) in rows {
+    for (name, keys) in rows {
         add_row(alloc, &mut maps, row, name, keys)?;
         row += 1;
     }
@@ -58,10 +58,11 @@ fn add_row(
     requires lesser { AreLesser maps.old (string_bytes name) }
     requires sorted { IsMap key_cmp maps.old }
     ensures ok { OnOk result
-        (AllPass (row_checks row (string_bytes name, keys_in_seen keys))
+        (AllPass (member_checks row (string_bytes name, keys_in_seen keys))
         × AddsRow maps.old maps.new (string_bytes name, keys_in_seen keys)) }
     ensures err { IfErr result
-        (OrMemory NoMemory (FirstFails (row_checks row (string_bytes name, keys_in_seen keys)))) }
+        (OrMemory NoMemory
+        (FirstFails (member_checks row (string_bytes name, keys_in_seen keys)))) }
 {
     if is_marked(&name) {
         return Ok(());
@@ -91,7 +92,8 @@ fn add_message(
     requires sorted { IsMap key_cmp maps.old }
     ensures ok { OnOk result
         (AllPass (message_checks row (string_bytes name) (keys_in_seen keys))
-        × AddsLanguages maps.old maps.new (string_bytes name) (unwrap_or (keys_in_seen keys) [])) }
+        × AddsLanguages maps.old maps.new (string_bytes name)
+        (unwrap_or (keys_in_seen keys) [])) }
     ensures err { IfErr result
         (OrMemory NoMemory
         (FirstFails (message_checks row (string_bytes name) (keys_in_seen keys)))) }
@@ -133,7 +135,7 @@ fn languages_of(
         (OrMemory NoMemory (FirstFails (keys_checks row [] (keys_seen keys.items)))) }
 {
     let mut found = BTreeMap::new(alloc);
-    'keys: for (key, strings) in keys {
+    for (key, strings) in keys {
         add_key(alloc, &mut found, row, key, strings)?;
     }
     Ok(found)
@@ -152,8 +154,8 @@ fn add_key(
         × HoldsKeys (before ++ (string_bytes key, strings_seen strings) ∷ []) found.new.entries) }
     ensures err { IfErr result
         (OrMemory NoMemory (λ e. (before : PlainKeys) → HoldsKeys before found.old.entries
-        → FirstFails
-        (key_checks row (map (λ m. m.0) before) (string_bytes key) (strings_seen strings)) e)) }
+        → FirstFails (key_checks row (map (λ m. m.0) before) (string_bytes key)
+        (strings_seen strings)) e)) }
 {
     let lang = language_of(alloc, row, key.as_str())?;
     if found.contains_key(&lang) {
@@ -194,7 +196,7 @@ fn push_languages(
     requires { IsMap key_cmp (maps.old ++ under id.now (live found.entries)) }
     ensures { OnOk result (maps.new ≡ maps.old ++ under id.now (live found.entries)) }
 {
-    'found: for (lang, label) in found {
+    for (lang, label) in found {
         if let Some(label) = label {
             maps.push(id.copy(alloc)?, lang, label)?;
         }

@@ -13,8 +13,8 @@ ghost use Rattle.json_docs.specs.Numbers.{are_in_range};
 ghost use Rattle.json_docs.specs.Reads.{AreRead, IsRead, Reads, seen};
 ghost use Rattle.json_docs.specs.declared.fault.DocCause.TheVariants.{NoMemory, NotJson};
 ghost use Rattle.map_docs.specs.LangMapRows.{Keys as PlainKeys, Strings as PlainStrings};
-ghost use Rattle.map_docs.specs.LangMapRows.{is_string_or_null, keys_in, members_by, rows_in};
-ghost use Rattle.map_docs.specs.LangMapRows.{rows_of, strings_in, strings_of};
+ghost use Rattle.map_docs.specs.LangMapRows.{is_string_or_null, keys_in, members_by};
+ghost use Rattle.map_docs.specs.LangMapRows.{message_rows, message_rows_in, strings_in, strings_of};
 ghost use Rattle.map_docs.specs.LangMapRowsSeen.{keys_in_seen, members_seen, rows_in_seen};
 ghost use Rattle.map_docs.specs.LangMapRowsSeen.{rows_seen, strings_seen};
 
@@ -34,7 +34,7 @@ const KEY_DEPTH: usize = MOST_DEPTH - 2;
 /// members of one name the last counts.
 pub(crate) fn read_rows(alloc: Global, text: &str) -> Result<Option<Rows>, DocCause>
     ensures { MatchResult result
-        (λ rows. (d : Data) × (read text.now ≡ Some d) × (rows_in_seen rows ≡ rows_in d))
+        (λ rows. (d : Data) × (read text.now ≡ Some d) × (rows_in_seen rows ≡ message_rows_in d))
         (OrMemory NoMemory (λ e. (e ≡ NotJson) × (read text.now ≡ None))) }
 {
     let mut scratch = Scratch::new(alloc);
@@ -54,7 +54,7 @@ fn read_rest(alloc: Global, reader: &mut Reader<'_>) -> Result<Rows, DocCause>
     requires { are_in_range reader.old ≡ true }
     ensures { MatchResult result
         (λ rows. (ms : Members) × ReadsMembers 126 reader.old ms []
-        × (rows_seen rows.entries ≡ rows_of ms))
+        × (rows_seen rows.entries ≡ message_rows ms))
         (OrMemory NoMemory (λ e. (e ≡ NotJson) × IsNotWhole reader.old)) }
 {
     let rows = read_members(alloc, reader)?;
@@ -102,7 +102,7 @@ fn read_members<V: MemberValue + Drop>(
     ensures shorter { OnOk result (length reader.new < length reader.old) }
 {
     let mut found = BTreeMap::new(alloc);
-    'members: while let Some(name) = next_name(reader)? {
+    while let Some(name) = next_name(reader)? {
         let value = V::read(alloc, reader)?;
         let name = String::from_str(alloc, name)?;
         drop(found.insert(name, value)?);
@@ -175,7 +175,7 @@ fn keys_of(alloc: Global, members: BTreeMap<String, Strings>) -> Result<Keys, Al
     ensures { IfOk result (λ keys. keys.items ≡ members.entries) }
 {
     let mut keys = Vec::with_capacity(alloc, members.len())?;
-    'members: for member in members {
+    for member in members {
         keys.push(member)?;
     }
     Ok(keys)
@@ -190,7 +190,7 @@ fn pass_items(reader: &mut Reader<'_>) -> Result<(), DocCause>
     ensures left { OnOk result (are_in_range reader.new ≡ true) }
     ensures shorter { OnOk result (length reader.new < length reader.old) }
 {
-    'items: while !reader.take_end_array() {
+    while !reader.take_end_array() {
         match reader.skip_value(KEY_DEPTH) {
             Ok(()) => {}
             Err(_) => return Err(DocCause::NotJson),
@@ -231,7 +231,7 @@ fn strings_of_items(alloc: Global, items: &[Value<'_>]) -> Result<Strings, Alloc
     ensures { IfOk result (λ strings. strings_seen strings ≡ strings_of (map seen items.now)) }
 {
     let mut strings = Vec::new(alloc);
-    'items: for item in items {
+    for item in items {
         if !add_string(alloc, &mut strings, item)? {
             return Ok(None);
         }

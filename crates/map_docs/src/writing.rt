@@ -33,7 +33,7 @@ pub fn write_langmaps(alloc: Global, maps: &LangMaps) -> Result<Doc, AllocError>
 {
     let mut draft = open_labels(alloc)?;
     let mut current: Option<&MessageId> = None;
-    'labels: for label in maps.labels() {
+    for label in maps.labels() {
         write_label(&mut draft, current, &label.id, &label.lang, &label.label)?;
         current = Some(&label.id);
     }

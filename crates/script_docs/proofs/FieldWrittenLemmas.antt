@@ -70,8 +70,7 @@ module _ (P : ℕ → Type 0) (digit : (n : ℕ) → n < 10 → P (48 + n)) wher
   tens_each : (n : ℕ) → n < 100 → All P (tens_text n)
   tens_each n h = elim (cases_Bool (n == 0)) [
     | inl e ↦ subst (All P) (sym (tens_none n e)) (All-nil P)
-    | inr e ↦
-        subst (All P) (sym (tens_some n e))
+    | inr e ↦ subst (All P) (sym (tens_some n e))
         (All-cons P (48 + n / 10) (ones_text (n % 10)) (digit (n / 10) (omega arith))
         (ones_each (n % 10) (omega arith)))
   ]
@@ -87,8 +86,7 @@ all_digits (b ∷ text) h =
 
 ones_value : (n : ℕ) → slice_index (ones_text n) 0 - 48 ≡ n
 ones_value n = elim (cases_Bool (n == 0)) [
-  | inl e ↦
-      subst (λ (t : List ℕ). slice_index t 0 - 48 ≡ n) (sym (ones_none n e))
+  | inl e ↦ subst (λ (t : List ℕ). slice_index t 0 - 48 ≡ n) (sym (ones_none n e))
       (omega (arith, is_none n e))
   | inr e ↦ subst (λ (t : List ℕ). slice_index t 0 - 48 ≡ n) (sym (ones_some n e)) (omega arith)
 ]
@@ -96,8 +94,7 @@ ones_value n = elim (cases_Bool (n == 0)) [
 tens_value : (n : ℕ) → n < 100
     → 10 * (slice_index (tens_text n) 0 - 48) + (slice_index (tens_text n) 1 - 48) ≡ n
 tens_value n h = elim (cases_Bool (n == 0)) [
-  | inl e ↦
-      subst (λ (t : List ℕ). 10 * (slice_index t 0 - 48) + (slice_index t 1 - 48) ≡ n)
+  | inl e ↦ subst (λ (t : List ℕ). 10 * (slice_index t 0 - 48) + (slice_index t 1 - 48) ≡ n)
       (sym (tens_none n e)) (omega (arith, is_none n e))
   | inr e ↦ (let last = ones_value (n % 10) in
       subst (λ (t : List ℕ). 10 * (slice_index t 0 - 48) + (slice_index t 1 - 48) ≡ n)
@@ -113,8 +110,7 @@ ones_length n = elim (cases_Bool (n == 0)) [
 tens_length : (n : ℕ) → length (tens_text n) ≤ 2
 tens_length n = elim (cases_Bool (n == 0)) [
   | inl e ↦ subst (λ (t : List ℕ). length t ≤ 2) (sym (tens_none n e)) (omega arith)
-  | inr e ↦
-      (let last = ones_length (n % 10) in
+  | inr e ↦ (let last = ones_length (n % 10) in
       subst (λ (t : List ℕ). length t ≤ 2) (sym (tens_some n e)) (omega arith))
 ]
 
@@ -137,8 +133,7 @@ fraction_length n k h = elim (cases_Bool (n == 0)) [
 
 qvalue_again : (n : ℕ) → n < 1000 → IsQvalue (48 ∷ fraction_text n) n
 qvalue_again n h = elim (cases_Bool (n == 0)) [
-  | inl e ↦
-      subst (λ (t : List ℕ). IsQvalue (48 ∷ t) n) (sym (fraction_none n e))
+  | inl e ↦ subst (λ (t : List ℕ). IsQvalue (48 ∷ t) n) (sym (fraction_none n e))
       (inl (refl, is_none n e))
   | inr e ↦ (let rest : n % 100 < 100 = omega arith in
       let value = tens_value (n % 100) rest in
@@ -183,9 +178,8 @@ by_digits (x ∷ []) n all few value =
     omega arith
 by_digits (x ∷ y ∷ []) n all few value =
     let low =
-    low_digit y
-    (and_parts (is_digit y) true (and_parts (is_digit x) (list_all is_digit (y ∷ [])) all).1).0
-    in
+    low_digit y (and_parts (is_digit y) true
+    (and_parts (is_digit x) (list_all is_digit (y ∷ [])) all).1).0 in
     let hundredths : n ≡ 100 * (x - 48) + 10 * (y - 48) = omega (arith, value) in
     let short =
     fraction_length n 1
@@ -251,12 +245,11 @@ part_again text n h w =
 weight_again : (scheme : Scheme) (text : List ℕ) (n : ℕ) → n ≤ 1000 → WeightGrammar scheme text n
     → IsShorter (λ t. WeightGrammar scheme t n) (weight_text n) text
 weight_again Basic text n small w = elim (cases_Bool (n == 1000)) [
-  | inl e ↦
-      subst (λ (t : List ℕ). IsShorter (λ u. WeightGrammar Basic u n) t text)
+  | inl e ↦ subst (λ (t : List ℕ). IsShorter (λ u. WeightGrammar Basic u n) t text)
       (sym (weight_full n e)) (inl (refl, is_full n e), omega arith)
   | inr e ↦ elim w [
-    | inl none ↦
-        absurd (let full : n ≡ 1000 = none.1 in let part = is_part n e small in omega arith)
+    | inl none ↦ absurd (let full : n ≡ 1000 = none.1 in let part = is_part n e small in
+        omega arith)
     | inr some ↦ (let again = part_again text n (is_part n e small) some in
         subst (λ (t : List ℕ). IsShorter (λ u. WeightGrammar Basic u n) t text)
         (sym (weight_part n e)) (inr again.0, again.1))
@@ -385,15 +378,17 @@ pieces_again : (scheme : Scheme) (pieces : List (List ℕ)) (items : List Item) 
     → ArePieces scheme Refused pieces items → AreAgain scheme pieces items
 pieces_again scheme [] [] small a = record { fits = tt; shorter = omega arith; plain = tt }
 pieces_again scheme [] (i ∷ items) small a = absurd a
-pieces_again scheme (p ∷ pieces) [] small a =
-    record { fits = tt; shorter = omega arith; plain = tt }
+pieces_again scheme (p ∷ pieces) [] small a = record {
+  fits = tt;
+  shorter = omega arith;
+  plain = tt;
+}
 pieces_again scheme (p ∷ pieces) (i ∷ items) small a = elim a [
   | inl x ↦ (let rest = pieces_again scheme pieces (i ∷ items) small x.1 in
       let short = rest.shorter in
       let size = size_cons p pieces in
       record { fits = rest.fits; shorter = omega arith; plain = rest.plain })
-  | inr x ↦
-      (let rest =
+  | inr x ↦ (let rest =
       pieces_again scheme pieces items (All-tail (λ j. j.weight ≤ 1000) i items small) x.1 in
       let first = element_again scheme p i (All-head (λ j. j.weight ≤ 1000) i items small) x.0 in
       let short = rest.shorter in
@@ -403,8 +398,7 @@ pieces_again scheme (p ∷ pieces) (i ∷ items) small a = elim a [
       record {
         fits = inr (first.fits, rest.fits);
         shorter = omega arith;
-        plain =
-            (first.plain, rest.plain);
+        plain = (first.plain, rest.plain);
       })
 ]
 
@@ -502,7 +496,6 @@ pub lists_where_same : (scheme : Scheme) (text : List ℕ) (read items : List It
 lists_where_same scheme text read items lists true is =
     subst (Lists scheme text) ((same_items read items).0 (sym is)) lists
 lists_where_same scheme text read items lists false is =
-    λ other.
-    true≢false
+    λ other. true≢false
     (sym ((same_items read items).1 (one_items scheme Refused text read items lists.1 other.1))
     ∙ sym is)

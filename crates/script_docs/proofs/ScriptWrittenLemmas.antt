@@ -2,13 +2,12 @@
 use Rattle.std.proofs.Common.{◌≡◌, ◌∙◌, ◌+◌, ◌<◌, ◌^◌, ◌||◌, ◌++◌, ℕ, List, [], ◌∷◌, Bool, true}
 use Rattle.std.proofs.Common.{false, codes, decimal, get_or, inl, inr, length, map, refl, ap, subst}
 use Rattle.std.proofs.Common.{sym, take, arith}
-use Rattle.std.specs.Prelude.{All, IsUtf8, Option, Some, is_some, nat_le}
+use Rattle.std.specs.Prelude.{◌&&◌, All, IsUtf8, Option, Some, is_some, nat_le}
 use Rattle.std.specs.Ordering.{is_eq, match_ordering, nat_cmp}
 use Rattle.std.specs.declared.cmp.Ordering.{Ordering}
 use Rattle.std.specs.declared.cmp.Ordering.TheVariants.{Less, Equal, Greater}
 use Rattle.std.specs.Cmp.Lexicographic.{slice_cmp}
 use Rattle.std.specs.Str.{bytes_eq}
-use Rattle.std.proofs.lemmas.Bool.{and_parts}
 use Rattle.std.proofs.lemmas.Bool.Decides.{nat_tests}
 use Rattle.std.proofs.lemmas.List.{map-append, take_more}
 use Rattle.std.proofs.lemmas.List.Elements.{All-cons, All-nil}
@@ -35,7 +34,7 @@ use Rattle.script_docs.specs.ScriptWritten.{RefusesWriting, script_value}
 use Rattle.script_docs.specs.Scripts.{IsSiteCount, ScriptState}
 use Rattle.script_docs.specs.StepFields.{step_checks}
 use Rattle.script_docs.specs.Steps.{StepText}
-use Rattle.script_docs.specs.StepsWritten.{IsWritable, RefusesStep, WritesStep, step_value}
+use Rattle.script_docs.specs.StepsWritten.{IsWritableStep, RefusesStep, WritesStep, step_value}
 use Rattle.json_docs.proofs.ChecksLemmas.{AllPass-both}
 use Rattle.site_docs.proofs.TextsLemmas.{printed, row_tokens-push, rows_member}
 use Rattle.site_docs.proofs.WrittenRows.{list_of-items_of}
@@ -70,17 +69,17 @@ row_more a b sites steps k step within is held wrote =
     )
 
 all_writable : (texts : List StepText) (steps : List Step) → AreRowsOf texts steps
-    → All IsWritable steps
-all_writable [] [] rows = All-nil IsWritable
+    → All IsWritableStep steps
+all_writable [] [] rows = All-nil IsWritableStep
 all_writable [] (s ∷ ss) rows = absurd rows
 all_writable (t ∷ ts) [] rows = absurd rows
 all_writable (t ∷ ts) (s ∷ ss) rows =
-    All-cons IsWritable s ss (writable_of t s rows.0) (all_writable ts ss rows.1)
+    All-cons IsWritableStep s ss (writable_of t s rows.0) (all_writable ts ss rows.1)
 
--- the step after these rows is the first that is not writable
+-- the step behind these rows is the first that is not writable
 first_unwritable : (a : Written) (sites : ℕ) (steps : List Step) (k : ℕ) (step : Step)
     → k < length steps → step ≡ get_or steps k step → HasRows a sites (take k steps)
-    → ¬ IsWritable step → IsFirstUnwritable steps k
+    → ¬ IsWritableStep step → IsFirstUnwritable steps k
 first_unwritable a sites steps k step within is held refused = record {
   step = step;
   there = slice_get-get_or steps k step within ∙ ap Some (sym is);
@@ -97,7 +96,7 @@ writing_refused a sites steps k step cause within is held refused = elim refused
   | inr x ↦ inr (k, first_unwritable a sites steps k step within is held x.0, x.1)
 ]
 
--- Closing a draft of a script's steps gives the text of the script.
+-- the closed draft is the text of the script
 pub script_closed : (draft : Written) (sites : ℕ) (rows : List Data) → HoldsSteps draft sites rows
     → draft.before ++ (print (draft.tokens ++ end_array ∷ version_tokens) ++ 10 ∷ [])
     ≡ text (script_value sites rows)
@@ -148,8 +147,14 @@ script_names sites rows q =
 -- ---- the document
 
 few : (sites : ℕ) → IsSiteCount sites → sites < 2 ^ 64
-few sites h = let most : nat_le sites 1024 ≡ true =
-    (and_parts (nat_le 1 sites) (nat_le sites 1024) h).1 in grind (arith, nat_tests)
+few sites h = omega (arith, h.1)
+
+-- a count that may be is the count
+counted : (sites : ℕ) → IsSiteCount sites → (nat_le 1 sites && nat_le sites 1024) ≡ true
+counted sites h =
+    let low : nat_le 1 sites ≡ true = grind (arith, nat_tests, h.0) in
+    let most : nat_le sites 1024 ≡ true = grind (arith, nat_tests, h.1) in
+    rw (low, most) refl
 
 two : 2 < 2 ^ 64
 two = omega arith
@@ -159,7 +164,7 @@ rest_checks d =
     sites_check (subject_data Script d)
     ∷ rows_checks (step_checks (version_of d)) [] (rows_in Script d)
 
--- The text that is written for a script reads as that script.
+-- the text of a script reads as it
 pub script_again : (script : ScriptState) (texts : List StepText) → IsSiteCount script.sites
     → AreRowsOf texts script.steps
     → IsUtf8 (text (script_value script.sites (map step_value texts)))
@@ -168,29 +173,27 @@ script_again script texts count held utf8 =
     let d = script_value script.sites (map step_value texts) in
     let rows = rows_sound texts script.steps held in
     let small = few script.sites count in
-    let head : AllPass (header_checks Script d) =
-    ((refl, refl), (inr refl, ((script_names script.sites (map step_value texts), refl), tt)))
-    in
+    let head : AllPass (header_checks Script d) = (
+      (refl, refl),
+      (inr refl, ((script_names script.sites (map step_value texts), refl), tt)),
+    ) in
     let rest : AllPass (rest_checks d) = (
-      rw count refl,
-      rw (list_of-items_of (map step_value texts))
-          (steps_pass [] texts script.steps held),
+      rw (counted script.sites count) refl,
+      rw (list_of-items_of (map step_value texts)) (steps_pass [] texts script.steps held),
     ) in (
       d,
       (
         utf8,
         read-text d (
           tt,
-          (
-            IsNumber-decimal script.sites small,
-            (rows.numbers, (IsNumber-decimal 2 two, tt)),
-          ),
-        ) (omega (arith, rows.shallow))
+          (IsNumber-decimal script.sites small, (rows.numbers, (IsNumber-decimal 2 two, tt))),
+        )
+            (omega (arith, rows.shallow))
             (rw (number_of-decimal script.sites small, rows.back, number_of-decimal 2 two) refl),
       ),
       AllPass-both (header_checks Script d) (rest_checks d) head rest,
       record {
-        sites = rw count refl;
+        sites = rw (counted script.sites count) refl;
         steps =
             rw (list_of-items_of (map step_value texts)) (steps_again texts script.steps held);
       },

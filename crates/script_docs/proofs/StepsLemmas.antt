@@ -8,7 +8,7 @@ use Rattle.site_docs.specs.declared.document.version.Version.{Version}
 use Rattle.script_docs.specs.StepFields.{AreSteps, IsStep, step_checks, step_fields}
 use Rattle.script_docs.specs.Steps.{StepText, step_in}
 
--- Rows of steps and one more row of a step are the rows of all of them in order.
+-- one row more is one step more
 pub AreSteps-push : (version : Version) (ds : List Data) (d : Data) (steps : List Step)
     (step : Step) → AreSteps version ds steps → IsStep version d step
     → AreSteps version (ds ++ d ∷ []) (steps ++ step ∷ [])

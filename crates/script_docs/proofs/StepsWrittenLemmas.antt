@@ -29,7 +29,7 @@ use Rattle.script_docs.specs.ScriptWritten.{AreRowsOf}
 use Rattle.script_docs.specs.StepFields.{AreSteps, Lists, default_checks, step_checks}
 use Rattle.script_docs.specs.Steps.{StepText, edit_step, merge_step, filter_step, lookup_step}
 use Rattle.script_docs.specs.Steps.{cells_step, tell_step, post_step, deliver_step, step_in}
-use Rattle.script_docs.specs.StepsWritten.{FitsMember, HasRoom, IsDefault, IsRowOf, IsWritable}
+use Rattle.script_docs.specs.StepsWritten.{FitsMember, HasRoom, IsDefault, IsRowOf, IsWritableStep}
 use Rattle.script_docs.specs.StepsWritten.{step_row, step_value}
 use Rattle.json_docs.proofs.ChecksLemmas.{AllPass-both}
 use Rattle.site_docs.proofs.LowerLemmas.{lower-IsLang, spells-IsLang}
@@ -56,7 +56,7 @@ row_again (deliver_step post) h = rw (narrow post h) refl
 
 -- ---- rows hold what a text may
 
--- Items whose numbers are well formed, which nest at most this deep, and which read as written.
+-- values whose numbers are read back, and which nest at most this deep
 pub record AreSound (ds : Items) (most : ℕ) : Type 0 where
   pub numbers : ItemsHaveNumbers (items_outline ds)
   pub shallow : tree.items_depth (items_outline ds) ≤ most
@@ -101,7 +101,13 @@ cell_sound row texts late few =
           tt,
           (
             IsNumber-decimal row.time late,
-            (tt, (IsNumber-decimal row.count (wide row.count few), (label.numbers, tt))),
+            (
+              tt,
+              (
+                IsNumber-decimal row.count (wide row.count few),
+                (label.numbers, tt),
+              ),
+            ),
           ),
         ),
       );
@@ -120,8 +126,7 @@ row_sound (edit_step site row) h =
     let n = wide site h.0 in
     record {
       numbers = (tt, (IsNumber-decimal site n, (cell.numbers, tt)));
-      shallow =
-          omega (arith, cell.shallow);
+      shallow = omega (arith, cell.shallow);
       back = rw (number_of-decimal site n, cell.back) refl;
     }
 row_sound (merge_step into source) h =
@@ -129,32 +134,28 @@ row_sound (merge_step into source) h =
     let n = wide source h.1 in
     record {
       numbers = (tt, (IsNumber-decimal into m, (IsNumber-decimal source n, tt)));
-      shallow =
-          omega arith;
+      shallow = omega arith;
       back = rw (number_of-decimal into m, number_of-decimal source n) refl;
     }
 row_sound (filter_step site id scheme field) h =
     let n = wide site h in
     record {
       numbers = (tt, (IsNumber-decimal site n, (tt, (tt, (tt, tt)))));
-      shallow =
-          omega arith;
+      shallow = omega arith;
       back = rw (number_of-decimal site n) refl;
     }
 row_sound (lookup_step site id field None) h =
     let n = wide site h in
     record {
       numbers = (tt, (IsNumber-decimal site n, (tt, (tt, (tt, tt)))));
-      shallow =
-          omega arith;
+      shallow = omega arith;
       back = rw (number_of-decimal site n) refl;
     }
 row_sound (lookup_step site id field (Some default)) h =
     let n = wide site h in
     record {
       numbers = (tt, (IsNumber-decimal site n, (tt, (tt, (tt, tt)))));
-      shallow =
-          omega arith;
+      shallow = omega arith;
       back = rw (number_of-decimal site n) refl;
     }
 row_sound (cells_step site) h =
@@ -162,24 +163,21 @@ row_sound (cells_step site) h =
     record {
       numbers = (tt, (IsNumber-decimal site n, tt));
       shallow = omega arith;
-      back =
-          rw (number_of-decimal site n) refl;
+      back = rw (number_of-decimal site n) refl;
     }
 row_sound (tell_step site) h =
     let n = wide site h in
     record {
       numbers = (tt, (IsNumber-decimal site n, tt));
       shallow = omega arith;
-      back =
-          rw (number_of-decimal site n) refl;
+      back = rw (number_of-decimal site n) refl;
     }
 row_sound (post_step site told) h =
     let m = wide site h.0 in
     let n = wide told h.1 in
     record {
       numbers = (tt, (IsNumber-decimal site m, (IsNumber-decimal told n, tt)));
-      shallow =
-          omega arith;
+      shallow = omega arith;
       back = rw (number_of-decimal site m, number_of-decimal told n) refl;
     }
 row_sound (deliver_step post) h =
@@ -187,13 +185,12 @@ row_sound (deliver_step post) h =
     record {
       numbers = (tt, (IsNumber-decimal post n, tt));
       shallow = omega arith;
-      back =
-          rw (number_of-decimal post n) refl;
+      back = rw (number_of-decimal post n) refl;
     }
 
 -- ---- rows of steps
 
--- The rows of steps have such numbers, nest at most 3 deep, and read as written.
+-- the rows of steps are sound
 pub rows_sound : (texts : List StepText) (steps : List Step) → AreRowsOf texts steps
     → AreSound (items_of (map step_value texts)) 3
 rows_sound [] [] rows = record { numbers = tt; shallow = omega arith; back = refl }
@@ -203,7 +200,7 @@ rows_sound (t ∷ ts) (s ∷ ss) rows =
     one_more (step_value t) (items_of (map step_value ts)) 3 (row_sound t rows.0.room)
     (rows_sound ts ss rows.1)
 
--- The rows that are written for steps are read as these steps.
+-- the rows of steps read as these steps
 pub steps_again : (texts : List StepText) (steps : List Step) → AreRowsOf texts steps
     → AreSteps Two (map step_value texts) steps
 steps_again [] [] rows = tt
@@ -212,7 +209,7 @@ steps_again (t ∷ ts) [] rows = absurd rows
 steps_again (t ∷ ts) (s ∷ ss) rows =
     ((t, row_again t rows.0.room, rows.0.makes), steps_again ts ss rows.1)
 
--- The rows that are written for steps pass all checks, whatever rows come before them.
+-- the rows of steps pass their tests
 pub steps_pass : (done : List Data) (texts : List StepText) (steps : List Step)
     → AreRowsOf texts steps → AllPass (rows_checks (step_checks Two) done (map step_value texts))
 steps_pass done [] steps rows = tt
@@ -222,7 +219,7 @@ steps_pass done (t ∷ ts) (s ∷ ss) rows =
     (step_passes Two done (step_value t) t (sym (row_again t rows.0.room)) (rows.0.fields _))
     (steps_pass (done ++ step_value t ∷ []) ts ss rows.1)
 
--- The rows of steps and the row of one more step are the rows of all of them.
+-- one row more is that of one step more
 pub rows_push : (texts : List StepText) (steps : List Step) (text : StepText) (step : Step)
     → AreRowsOf texts steps → IsRowOf text step
     → AreRowsOf (texts ++ text ∷ []) (steps ++ step ∷ [])
@@ -244,19 +241,19 @@ rows_written (t ∷ ts) (s ∷ ss) rows =
 -- ---- the row of a step
 
 -- a step that a row makes is writable
-pub writable_of : (text : StepText) (step : Step) → IsRowOf text step → IsWritable step
-writable_of (edit_step site row) step r = subst IsWritable (sym r.makes) r.room.0
-writable_of (merge_step into source) step r = subst IsWritable (sym r.makes) r.room
+pub writable_of : (text : StepText) (step : Step) → IsRowOf text step → IsWritableStep step
+writable_of (edit_step site row) step r = subst IsWritableStep (sym r.makes) r.room.0
+writable_of (merge_step into source) step r = subst IsWritableStep (sym r.makes) r.room
 writable_of (filter_step site id scheme field) step r =
-    subst IsWritable (sym r.makes.2) (r.room, (field, r.makes.1))
+    subst IsWritableStep (sym r.makes.2) (r.room, (field, r.makes.1))
 writable_of (lookup_step site id field default) step r =
-    subst IsWritable (sym r.makes.2) (r.room, (field, r.makes.1))
-writable_of (cells_step site) step r = subst IsWritable (sym r.makes) r.room
-writable_of (tell_step site) step r = subst IsWritable (sym r.makes) r.room
-writable_of (post_step site told) step r = subst IsWritable (sym r.makes) r.room
-writable_of (deliver_step post) step r = subst IsWritable (sym r.makes) r.room
+    subst IsWritableStep (sym r.makes.2) (r.room, (field, r.makes.1))
+writable_of (cells_step site) step r = subst IsWritableStep (sym r.makes) r.room
+writable_of (tell_step site) step r = subst IsWritableStep (sym r.makes) r.room
+writable_of (post_step site told) step r = subst IsWritableStep (sym r.makes) r.room
+writable_of (deliver_step post) step r = subst IsWritableStep (sym r.makes) r.room
 
--- What is written for an edit of a valid cell is a row of that step.
+-- the row of an edit is one of its steps
 pub edit_row_of : (site : ℕ) (e : Entry) → FitsMember site → IsKeptCell e
     → IsRowOf (edit_step site (row_of e, e.1.label)) (Edit site e)
 edit_row_of site e h kept = record {
@@ -267,7 +264,7 @@ edit_row_of site e h kept = record {
   written = refl;
 }
 
--- What is written for a filter with a valid id and a field of its list is a row of that step.
+-- the row of a filter is one of its steps
 pub filter_row_of : (site : ℕ) (id : List ℕ) (scheme : Scheme) (items : List Item) (field : List ℕ)
     → FitsMember site → IsMessageId id → field ≡ field_text items → Lists scheme field items
     → IsRowOf (filter_step site id scheme field) (AskFilter site id scheme items)
@@ -288,7 +285,7 @@ lower_default : (default : Option (List ℕ)) → IsDefault default
 lower_default None is = refl
 lower_default (Some lang) is = ap Some (lower-IsLang lang is)
 
--- What is written for a lookup with a valid id, list and default is a row of that step.
+-- the row of a lookup is one of its steps
 pub lookup_row_of : (site : ℕ) (id : List ℕ) (items : List Item) (default : Option (List ℕ))
     (field : List ℕ)
     → FitsMember site → IsMessageId id → field ≡ field_text items → Lists Basic field items

@@ -1,6 +1,6 @@
 -- Documents of scripts: their tests in order, and what they read as. Own rule.
 use Rattle.std.specs.Prelude.{◌≡◌, ℕ, List, [], ◌∷◌, ◌++◌, true, Option, None, Some, is_some}
-use Rattle.std.specs.Prelude.{if◌then◌else◌, option_and_then}
+use Rattle.std.specs.Prelude.{◌&&◌, if◌then◌else◌, nat_le, option_and_then}
 use Rattle.serde_json.specs.Data.{Data}
 use Rattle.json_docs.specs.Checks.{Check, IsRefusal, check, rows_checks}
 use Rattle.json_docs.specs.Parts.{u64_in}
@@ -9,13 +9,13 @@ use Rattle.json_docs.specs.declared.fault.DocCause.TheVariants.{Shape}
 use Rattle.site_docs.specs.Headers.{header_checks, rows_in, subject_data, version_of}
 use Rattle.site_docs.specs.ReadsAs.{Reads}
 use Rattle.site_docs.specs.declared.document.kind.Kind.TheVariants.{Script}
-use Rattle.script_docs.specs.Scripts.{ScriptState, is_site_count}
+use Rattle.script_docs.specs.Scripts.{ScriptState}
 use Rattle.script_docs.specs.StepFields.{AreSteps, step_checks}
 use Rattle.json_docs.specs.declared.fault.Spot.TheVariants as spot
 
--- the number, if there may be that many sites
+-- n sites, where a script may have n
 abbrev pub count_of : ℕ → Option ℕ
-count_of n = if is_site_count n then Some n else None
+count_of n = if nat_le 1 n && nat_le n 1024 then Some n else None
 
 -- how many sites there are
 abbrev pub sites_in : Data → Option ℕ

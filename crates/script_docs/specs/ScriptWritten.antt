@@ -17,15 +17,15 @@ use Rattle.site_docs.specs.Texts.{row_tokens, text}
 use Rattle.script_docs.specs.ScriptReads.{ReadsAsScript}
 use Rattle.script_docs.specs.Scripts.{ScriptState}
 use Rattle.script_docs.specs.Steps.{StepText}
-use Rattle.script_docs.specs.StepsWritten.{IsRowOf, IsWritable, step_row, step_value}
+use Rattle.script_docs.specs.StepsWritten.{IsRowOf, IsWritableStep, step_row, step_value}
 use Rattle.json_docs.specs.declared.fault.Spot.TheVariants as spot
 
 -- the first step that no document can have
 pub record IsFirstUnwritable (steps : List Step) (place : ℕ) : Type 0 where
   pub step : Step
   pub there : slice_get steps place ≡ Some step
-  pub before : All IsWritable (take place steps)
-  pub refused : ¬ IsWritable step
+  pub before : All IsWritableStep (take place steps)
+  pub refused : ¬ IsWritableStep step
 
 -- why a script of these steps has no document: memory ran out, or its first step that none can
 -- have, whose row is meant

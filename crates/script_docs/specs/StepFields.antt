@@ -36,12 +36,10 @@ IsListRefusal k scheme text e =
     × (e ≡ Field k (Priorities fault))
 
 abbrev pub list_check : ℕ → Scheme → List ℕ → Check
-list_check k scheme text =
-    record {
-      passes = (items : List Item) × Lists scheme text items;
-      refuses =
-          IsListRefusal k scheme text;
-    }
+list_check k scheme text = record {
+  passes = (items : List Item) × Lists scheme text items;
+  refuses = IsListRefusal k scheme text;
+}
 
 -- ---- the tests of a step
 

@@ -14,6 +14,11 @@ use Rattle.script_docs.specs.declared.steps.Word.{Word}
 use Rattle.script_docs.specs.declared.steps.Word.TheVariants.{Edit, Merge, Filter, Lookup, Cells}
 use Rattle.script_docs.specs.declared.steps.Word.TheVariants.{Tell, Post, Deliver}
 
+-- what follows a part that is there
+infixl 10 ◌>>=◌
+abbrev ◌>>=◌ : {A B : Type 0} → Option A → (A → Option B) → Option B
+o >>= f = option_and_then f o
+
 -- a step, with its texts as they are written
 pub data StepText : Type 0 where
   edit_step : ℕ → Row × Option (List (List ℕ)) → StepText
@@ -59,27 +64,27 @@ default_in (object ms) = None
 
 -- `site,CELL`
 abbrev pub edit_of : Version → List Data → Option StepText
-edit_of version (s ∷ c ∷ []) =
-    option_and_then (λ site. option_map (λ cell. edit_step site cell) (cell_in version c))
-    (u32_in s)
+edit_of version (s ∷ c ∷ []) = do
+  site ← u32_in s
+  option_map (λ cell. edit_step site cell) (cell_in version c)
 edit_of version _ = None
 
 -- `site,id,scheme,field`
 abbrev pub filter_of : List Data → Option StepText
-filter_of (s ∷ i ∷ c ∷ f ∷ []) =
-    option_and_then
-    (λ site. option_and_then
-    (λ id. option_and_then (λ scheme. option_map (λ field. filter_step site id scheme field)
-    (as_str f)) (scheme_in c)) (as_str i)) (u32_in s)
+filter_of (s ∷ i ∷ c ∷ f ∷ []) = do
+  site ← u32_in s
+  id ← as_str i
+  scheme ← scheme_in c
+  option_map (λ field. filter_step site id scheme field) (as_str f)
 filter_of _ = None
 
 -- `site,id,field,default`
 abbrev pub lookup_of : List Data → Option StepText
-lookup_of (s ∷ i ∷ f ∷ l ∷ []) =
-    option_and_then
-    (λ site. option_and_then
-    (λ id. option_and_then (λ field. option_map (λ default. lookup_step site id field default)
-    (default_in l)) (as_str f)) (as_str i)) (u32_in s)
+lookup_of (s ∷ i ∷ f ∷ l ∷ []) = do
+  site ← u32_in s
+  id ← as_str i
+  field ← as_str f
+  option_map (λ default. lookup_step site id field default) (default_in l)
 lookup_of _ = None
 
 -- one number
@@ -89,7 +94,9 @@ one_of step _ = None
 
 -- two numbers
 abbrev pub two_of : (ℕ → ℕ → StepText) → List Data → Option StepText
-two_of step (d ∷ e ∷ []) = option_and_then (λ m. option_map (λ n. step m n) (u32_in e)) (u32_in d)
+two_of step (d ∷ e ∷ []) = do
+  m ← u32_in d
+  option_map (λ n. step m n) (u32_in e)
 two_of step _ = None
 
 abbrev pub step_after : Version → Word → List Data → Option StepText
@@ -104,9 +111,10 @@ step_after version Deliver ds = one_of deliver_step ds
 
 abbrev pub step_of : Version → List Data → Option StepText
 step_of version [] = None
-step_of version (d ∷ ds) =
-    option_and_then (λ text. option_and_then (λ word. step_after version word ds) (word_of text))
-    (as_str d)
+step_of version (d ∷ ds) = do
+  text ← as_str d
+  word ← word_of text
+  step_after version word ds
 
 -- a row of a script
 abbrev pub step_in : Version → Data → Option StepText

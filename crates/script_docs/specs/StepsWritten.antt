@@ -27,22 +27,22 @@ abbrev pub FitsMember : ℕ → Type 0
 FitsMember n = n < 2 ^ 32
 
 -- a document can have the step: its numbers fit, and some field reads as its priority list
-abbrev pub IsWritable : Step → Type 0
-IsWritable (Edit site edit) = FitsMember site
-IsWritable (Merge into source) = FitsMember into × FitsMember source
-IsWritable (AskFilter site id scheme items) = FitsMember site × IsListed scheme items
-IsWritable (AskLookup site id items default) = FitsMember site × IsListed Basic items
-IsWritable (AskCells site) = FitsMember site
-IsWritable (Tell site) = FitsMember site
-IsWritable (Post site told) = FitsMember site × FitsMember told
-IsWritable (Deliver post) = FitsMember post
+abbrev pub IsWritableStep : Step → Type 0
+IsWritableStep (Edit site edit) = FitsMember site
+IsWritableStep (Merge into source) = FitsMember into × FitsMember source
+IsWritableStep (AskFilter site id scheme items) = FitsMember site × IsListed scheme items
+IsWritableStep (AskLookup site id items default) = FitsMember site × IsListed Basic items
+IsWritableStep (AskCells site) = FitsMember site
+IsWritableStep (Tell site) = FitsMember site
+IsWritableStep (Post site told) = FitsMember site × FitsMember told
+IsWritableStep (Deliver post) = FitsMember post
 
 -- memory ran out, or the step at this place is not what it must be
 abbrev pub RefusesRow : ℕ → Type 0 → DocCause → Type 0
 RefusesRow place Holds = OrMemory NoMemory (λ cause. (¬ Holds) × (cause ≡ Shape (spot.Row place)))
 
 abbrev pub RefusesStep : ℕ → Step → DocCause → Type 0
-RefusesStep place step cause = RefusesRow place (IsWritable step) cause
+RefusesStep place step cause = RefusesRow place (IsWritableStep step) cause
 
 -- ---- the JSON values of steps
 

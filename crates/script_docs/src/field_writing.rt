@@ -16,7 +16,7 @@ const FULL_WEIGHT: u16 = 1000;
 /// no field does.
 ///
 /// A list does not say under which scheme it was read: so its field is read back.
-pub fn field_of(
+pub(crate) fn field_of(
     alloc: Global,
     scheme: Scheme,
     list: &PriorityList,
@@ -74,7 +74,7 @@ fn push_others(text: &mut String, items: &[Item]) -> Result<(), AllocError>
     ensures { OnOk result (string_bytes text.new
         ≡ string_bytes text.old ++ flat_map (λ i. (44 ∷ []) ++ item_text i) items.now) }
 {
-    'items: for item in items {
+    for item in items {
         text.push_str(",")?;
         push_item(text, item)?;
     }

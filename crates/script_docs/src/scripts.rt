@@ -58,9 +58,9 @@ impl Script {
 
 /// The steps that were read so far.
 #[derive(Drop)]
-pub struct Steps {
+pub(crate) struct Steps {
     /// The steps, in order.
-    pub steps: Vec<Step>,
+    pub(crate) steps: Vec<Step>,
 }
 
 impl Steps {
@@ -68,7 +68,7 @@ impl Steps {
     ghost use Rattle.script_docs.specs.Scripts.{IsSiteCount};
 
     /// No step.
-    pub fn new(alloc: Global) -> Steps
+    pub(crate) fn new(alloc: Global) -> Steps
         ensures { result.steps.items ≡ [] }
     {
         Steps {
@@ -77,7 +77,7 @@ impl Steps {
     }
 
     /// The script of all steps.
-    pub fn into_script(self, sites: usize) -> Script
+    pub(crate) fn into_script(self, sites: usize) -> Script
         requires { IsSiteCount sites }
         ensures { result ≡ record { sites = sites; steps = self.steps.items } }
     {

@@ -22,7 +22,7 @@ use std::alloc::Global;
 /// Refused by the first field that breaks its rule: message id (10), language (1 to 4), site name
 /// (27) and label (12, 11) of an edit; message id (10), priority list (8, 9) and default (1 to 4)
 /// of a question; or since memory ran out (26).
-pub fn read_step(alloc: Global, place: usize, row: StepRow<'_, '_>) -> Result<Step, DocCause>
+pub(crate) fn read_step(alloc: Global, place: usize, row: StepRow<'_, '_>) -> Result<Step, DocCause>
     requires { HasTexts row }
     ensures { MatchResult result
         (λ step. AllPass (step_fields place (text_of row.entry)) × Makes (text_of row.entry) step)
@@ -113,9 +113,8 @@ fn read_lookup(
     field: &str,
     default: Option<&str>,
 ) -> Result<Step, DocCause>
-    ensures { let text =
-        lookup_step site id.now field.now (option_map (λ s. s.now) default.entry) in
-        MatchResult result
+    ensures { let text = lookup_step site id.now field.now (option_map (λ s. s.now) default.entry)
+        in MatchResult result
         (λ step. AllPass (step_fields place text) × Makes text step)
         (OrMemory NoMemory (FirstFails (step_fields place text))) }
 {

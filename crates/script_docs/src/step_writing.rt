@@ -31,7 +31,7 @@ const MOST_NUMBER: usize = 4_294_967_295;
 ///
 /// Refused in its row (20) where a number of the step is over 32 bits, or no field gives its
 /// priority list; or since memory ran out (26).
-pub fn write_step(
+pub(crate) fn write_step(
     alloc: Global,
     out: &mut Writer,
     place: usize,

@@ -11,7 +11,7 @@ use json_docs::{items_of, text_of, u32_of};
 use nego_core::Scheme;
 use site_docs::{CellRow, Version, cell_of};
 
-/// The word that a step begins with.
+/// The word that a step begins with. Definitions that other crates cite name it, so it is `pub`.
 #[derive(Clone, Copy, Debug)]
 pub enum Word {
     Edit,
@@ -26,7 +26,7 @@ pub enum Word {
 
 /// A step, with its texts as they are written.
 #[derive(Clone, Copy)]
-pub enum StepRow<'v, 't> {
+pub(crate) enum StepRow<'v, 't> {
     Edit {
         site: u32,
         cell: CellRow<'v, 't>,
@@ -63,7 +63,7 @@ pub enum StepRow<'v, 't> {
 }
 
 /// The step, where the value has its shape.
-pub fn step_of<'v, 't>(version: Version, value: &'v Value<'t>) -> Option<StepRow<'v, 't>>
+pub(crate) fn step_of<'v, 't>(version: Version, value: &'v Value<'t>) -> Option<StepRow<'v, 't>>
     requires { IsRead (value_view value.now) }
     ensures step { option_map text_of result ≡ step_in version (seen value.now) }
     ensures texts { IfSome result HasTexts }

@@ -50,7 +50,7 @@ fn steps_draft(alloc: Global, script: &Script) -> Result<Writer, DocCause>
 {
     let mut draft = open_steps(alloc, script.sites())?;
     let steps = script.steps();
-    'steps: for place in 0..steps.len() {
+    for place in 0..steps.len() {
         write_step(alloc, &mut draft, place, &steps[place])?;
     }
     Ok(draft)

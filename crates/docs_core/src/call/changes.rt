@@ -1,12 +1,12 @@
 //! What changed between two states of a site.
 ghost use Rattle.std.specs.Prelude.{◌≡◌, IfOk, MatchResult, OnOk, Some, length, option_map};
 ghost use Rattle.std.specs.Option.{option_copied};
+ghost use Rattle.cell_core.specs.Labels.{texts_of};
 ghost use Rattle.cata_core.specs.Changes.{AreChanges, Changed};
 ghost use Rattle.cata_core.specs.ChangesLeft.{change_seen};
 ghost use Rattle.json_docs.specs.Checks.{OrMemory};
 ghost use Rattle.site_docs.specs.ReadsAs.{no_memory};
 ghost use Rattle.site_docs.specs.Texts.{Adds, value_tokens};
-ghost use Rattle.site_docs.specs.Written.{texts_of};
 ghost use Rattle.docs_core.specs.Changed.{IsChanged, RefusesChanged, change_value, changes_lines};
 ghost use Rattle.docs_core.specs.Changed.{has_change, side_value};
 
@@ -53,7 +53,7 @@ pub fn changes_lines(
     let count = change_count(before, after)?;
     let head = format!(in alloc; "changes {count}\n")?;
     let mut written = Lines::new(alloc).text(head.as_str())?;
-    'changes: for change in before.changes(after) {
+    for change in before.changes(after) {
         written = written.change(&change)?;
     }
     Ok((written.into_doc(), count != 0))
@@ -78,7 +78,7 @@ fn change_count(before: &Catalogue, after: &Catalogue) -> Result<u128, AllocErro
         → count ≡ length changes) }
 {
     let mut count = 0u128;
-    'changes: for _ in before.changes(after) {
+    for _ in before.changes(after) {
         let Some(more) = count.checked_add(1) else {
             return Err(AllocError);
         };

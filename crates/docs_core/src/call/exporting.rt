@@ -54,7 +54,7 @@ pub(crate) fn write_live(
 {
     let mut draft = open_labels(alloc)?;
     let mut current: Option<&MessageId> = None;
-    'cells: for (id, lang, cell) in catalogue.iter() {
+    for (id, lang, cell) in catalogue.iter() {
         if let Some(label) = cell.label() {
             if is_chosen(catalogue, id, messages) {
                 write_label(&mut draft, current, id, lang, label)?;

@@ -24,7 +24,7 @@ pub fn put_labels(
     ensures err { IfErr result (OrMemory NoMemory (λ fault. (fault ≡ ClockSpent)
         × SpendsImport now site.old.name maps.now site.old.cells)) }
 {
-    'labels: for found in maps.labels() {
+    for found in maps.labels() {
         match site.put(alloc, now, &found.id, &found.lang, &found.label) {
             Ok(_) => {}
             Err(fault) => return Err(fault),

@@ -29,7 +29,7 @@ pub fn answer_lines(alloc: Global, answers: &Answers) -> Result<Doc, AllocError>
     ensures { IfOk result (λ doc. doc ≡ lines answers.now) }
 {
     let mut written = Lines::new(alloc);
-    'answers: for place in 0..answers.len() {
+    for place in 0..answers.len() {
         if let Some(answer) = answers.nth(place) {
             written = written.answer(answer)?;
         }
@@ -183,7 +183,7 @@ impl Lines {
         ensures { IfOk result (λ new. new ≡ self ++ filter_lines (W.weighed entries.now)) }
     {
         let mut written = self.count("filter", entries.count())?;
-        'entries: for place in 0..entries.count() {
+        for place in 0..entries.count() {
             if let Some((lang, label, weight)) = entries.entry(place) {
                 written = written.weighed(lang, weight, label)?;
             }
@@ -196,7 +196,7 @@ impl Lines {
         ensures { IfOk result (λ new. new ≡ self ++ cells_lines cells.now) }
     {
         let mut written = self.count("cells", cells.len())?;
-        'cells: for place in 0..cells.len() {
+        for place in 0..cells.len() {
             if let Some(edit) = cells.nth(place) {
                 written = written.cell(edit)?;
             }

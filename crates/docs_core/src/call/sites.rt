@@ -52,11 +52,9 @@ pub(crate) fn edit(
     label: Option<&Label>,
 ) -> Result<Stamp, CataFault>
     ensures ok { IfOk result (λ stamp. IsNext (latest_of site.old.cells) now site.old.name stamp
-        × (site.new
-        ≡ record {
+        × (site.new ≡ record {
           name = site.old.name;
-          cells =
-              put key_cmp (id.now, lang.now)
+          cells = put key_cmp (id.now, lang.now)
               (record { stamp = stamp; label = option_map (λ l. l.now) label.entry })
               site.old.cells;
         })) }

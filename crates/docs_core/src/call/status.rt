@@ -28,7 +28,7 @@ fn label_count(catalogue: &Catalogue) -> u128
     // There are no more cells than this counts.
     let _most = catalogue.len();
     let mut count = 0;
-    'cells: for (_, _, cell) in catalogue.iter() {
+    for (_, _, cell) in catalogue.iter() {
         if cell.label().is_some() {
             count += 1;
         }

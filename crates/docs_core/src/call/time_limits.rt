@@ -87,7 +87,7 @@ pub fn first_row_ahead(cells: &Catalogue, not_after: u64) -> Option<usize>
         (IsFirstAhead cells.now not_after) }
 {
     let mut row = 0usize;
-    'cells: for (_, _, cell) in cells.iter() {
+    for (_, _, cell) in cells.iter() {
         if cell.stamp().time > not_after {
             return Some(row);
         }

@@ -73,7 +73,7 @@ pub fn update_labels(
 {
     let mut olds = old.labels();
     let mut news = new.labels();
-    'keys: while let Some((revised, old_rest, new_rest)) = first_revised(olds, news) {
+    while let Some((revised, old_rest, new_rest)) = first_revised(olds, news) {
         match revise(alloc, site, now, &revised) {
             Ok(()) => {}
             Err(fault) => return Err(fault),

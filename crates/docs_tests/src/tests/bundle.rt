@@ -11,10 +11,14 @@ use std::process::Abort;
 use std::test::Fail;
 
 const SITE: &[u8] =
-    br#"{"cells":[["m","@none",1,"a",0,["x"]],["m","en",1,"a",1,["Hello"]],["m","fr",1,"a",2,["Bonjour"]],["n","de",1,"a",3,["Hallo"]],["o","en",1,"a",4,null]],"kind":"site","site":"a","version":2}"#;
+    b"{\"cells\":[[\"m\",\"@none\",1,\"a\",0,[\"x\"]],[\"m\",\"en\",1,\"a\",1,[\"Hello\"]],\
+        [\"m\",\"fr\",1,\"a\",2,[\"Bonjour\"]],[\"n\",\"de\",1,\"a\",3,[\"Hallo\"]],\
+        [\"o\",\"en\",1,\"a\",4,null]],\"kind\":\"site\",\"site\":\"a\",\"version\":2}";
 
 const REGIONS: &[u8] =
-    br#"{"cells":[["m","en-us",1,"a",0,["color"]],["m","fr",1,"a",1,["couleur"]],["n","en",1,"a",2,["n"]],["n","en-gb",1,"a",3,["gb"]],["o","de",1,"a",4,["o"]]],"kind":"site","site":"a","version":2}"#;
+    b"{\"cells\":[[\"m\",\"en-us\",1,\"a\",0,[\"color\"]],[\"m\",\"fr\",1,\"a\",1,[\"couleur\"]],\
+        [\"n\",\"en\",1,\"a\",2,[\"n\"]],[\"n\",\"en-gb\",1,\"a\",3,[\"gb\"]],\
+        [\"o\",\"de\",1,\"a\",4,[\"o\"]]],\"kind\":\"site\",\"site\":\"a\",\"version\":2}";
 
 fn lang(rt: &impl Abort, alloc: Global, tag: &str) -> Lang {
     Lang::parse(alloc, tag.as_bytes()).expect(rt, "a language")

@@ -5,21 +5,26 @@ use std::alloc::Global;
 use std::process::Abort;
 use std::test::Fail;
 
-const BEFORE: &str =
-    "{\"cells\":[[\"m\",\"en\",5,\"paris\",0,[\"Hello\"]],[\"m\",\"fr\",5,\"paris\",1,[\"Salut\"]]],\"kind\":\"site\",\"site\":\"paris\",\"version\":2}\n";
+const BEFORE: &str = "{\"cells\":[[\"m\",\"en\",5,\"paris\",0,[\"Hello\"]],\
+        [\"m\",\"fr\",5,\"paris\",1,[\"Salut\"]]],\"kind\":\"site\",\"site\":\"paris\",\
+        \"version\":2}\n";
 
 const AFTER: &str =
-    "{\"cells\":[[\"m\",\"en\",5,\"paris\",0,[\"Hello\"]],[\"m\",\"fr\",9,\"tokyo\",0,null],[\"n\",\"de\",7,\"tokyo\",0,[\"a\",\"b\"]]],\"kind\":\"site\",\"site\":\"paris\",\"version\":2}\n";
+    "{\"cells\":[[\"m\",\"en\",5,\"paris\",0,[\"Hello\"]],[\"m\",\"fr\",9,\"tokyo\",0,null],\
+        [\"n\",\"de\",7,\"tokyo\",0,[\"a\",\"b\"]]],\"kind\":\"site\",\"site\":\"paris\",\
+        \"version\":2}\n";
 
-const CHANGES: &str =
-    "changes 2\n[\"m\",\"fr\",[5,\"paris\",1,[\"Salut\"]],[9,\"tokyo\",0,null]]\n[\"n\",\"de\",null,[7,\"tokyo\",0,[\"a\",\"b\"]]]\n";
+const CHANGES: &str = "changes 2\n[\"m\",\"fr\",[5,\"paris\",1,[\"Salut\"]],[9,\"tokyo\",0,null]]\n\
+        [\"n\",\"de\",null,[7,\"tokyo\",0,[\"a\",\"b\"]]]\n";
 
 const CHANGES_BACK: &str =
-    "changes 2\n[\"m\",\"fr\",[9,\"tokyo\",0,null],[5,\"paris\",1,[\"Salut\"]]]\n[\"n\",\"de\",[7,\"tokyo\",0,[\"a\",\"b\"]],null]\n";
+    "changes 2\n[\"m\",\"fr\",[9,\"tokyo\",0,null],[5,\"paris\",1,[\"Salut\"]]]\n\
+        [\"n\",\"de\",[7,\"tokyo\",0,[\"a\",\"b\"]],null]\n";
 
 /// One stamp with two labels.
-const RELABELLED: &str =
-    "{\"cells\":[[\"m\",\"en\",5,\"paris\",0,[\"Hallo\"]],[\"m\",\"fr\",5,\"paris\",1,[\"Salut\"]]],\"kind\":\"site\",\"site\":\"lyon\",\"version\":2}";
+const RELABELLED: &str = "{\"cells\":[[\"m\",\"en\",5,\"paris\",0,[\"Hallo\"]],\
+        [\"m\",\"fr\",5,\"paris\",1,[\"Salut\"]]],\"kind\":\"site\",\"site\":\"lyon\",\
+        \"version\":2}";
 
 const RELABELLING: &str =
     "changes 1\n[\"m\",\"en\",[5,\"paris\",0,[\"Hello\"]],[5,\"paris\",0,[\"Hallo\"]]]\n";

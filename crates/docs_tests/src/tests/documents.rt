@@ -16,11 +16,11 @@ const EMPTY: &str = "{\"cells\":[],\"kind\":\"site\",\"site\":\"0000000001\",\"v
 
 const EMPTY_AS_1: &str = r#"{"cells":[],"kind":"site","site":1,"version":1}"#;
 
-const EDITED: &str =
-    "{\"cells\":[[\"m\",\"en\",5,\"0000000001\",0,[\"a\"]]],\"kind\":\"site\",\"site\":\"0000000001\",\"version\":2}\n";
+const EDITED: &str = "{\"cells\":[[\"m\",\"en\",5,\"0000000001\",0,[\"a\"]]],\
+        \"kind\":\"site\",\"site\":\"0000000001\",\"version\":2}\n";
 
-const DELETED: &str =
-    "{\"cells\":[[\"m\",\"en\",5,\"0000000001\",1,null]],\"kind\":\"site\",\"site\":\"0000000001\",\"version\":2}\n";
+const DELETED: &str = "{\"cells\":[[\"m\",\"en\",5,\"0000000001\",1,null]],\
+        \"kind\":\"site\",\"site\":\"0000000001\",\"version\":2}\n";
 
 const DELETED_AS_1: &str =
     r#"{"cells":[["m","en",5,1,1,null]],"kind":"site","site":1,"version":1}"#;
@@ -29,27 +29,27 @@ const OTHER: &str = "{\"cells\":[],\"kind\":\"site\",\"site\":\"0000000002\",\"v
 
 const TOLD: &str = "{\"kind\":\"summary\",\"owner\":\"0000000002\",\"stamps\":[],\"version\":2}\n";
 
-const DELTA: &str =
-    "{\"cells\":[[\"m\",\"en\",5,\"0000000001\",0,[\"a\"]]],\"kind\":\"delta\",\"to\":\"0000000002\",\"version\":2}\n";
+const DELTA: &str = "{\"cells\":[[\"m\",\"en\",5,\"0000000001\",0,[\"a\"]]],\
+        \"kind\":\"delta\",\"to\":\"0000000002\",\"version\":2}\n";
 
 /// The same without its last two bytes.
-const DELTA_CUT: &str =
-    "{\"cells\":[[\"m\",\"en\",5,\"0000000001\",0,[\"a\"]]],\"kind\":\"delta\",\"to\":\"0000000002\",\"version\":2";
+const DELTA_CUT: &str = "{\"cells\":[[\"m\",\"en\",5,\"0000000001\",0,[\"a\"]]],\
+        \"kind\":\"delta\",\"to\":\"0000000002\",\"version\":2";
 
-const TAKEN: &str =
-    "{\"cells\":[[\"m\",\"en\",5,\"0000000001\",0,[\"a\"]]],\"kind\":\"site\",\"site\":\"0000000002\",\"version\":2}\n";
+const TAKEN: &str = "{\"cells\":[[\"m\",\"en\",5,\"0000000001\",0,[\"a\"]]],\
+        \"kind\":\"site\",\"site\":\"0000000002\",\"version\":2}\n";
 
 /// Three sites that hold the deletion which the third made.
-const FIRST_HELD: &str =
-    "{\"cells\":[[\"m\",\"en\",7,\"0000000003\",0,null]],\"kind\":\"site\",\"site\":\"0000000001\",\"version\":2}\n";
+const FIRST_HELD: &str = "{\"cells\":[[\"m\",\"en\",7,\"0000000003\",0,null]],\
+        \"kind\":\"site\",\"site\":\"0000000001\",\"version\":2}\n";
 
-const HELD: &str =
-    "{\"cells\":[[\"m\",\"en\",7,\"0000000003\",0,null]],\"kind\":\"site\",\"site\":\"0000000002\",\"version\":2}\n";
+const HELD: &str = "{\"cells\":[[\"m\",\"en\",7,\"0000000003\",0,null]],\
+        \"kind\":\"site\",\"site\":\"0000000002\",\"version\":2}\n";
 
 const HELD_AS_1: &str = r#"{"cells":[["m","en",7,3,0,null]],"kind":"site","site":2,"version":1}"#;
 
-const THIRD: &str =
-    "{\"cells\":[[\"m\",\"en\",7,\"0000000003\",0,null]],\"kind\":\"site\",\"site\":\"0000000003\",\"version\":2}\n";
+const THIRD: &str = "{\"cells\":[[\"m\",\"en\",7,\"0000000003\",0,null]],\
+        \"kind\":\"site\",\"site\":\"0000000003\",\"version\":2}\n";
 
 const EDITED_AS_1: &str =
     r#"{"cells":[["m","en",5,1,0,["a"]]],"kind":"site","site":1,"version":1}"#;
@@ -62,31 +62,37 @@ const DELTA_AS_1: &str = r#"{"cells":[["m","en",5,1,0,["a"]]],"kind":"delta","to
 
 const EMPTY_DELTA_AS_1: &str = r#"{"cells":[],"kind":"delta","to":2,"version":1}"#;
 
-const IMPORTED: &str =
-    "{\"cells\":[[\"m\",\"@none\",10,\"0000000001\",0,[\"c\"]],[\"m\",\"en\",10,\"0000000001\",1,[\"a\"]],[\"m\",\"fr\",10,\"0000000001\",2,[\"b\"]]],\"kind\":\"site\",\"site\":\"0000000001\",\"version\":2}\n";
+const IMPORTED: &str = "{\"cells\":[[\"m\",\"@none\",10,\"0000000001\",0,[\"c\"]],\
+        [\"m\",\"en\",10,\"0000000001\",1,[\"a\"]],[\"m\",\"fr\",10,\"0000000001\",2,[\"b\"]]],\
+        \"kind\":\"site\",\"site\":\"0000000001\",\"version\":2}\n";
 
 const IMPORTED_AS_1: &str =
-    "{\"version\":1,\"site\":1,\"kind\":\"site\",\"cells\":[[\"m\",\"@none\",10,1,0,[\"c\"]],[\"m\",\"EN\",10,1,1,[\"a\"]],[\"m\",\"fr\",10,1,2,[\"b\"]]]}";
+    "{\"version\":1,\"site\":1,\"kind\":\"site\",\"cells\":[[\"m\",\"@none\",10,1,0,[\"c\"]],\
+        [\"m\",\"EN\",10,1,1,[\"a\"]],[\"m\",\"fr\",10,1,2,[\"b\"]]]}";
 
 const SUMMARY: &str =
-    "{\"kind\":\"summary\",\"owner\":\"0000000007\",\"stamps\":[[\"m\",\"en\",5,\"0000000000\",0],[\"m\",\"fr\",18446744073709551615,\"4294967295\",4294967295]],\"version\":2}\n";
+    "{\"kind\":\"summary\",\"owner\":\"0000000007\",\"stamps\":[[\"m\",\"en\",5,\"0000000000\",0],\
+        [\"m\",\"fr\",18446744073709551615,\"4294967295\",4294967295]],\"version\":2}\n";
 
-const SUMMARY_AS_1: &str =
-    r#"{"kind":"summary","owner":7,"stamps":[["m","EN",5,0,0],["m","fr",18446744073709551615,4294967295,4294967295]],"version":1}"#;
+const SUMMARY_AS_1: &str = concat!(
+    r#"{"kind":"summary","owner":7,"stamps":[["m","EN",5,0,0],"#,
+    r#"["m","fr",18446744073709551615,4294967295,4294967295]],"version":1}"#
+);
 
 /// A site whose clock is spent.
-const SPENT: &str =
-    "{\"cells\":[[\"m\",\"en\",18446744073709551615,\"b\",0,null]],\"kind\":\"site\",\"site\":\"a\",\"version\":2}";
+const SPENT: &str = "{\"cells\":[[\"m\",\"en\",18446744073709551615,\"b\",0,null]],\
+        \"kind\":\"site\",\"site\":\"a\",\"version\":2}";
 
 /// Two sites that clash.
-const ONE: &str =
-    "{\"cells\":[[\"m\",\"en\",5,\"0000000001\",0,[\"one\"]]],\"kind\":\"site\",\"site\":\"0000000001\",\"version\":2}";
+const ONE: &str = "{\"cells\":[[\"m\",\"en\",5,\"0000000001\",0,[\"one\"]]],\
+        \"kind\":\"site\",\"site\":\"0000000001\",\"version\":2}";
 
-const TWO: &str =
-    "{\"cells\":[[\"m\",\"en\",5,\"0000000001\",0,[\"two\"]]],\"kind\":\"site\",\"site\":\"0000000002\",\"version\":2}";
+const TWO: &str = "{\"cells\":[[\"m\",\"en\",5,\"0000000001\",0,[\"two\"]]],\
+        \"kind\":\"site\",\"site\":\"0000000002\",\"version\":2}";
 
 const PARIS: &str =
-    "{\"cells\":[[\"m\",\"en\",5,\"paris\",0,[\"b\"]]],\"kind\":\"site\",\"site\":\"paris\",\"version\":2}";
+    "{\"cells\":[[\"m\",\"en\",5,\"paris\",0,[\"b\"]]],\"kind\":\"site\",\"site\":\"paris\",\
+        \"version\":2}";
 
 /// A call over the documents that it is given.
 #[derive(Clone, Copy)]
@@ -362,8 +368,10 @@ fn a_clash_mended(rt: HostRuntime) {
     assert!(rt;
         is_pair(
             mended(rt.alloc()),
-            "{\"cells\":[[\"m\",\"en\",6,\"0000000001\",0,[\"three\"]]],\"kind\":\"site\",\"site\":\"0000000001\",\"version\":2}\n",
-            "{\"cells\":[[\"m\",\"en\",6,\"0000000001\",0,[\"three\"]]],\"kind\":\"site\",\"site\":\"0000000002\",\"version\":2}\n"
+            "{\"cells\":[[\"m\",\"en\",6,\"0000000001\",0,[\"three\"]]],\
+                \"kind\":\"site\",\"site\":\"0000000001\",\"version\":2}\n",
+            "{\"cells\":[[\"m\",\"en\",6,\"0000000001\",0,[\"three\"]]],\
+                \"kind\":\"site\",\"site\":\"0000000002\",\"version\":2}\n"
         )
     );
 }
@@ -376,8 +384,10 @@ const SYNCS: &[Sync] = &[
         "over versions",
         [EDITED_AS_1, PARIS],
         [
-            "{\"cells\":[[\"m\",\"en\",5,\"paris\",0,[\"b\"]]],\"kind\":\"site\",\"site\":\"0000000001\",\"version\":2}\n",
-            "{\"cells\":[[\"m\",\"en\",5,\"paris\",0,[\"b\"]]],\"kind\":\"site\",\"site\":\"paris\",\"version\":2}\n",
+            "{\"cells\":[[\"m\",\"en\",5,\"paris\",0,[\"b\"]]],\
+                \"kind\":\"site\",\"site\":\"0000000001\",\"version\":2}\n",
+            "{\"cells\":[[\"m\",\"en\",5,\"paris\",0,[\"b\"]]],\
+                \"kind\":\"site\",\"site\":\"paris\",\"version\":2}\n",
         ],
     ),
     ("a deletion after a put", [EDITED, HELD], [FIRST_HELD, HELD]),

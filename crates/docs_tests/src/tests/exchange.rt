@@ -13,8 +13,9 @@ const EMPTY: &[u8] = br#"{"cells":[],"kind":"site","site":1,"version":1}"#;
 
 const MAPS: &[u8] = br#"{"@context":{},"m":{"EN":"a","de":null,"fr":["b",null],"@none":"c"}}"#;
 
-const IMPORTED: &[u8] =
-    b"{\"cells\":[[\"m\",\"@none\",10,\"0000000001\",0,[\"c\"]],[\"m\",\"en\",10,\"0000000001\",1,[\"a\"]],[\"m\",\"fr\",10,\"0000000001\",2,[\"b\"]]],\"kind\":\"site\",\"site\":\"0000000001\",\"version\":2}\n";
+const IMPORTED: &[u8] = b"{\"cells\":[[\"m\",\"@none\",10,\"0000000001\",0,[\"c\"]],\
+        [\"m\",\"en\",10,\"0000000001\",1,[\"a\"]],[\"m\",\"fr\",10,\"0000000001\",2,[\"b\"]]],\
+        \"kind\":\"site\",\"site\":\"0000000001\",\"version\":2}\n";
 
 fn assert_document(rt: &impl Abort, made: Result<Doc, DocFault>, wanted: &[u8]) {
     let is_wanted = made.is_ok_and(|doc| doc.bytes() == wanted);
@@ -41,8 +42,8 @@ fn a_site_of_version_2_takes_labels_alike(rt: HostRuntime) {
 fn an_equal_label_gets_a_new_stamp(rt: HostRuntime) {
     let site = br#"{"cells":[["m","en",12,1,3,["a"]]],"kind":"site","site":1,"version":1}"#;
     let maps = br#"{"m":{"en":"a"}}"#;
-    let again =
-        b"{\"cells\":[[\"m\",\"en\",12,\"0000000001\",4,[\"a\"]]],\"kind\":\"site\",\"site\":\"0000000001\",\"version\":2}\n";
+    let again = b"{\"cells\":[[\"m\",\"en\",12,\"0000000001\",4,[\"a\"]]],\
+            \"kind\":\"site\",\"site\":\"0000000001\",\"version\":2}\n";
     assert_imported(&rt, rt.alloc(), site, maps, again);
 }
 
@@ -77,8 +78,8 @@ fn the_site_is_read_first(rt: HostRuntime) {
 
 #[test]
 fn a_spent_clock_refuses_the_whole(rt: HostRuntime) {
-    let site =
-        br#"{"cells":[["m","en",18446744073709551615,"b",4294967295,["a"]]],"kind":"site","site":"a","version":2}"#;
+    let site = b"{\"cells\":[[\"m\",\"en\",18446744073709551615,\"b\",4294967295,[\"a\"]]],\
+            \"kind\":\"site\",\"site\":\"a\",\"version\":2}";
     let made = import_document(rt.alloc(), site, 10, MAPS);
     assert_refused(&rt, made, 0, DocCause::Site(CataFault::ClockSpent));
 }

@@ -13,26 +13,43 @@ use std::io::{Read, Write};
 use std::process::Abort;
 use std::test::Fail;
 
-const TWO_SITES: &str =
-    r#"{"kind":"script","sites":2,"steps":[["edit",0,["m","en",5,1,0,["one"]]],["edit",1,["m","en",5,2,0,["two"]]],["edit",1,["m","en",5,2,0,["two"]]],["merge",0,1],["merge",1,0],["cells",0],["cells",1],["lookup",0,"m","en-GB",null]],"version":1}"#;
+const TWO_SITES: &str = concat!(
+    r#"{"kind":"script","sites":2,"steps":[["edit",0,["m","en",5,1,0,["one"]]],"#,
+    r#"["edit",1,["m","en",5,2,0,["two"]]],["edit",1,["m","en",5,2,0,["two"]]],["merge",0,1],"#,
+    r#"["merge",1,0],["cells",0],["cells",1],["lookup",0,"m","en-GB",null]],"version":1}"#
+);
 
-const FIVE_LINES: &str =
-    "cells 1\n[\"m\",\"en\",5,\"0000000002\",0,[\"two\"]]\ncells 1\n[\"m\",\"en\",5,\"0000000002\",0,[\"two\"]]\nmatched en [\"two\"]\n";
+const FIVE_LINES: &str = "cells 1\n[\"m\",\"en\",5,\"0000000002\",0,[\"two\"]]\ncells 1\n\
+        [\"m\",\"en\",5,\"0000000002\",0,[\"two\"]]\nmatched en [\"two\"]\n";
 
-const DELTA: &str =
-    r#"{"kind":"script","sites":2,"steps":[["tell",1],["edit",0,["m","en",5,1,0,["a"]]],["post",0,0],["edit",1,["m","en",7,2,0,null]],["deliver",0],["deliver",0],["cells",1]],"version":1}"#;
+const DELTA: &str = concat!(
+    r#"{"kind":"script","sites":2,"steps":[["tell",1],["edit",0,["m","en",5,1,0,["a"]]],"#,
+    r#"["post",0,0],["edit",1,["m","en",7,2,0,null]],["deliver",0],["deliver",0],["cells",1]],"#,
+    r#""version":1}"#
+);
 
-const LATE_DELTAS: &str =
-    r#"{"kind":"script","sites":3,"steps":[["tell",1],["edit",0,["m","en",5,1,0,["a"]]],["post",0,0],["edit",0,["m","en",6,1,0,null]],["edit",0,["m","fr",6,1,1,["b"]]],["post",0,0],["deliver",1],["deliver",0],["deliver",1],["cells",1],["tell",1],["post",0,1],["deliver",2],["cells",1],["cells",2]],"version":1}"#;
+const LATE_DELTAS: &str = concat!(
+    r#"{"kind":"script","sites":3,"steps":[["tell",1],["edit",0,["m","en",5,1,0,["a"]]],"#,
+    r#"["post",0,0],["edit",0,["m","en",6,1,0,null]],["edit",0,["m","fr",6,1,1,["b"]]],"#,
+    r#"["post",0,0],["deliver",1],["deliver",0],["deliver",1],["cells",1],["tell",1],"#,
+    r#"["post",0,1],["deliver",2],["cells",1],["cells",2]],"version":1}"#
+);
 
-const LOST_DELTAS: &str =
-    r#"{"kind":"script","sites":3,"steps":[["tell",1],["edit",0,["m","en",5,1,0,["a"]]],["post",0,0],["edit",0,["m","en",6,1,0,null]],["edit",0,["m","fr",6,1,1,["b"]]],["post",0,0],["cells",1]],"version":1}"#;
+const LOST_DELTAS: &str = concat!(
+    r#"{"kind":"script","sites":3,"steps":[["tell",1],["edit",0,["m","en",5,1,0,["a"]]],"#,
+    r#"["post",0,0],["edit",0,["m","en",6,1,0,null]],["edit",0,["m","fr",6,1,1,["b"]]],"#,
+    r#"["post",0,0],["cells",1]],"version":1}"#
+);
 
-const SITE: &str =
-    r#"{"cells":[["m","@none",1,1,0,["x"]],["m","en",1,1,1,["Hello"]],["m","fr",1,1,2,["Bonjour"]]],"kind":"site","site":1,"version":1}"#;
+const SITE: &str = concat!(
+    r#"{"cells":[["m","@none",1,1,0,["x"]],["m","en",1,1,1,["Hello"]],"#,
+    r#"["m","fr",1,1,2,["Bonjour"]]],"kind":"site","site":1,"version":1}"#
+);
 
-const CLASH: &str =
-    r#"{"kind":"script","sites":1,"steps":[["cells",0],["edit",0,["m","en",5,1,0,["a"]]],["edit",0,["m","en",5,1,0,["b"]]]],"version":1}"#;
+const CLASH: &str = concat!(
+    r#"{"kind":"script","sites":1,"steps":[["cells",0],["edit",0,["m","en",5,1,0,["a"]]],"#,
+    r#"["edit",0,["m","en",5,1,0,["b"]]]],"version":1}"#
+);
 
 /// Gives one byte a read, and fails at the read of the given number, counted from 1.
 #[derive(Drop)]
@@ -132,8 +149,10 @@ fn a_delta(rt: HostRuntime) {
 #[test]
 fn late_repeated_and_reordered_deltas(rt: HostRuntime) {
     let lines = concat!(
-        "cells 2\n[\"m\",\"en\",6,\"0000000001\",0,null]\n[\"m\",\"fr\",6,\"0000000001\",1,[\"b\"]]\n",
-        "cells 2\n[\"m\",\"en\",6,\"0000000001\",0,null]\n[\"m\",\"fr\",6,\"0000000001\",1,[\"b\"]]\n",
+        "cells 2\n[\"m\",\"en\",6,\"0000000001\",0,null]\n[\"m\",\"fr\",6,\"0000000001\",1,\
+            [\"b\"]]\n",
+        "cells 2\n[\"m\",\"en\",6,\"0000000001\",0,null]\n[\"m\",\"fr\",6,\"0000000001\",1,\
+            [\"b\"]]\n",
         "cells 0\n"
     );
     assert_writes(&rt, rt.alloc(), LATE_DELTAS, lines);
@@ -156,8 +175,11 @@ fn steps_that_are_refused(rt: HostRuntime) {
 
 #[test]
 fn an_unknown_summary(rt: HostRuntime) {
-    let script =
-        r#"{"kind":"script","sites":2,"steps":[["tell",1],["edit",0,["m","en",5,1,0,["a"]]],["post",0,0],["edit",1,["m","en",7,2,0,null]],["deliver",0],["deliver",0],["cells",1],["post",0,1]],"version":1}"#;
+    let script = concat!(
+        r#"{"kind":"script","sites":2,"steps":[["tell",1],["edit",0,["m","en",5,1,0,["a"]]],"#,
+        r#"["post",0,0],["edit",1,["m","en",7,2,0,null]],["deliver",0],["deliver",0],["cells",1],"#,
+        r#"["post",0,1]],"version":1}"#
+    );
     let cause = DocCause::Step(PlayFault::NoSuchPost { step: 7 });
     assert_ends(&rt, rt.alloc(), script, cause);
 }

@@ -7,7 +7,9 @@ use std::process::Abort;
 use std::test::Fail;
 
 const SITE: &[u8] =
-    br#"{"cells":[["m","@none",1,"a",0,["x"]],["m","en",1,"a",1,["Hello"]],["m","fr",1,"a",2,["Bonjour"]],["n","de",1,"a",3,["Hallo"]],["o","en",1,"a",4,null]],"kind":"site","site":"a","version":2}"#;
+    b"{\"cells\":[[\"m\",\"@none\",1,\"a\",0,[\"x\"]],[\"m\",\"en\",1,\"a\",1,[\"Hello\"]],\
+        [\"m\",\"fr\",1,\"a\",2,[\"Bonjour\"]],[\"n\",\"de\",1,\"a\",3,[\"Hallo\"]],\
+        [\"o\",\"en\",1,\"a\",4,null]],\"kind\":\"site\",\"site\":\"a\",\"version\":2}";
 
 /// What lacks the language in a site is this, also of the site in memory, and whether there is a
 /// message.

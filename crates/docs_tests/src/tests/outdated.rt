@@ -7,7 +7,11 @@ use std::process::Abort;
 use std::test::Fail;
 
 const SITE: &[u8] =
-    br#"{"cells":[["m","de",5,"paris",0,["m-de"]],["m","en",7,"paris",0,["m-en"]],["m","fr",7,"paris",1,["m-fr"]],["n","de",9,"paris",0,["n-de"]],["n","en",5,"paris",1,["n-en"]],["o","en",9,"paris",1,["o-en"]],["p","de",5,"paris",2,["p-de"]],["p","en",9,"paris",2,null]],"kind":"site","site":"paris","version":2}"#;
+    b"{\"cells\":[[\"m\",\"de\",5,\"paris\",0,[\"m-de\"]],[\"m\",\"en\",7,\"paris\",0,[\"m-en\"]],\
+        [\"m\",\"fr\",7,\"paris\",1,[\"m-fr\"]],[\"n\",\"de\",9,\"paris\",0,[\"n-de\"]],\
+        [\"n\",\"en\",5,\"paris\",1,[\"n-en\"]],[\"o\",\"en\",9,\"paris\",1,[\"o-en\"]],\
+        [\"p\",\"de\",5,\"paris\",2,[\"p-de\"]],[\"p\",\"en\",9,\"paris\",2,null]],\
+        \"kind\":\"site\",\"site\":\"paris\",\"version\":2}";
 
 /// What is outdated in the site is this, also of the site in memory, and whether there is any.
 fn is_outdated(alloc: Global, lang: &str, source: &str, text: &str) -> Result<bool, Fail> {

@@ -10,27 +10,34 @@ use std::process::Abort;
 use std::test::Fail;
 
 const SITE: &str =
-    "{\"cells\":[[\"m\",\"en\",500,\"a\",0,[\"own\"]]],\"kind\":\"site\",\"site\":\"a\",\"version\":2}\n";
+    "{\"cells\":[[\"m\",\"en\",500,\"a\",0,[\"own\"]]],\"kind\":\"site\",\"site\":\"a\",\
+        \"version\":2}\n";
 
 const OTHER: &str = "{\"cells\":[],\"kind\":\"site\",\"site\":\"b\",\"version\":2}\n";
 
 /// Its row 1 has the time 101.
 const DELTA: &str =
-    "{\"cells\":[[\"m\",\"en\",100,\"b\",0,[\"x\"]],[\"m\",\"fr\",101,\"b\",0,null],[\"n\",\"en\",102,\"b\",0,[\"y\"]]],\"kind\":\"delta\",\"to\":\"a\",\"version\":2}\n";
+    "{\"cells\":[[\"m\",\"en\",100,\"b\",0,[\"x\"]],[\"m\",\"fr\",101,\"b\",0,null],\
+        [\"n\",\"en\",102,\"b\",0,[\"y\"]]],\"kind\":\"delta\",\"to\":\"a\",\"version\":2}\n";
 
-const DELTA_AS_1: &str =
-    r#"{"cells":[["m","en",100,1,0,["x"]],["m","fr",101,1,0,null]],"kind":"delta","to":2,"version":1}"#;
+const DELTA_AS_1: &str = concat!(
+    r#"{"cells":[["m","en",100,1,0,["x"]],["m","fr",101,1,0,null]],"#,
+    r#""kind":"delta","to":2,"version":1}"#
+);
 
 const TAKEN: &str =
-    "{\"cells\":[[\"m\",\"en\",500,\"a\",0,[\"own\"]],[\"m\",\"fr\",101,\"b\",0,null],[\"n\",\"en\",102,\"b\",0,[\"y\"]]],\"kind\":\"site\",\"site\":\"a\",\"version\":2}\n";
+    "{\"cells\":[[\"m\",\"en\",500,\"a\",0,[\"own\"]],[\"m\",\"fr\",101,\"b\",0,null],\
+        [\"n\",\"en\",102,\"b\",0,[\"y\"]]],\"kind\":\"site\",\"site\":\"a\",\"version\":2}\n";
 
 /// A site whose row 0 has the time 101.
 const AHEAD: &str =
-    "{\"cells\":[[\"m\",\"en\",101,\"c\",0,[\"x\"]]],\"kind\":\"site\",\"site\":\"c\",\"version\":2}\n";
+    "{\"cells\":[[\"m\",\"en\",101,\"c\",0,[\"x\"]]],\"kind\":\"site\",\"site\":\"c\",\
+        \"version\":2}\n";
 
 /// The same cell with another label, at another site.
 const CLASHING: &str =
-    "{\"cells\":[[\"m\",\"en\",101,\"c\",0,[\"z\"]]],\"kind\":\"site\",\"site\":\"b\",\"version\":2}\n";
+    "{\"cells\":[[\"m\",\"en\",101,\"c\",0,[\"z\"]]],\"kind\":\"site\",\"site\":\"b\",\
+        \"version\":2}\n";
 
 fn is_refused<T: Drop>(answer: Result<T, DocFault>, line: &str) -> bool {
     match answer.err() {

@@ -169,7 +169,8 @@ fn a_language_of_the_old_maps_is_of_document_2(rt: HostRuntime) {
 
 /// Paris with a spent clock.
 const SPENT: &str =
-    "{\"cells\":[[\"m\",\"en\",18446744073709551615,\"paris\",4294967295,[\"Hello\"]]],\"kind\":\"site\",\"site\":\"paris\",\"version\":2}\n";
+    "{\"cells\":[[\"m\",\"en\",18446744073709551615,\"paris\",4294967295,[\"Hello\"]]],\
+        \"kind\":\"site\",\"site\":\"paris\",\"version\":2}\n";
 
 #[test]
 fn a_spent_clock_does_not_refuse_what_changes_nothing(rt: HostRuntime) -> Result<(), Fail> {

@@ -19,7 +19,7 @@ pub fn whole_number(text: &str) -> Option<u64>
 }
 
 /// Whether the number is read: a whole number of 64 bits, or one in the range of a float.
-pub fn is_in_range(text: &str) -> bool
+pub(crate) fn is_in_range(text: &str) -> bool
     ensures { result ≡ is_some (number_of text.now) }
 {
     let bytes = text.as_bytes();

@@ -15,10 +15,10 @@ use json::{Reader, Token, Value};
 use std::alloc::Global;
 
 /// Whether all numbers from here to the end are in range.
-pub fn has_numbers_in_range(reader: &mut Reader<'_>) -> bool
+pub(crate) fn has_numbers_in_range(reader: &mut Reader<'_>) -> bool
     ensures { result ≡ are_in_range reader.old }
 {
-    'tokens: while let Some(token) = reader.next() {
+    while let Some(token) = reader.next() {
         if !is_token_in_range(token) {
             return false;
         }

@@ -90,7 +90,7 @@ pub fn write_out<S: Sink>(writer: &mut S, bytes: &[u8]) -> Result<(), DocFault>
     ensures failed { S.failed writer.new ≡ is_err result }
 {
     let mut rest = bytes;
-    'writes: while !rest.is_empty() {
+    while !rest.is_empty() {
         let Ok(count) = writer.write(rest) else {
             return Err(DocFault::of_no_document(DocCause::WriteFault));
         };

@@ -93,7 +93,7 @@ pub fn read_all<S: Source>(alloc: Global, reader: &mut S) -> Result<Doc, DocFaul
 {
     let mut buffer = Vec::new(alloc);
     let mut filled = 0;
-    'reads: while filled <= MOST_BYTES {
+    while filled <= MOST_BYTES {
         make_room(&mut buffer, filled)?;
         let Ok(count) = read_behind(reader, &mut buffer, filled) else {
             return Err(DocFault::of_no_document(DocCause::ReadFault));

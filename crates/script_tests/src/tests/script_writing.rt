@@ -11,20 +11,34 @@ use std::process::Abort;
 use std::test::Fail;
 
 /// Each kind of step.
-const STEPS: &str =
-    r#"{"kind":"script","sites":2,"steps":[["edit",0,["m","en",5,"paris",0,["one","two"]]],["edit",1,["m","@none",18446744073709551615,"rome",4294967295,null]],["merge",0,1],["filter",0,"m","basic","de-ch,en;q=0.5,*;q=0"],["filter",0,"m","extended","de-*-ch,*"],["lookup",0,"m","en-gb","fr"],["lookup",1,"m","",null],["lookup",1,"m","*","@none"],["cells",1],["tell",1],["post",0,0],["deliver",0]],"version":2}"#;
+const STEPS: &str = concat!(
+    r#"{"kind":"script","sites":2,"steps":[["edit",0,["m","en",5,"paris",0,["one","two"]]],"#,
+    r#"["edit",1,["m","@none",18446744073709551615,"rome",4294967295,null]],["merge",0,1],"#,
+    r#"["filter",0,"m","basic","de-ch,en;q=0.5,*;q=0"],["filter",0,"m","extended","de-*-ch,*"],"#,
+    r#"["lookup",0,"m","en-gb","fr"],["lookup",1,"m","",null],["lookup",1,"m","*","@none"],"#,
+    r#"["cells",1],["tell",1],["post",0,0],["deliver",0]],"version":2}"#
+);
 
-const WEIGHTS: &str =
-    r#"{ "version" : 2, "steps" : [["lookup",4294967295,"m"," , EN ; Q=1.000,fr;q=0.900,\tde;q=0.120,it;q=0.123,nl;q=0.010,da;q=0.001,sv;q=0. , ",null]], "sites" : 1, "kind" : "script" }"#;
+const WEIGHTS: &str = concat!(
+    r#"{ "version" : 2, "steps" : [["lookup",4294967295,"m"," , EN ; Q=1.000,fr;q=0.900,"#,
+    r#"\tde;q=0.120,it;q=0.123,nl;q=0.010,da;q=0.001,sv;q=0. , ",null]],"#,
+    r#" "sites" : 1, "kind" : "script" }"#
+);
 
-const WEIGHTS_AGAIN: &str =
-    r#"{"kind":"script","sites":1,"steps":[["lookup",4294967295,"m","en,fr;q=0.9,de;q=0.12,it;q=0.123,nl;q=0.01,da;q=0.001,sv;q=0",null]],"version":2}"#;
+const WEIGHTS_AGAIN: &str = concat!(
+    r#"{"kind":"script","sites":1,"steps":[["lookup",4294967295,"m","en,fr;q=0.9,de;q=0.12,"#,
+    r#"it;q=0.123,nl;q=0.01,da;q=0.001,sv;q=0",null]],"version":2}"#
+);
 
-const TWO_SITES: &str =
-    r#"{"kind":"script","sites":2,"steps":[["edit",0,["m","en",5,1,0,["one"]]],["merge",0,1],["lookup",0,"m","en-GB",null]],"version":1}"#;
+const TWO_SITES: &str = concat!(
+    r#"{"kind":"script","sites":2,"steps":[["edit",0,["m","en",5,1,0,["one"]]],["merge",0,1],"#,
+    r#"["lookup",0,"m","en-GB",null]],"version":1}"#
+);
 
-const TWO_SITES_AGAIN: &str =
-    r#"{"kind":"script","sites":2,"steps":[["edit",0,["m","en",5,"0000000001",0,["one"]]],["merge",0,1],["lookup",0,"m","en-gb",null]],"version":2}"#;
+const TWO_SITES_AGAIN: &str = concat!(
+    r#"{"kind":"script","sites":2,"steps":[["edit",0,["m","en",5,"0000000001",0,["one"]]],"#,
+    r#"["merge",0,1],["lookup",0,"m","en-gb",null]],"version":2}"#
+);
 
 fn rewritten(alloc: Global, text: &str) -> Result<Doc, DocFault> {
     let script = read_script(alloc, text.as_bytes())?;

@@ -14,8 +14,8 @@ returns-clause-outdated c = outdated_of_part
 
 pub returns-clause-bundle : goal.returns-clause-bundle
 returns-clause-bundle c =
-    λ messages widening cells items default labels bundle. bundle_of_part widening cells items
-    default messages labels bundle
+    λ messages widening cells items default labels bundle.
+    bundle_of_part widening cells items default messages labels bundle
 
 pub returns-clause-nothing : goal.returns-clause-nothing
 returns-clause-nothing c = nothing_in_parts

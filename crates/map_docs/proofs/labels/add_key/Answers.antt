@@ -15,8 +15,7 @@ use Rattle.map_docs.proofs.labels.add_key.Goals as goal
 pub returns-in_err-lang-clause-err : goal.returns-in_err-lang-clause-err
 returns-in_err-lang-clause-err c =
     let p = err_from_is_err_and c.from_residual.result c.from_residual.ensures.1 in
-    rw (p.1, p.2)
-    (language_fails c.args.found.now.entries c.args.row c.as_str.result.now
+    rw (p.1, p.2) (language_fails c.args.found.now.entries c.args.row c.as_str.result.now
     (string_bytes c.args.key) (strings_seen c.args.strings) _ c.as_str.ensures.value
     c.in_err-lang.ensures)
 
@@ -55,8 +54,8 @@ returns-clause-ok c = λ before holds.
     sym c.contains_key.ensures ∙ c.if-contains_key.false in
     let passes =
     key_passes found c.args.row c.as_str.result.now key c.in_ok-lang.lang c.as_str.ensures.value
-    c.in_ok-lang.ensures absent texts (strings_seen c.args.strings) seen c.in_ok-label.ensures.0
-    before holds in
+    c.in_ok-lang.ensures absent texts (strings_seen c.args.strings) seen
+    c.in_ok-label.ensures.0 before holds in
     let lower =
     lower_of c.as_str.result.now key c.in_ok-lang.lang c.as_str.ensures.value
     c.in_ok-lang.ensures in

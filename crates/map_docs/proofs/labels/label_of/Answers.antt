@@ -10,8 +10,7 @@ returns-in-Err c =
     omega (
       arith,
       length-map c.args.strings.items string_bytes,
-      some_strings _
-          (sym c.is_empty.ensures ∙ c.if-is_empty.false),
+      some_strings _ (sym c.is_empty.ensures ∙ c.if-is_empty.false),
       c.args.strings.ok.0,
     ) in
     rw c.of_cell.ensures (strings_cause c.args.row texts c.in-Err.fault some c.in-Err.ensures)

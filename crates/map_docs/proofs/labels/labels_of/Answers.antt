@@ -4,7 +4,7 @@ use Rattle.std.specs.List.Sorted.{IsStrictlySortedBy}
 use Rattle.std.specs.Map.{keys_of}
 use Rattle.std.proofs.lemmas.Result.{err_from_is_err_and}
 use Rattle.json_docs.specs.Checks.{AllPass, FirstFails}
-use Rattle.map_docs.specs.LangMapChecks.{rows_checks}
+use Rattle.map_docs.specs.LangMapChecks.{members_checks}
 use Rattle.map_docs.specs.LangMapRows.{Rows}
 use Rattle.map_docs.specs.LangMapRowsSeen.{HeldKeys, keys_in_seen, rows_seen}
 use Rattle.map_docs.specs.LangMaps.{Labelled}
@@ -13,32 +13,33 @@ use Rattle.map_docs.proofs.LangMapLabelsLemmas.{first_lesser, else_by, one_furth
 use Rattle.map_docs.proofs.LangMapLabelsLemmas.{rows_pass, rows_seen_behind, same_length}
 use Rattle.map_docs.proofs.labels.labels_of.Goals as goal
 
-pub rows-init : goal.rows-init
-rows-init c =
+pub loop-name-init : goal.loop-name-init
+loop-name-init c =
     let left = c.into_iter-name-iterator.result in
     let gives = c.into_iter-name-iterator.ensures.into_iter_gives in
     let rising =
-    subst (λ (es : List (String Global × Option HeldKeys)). IsStrictlySortedBy string_cmp
-    (keys_of es)) (sym gives.0) gives.5 in (
+    subst (λ (es : List (String Global × Option HeldKeys)).
+    IsStrictlySortedBy string_cmp (keys_of es)) (sym gives.0) gives.5 in (
       [],
       sym gives.0,
       refl,
       tt,
-      subst (λ (labels : List Labelled). HoldsRows [] labels left)
-          (sym c.in_ok-maps.ensures) (HoldsRows-none left rising),
+      subst (λ (labels : List Labelled). HoldsRows [] labels left) (sym c.in_ok-maps.ensures)
+          (HoldsRows-none left rising),
     )
 
 pub add_row-requires-clause-lesser : goal.add_row-requires-clause-lesser
 add_row-requires-clause-lesser c =
-    first_lesser (rows_seen c.rows.invariant.0) c.rows.maps (c.in-Some.name, c.in-Some.keys)
+    first_lesser (rows_seen c.loop-name.invariant.0) c.loop-name.maps
+    (c.in-Some.name, c.in-Some.keys)
     c.next.new.self
-    (subst
-    (λ (es : List (String Global × Option HeldKeys)). HoldsRows (rows_seen c.rows.invariant.0)
-    c.rows.maps es) c.in-Some.ensures.steps c.rows.invariant.4)
+    (subst (λ (es : List (String Global × Option HeldKeys)).
+    HoldsRows (rows_seen c.loop-name.invariant.0) c.loop-name.maps es) c.in-Some.ensures.steps
+    c.loop-name.invariant.4)
 
 pub returns-in_err-add_row : goal.returns-in_err-add_row
 returns-in_err-add_row c =
-    let inv = c.rows.invariant in
+    let inv = c.loop-name.invariant in
     let front = inv.0 in
     let left = c.next.new.self in
     let e = c.in_err-add_row.field-0.0 in
@@ -50,29 +51,30 @@ returns-in_err-add_row c =
     c.from_residual-in_err-add_row.ensures.1 in
     rw (p.1, p.2)
     (else_by c.in_err-add_row.ensures.err
-    (λ fails. subst (λ (rs : Rows). FirstFails (rows_checks 0 rs) e) (sym all)
+    (λ fails. subst (λ (rs : Rows). FirstFails (members_checks 0 rs) e) (sym all)
     (rows_fail (rows_seen front) (string_bytes c.in-Some.name, keys_in_seen c.in-Some.keys)
-    (rows_seen left) c.rows.row e (inv.2 ∙ same_length front) inv.3 fails)))
+    (rows_seen left) c.loop-name.row e (inv.2 ∙ same_length front) inv.3 fails)))
 
-pub rows-preserved : goal.rows-preserved
-rows-preserved c =
-    let inv = c.rows.invariant in
+pub loop-name-preserved : goal.loop-name-preserved
+loop-name-preserved c =
+    let inv = c.loop-name.invariant in
     let front = inv.0 in
     let left = c.next.new.self in
     let took = c.in_ok-add_row.ensures.ok in
     let pushed = rows_seen_behind front ((c.in-Some.name, c.in-Some.keys) ∷ []) in
     let before =
-    subst (λ (es : List (String Global × Option HeldKeys)). HoldsRows (rows_seen front)
-    c.rows.maps es) c.in-Some.ensures.steps inv.4 in
+    subst (λ (es : List (String Global × Option HeldKeys)).
+    HoldsRows (rows_seen front) c.loop-name.maps es) c.in-Some.ensures.steps inv.4 in
     let holds =
-    HoldsRows-next (rows_seen front) c.rows.maps c.add_row.new.maps
+    HoldsRows-next (rows_seen front) c.loop-name.maps c.add_row.new.maps
     (c.in-Some.name, c.in-Some.keys) left before took.1 in (
       front ++ (c.in-Some.name, c.in-Some.keys) ∷ [],
-      one_further c.args.rows.entries front (c.in-Some.name, c.in-Some.keys) c.rows.name-iterator
+      one_further c.args.rows.entries front (c.in-Some.name, c.in-Some.keys)
+          c.loop-name.name-iterator
           left inv.1 c.in-Some.ensures.steps,
       ap (λ n. n + 1) inv.2 ∙ sym (length-append front ((c.in-Some.name, c.in-Some.keys) ∷ [])),
-      subst (λ (rs : Rows). AllPass (rows_checks 0 rs)) (sym pushed)
+      subst (λ (rs : Rows). AllPass (members_checks 0 rs)) (sym pushed)
           (rows_pass (rows_seen front) (string_bytes c.in-Some.name, keys_in_seen c.in-Some.keys)
-          c.rows.row (inv.2 ∙ same_length front) inv.3 took.0),
+          c.loop-name.row (inv.2 ∙ same_length front) inv.3 took.0),
       subst (λ (rs : Rows). HoldsRows rs c.add_row.new.maps left) (sym pushed) holds,
     )

@@ -1,15 +1,15 @@
 use Rattle.std.proofs.Common.{◌≡◌, List, String, Global, Option, length, ◌++◌}
 use Rattle.json_docs.specs.Checks.{AllPass}
-use Rattle.map_docs.specs.LangMapChecks.{rows_checks}
+use Rattle.map_docs.specs.LangMapChecks.{members_checks}
 use Rattle.map_docs.specs.LangMapRowsSeen.{HeldKeys, rows_seen}
 use Rattle.map_docs.proofs.LangMapLabelsLemmas.{HoldsRows}
 use Rattle.map_docs.proofs.labels.labels_of.Given as goal
 
--- the rows so far pass, their labels are kept, and those that are left are of greater messages
-abbrev pub invariant-rows : goal.invariant-rows
-invariant-rows l =
+-- the rows so far pass, their labels are held, and those that are left are of greater messages
+abbrev pub invariant-loop-name : goal.invariant-loop-name
+invariant-loop-name l =
     (front : List (String Global × Option HeldKeys))
     × (l.fn.rows.entries ≡ front ++ l.name-iterator)
     × (l.row ≡ length front)
-    × AllPass (rows_checks 0 (rows_seen front))
+    × AllPass (members_checks 0 (rows_seen front))
     × HoldsRows (rows_seen front) l.maps l.name-iterator

@@ -9,16 +9,16 @@ use Rattle.map_docs.proofs.LangMapLabelsLemmas.{else_by, keys_fail, keys_pass, k
 use Rattle.map_docs.proofs.LangMapLabelsLemmas.{one_further}
 use Rattle.map_docs.proofs.labels.languages_of.Goals as goal
 
-pub keys-preserved : goal.keys-preserved
-keys-preserved c =
-    let inv = c.keys.invariant in
+pub loop-key-preserved : goal.loop-key-preserved
+loop-key-preserved c =
+    let inv = c.loop-key.invariant in
     let front = inv.0 in
     let key = c.in-Some.key in
     let strings = c.in-Some.strings in
     let took = c.in_ok-add_key.ensures.ok (keys_seen front) inv.3 in
     let pushed = keys_seen_behind front ((key, strings) ∷ []) in (
       front ++ (key, strings) ∷ [],
-      one_further c.args.keys.items front (key, strings) (into_iter_items c.keys.key-iterator)
+      one_further c.args.keys.items front (key, strings) (into_iter_items c.loop-key.key-iterator)
           (into_iter_items c.next.new.self) inv.1 c.in-Some.ensures.steps.0,
       subst (λ (ms : Keys). AllPass (keys_checks c.args.row [] ms)) (sym pushed)
           (keys_pass c.args.row (keys_seen front) (string_bytes key) (strings_seen strings) inv.2
@@ -28,7 +28,7 @@ keys-preserved c =
 
 pub returns-in_err-add_key : goal.returns-in_err-add_key
 returns-in_err-add_key c =
-    let inv = c.keys.invariant in
+    let inv = c.loop-key.invariant in
     let front = inv.0 in
     let key = c.in-Some.key in
     let strings = c.in-Some.strings in

@@ -6,8 +6,8 @@ use Rattle.map_docs.specs.LangMapRowsSeen.{live}
 use Rattle.map_docs.proofs.labels.push_languages.Given as goal
 
 -- what was put, and what is left to put, rise
-abbrev pub invariant-found : goal.invariant-found
-invariant-found l = record {
+abbrev pub invariant-loop-lang : goal.invariant-loop-lang
+invariant-loop-lang l = record {
   all : l.maps ++ under l.id (live l.lang-iterator)
       ≡ l.fn.maps ++ under l.id (live l.fn.found.entries);
   sorted : IsMap key_cmp (l.maps ++ under l.id (live l.lang-iterator));

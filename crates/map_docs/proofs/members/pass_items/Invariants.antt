@@ -7,13 +7,13 @@ use Rattle.json_docs.proofs.ArraysLemmas.{before}
 use Rattle.map_docs.proofs.members.pass_items.Given as goal
 
 -- the array is the items that were passed, and then what is left
-abbrev pub invariant-items : goal.invariant-items
-invariant-items l =
+abbrev pub invariant-loop-reader : goal.invariant-loop-reader
+invariant-loop-reader l =
     (n : ℕ) × (front : List Data) × (length l.reader ≤ n)
     × (converted of_items (items (value 125) (length l.fn.reader) l.fn.reader)
     ≡ parse_map (before front) (converted of_items (items (value 125) n l.reader)))
     × (are_in_range l.reader ≡ true)
     × (length l.reader ≤ length l.fn.reader)
 
-abbrev pub decreases-items : goal.decreases-items
-decreases-items l = length l.reader
+abbrev pub decreases-loop-reader : goal.decreases-loop-reader
+decreases-loop-reader l = length l.reader

@@ -22,8 +22,7 @@ returns-in_err-members-in-BeginObject-clause-read c =
     let is : c.args.reader.now ≡ begin_object ∷ ts =
     c.in-Some.ensures.value ∙ ap (λ t. token_of t ∷ ts) c.in-BeginObject.is in
     let p = err_from_is_err_and c.from_residual.result c.from_residual.ensures.1 in
-    rw (p.1, p.2)
-    (else_by c.in_err-members-in-BeginObject.ensures.read
+    rw (p.1, p.2) (else_by c.in_err-members-in-BeginObject.ensures.read
     (λ h. (h.0, no_object c.args.reader.now ts is h.1)))
 
 pub returns-in_err-pass_items-in-BeginArray-clause-read :

@@ -10,8 +10,8 @@ use Rattle.json_docs.proofs.ReadingLemmas.{key_refused, member_read, member_refu
 use Rattle.map_docs.proofs.LangMapMembersLemmas.{member_inserted}
 use Rattle.map_docs.proofs.members.read_members.Goals as goal
 
-pub members-init : goal.members-init
-members-init g c = (
+pub loop-found-init : goal.loop-found-init
+loop-found-init g c = (
   length c.args.reader.now,
   no_members,
   omega arith,
@@ -23,22 +23,22 @@ members-init g c = (
 
 pub returns-in_err-name-clause-read : goal.returns-in_err-name-clause-read
 returns-in_err-name-clause-read g c =
-    let inv = c.members.invariant in
+    let inv = c.loop-found.invariant in
     let e = c.in_err-name.ensures in
     let p = err_from_is_err_and c.from_residual.result c.from_residual.ensures.1 in
     rw (p.1, p.2)
     (inr (
       e.0,
       inv.3
-          ∙ key_refused (value g.V.MemberValue.most_depth) inv.1 inv.0 c.members.reader e.1,
+          ∙ key_refused (value g.V.MemberValue.most_depth) inv.1 inv.0 c.loop-found.reader e.1,
     ))
 
 pub returns-in_err-value-clause-read : goal.returns-in_err-value-clause-read
 returns-in_err-value-clause-read g c =
-    let inv = c.members.invariant in
+    let inv = c.loop-found.invariant in
     let name = c.in-Some.name.now in
     let s = c.next_name.new.reader in
-    let named : read_key c.members.reader ≡ Some (Some name, s) =
+    let named : read_key c.loop-found.reader ≡ Some (Some name, s) =
     rw c.in-Some.is at c.in_ok-name.ensures in
     let p =
     err_from_is_err_and c.from_residual-in_err-value.result
@@ -46,20 +46,20 @@ returns-in_err-value-clause-read g c =
     rw (p.1, p.2)
     (not_json _ _ _
     (λ none. inv.3
-    ∙ member_refused (value g.V.MemberValue.most_depth) inv.1 inv.0 name c.members.reader s
-    named none) c.in_err-value.ensures.read)
+    ∙ member_refused (value g.V.MemberValue.most_depth) inv.1 inv.0 name
+    c.loop-found.reader s named none) c.in_err-value.ensures.read)
 
-pub members-preserved : goal.members-preserved
-members-preserved g c =
-    let inv = c.members.invariant in
+pub loop-found-preserved : goal.loop-found-preserved
+loop-found-preserved g c =
+    let inv = c.loop-found.invariant in
     let n = inv.0 in
     let old = inv.1 in
     let k = c.in-Some.name.now in
     let s = c.next_name.new.reader in
     let r = c.read.new.reader in
-    let named : read_key c.members.reader ≡ Some (Some k, s) =
+    let named : read_key c.loop-found.reader ≡ Some (Some k, s) =
     rw c.in-Some.is at c.in_ok-name.ensures in
-    let less = read_key-shorter c.members.reader (Some k) s named in
+    let less = read_key-shorter c.loop-found.reader (Some k) s named in
     let lesser : length r < length s = c.in_ok-value.ensures.shorter in
     let read = c.in_ok-value.ensures.read in
     let d = read.0 in
@@ -67,10 +67,12 @@ members-preserved g c =
       n - 1,
       put k d old,
       omega (arith, inv.2, less, lesser),
-      inv.3 ∙ member_read (value g.V.MemberValue.most_depth) old n k c.members.reader s r d
+      inv.3
+          ∙ member_read (value g.V.MemberValue.most_depth) old n k c.loop-found.reader s r d
           (omega (arith, inv.2, less)) named read.1,
       ap (members_seen g.V.MemberValue.seen_of) c.in_ok-insert.ensures.entries
-          ∙ member_inserted g.V.MemberValue.seen_of g.V.MemberValue.in_data c.members.found.entries
+          ∙ member_inserted g.V.MemberValue.seen_of g.V.MemberValue.in_data
+          c.loop-found.found.entries
           c.in_ok-name-2.name c.in_ok-value.value k d old inv.4 copied read.2,
       c.in_ok-value.ensures.left,
       omega (arith, inv.6, less, lesser),
@@ -78,12 +80,12 @@ members-preserved g c =
 
 pub returns-clause-read : goal.returns-clause-read
 returns-clause-read g c =
-    let inv = c.members.invariant in
-    let over : read_key c.members.reader ≡ Some (None, c.next_name.new.reader) =
+    let inv = c.loop-found.invariant in
+    let over : read_key c.loop-found.reader ≡ Some (None, c.next_name.new.reader) =
     rw c.in_default.is at c.in_ok-name.ensures in (
       inv.1,
       inv.3
-          ∙ members_over (value g.V.MemberValue.most_depth) inv.1 inv.0 c.members.reader
+          ∙ members_over (value g.V.MemberValue.most_depth) inv.1 inv.0 c.loop-found.reader
           c.next_name.new.reader inv.2 over,
       inv.4,
     )

@@ -8,8 +8,8 @@ use Rattle.map_docs.specs.LangMapRowsSeen.{members_seen}
 use Rattle.map_docs.proofs.members.read_members.Given as goal
 
 -- the object is the members that were read, and then what is left
-abbrev pub invariant-members : goal.invariant-members
-invariant-members g l =
+abbrev pub invariant-loop-found : goal.invariant-loop-found
+invariant-loop-found g l =
     (n : ℕ) × (old : Members) × (length l.reader ≤ n)
     × (converted (λ ms. of_members ms no_members)
     (members (value g.V.MemberValue.most_depth) (length l.fn.reader) l.fn.reader)
@@ -20,5 +20,5 @@ invariant-members g l =
     × (are_in_range l.reader ≡ true)
     × (length l.reader ≤ length l.fn.reader)
 
-abbrev pub decreases-members : goal.decreases-members
-decreases-members g l = length l.reader
+abbrev pub decreases-loop-found : goal.decreases-loop-found
+decreases-loop-found g l = length l.reader

@@ -3,7 +3,7 @@ use Rattle.std.specs.Prelude.{option_map}
 use Rattle.std.proofs.lemmas.Result.{err_from_is_err_and}
 use Rattle.json.specs.Lex.{tokens}
 use Rattle.json.specs.Token.{begin_object}
-use Rattle.map_docs.specs.LangMapRows.{rows_of}
+use Rattle.map_docs.specs.LangMapRows.{message_rows}
 use Rattle.json_docs.proofs.ArraysLemmas.{not_json}
 use Rattle.json_docs.proofs.WholeTextLemmas.{not_object, not_whole, object_whole}
 use Rattle.map_docs.proofs.members.read_rows.Goals as goal
@@ -32,7 +32,7 @@ returns c =
       e.0,
       e.1,
       sym
-          (ap (option_map rows_of)
+          (ap (option_map message_rows)
           (not_object (tokens c.args.text.now) e.0
           (rw c.in_ok-reader.ensures.ok at c.if-begins_object.ensures) e.1)),
     )

@@ -7,8 +7,8 @@ use Rattle.map_docs.specs.LangMapRows.{is_string_or_null}
 use Rattle.map_docs.proofs.members.strings_of_items.Given as goal
 
 -- the items so far are strings and nulls, and their strings were taken
-abbrev pub invariant-items : goal.invariant-items
-invariant-items l = record {
+abbrev pub invariant-loop-item : goal.invariant-loop-item
+invariant-loop-item l = record {
   strings : texts_of l.strings.items ≡ filter_map as_str (map seen (take l.item-index l.items));
   each : list_all is_string_or_null (map seen (take l.item-index l.items)) ≡ true;
 }

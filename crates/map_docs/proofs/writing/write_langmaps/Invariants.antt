@@ -5,7 +5,7 @@ use Rattle.map_docs.specs.LangMapsWritten.{IsWriting}
 use Rattle.map_docs.proofs.writing.write_langmaps.Given as goal
 
 -- with the labels that are left it comes to all
-abbrev pub invariant-labels : goal.invariant-labels
-invariant-labels l =
+abbrev pub invariant-loop-label : goal.invariant-loop-label
+invariant-loop-label l =
     IsWriting l.draft (option_map (λ id. id.now) l.current)
     (labels_of (drop l.label-index l.label-items)) (labels_of l.label-items)

@@ -28,7 +28,7 @@ returns-in-Err c =
     let refuses : RefusesField scheme Refused text c.in-Err.fault =
     rw c.as_bytes.ensures.value at c.in-Err.ensures in
     IfOk-weaker c.no_list.result _ _
-    (λ same e.
-    subst (λ (b : Bool). MatchBool b (Lists scheme text items) (¬ Lists scheme text items))
-    (sym e.0) (refused_lists_none scheme text items c.in-Err.fault e.1 refuses))
+    (λ same e. subst
+    (λ (b : Bool). MatchBool b (Lists scheme text items) (¬ Lists scheme text items)) (sym e.0)
+    (refused_lists_none scheme text items c.in-Err.fault e.1 refuses))
     c.no_list.ensures

@@ -5,25 +5,27 @@ use Rattle.script_docs.proofs.ScriptWrittenLemmas.{row_more, writing_refused}
 use Rattle.script_docs.proofs.writing.steps_draft.Goals as goal
 
 -- none is written yet
-pub steps-init : goal.steps-init
-steps-init c = (
+pub loop-place-init : goal.loop-place-init
+loop-place-init c = (
   [],
   tt,
   subst (λ (n : ℕ). HoldsSteps c.in_ok-draft.draft n []) c.sites.ensures.value
       c.in_ok-draft.ensures,
 )
 
-pub steps-preserved : goal.steps-preserved
-steps-preserved c =
+pub loop-place-preserved : goal.loop-place-preserved
+loop-place-preserved c =
     let script = c.args.script.now in
     let step = c.index-steps-place.result in
     let size : length c.steps-steps.result.now ≡ length script.steps =
     ap length c.steps-steps.ensures in
-    let within : c.steps.place < length script.steps = omega (arith, size, c.steps-test.true) in
-    let is : step ≡ get_or script.steps c.steps.place step =
+    let within : c.loop-place.place < length script.steps =
+    omega (arith, size, c.loop-place-test.true) in
+    let is : step ≡ get_or script.steps c.loop-place.place step =
     rw c.steps-steps.ensures at c.index-steps-place.is in
-    row_more c.steps.draft c.write_step.new.out script.sites script.steps c.steps.place step within
-    is c.steps.invariant c.in_ok-write_step.ensures.ok
+    row_more c.loop-place.draft c.write_step.new.out script.sites script.steps c.loop-place.place
+    step within
+    is c.loop-place.invariant c.in_ok-write_step.ensures.ok
 
 pub returns-in_err-write_step-clause-err : goal.returns-in_err-write_step-clause-err
 returns-in_err-write_step-clause-err c =
@@ -31,12 +33,13 @@ returns-in_err-write_step-clause-err c =
     let step = c.index-steps-place.result in
     let size : length c.steps-steps.result.now ≡ length script.steps =
     ap length c.steps-steps.ensures in
-    let within : c.steps.place < length script.steps = omega (arith, size, c.steps-test.true) in
-    let is : step ≡ get_or script.steps c.steps.place step =
+    let within : c.loop-place.place < length script.steps =
+    omega (arith, size, c.loop-place-test.true) in
+    let is : step ≡ get_or script.steps c.loop-place.place step =
     rw c.steps-steps.ensures at c.index-steps-place.is in
     let refused =
-    writing_refused c.steps.draft script.sites script.steps c.steps.place step _ within is
-    c.steps.invariant c.in_err-write_step.ensures.err in
+    writing_refused c.loop-place.draft script.sites script.steps c.loop-place.place step _ within is
+    c.loop-place.invariant c.in_err-write_step.ensures.err in
     let p =
     err_from_is_err_and c.from_residual-in_err-write_step.result
     c.from_residual-in_err-write_step.ensures.1 in

@@ -4,8 +4,8 @@ use Rattle.cata_core.specs.ChangesLeft.{changes_left}
 use Rattle.docs_core.proofs.ChangedLemmas.{IsCounting, counting_first}
 use Rattle.docs_core.proofs.call.changes.change_count.Goals as goal
 
-pub changes-init : goal.changes-init
-changes-init c =
+pub loop-init : goal.loop-init
+loop-init c =
     let all = ap changes_left c.into_iter-iterator.ensures.into_iter_gives in
     subst (λ (left : Changed). IsCounting c.args.before.now c.args.after.now 0 left) (sym all)
     (counting_first c.args.before.now c.args.after.now

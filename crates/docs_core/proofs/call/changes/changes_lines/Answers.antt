@@ -3,8 +3,8 @@ use Rattle.cata_core.specs.ChangesLeft.{change_seen, changes_left}
 use Rattle.docs_core.proofs.ChangedLemmas.{counted_any, listing_first, listing_last, listing_next}
 use Rattle.docs_core.proofs.call.changes.changes_lines.Goals as goal
 
-pub changes-init : goal.changes-init
-changes-init c =
+pub loop-change-init : goal.loop-change-init
+loop-change-init c =
     listing_first c.args.before.now c.args.after.now c.in_ok-count.count c.in_ok-written.written
     (changes_left c.into_iter-change-iterator.result) (changes_left c.changes-change-items.result)
     c.changes-change-items.ensures (ap changes_left
@@ -12,11 +12,11 @@ changes-init c =
     (c.in_ok-written.ensures ∙ ap (λ t. t ++ c.as_str.result.now) c.new.ensures
     ∙ c.as_str.ensures.value ∙ c.in_ok-head.ensures.ok) c.in_ok-count.ensures
 
-pub changes-preserved : goal.changes-preserved
-changes-preserved c = λ changes are.
-    listing_next changes (changes_left c.changes.change-iterator) (changes_left c.next.new.self)
-    c.changes.written c.in_ok-written-2.written (change_seen c.in-Some.change)
-    (c.changes.invariant changes are) c.in-Some.ensures.steps c.in_ok-written-2.ensures
+pub loop-change-preserved : goal.loop-change-preserved
+loop-change-preserved c = λ changes are.
+    listing_next changes (changes_left c.loop-change.change-iterator) (changes_left c.next.new.self)
+    c.loop-change.written c.in_ok-written-2.written (change_seen c.in-Some.change)
+    (c.loop-change.invariant changes are) c.in-Some.ensures.steps c.in_ok-written-2.ensures
 
 pub returns : goal.returns
 returns c =
@@ -24,8 +24,8 @@ returns c =
     let are = c.changes-change-items.ensures in (
       changes,
       are,
-      listing_last changes (changes_left c.changes.change-iterator) c.changes.written
-          c.into_doc.result (c.changes.invariant changes are) c.in-None.ensures.steps.0
+      listing_last changes (changes_left c.loop-change.change-iterator) c.loop-change.written
+          c.into_doc.result (c.loop-change.invariant changes are) c.in-None.ensures.steps.0
           c.into_doc.ensures,
       counted_any changes c.in_ok-count.count (c.in_ok-count.ensures changes are),
     )

@@ -4,7 +4,7 @@ use Rattle.docs_core.proofs.ChangedLemmas.{IsListing}
 use Rattle.docs_core.proofs.call.changes.changes_lines.Given as goal
 
 -- with the lines of the changes that are left it comes to all
-abbrev pub invariant-changes : goal.invariant-changes
-invariant-changes l =
+abbrev pub invariant-loop-change : goal.invariant-loop-change
+invariant-loop-change l =
     (changes : Changed) → AreChanges l.before l.after changes
     → IsListing changes l.written (changes_left l.change-iterator)

@@ -8,8 +8,8 @@ use Rattle.map_docs.proofs.WritingLemmas.{found_last, some_lent}
 use Rattle.docs_core.proofs.LiveLemmas.{chosen-IsMap}
 use Rattle.docs_core.proofs.call.exporting.write_live.Goals as goal
 
-pub cells-init : goal.cells-init
-cells-init c =
+pub loop-id-init : goal.loop-id-init
+loop-id-init c =
     let all = ap cells_left c.into_iter-id-iterator.ensures.into_iter_gives
     ∙ c.iter-id-items.ensures.cells in
     subst (λ (left : Entries). IsWriting c.in_ok-draft.draft None
@@ -20,13 +20,13 @@ cells-init c =
 pub returns : goal.returns
 returns c =
     let cells = c.args.catalogue.now in
-    let current = option_map (λ id. id.now) c.cells.current in
-    let w = subst (λ (left : Entries). IsWriting c.cells.draft current
+    let current = option_map (λ id. id.now) c.loop-id.current in
+    let w = subst (λ (left : Entries). IsWriting c.loop-id.draft current
     (chosen_of c.args.messages c.args.catalogue.now left)
     (chosen_labels c.args.messages c.args.catalogue.now)) c.in-None.ensures.steps.0
-    c.cells.invariant in (
+    c.loop-id.invariant in (
       c.in_ok-doc.ensures (chosen_labels c.args.messages cells)
           (chosen-IsMap c.args.messages cells c.iter-id-items.ensures.sorted) w,
-      c.is_some.ensures ∙ some_lent c.cells.current
-          ∙ found_last c.cells.draft current (chosen_labels c.args.messages cells) w,
+      c.is_some.ensures ∙ some_lent c.loop-id.current
+          ∙ found_last c.loop-id.draft current (chosen_labels c.args.messages cells) w,
     )

@@ -5,7 +5,7 @@ use Rattle.docs_core.specs.Chosen.{chosen_labels, chosen_of}
 use Rattle.docs_core.proofs.call.exporting.write_live.Given as goal
 
 -- with the chosen labels of the cells that are left it comes to all
-abbrev pub invariant-cells : goal.invariant-cells
-invariant-cells l =
+abbrev pub invariant-loop-id : goal.invariant-loop-id
+invariant-loop-id l =
     IsWriting l.draft (option_map (λ id. id.now) l.current) (chosen_of l.messages l.catalogue
     (cells_left l.id-iterator)) (chosen_labels l.messages l.catalogue)

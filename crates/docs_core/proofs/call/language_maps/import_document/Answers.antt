@@ -26,8 +26,7 @@ returns-in_err-maps c =
     let p =
     err_from_is_err_and c.from_residual-in_err-maps.result
     c.from_residual-in_err-maps.ensures.1 in
-    rw (p.1, p.2)
-    (else_by c.in_err-maps.ensures
+    rw (p.1, p.2) (else_by c.in_err-maps.ensures
     (λ h. inr (inl (c.in_ok-site.site, c.in_ok-site.ensures, h))))
 
 pub returns-in_err-put_labels : goal.returns-in_err-put_labels

@@ -7,6 +7,5 @@ returns-in_err-answers c =
     let p =
     err_from_is_err_and c.from_residual-in_err-answers.result
     c.from_residual-in_err-answers.ensures.1 in
-    rw p.1
-    (steps_refused c.args.bytes c.in_ok-script.script c.in_err-answers.field-0.0 p.0
+    rw p.1 (steps_refused c.args.bytes c.in_ok-script.script c.in_err-answers.field-0.0 p.0
     c.in_ok-script.ensures c.in_err-answers.ensures p.2)

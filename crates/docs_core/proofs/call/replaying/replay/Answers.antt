@@ -7,11 +7,9 @@ use Rattle.docs_core.proofs.call.replaying.replay.Goals as goal
 pub returns-in_err-lines-clause-err : goal.returns-in_err-lines-clause-err
 returns-in_err-lines-clause-err g c =
     let p = err_from_is_err_and c.from_residual.result c.from_residual.ensures.1 in
-    rw (p.1, p.2)
-    (elim c.in_err-lines.ensures [
+    rw (p.1, p.2) (elim c.in_err-lines.ensures [
       | inl h ↦ inl (h, refl)
-      | inr h ↦
-          inr (inl (h.0, h.1, h.2, refl))
+      | inr h ↦ inr (inl (h.0, h.1, h.2, refl))
     ])
 
 pub returns-clause-ok : goal.returns-clause-ok
@@ -25,7 +23,8 @@ pub returns-clause-err : goal.returns-clause-err
 returns-clause-err g c =
     let e = c.in_ok-lines.ensures in
     not_written c.write_out.result _ _ _ c.write_out.ensures.refused c.write_out.ensures.failed
-    (λ fault is failing. inr
+    (λ fault is failing.
+    inr
     (inr (
       e.0,
       c.in_ok-lines.lines,
@@ -33,6 +32,5 @@ returns-clause-err g c =
       e.2,
       is,
       failing,
-      rw c.bytes.ensures at
-          c.write_out.ensures.err,
+      rw c.bytes.ensures at c.write_out.ensures.err,
     )))

@@ -8,5 +8,5 @@ returns-in_err-summary c =
     let p =
     err_from_is_err_and c.from_residual-in_err-summary.result
     c.from_residual-in_err-summary.ensures.1 in
-    rw (p.1, p.2)
-    (else_by c.in_err-summary.ensures (λ h. inr (c.in_ok-site.site, c.in_ok-site.ensures, h)))
+    rw (p.1, p.2) (else_by c.in_err-summary.ensures
+    (λ h. inr (c.in_ok-site.site, c.in_ok-site.ensures, h)))

@@ -11,6 +11,5 @@ returns-in_err-edit c =
     err_from_is_err_and c.from_residual-in_err-edit.result
     c.from_residual-in_err-edit.ensures.1 in
     rw p.1
-    (else_by
-    (of_call (RefusesEdit c.in_ok-site.site c.args.now) c.in_err-edit.field-0.0 p.0
+    (else_by (of_call (RefusesEdit c.in_ok-site.site c.args.now) c.in_err-edit.field-0.0 p.0
     c.in_err-edit.ensures.err p.2) (λ h. inr (c.in_ok-site.site, c.in_ok-site.ensures, h)))

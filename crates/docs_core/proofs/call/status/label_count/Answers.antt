@@ -23,23 +23,23 @@ some-copied (Some x) = refl
 
 pub overflow_add-count : goal.overflow_add-count
 overflow_add-count c =
-    let one : count_by is_labelled (cells_left c.cells.cell-iterator)
+    let one : count_by is_labelled (cells_left c.loop-cell.cell-iterator)
     ≡ 1 + count_by is_labelled (cells_left c.next.new.self) =
     counted _ _ _ true c.in-Some.ensures.steps
     (c.if-is_some.ensures ∙ some-copied c.label.result ∙ ap is_some c.label.ensures) in
-    let total : c.cells.count + count_by is_labelled (cells_left c.cells.cell-iterator)
-    ≡ count_by is_labelled c.args.catalogue.now = c.cells.invariant in
+    let total : c.loop-cell.count + count_by is_labelled (cells_left c.loop-cell.cell-iterator)
+    ≡ count_by is_labelled c.args.catalogue.now = c.loop-cell.invariant in
     let most : count_by is_labelled c.args.catalogue.now ≤ c.len-most.result =
     rw c.len-most.ensures.len (count_by-le-length is_labelled c.args.catalogue.now) in
     let range : c.len-most.result < 2 ^ 128 = c.len-most.type_inv in
     omega (arith, one, total, most, range)
 
-pub cells-preserved : goal.cells-preserved
-cells-preserved c =
-    let none : count_by is_labelled (cells_left c.cells.cell-iterator)
+pub loop-cell-preserved : goal.loop-cell-preserved
+loop-cell-preserved c =
+    let none : count_by is_labelled (cells_left c.loop-cell.cell-iterator)
     ≡ 0 + count_by is_labelled (cells_left c.next.new.self) =
     counted _ _ _ false c.in-Some.ensures.steps
     (c.if-is_some.ensures ∙ some-copied c.label.result ∙ ap is_some c.label.ensures) in
-    let total : c.cells.count + count_by is_labelled (cells_left c.cells.cell-iterator)
-    ≡ count_by is_labelled c.args.catalogue.now = c.cells.invariant in
+    let total : c.loop-cell.count + count_by is_labelled (cells_left c.loop-cell.cell-iterator)
+    ≡ count_by is_labelled c.args.catalogue.now = c.loop-cell.invariant in
     omega (arith, none, total)

@@ -5,27 +5,28 @@ use Rattle.docs_core.proofs.TimeLimitsLemmas.{searched_ahead, searched_all, sear
 use Rattle.docs_core.proofs.TimeLimitsLemmas.{searched_none}
 use Rattle.docs_core.proofs.call.time_limits.first_row_ahead.Goals as goal
 
-pub cells-init : goal.cells-init
-cells-init c =
+pub loop-cell-init : goal.loop-cell-init
+loop-cell-init c =
     searched_none c.args.cells.now (cells_left c.into_iter-cell-iterator.result) c.args.not_after
     (ap cells_left c.into_iter-cell-iterator.ensures.into_iter_gives
     ∙ c.iter-cell-items.ensures.cells)
 
 pub returns : goal.returns
-returns c = λ few. searched_all c.args.cells.now _ c.args.not_after c.cells.row c.cells.invariant
+returns c =
+    λ few. searched_all c.args.cells.now _ c.args.not_after c.loop-cell.row c.loop-cell.invariant
     c.in-None.ensures.steps.0
 
 pub returns-then-stamp-not_after : goal.returns-then-stamp-not_after
 returns-then-stamp-not_after c =
     λ few. searched_ahead c.args.cells.now _ (cells_left c.next.new.self)
     ((c.in-Some.field-0-0.now, c.in-Some.field-0-1.now), c.in-Some.cell.now) c.args.not_after
-    c.cells.row c.cells.invariant c.in-Some.ensures.steps
+    c.loop-cell.row c.loop-cell.invariant c.in-Some.ensures.steps
     (subst (λ (s : Stamp). c.args.not_after < s.time) c.stamp.ensures c.if-stamp-not_after.true) few
 
-pub cells-preserved : goal.cells-preserved
-cells-preserved c =
+pub loop-cell-preserved : goal.loop-cell-preserved
+loop-cell-preserved c =
     searched_next c.args.cells.now _ (cells_left c.next.new.self)
     ((c.in-Some.field-0-0.now, c.in-Some.field-0-1.now), c.in-Some.cell.now) c.args.not_after
-    c.cells.row _ c.cells.invariant c.in-Some.ensures.steps
+    c.loop-cell.row _ c.loop-cell.invariant c.in-Some.ensures.steps
     (subst (λ (s : Stamp). s.time ≤ c.args.not_after) c.stamp.ensures c.if-stamp-not_after.false)
     (λ few. omega (arith, few))

@@ -3,5 +3,5 @@ use Rattle.docs_core.proofs.TimeLimitsLemmas.{IsSearched}
 use Rattle.docs_core.proofs.call.time_limits.first_row_ahead.Given as goal
 
 -- the cells so far are in the limit, and the row counts them
-abbrev pub invariant-cells : goal.invariant-cells
-invariant-cells l = IsSearched l.cells (cells_left l.cell-iterator) l.not_after l.row
+abbrev pub invariant-loop-cell : goal.invariant-loop-cell
+invariant-loop-cell l = IsSearched l.cells (cells_left l.cell-iterator) l.not_after l.row

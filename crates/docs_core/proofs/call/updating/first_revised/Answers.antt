@@ -21,8 +21,8 @@ returns-after-compare-clause-first c =
     let m = subst (λ (ls : List KeyedLabel). IsMap key_cmp (labels_of ls)) old_is c.requires.old in
     let n = subst (λ (ls : List KeyedLabel). IsMap key_cmp (labels_of ls)) new_is c.requires.new in
     rw (old_is, new_is)
-    (elim c.match-compare.branch as
-    (λ _. IsFirstRevised c.match-compare.result.0 (labels_of (left ∷ olds))
+    (elim c.match-compare.branch as (λ _.
+    IsFirstRevised c.match-compare.result.0 (labels_of (left ∷ olds))
     (labels_of (right ∷ news)) (labels_of c.match-compare.result.1.now)
     (labels_of c.match-compare.result.2.now)) [
       | in-Less w ↦

@@ -17,19 +17,25 @@ returns-in_err-old c =
     let p =
     err_from_is_err_and c.from_residual-in_err-old.result
     c.from_residual-in_err-old.ensures.1 in
-    rw (p.1, p.2)
-    (else_by c.in_err-old.ensures (λ h. inr (inl (c.in_ok-site.site, c.in_ok-site.ensures, h))))
+    rw (p.1, p.2) (else_by c.in_err-old.ensures
+    (λ h. inr (inl (c.in_ok-site.site, c.in_ok-site.ensures, h))))
 
 pub returns-in_err-new : goal.returns-in_err-new
 returns-in_err-new c =
     let p =
     err_from_is_err_and c.from_residual-in_err-new.result
     c.from_residual-in_err-new.ensures.1 in
-    rw (p.1, p.2)
-    (else_by c.in_err-new.ensures
-    (λ h. inr
-    (inr (inl
-    (c.in_ok-site.site, c.in_ok-old.old, c.in_ok-site.ensures, c.in_ok-old.ensures, h)))))
+    rw (p.1, p.2) (else_by c.in_err-new.ensures
+    (λ h.
+    inr
+    (inr
+    (inl (
+      c.in_ok-site.site,
+      c.in_ok-old.old,
+      c.in_ok-site.ensures,
+      c.in_ok-old.ensures,
+      h,
+    )))))
 
 pub returns-in_err-update_labels : goal.returns-in_err-update_labels
 returns-in_err-update_labels c =

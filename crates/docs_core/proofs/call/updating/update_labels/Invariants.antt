@@ -6,8 +6,8 @@ use Rattle.docs_core.specs.Updated.{SpendsUpdate, Updates}
 use Rattle.docs_core.proofs.call.updating.update_labels.Given as goal
 
 -- what holds of the labels that are left, from here on, holds of all from the start
-abbrev pub invariant-keys : goal.invariant-keys
-invariant-keys l = record {
+abbrev pub invariant-loop-revised : goal.invariant-loop-revised
+invariant-loop-revised l = record {
   name : l.site.name ≡ l.fn.site.name;
   old_map : IsMap key_cmp (labels_of l.olds);
   new_map : IsMap key_cmp (labels_of l.news);
@@ -18,5 +18,5 @@ invariant-keys l = record {
       → SpendsUpdate l.now l.fn.site.name l.old l.new l.fn.site.cells;
 }
 
-abbrev pub decreases-keys : goal.decreases-keys
-decreases-keys l = length l.olds + length l.news
+abbrev pub decreases-loop-revised : goal.decreases-loop-revised
+decreases-loop-revised l = length l.olds + length l.news

@@ -14,8 +14,8 @@ returns-then-has_minus c =
     c.scan.ensures.parts ∙ ap scan (take_all _ (drop 1 s) (omega (arith, length-drop 1 s))) in
     let read : number_from true (scan (drop 1 s)) ≡ number_of s = rw signed in
     c.is_negative_read.ensures
-    ∙ ap is_some
-    (ap (number_from true) parts ∙ read ∙ ap number_of c.as_bytes-bytes.ensures.value)
+    ∙ ap is_some (ap (number_from true) parts ∙ read
+    ∙ ap number_of c.as_bytes-bytes.ensures.value)
 
 pub returns-else-has_minus : goal.returns-else-has_minus
 unfolding number_of
@@ -24,6 +24,5 @@ returns-else-has_minus c =
     let unsigned : (get_or s 0 0 == 45) ≡ false = sym c.if-has_minus.ensures.value in
     let read : number_from false (scan s) ≡ number_of s = rw unsigned in
     c.is_positive_read.ensures
-    ∙ ap is_some
-    (ap (number_from false) c.scan-else-has_minus.ensures.parts ∙ read
+    ∙ ap is_some (ap (number_from false) c.scan-else-has_minus.ensures.parts ∙ read
     ∙ ap number_of c.as_bytes-bytes.ensures.value)

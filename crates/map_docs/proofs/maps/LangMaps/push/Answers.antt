@@ -11,7 +11,8 @@ invariant_of-self-2 c =
     let labels = c.self.inside.labels.items in
     subst (IsMap key_cmp)
     (sym (ap labels_of c.in_ok-push.ensures.items
-    ∙ labels_push labels (record { id = c.args.id; lang = c.args.lang; label = c.args.label })))
+    ∙ labels_push labels
+    (record { id = c.args.id; lang = c.args.lang; label = c.args.label })))
     (IsMap-behind (labels_of labels) (c.args.id, c.args.lang) c.args.label c.self.invariant
     (subst (λ (s : List Labelled). IsAboveAll (c.args.id, c.args.lang) s) (sym c.self.view_is)
     c.requires))

@@ -4,8 +4,8 @@ use Rattle.docs_core.specs.Lines.{cell_line, line}
 use Rattle.docs_core.proofs.call.lines.Lines.cells.Given as goal
 
 -- the lines of the cells so far
-abbrev pub invariant-cells : goal.invariant-cells
-invariant-cells l =
+abbrev pub invariant-loop-place : goal.invariant-loop-place
+invariant-loop-place l =
     l.written
     ≡ (l.fn.self ++ line (codes "cells" ++ 32 ∷ decimal (length l.cells)))
     ++ flat_map cell_line (take l.place l.cells)

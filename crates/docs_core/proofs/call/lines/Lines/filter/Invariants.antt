@@ -4,8 +4,8 @@ use Rattle.docs_core.specs.Lines.{line, weighed_line}
 use Rattle.docs_core.proofs.call.lines.Lines.filter.Given as goal
 
 -- the lines of the languages so far
-abbrev pub invariant-entries : goal.invariant-entries
-invariant-entries g l =
+abbrev pub invariant-loop-place : goal.invariant-loop-place
+invariant-loop-place g l =
     l.written
     ≡ (l.fn.self
     ++ line (codes "filter" ++ 32 ∷ decimal (length (g.W.Weights.weighed l.entries))))
