@@ -130,9 +130,8 @@ int32_t sw_site_filter(sw_site *site, uint32_t flags, const uint8_t *id, size_t 
 
 /* All labels of one reader: of each message the label that sw_site_lookup finds, under its language. The answer is the
  * JSON document of the command `bundle` with its LF: language maps, as {"greeting":{"fr":"Bonjour"}}.
- * Time: a lookup for each message, so it grows with messages times ranges. Over 16,000 messages of 20 languages a field
- * of 100 bytes takes 10 milliseconds, a hostile one of 8,000 bytes 5 seconds: bound the field of a stranger, or pick a
- * tag first and bundle for that tag.
+ * Time: the ranges of the field times the languages of the site, once, and then messages times languages at most. To
+ * keep the answer for other readers, pick a tag first and bundle for that tag.
  *   SW_FOUND     there is at least one label
  *   SW_NOTHING   there is none; the answer is the line `{}`
  *   SW_USAGE, SW_REFUSED   as sw_site_lookup, without the id */
@@ -146,7 +145,8 @@ int32_t sw_site_bundle(sw_site *site, uint32_t flags, const uint8_t *field, size
  * another handle. So a server publishes a new state by sharing the edited handle anew.
  * `now` is the time of an edit, by custom in milliseconds since 1970. The stamp of an edit is later than all that the
  * site has, so a clock that is set back does no harm; a time far ahead does (docs/RECIPES.md).
- * A refused call leaves the site as it was. */
+ * A refused call leaves the site as it was, but for 26 of sw_site_take and sw_site_merge: after it each label is the one
+ * that it was or the one that it was to be, and the same call again makes the rest. */
 
 /* Makes the empty site of a name, of 1 to 16 bytes of a to z, 0 to 9 and "-", in a handle. If the handle is open, its
  * old site is let go once the new one is made.
@@ -170,15 +170,14 @@ int32_t sw_site_delete(sw_site *site, uint64_t now, const uint8_t *id, size_t id
                        size_t lang_len, sw_told *told);
 
 /* Joins what the site of another handle has: of each label the later edit. The two handles are two, though they may be
- * of one site. The site is copied for it, and the copy is kept.
+ * of one site.
  *   SW_FOUND     done
  *   SW_USAGE     one of the handles is not open
  *   SW_REFUSED   two different edits of one label have one stamp (13) */
 int32_t sw_site_merge(sw_site *site, sw_site *other, sw_told *told);
 
 /* Takes the document of a delta for this site, which another site made with sw_site_delta. If `not_after` is not 0 no
- * time of the delta may be greater: a limit of a day ahead of the clock keeps times far ahead out. The site is copied
- * for it.
+ * time of the delta may be greater: a limit of a day ahead of the clock keeps times far ahead out.
  *   SW_FOUND     done
  *   SW_USAGE     the handle is not open
  *   SW_REFUSED   first the delta (as sw_site_open reports a document), then a time of it (29, by its row in told->row),

@@ -64,10 +64,10 @@ static void answer(char **words) {
 
   sw_told told;
   memset(&told, UNTOUCHED, sizeof told);
-  size_t behind = 3;
-  uint8_t *out = block(first.len + behind);
-  if (ask(words, out, first.len + behind, &told) != status || !same_told(&first, &told)) status = -3;
-  if (!is_untouched(out + told.len, behind)) status = -4;
+  size_t after = 3;
+  uint8_t *out = block(first.len + after);
+  if (ask(words, out, first.len + after, &told) != status || !same_told(&first, &told)) status = -3;
+  if (!is_untouched(out + told.len, after)) status = -4;
   printf("%d %u %zu %zu %zu ", status, told.number, told.offset, told.row, told.count);
   for (size_t at = 0; at < told.len; at++) printf("%02x", out[at]);
   printf("\n");

@@ -6,7 +6,8 @@ usage: edits.py LEXICAT COUNT    (SILKWARAM_LIBRARY names the library, PYTHONPAT
 It makes COUNT sequences, always the same ones, of some steps at three open sites. After each step the
 document of the site that was edited has to be, byte for byte, what the command makes of the document
 before; where one refuses, the other has to refuse with the same number and row, and the site stays.
-Now and then all that is asked of a site is compared with what the command prints.
+Some edits are made in place, some beside a share, which has to keep its document. Now and then all
+that is asked of a site is compared with what the command prints.
 """
 import concurrent.futures
 import json
@@ -99,7 +100,12 @@ class Sequence:
         raise AssertionError(" ".join(str(it)[:400] for it in (what, *more)))
 
     def edited(self, place, call, wanted):
-        """Makes an edit of a site, whose document has to be this one then, or refused so."""
+        """Makes an edit of a site, whose document has to be this one then, or refused so.
+
+        Where it is made beside a share, this one keeps the document.
+        """
+        share = self.sites[place].share() if self.rng.random() < 0.3 else None
+        before = self.documents[place]
         refused = refusal_of(call)
         if refused is None and isinstance(wanted, bytes):
             self.documents[place] = wanted
@@ -107,6 +113,10 @@ class Sequence:
             self.fault("wanted", wanted, "not", refused)
         if self.sites[place].to_bytes() != self.documents[place]:
             self.fault("another document:", self.sites[place].to_bytes(), self.documents[place])
+        if share is not None:
+            if share.to_bytes() != before:
+                self.fault("a share that changed:", share.to_bytes(), "and not", before)
+            share.close()
 
     def moment(self):
         self.now += self.rng.choice([0, 0, 1, 5])

@@ -151,7 +151,7 @@ def questions(count):
     for _ in range(count):
         document = spoiled(rng, held)
         asked.append(Question("open", 0, (document,), 0, document))
-        # (a site that is refused leaves the old one, and one that is not stands in its place)
+        # (a site that is refused leaves the old one, and one that is not takes its place)
         asked.append(question(rng, "lookup", None))
     return asked
 
@@ -214,7 +214,7 @@ def wanted(lexicat, asked):
 
 
 def with_sites(asked, all_wanted):
-    """Names the site of each question that is asked of what stands open then."""
+    """Names the site of each question that is asked of what is open then."""
     held, named = None, []
     for it in asked:
         if it.call == "open" and all_wanted[it].status == 0:

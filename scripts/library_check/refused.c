@@ -1,4 +1,4 @@
-/* Refuses each allocation of each call in turn, alone and with all that come behind it. A call has to answer as with
+/* Refuses each allocation of each call in turn, alone and with all that come after it. A call has to answer as with
  * ample memory, or with status 5 and 26, nothing written and its handles as they were; and a repeat has to answer.
  * It is linked with the archive, so that malloc and realloc are those of this file (--wrap). */
 #include <errno.h>
@@ -157,6 +157,6 @@ int main(void) {
   wrong += refuse_each("sw_site_filter", filter);
   wrong += refuse_each("sw_site_bundle", bundle);
   wrong += refuse_each("sw_site_share", share);
-  printf("refused: %lu allocations, each alone and with all behind it; %u wrong\n", all_allocations, wrong);
+  printf("refused: %lu allocations, each alone and with all after it; %u wrong\n", all_allocations, wrong);
   return wrong != 0;
 }

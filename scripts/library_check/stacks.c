@@ -200,7 +200,7 @@ static text nested(const char *before, const char *begin, const char *end, const
   return (text){(uint8_t *)made, strlen(made)};
 }
 
-/* Documents with a nested value, of each kind and at each place where one may stand. */
+/* Documents with a nested value, of each kind and at each place where one may be. */
 static const struct {
   void (*call)(void);
   const char *before, *begin, *end, *after;

@@ -2,7 +2,7 @@
  *
  * usage: threads THREADS LOOKUPS
  *
- * Every so often a thread lets its handle go and takes a new one of the site as it stands then, under a lock, and it
+ * Every so often a thread lets its handle go and takes a new one of the site as it is then, under a lock, and it
  * shares its own handle and frees that share, under none. Each answer has to be that of the state that it took. */
 #include <pthread.h>
 #include <stdatomic.h>
@@ -19,7 +19,7 @@ static text documents[2];
 static atomic_uint running;
 static unsigned long lookups;
 
-/* The document of a state: its number stands in each label. */
+/* The document of a state: its number is in each label. */
 static text document_of(unsigned number) {
   size_t most = 100 + 64 * MESSAGES, at = 0;
   char *made = (char *)block(most);
@@ -42,7 +42,7 @@ static int is_answered(sw_site *site, unsigned message, unsigned number) {
   return status == SW_FOUND && told.len == (size_t)len && !memcmp(out, wanted, told.len);
 }
 
-/* Takes a handle of the site as it stands, in place of the one that is held. */
+/* Takes a handle of the site as it is, in place of the one that is held. */
 static int takes_anew(sw_site *own, unsigned *number) {
   pthread_mutex_lock(&lock);
   sw_site_free(own);

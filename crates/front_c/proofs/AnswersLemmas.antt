@@ -1,5 +1,5 @@
--- What is reported of a question, and of a document that finds no memory.
-use Rattle.std.proofs.Common.{◌≡◌, refl, inl, inr, ℕ, ℤ, Option, Some}
+-- What is reported of a question, and of a document for which there is no memory.
+use Rattle.std.proofs.Common.{◌≡◌, refl, inl, inr, ℤ, Option, Some}
 use Rattle.cata_core.specs.Sites.{SiteState}
 use Rattle.site_docs.specs.ReadsAs.{no_memory}
 use Rattle.front_core.specs.Fields.{FieldText}
@@ -10,7 +10,7 @@ use Rattle.front_c.specs.Answers.{Ends, Tells, TellsAsked, Text}
 use Rattle.front_c.specs.Telling.{TellsRefusal}
 use Rattle.front_c.specs.declared.told.Told.{Told}
 
--- A question over an open handle with known flags is reported as it is answered.
+-- a question that can be asked is reported as it is answered
 pub is_asked : {A : Type 0} → (site : Option SiteState) (given : Option FieldText)
     (Is : SiteState → FieldText → A → Type 0) (Refuses : FieldText → FrontFault → Type 0)
     (As : A → Ends) → (s : SiteState) (read : FieldText) (old new : Text) (told : Told)
@@ -20,7 +20,7 @@ pub is_asked : {A : Type 0} → (site : Option SiteState) (given : Option FieldT
 is_asked site given Is Refuses As s read old new told status is_open known h =
     rw is_open rw (← known) h
 
--- What is reported of a refusal is what is reported of the call.
+-- a refusal is reported
 pub refused_tells : {A : Type 0} → (Is : A → Type 0) (Refuses : FrontFault → Type 0) (As : A → Ends)
     → (fault : FrontFault) (out : Text) (told : Told) (status : ℤ)
     → Refuses fault → TellsRefusal fault out out told status

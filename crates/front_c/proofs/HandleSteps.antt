@@ -19,7 +19,7 @@ use Rattle.std_heap.specs.contracts.GlobalAllocator.TheImpl.{ghosts}
 use Rattle.std_heap.proofs.GlobalToken.{dealloc_token-Testable}
 use Rattle.front_c.specs.Held.{Share, share_row, site_held}
 
--- Whether a pointer leads to a block, so that it is not null.
+-- whether the pointer leads to a block
 abbrev pub is_block : Ptr → Bool
 is_block (block_ptr b o) = true
 is_block null_ptr = false
@@ -29,12 +29,11 @@ module _ (alloc : Global) where
   held at share = box_owns (ghosts.dealloc_token alloc) share_row at share
 
   module _ {M : Type 1} {𝓤 : Ura M} (𝓛 : Logic 𝓤) where
-    tested : (at : Ptr) (share : Share)
-        → ent 𝓤 (sem 𝓛 (held at share)) (guard 𝓤 (Testable at) (sem 𝓛 (held at share)))
+    tested : (at : Ptr) (share : Share) → ent 𝓤 (sem 𝓛 (held at share)) (guard 𝓤 (Testable at)
+        (sem 𝓛 (held at share)))
     tested at share =
         fact_use 𝓤 (Testable at)
-        (via 𝓤 _
-        (snd∗ 𝓤 (sem 𝓛 (lies_at share_row full_share at share))
+        (via 𝓤 _ (snd∗ 𝓤 (sem 𝓛 (lies_at share_row full_share at share))
         (sem 𝓛 (ghosts.dealloc_token alloc (bare (lone share_row.mir)) at)))
         (dealloc_token-Testable 𝓛 alloc (bare (lone share_row.mir)) at))
         (guard_i 𝓤 (Testable at) (sem 𝓛 (held at share)))
@@ -42,18 +41,15 @@ module _ (alloc : Global) where
   module _ {M : Type 1} {𝓤 : Ura M} {𝓛 : Logic 𝓤} {K : Type 0} {Γ : List (Item 𝓤)} {G : Goal 𝓤 𝓛.H}
     where
       -- the pointer of a handle may be compared with null, and is not null where the handle is open
-      pub tells_open : K → (at : Ptr) (value : Option Share)
-          → (Testable at → is_block at ≡ is_some value
-          → Seq K 𝓛 (‵ (site_held at alloc value) ∷ Γ) G)
+      pub tells_open : K → (at : Ptr) (value : Option Share) → (Testable at
+          → is_block at ≡ is_some value → Seq K 𝓛 (‵ (site_held at alloc value) ∷ Γ) G)
           → Seq K 𝓛 (‵ (site_held at alloc value) ∷ Γ) G
-      tells_open t at None k =
-          feq_l t
-          (λ e. feq_i t Ptr at null_ptr e $ k (subst Testable (sym e) (lit< tt)) (ap is_block e))
+      tells_open t at None k = feq_l t (λ e. feq_i t Ptr at null_ptr e $ k (subst Testable (sym e)
+          (lit< tt)) (ap is_block e))
       tells_open t at (Some share) k =
-          in_a_block t at (λ p. held p share)
-          (fst∗ 𝓤 (never 𝓤)
-          (sem 𝓛 (ghosts.dealloc_token alloc (bare (lone share_row.mir)) null_ptr))) (λ b o e.
-          use1 𝓛 (given (Testable (block_ptr b o)) (‵ (held (block_ptr b o) share)))
-          (tested 𝓛 (block_ptr b o) share) $ learn t (λ may.
+          in_a_block t at (λ p. held p share) (fst∗ 𝓤 (never 𝓤) (sem 𝓛 (ghosts.dealloc_token alloc
+          (bare (lone share_row.mir)) null_ptr))) (λ b o e.
+          use1 𝓛 (given (Testable (block_ptr b o)) (‵ (held (block_ptr b o) share))) (tested 𝓛
+          (block_ptr b o) share) $ learn t (λ may.
           rewrite t 0 (λ (p : Ptr). ‵ (held p share)) (sym e) refl $ k (subst Testable (sym e) may)
           (ap is_block e)))

@@ -25,17 +25,17 @@ use Rattle.front_c.specs.declared.told.Told.{Told}
 abbrev pub Text : Type 0
 Text = List ℕ
 
--- what a call makes of the buffer, of the result record and of its status
+-- what a call makes of the buffer, of its report and of its status
 abbrev pub Ends : Type 1
 Ends = Text → Text → Told → ℤ → Type 0
 
--- the question has an answer, which is reported, or is refused, which is reported
+-- what is asked has an answer, or is refused, and either is reported
 abbrev pub Tells : {A : Type 0} → (A → Type 0) → (FrontFault → Type 0) → (A → Ends) → Ends
 Tells {A} Is Refuses As old new told status =
     ((answer : A) × Is answer × As answer old new told status)
     ⊎ ((fault : FrontFault) × Refuses fault × TellsRefusal fault old new told status)
 
--- a tag as it was given; 1 is counted where it is the default
+-- a tag as it was passed in; 1 is counted where it is the default
 abbrev pub TellsPicked : Picked → Ends
 TellsPicked (picked.Matched tag) = TellsText tag.now 0 found
 TellsPicked (picked.Default tag) = TellsText tag.now 1 found
@@ -56,7 +56,7 @@ TellsPick flags field tags default old new told status =
     (λ read. Tells (IsPickedTag read (default_of default) (lines_of tags))
     (RefusesPick read (default_of default) (lines_of tags)) TellsPicked old new told status)
 
--- a question to a site: reported as usage where the handle is not open or a flag is unknown
+-- a question to a site: reported as usage where it cannot be asked
 abbrev pub TellsAsked : {A : Type 0} → Option SiteState → Option FieldText
     → (SiteState → FieldText → A → Type 0) → (FieldText → FrontFault → Type 0) → (A → Ends) → Ends
 TellsAsked site read Is Refuses As old new told status =

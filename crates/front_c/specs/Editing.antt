@@ -1,15 +1,15 @@
 -- Sites that C makes, edits and writes (project rules).
-use Rattle.std.specs.Prelude.{◌≡◌, ◌⊎◌, ℕ, ℤ, List, None, Option, Some, MatchOption}
+use Rattle.std.specs.Prelude.{◌≡◌, ◌≢◌, ◌⊎◌, ℕ, ℤ, None, Option, Some, MatchOption}
 use Rattle.cata_core.specs.Sites.{SiteState}
 use Rattle.front_core.specs.Documents.{IsDelta, IsDocument, IsStatus, IsSummary, RefusesDelta}
-use Rattle.front_core.specs.Editing.{Edits, IsDeleted, IsMerged, IsPutInto, IsTaken}
-use Rattle.front_core.specs.Editing.{RefusesDelete, RefusesPutInto}
+use Rattle.front_core.specs.Editing.{Edits, IsDeleted, IsMerged, IsPutInto, IsTaken, LeavesMerge}
+use Rattle.front_core.specs.Editing.{LeavesTake, RefusesDelete, RefusesMerge, RefusesPutInto}
+use Rattle.front_core.specs.Editing.{RefusesTake}
 use Rattle.front_core.specs.Lines.{lines_of}
 use Rattle.front_core.specs.Refusals.{IsRefusalNumber}
 use Rattle.front_core.specs.Site.{IsNewSite, RefusesNewSite}
 use Rattle.front_core.specs.TagFilters.{IsTagFilter, RefusesTagFilter}
-use Rattle.front_core.specs.WholeEdits.{AreUpdated, IsImported, RefusesImport, RefusesMerged}
-use Rattle.front_core.specs.WholeEdits.{RefusesTaken, RefusesUpdates}
+use Rattle.front_core.specs.WholeEdits.{AreUpdated, IsImported, RefusesImport, RefusesUpdates}
 use Rattle.front_core.specs.Work.{AreChangeLines, IsExport, IsMissing, IsOutdated}
 use Rattle.front_core.specs.Work.{RefusesMissing, RefusesOutdated}
 use Rattle.front_core.specs.declared.answer.Answer.{Answer}
@@ -21,7 +21,7 @@ use Rattle.front_c.specs.Statuses.{found, status_of_refusal, usage}
 use Rattle.front_c.specs.Telling.{TellsNothing, TellsText, TellsUsage, answered, refused}
 use Rattle.front_c.specs.declared.told.Told.{Told}
 
--- what a call without an answer makes of the result record and of its status
+-- what a call without an answer makes of its report and of its status
 abbrev pub Reports : Type 1
 Reports = Told → ℤ → Type 0
 
@@ -59,8 +59,13 @@ Refusing = SiteState → SiteState → FrontFault → Type 0
 abbrev pub Keeps : (SiteState → FrontFault → Type 0) → Refusing
 Keeps Refuses old new fault = (new ≡ old) × OrNoMemory (Refuses old) fault
 
--- a handle that is not open is reported as usage; else it has the site that the edit makes, or
--- the one that a refused edit leaves
+-- the site is as it was, but after lack of memory one that the edit may leave
+abbrev pub Leaving : Edits → (SiteState → FrontFault → Type 0) → Refusing
+Leaving Leaves Refuses old new fault =
+    Leaves old new × (fault ≢ NoMemory → new ≡ old) × OrNoMemory (Refuses old) fault
+
+-- a handle that is not open is reported as usage; else it has the site that the edit makes, or the
+-- one that a refused edit leaves
 abbrev pub TellsEdited : Edits → Refusing → Option SiteState → Option SiteState → Reports
 TellsEdited Is Refuses old new told status =
     MatchOption old ((new ≡ None) × (status ≡ usage) × (told ≡ answered 0 0))
@@ -78,13 +83,15 @@ TellsDeleted now id lang = TellsEdited (IsDeleted now id lang) (Keeps (RefusesDe
 
 abbrev pub TellsTaken : Text → ℕ → Option SiteState → Option SiteState → Reports
 TellsTaken delta limit =
-    TellsEdited (IsTaken delta (limit_of limit)) (Keeps (RefusesTaken delta (limit_of limit)))
+    TellsEdited (IsTaken delta (limit_of limit))
+    (Leaving (LeavesTake delta (limit_of limit)) (RefusesTake delta (limit_of limit)))
 
 -- the cells of another handle's site, which is open
 abbrev pub TellsMerged : Option SiteState → Option SiteState → Option SiteState → Reports
 TellsMerged other old new told status =
     MatchOption other ((new ≡ old) × (status ≡ usage) × (told ≡ answered 0 0))
-    (λ cells. TellsEdited (IsMerged cells) (Keeps (RefusesMerged cells)) old new told status)
+    (λ cells. TellsEdited (IsMerged cells) (Leaving (LeavesMerge cells) (RefusesMerge cells)) old
+    new told status)
 
 abbrev pub TellsImported : ℕ → Text → Option SiteState → Option SiteState → Reports
 TellsImported now maps = TellsEdited (IsImported now maps) (Keeps (RefusesImport now maps))

@@ -1,14 +1,17 @@
 //! Edits of a shared site: in place where there is one share of it, and else of a copy, so that the
 //! other shares keep what they had.
-ghost use Rattle.std.specs.Prelude.{◌≡◌, IfErr, OnErr, OnOk};
-ghost use Rattle.front_core.specs.Editing.{IsDeleted, IsMerged, IsPutInto, IsTaken};
-ghost use Rattle.front_core.specs.Editing.{RefusesDelete, RefusesPutInto};
+ghost use Rattle.std.specs.Prelude.{◌≡◌, ◌≢◌, IfErr, OnErr, OnOk};
+ghost use Rattle.front_core.specs.Editing.{IsDeleted, IsMerged, IsPutInto, IsTaken, LeavesMerge};
+ghost use Rattle.front_core.specs.Editing.{LeavesTake, RefusesDelete, RefusesMerge};
+ghost use Rattle.front_core.specs.Editing.{RefusesPutInto, RefusesTake};
 ghost use Rattle.front_core.specs.WholeEdits.{AreUpdated, IsImported, RefusesImport};
-ghost use Rattle.front_core.specs.WholeEdits.{RefusesMerged, RefusesTaken, RefusesUpdates};
+ghost use Rattle.front_core.specs.WholeEdits.{RefusesUpdates};
+ghost use Rattle.front_core.specs.declared.fault.FrontFault.TheVariants.{NoMemory};
 ghost use Rattle.front_c.specs.Editing.{OrNoMemory};
 
 use cata_core::Site;
-use front_core::{Change, FrontFault};
+use docs_core::read_delta_until;
+use front_core::{Change, FrontFault, take_delta};
 use std::alloc::Global;
 use std::sync::Arc;
 
@@ -93,7 +96,7 @@ pub(crate) fn update(
     Ok(())
 }
 
-/// Joins the cells of a delta, as [`front_core::taken`] does.
+/// Joins the cells of a delta, as [`front_core::take`] does. It is read before the site is copied.
 pub(crate) fn take(
     alloc: Global,
     held: &mut Arc<Site>,
@@ -101,21 +104,32 @@ pub(crate) fn take(
     not_after: Option<u64>,
 ) -> Result<(), FrontFault>
     ensures ok { OnOk result (IsTaken delta.now not_after held.old.value held.new.value) }
-    ensures err { IfErr result (OrNoMemory (RefusesTaken delta.now not_after held.old.value)) }
-    ensures left { OnErr result (held.new.value ≡ held.old.value) }
+    ensures err { IfErr result (OrNoMemory (RefusesTake delta.now not_after held.old.value)) }
+    ensures left { OnErr result (LeavesTake delta.now not_after held.old.value held.new.value) }
+    ensures kept { IfErr result (λ fault. fault ≢ NoMemory → held.new.value ≡ held.old.value) }
 {
-    let edited = front_core::taken(alloc, held, delta, not_after)?;
-    *held = Arc::new(alloc, edited)?;
+    let delta = read_delta_until(alloc, delta, not_after)?;
+    if let Some(site) = Arc::get_mut(held) {
+        return take_delta(alloc, site, &delta);
+    }
+    let mut site = held.copy(alloc)?;
+    take_delta(alloc, &mut site, &delta)?;
+    *held = Arc::new(alloc, site)?;
     Ok(())
 }
 
-/// Joins the cells of another site, as [`front_core::merged`] does.
+/// Joins the cells of another site, as [`front_core::merge`] does.
 pub(crate) fn merge(alloc: Global, held: &mut Arc<Site>, other: &Site) -> Result<(), FrontFault>
     ensures ok { OnOk result (IsMerged other.now held.old.value held.new.value) }
-    ensures err { IfErr result (OrNoMemory (RefusesMerged other.now held.old.value)) }
-    ensures left { OnErr result (held.new.value ≡ held.old.value) }
+    ensures err { IfErr result (OrNoMemory (RefusesMerge other.now held.old.value)) }
+    ensures left { OnErr result (LeavesMerge other.now held.old.value held.new.value) }
+    ensures kept { IfErr result (λ fault. fault ≢ NoMemory → held.new.value ≡ held.old.value) }
 {
-    let edited = front_core::merged(alloc, held, other)?;
-    *held = Arc::new(alloc, edited)?;
+    if let Some(site) = Arc::get_mut(held) {
+        return front_core::merge(alloc, site, other);
+    }
+    let mut site = held.copy(alloc)?;
+    site.merge(alloc, other.catalogue())?;
+    *held = Arc::new(alloc, site)?;
     Ok(())
 }

@@ -37,9 +37,8 @@ ghost use Rattle.front_c.specs.Handles.{site_of};
 
 mod answers;
 mod editing;
+mod handles;
 mod question;
-mod raw_box;
-mod site_handle;
 mod status;
 mod telling;
 #[cfg(test)]
@@ -52,11 +51,10 @@ use crate::answers::{
     tell_tag_filter,
 };
 use crate::question::{field_of, limit_of, lookup_field_of};
-use crate::raw_box::RawBox;
 use crate::telling::{tell_done, tell_edit, tell_meaning, tell_refusal, tell_usage};
 use cata_core::Site;
 use front_core::{FrontFault, new_site, open_site};
-pub use site_handle::{SiteBlock, SiteHandle};
+pub use handles::site_handle::{SiteBlock, SiteHandle};
 use std::alloc::Global;
 use std::mem;
 use std::sync::Arc;
@@ -166,9 +164,10 @@ pub extern "C" fn sw_site_delete(
     tell_edit(editing::delete(alloc, held, now, id, lang), told)
 }
 
-/// Joins what the site of another handle has, in a copy of the site.
+/// Joins what the site of another handle has. The other handles of the site keep what they had.
 ///
-/// Refused, and then the site is as it was, where one stamp has two labels (13).
+/// Refused, and then the site is as it was, where one stamp has two labels (13). After 26 each key
+/// has its old cell, or none as before, or that of the join, so that a repeat gives the join.
 #[unsafe(no_mangle)]
 pub extern "C" fn sw_site_merge(
     alloc: Global,
@@ -192,11 +191,12 @@ pub extern "C" fn sw_site_merge(
 }
 
 /// Takes the document of a delta for the site. Where `not_after` is not 0 no time of the delta may
-/// be greater.
+/// be greater. The other handles of the site keep what they had.
 ///
 /// Refused are the delta (18 to 21, 27, 28; 10 to 12, or 1 to 4, in a row of it), a time of it
 /// (29), then a delta for another site (15), and one stamp with two labels (13): then the site is
-/// as it was. The site is copied for it.
+/// as it was. After 26 each key has its old cell, or none as before, or that of the join, so that a
+/// repeat gives the join.
 #[unsafe(no_mangle)]
 pub extern "C" fn sw_site_take(
     alloc: Global,
@@ -581,7 +581,7 @@ pub extern "C" fn sw_site_share(alloc: Global, site: &mut SiteHandle, other: &mu
     let Some(shared) = handle_of_share(alloc, share) else {
         return status::OUT_OF_MEMORY;
     };
-    close(alloc, mem::replace(other, shared));
+    mem::replace(other, shared).close(alloc);
     status::FOUND
 }
 
@@ -591,7 +591,7 @@ pub extern "C" fn sw_site_share(alloc: Global, site: &mut SiteHandle, other: &mu
 pub extern "C" fn sw_site_free(alloc: Global, site: &mut SiteHandle)
     ensures { (site.new.value ≡ None) × (site.new.at ≡ null_ptr) }
 {
-    close(alloc, mem::replace(site, SiteHandle::closed(alloc)));
+    mem::replace(site, SiteHandle::closed(alloc)).close(alloc);
 }
 
 /// The version of the library: 10,000 times its major number, 100 times its minor number and its
@@ -617,7 +617,7 @@ fn hold(alloc: Global, held: Site, site: &mut SiteHandle, told: &mut Told) -> i3
     let Some(opened) = handle_of(alloc, held) else {
         return tell_refusal(&FrontFault::NoMemory, told);
     };
-    close(alloc, mem::replace(site, opened));
+    mem::replace(site, opened).close(alloc);
     tell_done(told)
 }
 
@@ -636,17 +636,8 @@ fn handle_of_share(alloc: Global, share: Arc<Site>) -> Option<SiteHandle>
     ensures { IfSome result (λ handle. site_of handle ≡ Some share.value) }
 {
     match Box::new(alloc, share) {
-        Ok(boxed) => Some(SiteHandle::of(RawBox::of(boxed))),
+        Ok(boxed) => Some(SiteHandle::of(boxed)),
         Err(_) => None,
-    }
-}
-
-/// Lets the share of a handle go, where it is open.
-fn close(alloc: Global, mut handle: SiteHandle) {
-    if handle.is_open() {
-        drop(handle.into_raw_box(alloc).into_box());
-    } else {
-        handle.discard();
     }
 }
 

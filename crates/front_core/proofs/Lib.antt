@@ -1,3 +1,4 @@
+pub mod EditingLemmas
 pub mod LinesLemmas
 pub mod PickLaws
 pub mod PickLemmas

@@ -42,8 +42,8 @@ one_langs [] [] (y ∷ ys) f g = absurd g
 one_langs [] (x ∷ xs) b f g = absurd f
 one_langs (w ∷ tags) [] b f g = absurd f
 one_langs (w ∷ tags) (x ∷ xs) [] f g = absurd g
-one_langs (w ∷ tags) (x ∷ xs) (y ∷ ys) f g =
-    ap₂ (λ l ls. l ∷ ls) (one_lang w x y f.0 g.0) (one_langs tags xs ys f.1 g.1)
+one_langs (w ∷ tags) (x ∷ xs) (y ∷ ys) f g = ap₂ (λ l ls. l ∷ ls) (one_lang w x y f.0 g.0)
+    (one_langs tags xs ys f.1 g.1)
 
 one_default : (word : Option Text) (a b : Option (List ℕ)) → IsDefault word a → IsDefault word b
     → a ≡ b
@@ -88,10 +88,10 @@ one_found by list langs default Nothing Nothing f g = refl
 one_picked : (field : FieldText) (word : Option Text) (tags : List Text) (a b : Finding)
     → IsPicked field word tags a → IsPicked field word tags b → a ≡ b
 one_picked field word tags a b f g =
-    let defaults : f.default ≡ g.default =
-    one_default word f.default g.default f.default_ok g.default_ok in
-    let lists : f.list ≡ g.list =
-    one_items field.scheme field.malformed field.text f.list g.list f.list_ok.1 g.list_ok.1 in
+    let defaults : f.default ≡ g.default = one_default word f.default g.default f.default_ok
+    g.default_ok in
+    let lists : f.list ≡ g.list = one_items field.scheme field.malformed field.text f.list g.list
+    f.list_ok.1 g.list_ok.1 in
     let langs : f.langs ≡ g.langs = one_langs tags f.langs g.langs f.langs_ok g.langs_ok in
     let by = field.widening in
     let found : Finds by g.list g.langs g.default a =
@@ -100,20 +100,20 @@ one_picked field word tags a b f g =
     (subst (λ (d : Option (List ℕ)). Finds by f.list f.langs d a) defaults f.found_ok)) in
     one_found by g.list g.langs g.default a b found g.found_ok
 
--- A pick has one line at most.
+-- a pick has one line
 pub one_pick_line : (field : FieldText) (word : Option Text) (tags : List Text) (a b : List ℕ)
     → IsPickLine field word tags a → IsPickLine field word tags b → a ≡ b
-one_pick_line field word tags a b f g =
-    f.2 ∙ ap pick_line (one_picked field word tags f.0 g.0 f.1 g.1) ∙ sym g.2
+one_pick_line field word tags a b f g = f.2 ∙ ap pick_line (one_picked field word tags f.0 g.0 f.1
+    g.1) ∙ sym g.2
 
 -- a text that is a tag is refused for lack of memory alone
 tag_refused : (text : List ℕ) (fault : LangFault) → RefusesTag text fault → IsTag text
     → fault ≡ lang.NoMemory
-tag_refused text lang.TagEmpty h t = let none : 0 < 0 =
-    subst (λ (x : List ℕ). 0 < length x) h t.0.0 in absurd (omega arith)
+tag_refused text lang.TagEmpty h t = let none : 0 < 0 = subst (λ (x : List ℕ). 0 < length x)
+    h t.0.0 in absurd (omega arith)
 tag_refused text lang.TagTooLong h t = let fits = t.0.1 in absurd (omega arith)
-tag_refused text (lang.TagSubtag offset) h t =
-    absurd (not_allowed tag_piece (pieces text) offset h.1 t.1)
+tag_refused text (lang.TagSubtag offset) h t = absurd (not_allowed tag_piece (pieces text)
+    offset h.1 t.1)
 tag_refused text lang.TagNotWellFormed h t = absurd (h.2 t.2)
 tag_refused text lang.RangeEmpty h t = absurd h
 tag_refused text lang.RangeTooLong h t = absurd h
@@ -135,9 +135,8 @@ spelt_at (w ∷ before) word after (l ∷ langs) h = spelt_at before word after 
 tags_refused : (tags : List Text) (langs : List (List ℕ)) (fault : LangFault) → HasNoLang tags fault
     → SpellLangs tags langs → fault ≡ lang.NoMemory
 tags_refused tags langs fault h all =
-    let spelt =
-    spelt_at h.before h.word h.after langs
-    (subst (λ (ts : List Text). SpellLangs ts langs) h.whole all) in
+    let spelt = spelt_at h.before h.word h.after langs (subst (λ (ts : List Text). SpellLangs ts
+    langs) h.whole all) in
     lang_refused h.word spelt.0 fault h.word_not spelt.1
 
 default_refused : (word : Option Text) (default : Option (List ℕ)) (fault : LangFault)
@@ -151,20 +150,20 @@ tags_memory : (tags : List Text) (langs : List (List ℕ)) (fault : LangFault)
 tags_memory tags langs lang.NoMemory h all = refl
 tags_memory tags langs lang.TagEmpty h all = tags_refused tags langs lang.TagEmpty h all
 tags_memory tags langs lang.TagTooLong h all = tags_refused tags langs lang.TagTooLong h all
-tags_memory tags langs (lang.TagSubtag offset) h all =
-    tags_refused tags langs (lang.TagSubtag offset) h all
-tags_memory tags langs lang.TagNotWellFormed h all =
-    tags_refused tags langs lang.TagNotWellFormed h all
+tags_memory tags langs (lang.TagSubtag offset) h all = tags_refused tags langs
+    (lang.TagSubtag offset) h all
+tags_memory tags langs lang.TagNotWellFormed h all = tags_refused tags langs lang.TagNotWellFormed h
+    all
 tags_memory tags langs lang.RangeEmpty h all = tags_refused tags langs lang.RangeEmpty h all
 tags_memory tags langs lang.RangeTooLong h all = tags_refused tags langs lang.RangeTooLong h all
-tags_memory tags langs (lang.RangeSubtag offset) h all =
-    tags_refused tags langs (lang.RangeSubtag offset) h all
+tags_memory tags langs (lang.RangeSubtag offset) h all = tags_refused tags langs
+    (lang.RangeSubtag offset) h all
 
 malformed_refused : (scheme : Scheme) (malformed : Malformed) (text : Text) (offset : ℕ)
     (list : List Item) → RefusesField scheme malformed text (nego.FieldMalformed offset)
     → ¬ IsField scheme malformed text list
-malformed_refused scheme Refused text offset list h f =
-    malformed_is_no_field scheme text offset list h.1 f
+malformed_refused scheme Refused text offset list h f = malformed_is_no_field scheme text offset
+    list h.1 f
 malformed_refused scheme PassedOver text offset list h f = absurd h
 
 field_memory : (field : FieldText) (list : List Item) (fault : NegoFault)
@@ -179,9 +178,9 @@ field_memory field list nego.NoMemory h reads = refl
 pub no_line : (field : FieldText) (word : Option Text) (tags : List Text) (line : List ℕ)
     (fault : FrontFault) → RefusesPick field word tags fault → fault ≢ NoMemory
     → ¬ IsPickLine field word tags line
-no_line field word tags line fault (inl (inl h)) not p =
-    not (h.2 ∙ ap language_fault (default_refused word p.1.default h.0 h.1 p.1.default_ok))
-no_line field word tags line fault (inl (inr h)) not p =
-    not (h.1.2 ∙ ap field_fault (field_memory field p.1.list h.1.0 h.1.1 p.1.list_ok))
-no_line field word tags line fault (inr h) not p =
-    not (h.1.2 ∙ ap language_fault (tags_memory tags p.1.langs h.1.0 h.1.1 p.1.langs_ok))
+no_line field word tags line fault (inl (inl h)) not p = not (h.2 ∙ ap language_fault
+    (default_refused word p.1.default h.0 h.1 p.1.default_ok))
+no_line field word tags line fault (inl (inr h)) not p = not (h.1.2 ∙ ap field_fault
+    (field_memory field p.1.list h.1.0 h.1.1 p.1.list_ok))
+no_line field word tags line fault (inr h) not p = not (h.1.2 ∙ ap language_fault
+    (tags_memory tags p.1.langs h.1.0 h.1.1 p.1.langs_ok))

@@ -48,7 +48,7 @@ found_by (By scheme) list langs default (found.Matched place) h = h
 found_by (By scheme) list langs default (found.Default place) h = h
 found_by (By scheme) list langs default found.Nothing h = h
 
--- the language at the place that lookup gives is the one that it finds
+-- the language at the place that lookup answers is the one that it found
 lang_at : (langs given : List (List ℕ)) (text : List ℕ) (place : ℕ) (lang : List ℕ) → given ≡ langs
     → least_place given text ≡ Some place → lang ≡ get_or langs place lang → lang ≡ text
 lang_at langs given text place lang same there at =
@@ -113,7 +113,7 @@ as_many [] (l ∷ langs) h = absurd h
 as_many (w ∷ tags) [] h = absurd h
 as_many (w ∷ tags) (l ∷ langs) h = ap suc (as_many tags langs h.1)
 
--- The place that lookup gives is one of a tag.
+-- the place that lookup answers is one of a tag
 pub place_within : (tags : List Text) (langs : List (List ℕ)) (text : List ℕ) (place : ℕ)
     → SpellLangs tags langs → least_place langs text ≡ Some place → place < length tags
 place_within tags langs text place h there =
@@ -169,7 +169,7 @@ first_spelling tags langs text place tag h there at =
     let found = position-Some (λ t. bytes_eq t text) langs place [] there in
     first_at tags langs text place tag h ((bytes_eq-Decides _ _).0 found.1) found.2 at
 
--- A place that lookup gives, if it gives one, has a tag.
+-- lookup answers a place where there is a tag
 pub found_within : (by : Widening) (list : List Item) (tags : List Text)
     (langs given : List (List ℕ)) (handed : Option (List ℕ)) (found : Found) → given ≡ langs
     → SpellLangs tags langs → FoundBy by list given handed found → HasPlace tags found

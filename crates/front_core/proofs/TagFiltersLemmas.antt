@@ -39,7 +39,7 @@ enough_names scheme items langs names picks f many =
     subst (λ (n : ℕ). All (λ (p : Pick). p.place < n) picks) many
     (picks_within scheme items langs picks f)
 
--- The number of texts is the number of borrowed ones.
+-- there are as many texts as are borrowed
 pub as_many_texts : (names lent : List (Bor Text)) (texts : List Text) → lent ≡ names
     → texts_of names ≡ texts → length texts ≡ length lent
 as_many_texts names lent texts same are = sym (ap length are) ∙ length-map names (λ name. name.now)

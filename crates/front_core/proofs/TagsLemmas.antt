@@ -47,9 +47,9 @@ read_on words left rest langs more word lang e is h one = record {
 
 -- one more word of a slice spells one more language
 pub more_langs : {X : Type 0} (text : X → Text) (xs : List X) (i : ℕ) (x : X)
-    (langs more : List (List ℕ)) (lang : List ℕ) → i < length xs
-    → more ≡ langs ++ lang ∷ [] → SpellLangs (map text (take i xs)) langs
-    → SpellsLang (text (get_or xs i x)) lang → SpellLangs (map text (take (i + 1) xs)) more
+    (langs more : List (List ℕ)) (lang : List ℕ) → i < length xs → more ≡ langs ++ lang ∷ []
+    → SpellLangs (map text (take i xs)) langs → SpellsLang (text (get_or xs i x)) lang
+    → SpellLangs (map text (take (i + 1) xs)) more
 more_langs text xs i x langs more lang lt is h one =
     let words : map text (take (i + 1) xs) ≡ map text (take i xs) ++ text (get_or xs i x) ∷ [] =
     ap (map text) (take_more xs i x lt) ∙ map-append text (take i xs) (get_or xs i x ∷ []) in
@@ -65,10 +65,8 @@ no_lang text xs i x langs fault lt h not = tags_refused (map text xs) fault (rec
   word = text (get_or xs i x);
   after = map text (drop (suc i) xs);
   langs = langs;
-  whole =
-      ap (map text)
-      (sym (take-append-drop i xs) ∙ ap (λ rest. take i xs ++ rest) (drop-cons xs i x lt))
-      ∙ map-append text (take i xs) (get_or xs i x ∷ drop (suc i) xs);
+  whole = ap (map text) (sym (take-append-drop i xs) ∙ ap (λ rest. take i xs ++ rest)
+      (drop-cons xs i x lt)) ∙ map-append text (take i xs) (get_or xs i x ∷ drop (suc i) xs);
   before_ok = h;
   word_not = not;
 })

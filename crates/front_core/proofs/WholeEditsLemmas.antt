@@ -1,22 +1,16 @@
 -- What a copy says of the site that it is of.
-use Rattle.std.proofs.Common.{◌≡◌, ◌∙◌, ℕ, List, Option, ap, inl, inr, subst}
-use Rattle.cata_core.specs.CataFaults.{IsRefusal}
-use Rattle.cata_core.specs.Entries.{Agree, Entries, joined}
-use Rattle.cata_core.specs.Sites.{RefusesDelta, SiteState}
+use Rattle.std.proofs.Common.{◌≡◌, ◌∙◌, ℕ, List, ap, inl, inr, subst}
+use Rattle.cata_core.specs.Sites.{SiteState}
 use Rattle.cata_core.specs.declared.cata_fault.CataFault.{CataFault}
 use Rattle.cata_core.specs.declared.cata_fault.CataFault.TheVariants as cata
-use Rattle.cata_core.specs.declared.delta.Delta.{Delta}
 use Rattle.json_docs.specs.Checks.{OrMemory}
 use Rattle.map_docs.specs.LangMapLabels.{AreLangMaps}
 use Rattle.map_docs.specs.LangMaps.{Labelled}
 use Rattle.docs_core.specs.Imported.{Imports, SpendsImport}
-use Rattle.docs_core.specs.TimeLimits.{ReadsInTime}
 use Rattle.docs_core.specs.Updated.{SpendsUpdate, Updates}
-use Rattle.front_core.specs.Editing.{IsMerged, IsTaken}
 use Rattle.front_core.specs.Faults.{site_fault}
 use Rattle.front_core.specs.Fields.{Text}
-use Rattle.front_core.specs.WholeEdits.{AreUpdated, IsImported, RefusesImport, RefusesMerged}
-use Rattle.front_core.specs.WholeEdits.{RefusesTaken, RefusesUpdates}
+use Rattle.front_core.specs.WholeEdits.{AreUpdated, IsImported, RefusesImport, RefusesUpdates}
 use Rattle.front_core.specs.declared.fault.FrontFault.{FrontFault}
 
 -- labels that are put into a copy are imported
@@ -84,60 +78,3 @@ not_updated now old new site copied before after refused fault same olds news (i
         is ∙ ap site_fault spent.0,
       ),
     ))
-
--- cells that are joined in a copy are merged
-pub merged_in : (other site copied edited : SiteState) (cells : Entries) → copied ≡ site
-    → cells ≡ other.cells → Agree copied.cells cells
-    → edited ≡ record { name = copied.name; cells = joined copied.cells cells }
-    → IsMerged other site edited
-merged_in other site copied edited cells same are agree is = (
-  subst (λ (c : Entries). Agree site.cells c) are
-      (subst (λ (s : SiteState). Agree s.cells cells) same agree),
-  subst (λ (c : Entries). edited ≡ record { name = site.name; cells = joined site.cells c }) are
-      (subst (λ (s : SiteState). edited ≡ record { name = s.name; cells = joined s.cells cells })
-      same is),
-)
-
--- or the merge is refused
-pub not_merged : (other site copied : SiteState) (cells : Entries) (refused : CataFault)
-    (fault : FrontFault) → copied ≡ site → cells ≡ other.cells
-    → IsRefusal copied.cells cells refused → fault ≡ site_fault refused
-    → RefusesMerged other site fault
-not_merged other site copied cells refused fault same are h is =
-    inr (
-      refused,
-      subst (λ (c : Entries). IsRefusal site.cells c refused) are
-          (subst (λ (s : SiteState). IsRefusal s.cells cells refused) same h),
-      is,
-    )
-
--- a delta that a copy takes is taken
-pub taken_in : (bytes : Text) (limit : Option ℕ) (site copied edited : SiteState)
-    (delta : Delta) → copied ≡ site → ReadsInTime limit bytes delta
-    → copied.name ≡ delta.addressee → Agree copied.cells delta.cells
-    → edited ≡ record { name = copied.name; cells = joined copied.cells delta.cells }
-    → IsTaken bytes limit site edited
-taken_in bytes limit site copied edited delta same reads mine agree is = (
-  delta,
-  reads,
-  subst (λ (s : SiteState). s.name ≡ delta.addressee) same mine,
-  subst (λ (s : SiteState). Agree s.cells delta.cells) same agree,
-  subst (λ (s : SiteState). edited ≡ record { name = s.name; cells = joined s.cells delta.cells })
-      same is,
-)
-
--- or it is refused
-pub not_taken : (bytes : Text) (limit : Option ℕ) (site copied : SiteState) (delta : Delta)
-    (refused : CataFault) (fault : FrontFault) → copied ≡ site
-    → ReadsInTime limit bytes delta → RefusesDelta copied delta refused
-    → fault ≡ site_fault refused → RefusesTaken bytes limit site fault
-not_taken bytes limit site copied delta refused fault same reads h is =
-    inr (
-      delta,
-      reads,
-      inr (
-        refused,
-        subst (λ (s : SiteState). RefusesDelta s delta refused) same h,
-        is,
-      ),
-    )

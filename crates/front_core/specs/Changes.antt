@@ -1,5 +1,5 @@
 -- Changes of one label: how they are read, and what they make of a site (project rules).
-use Rattle.std.specs.Prelude.{◌≡◌, ◌⊎◌, ◌∷◌, [], ℕ, List, Option, None, Some}
+use Rattle.std.specs.Prelude.{◌≡◌, ◌⊎◌, ◌∷◌, [], ℕ, None, Some}
 use Rattle.std.specs.FinMap.Entries.{put}
 use Rattle.std.specs.Str.{IsUtf8}
 use Rattle.std.specs.Str.Lossy.{utf8_valid_len}

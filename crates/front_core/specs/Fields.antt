@@ -1,4 +1,4 @@
--- A field that is given, with how it is read.
+-- A field that is passed in, with how it is read.
 use Rattle.std.specs.Prelude.{◌≤◌, ℕ, List, length}
 use Rattle.nego_core.specs.Field.{IsField, RefusesField}
 use Rattle.nego_core.specs.Item.{Item}
@@ -17,7 +17,7 @@ pub record FieldText : Type 0 where
   pub widening : Widening
   pub text : Text
 
--- what is given, as values
+-- what is passed in, as values
 abbrev pub field_text : Field → FieldText
 field_text field = record {
   scheme = field.scheme;

@@ -90,7 +90,7 @@ pick_outcome (Matched lang) = outcome.Found
 pick_outcome (Default lang) = outcome.Found
 pick_outcome Nothing = outcome.Nothing
 
--- the line of what is picked, and whether anything is
+-- the line that says what is picked, and whether anything is
 abbrev pub AnswersPick : FieldText → Option Text → List Text → Answer → Type 0
 AnswersPick field word tags answer = (found : Finding) × IsPicked field word tags found
     × (answer.text ≡ pick_line found) × (answer.outcome ≡ pick_outcome found)

@@ -1,4 +1,4 @@
--- Tags that are given, and the languages that they spell.
+-- Tags that are passed in, and the languages that they spell.
 use Rattle.std.specs.Prelude.{◌≡◌, ℕ, List, [], ◌∷◌, ◌++◌}
 use Rattle.lang_core.specs.Lang.{SpellsLang, RefusesLang}
 use Rattle.lang_core.specs.declared.fault.LangFault.{LangFault}

@@ -1,15 +1,12 @@
 -- Edits of a site that are made all or none (project rules).
-use Rattle.std.specs.Prelude.{◌≡◌, ◌⊎◌, ℕ, List, Option}
-use Rattle.cata_core.specs.CataFaults.{IsRefusal}
-use Rattle.cata_core.specs.Sites.{RefusesDelta, SiteState}
+use Rattle.std.specs.Prelude.{◌≡◌, ◌⊎◌, ℕ, List}
+use Rattle.cata_core.specs.Sites.{SiteState}
 use Rattle.cata_core.specs.declared.cata_fault.CataFault.TheVariants.{ClockSpent}
-use Rattle.cata_core.specs.declared.delta.Delta.{Delta}
 use Rattle.json_docs.specs.Checks.{OrMemory}
 use Rattle.site_docs.specs.ReadsAs.{IsOfDocument, no_memory}
 use Rattle.map_docs.specs.LangMapLabels.{AreLangMaps, RefusesLangMaps}
 use Rattle.map_docs.specs.LangMaps.{Labelled}
 use Rattle.docs_core.specs.Imported.{Imports, SpendsImport}
-use Rattle.docs_core.specs.TimeLimits.{ReadsInTime, RefusesDeltaUntil}
 use Rattle.docs_core.specs.Updated.{SpendsUpdate, Updates}
 use Rattle.front_core.specs.Faults.{IsOf, document_fault, site_fault}
 use Rattle.front_core.specs.Fields.{Text}
@@ -50,15 +47,3 @@ RefusesUpdates now old new site fault =
     ⊎ ((before after : List Labelled) × AreLangMaps old before × AreLangMaps new after
     × ((fault ≡ NoMemory)
     ⊎ (SpendsUpdate now site.name before after site.cells × (fault ≡ site_fault ClockSpent))))
-
--- the least key whose stamp has two labels is reported, or memory ended
-abbrev pub RefusesMerged : SiteState → SiteState → FrontFault → Type 0
-RefusesMerged other site fault =
-    (fault ≡ NoMemory) ⊎ IsOf site_fault (IsRefusal site.cells other.cells) fault
-
--- the bytes are refused, or a time of them; then the site refuses the delta; or memory ended
-abbrev pub RefusesTaken : Text → Option ℕ → SiteState → FrontFault → Type 0
-RefusesTaken bytes limit site fault =
-    IsOf document_fault (OrMemory no_memory (RefusesDeltaUntil 1 limit bytes)) fault
-    ⊎ ((delta : Delta) × ReadsInTime limit bytes delta
-    × ((fault ≡ NoMemory) ⊎ IsOf site_fault (RefusesDelta site delta) fault))

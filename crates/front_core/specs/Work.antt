@@ -1,5 +1,5 @@
 -- What translators and editors get of an open site (project rules).
-use Rattle.std.specs.Prelude.{◌≡◌, ◌⊎◌, ℕ}
+use Rattle.std.specs.Prelude.{◌≡◌, ◌⊎◌}
 use Rattle.lang_core.specs.Lang.{RefusesLang, SpellsLang}
 use Rattle.cata_core.specs.Changes.{AreChanges, Changed}
 use Rattle.cata_core.specs.Sites.{SiteState}

@@ -1,11 +1,14 @@
 //! Edits of an open site, read and made at once.
-ghost use Rattle.std.specs.Prelude.{◌≡◌, IfErr, OnErr, OnOk};
-ghost use Rattle.front_core.specs.Editing.{IsDeleted, IsMerged, IsPutInto, IsTaken, RefusesDelete};
-ghost use Rattle.front_core.specs.Editing.{RefusesMerge, RefusesPutInto, RefusesTake};
+ghost use Rattle.std.specs.Prelude.{◌≡◌, ◌≢◌, IfErr, OnErr, OnOk};
+ghost use Rattle.front_core.specs.Editing.{IsDeleted, IsMerged, IsPutInto, IsTaken, IsTakenDelta};
+ghost use Rattle.front_core.specs.Editing.{LeavesMerge, LeavesTake, LeavesTakeDelta};
+ghost use Rattle.front_core.specs.Editing.{RefusesDelete, RefusesMerge, RefusesPutInto};
+ghost use Rattle.front_core.specs.Editing.{RefusesTake, RefusesTakeDelta};
+ghost use Rattle.front_core.specs.declared.fault.FrontFault.TheVariants.{NoMemory};
 
 use crate::change::Change;
 use crate::fault::FrontFault;
-use cata_core::Site;
+use cata_core::{Delta, Site};
 use docs_core::read_delta_until;
 use std::alloc::Global;
 
@@ -50,25 +53,25 @@ pub fn delete(
     Ok(())
 }
 
-/// Joins the cells of another site: [`Site::merge`].
+/// Joins the cells of another site, in place: [`Site::merge`].
 ///
-/// Refused, and then unchanged, where one stamp has two labels (13). After 26 each key has its old
-/// cell, or none as before, or that of the join, so that a repeat gives the join.
+/// Refused, and then the site is unchanged, where one stamp has two labels (13). After 26 each key
+/// has its old cell, or none as before, or that of the join, so that a repeat gives the join.
 pub fn merge(alloc: Global, site: &mut Site, other: &Site) -> Result<(), FrontFault>
     ensures ok { OnOk result (IsMerged other.now site.old site.new) }
-    ensures err { IfErr result (RefusesMerge other.now site.old site.new) }
+    ensures err { IfErr result (RefusesMerge other.now site.old) }
+    ensures left { OnErr result (LeavesMerge other.now site.old site.new) }
+    ensures kept { IfErr result (λ fault. fault ≢ NoMemory → site.new ≡ site.old) }
 {
     site.merge(alloc, other.catalogue())?;
     Ok(())
 }
 
-/// Joins the cells of a delta for this site, as its document has them. Where there is a limit no
-/// time of the delta may be greater.
+/// Joins the cells of a delta for this site, as its document has them: [`take_delta`] of the delta
+/// that is read. Where there is a limit no time of the delta may be greater.
 ///
-/// Refused, and then unchanged, as [`read_delta_until`] refuses the delta, by document 1 (29 with
-/// the first row whose time is greater); then where it is for another site (15), or one stamp has
-/// two labels (13). After 26 each key has its old cell, or none as before, or that of the join, so
-/// that a repeat gives the join.
+/// Refused as [`read_delta_until`] refuses the delta, by document 1 (29 with the first row whose
+/// time is greater), and then the site is unchanged; else as [`take_delta`] is.
 pub fn take(
     alloc: Global,
     site: &mut Site,
@@ -76,9 +79,25 @@ pub fn take(
     not_after: Option<u64>,
 ) -> Result<(), FrontFault>
     ensures ok { OnOk result (IsTaken delta.now not_after site.old site.new) }
-    ensures err { IfErr result (RefusesTake delta.now not_after site.old site.new) }
+    ensures err { IfErr result (RefusesTake delta.now not_after site.old) }
+    ensures left { OnErr result (LeavesTake delta.now not_after site.old site.new) }
+    ensures kept { IfErr result (λ fault. fault ≢ NoMemory → site.new ≡ site.old) }
 {
     let delta = read_delta_until(alloc, delta, not_after)?;
-    site.take(alloc, &delta)?;
+    take_delta(alloc, site, &delta)
+}
+
+/// Joins the cells of a delta for this site, in place: [`Site::take`].
+///
+/// Refused, and then the site is unchanged, where the delta is for another site (15), then where
+/// one stamp has two labels (13). After 26 each key has its old cell, or none as before, or that of
+/// the join, so that a repeat gives the join.
+pub fn take_delta(alloc: Global, site: &mut Site, delta: &Delta) -> Result<(), FrontFault>
+    ensures ok { OnOk result (IsTakenDelta delta.now site.old site.new) }
+    ensures err { IfErr result (RefusesTakeDelta delta.now site.old) }
+    ensures left { OnErr result (LeavesTakeDelta delta.now site.old site.new) }
+    ensures kept { IfErr result (λ fault. fault ≢ NoMemory → site.new ≡ site.old) }
+{
+    site.take(alloc, delta)?;
     Ok(())
 }

@@ -1,5 +1,7 @@
 //! Laws about the definitions alone: each function's contract is the law.
 ghost use Rattle.std.specs.Prelude.{◌≡◌, ◌≢◌, ℕ, List, Option};
+ghost use Rattle.cata_core.specs.Sites.{SiteState};
+ghost use Rattle.front_core.specs.Editing.{IsMerged, IsTaken, LeavesMerge, LeavesTake};
 ghost use Rattle.front_core.specs.Fields.{FieldText, Text};
 ghost use Rattle.front_core.specs.Picks.{IsPickLine, RefusesPick};
 ghost use Rattle.front_core.specs.declared.fault.FrontFault.{FrontFault};
@@ -17,4 +19,13 @@ pub fn refused_pick_has_no_line()
         (fault : FrontFault)
         → RefusesPick field default tags fault → fault ≢ NoMemory
         → ¬ IsPickLine field default tags line }
+{}
+
+/// After a merge or a take that ran out of memory a repeat gives what it would have given.
+pub fn a_join_can_be_repeated()
+    ensures merge { (other old new made : SiteState)
+        → LeavesMerge other old new → IsMerged other old made → IsMerged other new made }
+    ensures take { (bytes : Text) (limit : Option ℕ) (old new made : SiteState)
+        → LeavesTake bytes limit old new → IsTaken bytes limit old made
+        → IsTaken bytes limit new made }
 {}

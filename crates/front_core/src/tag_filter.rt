@@ -43,7 +43,7 @@ pub(crate) fn taken(alloc: Global, picks: &Picks, names: &[&[u8]]) -> Result<Ans
     ensures { IfOk result (ShowsTaken (texts_of names.now) picks.now) }
 {
     let mut text = with_line(Vec::new(alloc), b"filter", picks.len())?;
-    'picks: for at in 0..picks.len() {
+    for at in 0..picks.len() {
         if let Some(pick) = picks.nth(at) {
             let name = name_at(names, pick.place);
             text = with_line(text, name, usize::from(pick.weight))?;

@@ -1,13 +1,11 @@
 //! Edits of a site that are made all or none, in a copy of it.
 ghost use Rattle.std.specs.Prelude.{MatchResult};
-ghost use Rattle.front_core.specs.Editing.{IsMerged, IsTaken};
 ghost use Rattle.front_core.specs.WholeEdits.{AreUpdated, IsImported, RefusesImport};
-ghost use Rattle.front_core.specs.WholeEdits.{RefusesMerged, RefusesTaken};
 ghost use Rattle.front_core.specs.WholeEdits.{RefusesUpdates};
 
 use crate::fault::FrontFault;
 use cata_core::Site;
-use docs_core::{put_labels, read_delta_until, read_langmaps, update_labels};
+use docs_core::{put_labels, read_langmaps, update_labels};
 use std::alloc::Global;
 
 /// A copy of the site with each label of the language maps put at the time `now`, in rising order
@@ -45,37 +43,5 @@ pub fn update(
     let after = read_langmaps(alloc, new)?;
     let mut edited = site.copy(alloc)?;
     update_labels(alloc, &mut edited, now, &before, &after)?;
-    Ok(edited)
-}
-
-/// A copy of the site with the cells of a delta for it joined, as its document has them. Where
-/// there is a limit no time of the delta may be greater.
-///
-/// Refused as [`read_delta_until`] refuses the delta, by document 1 (29 with the first row whose
-/// time is greater), then where it is for another site (15), or one stamp has two labels (13), and
-/// by 26.
-pub fn taken(
-    alloc: Global,
-    site: &Site,
-    delta: &[u8],
-    not_after: Option<u64>,
-) -> Result<Site, FrontFault>
-    ensures { MatchResult result (IsTaken delta.now not_after site.now)
-        (RefusesTaken delta.now not_after site.now) }
-{
-    let delta = read_delta_until(alloc, delta, not_after)?;
-    let mut edited = site.copy(alloc)?;
-    edited.take(alloc, &delta)?;
-    Ok(edited)
-}
-
-/// A copy of the site with the cells of another one joined.
-///
-/// Refused where one stamp has two labels (13), and by 26.
-pub fn merged(alloc: Global, site: &Site, other: &Site) -> Result<Site, FrontFault>
-    ensures { MatchResult result (IsMerged other.now site.now) (RefusesMerged other.now site.now) }
-{
-    let mut edited = site.copy(alloc)?;
-    edited.merge(alloc, other.catalogue())?;
     Ok(edited)
 }

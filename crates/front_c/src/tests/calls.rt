@@ -8,7 +8,7 @@ use crate::{
 /// The room of a buffer that has enough.
 pub const AMPLE: usize = 128;
 
-/// What a call left: its status, what it told, and the buffer, which was all dots.
+/// What a call left: its status, its report, and the buffer, which was all dots.
 #[derive(Clone, Copy)]
 pub struct Ended {
     status: i32,
@@ -17,18 +17,18 @@ pub struct Ended {
 }
 
 impl Ended {
-    /// Whether the call ended with this status, told this, and wrote this.
+    /// Whether the call ended with this status, reported this, and wrote this.
     pub fn is(&self, status: i32, told: Told, text: &[u8]) -> bool {
         self.status == status && self.told == told && begins(&self.out, text)
     }
 }
 
-/// What is told of an answer of this length.
+/// What is reported of an answer of this length.
 pub fn answer(len: usize) -> Told {
     counted(len, 0)
 }
 
-/// What is told of an answer of this length, with this count.
+/// What is reported of an answer of this length, with this count.
 pub fn counted(len: usize, count: usize) -> Told {
     Told {
         len,
@@ -39,12 +39,12 @@ pub fn counted(len: usize, count: usize) -> Told {
     }
 }
 
-/// What is told of this refusal.
+/// What is reported of this refusal.
 pub fn refusal(number: u32) -> Told {
     refusal_at(number, 0, 0)
 }
 
-/// What is told of this refusal, with its offset and its row.
+/// What is reported of this refusal, with its offset and its row.
 pub fn refusal_at(number: u32, offset: usize, row: usize) -> Told {
     Told {
         len: 0,
@@ -55,6 +55,7 @@ pub fn refusal_at(number: u32, offset: usize, row: usize) -> Told {
     }
 }
 
+/// A handle that is not open.
 pub fn closed(rt: &HostRuntime) -> SiteHandle {
     SiteHandle::closed(rt.alloc())
 }
@@ -324,7 +325,7 @@ fn begins(out: &[u8], text: &[u8]) -> bool {
     }
 }
 
-/// What a call finds where it tells: nothing of it may stay.
+/// What is in the record before a call: nothing of it may stay.
 fn before() -> Told {
     Told {
         len: 77,

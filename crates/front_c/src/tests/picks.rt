@@ -2,7 +2,7 @@ use super::calls::{AMPLE, answer, counted, picked, refusal, refusal_at};
 use std::test::Fail;
 
 #[test]
-fn the_first_of_equal_tags_goes_out_as_it_was_handed_in(rt: HostRuntime) -> Result<(), Fail> {
+fn the_first_of_equal_tags_goes_out_as_it_was_passed_in(rt: HostRuntime) -> Result<(), Fail> {
     let field = b"zh-Hant-CN, en;q=0.5";
     let ended = picked(&rt, 0, field, b"en\nzh-HANT\nzh-hant\n", b"", AMPLE);
     assert!(rt; ended.is(0, answer(7), b"zh-HANT"));

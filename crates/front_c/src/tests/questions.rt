@@ -2,13 +2,17 @@ use super::calls::{
     AMPLE, Ended, answer, bundled, closed, counted, filtered, looked_up, opened, refusal,
     refusal_at, text_at,
 };
-use crate::{SiteHandle, close};
+use crate::SiteHandle;
 use std::test::Fail;
 
-const SITE: &[u8] =
-    br#"{"cells":[["m","@none",1,"a",0,["x"]],["m","en",1,"a",1,["Hello","Hi"]],["m","fr",1,"a",2,["Bonjour"]],["n","de",1,"a",3,["Hallo"]],["o","en",1,"a",4,null]],"kind":"site","site":"a","version":2}"#;
+const SITE: &[u8] = b"{\"cells\":[[\"m\",\"@none\",1,\"a\",0,[\"x\"]],\
+      [\"m\",\"en\",1,\"a\",1,[\"Hello\",\"Hi\"]],\
+      [\"m\",\"fr\",1,\"a\",2,[\"Bonjour\"]],\
+      [\"n\",\"de\",1,\"a\",3,[\"Hallo\"]],\
+      [\"o\",\"en\",1,\"a\",4,null]],\
+      \"kind\":\"site\",\"site\":\"a\",\"version\":2}";
 
-// A handle of the site.
+/// A handle of the site.
 fn site(rt: &HostRuntime) -> SiteHandle {
     let mut site = closed(rt);
     opened(rt, SITE, &mut site);
@@ -24,7 +28,7 @@ fn a_lookup_answers_the_line_of_the_command(rt: HostRuntime) -> Result<(), Fail>
     assert!(rt; ended.is(0, answer(23), b"default fr [\"Bonjour\"]\n"));
     let ended = looked_up(&rt, &mut site, 0, b"o", b"en", b"", AMPLE);
     assert!(rt; ended.is(1, answer(8), b"nothing\n"));
-    close(rt.alloc(), site);
+    site.close(rt.alloc());
     Ok(())
 }
 
@@ -37,7 +41,7 @@ fn a_text_is_answered_as_it_is(rt: HostRuntime) -> Result<(), Fail> {
     assert!(rt; ended.is(1, counted(0, 2), b""));
     let ended = text_at(&rt, &mut site, 0, b"m", b"ja", 0, AMPLE);
     assert!(rt; ended.is(1, answer(0), b""));
-    close(rt.alloc(), site);
+    site.close(rt.alloc());
     Ok(())
 }
 
@@ -49,7 +53,7 @@ fn a_filter_answers_the_lines_of_the_command(rt: HostRuntime) -> Result<(), Fail
     assert!(rt; ended.is(0, answer(lines.len()), lines));
     let ended = filtered(&rt, &mut site, 0, b"z", b"en", AMPLE);
     assert!(rt; ended.is(1, answer(9), b"filter 0\n"));
-    close(rt.alloc(), site);
+    site.close(rt.alloc());
     Ok(())
 }
 
@@ -61,11 +65,11 @@ fn a_bundle_answers_the_language_maps_of_the_command(rt: HostRuntime) -> Result<
     assert!(rt; ended.is(0, answer(maps.len()), maps));
     let ended = bundled(&rt, &mut site, 0, b"ja", b"", AMPLE);
     assert!(rt; ended.is(1, answer(3), b"{}\n"));
-    close(rt.alloc(), site);
+    site.close(rt.alloc());
     Ok(())
 }
 
-// The question of each call, of this message, for this field, without a default.
+/// The question of each call, of this message, for this field, without a default.
 fn asked(
     rt: &HostRuntime,
     site: &mut SiteHandle,
@@ -87,7 +91,7 @@ fn a_question_to_a_closed_handle_is_usage(rt: HostRuntime) -> Result<(), Fail> {
     for ended in asked(&rt, &mut site, 0, b"m", b"en") {
         assert!(rt; ended.is(2, answer(0), b""));
     }
-    close(rt.alloc(), site);
+    site.close(rt.alloc());
     Ok(())
 }
 
@@ -99,7 +103,7 @@ fn an_unknown_flag_is_usage(rt: HostRuntime) -> Result<(), Fail> {
     }
     let ended = filtered(&rt, &mut site, 4, b"m", b"en", AMPLE);
     assert!(rt; ended.is(2, answer(0), b""));
-    close(rt.alloc(), site);
+    site.close(rt.alloc());
     Ok(())
 }
 
@@ -111,7 +115,7 @@ fn a_malformed_element_is_refused_or_passed_over(rt: HostRuntime) -> Result<(), 
     }
     let ended = text_at(&rt, &mut site, 2, b"m", b"fr, en_US", 0, AMPLE);
     assert!(rt; ended.is(0, counted(7, 1), b"Bonjour"));
-    close(rt.alloc(), site);
+    site.close(rt.alloc());
     Ok(())
 }
 
@@ -124,7 +128,7 @@ fn an_id_or_a_default_is_refused(rt: HostRuntime) -> Result<(), Fail> {
     }
     let ended = looked_up(&rt, &mut site, 0, b"m", b"en_US", b"e", AMPLE);
     assert!(rt; ended.is(3, refusal(4), b""));
-    close(rt.alloc(), site);
+    site.close(rt.alloc());
     Ok(())
 }
 
@@ -141,6 +145,6 @@ fn an_answer_needs_its_whole_room(rt: HostRuntime) -> Result<(), Fail> {
     assert!(rt; ended.is(1, answer(9), b""));
     let ended = bundled(&rt, &mut site, 0, b"ja", b"", 2);
     assert!(rt; ended.is(1, answer(3), b""));
-    close(rt.alloc(), site);
+    site.close(rt.alloc());
     Ok(())
 }

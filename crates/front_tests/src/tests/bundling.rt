@@ -5,8 +5,13 @@ use nego_core::{Malformed, Scheme, Widening};
 use std::alloc::Global;
 use std::process::Abort;
 
-const SITE: &[u8] =
-    br#"{"cells":[["m","@none",1,"a",0,["x"]],["m","en",1,"a",1,["Hello"]],["m","fr",1,"a",2,["Bonjour"]],["n","de",1,"a",3,["Hallo"]],["o","en",1,"a",4,null]],"kind":"site","site":"a","version":2}"#;
+const SITE: &[u8] = b"{\"cells\":[\
+      [\"m\",\"@none\",1,\"a\",0,[\"x\"]],\
+      [\"m\",\"en\",1,\"a\",1,[\"Hello\"]],\
+      [\"m\",\"fr\",1,\"a\",2,[\"Bonjour\"]],\
+      [\"n\",\"de\",1,\"a\",3,[\"Hallo\"]],\
+      [\"o\",\"en\",1,\"a\",4,null]],\
+      \"kind\":\"site\",\"site\":\"a\",\"version\":2}";
 
 fn accept(text: &str) -> Field<'_> {
     Field {

@@ -10,8 +10,11 @@ use std::alloc::Global;
 use std::process::Abort;
 use std::test::Fail;
 
-const SITE: &[u8] =
-    br#"{"cells":[["m","@none",1,1,0,["x"]],["m","en",1,1,1,["Hello"]],["m","fr",1,1,2,["Bonjour","Salut"]]],"kind":"site","site":1,"version":1}"#;
+const SITE: &[u8] = b"{\"cells\":[\
+      [\"m\",\"@none\",1,1,0,[\"x\"]],\
+      [\"m\",\"en\",1,1,1,[\"Hello\"]],\
+      [\"m\",\"fr\",1,1,2,[\"Bonjour\",\"Salut\"]]],\
+      \"kind\":\"site\",\"site\":1,\"version\":1}";
 
 fn questions(alloc: Global) -> Result<Site, FrontFault> {
     open_site(alloc, SITE)
@@ -73,7 +76,7 @@ struct Question<'q> {
     default: Option<&'q [u8]>,
 }
 
-/// At this place of what is looked up stands this.
+/// At this place of what is looked up is this.
 fn assert_text(
     rt: &impl Abort,
     alloc: Global,

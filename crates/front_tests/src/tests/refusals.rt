@@ -1,4 +1,4 @@
-//! What is refused, in which order, and how it is told.
+//! What is refused, in which order, and how it is reported.
 
 use cata_core::Site;
 use cell_core::CellFault;

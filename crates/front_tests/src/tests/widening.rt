@@ -8,8 +8,11 @@ use nego_core::{Malformed, Scheme, Widening};
 use std::process::Abort;
 use std::test::Fail;
 
-const SITE: &[u8] =
-    br#"{"cells":[["m","en-us",1,"a",0,["Hi"]],["m","fr",1,"a",1,["Salut"]],["n","fr",1,"a",2,["Non"]]],"kind":"site","site":"a","version":2}"#;
+const SITE: &[u8] = b"{\"cells\":[\
+      [\"m\",\"en-us\",1,\"a\",0,[\"Hi\"]],\
+      [\"m\",\"fr\",1,\"a\",1,[\"Salut\"]],\
+      [\"n\",\"fr\",1,\"a\",2,[\"Non\"]]],\
+      \"kind\":\"site\",\"site\":\"a\",\"version\":2}";
 
 fn widened(scheme: Scheme, text: &str) -> Field<'_> {
     Field {

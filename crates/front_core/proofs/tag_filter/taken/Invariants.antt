@@ -5,7 +5,7 @@ use Rattle.front_core.specs.TagFilters.{taken_line, texts_of}
 use Rattle.front_core.proofs.tag_filter.taken.Given as goal
 
 -- the lines of the picks so far
-abbrev pub invariant-picks : goal.invariant-picks
-invariant-picks l =
+abbrev pub invariant-loop-at : goal.invariant-loop-at
+invariant-loop-at l =
     l.text.items ≡ line (codes "filter" ++ 32 ∷ decimal (length l.picks)) ++ flat_map
     (taken_line (texts_of l.names)) (take l.at l.picks)

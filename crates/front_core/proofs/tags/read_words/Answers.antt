@@ -10,8 +10,8 @@ returns-in_err-parse g c =
     let word = c.as_bytes.ensures.value ∙ c.as_str.ensures ∙ ap text c.tag-item.is in
     let refused : RefusesTags (map text c.args.tags.now) c.in_err-parse.field-0.0 =
     no_lang text c.args.tags.now c.loop-tag.tag-index c.tag-item.result _ _ c.loop-tag-test.true
-    c.loop-tag.invariant
-    (subst (λ w. RefusesLang w c.in_err-parse.field-0.0) word c.in_err-parse.ensures) in
+    c.loop-tag.invariant (subst (λ w. RefusesLang w c.in_err-parse.field-0.0)
+    word c.in_err-parse.ensures) in
     search rules
 
 pub loop-tag-preserved : goal.loop-tag-preserved

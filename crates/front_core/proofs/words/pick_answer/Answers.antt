@@ -5,12 +5,10 @@ use Rattle.front_core.proofs.words.pick_answer.Goals as goal
 
 pub returns-in_err-text : goal.returns-in_err-text
 returns-in_err-text g c =
-    let p =
-    err_from_is_err_and c.from_residual-in_err-text.result
+    let p = err_from_is_err_and c.from_residual-in_err-text.result
     c.from_residual-in_err-text.ensures.1 in
     let found = c.in_ok-found.ensures in
-    rw p.1
-    (inr (
+    rw p.1 (inr (
       ((found.default, found.default_ok), (found.list, found.list_ok)),
       (lang.NoMemory, tt, p.2),
     ))

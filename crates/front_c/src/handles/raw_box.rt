@@ -1,0 +1,35 @@
+//! A box as its pointer.
+ghost use Rattle.std.specs.Prelude.{◌≡◌};
+ghost use Rattle.std_alloc.specs.Box.Ownership.{box_owns};
+
+use std::alloc::Allocator;
+use std::marker::Model;
+
+/// A box, taken apart into its pointer and its allocator.
+pub(super) struct RawBox<T, A: Allocator> {
+    pub(super) at: *mut T,
+    pub(super) alloc: A,
+    pub(super) ghost value: { T },
+}
+
+impl<T, A: Allocator> Model for RawBox<T, A> {
+    ghost also_owns = { λ l. box_owns (A.dealloc_token l.alloc) T.row l.at l.value };
+}
+
+impl<T: Drop, A: Allocator> RawBox<T, A> {
+    /// Takes a box apart.
+    pub(super) fn of(boxed: Box<T, A>) -> RawBox<T, A>
+        ensures { result.value ≡ boxed.value }
+    {
+        let (at, alloc) = Box::into_raw_with_allocator(boxed);
+        RawBox { at, alloc }
+    }
+
+    /// Puts the box together again.
+    pub(super) fn into_box(self) -> Box<T, A>
+        ensures { result.value ≡ self.value }
+    {
+        let RawBox { at, alloc } = self;
+        unsafe { Box::from_raw(alloc, at) }
+    }
+}
