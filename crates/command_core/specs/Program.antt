@@ -44,8 +44,8 @@ pub record MatchesBy (words : List Text) (result : Result ArgMatches Error) : Ty
   pub matches : IfOk result (λ m. subcommand_rows_of m ≡ subcommand_of app words)
   pub fails : FailsBy (fault_of app words) result
 
--- help and the version are written out; any other fault in the words is reported, and nothing is
--- written
+-- of help and the version some bytes are written, as far as writes go; of any other fault in the
+-- words some bytes are on the faults' stream, and the output has nothing
 abbrev pub Reports : {W F : Type 0} → ErrorKind → Writer W → Writer F → ℕ → Type 0
 Reports kind writer faults status = MatchBool (is_shown kind)
     ((status ≡ 0)
