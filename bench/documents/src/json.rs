@@ -1,7 +1,8 @@
 //! Reads JSON (RFC 8259) in place: a text is a piece of the input, or of a second buffer where it
 //! had escapes.
 
-use crate::words::{before_mark, is_same, marks_of, word_at, ONES, TOPS};
+use crate::as_written::string_len;
+use crate::words::is_same;
 
 const DEPTH: usize = 127;
 
@@ -15,7 +16,7 @@ pub struct Refused(pub usize);
 pub type Read<T> = Result<T, Refused>;
 
 /// A piece of the input, or of the second buffer.
-#[derive(Clone, Copy, Default)]
+#[derive(Clone, Copy, Default, PartialEq, Eq)]
 pub struct Span {
     at: u32,
     len: u32,
@@ -29,6 +30,33 @@ impl Span {
     pub fn is_empty(&self) -> bool {
         self.len == 0
     }
+
+    /// A piece of the input.
+    #[inline(always)]
+    pub fn of(at: usize, len: usize) -> Span {
+        Span {
+            at: at as u32,
+            len: len as u32,
+        }
+    }
+
+    /// The first bytes of a piece.
+    pub fn first(&self, len: usize) -> Span {
+        Span {
+            at: self.at,
+            len: len as u32,
+        }
+    }
+
+    /// Takes in another piece, if it is the next but one byte.
+    #[inline(always)]
+    pub fn grows(&mut self, next: Span) -> bool {
+        let is_next = self.at + self.len + 1 == next.at;
+        if is_next {
+            self.len += 1 + next.len;
+        }
+        is_next
+    }
 }
 
 /// An input that is read, with what of it had to be written anew.
@@ -36,7 +64,7 @@ pub struct Input<'a> {
     bytes: &'a [u8],
     at: usize,
     second: Vec<u8>,
-    /// Whether all since `begin` stands as it would be written.
+    /// Whether all since `begin` is as it would be written.
     as_written: bool,
 }
 
@@ -61,6 +89,24 @@ impl<'a> Input<'a> {
         &buffer[(span.at & !SECOND) as usize..][..span.len as usize]
     }
 
+    /// The place that is read next.
+    #[inline(always)]
+    pub fn place(&self) -> usize {
+        self.at
+    }
+
+    /// What is not read yet.
+    #[inline(always)]
+    pub fn rest(&self) -> &'a [u8] {
+        self.bytes.get(self.at..).unwrap_or(&[])
+    }
+
+    /// A text of the input, with the quote that ends it.
+    pub fn quoted(&self, span: Span) -> Option<&'a [u8]> {
+        let start = span.at as usize;
+        self.bytes.get(start..=start + span.len as usize)
+    }
+
     #[inline(always)]
     pub fn is_same(&self, one: Span, other: Span) -> bool {
         is_same(self.get(one), self.get(other))
@@ -73,6 +119,18 @@ impl<'a> Input<'a> {
         Span {
             at: at as u32 | SECOND,
             len: (self.second.len() - at) as u32,
+        }
+    }
+
+    /// Writes a text as a string: one that was read without escapes needs none.
+    #[inline(always)]
+    pub fn write_string(&self, out: &mut Vec<u8>, span: Span) {
+        if span.at & SECOND == 0 {
+            out.push(b'"');
+            out.extend_from_slice(self.get(span));
+            out.push(b'"');
+        } else {
+            write_string(out, self.get(span));
         }
     }
 
@@ -137,7 +195,7 @@ impl<'a> Input<'a> {
         self.at
     }
 
-    /// What was read since a place, if it stands as it would be written.
+    /// What was read since a place, if it is as it would be written.
     #[inline(always)]
     pub fn since(&self, place: usize) -> Option<Span> {
         self.as_written.then_some(Span {
@@ -156,15 +214,7 @@ impl<'a> Input<'a> {
     pub fn string(&mut self) -> Read<Span> {
         self.expect(b'"')?;
         let start = self.at;
-        loop {
-            let word = word_at(self.bytes, self.at);
-            let controls = word.wrapping_sub(ONES * 0x20) & !word & TOPS;
-            let marks = marks_of(word, b'"') | marks_of(word, b'\\') | controls;
-            self.at += before_mark(marks);
-            if marks != 0 {
-                break;
-            }
-        }
+        self.at += string_len(self.rest());
         match self.next() {
             b'"' => {
                 self.at += 1;
@@ -372,27 +422,35 @@ impl<'a> Input<'a> {
 /// Writes a string with the shortest escapes.
 pub fn write_string(out: &mut Vec<u8>, text: &[u8]) {
     out.push(b'"');
-    let mut copied = 0;
-    for (at, byte) in text.iter().enumerate() {
-        let letter = match byte {
-            b'"' | b'\\' => *byte,
-            8 => b'b',
-            12 => b'f',
-            b'\n' => b'n',
-            b'\r' => b'r',
-            b'\t' => b't',
-            0..=0x1f => b'u',
-            _ => continue,
+    let mut rest = text;
+    loop {
+        let (plain, left) = rest.split_at(string_len(rest));
+        out.extend_from_slice(plain);
+        let Some((byte, left)) = left.split_first() else {
+            break;
         };
-        out.extend_from_slice(&text[copied..at]);
-        out.extend_from_slice(&[b'\\', letter]);
-        if letter == b'u' {
-            out.extend_from_slice(format!("{byte:04x}").as_bytes());
-        }
-        copied = at + 1;
+        write_escape(out, *byte);
+        rest = left;
     }
-    out.extend_from_slice(&text[copied..]);
     out.push(b'"');
+}
+
+/// The escape of a quote, of a backslash or of a control character.
+#[cold]
+fn write_escape(out: &mut Vec<u8>, byte: u8) {
+    let letter = match byte {
+        8 => b'b',
+        12 => b'f',
+        b'\n' => b'n',
+        b'\r' => b'r',
+        b'\t' => b't',
+        0..=0x1f => {
+            out.extend_from_slice(format!("\\u{byte:04x}").as_bytes());
+            return;
+        }
+        _ => byte,
+    };
+    out.extend_from_slice(&[b'\\', letter]);
 }
 
 pub fn write_number(out: &mut Vec<u8>, mut number: u64) {

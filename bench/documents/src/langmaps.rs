@@ -3,6 +3,7 @@
 use crate::checks::{is_message_id, MAX_TEXTS, MAX_TEXT_LEN};
 use crate::json::{Input, Read, Span};
 use crate::site::{write_label, Known};
+use crate::words::is_same;
 
 /// A label with its key; the label is the text that is written for it, and none where there is no
 /// text.
@@ -81,7 +82,7 @@ impl<'a> LangMaps<'a> {
                     .is_none_or(|last| input.get(last.id) < input.get(id));
             let first = entries.len();
             input.members(|input, lang| {
-                let lang = known.check(input, lang)?;
+                let (lang, _) = known.check(input, lang)?;
                 let last = entries.get(first..).and_then(<[Entry]>::last);
                 let is_below = |last: &Entry| input.get(last.lang) < input.get(lang);
                 rising = rising && last.is_none_or(is_below);
@@ -92,7 +93,7 @@ impl<'a> LangMaps<'a> {
         })?;
         input.ends()?;
         if !rising {
-            // Of entries with one key the last stands.
+            // Of entries with one key the last one counts.
             entries.reverse();
             entries.sort_by(|one, other| key(&input, one).cmp(&key(&input, other)));
             entries.dedup_by(|one, other| key(&input, one) == key(&input, other));
@@ -112,4 +113,20 @@ impl<'a> LangMaps<'a> {
 
 fn key<'a>(input: &'a Input, entry: &Entry) -> (&'a [u8], &'a [u8]) {
     (input.get(entry.id), input.get(entry.lang))
+}
+
+/// Whether two labels as they are written are the same; of one text alone the brackets may be
+/// missing.
+pub fn is_same_label(one: &[u8], other: &[u8]) -> bool {
+    let is_bare = |label: &[u8]| label.first() == Some(&b'"');
+    match (is_bare(one), is_bare(other)) {
+        (true, false) => is_bare_of(one, other),
+        (false, true) => is_bare_of(other, one),
+        _ => is_same(one, other),
+    }
+}
+
+/// Whether a label in brackets has this text alone.
+fn is_bare_of(bare: &[u8], label: &[u8]) -> bool {
+    label.len() == bare.len() + 2 && is_same(&label[1..label.len() - 1], bare)
 }

@@ -1,200 +1,50 @@
-//! The commands of `lexicat` that treat large documents, in plain Rust with std alone: each reads
-//! the same standard input and writes the same bytes. The text is kept once, and what was read
-//! points into it.
+//! The commands of `lexicat` on large documents, in plain Rust with std alone: each reads the same
+//! standard input and writes the same bytes. The text is kept once, and what was read points into
+//! it; a question that needs no row kept reads the site once and keeps none.
 //!
-//! `documents status`, `put --now N --id ID --lang LANG TEXT`, `import --now N` and `sync` do what
-//! the commands of these names do, with their options in this order. What they read is made by
-//! `load SIZE FIRST STEP SITE` (a site with rows of some 76 bytes), `short` (the same with rows of
-//! 31 bytes, one for each message), `single SIZE SITE` (rows of 28 bytes), `maps SIZE` and
-//! `single-maps SIZE` (language maps for the first and the last), and `passed-over SIZE` (language
-//! maps with a member of so many bytes that says nothing). `given KIND SEED` is a random document
-//! of a kind, and `written KIND SEED` what a writer has to give for it.
+//! `documents status`, `put --now N --id ID --lang LANG TEXT`, `import --now N`, `sync`,
+//! `update --now N`, `lookup --id ID FIELD`, `filter --id ID FIELD`, `bundle FIELD`, `export`,
+//! `missing --lang LANG`, `outdated --lang LANG --source LANG`, `summary`, `delta` and `take` do
+//! what the commands of these names do, with their options in this order.
+//!
+//! What they read is made by `load SIZE FIRST STEP SITE` (a site with rows of some 76 bytes),
+//! `summary-of` and `delta-for` (a summary of the same that lacks a hundredth, and a delta of a
+//! hundredth for it), `short` (a site with rows of 31 bytes, one for each message), `single SIZE
+//! SITE` (rows of 28 bytes), `maps SIZE` and `single-maps SIZE` (language maps for the first and
+//! the last), `old-maps SIZE` and `new-maps SIZE` (those of a load, and the same after edits),
+//! `passed-over SIZE` (language maps with a member of so many bytes that says nothing), and
+//! `field SIZE` (a field of so many bytes). `given KIND SEED` is a random document of a kind, and
+//! `written KIND SEED` what a writer has to give for it.
 
+mod as_written;
 mod checks;
+mod edits;
+mod exchange;
 mod json;
 #[path = "../../plain/src/lang_core.rs"]
 #[allow(dead_code)]
 mod lang_core;
 mod langmaps;
+mod loads;
+mod messages;
+#[path = "../../plain/src/nego_core.rs"]
+#[allow(dead_code)]
+mod nego_core;
+mod questions;
 mod random;
 mod site;
 #[path = "../../plain/src/words.rs"]
 #[allow(dead_code)]
 mod words;
 
-use json::{write_string, Read as Reading};
+use json::Read as Reading;
+use lang_core::Lang;
 use langmaps::LangMaps;
-use site::{name_text, Site, Writer};
-use std::fmt::Write as _;
+use messages::Written;
+use nego_core::{PriorityList, Scheme};
+use site::Site;
 use std::io::{self, Read, Write};
 use std::process::ExitCode;
-use words::{before_mark, marks_of, word_at};
-
-const LANGUAGES: [&str; 10] = [
-    "de", "en", "es", "fr", "it", "ja", "nl", "pt-br", "sr-latn", "zh-hant",
-];
-
-fn closed(mut rows: String, name: &str) -> String {
-    rows.pop();
-    format!("{{\"cells\":[{rows}],\"kind\":\"site\",\"site\":\"{name}\",\"version\":2}}\n")
-}
-
-/// So many cells, ten languages a message.
-fn load(size: u64, first: u64, step: u64, name: &str) -> String {
-    let mut rows = String::new();
-    for number in 0..size {
-        let message = first + number / 10 * step;
-        let language = LANGUAGES[(number % 10) as usize];
-        let (time, count) = (1_000_000 + number, number % 7);
-        let _ = write!(
-            rows,
-            "[\"page/message-{message:08}\",\"{language}\",{time},\"{name}\",{count},"
-        );
-        if number % 16 == 15 {
-            rows.push_str("null],");
-        } else {
-            let _ = write!(rows, "[\"label {number} of the page\"]],");
-        }
-    }
-    closed(rows, name)
-}
-
-fn short(size: u64, first: u64, step: u64, name: &str) -> String {
-    let mut rows = String::new();
-    for number in 0..size {
-        let _ = write!(
-            rows,
-            "[\"{:07}\",\"de\",1,\"{name}\",0,[\"x\"]],",
-            first + number * step
-        );
-    }
-    closed(rows, name)
-}
-
-/// Five letters that rise with the number.
-fn letters(number: u64) -> String {
-    (0..5)
-        .rev()
-        .map(|place| char::from(b'a' + (number / 26_u64.pow(place) % 26) as u8))
-        .collect()
-}
-
-fn single(size: u64, name: &str) -> String {
-    let mut rows = String::new();
-    for number in 0..size {
-        let _ = write!(
-            rows,
-            "[\"{}\",\"de\",1,\"{name}\",0,null],",
-            letters(number)
-        );
-    }
-    closed(rows, name)
-}
-
-fn maps(size: u64) -> String {
-    let mut text = String::from("{");
-    for number in 0..size {
-        if number % 10 == 0 {
-            text.push_str(if number == 0 { "\"" } else { "},\"" });
-            let _ = write!(text, "page/message-{:08}\":{{", number / 10 * 3);
-        } else {
-            text.push(',');
-        }
-        let _ = write!(
-            text,
-            "\"{}\":\"label {number}\"",
-            LANGUAGES[(number % 10) as usize]
-        );
-    }
-    text.push_str("}}\n");
-    text
-}
-
-fn single_maps(size: u64) -> String {
-    let members: Vec<String> = (0..size)
-        .map(|number| format!("\"{}\":{{\"de\":\"x\"}}", letters(number)))
-        .collect();
-    format!("{{{}}}\n", members.join(","))
-}
-
-fn passed_over(size: usize) -> String {
-    format!(
-        "{{\"@graph\":[0{}],\"a\":{{\"de\":\"x\"}}}}\n",
-        ",0".repeat(size / 2)
-    )
-}
-
-fn status(site: &Site, out: &mut impl Write) -> io::Result<()> {
-    let name = String::from_utf8_lossy(site.name()).into_owned();
-    let last = match site.last() {
-        Some(last) => format!("{} {} {}", last.time, name_text(&last.site), last.count),
-        None => "none".to_string(),
-    };
-    writeln!(
-        out,
-        "site {name} cells {} labels {} last {last}",
-        site.len(),
-        site.labels()
-    )
-}
-
-fn put(
-    site: &Site,
-    now: u64,
-    key: (&str, &str),
-    label: &str,
-    out: &mut impl Write,
-) -> io::Result<()> {
-    let (id, lang) = (key.0.as_bytes(), key.1.as_bytes());
-    let Some(stamp) = site.next(now) else {
-        return Err(io::Error::other("clock"));
-    };
-    let mut written = vec![b'['];
-    write_string(&mut written, label.as_bytes());
-    written.push(b']');
-    let place = site.place(0, id, lang);
-    let after = place + usize::from(site.is_at(place, id, lang));
-    let mut writer = Writer::new(out);
-    writer.open();
-    writer.rows(site, 0..place)?;
-    writer.new_row(id, lang, stamp, &written)?;
-    writer.rows(site, after..site.len())?;
-    writer.close(site.name());
-    writer.flush()
-}
-
-fn import(site: &Site, now: u64, maps: &LangMaps, out: &mut impl Write) -> io::Result<()> {
-    let Some(mut stamp) = site.next(now) else {
-        return Err(io::Error::other("clock"));
-    };
-    let mut writer = Writer::new(out);
-    writer.open();
-    let mut at = 0;
-    for entry in &maps.entries {
-        let (id, lang) = maps.key(entry);
-        let place = site.place(at, id, lang);
-        writer.rows(site, at..place)?;
-        writer.new_row(id, lang, stamp, maps.label(entry))?;
-        at = place + usize::from(site.is_at(place, id, lang));
-        stamp.count += 1;
-    }
-    writer.rows(site, at..site.len())?;
-    writer.close(site.name());
-    writer.flush()
-}
-
-fn sync(one: &Site, two: &Site, out: &mut impl Write) -> io::Result<()> {
-    let Some(joined) = one.joined(two) else {
-        return Err(io::Error::other("clash"));
-    };
-    let mut writer = Writer::new(out);
-    for site in [one, two] {
-        writer.open();
-        writer.joined(one, two, &joined)?;
-        writer.close(site.name());
-    }
-    writer.flush()
-}
 
 fn refused<T>(read: Reading<T>) -> io::Result<T> {
     read.map_err(|refused| io::Error::other(format!("refused at {}", refused.0)))
@@ -202,15 +52,11 @@ fn refused<T>(read: Reading<T>) -> io::Result<T> {
 
 /// The first line, and what is below it.
 fn lines(input: &[u8]) -> (&[u8], &[u8]) {
-    let mut at = 0;
-    loop {
-        let feeds = marks_of(word_at(input, at), b'\n');
-        at += before_mark(feeds);
-        if feeds != 0 || at >= input.len() {
-            break;
-        }
-    }
-    let at = at.min(input.len());
+    let (pieces, _) = input.as_chunks::<64>();
+    let has_feed = |piece: &[u8; 64]| piece.iter().fold(false, |has, byte| has | (*byte == b'\n'));
+    let start = 64 * pieces.iter().take_while(|piece| !has_feed(piece)).count();
+    let feed = input[start..].iter().position(|byte| *byte == b'\n');
+    let at = feed.map_or(input.len(), |feed| start + feed);
     (&input[..at], input.get(at + 1..).unwrap_or(&[]))
 }
 
@@ -218,63 +64,149 @@ fn number<N: std::str::FromStr>(word: &str) -> io::Result<N> {
     word.parse().map_err(|_| io::Error::other("number"))
 }
 
-fn answer(words: &[&str], input: &[u8], out: &mut impl Write) -> io::Result<()> {
+fn lang_of(word: &str) -> io::Result<Lang> {
+    Lang::parse(word.as_bytes()).map_err(|_| io::Error::other("language"))
+}
+
+fn list_of(field: &str) -> io::Result<PriorityList> {
+    let list = PriorityList::parse(field.as_bytes(), Scheme::Basic);
+    list.map_err(|_| io::Error::other("field"))
+}
+
+/// The status of an answer that is something, or nothing.
+fn status_of(is_any: bool) -> ExitCode {
+    ExitCode::from(u8::from(!is_any))
+}
+
+fn line(read: Reading<Option<String>>, none: &str, out: &mut impl Write) -> io::Result<ExitCode> {
+    let answer = refused(read)?;
+    out.write_all(answer.as_deref().unwrap_or(none).as_bytes())?;
+    Ok(status_of(answer.is_some()))
+}
+
+fn maps(read: Reading<Written>, out: &mut impl Write) -> io::Result<ExitCode> {
+    let (text, is_any) = refused(read)?;
+    out.write_all(&text)?;
+    Ok(status_of(is_any))
+}
+
+/// The answer of a question that reads one site once.
+fn question(words: &[&str], input: &[u8], out: &mut impl Write) -> io::Result<ExitCode> {
     match words {
-        ["status"] => status(&refused(Site::read(input))?, out),
-        ["put", "--now", now, "--id", id, "--lang", lang, label] => put(
-            &refused(Site::read(input))?,
-            number(now)?,
-            (id, lang),
-            label,
-            out,
-        ),
-        ["import", "--now", now] => {
-            let (first, second) = lines(input);
-            let site = refused(Site::read(first))?;
-            let maps = refused(LangMaps::read(second))?;
-            import(&site, number(now)?, &maps, out)
+        ["lookup", "--id", id, field] => {
+            let answer = questions::lookup(input, id, &list_of(field)?);
+            line(answer, "nothing\n", out)
         }
-        ["sync"] => {
-            let (first, second) = lines(input);
-            let site = refused(Site::read(first))?;
-            sync(&site, &refused(Site::read(second))?, out)
+        ["filter", "--id", id, field] => {
+            let answer = questions::filter(input, id, &list_of(field)?);
+            line(answer, "filter 0\n", out)
+        }
+        ["bundle", field] => maps(messages::bundle(input, &list_of(field)?), out),
+        ["missing", "--lang", lang] => maps(messages::missing(input, &lang_of(lang)?), out),
+        ["outdated", "--lang", lang, "--source", source] => {
+            let (lang, source) = (lang_of(lang)?, lang_of(source)?);
+            maps(messages::outdated(input, &lang, &source), out)
         }
         _ => Err(io::Error::other("words")),
     }
 }
 
-/// A document to read, or what a command writes.
-fn run(words: &[&str], out: &mut impl Write) -> io::Result<()> {
+/// What a command writes that reads several documents.
+fn command(words: &[&str], input: &[u8], out: &mut impl Write) -> io::Result<()> {
+    let (first, second) = lines(input);
+    match words {
+        ["import", "--now", now] => {
+            let site = refused(Site::read(first))?;
+            let maps = refused(LangMaps::read(second))?;
+            edits::import(&site, number(now)?, &maps, out)
+        }
+        ["update", "--now", now] => {
+            let (second, third) = lines(second);
+            let site = refused(Site::read(first))?;
+            let old = refused(LangMaps::read(second))?;
+            let new = refused(LangMaps::read(third))?;
+            edits::update(&site, number(now)?, &old, &new, out)
+        }
+        ["delta"] => {
+            let site = refused(Site::read(first))?;
+            let lacking = refused(exchange::lacking(&site, second))?;
+            exchange::delta(&site, &lacking, out)
+        }
+        ["take"] => {
+            let site = refused(Site::read(first))?;
+            let delta = refused(Site::read_delta(second))?;
+            exchange::take(&site, &delta, out)
+        }
+        ["sync"] => {
+            let site = refused(Site::read(first))?;
+            exchange::sync(&site, &refused(Site::read(second))?, out)
+        }
+        _ => Err(io::Error::other("words")),
+    }
+}
+
+fn answer(words: &[&str], input: &[u8], out: &mut impl Write) -> io::Result<ExitCode> {
+    match words {
+        ["status"] => out.write_all(refused(questions::status(input))?.as_bytes())?,
+        ["summary"] => refused(exchange::summary(input, out)?)?,
+        // a site without labels is exported with status 0
+        ["export"] => {
+            maps(messages::export(input), out)?;
+        }
+        ["put", "--now", now, "--id", id, "--lang", lang, label] => {
+            let site = refused(Site::read(input))?;
+            edits::put(&site, number(now)?, (id, lang), label, out)?;
+        }
+        ["import" | "update" | "delta" | "take" | "sync", ..] => {
+            command(words, input, out)?;
+        }
+        _ => return question(words, input, out),
+    }
+    Ok(ExitCode::SUCCESS)
+}
+
+/// A document to read, if the words ask for one.
+fn made(words: &[&str]) -> io::Result<Option<String>> {
     let made = match words {
-        ["load", size, first, step, name] => {
-            load(number(size)?, number(first)?, number(step)?, name)
+        [kind @ ("load" | "summary-of" | "delta-for" | "short"), size, first, step, name] => {
+            let make = match *kind {
+                "load" => loads::load,
+                "summary-of" => loads::summary,
+                "delta-for" => loads::delta,
+                _ => loads::short,
+            };
+            make(number(size)?, number(first)?, number(step)?, name)
         }
-        ["short", size, first, step, name] => {
-            short(number(size)?, number(first)?, number(step)?, name)
-        }
-        ["single", size, name] => single(number(size)?, name),
-        ["maps", size] => maps(number(size)?),
-        ["single-maps", size] => single_maps(number(size)?),
-        ["passed-over", size] => passed_over(number(size)?),
+        ["single", size, name] => loads::single(number(size)?, name),
+        ["maps", size] => loads::maps(number(size)?),
+        ["old-maps", size] => loads::old_maps(number(size)?),
+        ["new-maps", size] => loads::new_maps(number(size)?),
+        ["single-maps", size] => loads::single_maps(number(size)?),
+        ["passed-over", size] => loads::passed_over(number(size)?),
+        ["field", size] => loads::field(number(size)?),
         ["given", kind, seed] => random::document(kind, number(seed)?).given,
         ["written", kind, seed] => random::document(kind, number(seed)?).written,
-        _ => {
-            let mut input = Vec::new();
-            io::stdin().read_to_end(&mut input)?;
-            return answer(words, &input, out);
-        }
+        _ => return Ok(None),
     };
-    out.write_all(made.as_bytes())
+    Ok(Some(made))
+}
+
+/// A document to read, or what a command writes.
+fn run(words: &[&str], out: &mut impl Write) -> io::Result<ExitCode> {
+    if let Some(made) = made(words)? {
+        out.write_all(made.as_bytes())?;
+        return Ok(ExitCode::SUCCESS);
+    }
+    let mut input = Vec::new();
+    io::stdin().read_to_end(&mut input)?;
+    answer(words, &input, out)
 }
 
 fn main() -> ExitCode {
     let words: Vec<String> = std::env::args().skip(1).collect();
     let words: Vec<&str> = words.iter().map(String::as_str).collect();
-    match run(&words, &mut io::stdout().lock()) {
-        Ok(()) => ExitCode::SUCCESS,
-        Err(fault) => {
-            eprintln!("{fault}");
-            ExitCode::from(3)
-        }
-    }
+    run(&words, &mut io::stdout().lock()).unwrap_or_else(|fault| {
+        eprintln!("{fault}");
+        ExitCode::from(3)
+    })
 }
