@@ -11,7 +11,7 @@ _lexicat() {
     elif [[ $before == '=' ]]; then
         before=${COMP_WORDS[COMP_CWORD-2]}
     fi
-    # Behind a redirection stand files.
+    # After a redirection come files.
     case $before in
         '<' | '>' | '>>' | '<>' | '>|' | '2>' | '2>>' | '&>' | '&>>') compopt -o default 2> /dev/null; return ;;
         --scheme) COMPREPLY=($(compgen -W 'basic extended' -- "$word")); return ;;

@@ -71,7 +71,7 @@ def forms_in_reference():
 
 
 def bash_offers(*words):
-    """Returns what the completion of bash offers behind these words."""
+    """Returns what the completion of bash offers after these words."""
     script = (
         '. completions/lexicat.bash; compopt() { :; }; COMP_WORDS=(lexicat "$@" ""); '
         'COMP_CWORD=$((${#COMP_WORDS[@]} - 1)); _lexicat; printf "%s\\n" "${COMPREPLY[@]}"'
@@ -152,10 +152,10 @@ def check(lexicat):
         options = {f"--{o.name}" for o in form.options}
         compare("bash", command, offered, words | options | {"--help", "-h"})
         for option in form.options:
-            # (behind a flag the options stand open again)
+            # (after a flag the options are offered again)
             wanted = set(option.words) if option.value else offered
-            behind = set(bash_offers(command, f"--{option.name}"))
-            compare("bash", f"{command} --{option.name}", behind, wanted)
+            after = set(bash_offers(command, f"--{option.name}"))
+            compare("bash", f"{command} --{option.name}", after, wanted)
     return len(commands)
 
 

@@ -1,6 +1,6 @@
 """Completes lines in real shells, those of bash, zsh and fish that are installed.
 
-It is run by scripts/completions-check. A script stands for lexicat and for its companions, which
+It is run by scripts/completions-check. In place of lexicat and of its companions runs a script, which
 writes its arguments and its input into a file. A line is typed, then a tab and the end of the line,
 and the file shows what was completed.
 """
@@ -48,7 +48,7 @@ LINES = [
     ("lexicat-po out --lang de < zz", "args:out --lang de input:held"),
 ]
 
-# What completes, in an order in which each finds what it stands on later.
+# What completes, in an order in which each finds what it needs later.
 NAMES = ["lexicat-edit", "lexicat-file", "lexicat-po", "lexicat"]
 
 SETUP = {

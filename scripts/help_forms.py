@@ -13,7 +13,7 @@ Form = namedtuple("Form", "about options arguments")
 
 
 def help_of(lexicat, *words):
-    """Returns what `--help` prints behind these words."""
+    """Returns what `--help` prints after these words."""
     run = subprocess.run(
         [lexicat, *words, "--help"], capture_output=True, text=True, check=True
     )

@@ -1,5 +1,5 @@
 /* Preloaded by scripts/command-growths: refuses the Nth allocation of a program, counted from 1, N from the variable
- * REFUSED_GROWTH. Where N is 0 it refuses none, and writes at the end how many there were. */
+ * REFUSED_ALLOCATION. Where N is 0 it refuses none, and writes at the end how many there were. */
 #define _GNU_SOURCE
 #include <dlfcn.h>
 #include <errno.h>
@@ -11,7 +11,7 @@ static void *(*next_malloc)(size_t);
 static void *(*next_realloc)(void *, size_t);
 
 __attribute__((constructor)) static void begin(void) {
-  const char *word = getenv("REFUSED_GROWTH");
+  const char *word = getenv("REFUSED_ALLOCATION");
   next_malloc = dlsym(RTLD_NEXT, "malloc");
   next_realloc = dlsym(RTLD_NEXT, "realloc");
   refused = word ? strtoul(word, NULL, 10) : 0;
@@ -36,5 +36,5 @@ void *realloc(void *held, size_t size) {
 }
 
 __attribute__((destructor)) static void end(void) {
-  if (refused == 0) fprintf(stderr, "growths=%lu\n", count);
+  if (refused == 0) fprintf(stderr, "allocations=%lu\n", count);
 }

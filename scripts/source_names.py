@@ -21,7 +21,7 @@ def bare(name):
 
 
 def without_parameters(text):
-    """What stands behind `impl` or a name, without the list of parameters in angle brackets."""
+    """What follows `impl` or a name, without the list of parameters in angle brackets."""
     text = text.strip()
     if not text.startswith("<"):
         return text

@@ -1,7 +1,7 @@
 /* The heap of the WebAssembly module: the three functions that the proved code calls for memory, over a memory that
  * grows. Tried, not proved.
  *
- * Blocks lie one behind the other. Each begins with its size and that of the block before it, so a block that is freed
+ * Blocks lie one after the other. Each begins with its size and that of the block before it, so a block that is freed
  * is joined with free neighbours at once. Free blocks are in lists by size, eight to each power of two, and a bit for
  * each list that is not empty; so taking and giving back cost the same however many blocks there are. */
 typedef __SIZE_TYPE__ size;
@@ -34,7 +34,7 @@ extern byte __heap_base;
 static block *lists[64][FINE];
 static size coarse;         /* bit f: a list of lists[f] is not empty */
 static byte fine[64];       /* bit s: lists[f][s] is not empty */
-static byte *region_end;    /* behind the last block, where the mark of the end stands */
+static byte *region_end;    /* after the last block, where the mark of the end is */
 static size bytes_in_use;
 static byte nowhere[UNIT];  /* the address where there is no memory */
 
@@ -90,12 +90,12 @@ static block *find(size bytes) {
 }
 
 /* Makes a free block of a stretch that is in no list, joins it with the free blocks beside it, and puts it into its
- * list. The block behind it has to be there already. */
+ * list. The block after it has to be there already. */
 static block *make_free(block *b, size bytes) {
-  block *behind = (block *)((byte *)b + bytes);
-  if (!(behind->bytes & IN_USE)) {
-    take_from_list(behind);
-    bytes += behind->bytes;
+  block *next = (block *)((byte *)b + bytes);
+  if (!(next->bytes & IN_USE)) {
+    take_from_list(next);
+    bytes += next->bytes;
   }
   if (b->bytes_before) {
     block *before = (block *)((byte *)b - b->bytes_before);
@@ -111,7 +111,7 @@ static block *make_free(block *b, size bytes) {
   return b;
 }
 
-/* Leaves in a block that is in use so many bytes, and makes what is behind them free, if that is a block. */
+/* Leaves in a block that is in use so many bytes, and makes what is after them free, if that is a block. */
 static void cut(block *b, size bytes) {
   size whole = bytes_of(b), rest = whole - bytes;
   block *other;
@@ -145,7 +145,7 @@ static int grow(size bytes) {
 }
 
 /* Asks the host for memory in which a block of so many bytes is found: for an eighth of what there is, so that many
- * small requests are not as many growths; and where that is refused, for no more than is needed. */
+ * small requests do not each grow it; and where that is refused, for no more than is needed. */
 static int get_memory(size bytes) {
   size there = (size)__builtin_wasm_memory_size(0) * PAGE, wanted;
   if (!region_end) {
@@ -185,12 +185,12 @@ static void give_back(byte *at) {
 
 /* Changes the size of a block where it lies, if there is room. */
 static int resize(byte *at, size n) {
-  block *b = block_of(at), *behind = after(b);
+  block *b = block_of(at), *next = after(b);
   size bytes = block_bytes(n), old = bytes_of(b);
   if (bytes > old) {
-    if ((behind->bytes & IN_USE) || old + behind->bytes < bytes) return 0;
-    take_from_list(behind);
-    b->bytes = (old + behind->bytes) | IN_USE;
+    if ((next->bytes & IN_USE) || old + next->bytes < bytes) return 0;
+    take_from_list(next);
+    b->bytes = (old + next->bytes) | IN_USE;
     after(b)->bytes_before = bytes_of(b);
   }
   cut(b, bytes);

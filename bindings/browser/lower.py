@@ -81,7 +81,7 @@ class Function:
         return [instruction]
 
     def text(self):
-        """The lines of the lowered function, from those behind its type to `end_function`."""
+        """The lines of the lowered function, from those after its type to `end_function`."""
         lines = list(self.lines)
         if lines and lines[0].startswith("\t.local"):
             self.locals = lines.pop(0)[len("\t.local"):].split(",")

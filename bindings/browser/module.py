@@ -18,7 +18,7 @@ def stop(what):
 
 
 def number(data, at):
-    """Reads an unsigned number (LEB128), and returns it with the place behind it."""
+    """Reads an unsigned number (LEB128), and returns it with the place after it."""
     value = shift = 0
     while True:
         byte = data[at]

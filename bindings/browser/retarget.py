@@ -30,10 +30,10 @@ def stop(what):
 
 
 def replaced(text, pattern, other):
-    """Replaces what stands in the module once."""
+    """Replaces what the module has once."""
     text, count = re.subn(pattern, lambda _: other, text, flags=re.M)
     if count != 1:
-        stop(f"{pattern} stands {count} times in the module, and not once")
+        stop(f"the module has {pattern} {count} times, and not once")
     return text
 
 

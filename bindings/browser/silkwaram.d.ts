@@ -123,7 +123,7 @@ export interface Status {
 
 /** What is thrown where something is refused. */
 export class Refused extends Error {
-  /** The number of the refusal (docs/REFUSALS.md of the sources). 26 is want of memory: the call may be repeated. */
+  /** The number of the refusal (docs/REFUSALS.md of the sources). 26 is out of memory: the call may be repeated. */
   readonly number: number;
   /** The place in the refused text, in bytes of UTF-8 from 0: of 3, 9 and 18. */
   readonly offset: number | null;

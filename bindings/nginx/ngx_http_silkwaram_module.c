@@ -12,7 +12,11 @@
 #include <silkwaram.h>
 
 
-#define NGX_HTTP_SILKWARAM_TAG_LEN  255
+#define NGX_HTTP_SILKWARAM_TAG_LEN    255
+
+/* the fields whose answers a worker keeps, and the bytes of the longest */
+#define NGX_HTTP_SILKWARAM_KEPT       64
+#define NGX_HTTP_SILKWARAM_FIELD_LEN  128
 
 
 typedef struct {
@@ -26,22 +30,40 @@ typedef struct {
 
 typedef struct {
     ngx_http_silkwaram_loc_conf_t  *conf;    /* by which lang was picked */
-    ngx_str_t                       lang;    /* empty if there is none */
+    ngx_str_t                       lang;    /* in its tags, empty for none */
 } ngx_http_silkwaram_ctx_t;
+
+
+typedef struct {
+    ngx_http_silkwaram_ctx_t        answer;  /* without conf if unused */
+    size_t                          len;
+    u_char                          field[NGX_HTTP_SILKWARAM_FIELD_LEN];
+} ngx_http_silkwaram_kept_t;
+
+
+typedef struct {
+    ngx_http_silkwaram_kept_t       kept[NGX_HTTP_SILKWARAM_KEPT];
+} ngx_http_silkwaram_main_conf_t;
 
 
 static ngx_int_t ngx_http_silkwaram_lang_variable(ngx_http_request_t *r,
     ngx_http_variable_value_t *v, uintptr_t data);
 static ngx_int_t ngx_http_silkwaram_lang(ngx_http_request_t *r,
     ngx_http_silkwaram_loc_conf_t *conf, ngx_str_t *lang);
+static ngx_http_silkwaram_kept_t *ngx_http_silkwaram_place(
+    ngx_http_request_t *r, ngx_http_silkwaram_loc_conf_t *conf,
+    ngx_str_t *field);
 static int32_t ngx_http_silkwaram_pick(ngx_http_silkwaram_loc_conf_t *conf,
     ngx_str_t *field, u_char *lang, sw_told *told);
+static u_char *ngx_http_silkwaram_in_tags(ngx_str_t *tags, u_char *tag,
+    size_t len);
 static ngx_int_t ngx_http_silkwaram_field(ngx_http_request_t *r,
     ngx_str_t *field);
 static ngx_table_elt_t *ngx_http_silkwaram_next_line(ngx_list_part_t **part,
     ngx_uint_t *i);
 
 static ngx_int_t ngx_http_silkwaram_add_variable(ngx_conf_t *cf);
+static void *ngx_http_silkwaram_create_main_conf(ngx_conf_t *cf);
 static void *ngx_http_silkwaram_create_loc_conf(ngx_conf_t *cf);
 static char *ngx_http_silkwaram_merge_loc_conf(ngx_conf_t *cf, void *parent,
     void *child);
@@ -93,7 +115,7 @@ static ngx_http_module_t  ngx_http_silkwaram_module_ctx = {
     ngx_http_silkwaram_add_variable,       /* preconfiguration */
     NULL,                                  /* postconfiguration */
 
-    NULL,                                  /* create main configuration */
+    ngx_http_silkwaram_create_main_conf,   /* create main configuration */
     NULL,                                  /* init main configuration */
 
     NULL,                                  /* create server configuration */
@@ -182,13 +204,26 @@ static ngx_int_t
 ngx_http_silkwaram_lang(ngx_http_request_t *r,
     ngx_http_silkwaram_loc_conf_t *conf, ngx_str_t *lang)
 {
-    u_char     tag[NGX_HTTP_SILKWARAM_TAG_LEN];
-    int32_t    status;
-    sw_told    told;
-    ngx_str_t  field;
+    u_char                     *p;
+    u_char                      tag[NGX_HTTP_SILKWARAM_TAG_LEN];
+    int32_t                     status;
+    sw_told                     told;
+    ngx_str_t                   field;
+    ngx_http_silkwaram_kept_t  *kept;
 
     if (ngx_http_silkwaram_field(r, &field) != NGX_OK) {
         return NGX_ERROR;
+    }
+
+    kept = ngx_http_silkwaram_place(r, conf, &field);
+
+    if (kept != NULL
+        && kept->answer.conf == conf
+        && kept->len == field.len
+        && ngx_memcmp(kept->field, field.data, field.len) == 0)
+    {
+        *lang = kept->answer.lang;
+        return NGX_OK;
     }
 
     status = ngx_http_silkwaram_pick(conf, &field, tag, &told);
@@ -198,6 +233,9 @@ ngx_http_silkwaram_lang(ngx_http_request_t *r,
                       "client sent an Accept-Language field that is taken "
                       "as none: refused %uD at %uz", told.number, told.offset);
 
+        /* (it is not kept: each such request has its line in the log) */
+
+        kept = NULL;
         status = ngx_http_silkwaram_pick(conf, &ngx_http_silkwaram_any, tag,
                                          &told);
     }
@@ -205,18 +243,20 @@ ngx_http_silkwaram_lang(ngx_http_request_t *r,
     switch (status) {
 
     case SW_FOUND:
-        lang->data = ngx_pnalloc(r->pool, told.len);
-        if (lang->data == NULL) {
+        p = ngx_http_silkwaram_in_tags(&conf->tags, tag, told.len);
+        if (p == NULL) {
+            ngx_log_error(NGX_LOG_ERR, r->connection->log, 0,
+                          "sw_pick() found no tag of \"silkwaram_tags\"");
             return NGX_ERROR;
         }
 
-        ngx_memcpy(lang->data, tag, told.len);
         lang->len = told.len;
-        return NGX_OK;
+        lang->data = p;
+        break;
 
     case SW_NOTHING:
-        lang->len = 0;
-        return NGX_OK;
+        ngx_str_null(lang);
+        break;
 
     default:
         ngx_log_error(NGX_LOG_ERR, r->connection->log, 0,
@@ -224,6 +264,40 @@ ngx_http_silkwaram_lang(ngx_http_request_t *r,
                       status, told.number);
         return NGX_ERROR;
     }
+
+    if (kept != NULL) {
+        kept->answer.conf = conf;
+        kept->answer.lang = *lang;
+        kept->len = field.len;
+        ngx_memcpy(kept->field, field.data, field.len);
+    }
+
+    return NGX_OK;
+}
+
+
+/*
+ * The place of a worker's memory for the answer to a field, or NULL for one
+ * that is too long.  Of two fields with one place the later one has it.
+ */
+
+static ngx_http_silkwaram_kept_t *
+ngx_http_silkwaram_place(ngx_http_request_t *r,
+    ngx_http_silkwaram_loc_conf_t *conf, ngx_str_t *field)
+{
+    ngx_uint_t                       n;
+    ngx_http_silkwaram_main_conf_t  *smcf;
+
+    if (field->len > NGX_HTTP_SILKWARAM_FIELD_LEN) {
+        return NULL;
+    }
+
+    smcf = ngx_http_get_module_main_conf(r, ngx_http_silkwaram_module);
+
+    n = ngx_murmur_hash2(field->data, field->len);
+    n += (uintptr_t) conf / sizeof(ngx_http_silkwaram_loc_conf_t);
+
+    return &smcf->kept[n % NGX_HTTP_SILKWARAM_KEPT];
 }
 
 
@@ -239,6 +313,27 @@ ngx_http_silkwaram_pick(ngx_http_silkwaram_loc_conf_t *conf, ngx_str_t *field,
                    conf->tags.data, conf->tags.len,
                    conf->dflt.data, conf->dflt.len,
                    lang, NGX_HTTP_SILKWARAM_TAG_LEN, told);
+}
+
+
+/* a tag as it is among the tags, each of which has an LF after it, or NULL */
+
+static u_char *
+ngx_http_silkwaram_in_tags(ngx_str_t *tags, u_char *tag, size_t len)
+{
+    u_char  *end, *last, *p;
+
+    last = tags->data + tags->len;
+
+    for (p = tags->data; p < last; p = end + 1) {
+        end = ngx_strlchr(p, last, '\n');
+
+        if ((size_t) (end - p) == len && ngx_memcmp(p, tag, len) == 0) {
+            return p;
+        }
+    }
+
+    return NULL;
 }
 
 
@@ -346,6 +441,13 @@ ngx_http_silkwaram_add_variable(ngx_conf_t *cf)
     var->get_handler = ngx_http_silkwaram_lang_variable;
 
     return NGX_OK;
+}
+
+
+static void *
+ngx_http_silkwaram_create_main_conf(ngx_conf_t *cf)
+{
+    return ngx_pcalloc(cf->pool, sizeof(ngx_http_silkwaram_main_conf_t));
 }
 
 

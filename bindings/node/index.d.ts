@@ -92,7 +92,7 @@ export function pick(field: Field, tags: readonly string[], options?: LookupOpti
 
 /**
  * Returns the tags that a reader takes, best first, as they are in `tags` (RFC 4647 section 3.3). A
- * tag that stands twice is answered twice.
+ * tag that is there twice is answered twice.
  *
  * Refused: the field (8, 9), the tags in their order (1 to 4).
  */
@@ -152,9 +152,9 @@ export class Site {
   filter(id: Text, field: Field, options?: FieldOptions): Choice[];
 
   /**
-   * Returns all labels of one reader: of each message the one that `lookup` finds. The time grows
-   * with messages times ranges: bound the field of a stranger, or `pick` a tag first and bundle for
-   * that.
+   * Returns all labels of one reader: of each message the one that `lookup` finds. The languages of
+   * the site are ranked by the field once. To keep the answer for other readers, `pick` a tag first
+   * and bundle for that.
    *
    * Refused: the default (1 to 4), the field (8, 9).
    */

@@ -257,7 +257,7 @@ static bool take_tag(napi_env env, napi_value value, uint32_t at, text *it)
     return wrong_type(env, value, name, "a string");
 }
 
-/* Appends the tag of an array that stands at a place. */
+/* Appends the tag of an array at a place. */
 static bool append_tag(napi_env env, napi_value tags, uint32_t at, text *lines, size_t *room)
 {
     napi_handle_scope scope;

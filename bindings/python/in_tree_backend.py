@@ -1,6 +1,6 @@
 """Builds the package with Python's standard library alone, so that an installation fetches nothing.
 
-These are the calls of PEP 517 that pip makes. The wheel has the modules as they stand. With the
+These are the calls of PEP 517 that pip makes. The wheel has the modules as they are. With the
 setting `library`, the path of libsilkwaram.so, it has the library too, and bears the tag of the
 machines that this runs on; that wants `objdump` of binutils:
 

@@ -10,7 +10,7 @@ usage: server.py SITE.json [PORT] [NAME]
     POST /summary    the summary of an editor; answered is the delta for it
 
 What is refused has status 422 and says why: {"number": 15, "words": ".."}. It listens on this
-machine alone, and asks nobody who they are: put it behind what does before others reach it.
+machine alone, and asks nobody who they are: before others reach it, put a server in front that does.
 
 Needed is the Python package silkwaram. It writes the site's file as lexicat-file does, under the
 same lock.

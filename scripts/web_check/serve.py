@@ -1,5 +1,5 @@
 #!/usr/bin/env python3
-"""Serves an application behind the middleware of the Python package, over loopback.
+"""Serves an application with the middleware of the Python package, over loopback.
 
 usage: serve.py KIND
 

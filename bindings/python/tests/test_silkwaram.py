@@ -508,7 +508,7 @@ kept = Site.open('{"cells":[],"kind":"site","site":"paris","version":2}')
 
 
 class Copies(unittest.TestCase):
-    """What stands here and elsewhere too."""
+    """What is here and elsewhere too."""
 
     def test_the_version(self):
         self.assertEqual(".".join(map(str, silkwaram.library_version())), silkwaram.__version__)

@@ -49,7 +49,7 @@ def filter_tags(
 ) -> List[TagChoice]:
     """Returns the tags that a reader takes, best first, as they are in `tags` (RFC 4647 section 3.3).
 
-    The arguments are those of `pick`. A tag that stands twice is answered twice.
+    The arguments are those of `pick`. A tag that is there twice is answered twice.
 
     Refused: the field (8, 9), the tags in their order (1 to 4).
     """

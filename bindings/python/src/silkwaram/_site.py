@@ -43,8 +43,9 @@ class Site:
 
     Edits (`put`, `delete`, `import_maps`, `update`) and exchanges (`take`, `merge`) change the open
     site alone: `to_bytes` gives its document, and `silkwaram.edit` keeps a file of it. An edit that
-    is refused leaves the site as it was. Shares keep what they held. Edit by one `Site`, and ask by
-    the others: two that both edit would be two sites of one name.
+    is refused leaves the site as it was. (A `MemoryError` of `take` or `merge` leaves each label as
+    it was or as it was to be; the same call again makes the rest.) Shares keep what they held. Edit
+    by one `Site`, and ask by the others: two that both edit would be two sites of one name.
 
     Threads: any thread may ask a site. The calls to one `Site` wait for each other; threads that
     are to ask at once take a `Site` each, by `share`, which copies nothing. After a fork the child
@@ -174,9 +175,9 @@ class Site:
     ) -> LanguageMaps:
         """Returns all labels of one reader: of each message the one that `lookup` finds.
 
-        It is under its language; a label of one text is that text, one of several a list. The time
-        is that of a lookup for each message, so it grows with messages times ranges: bound the
-        field of a stranger, or `pick` a tag first and bundle for that.
+        It is under its language; a label of one text is that text, one of several a list. The
+        languages of the site are ranked by the field once. To keep the answer for other readers,
+        `pick` a tag first and bundle for that.
 
         Refused: the default (1 to 4), the field (8, 9).
         """

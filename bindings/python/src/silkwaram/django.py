@@ -2,7 +2,7 @@
 
     MIDDLEWARE = [.., "silkwaram.django.LocaleMiddleware", ..]
 
-It stands where `django.middleware.locale.LocaleMiddleware` would, in place of it. Like that one it
+It takes the place of `django.middleware.locale.LocaleMiddleware`. Like that one it
 activates one of `settings.LANGUAGES`, sets `request.LANGUAGE_CODE`, and adds `Content-Language`,
 unless the view sets it, and `Vary: Accept-Language`. It runs under WSGI and ASGI.
 
