@@ -1,3 +1,4 @@
+pub mod AscendingMapLemmas
 pub mod LangMapFieldsLemmas
 pub mod LangMapLabelsLemmas
 pub mod LangMapLawsLemmas

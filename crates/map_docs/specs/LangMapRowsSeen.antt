@@ -1,11 +1,12 @@
 -- Rows that were read, without where they lie in memory, and what is made of them.
 use Rattle.std.specs.Prelude.{◌≡◌, ◌⊎◌, ◌++◌, All, unwrap_or, true, false, ℕ, List, [], ◌∷◌, map}
 use Rattle.std.specs.Prelude.{Option, None, Some, is_some, option_map, String, Vec, string_bytes}
-use Rattle.std.specs.BTreeMap.{BTreeMap, is_at}
+use Rattle.std.specs.BTreeMap.{is_at}
 use Rattle.std.specs.List.{filter_map, list_any}
-use Rattle.std.specs.List.Sorted.{IsPermutation}
-use Rattle.std.specs.Map.{lookup}
+use Rattle.std.specs.List.Sorted.{IsPermutation, IsStrictlySortedBy}
+use Rattle.std.specs.Map.{keys_of, lookup}
 use Rattle.std.specs.Str.{bytes_eq, str_to_ascii_lowercase}
+use Rattle.std.specs.String.{string_cmp}
 use Rattle.std.specs.declared.alloc.Global.{Global}
 use Rattle.std.specs.declared.cmp.Ordering.TheVariants.{Less}
 use Rattle.cell_core.specs.Labels.{texts_of}
@@ -26,7 +27,11 @@ abbrev pub HeldKeys : Type 0
 HeldKeys = Vec (String Global × HeldStrings) Global
 
 abbrev pub HeldRows : Type 0
-HeldRows = BTreeMap (String Global) (Option HeldKeys)
+HeldRows = Vec (String Global × Option HeldKeys) Global
+
+-- the names ascend
+abbrev pub AreSorted : {X : Type 0} → List (String Global × X) → Type 0
+AreSorted es = IsStrictlySortedBy string_cmp (keys_of es)
 
 abbrev pub strings_seen : HeldStrings → Strings
 strings_seen held = option_map (λ texts. texts_of texts.items) held
@@ -45,7 +50,7 @@ abbrev pub rows_seen : List (String Global × Option HeldKeys) → Rows
 rows_seen = members_seen keys_in_seen
 
 abbrev pub rows_in_seen : Option HeldRows → Option Rows
-rows_in_seen held = option_map (λ rows. rows_seen rows.entries) held
+rows_in_seen held = option_map (λ rows. rows_seen rows.items) held
 
 -- languages, with the label of those that have one
 abbrev pub Found : Type 0

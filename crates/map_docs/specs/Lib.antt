@@ -1,3 +1,4 @@
+pub mod AscendingMap
 pub mod LangMapChecks
 pub mod LangMapLabels
 pub mod LangMapLaws

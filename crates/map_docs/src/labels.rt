@@ -15,9 +15,9 @@ ghost use Rattle.map_docs.specs.LangMapChecks.{key_checks, keys_checks, message_
 ghost use Rattle.map_docs.specs.LangMapChecks.{member_checks, members_checks};
 ghost use Rattle.map_docs.specs.LangMapLabels.{languages_of, rows_labels};
 ghost use Rattle.map_docs.specs.LangMapRows.{Keys as PlainKeys};
-ghost use Rattle.map_docs.specs.LangMapRowsSeen.{AddsLanguages, AddsRow, AreLesser, HoldsKeys};
-ghost use Rattle.map_docs.specs.LangMapRowsSeen.{IsOneLabel, keys_in_seen, keys_seen, live};
-ghost use Rattle.map_docs.specs.LangMapRowsSeen.{rows_seen, strings_seen};
+ghost use Rattle.map_docs.specs.LangMapRowsSeen.{AddsLanguages, AddsRow, AreLesser};
+ghost use Rattle.map_docs.specs.LangMapRowsSeen.{AreSorted, HoldsKeys, IsOneLabel, keys_in_seen};
+ghost use Rattle.map_docs.specs.LangMapRowsSeen.{keys_seen, live, rows_seen, strings_seen};
 ghost use Rattle.cell_core.specs.MessageIds.{IsMessageId};
 ghost use Rattle.cell_core.specs.declared.fault.CellFault.TheVariants.{IdRefused};
 
@@ -32,10 +32,11 @@ use std::collections::BTreeMap;
 
 /// The labels of the rows in rising order of key, or the refusal of the first test that fails.
 pub(crate) fn labels_of(alloc: Global, rows: Rows) -> Result<LangMaps, DocCause>
+    requires { AreSorted rows.items }
     ensures { MatchResult result
-        (λ maps. AllPass (members_checks 0 (rows_seen rows.entries))
-        × IsPermutation (rows_labels (rows_seen rows.entries)) maps × IsMap key_cmp maps)
-        (OrMemory NoMemory (FirstFails (members_checks 0 (rows_seen rows.entries)))) }
+        (λ maps. AllPass (members_checks 0 (rows_seen rows.items))
+        × IsPermutation (rows_labels (rows_seen rows.items)) maps × IsMap key_cmp maps)
+        (OrMemory NoMemory (FirstFails (members_checks 0 (rows_seen rows.items)))) }
 {
     let mut maps = LangMaps::with_capacity(alloc, rows.len())?;
     let mut row = 0;

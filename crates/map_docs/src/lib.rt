@@ -9,6 +9,7 @@
 //! Callers find what they need in `docs_core`.
 #![tactic(auto)]
 
+mod ascending_map;
 mod labels;
 mod maps;
 mod members;

@@ -1,6 +1,6 @@
 //! The rows of a language-map document, read off its text.
 ghost use Rattle.std.specs.Prelude.{◌≡◌, ◌<◌, ◌∷◌, ◌++◌, [], ℕ, Option, None, Some, true, length};
-ghost use Rattle.std.specs.Prelude.{map, MatchResult, IfOk, OnOk, string_bytes};
+ghost use Rattle.std.specs.Prelude.{map, MatchResult, IfOk, IfSome, OnOk, string_bytes};
 ghost use Rattle.std.specs.List.{filter_map};
 ghost use Rattle.json.specs.Value.{value_view};
 ghost use Rattle.serde_json.specs.Data.{Data, Items, Members};
@@ -15,9 +15,11 @@ ghost use Rattle.json_docs.specs.declared.fault.DocCause.TheVariants.{NoMemory, 
 ghost use Rattle.map_docs.specs.LangMapRows.{Keys as PlainKeys, Strings as PlainStrings};
 ghost use Rattle.map_docs.specs.LangMapRows.{is_string_or_null, keys_in, members_by};
 ghost use Rattle.map_docs.specs.LangMapRows.{message_rows, message_rows_in, strings_in, strings_of};
-ghost use Rattle.map_docs.specs.LangMapRowsSeen.{keys_in_seen, members_seen, rows_in_seen};
+ghost use Rattle.map_docs.specs.LangMapRowsSeen.{AreSorted, keys_in_seen, members_seen};
+ghost use Rattle.map_docs.specs.LangMapRowsSeen.{rows_in_seen};
 ghost use Rattle.map_docs.specs.LangMapRowsSeen.{rows_seen, strings_seen};
 
+use crate::ascending_map::AscendingMap;
 use crate::rows::{Keys, Rows, Strings};
 use json::{Reader, Scratch, Token, Value};
 use json_docs::{
@@ -25,7 +27,6 @@ use json_docs::{
     next_name, next_value, text_of,
 };
 use std::alloc::{AllocError, Global};
-use std::collections::BTreeMap;
 
 /// How deep the value of a key nests at most.
 const KEY_DEPTH: usize = MOST_DEPTH - 2;
@@ -33,9 +34,10 @@ const KEY_DEPTH: usize = MOST_DEPTH - 2;
 /// The rows of the document in byte order of their names, or none where it is no object. Of two
 /// members of one name the last counts.
 pub(crate) fn read_rows(alloc: Global, text: &str) -> Result<Option<Rows>, DocCause>
-    ensures { MatchResult result
+    ensures read { MatchResult result
         (λ rows. (d : Data) × (read text.now ≡ Some d) × (rows_in_seen rows ≡ message_rows_in d))
         (OrMemory NoMemory (λ e. (e ≡ NotJson) × (read text.now ≡ None))) }
+    ensures sorted { IfOk result (λ rows. IfSome rows (λ r. AreSorted r.items)) }
 {
     let mut scratch = Scratch::new(alloc);
     check_numbers(text, &mut scratch)?;
@@ -52,10 +54,11 @@ pub(crate) fn read_rows(alloc: Global, text: &str) -> Result<Option<Rows>, DocCa
 /// The rows of the object whose brace was read, where nothing follows it.
 fn read_rest(alloc: Global, reader: &mut Reader<'_>) -> Result<Rows, DocCause>
     requires { are_in_range reader.old ≡ true }
-    ensures { MatchResult result
+    ensures read { MatchResult result
         (λ rows. (ms : Members) × ReadsMembers 126 reader.old ms []
-        × (rows_seen rows.entries ≡ message_rows ms))
+        × (rows_seen rows.items ≡ message_rows ms))
         (OrMemory NoMemory (λ e. (e ≡ NotJson) × IsNotWhole reader.old)) }
+    ensures sorted { IfOk result (λ rows. AreSorted rows.items) }
 {
     let rows = read_members(alloc, reader)?;
     match reader.next() {
@@ -92,22 +95,24 @@ trait MemberValue: Sized {
 fn read_members<V: MemberValue + Drop>(
     alloc: Global,
     reader: &mut Reader<'_>,
-) -> Result<BTreeMap<String, V>, DocCause>
+) -> Result<Vec<(String, V)>, DocCause>
     requires { are_in_range reader.old ≡ true }
     ensures read { MatchResult result
         (λ found. (ms : Members) × ReadsMembers V.most_depth reader.old ms reader.new
-        × (members_seen V.seen_of found.entries ≡ members_by V.in_data ms))
+        × (members_seen V.seen_of found.items ≡ members_by V.in_data ms))
         (OrMemory NoMemory (λ e. (e ≡ NotJson) × ReadsNoMembers V.most_depth reader.old)) }
+    ensures sorted { IfOk result (λ found. AreSorted found.items) }
     ensures left { OnOk result (are_in_range reader.new ≡ true) }
     ensures shorter { OnOk result (length reader.new < length reader.old) }
 {
-    let mut found = BTreeMap::new(alloc);
+    let mut found = AscendingMap::new(alloc);
     while let Some(name) = next_name(reader)? {
         let value = V::read(alloc, reader)?;
         let name = String::from_str(alloc, name)?;
-        drop(found.insert(name, value)?);
+        found = found.with(alloc, name, value)?;
     }
-    Ok(found)
+    let members = found.into_entries(alloc)?;
+    Ok(members)
 }
 
 impl MemberValue for Option<Keys> {
@@ -153,8 +158,7 @@ fn read_keys(alloc: Global, reader: &mut Reader<'_>) -> Result<Option<Keys>, Doc
     };
     match token {
         Token::BeginObject => {
-            let members = read_members(alloc, reader)?;
-            let keys = keys_of(alloc, members)?;
+            let keys = read_members(alloc, reader)?;
             Ok(Some(keys))
         }
         Token::BeginArray => {
@@ -168,17 +172,6 @@ fn read_keys(alloc: Global, reader: &mut Reader<'_>) -> Result<Option<Keys>, Doc
             Ok(None)
         }
     }
-}
-
-/// The members as a list.
-fn keys_of(alloc: Global, members: BTreeMap<String, Strings>) -> Result<Keys, AllocError>
-    ensures { IfOk result (λ keys. keys.items ≡ members.entries) }
-{
-    let mut keys = Vec::with_capacity(alloc, members.len())?;
-    for member in members {
-        keys.push(member)?;
-    }
-    Ok(keys)
 }
 
 /// Skips the items of an array whose opening bracket was read.

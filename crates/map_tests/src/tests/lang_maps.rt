@@ -52,6 +52,20 @@ fn several_texts_are_an_array(rt: HostRuntime) {
 }
 
 #[test]
+fn messages_may_come_in_any_order(rt: HostRuntime) {
+    let text = r#"{"b":{"en":"1"},"d":{"en":"2"},"a":{"en":"3"},"b":{"en":"4"},"c":{"en":"5"}}"#;
+    let written =
+        "{\"a\":{\"en\":\"3\"},\"b\":{\"en\":\"4\"},\"c\":{\"en\":\"5\"},\"d\":{\"en\":\"2\"}}\n";
+    assert_written(&rt, rt.alloc(), text, written);
+}
+
+#[test]
+fn of_two_members_of_one_name_the_last_counts(rt: HostRuntime) {
+    let text = r#"{"m":{"de":"1"},"m":{"en":"2","en":"3"}}"#;
+    assert_written(&rt, rt.alloc(), text, "{\"m\":{\"en\":\"3\"}}\n");
+}
+
+#[test]
 fn a_message_without_a_label_is_left_out(rt: HostRuntime) {
     let text = r#"{"m":{"en":null,"de":[],"fr":[null]},"n":{}}"#;
     assert_written(&rt, rt.alloc(), text, "{}\n");

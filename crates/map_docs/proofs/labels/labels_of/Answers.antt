@@ -1,12 +1,11 @@
 use Rattle.std.proofs.Common.{◌∙◌, ◌+◌, List, [], ◌∷◌, ◌++◌, String, Global, Option, ap, refl}
-use Rattle.std.proofs.Common.{string_bytes, string_cmp, subst, sym, length-append}
-use Rattle.std.specs.List.Sorted.{IsStrictlySortedBy}
-use Rattle.std.specs.Map.{keys_of}
+use Rattle.std.proofs.Common.{string_bytes, subst, sym, length-append}
+use Rattle.std.specs.Vec.Iter.{into_iter_items}
 use Rattle.std.proofs.lemmas.Result.{err_from_is_err_and}
 use Rattle.json_docs.specs.Checks.{AllPass, FirstFails}
 use Rattle.map_docs.specs.LangMapChecks.{members_checks}
 use Rattle.map_docs.specs.LangMapRows.{Rows}
-use Rattle.map_docs.specs.LangMapRowsSeen.{HeldKeys, keys_in_seen, rows_seen}
+use Rattle.map_docs.specs.LangMapRowsSeen.{AreSorted, HeldKeys, keys_in_seen, rows_seen}
 use Rattle.map_docs.specs.LangMaps.{Labelled}
 use Rattle.map_docs.proofs.LangMapLabelsLemmas.{HoldsRows, HoldsRows-next, HoldsRows-none}
 use Rattle.map_docs.proofs.LangMapLabelsLemmas.{first_lesser, else_by, one_further, rows_fail}
@@ -15,11 +14,9 @@ use Rattle.map_docs.proofs.labels.labels_of.Goals as goal
 
 pub loop-name-init : goal.loop-name-init
 loop-name-init c =
-    let left = c.into_iter-name-iterator.result in
+    let left = into_iter_items c.into_iter-name-iterator.result in
     let gives = c.into_iter-name-iterator.ensures.into_iter_gives in
-    let rising =
-    subst (λ (es : List (String Global × Option HeldKeys)).
-    IsStrictlySortedBy string_cmp (keys_of es)) (sym gives.0) gives.5 in (
+    let rising = subst AreSorted (sym gives.0) c.requires in (
       [],
       sym gives.0,
       refl,
@@ -32,19 +29,19 @@ pub add_row-requires-clause-lesser : goal.add_row-requires-clause-lesser
 add_row-requires-clause-lesser c =
     first_lesser (rows_seen c.loop-name.invariant.0) c.loop-name.maps
     (c.in-Some.name, c.in-Some.keys)
-    c.next.new.self
+    (into_iter_items c.next.new.self)
     (subst (λ (es : List (String Global × Option HeldKeys)).
-    HoldsRows (rows_seen c.loop-name.invariant.0) c.loop-name.maps es) c.in-Some.ensures.steps
+    HoldsRows (rows_seen c.loop-name.invariant.0) c.loop-name.maps es) c.in-Some.ensures.steps.0
     c.loop-name.invariant.4)
 
 pub returns-in_err-add_row : goal.returns-in_err-add_row
 returns-in_err-add_row c =
     let inv = c.loop-name.invariant in
     let front = inv.0 in
-    let left = c.next.new.self in
+    let left = into_iter_items c.next.new.self in
     let e = c.in_err-add_row.field-0.0 in
     let all =
-    ap rows_seen (inv.1 ∙ ap (λ t. front ++ t) c.in-Some.ensures.steps)
+    ap rows_seen (inv.1 ∙ ap (λ t. front ++ t) c.in-Some.ensures.steps.0)
     ∙ rows_seen_behind front ((c.in-Some.name, c.in-Some.keys) ∷ left) in
     let p =
     err_from_is_err_and c.from_residual-in_err-add_row.result
@@ -59,19 +56,19 @@ pub loop-name-preserved : goal.loop-name-preserved
 loop-name-preserved c =
     let inv = c.loop-name.invariant in
     let front = inv.0 in
-    let left = c.next.new.self in
+    let left = into_iter_items c.next.new.self in
     let took = c.in_ok-add_row.ensures.ok in
     let pushed = rows_seen_behind front ((c.in-Some.name, c.in-Some.keys) ∷ []) in
     let before =
     subst (λ (es : List (String Global × Option HeldKeys)).
-    HoldsRows (rows_seen front) c.loop-name.maps es) c.in-Some.ensures.steps inv.4 in
+    HoldsRows (rows_seen front) c.loop-name.maps es) c.in-Some.ensures.steps.0 inv.4 in
     let holds =
     HoldsRows-next (rows_seen front) c.loop-name.maps c.add_row.new.maps
     (c.in-Some.name, c.in-Some.keys) left before took.1 in (
       front ++ (c.in-Some.name, c.in-Some.keys) ∷ [],
-      one_further c.args.rows.entries front (c.in-Some.name, c.in-Some.keys)
-          c.loop-name.name-iterator
-          left inv.1 c.in-Some.ensures.steps,
+      one_further c.args.rows.items front (c.in-Some.name, c.in-Some.keys)
+          (into_iter_items c.loop-name.name-iterator)
+          left inv.1 c.in-Some.ensures.steps.0,
       ap (λ n. n + 1) inv.2 ∙ sym (length-append front ((c.in-Some.name, c.in-Some.keys) ∷ [])),
       subst (λ (rs : Rows). AllPass (members_checks 0 rs)) (sym pushed)
           (rows_pass (rows_seen front) (string_bytes c.in-Some.name, keys_in_seen c.in-Some.keys)

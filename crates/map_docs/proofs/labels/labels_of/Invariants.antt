@@ -1,4 +1,5 @@
 use Rattle.std.proofs.Common.{◌≡◌, List, String, Global, Option, length, ◌++◌}
+use Rattle.std.specs.Vec.Iter.{into_iter_items}
 use Rattle.json_docs.specs.Checks.{AllPass}
 use Rattle.map_docs.specs.LangMapChecks.{members_checks}
 use Rattle.map_docs.specs.LangMapRowsSeen.{HeldKeys, rows_seen}
@@ -9,7 +10,7 @@ use Rattle.map_docs.proofs.labels.labels_of.Given as goal
 abbrev pub invariant-loop-name : goal.invariant-loop-name
 invariant-loop-name l =
     (front : List (String Global × Option HeldKeys))
-    × (l.fn.rows.entries ≡ front ++ l.name-iterator)
+    × (l.fn.rows.items ≡ front ++ into_iter_items l.name-iterator)
     × (l.row ≡ length front)
     × AllPass (members_checks 0 (rows_seen front))
-    × HoldsRows (rows_seen front) l.maps l.name-iterator
+    × HoldsRows (rows_seen front) l.maps (into_iter_items l.name-iterator)

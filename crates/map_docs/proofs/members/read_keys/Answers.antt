@@ -5,7 +5,6 @@ use Rattle.json.specs.Reads.{token_of}
 use Rattle.json.specs.Token.{begin_array, begin_object}
 use Rattle.serde_json.specs.Data.{array, object}
 use Rattle.map_docs.specs.LangMapRows.{keys_of}
-use Rattle.map_docs.specs.LangMapRowsSeen.{keys_seen}
 use Rattle.json_docs.proofs.MembersLemmas.{array_read, no_array, no_object, no_scalar, nothing_read}
 use Rattle.json_docs.proofs.MembersLemmas.{object_read, scalar_read}
 use Rattle.map_docs.proofs.LangMapLabelsLemmas.{else_by}
@@ -15,14 +14,14 @@ pub returns-in_default-clause-read : goal.returns-in_default-clause-read
 returns-in_default-clause-read c =
     inr (refl, nothing_read c.args.reader.now c.in_default.ensures.value.0)
 
-pub returns-in_err-members-in-BeginObject-clause-read :
-    goal.returns-in_err-members-in-BeginObject-clause-read
-returns-in_err-members-in-BeginObject-clause-read c =
+pub returns-in_err-keys-in-BeginObject-clause-read :
+    goal.returns-in_err-keys-in-BeginObject-clause-read
+returns-in_err-keys-in-BeginObject-clause-read c =
     let ts = c.next.new.self in
     let is : c.args.reader.now ≡ begin_object ∷ ts =
     c.in-Some.ensures.value ∙ ap (λ t. token_of t ∷ ts) c.in-BeginObject.is in
     let p = err_from_is_err_and c.from_residual.result c.from_residual.ensures.1 in
-    rw (p.1, p.2) (else_by c.in_err-members-in-BeginObject.ensures.read
+    rw (p.1, p.2) (else_by c.in_err-keys-in-BeginObject.ensures.read
     (λ h. (h.0, no_object c.args.reader.now ts is h.1)))
 
 pub returns-in_err-pass_items-in-BeginArray-clause-read :
@@ -52,10 +51,10 @@ returns-in_ok-keys-in-BeginObject-clause-read c =
     let ts = c.next.new.self in
     let is : c.args.reader.now ≡ begin_object ∷ ts =
     c.in-Some.ensures.value ∙ ap (λ t. token_of t ∷ ts) c.in-BeginObject.is in
-    let read = c.in_ok-members-in-BeginObject.ensures.read in (
+    let read = c.in_ok-keys-in-BeginObject.ensures.read in (
       object read.0,
       object_read c.args.reader.now ts c.read_members.new.reader read.0 is read.1,
-      ap Some (ap keys_seen c.in_ok-keys-in-BeginObject.ensures ∙ read.2),
+      ap Some read.2,
     )
 
 pub returns-in_ok-pass_items-in-BeginArray-clause-read :

@@ -1,10 +1,13 @@
-use Rattle.std.proofs.Common.{◌≡◌, ◌∙◌, ◌-◌, ◌<◌, length, None, Some, string_bytes, ap, inr, refl}
+use Rattle.std.proofs.Common.{◌≡◌, ◌∙◌, ◌-◌, ◌<◌, length, None, Some, string_bytes, string_cmp}
+use Rattle.std.proofs.Common.{ap, inr, refl, subst, sym}
 use Rattle.std.proofs.Common.{arith, rules}
 use Rattle.std.proofs.lemmas.Result.{err_from_is_err_and}
 use Rattle.json.specs.Json.{read_key, value}
 use Rattle.json.proofs.Grammar.{read_key-shorter}
 use Rattle.serde_json.specs.Data.{no_members, put}
-use Rattle.map_docs.specs.LangMapRowsSeen.{members_seen}
+use Rattle.map_docs.specs.AscendingMap.{entries_of}
+use Rattle.map_docs.specs.LangMapRowsSeen.{AreSorted, members_seen}
+use Rattle.map_docs.proofs.AscendingMapLemmas.{none_sorted}
 use Rattle.json_docs.proofs.ArraysLemmas.{not_json}
 use Rattle.json_docs.proofs.ReadingLemmas.{key_refused, member_read, member_refused, members_over}
 use Rattle.map_docs.proofs.LangMapMembersLemmas.{member_inserted}
@@ -16,9 +19,10 @@ loop-found-init g c = (
   no_members,
   omega arith,
   refl,
-  ap (members_seen g.V.MemberValue.seen_of) c.new-found.ensures.empty,
+  ap (members_seen g.V.MemberValue.seen_of) c.new-found.ensures,
   c.requires,
   omega arith,
+  subst AreSorted (sym c.new-found.ensures) (none_sorted g.row.V.Denot string_cmp),
 )
 
 pub returns-in_err-name-clause-read : goal.returns-in_err-name-clause-read
@@ -70,13 +74,17 @@ loop-found-preserved g c =
       inv.3
           ∙ member_read (value g.V.MemberValue.most_depth) old n k c.loop-found.reader s r d
           (omega (arith, inv.2, less)) named read.1,
-      ap (members_seen g.V.MemberValue.seen_of) c.in_ok-insert.ensures.entries
+      ap (members_seen g.V.MemberValue.seen_of) c.in_ok-found.ensures.entries
           ∙ member_inserted g.V.MemberValue.seen_of g.V.MemberValue.in_data
-          c.loop-found.found.entries
+          (entries_of c.loop-found.found)
           c.in_ok-name-2.name c.in_ok-value.value k d old inv.4 copied read.2,
       c.in_ok-value.ensures.left,
       omega (arith, inv.6, less, lesser),
+      c.in_ok-found.ensures.sorted,
     )
+
+pub with-requires : goal.with-requires
+with-requires g c = c.loop-found.invariant.7
 
 pub returns-clause-read : goal.returns-clause-read
 returns-clause-read g c =
@@ -87,5 +95,5 @@ returns-clause-read g c =
       inv.3
           ∙ members_over (value g.V.MemberValue.most_depth) inv.1 inv.0 c.loop-found.reader
           c.next_name.new.reader inv.2 over,
-      inv.4,
+      ap (members_seen g.V.MemberValue.seen_of) c.in_ok-members.ensures ∙ inv.4,
     )
