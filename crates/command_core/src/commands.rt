@@ -13,10 +13,8 @@ use crate::commands::labels::with_labels;
 use crate::commands::questions::with_questions;
 use crate::commands::sites::with_sites;
 use clap::Command;
+use front_core::VERSION;
 use std::alloc::{AllocError, Global};
-
-/// The version that `--version` prints.
-const VERSION: &str = "0.3.0";
 
 /// The program and all its commands, in the order in which the help shows them.
 pub(crate) fn lexicat<'a>(

@@ -53,7 +53,7 @@ use crate::answers::{
 use crate::question::{field_of, limit_of, lookup_field_of};
 use crate::telling::{tell_done, tell_edit, tell_meaning, tell_refusal, tell_usage};
 use cata_core::Site;
-use front_core::{FrontFault, new_site, open_site};
+use front_core::{FrontFault, VERSION_NUMBER, new_site, open_site};
 pub use handles::site_handle::{SiteBlock, SiteHandle};
 use std::alloc::Global;
 use std::mem;
@@ -598,9 +598,9 @@ pub extern "C" fn sw_site_free(alloc: Global, site: &mut SiteHandle)
 /// patch number, added up.
 #[unsafe(no_mangle)]
 pub extern "C" fn sw_version() -> u32
-    ensures { result ≡ 300 }
+    ensures { result ≡ VERSION_NUMBER }
 {
-    300
+    VERSION_NUMBER
 }
 
 /// A handle may go to another thread.

@@ -14,6 +14,7 @@
 //! - [`import`] and [`update`] edit a copy of a site by language maps; [`export`], [`missing`],
 //!   [`outdated`] and [`changes`] say what a translator or an editor looks at.
 //! - [`explain`] says of a refusal's number what it means, what causes it and what to do.
+//! - [`VERSION`] is the version of the command and of the library.
 //!
 //! Ids, fields and languages come in as bytes. A refusal is a [`FrontFault`], with its number, and
 //! its place where it has one.
@@ -48,6 +49,7 @@ mod site;
 mod tag_filter;
 mod tag_pick;
 mod tags;
+mod version;
 mod whole_edits;
 pub mod words;
 mod work;
@@ -67,4 +69,5 @@ pub use site::{new_site, open_site};
 pub use tag_filter::filter_tags;
 pub use tag_pick::{Picked, pick};
 pub use whole_edits::{import, update};
+pub use version::{VERSION, VERSION_NUMBER};
 pub use work::{changes, export, missing, outdated};
