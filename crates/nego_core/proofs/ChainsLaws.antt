@@ -94,7 +94,7 @@ may_stand s left all chain h e f =
 -- With a chain in which the next item's range may be, the numbers are those of one item more.
 pub push_number : (items : List Item) (n : ℕ) (i : Item) (numbers : List ℕ) (number : ℕ)
     → AreNumbers items n numbers → slice_get items n ≡ Some i → MayStandIn (pieces i.range) number
-    → number < 1025 → AreNumbers items (n + 1) (numbers ++ number ∷ [])
+    → number < 8193 → AreNumbers items (n + 1) (numbers ++ number ∷ [])
 push_number items n i numbers number a s m small =
     let size = length_push numbers number in
     let many = a.as_many in
@@ -159,25 +159,25 @@ other_next numbers c place next other h = record {
 }
 
 -- Links that are the number of items throughout are the links from the end of the items on.
-pub none_linked : (numbers : List ℕ)
-    → AreLinksFrom numbers (length numbers) (replicate 1025 (length numbers))
+pub none_linked : (chains : ℕ) (numbers : List ℕ)
+    → AreLinksFrom chains numbers (length numbers) (replicate chains (length numbers))
     (replicate (length numbers) (length numbers))
-none_linked numbers = record {
-  many = length-replicate 1025 (length numbers);
+none_linked chains numbers = record {
+  many = length-replicate chains (length numbers);
   each = length-replicate (length numbers) (length numbers);
   first_is =
       λ c low.
       subst (λ (n : ℕ). IsNextIn numbers c (length numbers) n)
-      (sym (get_or-replicate 1025 c (length numbers) 0 low)) (none_next numbers c);
+      (sym (get_or-replicate chains c (length numbers) 0 low)) (none_next numbers c);
   next_is = λ k le low. absurd (omega arith);
 }
 
 -- a place is put before those of its chain
-pub link_more : (numbers first next : List ℕ) (place chain after : ℕ) → place < length numbers
-    → chain ≡ get_or numbers place 0 → chain < 1025 → after ≡ get_or first chain 0
-    → AreLinksFrom numbers (place + 1) first next
-    → AreLinksFrom numbers place (slice_set first chain place) (slice_set next place after)
-link_more numbers first next place chain after low here small a h = record {
+pub link_more : (chains : ℕ) (numbers first next : List ℕ) (place chain after : ℕ)
+    → place < length numbers → chain ≡ get_or numbers place 0 → chain < chains
+    → after ≡ get_or first chain 0 → AreLinksFrom chains numbers (place + 1) first next
+    → AreLinksFrom chains numbers place (slice_set first chain place) (slice_set next place after)
+link_more chains numbers first next place chain after low here small a h = record {
   many = length-set first chain place ∙ h.many;
   each = length-set next place after ∙ h.each;
   first_is = λ c lt. elim (cases_eq c chain) [
@@ -296,15 +296,15 @@ none_set (suc n) (suc c) h = none_set n c h
 
 -- The best of the last chain is the best of that chain and those of an empty table.
 pub last_asked : (Fits : Item → Type 0) (items : List Item) (numbers : List ℕ)
-    (best : Option MostSpecific) → IsBest (FitsIn Fits numbers 1024) items best
-    → IsBest (FitsAmong Fits numbers (replicate 1024 false)) items best
+    (best : Option MostSpecific) → IsBest (FitsIn Fits numbers 8192) items best
+    → IsBest (FitsAmong Fits numbers (replicate 8192 false)) items best
 last_asked Fits items numbers best h =
-    best_same (FitsIn Fits numbers 1024) (FitsAmong Fits numbers (replicate 1024 false)) items best
+    best_same (FitsIn Fits numbers 8192) (FitsAmong Fits numbers (replicate 8192 false)) items best
     (λ k i. (
       (λ f. (inl f.0, f.1)),
       (λ f. elim f.0 [
         | inl last ↦ (last, f.1)
-        | inr set ↦ absurd (none_set 1024 (get_or numbers k 0) set)
+        | inr set ↦ absurd (none_set 8192 (get_or numbers k 0) set)
       ]),
     ))
     h
@@ -358,7 +358,7 @@ one_asked Fits items numbers table chain best found low h f =
     ]
 
 stands_among : (items : List Item) (numbers : List ℕ) (tag : List (List ℕ)) (table : List Bool)
-    (k : ℕ) (i : Item) → AreNumbers items (length items) numbers → IsTableOf chain_of 1024 tag table
+    (k : ℕ) (i : Item) → AreNumbers items (length items) numbers → IsTableOf chain_of 8192 tag table
     → slice_get items k ≡ Some i → Extended (pieces i.range) tag → StandsAmong numbers table k
 stands_among items numbers tag table k i n t s h =
     elim (n.may k i (slice_get_within items k i s) s) [
@@ -371,7 +371,7 @@ stands_among items numbers tag table k i n t s h =
 -- The best of the last chain and the chains of a tag's subtags is the best of all items.
 pub all_asked : (items : List Item) (numbers : List ℕ) (tag : List (List ℕ)) (table : List Bool)
     (best : Option MostSpecific) → AreNumbers items (length items) numbers
-    → IsTableOf chain_of 1024 tag table
+    → IsTableOf chain_of 8192 tag table
     → IsBest (FitsAmong (λ i. Extended (pieces i.range) tag) numbers table) items best
     → IsBest (λ _ i. Extended (pieces i.range) tag) items best
 all_asked items numbers tag table None n t h =

@@ -13,6 +13,7 @@ pub mod WeightBounds
 pub mod MostSpecificLaws
 pub mod OrderedTextLaws
 pub mod IndexLaws
+pub mod HashedRangesLemmas
 pub mod TableLaws
 pub mod FirstByteLaws
 pub mod DecidingLaws

@@ -7,6 +7,7 @@ use Rattle.std.specs.Ordering.{nat_cmp, on, then_cmp, is_lt}
 use Rattle.std.specs.Cmp.Lexicographic.{slice_cmp}
 use Rattle.nego_core.specs.Item.{Item}
 use Rattle.nego_core.specs.Chains.{AreChains}
+use Rattle.nego_core.specs.HashedRanges.{AreBuckets}
 use Rattle.nego_core.specs.declared.index.RangeKey.{RangeKey}
 use Rattle.nego_core.specs.declared.index.Index.{Index}
 use Rattle.nego_core.specs.declared.index.Index.TheVariants as index
@@ -65,5 +66,6 @@ MatchFirst items text place =
 
 -- what the index of a long list holds of its items
 abbrev pub IsIndex : List Item → Index → Type 0
+IsIndex items (index.Buckets buckets) = AreBuckets items buckets
 IsIndex items (index.Ranges places) = IsRangeIndex items places.items
 IsIndex items (index.Chains chains) = AreChains items chains

@@ -8,6 +8,7 @@ pub mod Element
 pub mod Field
 pub mod Deciding
 pub mod Chains
+pub mod HashedRanges
 pub mod Index
 pub mod LookupOrder
 pub mod LookupCandidates

@@ -14,7 +14,7 @@ use std::alloc::{AllocError, Global};
 
 /// How many chains there are for subtags. The last chain, after them, is of the ranges that have
 /// no subtag other than "*".
-pub(crate) const LAST: usize = 1024;
+pub(crate) const LAST: usize = 8192;
 
 const CHAINS: usize = LAST + 1;
 
@@ -34,22 +34,22 @@ pub(crate) fn chains_of(alloc: Global, items: &[Item]) -> Result<Chains, AllocEr
     ensures { IfOk result (AreChains items.now) }
 {
     let numbers = numbers_of(alloc, items)?;
-    link_chains(alloc, &numbers)
+    link_chains(alloc, CHAINS, &numbers)
 }
 
 /// The chain of a subtag.
 pub(crate) fn chain_of(subtag: &str) -> usize
     ensures chain { result ≡ chain_of subtag.now }
-    ensures within { result < 1024 }
+    ensures within { result < 8192 }
 {
-    usize::from(fingerprint_of(subtag.as_bytes()) % 1024)
+    usize::from(fingerprint_of(subtag.as_bytes()) % 8192)
 }
 
 /// For each item the number of its chain.
 fn numbers_of(alloc: Global, items: &[Item]) -> Result<Vec<usize>, AllocError>
     ensures { IfOk result (λ numbers. AreNumbers items.now (length items.now) numbers.items) }
 {
-    let mut lengths = [0usize; CHAINS];
+    let mut lengths = [0u16; CHAINS];
     let mut numbers = Vec::with_capacity(alloc, items.len())?;
     for item in items {
         let number = shortest_for(&lengths, item.range());
@@ -60,9 +60,9 @@ fn numbers_of(alloc: Global, items: &[Item]) -> Result<Vec<usize>, AllocError>
 }
 
 /// The shortest of the chains that the range may go into.
-fn shortest_for(lengths: &[usize; CHAINS], range: &Range) -> usize
+fn shortest_for(lengths: &[u16; CHAINS], range: &Range) -> usize
     ensures may { MayStandIn (pieces range.now) result }
-    ensures within { result < 1025 }
+    ensures within { result < 8193 }
 {
     let mut shortest = LAST;
     for subtag in range.subtags() {
@@ -76,13 +76,17 @@ fn shortest_for(lengths: &[usize; CHAINS], range: &Range) -> usize
     shortest
 }
 
-/// The chains of places that have these numbers.
-fn link_chains(alloc: Global, numbers: &[usize]) -> Result<Chains, AllocError>
-    requires { (k : ℕ) → k < length numbers.now → slice_index numbers.now k < 1025 }
-    ensures { IfOk result (AreLinks numbers.now) }
+/// So many chains, of the places that have their numbers.
+pub(crate) fn link_chains(
+    alloc: Global,
+    chains: usize,
+    numbers: &[usize],
+) -> Result<Chains, AllocError>
+    requires { (k : ℕ) → k < length numbers.now → slice_index numbers.now k < chains }
+    ensures { IfOk result (AreLinks chains numbers.now) }
 {
     let end = numbers.len();
-    let mut first = Vec::from_elem(alloc, end, CHAINS)?;
+    let mut first = Vec::from_elem(alloc, end, chains)?;
     let mut next = Vec::from_elem(alloc, end, end)?;
     for place in (0..end).rev() {
         let chain = numbers[place];

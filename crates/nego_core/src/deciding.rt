@@ -5,12 +5,12 @@ ghost use Rattle.lang_core.specs.Text.{pieces};
 ghost use Rattle.lang_core.specs.Matching.{Basic, Extended};
 ghost use Rattle.nego_core.specs.Deciding.{IsBest, IsAny, Matches, MatchesNamed, better_of};
 ghost use Rattle.nego_core.specs.Deciding.{is_above, is_worse};
-ghost use Rattle.nego_core.specs.Index.{IsRangeIndex};
+ghost use Rattle.nego_core.specs.Index.{IsIndex};
 ghost use Rattle.nego_core.specs.Chains.{AreChains, AreLinked, StandsIn};
 
 use crate::chains::{Chains, LAST, chain_of};
 use crate::fingerprint::first_byte;
-use crate::index::place_of;
+use crate::index::{Index, place_of};
 use crate::item::Item;
 use crate::scheme::Scheme;
 use lang_core::Tag;
@@ -51,18 +51,11 @@ pub(crate) fn best_of(items: &[Item], scheme: Scheme, tag: &Tag) -> Option<MostS
 }
 
 /// The best of the items that match under the basic match.
-pub(crate) fn best_basic(
-    items: &[Item],
-    places: Option<&[usize]>,
-    text: &[u8],
-) -> Option<MostSpecific>
-    requires { IfSome places (λ places. IsRangeIndex items.now places.now) }
+pub(crate) fn best_basic(items: &[Item], index: Option<&Index>, text: &[u8]) -> Option<MostSpecific>
+    requires { IfSome index (λ index. IsIndex items.now index.now) }
     ensures { IsBest (λ _ i. Basic (pieces i.range) (pieces text.now)) items.now result }
 {
-    better_of(
-        best_named(items, places, text),
-        best_with(items, places, ANY),
-    )
+    better_of(best_named(items, index, text), best_with(items, index, ANY))
 }
 
 /// The best of the items that match under the extended match. It searches the last chain, and each
@@ -85,27 +78,23 @@ pub(crate) fn best_extended(items: &[Item], chains: &Chains, tag: &Tag) -> Optio
 
 /// Of the items other than "*" that match under the basic match, the best: their ranges are the
 /// text and its prefixes before hyphens (RFC 4647 section 3.3.1).
-pub(crate) fn best_named(
-    items: &[Item],
-    places: Option<&[usize]>,
-    text: &[u8],
-) -> Option<MostSpecific>
-    requires { IfSome places (λ places. IsRangeIndex items.now places.now) }
+pub(crate) fn best_named(items: &[Item], index: Option<&Index>, text: &[u8]) -> Option<MostSpecific>
+    requires { IfSome index (λ index. IsIndex items.now index.now) }
     ensures { IsBest (λ _ i. MatchesNamed (pieces text.now) i) items.now result }
 {
     let mut best = None;
     for at in 0..text.len() {
         if text[at] == HYPHEN {
-            best = better_of(best, best_named_with(items, places, &text[..at]));
+            best = better_of(best, best_named_with(items, index, &text[..at]));
         }
     }
-    better_of(best, best_named_with(items, places, text))
+    better_of(best, best_named_with(items, index, text))
 }
 
 /// The best of the items of one chain that match under the extended match.
 fn best_in(items: &[Item], chains: &Chains, chain: usize, tag: &Tag) -> Option<MostSpecific>
     requires linked { AreChains items.now chains.now }
-    requires within { chain < 1025 }
+    requires within { chain < 8193 }
     ensures { (numbers : List ℕ) → AreLinked items.now numbers chains.now
         → IsBest (λ k i. StandsIn numbers chain k × Extended (pieces i.range) (pieces tag.now))
         items.now result }
@@ -124,23 +113,23 @@ fn best_in(items: &[Item], chains: &Chains, chain: usize, tag: &Tag) -> Option<M
 }
 
 /// The first item whose range is the text, unless that is "*".
-fn best_named_with(items: &[Item], places: Option<&[usize]>, text: &[u8]) -> Option<MostSpecific>
-    requires { IfSome places (λ places. IsRangeIndex items.now places.now) }
+fn best_named_with(items: &[Item], index: Option<&Index>, text: &[u8]) -> Option<MostSpecific>
+    requires { IfSome index (λ index. IsIndex items.now index.now) }
     ensures { IsBest (λ _ i. (¬ IsAny i) × (i.range ≡ text.now)) items.now result }
 {
     if text == ANY {
         None
     } else {
-        best_with(items, places, text)
+        best_with(items, index, text)
     }
 }
 
 /// The first item whose range is the text.
-fn best_with(items: &[Item], places: Option<&[usize]>, text: &[u8]) -> Option<MostSpecific>
-    requires { IfSome places (λ places. IsRangeIndex items.now places.now) }
+fn best_with(items: &[Item], index: Option<&Index>, text: &[u8]) -> Option<MostSpecific>
+    requires { IfSome index (λ index. IsIndex items.now index.now) }
     ensures { IsBest (λ _ i. i.range ≡ text.now) items.now result }
 {
-    match place_of(items, places, text) {
+    match place_of(items, index, text) {
         Some(place) => Some(MostSpecific {
             place,
             specificity: items[place].specificity(),

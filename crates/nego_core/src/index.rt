@@ -4,9 +4,9 @@ ghost use Rattle.nego_core.specs.Index.{IsIndex, IsRangeIndex, MatchFirst, AreRa
 ghost use Rattle.nego_core.specs.Index.{text_at, range_key_cmp};
 ghost use Rattle.std.specs.Ordering.{is_lt, nat_cmp};
 ghost use Rattle.std.specs.Cmp.Lexicographic.{slice_cmp};
-ghost use Rattle.std.specs.Str.{bytes_eq};
 
 use crate::chains::{Chains, chains_of};
+use crate::hashed_ranges::{buckets_of, place_in};
 use crate::item::Item;
 use crate::ordered_text::OrderedText;
 use crate::scheme::Scheme;
@@ -18,7 +18,10 @@ const FEW: usize = 16;
 /// An index of many items.
 #[derive(Drop)]
 pub(crate) enum Index {
-    /// For basic ranges: the places of the items in the order of their ranges' bytes.
+    /// For basic ranges: the places of the items in buckets by the hashes of their ranges.
+    Buckets(Chains),
+    /// For basic ranges of which many have one hash: the places of the items in the order of their
+    /// ranges' bytes.
     Ranges(Vec<usize>),
     /// For extended ranges: the places of the items in chains.
     Chains(Chains),
@@ -36,19 +39,31 @@ pub(crate) fn index_of(
         return Ok(None);
     }
     match scheme {
-        Scheme::Basic => Ok(Some(Index::Ranges(places_of(alloc, items)?))),
+        Scheme::Basic => Ok(Some(range_index_of(alloc, items)?)),
         Scheme::Extended => Ok(Some(Index::Chains(chains_of(alloc, items)?))),
     }
 }
 
 /// The place of the first item whose range is the text.
-pub(crate) fn place_of(items: &[Item], places: Option<&[usize]>, text: &[u8]) -> Option<usize>
-    requires { IfSome places (λ places. IsRangeIndex items.now places.now) }
+pub(crate) fn place_of(items: &[Item], index: Option<&Index>, text: &[u8]) -> Option<usize>
+    requires { IfSome index (λ index. IsIndex items.now index.now) }
     ensures { MatchFirst items.now text.now result }
 {
-    match places {
-        Some(places) => sought_place(items, places, text),
-        None => first_place(items, text),
+    match index {
+        Some(Index::Buckets(buckets)) => place_in(items, buckets, text),
+        Some(Index::Ranges(places)) => sought_place(items, places, text),
+        _ => first_place(items, text),
+    }
+}
+
+/// The index of basic ranges: in buckets, or sorted where a bucket would be long.
+fn range_index_of(alloc: Global, items: &[Item]) -> Result<Index, AllocError>
+    requires { 0 < length items.now }
+    ensures { IfOk result (IsIndex items.now) }
+{
+    match buckets_of(alloc, items)? {
+        Some(buckets) => Ok(Index::Buckets(buckets)),
+        None => Ok(Index::Ranges(places_of(alloc, items)?)),
     }
 }
 
@@ -62,7 +77,7 @@ fn sought_place(items: &[Item], places: &[usize], text: &[u8]) -> Option<usize>
         return None;
     }
     let place = places[seat];
-    if is_range(&items[place], text) {
+    if items[place].is_range(text) {
         Some(place)
     } else {
         None
@@ -74,7 +89,7 @@ fn first_place(items: &[Item], text: &[u8]) -> Option<usize>
     ensures { MatchFirst items.now text.now result }
 {
     for (place, item) in items.iter().enumerate() {
-        if is_range(item, text) {
+        if item.is_range(text) {
             return Some(place);
         }
     }
@@ -105,13 +120,6 @@ fn is_below(items: &[Item], place: usize, text: &[u8]) -> bool
     ensures { result ≡ is_lt (slice_cmp nat_cmp (text_at items.now place) text.now) }
 {
     items[place].range().as_str().as_bytes().cmp(text).is_lt()
-}
-
-/// Whether the item's range is the text.
-fn is_range(item: &Item, text: &[u8]) -> bool
-    ensures { result ≡ bytes_eq item.now.range text.now }
-{
-    item.range().as_str().as_bytes() == text
 }
 
 /// The places of the items in the order of their ranges' bytes.

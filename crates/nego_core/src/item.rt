@@ -1,5 +1,6 @@
 //! An item of a priority list: a range with its weight.
 ghost use Rattle.std.specs.Prelude.{◌≡◌, ◌≤◌, ◌↔◌, IsTrue};
+ghost use Rattle.std.specs.Str.{bytes_eq};
 ghost use Rattle.nego_core.specs.Deciding.{Matches};
 ghost use Rattle.lang_core.specs.Text.{pieces};
 ghost use Rattle.lang_core.specs.Matching.{specificity};
@@ -69,6 +70,13 @@ impl Item {
         ensures small { result ≤ 1000 }
     {
         self.weight
+    }
+
+    /// Whether the range has this text.
+    pub(crate) fn is_range(&self, text: &[u8]) -> bool
+        ensures { result ≡ bytes_eq self.now.range text.now }
+    {
+        self.range.as_str().as_bytes() == text
     }
 
     /// Whether the range matches the tag, whose first byte is known.

@@ -37,6 +37,7 @@ mod fault;
 mod field;
 mod filtering;
 mod fingerprint;
+mod hashed_ranges;
 mod index;
 mod item;
 mod lang_set;

@@ -67,7 +67,7 @@ pub(crate) fn named_refuse(list: &PriorityList, text: &str) -> bool
         return false;
     }
     let items = list.items();
-    match best_named(items, list.places(), text.as_bytes()) {
+    match best_named(items, list.index(), text.as_bytes()) {
         Some(best) => items[best.place].weight() == 0,
         None => false,
     }

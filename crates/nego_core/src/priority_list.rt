@@ -11,7 +11,7 @@ ghost use Rattle.nego_core.specs.Deciding.{IsBest, Matches, IsDeciding, IsDecide
 ghost use Rattle.nego_core.specs.Deciding.{IsDecidingWeight, DecidesLang};
 ghost use Rattle.nego_core.specs.LookupOrder.{AreOrderKeys};
 ghost use Rattle.nego_core.specs.Unweighted.{AllPositive};
-ghost use Rattle.nego_core.specs.Index.{IsRangeIndex};
+ghost use Rattle.nego_core.specs.Index.{IsIndex};
 ghost use Rattle.nego_core.specs.Field.{IsField, IsAccept, IsAcceptRanges, IsOfOneKind};
 ghost use Rattle.nego_core.specs.Field.{RefusesField};
 ghost use Rattle.nego_core.specs.declared.scheme.Scheme.TheVariants.{Basic, Extended};
@@ -126,15 +126,11 @@ impl PriorityList {
         &self.order
     }
 
-    /// The places of the items in the order of their ranges' bytes, where the items are many and
-    /// were read as basic ranges.
-    pub(crate) fn places(&self) -> Option<&[usize]>
-        ensures { IfSome result (λ places. IsRangeIndex self.now places.now) }
+    /// What makes questions fast, where the items are many.
+    pub(crate) fn index(&self) -> Option<&Index>
+        ensures { IfSome result (λ index. IsIndex self.now index.now) }
     {
-        match &self.index {
-            Some(Index::Ranges(places)) => Some(places),
-            _ => None,
-        }
+        self.index.as_ref()
     }
 
     /// Whether an item may have weight 0, and so refuse what it decides.
@@ -149,11 +145,11 @@ impl PriorityList {
         ensures { IsBest (λ _ i. Matches scheme (pieces i.range) (pieces tag.now)) self.now result }
     {
         match (scheme, &self.index) {
-            (Scheme::Basic, Some(Index::Ranges(places))) => {
-                best_basic(&self.items, Some(places), tag.as_str().as_bytes())
-            }
             (Scheme::Extended, Some(Index::Chains(chains))) => {
                 best_extended(&self.items, chains, tag)
+            }
+            (Scheme::Basic, Some(Index::Buckets(_) | Index::Ranges(_))) => {
+                best_basic(&self.items, self.index(), tag.as_str().as_bytes())
             }
             _ => best_of(&self.items, scheme, tag),
         }

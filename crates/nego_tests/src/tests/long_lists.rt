@@ -21,6 +21,10 @@ const DECIDED: &str =
 zh-Hant-HK|6 1000\nzh-Latn|7 1000\nit-CH|12 0\nsv|16 100\nes-419|8 500\nsr-Cyrl|16 100
 sr-Latn-RS|17 1000\nden|16 100\nnl-BE|20 600\nnl-NL|21 0\nx-de|16 100\ni-klingon|16 100";
 
+/// 24 items, of which 20 have one range, the first of them at 1.
+const REPEATED: &str =
+    "fr, de;q=0, de, de, de, de, de, de, de, de, de, de, de, de, de, de, de, de, de, de, de, de-CH;q=0.5, *;q=0.1, fr;q=0.9";
+
 #[test]
 fn decided_by_basic(rt: HostRuntime) -> Result<(), Fail> {
     let list = accept(&rt, FIELD)?;
@@ -30,6 +34,17 @@ fn decided_by_basic(rt: HostRuntime) -> Result<(), Fail> {
         &list,
         Scheme::Basic,
         "de-Latn-CH|0 1000\nen-Latn-GB|4 800",
+    )
+}
+
+#[test]
+fn decided_where_one_range_is_repeated(rt: HostRuntime) -> Result<(), Fail> {
+    let list = accept(&rt, REPEATED)?;
+    decides(
+        &rt,
+        &list,
+        Scheme::Basic,
+        "de|1 0\nde-AT|1 0\nde-CH-1996|21 500\nfr-FR|0 1000\nden|22 100",
     )
 }
 

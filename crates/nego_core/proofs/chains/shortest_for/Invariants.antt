@@ -8,4 +8,4 @@ use Rattle.nego_core.proofs.chains.shortest_for.Given as goal
 abbrev pub invariant-loop-subtag : goal.invariant-loop-subtag
 invariant-loop-subtag l =
     AreAmong (subtags_left l.subtag-iterator) (pieces l.range)
-    × MayStandIn (pieces l.range) l.shortest × (l.shortest < 1025)
+    × MayStandIn (pieces l.range) l.shortest × (l.shortest < 8193)

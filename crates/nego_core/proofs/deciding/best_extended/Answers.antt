@@ -11,12 +11,12 @@ use Rattle.nego_core.proofs.deciding.best_extended.Goals as goal
 
 pub loop-subtag-init : goal.loop-subtag-init
 loop-subtag-init c = (
-  subst (λ (left : List (List ℕ)). IsTableSoFar chain_of 1024 (pieces c.args.tag.now) left
-      (replicate 1024 false))
+  subst (λ (left : List (List ℕ)). IsTableSoFar chain_of 8192 (pieces c.args.tag.now) left
+      (replicate 8192 false))
       (sym (ap subtags_left c.into_iter-subtag-iterator.ensures.into_iter_gives
       ∙ c.subtags-subtag-items.ensures))
-      (empty_table chain_of 1024 (pieces c.args.tag.now) (replicate 1024 false)
-      (length-replicate 1024 false)),
+      (empty_table chain_of 8192 (pieces c.args.tag.now) (replicate 8192 false)
+      (length-replicate 8192 false)),
   λ numbers h.
       last_asked (λ i. Extended (pieces i.range) (pieces c.args.tag.now)) c.args.items.now numbers
       c.best_in-best.result (c.best_in-best.ensures numbers h),
@@ -24,7 +24,7 @@ loop-subtag-init c = (
 
 pub loop-subtag-preserved-then-not-asked-chain : goal.loop-subtag-preserved-then-not-asked-chain
 loop-subtag-preserved-then-not-asked-chain c = (
-  one_more chain_of 1024 (pieces c.args.tag.now) (subtags_left c.next.new.self) c.in-Some.subtag.now
+  one_more chain_of 8192 (pieces c.args.tag.now) (subtags_left c.next.new.self) c.in-Some.subtag.now
       c.chain_of-chain.result c.loop-subtag.asked
       (rw c.in-Some.ensures.steps at c.loop-subtag.invariant.0) c.chain_of-chain.ensures.chain
       c.chain_of-chain.ensures.within,
@@ -40,8 +40,8 @@ pub returns : goal.returns
 returns c =
     all_asked c.args.items.now c.requires.0 (pieces c.args.tag.now) c.loop-subtag.asked
     c.loop-subtag.best c.requires.1.numbers_ok
-    (whole_table chain_of 1024 (pieces c.args.tag.now) c.loop-subtag.asked
+    (whole_table chain_of 8192 (pieces c.args.tag.now) c.loop-subtag.asked
     (subst
-    (λ (left : List (List ℕ)). IsTableSoFar chain_of 1024 (pieces c.args.tag.now) left
+    (λ (left : List (List ℕ)). IsTableSoFar chain_of 8192 (pieces c.args.tag.now) left
     c.loop-subtag.asked) c.in-None.ensures.steps.0 c.loop-subtag.invariant.0))
     (c.loop-subtag.invariant.1 c.requires.0 c.requires.1)

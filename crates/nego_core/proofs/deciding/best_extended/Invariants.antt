@@ -10,7 +10,7 @@ use Rattle.nego_core.proofs.deciding.best_extended.Given as goal
 
 abbrev pub invariant-loop-subtag : goal.invariant-loop-subtag
 invariant-loop-subtag l =
-    IsTableSoFar chain_of 1024 (pieces l.tag) (subtags_left l.subtag-iterator) l.asked
+    IsTableSoFar chain_of 8192 (pieces l.tag) (subtags_left l.subtag-iterator) l.asked
     × ((numbers : List ℕ) → AreLinked l.items numbers l.chains
     → IsBest (FitsAmong (λ i. Extended (pieces i.range) (pieces l.tag)) numbers l.asked) l.items
     l.best)
