@@ -6,6 +6,7 @@ pub mod ElementLaws
 pub mod FieldWalk
 pub mod OverlongLaws
 pub mod SeparatorLaws
+pub mod RangeEndLemmas
 pub mod FieldLaws
 pub mod FieldUnique
 pub mod LenientLaws

@@ -13,17 +13,13 @@ use Rattle.lang_core.proofs.PiecesLaws.{pieces_whole, cut_of}
 use Rattle.nego_core.proofs.Basics.{element_at}
 use Rattle.nego_core.proofs.ElementLaws.{range_is_sized, tail_ends}
 use Rattle.nego_core.specs.Blanks.{is_plain, EndsPlain}
-use Rattle.nego_core.specs.Element.{IsStart, is_inner, BeginsOverlong}
+use Rattle.nego_core.specs.Element.{IsStart, is_inner, BeginsOverlong, EndsInner}
 use Rattle.nego_core.specs.Item.{Item}
 use Rattle.nego_core.specs.Field.{IsFirstPiece}
 use Rattle.nego_core.specs.declared.scheme.Scheme.{Scheme}
 
--- a text begins with what ends a range, or is empty
-abbrev EndsInner : List ℕ → Type 0
-EndsInner [] = Unit {0}
-EndsInner (b ∷ text) = is_inner b ≡ false
-
-ends_early : (front rest : List ℕ) (n : ℕ) → length front < n → n ≤ length (front ++ rest)
+-- Where fewer bytes are before what ends a range, not so many bytes at the front end no range.
+pub ends_early : (front rest : List ℕ) (n : ℕ) → length front < n → n ≤ length (front ++ rest)
     → EndsInner rest → list_all is_inner (take n (front ++ rest)) ≡ true → ⊥
 ends_early [] [] n low high e h = omega arith
 ends_early [] (b ∷ rest) zero low high e h = omega arith
@@ -34,7 +30,8 @@ ends_early (x ∷ front) rest (suc n) low high e h =
     ends_early front rest n (omega arith) (omega arith) e
     (and_parts (is_inner x) (list_all is_inner (take n (front ++ rest))) h).1
 
-stop_ends : (b : ℕ) → is_plain b ≡ false → is_inner b ≡ false
+-- A stop ends a range.
+pub stop_ends : (b : ℕ) → is_plain b ≡ false → is_inner b ≡ false
 stop_ends b h = rw h refl
 
 ends_both : (rest more : List ℕ) → EndsPlain rest → EndsInner more → EndsInner (rest ++ more)

@@ -210,7 +210,8 @@ cut_shorter rest piece after f some = elim f [
   | inr e ↦ (let none : length after ≡ 0 = ap length e.1 in omega arith)
 ]
 
-first_byte : (b : ℕ) (rest piece : List ℕ) (more : List (List ℕ)) → (b == 44) ≡ false
+-- A text that begins with another byte than a comma has a first piece that begins with it.
+pub first_byte : (b : ℕ) (rest piece : List ℕ) (more : List (List ℕ)) → (b == 44) ≡ false
     → pieces_by 44 (b ∷ rest) ≡ piece ∷ more → (tail : List ℕ) × (piece ≡ b ∷ tail)
 unfolding pieces_by
 first_byte b rest piece more other e =

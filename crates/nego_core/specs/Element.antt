@@ -1,4 +1,5 @@
-use Rattle.std.specs.Prelude.{ℕ, ◌≡◌, ◌<◌, ◌==◌, ◌&&◌, not, Bool, IsTrue, List, ◌++◌, length, take}
+use Rattle.std.specs.Prelude.{ℕ, ◌≡◌, ◌<◌, ◌≤◌, ◌==◌, ◌&&◌, not, Bool, IsTrue, List, ◌++◌, length}
+use Rattle.std.specs.Prelude.{false, take, drop, [], ◌∷◌}
 use Rattle.std.specs.Prelude.{Option, Some, None, Result, Ok, Err}
 use Rattle.std.specs.Str.{str_to_ascii_lowercase}
 use Rattle.std.specs.List.{list_all}
@@ -6,7 +7,7 @@ use Rattle.lang_core.specs.Grammar.{BasicRange, ExtendedRange}
 use Rattle.lang_core.specs.Range.{IsRange}
 use Rattle.lang_core.specs.declared.fault.LangFault.{LangFault}
 use Rattle.lang_core.specs.declared.fault.LangFault.TheVariants as lang
-use Rattle.nego_core.specs.Blanks.{AreBlanks, is_plain}
+use Rattle.nego_core.specs.Blanks.{AreBlanks, is_plain, EndsPlain}
 use Rattle.nego_core.specs.Weight.{IsWeight, IsNoWeight, IsTail}
 use Rattle.nego_core.specs.Item.{Item}
 use Rattle.nego_core.specs.declared.scheme.Scheme.{Scheme}
@@ -60,7 +61,24 @@ HasStart scheme text = (item : Item) × IsStart scheme text item
 abbrev pub is_inner : ℕ → Bool
 is_inner b = is_plain b && not (b == 44)
 
--- more bytes than a range has stand at the front before one could end
+-- a text begins with what ends a range, or is empty
+abbrev pub EndsInner : List ℕ → Type 0
+EndsInner [] = Unit {0}
+EndsInner (b ∷ text) = is_inner b ≡ false
+
+-- so many bytes at the front end no range, where of more than a range has only one more is counted
+pub record IsRangeEnd (text : List ℕ) (end : ℕ) : Type 0 where
+  pub within : end ≤ length text
+  pub most : end ≤ 256
+  pub inner : IsTrue (list_all is_inner (take end text))
+  pub ends : end < 256 → EndsInner (drop end text)
+
+-- bytes that end no range, and what follows them, where they are not more than a range has
+pub record IsBegun (range tail : List ℕ) : Type 0 where
+  pub inner : IsTrue (list_all is_inner range)
+  pub ends : length range < 256 → EndsPlain tail
+
+-- more bytes than a range has are at the front before one could end
 abbrev pub BeginsOverlong : List ℕ → Type 0
 BeginsOverlong text = (255 < length text) × IsTrue (list_all is_inner (take 256 text))
 

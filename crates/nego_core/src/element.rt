@@ -1,16 +1,15 @@
 //! An element of a field: a range with its weight (RFC 9110 section 12.5.4).
-ghost use Rattle.std.specs.Prelude.{◌≡◌, ◌≤◌, ◌↔◌, IsTrue, MatchOption, MatchResult, IfSome, Some};
-ghost use Rattle.std.specs.List.{list_all};
+ghost use Rattle.std.specs.Prelude.{◌≡◌, ◌≤◌, ◌++◌, MatchOption, MatchResult, IfSome, Some};
 ghost use Rattle.std.specs.Str.{str_to_ascii_lowercase};
 ghost use Rattle.lang_core.specs.Range.{IsRange};
 ghost use Rattle.nego_core.specs.Basics.{IsTheOne};
 ghost use Rattle.nego_core.specs.Weight.{IsTail};
 ghost use Rattle.nego_core.specs.Element.{RangeGrammar, WeightGrammar, IsStart, HasStart};
-ghost use Rattle.nego_core.specs.Element.{fitting_range, is_inner, BeginsOverlong};
+ghost use Rattle.nego_core.specs.Element.{fitting_range, is_inner, IsBegun, IsRangeEnd};
 ghost use Rattle.nego_core.specs.Item.{Item};
 ghost use Rattle.nego_core.specs.declared.fault.NegoFault.TheVariants.{NoMemory};
 
-use crate::blanks::{cut_token, is_stop};
+use crate::blanks::is_stop;
 use crate::fault::NegoFault;
 use crate::item::Item;
 use crate::scheme::Scheme;
@@ -19,21 +18,23 @@ use lang_core::{LangFault, Range};
 use std::alloc::Global;
 
 /// The most bytes that a range has.
-const MAX_RANGE_LEN: usize = 255;
+pub(crate) const MAX_RANGE_LEN: usize = 255;
 
-/// The item of an element that begins the text and that blanks alone follow.
+/// The item of an element that begins with these bytes, before the first that ends a range, and
+/// goes on with the tail, at whose end blanks may be.
 pub(crate) fn read_item(
     alloc: Global,
     scheme: Scheme,
-    text: &[u8],
+    range: &[u8],
+    tail: &[u8],
 ) -> Result<Option<Item>, NegoFault>
-    ensures { MatchResult result
-        (λ found. MatchOption found ((item : Item) → ¬ IsStart scheme text.now item)
-        (IsStart scheme text.now))
-        (λ fault. (fault ≡ NoMemory) × HasStart scheme text.now) }
+    requires { IsBegun range.now tail.now }
+    ensures { let text = range.now ++ tail.now in MatchResult result
+        (λ found. MatchOption found ((item : Item) → ¬ IsStart scheme text item)
+        (IsStart scheme text))
+        (λ fault. (fault ≡ NoMemory) × HasStart scheme text) }
 {
-    let (range, rest) = cut_token(text);
-    let Some(weight) = read_weight_of(scheme, rest) else {
+    let Some(weight) = read_weight_of(scheme, tail) else {
         return Ok(None);
     };
     match read_range(alloc, scheme, range)? {
@@ -42,12 +43,17 @@ pub(crate) fn read_item(
     }
 }
 
-/// Whether no element begins the text, since more bytes than a range may have come before an
-/// element could end.
-pub(crate) fn begins_overlong(text: &[u8]) -> bool
-    ensures { IsTrue result ↔ BeginsOverlong text.now }
+/// How many bytes at the front end no range. Of more than a range may have, one more is counted.
+pub(crate) fn range_end(text: &[u8]) -> usize
+    ensures { IsRangeEnd text.now result }
 {
-    text.len() > MAX_RANGE_LEN && all_inner(&text[..MAX_RANGE_LEN + 1])
+    let most = text.len().min(MAX_RANGE_LEN + 1);
+    for end in 0..most {
+        if !is_inner(text[end]) {
+            return end;
+        }
+    }
+    most
 }
 
 /// The range that the text is under the scheme, if it is one.
@@ -90,11 +96,4 @@ fn is_inner(byte: u8) -> bool
     ensures { result ≡ is_inner byte }
 {
     !is_stop(byte) && byte != b','
-}
-
-/// Whether nothing in the text ends a range.
-fn all_inner(text: &[u8]) -> bool
-    ensures { result ≡ list_all is_inner text.now }
-{
-    text.iter().all(|b| is_inner(*b))
 }

@@ -1,12 +1,12 @@
 //! A field: elements between commas (RFC 9110 section 5.6.1), and what becomes of malformed ones.
-ghost use Rattle.std.specs.Prelude.{◌≡◌, ◌≤◌, length, MatchResult, ◌==◌, position};
+ghost use Rattle.std.specs.Prelude.{◌≡◌, ◌≤◌, length, MatchResult, ◌==◌, position, ◌++◌, ◌∷◌, []};
 ghost use Rattle.nego_core.specs.Field.{IsField, RefusesField, is_separator, skip_separators};
 ghost use Rattle.nego_core.specs.Field.{IsFirstPiece};
-ghost use Rattle.nego_core.specs.declared.fault.NegoFault.TheVariants.{FieldMalformed};
+ghost use Rattle.nego_core.specs.declared.fault.NegoFault.TheVariants.{FieldMalformed, NoMemory};
 ghost use Rattle.nego_core.specs.declared.field.Malformed.TheVariants.{Refused, PassedOver};
 
 use crate::blanks::is_blank;
-use crate::element::{begins_overlong, read_item};
+use crate::element::{MAX_RANGE_LEN, range_end, read_item};
 use crate::fault::NegoFault;
 use crate::item::Item;
 use crate::scheme::Scheme;
@@ -14,6 +14,9 @@ use std::alloc::Global;
 
 /// The longest field that is read.
 const MAX_FIELD_LEN: usize = 65535;
+
+/// As many items as most fields have.
+const USUAL_ITEMS: usize = 12;
 
 const COMMA: u8 = b',';
 
@@ -48,18 +51,31 @@ pub(crate) fn read_items(
     let mut rest = skip_separators(field);
     while !rest.is_empty() {
         let offset = field.len() - rest.len();
-        if begins_overlong(rest) {
+        let end = range_end(rest);
+        if end > MAX_RANGE_LEN {
             // Its end need not be found where it refuses the field.
             pass_over(malformed, offset)?;
         }
-        let (element, after) = cut_piece(rest);
-        match read_item(alloc, scheme, element)? {
-            Some(item) => items.push(item)?,
+        let (tail, after) = cut_piece(&rest[end..]);
+        match read_item(alloc, scheme, &rest[..end], tail)? {
+            Some(item) => push_item(&mut items, item)?,
             None => pass_over(malformed, offset)?,
         }
         rest = skip_separators(after);
     }
     Ok(items)
+}
+
+/// Adds an item. The first makes room for as many as most fields have.
+fn push_item(items: &mut Vec<Item>, item: Item) -> Result<(), NegoFault>
+    ensures { MatchResult result (λ _. items.new.items ≡ items.old.items ++ item ∷ [])
+        (λ fault. fault ≡ NoMemory) }
+{
+    if items.is_empty() {
+        items.reserve(USUAL_ITEMS)?;
+    }
+    items.push(item)?;
+    Ok(())
 }
 
 /// Goes on after a malformed element, which begins at the offset, or refuses it.
