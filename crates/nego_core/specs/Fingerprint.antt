@@ -26,9 +26,10 @@ head_from (suc k) (b ∷ text) = if nat_lt b 256 then
 unfoldable pub head_of : List ℕ → ℕ
 head_of text = head_from 8 text
 
--- a number of a text, below 1024, by its first two bytes
+-- a number of a text, below 1024, by its first two bytes and its length
 unfoldable pub slot_of : List ℕ → ℕ
-slot_of text = slice_index text 0 % 32 * 32 + slice_index text 1 % 32
+slot_of text =
+    (slice_index text 0 % 32 * 32 + slice_index text 1 % 32 + length text % 32 * 173) % 1024
 
 -- a number of a subtag, below 65,536
 abbrev pub fingerprint_step : ℕ → ℕ → ℕ

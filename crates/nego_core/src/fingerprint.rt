@@ -28,7 +28,7 @@ pub(crate) fn head_of(text: &str) -> u64
     ])
 }
 
-/// The slot of a text, by its first two bytes, which are letters of most languages.
+/// The slot of a text, by its first two bytes, which are letters of most languages, and its length.
 #[tactic(auto, unfolding(crate::specs::Fingerprint::slot_of))]
 pub(crate) fn slot_of(text: &[u8]) -> usize
     ensures slot { result ≡ slot_of text.now }
@@ -36,7 +36,7 @@ pub(crate) fn slot_of(text: &[u8]) -> usize
 {
     let first = usize::from(byte_at(text, 0));
     let second = usize::from(byte_at(text, 1));
-    first % 32 * 32 + second % 32
+    (first % 32 * 32 + second % 32 + text.len() % 32 * 173) % 1024
 }
 
 /// The hash of all bytes of a subtag.
