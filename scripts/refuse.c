@@ -1,5 +1,5 @@
-/* Preloaded by scripts/command-growths: refuses the Nth allocation of a program, counted from 1, N from the variable
- * REFUSED_ALLOCATION. Where N is 0 it refuses none, and writes at the end how many there were. */
+/* Preloaded by scripts/command-allocation-failures: refuses the Nth allocation of a program, counted from 1, N from
+ * the variable REFUSED_ALLOCATION. Where N is 0 it refuses none, and writes at the end how many there were. */
 #define _GNU_SOURCE
 #include <dlfcn.h>
 #include <errno.h>
