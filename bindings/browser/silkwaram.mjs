@@ -257,7 +257,7 @@ class Calls {
     }
   }
 
-  // Makes a call, and returns what it told; what is refused is thrown.
+  // Makes a call, and returns what it reports; what is refused is thrown.
   #call(name, words) {
     const status = this.#status(name, words);
     const told = { name, status, ...this.#told() };
@@ -297,7 +297,7 @@ class Calls {
     this.#within(most, (at) => this.#call(name, this.#placed(words, at)[0]));
   }
 
-  // Calls what answers a text, in the room that is kept or in as much as the answer needs. Returns what it told, and
+  // Calls what answers a text, in the room that is kept or in as much as the answer needs. Returns what it reports, and
   // what `read` makes of the bytes.
   #asked(name, words, read) {
     const most = this.#texts(words).reduce((sum, it) => sum + mostBytes(it), 0);

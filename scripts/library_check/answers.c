@@ -1,5 +1,5 @@
 /* Answers the questions of standard input by the library, a line each: the name of a call, its flags, three texts as
- * digits base 16 ("-" where one has no bytes), and a place. It prints the status, what was told, and the answer.
+ * digits base 16 ("-" where one has no bytes), and a place. It prints the status, the fields of `told`, and the answer.
  *
  * Each is asked with no room, with room that is too small by one byte, and with just the room that is needed. All three
  * have to tell the same, and the first two must leave the buffer alone. */

@@ -52,7 +52,7 @@ test('memory of forgotten shares is given back', { skip: !globalThis.gc && 'need
   assert.ok(grown < 50, `${grown} MiB`);
 });
 
-// (which it is, as the collector is told what open sites take)
+// (which it is, as the collector knows what open sites take)
 test('memory of forgotten sites is given back by itself', async () => {
   const grown = await growth(async (count) => {
     for (let at = 0; at < count; at++) {

@@ -111,7 +111,7 @@ def ask_asgi(app, lines=(), kind="http"):
 
 
 def wsgi_app(status=200, headers=(), text=None):
-    """An application that answers with the language that it is told, or with a text."""
+    """An application that answers with the language that it is given, or with a text."""
 
     def app(environ, start_response):
         has_type = [] if status in (204, 304) else [("Content-Type", "text/plain")]

@@ -51,7 +51,7 @@ ASGIApp = Callable[[Scope, Receive, Send], Awaitable[None]]
 
 
 class _Reader(NamedTuple):
-    """What an application is told of its reader, under its names, and the language alone."""
+    """What an application gets of its reader, under its names, and the language alone."""
 
     told: Dict[str, Any]
     language: Optional[str]
