@@ -19,11 +19,12 @@ pub mod JoinTurns
 pub mod JoinedCounts
 pub mod JoinedLatest
 pub mod KeyPlaces
+pub mod KnownLatestLemmas
+pub mod LanguageLemmas
 pub mod LastKeys
 pub mod LatestStamps
 pub mod LatestTaken
 pub mod LeastDeltas
-pub mod LanguageLemmas
 pub mod Lengths
 pub mod LentLists
 pub mod LiveLabels

@@ -16,6 +16,7 @@ pub mod Equality
 pub mod Faulty
 pub mod Flat
 pub mod Held
+pub mod KnownLatest
 pub mod Languages
 pub mod Latest
 pub mod Lent

@@ -183,7 +183,7 @@ impl Catalogue {
         }
         match self.write_copy(alloc, id, lang, cell) {
             Ok(()) => Ok(()),
-            Err(_) => Err(CataFault::NoMemory),
+            Err(AllocError) => Err(CataFault::NoMemory),
         }
     }
 
@@ -202,7 +202,7 @@ impl Catalogue {
             Some((place, stamp)) => Err(CataFault::StampReused { place, stamp }),
             None => match self.join(alloc, other) {
                 Ok(()) => Ok(()),
-                Err(_) => Err(CataFault::NoMemory),
+                Err(AllocError) => Err(CataFault::NoMemory),
             },
         }
     }

@@ -1,15 +1,60 @@
-//! The latest stamp of a catalogue.
+//! The latest stamp of a catalogue, and what a site knows of it.
 
 ghost use Rattle.std.specs.Prelude.{◌≡◌, Some};
 ghost use Rattle.cell_core.specs.Cells.{joined_stamps};
 ghost use Rattle.cell_core.specs.Maps.{joined_if_both};
-ghost use Rattle.cata_core.specs.Latest.{latest_of, IsLatest};
+ghost use Rattle.cata_core.specs.Latest.{latest_of};
 
 use crate::catalogue::Catalogue;
 use cell_core::Stamp;
 
+/// What is known of the latest stamp of a catalogue, without a walk over its cells.
+#[derive(Clone, Copy, Debug)]
+pub enum Latest {
+    /// It is this one; none where there are no cells.
+    Known(Option<Stamp>),
+    /// It takes a walk over the cells.
+    Unknown,
+}
+
+impl Latest {
+    ghost use Rattle.cata_core.specs.KnownLatest.{IsKnownLatest, known_with};
+
+    /// The latest stamp of these cells, of which this is known.
+    pub fn of(self, catalogue: &Catalogue) -> Option<Stamp>
+        requires { IsKnownLatest self catalogue.now }
+        ensures { result ≡ latest_of catalogue.now }
+    {
+        match self {
+            Latest::Known(latest) => latest,
+            Latest::Unknown => latest_of(catalogue),
+        }
+    }
+
+    /// What is known when a cell with this stamp joins.
+    pub fn with(self, stamp: Stamp) -> Latest
+        ensures { result ≡ known_with self (Some stamp) }
+    {
+        match self {
+            Latest::Known(latest) => Latest::Known(Some(latest_with(latest, stamp))),
+            Latest::Unknown => Latest::Unknown,
+        }
+    }
+
+    /// What is known when the cells of another catalogue join, of which that is known.
+    pub fn with_cells(self, other: &Catalogue, latest: Latest) -> Latest
+        requires { IsKnownLatest latest other.now }
+        ensures { result ≡ known_with self (latest_of other.now) }
+    {
+        match self {
+            Latest::Known(own) => Latest::Known(latest_of_both(own, latest.of(other))),
+            Latest::Unknown => Latest::Unknown,
+        }
+    }
+}
+
 /// The latest stamp of the cells; none where there are no cells.
-pub fn latest_of(catalogue: &Catalogue) -> Option<Stamp>
+fn latest_of(catalogue: &Catalogue) -> Option<Stamp>
     ensures { result ≡ latest_of catalogue.now }
 {
     let mut latest = None;
@@ -20,7 +65,7 @@ pub fn latest_of(catalogue: &Catalogue) -> Option<Stamp>
 }
 
 /// The later of the stamps, where there are any.
-pub fn latest_of_both(first: Option<Stamp>, second: Option<Stamp>) -> Option<Stamp>
+fn latest_of_both(first: Option<Stamp>, second: Option<Stamp>) -> Option<Stamp>
     ensures { result ≡ joined_if_both joined_stamps first second }
 {
     match second {

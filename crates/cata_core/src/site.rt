@@ -14,7 +14,7 @@ use crate::cata_fault::CataFault;
 use crate::catalogue::Catalogue;
 use crate::delta::{Delta, missing_cells};
 use crate::edit::Edit;
-use crate::latest::{latest_of, latest_of_both};
+use crate::latest::Latest;
 use crate::summary::Summary;
 use cell_core::{Cell, Label, MessageId, SiteName, Stamp};
 use lang_core::Lang;
@@ -26,22 +26,22 @@ use std::marker::Model;
 pub struct Site {
     own_name: SiteName,
     catalogue: Catalogue,
-    latest: Option<Stamp>,
+    latest: Latest,
 }
 
 impl Model for Site {
-    ghost use Rattle.std.specs.Prelude.{◌≡◌};
-    ghost use Rattle.cata_core.specs.Latest.{latest_of};
+    ghost use Rattle.cata_core.specs.KnownLatest.{IsKnownLatest};
     ghost use Rattle.cata_core.specs.Sites.{SiteState};
 
     ghost Value = { SiteState };
 
     ghost view = { λ s. record { name = s.own_name; cells = s.catalogue } };
 
-    ghost invariant = { λ s. s.latest ≡ latest_of s.catalogue };
+    ghost invariant = { λ s. IsKnownLatest s.latest s.catalogue };
 }
 
 impl Site {
+    ghost use Rattle.cata_core.specs.KnownLatest.{IsKnownLatest};
     ghost use Rattle.cata_core.specs.Sites.{SiteState, RefusesEdit, RefusesDelta, IsLeftSite};
     ghost use Rattle.cata_core.specs.Summary.{SummaryState};
 
@@ -52,19 +52,19 @@ impl Site {
         Site {
             own_name: name,
             catalogue: Catalogue::new(alloc),
-            latest: None,
+            latest: Latest::Known(None),
         }
     }
 
-    /// The site of this name with this catalogue.
+    /// The site of this name with this catalogue. It does not walk over the cells: that is left to
+    /// [`Site::last`] and the first edit.
     pub fn from_catalogue(name: SiteName, catalogue: Catalogue) -> Site
         ensures { result ≡ record { name = name; cells = catalogue } }
     {
-        let latest = latest_of(&catalogue);
         Site {
             own_name: name,
             catalogue,
-            latest,
+            latest: Latest::Unknown,
         }
     }
 
@@ -73,6 +73,15 @@ impl Site {
         ensures { result ≡ self.now.name }
     {
         self.own_name
+    }
+
+    /// What is known of its latest stamp, without a walk.
+    pub(crate) fn latest(&self) -> Latest
+        ensures { IsKnownLatest result self.now.cells }
+    {
+        // By a pattern, so that an edit finds a line of its own.
+        let Site { latest, .. } = self;
+        *latest
     }
 
     /// Its catalogue.
@@ -102,14 +111,14 @@ impl Site {
 
     /// The latest stamp of its cells, deletions among them; none where it has no cell.
     ///
-    /// A key keeps its latest stamp, so this is the latest stamp that the site ever took in.
+    /// A key keeps its latest stamp, so this is the latest stamp that the site ever took in. It
+    /// walks over the cells where the site was made from a catalogue and not edited since, or a
+    /// merge was refused.
     pub fn last(&self) -> Option<Stamp>
         ensures value { result ≡ latest_of self.now.cells }
         ensures latest { IsLatest self.now.cells result }
     {
-        // By a pattern, so that an edit finds a line of its own.
-        let Site { latest, .. } = self;
-        *latest
+        self.latest.of(&self.catalogue)
     }
 
     /// Gives the key this label, and answers the stamp of the edit, which is greater than all
@@ -139,7 +148,7 @@ impl Site {
         let stamp = self.next_stamp(now)?;
         match self.write_label(alloc, id, lang, &stamp, label) {
             Ok(()) => Ok(stamp),
-            Err(_) => Err(CataFault::NoMemory),
+            Err(AllocError) => Err(CataFault::NoMemory),
         }
     }
 
@@ -168,7 +177,7 @@ impl Site {
         let stamp = self.next_stamp(now)?;
         match self.write_none(alloc, id, lang, &stamp) {
             Ok(()) => Ok(stamp),
-            Err(_) => Err(CataFault::NoMemory),
+            Err(AllocError) => Err(CataFault::NoMemory),
         }
     }
 
@@ -187,7 +196,7 @@ impl Site {
         ensures settled { IsSettledIn self.old.cells edit.now → IsOk result }
     {
         self.catalogue.apply(alloc, edit)?;
-        self.latest = latest_of_both(self.latest, Some(edit.cell().stamp()));
+        self.latest = self.latest.with(edit.cell().stamp());
         Ok(())
     }
 
@@ -249,17 +258,17 @@ impl Site {
         ensures fault { IfErr result (IsRefusal self.old.cells other.now) }
         ensures left { IfErr result (IsLeftSite self.old self.new other.now) }
     {
-        self.merge_with(alloc, other, latest_of(other))
+        self.merge_with(alloc, other, Latest::Unknown)
     }
 
-    /// Joins the cells of the catalogue, whose latest stamp is this.
+    /// Joins the cells of the catalogue, of whose latest stamp this is known.
     pub(crate) fn merge_with(
         &mut self,
         alloc: Global,
         other: &Catalogue,
-        latest: Option<Stamp>,
+        latest: Latest,
     ) -> Result<(), CataFault>
-        requires { latest ≡ latest_of other.now }
+        requires { IsKnownLatest latest other.now }
         ensures ok { OnOk result
             (self.new ≡ record { name = self.old.name; cells = joined self.old.cells other.now }) }
         ensures agree { OnOk result (Agree self.old.cells other.now) }
@@ -268,23 +277,23 @@ impl Site {
     {
         let result = self.catalogue.merge(alloc, other);
         self.latest = if result.is_ok() {
-            latest_of_both(self.latest, latest)
+            self.latest.with_cells(other, latest)
         } else {
             // Cells may have come in although memory ran out.
-            latest_of(&self.catalogue)
+            Latest::Unknown
         };
         result
     }
 
-    /// Joins the cells of the catalogue, which agrees, and whose latest stamp is this.
+    /// Joins the cells of the catalogue, which agrees, and of whose latest stamp this is known.
     pub(crate) fn join(
         &mut self,
         alloc: Global,
         other: &Catalogue,
-        latest: Option<Stamp>,
+        latest: Latest,
     ) -> Result<(), AllocError>
         requires agree { Agree self.old.cells other.now }
-        requires latest { latest ≡ latest_of other.now }
+        requires latest { IsKnownLatest latest other.now }
         ensures ok { OnOk result
             (self.new ≡ record { name = self.old.name; cells = joined self.old.cells other.now }) }
         ensures name { self.new.name ≡ self.old.name }
@@ -292,9 +301,9 @@ impl Site {
     {
         let result = self.catalogue.join(alloc, other);
         self.latest = if result.is_ok() {
-            latest_of_both(self.latest, latest)
+            self.latest.with_cells(other, latest)
         } else {
-            latest_of(&self.catalogue)
+            Latest::Unknown
         };
         result
     }
@@ -304,7 +313,7 @@ impl Site {
         ensures { MatchResult result (IsNext (latest_of self.now.cells) now self.now.name)
             (λ fault. (fault ≡ CataFault.ClockSpent) × RefusesEdit self.now now fault) }
     {
-        match Stamp::next(self.latest, now, self.own_name) {
+        match Stamp::next(self.last(), now, self.own_name) {
             Ok(stamp) => Ok(stamp),
             Err(_) => Err(CataFault::ClockSpent),
         }
@@ -377,7 +386,7 @@ impl Site {
     {
         let stamp = cell.stamp();
         self.catalogue.write(alloc, id, lang, cell)?;
-        self.latest = Some(stamp);
+        self.latest = Latest::Known(Some(stamp));
         Ok(())
     }
 }

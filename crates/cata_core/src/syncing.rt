@@ -7,7 +7,7 @@ ghost use Rattle.cata_core.specs.Sites.{SiteState, IsLeftSite};
 
 use crate::cata_fault::CataFault;
 use crate::site::Site;
-use std::alloc::Global;
+use std::alloc::{AllocError, Global};
 
 /// Gives both sites the join of their catalogues, so that both have equal ones.
 ///
@@ -29,9 +29,9 @@ pub fn sync(alloc: Global, first: &mut Site, second: &mut Site) -> Result<(), Ca
     ensures one_by_one { OnErr result
         ((second.new ≡ second.old) ⊎ (first.new.cells ≡ joined first.old.cells second.old.cells)) }
 {
-    first.merge_with(alloc, second.catalogue(), second.last())?;
-    match second.join(alloc, first.catalogue(), first.last()) {
+    first.merge_with(alloc, second.catalogue(), second.latest())?;
+    match second.join(alloc, first.catalogue(), first.latest()) {
         Ok(()) => Ok(()),
-        Err(_) => Err(CataFault::NoMemory),
+        Err(AllocError) => Err(CataFault::NoMemory),
     }
 }

@@ -6,5 +6,5 @@ use Rattle.cata_core.proofs.site.Site.last.Goals as goal
 
 pub returns-clause-latest : goal.returns-clause-latest
 returns-clause-latest c =
-    latest_is c.args.self.now.cells c.self.inside.latest
-    (c.self.invariant ∙ ap (λ (s : SiteState). latest_of s.cells) c.self.view_is)
+    latest_is c.args.self.now.cells c.of.result
+    (c.of.ensures ∙ ap (λ (s : SiteState). latest_of s.cells) c.self.view_is)
