@@ -2,7 +2,7 @@
 
 ghost use Rattle.std.specs.Prelude.{◌≡◌, IfOk};
 
-use cell_core::{Cell, Join, Key, MessageId};
+use cell_core::{Cell, Entry, MessageId};
 use lang_core::Lang;
 use std::alloc::{AllocError, Global};
 use std::marker::Model;
@@ -10,9 +10,7 @@ use std::marker::Model;
 /// A cell for a key, a message and a language. An edit whose cell has no label is a deletion.
 #[derive(Debug, Drop)]
 pub struct Edit {
-    id: MessageId,
-    lang: Lang,
-    cell: Cell,
+    entry: Entry<Cell>,
 }
 
 impl Model for Edit {
@@ -20,7 +18,7 @@ impl Model for Edit {
 
     ghost Value = { Entry };
 
-    ghost view = { λ e. ((e.id, e.lang), e.cell) };
+    ghost view = { λ e. e.entry };
 }
 
 impl Edit {
@@ -28,28 +26,30 @@ impl Edit {
     pub fn new(id: MessageId, lang: Lang, cell: Cell) -> Edit
         ensures { result ≡ ((id, lang), cell) }
     {
-        Edit { id, lang, cell }
+        Edit {
+            entry: Entry::new(id, lang, cell),
+        }
     }
 
     /// Its message.
     pub fn id(&self) -> &MessageId
         ensures { result.now ≡ self.now.0.0 }
     {
-        &self.id
+        self.entry.id()
     }
 
     /// Its language.
     pub fn lang(&self) -> &Lang
         ensures { result.now ≡ self.now.0.1 }
     {
-        &self.lang
+        self.entry.lang()
     }
 
     /// Its cell.
     pub fn cell(&self) -> &Cell
         ensures { result.now ≡ self.now.1 }
     {
-        &self.cell
+        self.entry.value()
     }
 
     /// An equal edit.
@@ -57,9 +57,7 @@ impl Edit {
         ensures { IfOk result (λ copied. copied ≡ self.now) }
     {
         Ok(Edit {
-            id: self.id.copy(alloc)?,
-            lang: self.lang.copy(alloc)?,
-            cell: self.cell.copy(alloc)?,
+            entry: self.entry.copy(alloc)?,
         })
     }
 }
