@@ -13,7 +13,6 @@ pub(crate) mod world;
 use crate::answer::Answers;
 use crate::catalogue::Catalogue;
 use crate::play_fault::PlayFault;
-use crate::runs::steps::take_step;
 use crate::runs::world::World;
 use crate::step::Step;
 use std::alloc::Global;
@@ -49,7 +48,7 @@ pub fn play(alloc: Global, sites: usize, steps: &[Step]) -> Result<Answers, Play
         answers: Vec::new(alloc),
     };
     for (number, step) in steps.iter().enumerate() {
-        take_step(&mut world, alloc, number, step)?;
+        world.take_step(alloc, number, step)?;
     }
     let answers = Answers::new(world.answers);
     Ok(answers)

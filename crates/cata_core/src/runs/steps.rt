@@ -1,4 +1,4 @@
-//! One function for each kind of step of a run.
+//! How the sites of a run go on by each kind of step.
 
 ghost use Rattle.std.specs.Prelude.{◌≡◌, [], ◌∷◌, IfErr, OnOk, length};
 ghost use Rattle.cata_core.specs.declared.step.Step.TheVariants.{Edit as EditStep, Merge};
@@ -24,37 +24,209 @@ use nego_core::{PriorityList, Scheme};
 use std::alloc::Global;
 use std::mem;
 
-/// One step of a run, with its number.
-pub(crate) fn take_step(
-    world: &mut World,
-    alloc: Global,
-    number: usize,
-    step: &Step,
-) -> Result<(), PlayFault>
-    requires { IsRunning (length world.old.sites.items) (held_in world.old) }
-    ensures ok { OnOk result (IsStepped world.old world.new step.now) }
-    ensures err { IfErr result
-        (IsFaultOf (length world.old.sites.items) (held_in world.old) number step.now) }
-{
-    match step {
-        Step::Edit { site, edit: made } => edit(world, alloc, number, *site, made),
-        Step::Merge { into, source } => merge(world, alloc, number, *into, *source),
-        Step::AskFilter {
-            site,
-            id,
-            scheme,
-            list,
-        } => ask_filter(world, alloc, number, *site, id, *scheme, list),
-        Step::AskLookup {
-            site,
-            id,
-            list,
-            default,
-        } => ask_lookup(world, alloc, number, *site, id, list, default),
-        Step::AskCells { site } => ask_cells(world, alloc, number, *site),
-        Step::Tell { site } => tell(world, alloc, number, *site),
-        Step::Post { site, told } => post(world, alloc, number, *site, *told),
-        Step::Deliver { post } => deliver(world, alloc, number, *post),
+impl World {
+    /// Goes on by one step of a run, whose number this is.
+    pub(crate) fn take_step(
+        &mut self,
+        alloc: Global,
+        number: usize,
+        step: &Step,
+    ) -> Result<(), PlayFault>
+        requires { IsRunning (length self.old.sites.items) (held_in self.old) }
+        ensures ok { OnOk result (IsStepped self.old self.new step.now) }
+        ensures err { IfErr result
+            (IsFaultOf (length self.old.sites.items) (held_in self.old) number step.now) }
+    {
+        match step {
+            Step::Edit { site, edit: made } => self.edit(alloc, number, *site, made),
+            Step::Merge { into, source } => self.merge(alloc, number, *into, *source),
+            Step::AskFilter {
+                site,
+                id,
+                scheme,
+                list,
+            } => self.ask_filter(alloc, number, *site, id, *scheme, list),
+            Step::AskLookup {
+                site,
+                id,
+                list,
+                default,
+            } => self.ask_lookup(alloc, number, *site, id, list, default),
+            Step::AskCells { site } => self.ask_cells(alloc, number, *site),
+            Step::Tell { site } => self.tell(alloc, number, *site),
+            Step::Post { site, told } => self.post(alloc, number, *site, *told),
+            Step::Deliver { post } => self.deliver(alloc, number, *post),
+        }
+    }
+
+    /// Applies an edit at a site.
+    fn edit(
+        &mut self,
+        alloc: Global,
+        number: usize,
+        site: usize,
+        edit: &Edit,
+    ) -> Result<(), PlayFault>
+        requires { IsRunning (length self.old.sites.items) (held_in self.old) }
+        ensures ok { OnOk result (IsStepped self.old self.new (EditStep site edit.now)) }
+        ensures err { IfErr result
+            (IsFaultOf (length self.old.sites.items) (held_in self.old) number
+            (EditStep site edit.now)) }
+    {
+        if site >= self.sites.len() {
+            return Err(PlayFault::NoSuchSite { step: number });
+        }
+        take_edit(&mut self.sites[site], alloc, number, edit)
+    }
+
+    /// Joins the cells of another site to those of a site; nothing is copied where both are one.
+    fn merge(
+        &mut self,
+        alloc: Global,
+        number: usize,
+        into: usize,
+        source: usize,
+    ) -> Result<(), PlayFault>
+        requires { IsRunning (length self.old.sites.items) (held_in self.old) }
+        ensures ok { OnOk result (IsStepped self.old self.new (Merge into source)) }
+        ensures err { IfErr result
+            (IsFaultOf (length self.old.sites.items) (held_in self.old) number
+            (Merge into source)) }
+    {
+        if into >= self.sites.len() || source >= self.sites.len() {
+            return Err(PlayFault::NoSuchSite { step: number });
+        }
+        if into == source {
+            return Ok(());
+        }
+        let mut own = mem::replace(&mut self.sites[into], Catalogue::new(alloc));
+        take_in(&mut own, alloc, number, &self.sites[source])?;
+        self.sites[into] = own;
+        Ok(())
+    }
+
+    /// Answers which live labels of a message at a site a list takes.
+    fn ask_filter(
+        &mut self,
+        alloc: Global,
+        number: usize,
+        site: usize,
+        id: &MessageId,
+        scheme: Scheme,
+        list: &PriorityList,
+    ) -> Result<(), PlayFault>
+        requires { IsRunning (length self.old.sites.items) (held_in self.old) }
+        ensures ok { OnOk result
+            (IsStepped self.old self.new (AskFilter site id.now scheme list.now)) }
+        ensures err { IfErr result
+            (IsFaultOf (length self.old.sites.items) (held_in self.old) number
+            (AskFilter site id.now scheme list.now)) }
+    {
+        if site >= self.sites.len() {
+            return Err(PlayFault::NoSuchSite { step: number });
+        }
+        let lent = self.sites[site].ask_filter(alloc, id, list, scheme)?;
+        let entries = lent.copy(alloc)?;
+        self.answers.push(Answer::Filter(entries))?;
+        Ok(())
+    }
+
+    /// Answers which live label of a message at a site a list looks up.
+    fn ask_lookup(
+        &mut self,
+        alloc: Global,
+        number: usize,
+        site: usize,
+        id: &MessageId,
+        list: &PriorityList,
+        default: &Option<Lang>,
+    ) -> Result<(), PlayFault>
+        requires { IsRunning (length self.old.sites.items) (held_in self.old) }
+        ensures ok { OnOk result
+            (IsStepped self.old self.new (AskLookup site id.now list.now default.now)) }
+        ensures err { IfErr result
+            (IsFaultOf (length self.old.sites.items) (held_in self.old) number
+            (AskLookup site id.now list.now default.now)) }
+    {
+        if site >= self.sites.len() {
+            return Err(PlayFault::NoSuchSite { step: number });
+        }
+        let lent = self.sites[site].ask_lookup(id, list, default.as_ref());
+        let reply = lent.copy(alloc)?;
+        self.answers.push(Answer::Lookup(reply))?;
+        Ok(())
+    }
+
+    /// Answers all cells of a site.
+    fn ask_cells(&mut self, alloc: Global, number: usize, site: usize) -> Result<(), PlayFault>
+        requires { IsRunning (length self.old.sites.items) (held_in self.old) }
+        ensures ok { OnOk result (IsStepped self.old self.new (AskCells site)) }
+        ensures err { IfErr result
+            (IsFaultOf (length self.old.sites.items) (held_in self.old) number (AskCells site)) }
+    {
+        if site >= self.sites.len() {
+            return Err(PlayFault::NoSuchSite { step: number });
+        }
+        let edits = Edits::of(alloc, &self.sites[site])?;
+        self.answers.push(Answer::Cells(edits))?;
+        Ok(())
+    }
+
+    /// Tells the summary of a site.
+    fn tell(&mut self, alloc: Global, number: usize, site: usize) -> Result<(), PlayFault>
+        requires { IsRunning (length self.old.sites.items) (held_in self.old) }
+        ensures ok { OnOk result (IsStepped self.old self.new (Tell site)) }
+        ensures err { IfErr result
+            (IsFaultOf (length self.old.sites.items) (held_in self.old) number (Tell site)) }
+    {
+        if site >= self.sites.len() {
+            return Err(PlayFault::NoSuchSite { step: number });
+        }
+        let name = SiteName::of_number(site as u32);
+        let summary = Summary::of(alloc, name, &self.sites[site])?;
+        self.told.push(ToldSummary::new(site, summary))?;
+        Ok(())
+    }
+
+    /// Posts the delta of a site against a summary that was told.
+    fn post(
+        &mut self,
+        alloc: Global,
+        number: usize,
+        site: usize,
+        told: usize,
+    ) -> Result<(), PlayFault>
+        requires { IsRunning (length self.old.sites.items) (held_in self.old) }
+        ensures ok { OnOk result (IsStepped self.old self.new (Post site told)) }
+        ensures err { IfErr result
+            (IsFaultOf (length self.old.sites.items) (held_in self.old) number (Post site told)) }
+    {
+        if site >= self.sites.len() {
+            return Err(PlayFault::NoSuchSite { step: number });
+        }
+        if told >= self.told.len() {
+            return Err(PlayFault::NoSuchPost { step: number });
+        }
+        let told = &self.told[told];
+        let cells = missing_cells(alloc, &self.sites[site], told.summary())?;
+        let posted = PostedDelta::new(told.teller(), cells);
+        self.posts.push(posted)?;
+        Ok(())
+    }
+
+    /// Delivers a posted delta to its addressee.
+    fn deliver(&mut self, alloc: Global, number: usize, post: usize) -> Result<(), PlayFault>
+        requires { IsRunning (length self.old.sites.items) (held_in self.old) }
+        ensures ok { OnOk result (IsStepped self.old self.new (Deliver post)) }
+        ensures err { IfErr result
+            (IsFaultOf (length self.old.sites.items) (held_in self.old) number (Deliver post)) }
+    {
+        if post >= self.posts.len() {
+            return Err(PlayFault::NoSuchPost { step: number });
+        }
+        let post = &self.posts[post];
+        let addressee = post.addressee();
+        take_in(&mut self.sites[addressee], alloc, number, post.cells())
     }
 }
 
@@ -97,173 +269,4 @@ fn take_in(
         Ok(()) => Ok(()),
         Err(fault) => Err(at_step(fault, step)),
     }
-}
-
-/// Applies an edit at a site.
-fn edit(
-    world: &mut World,
-    alloc: Global,
-    number: usize,
-    site: usize,
-    edit: &Edit,
-) -> Result<(), PlayFault>
-    requires { IsRunning (length world.old.sites.items) (held_in world.old) }
-    ensures ok { OnOk result (IsStepped world.old world.new (EditStep site edit.now)) }
-    ensures err { IfErr result
-        (IsFaultOf (length world.old.sites.items) (held_in world.old) number
-        (EditStep site edit.now)) }
-{
-    if site >= world.sites.len() {
-        return Err(PlayFault::NoSuchSite { step: number });
-    }
-    take_edit(&mut world.sites[site], alloc, number, edit)
-}
-
-/// Joins the cells of another site to those of a site; nothing is copied where both are one.
-fn merge(
-    world: &mut World,
-    alloc: Global,
-    number: usize,
-    into: usize,
-    source: usize,
-) -> Result<(), PlayFault>
-    requires { IsRunning (length world.old.sites.items) (held_in world.old) }
-    ensures ok { OnOk result (IsStepped world.old world.new (Merge into source)) }
-    ensures err { IfErr result
-        (IsFaultOf (length world.old.sites.items) (held_in world.old) number (Merge into source)) }
-{
-    if into >= world.sites.len() || source >= world.sites.len() {
-        return Err(PlayFault::NoSuchSite { step: number });
-    }
-    if into == source {
-        return Ok(());
-    }
-    let mut own = mem::replace(&mut world.sites[into], Catalogue::new(alloc));
-    take_in(&mut own, alloc, number, &world.sites[source])?;
-    world.sites[into] = own;
-    Ok(())
-}
-
-/// Answers which live labels of a message at a site a list takes.
-fn ask_filter(
-    world: &mut World,
-    alloc: Global,
-    number: usize,
-    site: usize,
-    id: &MessageId,
-    scheme: Scheme,
-    list: &PriorityList,
-) -> Result<(), PlayFault>
-    requires { IsRunning (length world.old.sites.items) (held_in world.old) }
-    ensures ok { OnOk result
-        (IsStepped world.old world.new (AskFilter site id.now scheme list.now)) }
-    ensures err { IfErr result
-        (IsFaultOf (length world.old.sites.items) (held_in world.old) number
-        (AskFilter site id.now scheme list.now)) }
-{
-    if site >= world.sites.len() {
-        return Err(PlayFault::NoSuchSite { step: number });
-    }
-    let lent = world.sites[site].ask_filter(alloc, id, list, scheme)?;
-    let entries = lent.copy(alloc)?;
-    world.answers.push(Answer::Filter(entries))?;
-    Ok(())
-}
-
-/// Answers which live label of a message at a site a list looks up.
-fn ask_lookup(
-    world: &mut World,
-    alloc: Global,
-    number: usize,
-    site: usize,
-    id: &MessageId,
-    list: &PriorityList,
-    default: &Option<Lang>,
-) -> Result<(), PlayFault>
-    requires { IsRunning (length world.old.sites.items) (held_in world.old) }
-    ensures ok { OnOk result
-        (IsStepped world.old world.new (AskLookup site id.now list.now default.now)) }
-    ensures err { IfErr result
-        (IsFaultOf (length world.old.sites.items) (held_in world.old) number
-        (AskLookup site id.now list.now default.now)) }
-{
-    if site >= world.sites.len() {
-        return Err(PlayFault::NoSuchSite { step: number });
-    }
-    let lent = world.sites[site].ask_lookup(id, list, default.as_ref());
-    let reply = lent.copy(alloc)?;
-    world.answers.push(Answer::Lookup(reply))?;
-    Ok(())
-}
-
-/// Answers all cells of a site.
-fn ask_cells(world: &mut World, alloc: Global, number: usize, site: usize) -> Result<(), PlayFault>
-    requires { IsRunning (length world.old.sites.items) (held_in world.old) }
-    ensures ok { OnOk result (IsStepped world.old world.new (AskCells site)) }
-    ensures err { IfErr result
-        (IsFaultOf (length world.old.sites.items) (held_in world.old) number (AskCells site)) }
-{
-    if site >= world.sites.len() {
-        return Err(PlayFault::NoSuchSite { step: number });
-    }
-    let edits = Edits::of(alloc, &world.sites[site])?;
-    world.answers.push(Answer::Cells(edits))?;
-    Ok(())
-}
-
-/// Tells the summary of a site.
-fn tell(world: &mut World, alloc: Global, number: usize, site: usize) -> Result<(), PlayFault>
-    requires { IsRunning (length world.old.sites.items) (held_in world.old) }
-    ensures ok { OnOk result (IsStepped world.old world.new (Tell site)) }
-    ensures err { IfErr result
-        (IsFaultOf (length world.old.sites.items) (held_in world.old) number (Tell site)) }
-{
-    if site >= world.sites.len() {
-        return Err(PlayFault::NoSuchSite { step: number });
-    }
-    let name = SiteName::of_number(site as u32);
-    let summary = Summary::of(alloc, name, &world.sites[site])?;
-    world.told.push(ToldSummary::new(site, summary))?;
-    Ok(())
-}
-
-/// Posts the delta of a site against a summary that was told.
-fn post(
-    world: &mut World,
-    alloc: Global,
-    number: usize,
-    site: usize,
-    told: usize,
-) -> Result<(), PlayFault>
-    requires { IsRunning (length world.old.sites.items) (held_in world.old) }
-    ensures ok { OnOk result (IsStepped world.old world.new (Post site told)) }
-    ensures err { IfErr result
-        (IsFaultOf (length world.old.sites.items) (held_in world.old) number (Post site told)) }
-{
-    if site >= world.sites.len() {
-        return Err(PlayFault::NoSuchSite { step: number });
-    }
-    if told >= world.told.len() {
-        return Err(PlayFault::NoSuchPost { step: number });
-    }
-    let told = &world.told[told];
-    let cells = missing_cells(alloc, &world.sites[site], told.summary())?;
-    let posted = PostedDelta::new(told.teller(), cells);
-    world.posts.push(posted)?;
-    Ok(())
-}
-
-/// Delivers a posted delta to its addressee.
-fn deliver(world: &mut World, alloc: Global, number: usize, post: usize) -> Result<(), PlayFault>
-    requires { IsRunning (length world.old.sites.items) (held_in world.old) }
-    ensures ok { OnOk result (IsStepped world.old world.new (Deliver post)) }
-    ensures err { IfErr result
-        (IsFaultOf (length world.old.sites.items) (held_in world.old) number (Deliver post)) }
-{
-    if post >= world.posts.len() {
-        return Err(PlayFault::NoSuchPost { step: number });
-    }
-    let post = &world.posts[post];
-    let addressee = post.addressee();
-    take_in(&mut world.sites[addressee], alloc, number, post.cells())
 }

@@ -25,7 +25,7 @@ pub loop-number-preserved : goal.loop-number-preserved
 loop-number-preserved c =
     played_on c.args.sites c.args.steps.now c.loop-number.number c.loop-number.world
     c.index-steps-number.result c.loop-number.invariant c.loop-number-test.true
-    c.index-steps-number.is c.take_step.new.world c.in_ok-take_step.ensures.ok
+    c.index-steps-number.is c.take_step.new.self c.in_ok-take_step.ensures.ok
 
 pub returns-in_err-take_step-clause-fault : goal.returns-in_err-take_step-clause-fault
 returns-in_err-take_step-clause-fault c =

@@ -1,21 +1,25 @@
-use Rattle.std.proofs.Common.{◌<◌, [], ◌∷◌, sym, subst, refl, length, arith}
-use Rattle.cata_core.specs.declared.answer.Answer.TheVariants.{Filter}
+use Rattle.std.proofs.Common.{◌<◌, [], ◌∷◌, sym, subst, refl, length, arith, ℕ, List, Option}
+use Rattle.std.specs.Option.{option_copied}
+use Rattle.cata_core.specs.declared.answer.Answer.TheVariants.{Lookup}
+use Rattle.cata_core.specs.declared.reply.Reply.{Reply}
 use Rattle.cata_core.specs.Entries.{Entries}
-use Rattle.cata_core.specs.Asking.{Weighed, IsFilterAnswer}
+use Rattle.cata_core.specs.LentAnswers.{reply_of}
+use Rattle.cata_core.specs.Asking.{IsLookupAnswer}
 use Rattle.cata_core.specs.Worlds.{at_sites}
 use Rattle.cata_core.proofs.Basics.{append_nil}
 use Rattle.cata_core.proofs.Worlds.{at_site, named_one}
-use Rattle.cata_core.proofs.runs.steps.ask_filter.Goals as goal
+use Rattle.cata_core.proofs.runs.world.World.ask_lookup.Goals as goal
 
 pub returns-clause-ok : goal.returns-clause-ok
 returns-clause-ok c =
-    let w = c.args.world.now in
+    let w = c.args.self.now in
     let xs = w.sites.items in
     let id = c.args.id.now in
     let items = c.args.list.now in
     let there : c.args.site < length xs = omega (arith, c.if-site-len.false, c.len.ensures) in
     let cells_are = at_site xs c.args.site c.index.result.now there c.index.ensures in
-    let entries = c.in_ok-entries.entries in
+    let lent = reply_of c.ask_lookup-lent.result in
+    let reply = c.in_ok-reply.reply in
     record {
       sound =
           record {
@@ -31,15 +35,18 @@ returns-clause-ok c =
             posts =
                 sym (append_nil w.posts.items) i;
           };
-      answered = Filter entries ∷ [];
+      answered = Lookup reply ∷ [];
       answers = c.in_ok-push.ensures.items;
       are_answers = (
-        entries,
+        reply,
         refl,
-        subst (λ (x : Weighed). IsFilterAnswer (at_sites xs c.args.site) id c.args.scheme items x)
-            (sym c.in_ok-entries.ensures)
-            (subst (λ (x : Entries). IsFilterAnswer x id c.args.scheme items c.in_ok-lent.lent)
-            cells_are c.in_ok-lent.ensures),
+        subst (λ (x : Reply). IsLookupAnswer (at_sites xs c.args.site) id items c.args.default.now
+            x) (sym c.in_ok-reply.ensures)
+            (subst
+            (λ (x : Option (List ℕ)). IsLookupAnswer (at_sites xs c.args.site) id items x lent)
+            c.as_ref.ensures.value
+            (subst (λ (x : Entries). IsLookupAnswer x id items (option_copied c.as_ref.result) lent)
+            cells_are c.ask_lookup-lent.ensures)),
       );
       sites = refl;
       addressed = record { few = c.requires.few; told = c.requires.told; posts = c.requires.posts };

@@ -8,11 +8,11 @@ use Rattle.cata_core.specs.Worlds.{held_in, IsClashAt}
 use Rattle.cata_core.proofs.Basics.{append_nil}
 use Rattle.cata_core.proofs.Worlds.{delivered_sound, delivered_held, delivered_fault, addressed}
 use Rattle.cata_core.proofs.Worlds.{both_hold}
-use Rattle.cata_core.proofs.runs.steps.deliver.Goals as goal
+use Rattle.cata_core.proofs.runs.world.World.deliver.Goals as goal
 
 pub returns-clause-ok : goal.returns-clause-ok
 returns-clause-ok c =
-    let w = c.args.world.now in
+    let w = c.args.self.now in
     let xs = w.sites.items in
     let lt : c.args.post < length w.posts.items =
     omega (arith, c.if-post-len.false, c.len.ensures) in
@@ -43,7 +43,7 @@ returns-clause-ok c =
 
 pub returns-clause-err : goal.returns-clause-err
 returns-clause-err c =
-    let w = c.args.world.now in
+    let w = c.args.self.now in
     let n = length w.sites.items in
     let lt : c.args.post < length w.posts.items =
     omega (arith, c.if-post-len.false, c.len.ensures) in

@@ -4,11 +4,11 @@ use Rattle.cata_core.specs.Entries.{Agree, joined}
 use Rattle.cata_core.specs.Worlds.{held_in, at_sites}
 use Rattle.cata_core.proofs.Basics.{append_nil}
 use Rattle.cata_core.proofs.Worlds.{merged_self, merged, at_site, named_two}
-use Rattle.cata_core.proofs.runs.steps.merge.Goals as goal
+use Rattle.cata_core.proofs.runs.world.World.merge.Goals as goal
 
 pub returns-then-into-source-clause-ok : goal.returns-then-into-source-clause-ok
 returns-then-into-source-clause-ok c =
-    let w = c.args.world.now in
+    let w = c.args.self.now in
     let xs = w.sites.items in
     let into_there : c.args.into < length xs = omega (arith, c.if-into-len.false, c.len.ensures) in
     let there : c.args.source < length xs =
@@ -32,7 +32,7 @@ returns-then-into-source-clause-ok c =
 
 pub returns-clause-ok : goal.returns-clause-ok
 returns-clause-ok c =
-    let w = c.args.world.now in
+    let w = c.args.self.now in
     let xs = w.sites.items in
     let theirs = c.index.result.now in
     let gap = c.replace-own.new.dest in

@@ -6,11 +6,11 @@ use Rattle.cata_core.specs.Held.{ToldStamps}
 use Rattle.cata_core.specs.Worlds.{at_sites}
 use Rattle.cata_core.proofs.Basics.{append_nil}
 use Rattle.cata_core.proofs.Worlds.{told_step, told_addressed, at_site, named_one}
-use Rattle.cata_core.proofs.runs.steps.tell.Goals as goal
+use Rattle.cata_core.proofs.runs.world.World.tell.Goals as goal
 
 pub returns-clause-ok : goal.returns-clause-ok
 returns-clause-ok c =
-    let w = c.args.world.now in
+    let w = c.args.self.now in
     let xs = w.sites.items in
     let there : c.args.site < length xs = omega (arith, c.if-site-len.false, c.len.ensures) in
     let t = c.new.result in

@@ -5,11 +5,11 @@ use Rattle.cata_core.specs.Held.{PostedCells}
 use Rattle.cata_core.specs.Worlds.{at_sites}
 use Rattle.cata_core.proofs.Basics.{append_nil}
 use Rattle.cata_core.proofs.Worlds.{posted_step, posted_addressed, at_site, named_one}
-use Rattle.cata_core.proofs.runs.steps.post.Goals as goal
+use Rattle.cata_core.proofs.runs.world.World.post.Goals as goal
 
 pub returns-clause-ok : goal.returns-clause-ok
 returns-clause-ok c =
-    let w = c.args.world.now in
+    let w = c.args.self.now in
     let xs = w.sites.items in
     let t = c.index-told.result.now in
     let there : c.args.site < length xs = omega (arith, c.if-site-len.false, c.len.ensures) in
