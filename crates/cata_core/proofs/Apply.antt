@@ -56,16 +56,6 @@ pub joined_only : (es : Entries) (e : Entry) → IsMap key_cmp es
     → joined es (e ∷ []) ≡ put key_cmp e.0 (joined_at joined_cells (find key_cmp e.0 es) e.1) es
 joined_only es e m = joined_of_maps key_cmp key_cmp_total joined_cells es (e ∷ []) m tt
 
--- a cell that is not older stays
-pub joined_stays : (es : Entries) (e : Entry) (mine : Cell) → IsMap key_cmp es
-    → Some mine ≡ find key_cmp e.0 es → is_lt (stamp_cmp mine.stamp e.1.stamp) ≡ false
-    → es ≡ joined es (e ∷ [])
-joined_stays es e mine m there not_lt =
-    sym (put_same key_cmp key_cmp_total key_cmp_exact es e.0 mine m (sym there))
-    ∙ ap (λ c. put key_cmp e.0 c es) (sym (ap (λ t. cond t e.1 mine) not_lt))
-    ∙ ap (λ o. put key_cmp e.0 (joined_at joined_cells o e.1) es) there
-    ∙ sym (joined_only es e m)
-
 -- The join with an edit of a key without a cell puts the edit's cell there.
 pub joined_new : (es : Entries) (e : Entry) → IsMap key_cmp es → find key_cmp e.0 es ≡ None
     → put key_cmp e.0 e.1 es ≡ joined es (e ∷ [])

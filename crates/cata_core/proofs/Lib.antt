@@ -5,6 +5,7 @@ pub mod Best
 pub mod CataFaults
 pub mod CatalogueJoins
 pub mod Catalogues
+pub mod CellRefusalLemmas
 pub mod ChangesLemmas
 pub mod ClashWalks
 pub mod Clashes

@@ -27,14 +27,21 @@ grown R total k v es m = ap (nat_lt (length es)) (length-put R total k v es m) �
     more None = grind (arith, nat_tests)
     more (Some x) = grind (arith, nat_tests)
 
+-- A language of a message has the cell that its key has.
+pub found_inside : (m : Nested) → IsCatalogue m → (id lang : List ℕ) (o : Option Inner)
+    (key : EntryKey) → o ≡ find text_cmp id m → (id, lang) ≡ key
+    → found_in text_cmp lang o ≡ find key_cmp key (flat m)
+found_inside m n id lang o key is same =
+    ap (found_in text_cmp lang) is
+    ∙ sym (find-flat text_cmp text_cmp nat_list_cmp_total m n.outer (id, lang))
+    ∙ ap (λ (k : EntryKey). find key_cmp k (flat m)) same
+
 -- a language of a message is new where its key is
 pub new_inside : (m : Nested) → IsCatalogue m → (id lang : List ℕ) (o : Option Inner)
     → o ≡ find text_cmp id m
     → is_none (found_in text_cmp lang o) ≡ is_none (find key_cmp (id, lang) (flat m))
 new_inside m n id lang o is =
-    ap is_none
-    (ap (found_in text_cmp lang) is
-    ∙ sym (find-flat text_cmp text_cmp nat_list_cmp_total m n.outer (id, lang)))
+    ap is_none (found_inside m n id lang o (id, lang) is (λ _. (id, lang)))
 
 -- how many cells there are after a write
 pub length_written : (m new : Nested) → IsCatalogue m → (es : Entries) → flat m ≡ es

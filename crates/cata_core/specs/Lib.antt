@@ -3,6 +3,7 @@ pub mod Answers
 pub mod AnswersEq
 pub mod Asking
 pub mod CataFaults
+pub mod CellRefusals
 pub mod CellsLeft
 pub mod Changes
 pub mod ChangesLeft

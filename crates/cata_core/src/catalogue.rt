@@ -1,23 +1,24 @@
 //! Catalogues: cells by message and language.
 
-ghost use Rattle.std.specs.Prelude.{◌≡◌, ◌+◌, [], ◌∷◌, ◌++◌, None, length, slice_get, OnOk, OnErr};
-ghost use Rattle.std.specs.Prelude.{IfOk, IfErr, IfSome, IsOk, IsTrue, ◌↔◌};
+ghost use Rattle.std.specs.Prelude.{◌≡◌, ◌+◌, [], ◌∷◌, ◌++◌, Some, None, length, slice_get};
+ghost use Rattle.std.specs.Prelude.{OnOk, OnErr, IfOk, IfErr, IfSome, IsOk, IsTrue, ◌↔◌};
 ghost use Rattle.std.specs.Option.{option_map, option_copied, is_none};
-ghost use Rattle.std.specs.Ordering.{is_lt};
 ghost use Rattle.std.specs.FinMap.Entries.{find, put};
-ghost use Rattle.cell_core.specs.Maps.{IsMap};
-ghost use Rattle.cell_core.specs.Stamps.{stamp_cmp};
+ghost use Rattle.cell_core.specs.Cells.{AgreeCells, joined_cells};
+ghost use Rattle.cell_core.specs.Maps.{IsMap, AgreeIfBoth, joined_at};
 ghost use Rattle.cata_core.specs.CataFaults.{IsRefusal, IsLeft};
+ghost use Rattle.cata_core.specs.CellRefusals.{IsCellRefusal};
 ghost use Rattle.cata_core.specs.CellsLeft.{cells_left};
 ghost use Rattle.cata_core.specs.Changes.{AreChanges};
 ghost use Rattle.cata_core.specs.ChangesLeft.{changes_left};
 ghost use Rattle.cata_core.specs.Counts.{count_absent};
 ghost use Rattle.cata_core.specs.Entries.{text_cmp, key_cmp, IsAboveAll, Agree, joined, Between};
 ghost use Rattle.cata_core.specs.Flat.{flat};
-ghost use Rattle.cata_core.specs.Nested.{IsCatalogue};
-ghost use Rattle.cata_core.specs.Settled.{IsSettledIn};
+ghost use Rattle.cata_core.specs.Nested.{IsCatalogue, IsCountable};
+ghost use Rattle.cata_core.specs.Settled.{IsSettledBy, IsSettledIn};
 
 use crate::cata_fault::CataFault;
+use crate::cell_refusal::CellRefusal;
 use crate::cells::Cells;
 use crate::changes::Changes;
 use crate::clash::first_clash;
@@ -152,38 +153,18 @@ impl Catalogue {
         ensures fault { IfErr result (IsRefusal self.old (edit.now ∷ [])) }
         ensures settled { IsSettledIn self.old edit.now → IsOk result }
     {
-        self.apply_cell(alloc, edit.id(), edit.lang(), edit.cell())
-    }
-
-    /// Joins one cell, by its key's parts.
-    fn apply_cell(
-        &mut self,
-        alloc: Global,
-        id: &MessageId,
-        lang: &Lang,
-        cell: &Cell,
-    ) -> Result<(), CataFault>
-        ensures ok { OnOk result
-            (self.new ≡ joined self.old (((id.now, lang.now), cell.now) ∷ [])) }
-        ensures agree { OnOk result (Agree self.old (((id.now, lang.now), cell.now) ∷ [])) }
-        ensures err { OnErr result (self.new ≡ self.old) }
-        ensures fault { IfErr result (IsRefusal self.old (((id.now, lang.now), cell.now) ∷ [])) }
-        ensures settled { IsSettledIn self.old ((id.now, lang.now), cell.now) → IsOk result }
-    {
-        if let Some(mine) = self.cell(id, lang) {
-            if !mine.agrees(cell) {
-                return Err(CataFault::StampReused {
-                    place: places::place(&self.map, id, lang),
-                    stamp: mine.stamp(),
-                });
+        let len = self.next_len();
+        match join_cell(&mut self.map, alloc, edit) {
+            Ok(is_new) => {
+                if is_new {
+                    self.len = match len {
+                        Some(len) => len,
+                        None => places::count(&self.map),
+                    };
+                }
+                Ok(())
             }
-            if !is_older(mine, cell) {
-                return Ok(());
-            }
-        }
-        match self.write_copy(alloc, id, lang, cell) {
-            Ok(()) => Ok(()),
-            Err(AllocError) => Err(CataFault::NoMemory),
+            Err(refusal) => Err(at_key(&self.map, edit, refusal)),
         }
     }
 
@@ -305,6 +286,13 @@ impl Catalogue {
         Ok(())
     }
 
+    /// The length with one cell more, if `u128` counts it.
+    fn next_len(&self) -> Option<u128>
+        ensures { IfSome result (λ len. len ≡ length self.now + 1) }
+    {
+        self.len.checked_add(1)
+    }
+
     /// The length after adding `more` cells; `u128` cannot overflow in practice.
     fn len_with(&self, more: u128) -> Result<u128, AllocError>
         ensures { IfOk result (λ len. len ≡ length self.now + more) }
@@ -313,21 +301,6 @@ impl Catalogue {
             Some(len) => Ok(len),
             None => Err(AllocError),
         }
-    }
-
-    /// Gives the key a copy of the cell.
-    pub(crate) fn write_copy(
-        &mut self,
-        alloc: Global,
-        id: &MessageId,
-        lang: &Lang,
-        cell: &Cell,
-    ) -> Result<(), AllocError>
-        ensures ok { OnOk result (self.new ≡ put key_cmp (id.now, lang.now) cell.now self.old) }
-        ensures err { OnErr result (self.new ≡ self.old) }
-    {
-        let cell = cell.copy(alloc)?;
-        self.write(alloc, id, lang, cell)
     }
 
     /// Gives the key the cell.
@@ -355,6 +328,131 @@ impl fmt::Debug for Catalogue {
     fn fmt<W: fmt::Write>(&self, f: &mut fmt::Formatter<W>) -> fmt::Result {
         f.debug_list().entries(self.iter()).finish()
     }
+}
+
+/// Why the edit is refused, with the place of its key where it clashes.
+fn at_key(map: &Keyed<MessageId, Keyed<Lang, Cell>>, edit: &Edit, refusal: CellRefusal) -> CataFault
+    requires nested { IsCatalogue map.now }
+    requires fits { IsCountable map.now }
+    requires refused { IsCellRefusal (find key_cmp edit.now.0 (flat map.now)) edit.now.1 refusal }
+    ensures { IsRefusal (flat map.now) (edit.now ∷ []) result }
+{
+    match refusal {
+        CellRefusal::Clash(stamp) => CataFault::StampReused {
+            place: places::place(map, edit.id(), edit.lang()),
+            stamp,
+        },
+        CellRefusal::NoMemory => CataFault::NoMemory,
+    }
+}
+
+/// Joins the cell of an edit, and says whether its key is new. A key is searched once.
+fn join_cell(
+    map: &mut Keyed<MessageId, Keyed<Lang, Cell>>,
+    alloc: Global,
+    edit: &Edit,
+) -> Result<bool, CellRefusal>
+    requires { IsCatalogue map.old }
+    ensures nested { IsCatalogue map.new }
+    ensures ok { OnOk result (flat map.new
+        ≡ put key_cmp edit.now.0
+        (joined_at joined_cells (find key_cmp edit.now.0 (flat map.old)) edit.now.1)
+        (flat map.old)) }
+    ensures agree { OnOk result
+        (AgreeIfBoth AgreeCells (find key_cmp edit.now.0 (flat map.old)) (Some edit.now.1)) }
+    ensures new { IfOk result (λ new. new ≡ is_none (find key_cmp edit.now.0 (flat map.old))) }
+    ensures err { OnErr result (map.new ≡ map.old) }
+    ensures fault { IfErr result
+        (IsCellRefusal (find key_cmp edit.now.0 (flat map.old)) edit.now.1) }
+    ensures settled { IsSettledIn (flat map.old) edit.now → IsOk result }
+{
+    match map.get_mut(edit.id()) {
+        Some(cells) => join_lang(cells, alloc, edit.lang(), edit.cell()),
+        None => match add_message(map, alloc, edit) {
+            Ok(()) => Ok(true),
+            Err(AllocError) => Err(CellRefusal::NoMemory),
+        },
+    }
+}
+
+/// Joins the cell to that of its language, and says whether the language is new.
+fn join_lang(
+    cells: &mut Keyed<Lang, Cell>,
+    alloc: Global,
+    lang: &Lang,
+    cell: &Cell,
+) -> Result<bool, CellRefusal>
+    ensures ok { OnOk result (cells.new
+        ≡ put text_cmp lang.now
+        (joined_at joined_cells (find text_cmp lang.now cells.old) cell.now)
+        cells.old) }
+    ensures agree { OnOk result
+        (AgreeIfBoth AgreeCells (find text_cmp lang.now cells.old) (Some cell.now)) }
+    ensures new { IfOk result (λ new. new ≡ is_none (find text_cmp lang.now cells.old)) }
+    ensures err { OnErr result (cells.new ≡ cells.old) }
+    ensures fault { IfErr result (IsCellRefusal (find text_cmp lang.now cells.old) cell.now) }
+    ensures settled { IsSettledBy (find text_cmp lang.now cells.old) cell.now → IsOk result }
+{
+    match cells.get_mut(lang) {
+        Some(mine) => match join_stored(mine, alloc, cell) {
+            Ok(()) => Ok(false),
+            Err(refusal) => Err(refusal),
+        },
+        None => match add_lang(cells, alloc, lang, cell) {
+            Ok(()) => Ok(true),
+            Err(AllocError) => Err(CellRefusal::NoMemory),
+        },
+    }
+}
+
+/// Joins the cell to one that is stored: a later one takes its place. One that is not later takes
+/// no memory.
+fn join_stored(mine: &mut Cell, alloc: Global, cell: &Cell) -> Result<(), CellRefusal>
+    ensures ok { OnOk result (mine.new ≡ joined_cells mine.old cell.now) }
+    ensures agree { OnOk result (AgreeCells mine.old cell.now) }
+    ensures err { OnErr result (mine.new ≡ mine.old) }
+    ensures fault { IfErr result (IsCellRefusal (Some mine.old) cell.now) }
+    ensures settled { IsSettledBy (Some mine.old) cell.now → IsOk result }
+{
+    if !mine.agrees(cell) {
+        return Err(CellRefusal::Clash(mine.stamp()));
+    }
+    if mine.stamp().cmp(&cell.stamp()).is_lt() {
+        *mine = cell.copy(alloc)?;
+    }
+    Ok(())
+}
+
+/// Gives a message that is not there its first cell, a copy of that of the edit.
+fn add_message(
+    map: &mut Keyed<MessageId, Keyed<Lang, Cell>>,
+    alloc: Global,
+    edit: &Edit,
+) -> Result<(), AllocError>
+    requires nested { IsCatalogue map.old }
+    requires new { find text_cmp edit.now.0.0 map.old ≡ None }
+    ensures nested { IsCatalogue map.new }
+    ensures ok { OnOk result (flat map.new ≡ put key_cmp edit.now.0 edit.now.1 (flat map.old)) }
+    ensures err { OnErr result (map.new ≡ map.old) }
+{
+    let id = edit.id().copy(alloc)?;
+    let lang = edit.lang().copy(alloc)?;
+    let cell = edit.cell().copy(alloc)?;
+    put_message(map, alloc, id, lang, cell)
+}
+
+/// Gives a language that is not there a copy of the cell.
+fn add_lang(
+    cells: &mut Keyed<Lang, Cell>,
+    alloc: Global,
+    lang: &Lang,
+    cell: &Cell,
+) -> Result<(), AllocError>
+    ensures ok { OnOk result (cells.new ≡ put text_cmp lang.now cell.now cells.old) }
+    ensures err { OnErr result (cells.new ≡ cells.old) }
+{
+    let cell = cell.copy(alloc)?;
+    put(cells, lang.copy(alloc)?, cell)
 }
 
 /// Gives copies of the keys the cell, and says whether they are new.
@@ -418,13 +516,6 @@ fn put_message(
     let mut cells = Keyed::new(alloc);
     put(&mut cells, lang, cell)?;
     put(map, id, cells)
-}
-
-/// Whether the other cell has a later stamp.
-fn is_older(mine: &Cell, other: &Cell) -> bool
-    ensures { result ≡ is_lt (stamp_cmp mine.now.stamp other.now.stamp) }
-{
-    mine.stamp().cmp(&other.stamp()).is_lt()
 }
 
 /// Gives the language the cell, and says whether it is new.

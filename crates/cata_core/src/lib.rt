@@ -2,7 +2,7 @@
 //!
 //! - [`Catalogue`] maps messages and languages to cells, and keeps of each key the edit with the
 //!   greatest stamp. [`Catalogue::ask_lookup`] and [`Catalogue::ask_filter`] answer a reader, and
-//!   [`Catalogue::messages`] lends each [`Message`] that has a live label. A list that is cut to
+//!   [`Catalogue::messages`] gives each [`Message`] that has a live label. A list that is cut to
 //!   [`Catalogue::languages`] answers all of them at the cost of few ranges
 //!   ([`Message::lookup_within`]).
 //! - [`Site`] is a catalogue with a name: it puts and deletes labels under stamps of its own.
@@ -27,6 +27,7 @@ mod answer;
 mod asking;
 mod cata_fault;
 mod catalogue;
+mod cell_refusal;
 mod cells;
 mod changes;
 mod clash;
