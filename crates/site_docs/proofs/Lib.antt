@@ -1,4 +1,3 @@
-pub mod AsWrittenLemmas
 pub mod DocumentsLemmas
 pub mod EnvelopeLemmas
 pub mod FieldsLemmas

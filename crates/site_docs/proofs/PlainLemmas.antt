@@ -10,12 +10,11 @@ use Rattle.serde_json.specs.Written.{comma_if, compact_text, items_text}
 use Rattle.cell_core.specs.declared.stamp.Stamp.{Stamp}
 use Rattle.cata_core.specs.Entries.{Entries, Entry, EntryKey, IsAboveAll}
 use Rattle.cata_core.proofs.Behind.{IsMap-behind}
-use Rattle.site_docs.specs.AsWritten.{cells_document}
 use Rattle.site_docs.specs.Documents.{cells_values, entry_value}
 use Rattle.site_docs.specs.Fields.{IsLabelText, stamp_of}
 use Rattle.site_docs.specs.Kinds.{kind_text, subject_of}
-use Rattle.site_docs.specs.Plain.{IsEnd, IsTextOf, is_later, last_members, open_items}
-use Rattle.site_docs.specs.Plain.{row_before, rows_text}
+use Rattle.site_docs.specs.Plain.{IsEnd, IsTextOf, cells_document, is_later, last_members}
+use Rattle.site_docs.specs.Plain.{open_items, row_before, rows_text}
 use Rattle.site_docs.specs.Valid.{AreKeptCells, IsKept, IsKeptCell}
 use Rattle.site_docs.specs.Values.{Row, cell_value, label_value}
 use Rattle.site_docs.specs.declared.document.kind.Kind.{Kind}

@@ -4,9 +4,8 @@ use Rattle.serde_json.specs.Data.{Data}
 use Rattle.serde_json.specs.Read.{read}
 use Rattle.cata_core.specs.Entries.{Entries}
 use Rattle.json_docs.proofs.LineFeed.{read-line_feed}
-use Rattle.site_docs.specs.AsWritten.{cells_document}
 use Rattle.site_docs.specs.Documents.{cells_values}
-use Rattle.site_docs.specs.Plain.{IsPlainText, IsTextOf}
+use Rattle.site_docs.specs.Plain.{IsPlainText, IsTextOf, cells_document}
 use Rattle.site_docs.specs.ReadsAs.{ReadsAsDelta, ReadsAsSite}
 use Rattle.site_docs.specs.Texts.{text}
 use Rattle.site_docs.specs.declared.document.kind.Kind.TheVariants.{Delta, Site}

@@ -1,4 +1,3 @@
-pub mod AsWritten
 pub mod Documents
 pub mod Entries
 pub mod EntriesSeen

@@ -3,17 +3,26 @@
 use Rattle.std.specs.Prelude.{◌≡◌, ◌⊎◌, ◌<◌, ◌≤◌, ◌+◌, ◌++◌, ◌∷◌, [], ℕ, List, Bool, true, false}
 use Rattle.std.specs.Prelude.{IsUtf8, codes, decimal, get_or, length, take}
 use Rattle.json.specs.Print.{escape_byte, quoted}
-use Rattle.serde_json.specs.Data.{Data, array}
+use Rattle.serde_json.specs.Data.{Data, array, member, no_members, number, object, string}
+use Rattle.serde_json.specs.Data.{unsigned}
 use Rattle.serde_json.specs.View.{items_of}
 use Rattle.serde_json.specs.Written.{comma_if, compact_text}
 use Rattle.cell_core.specs.SiteNames.{IsSiteName}
 use Rattle.cata_core.specs.Entries.{Entries}
-use Rattle.site_docs.specs.AsWritten.{cells_document}
 use Rattle.site_docs.specs.Documents.{cells_values}
+use Rattle.site_docs.specs.Kinds.{kind_text, subject_of}
 use Rattle.site_docs.specs.Texts.{text}
 use Rattle.site_docs.specs.Valid.{AreKeptCells}
 use Rattle.site_docs.specs.Values.{Row}
 use Rattle.site_docs.specs.declared.document.kind.Kind.{Kind}
+
+-- `{"cells":[..],"kind":KIND,OWN:NAME,"version":2}`
+abbrev pub cells_document : Kind → List ℕ → List Data → Data
+cells_document kind name rows = object
+    (member (codes "cells") (array (items_of rows))
+    (member (codes "kind") (string (kind_text kind))
+    (member (subject_of kind) (string name)
+    (member (codes "version") (number (unsigned 2)) no_members))))
 
 -- the bytes are the text of the value, or that text without its last byte, the line feed
 abbrev pub IsTextOf : Data → List ℕ → Type 0

@@ -1,7 +1,6 @@
 //! The documents of sites, deltas and summaries, and the header that scripts have too: read in any
-//! order of their members, read as they are written, and written.
+//! order of their members, and written.
 
-pub(crate) mod as_written;
 pub(crate) mod envelope;
 pub(crate) mod header;
 pub(crate) mod kind;

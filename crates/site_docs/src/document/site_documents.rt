@@ -10,7 +10,6 @@ ghost use Rattle.site_docs.specs.Rows.{site_in};
 ghost use Rattle.site_docs.specs.SiteDocuments.{document_checks, named_in, subject_checks};
 ghost use Rattle.site_docs.specs.declared.document.version.Version.TheVariants.{One, Two};
 
-use crate::document::as_written::cells_as_written;
 use crate::document::header::Subject;
 use crate::document::kind::Kind;
 use crate::document::tested_header::read_header;
@@ -29,7 +28,7 @@ pub(crate) fn site_from(alloc: Global, bytes: &[u8]) -> Result<Site, DocCause>
 {
     match cells_of_plain(alloc, bytes, Kind::Site) {
         Some((name, cells)) => Ok(Site::from_catalogue(name, cells)),
-        None => site_of_tokens(alloc, bytes),
+        None => site_of_members(alloc, bytes),
     }
 }
 
@@ -40,7 +39,7 @@ pub(crate) fn delta_from(alloc: Global, bytes: &[u8]) -> Result<Delta, DocCause>
 {
     match cells_of_plain(alloc, bytes, Kind::Delta) {
         Some((to, cells)) => Ok(Delta::from_catalogue(to, cells)),
-        None => delta_of_tokens(alloc, bytes),
+        None => delta_of_members(alloc, bytes),
     }
 }
 
@@ -54,18 +53,7 @@ pub(crate) fn summary_from(alloc: Global, bytes: &[u8]) -> Result<Summary, DocCa
     Ok(summary.with_owner(owner))
 }
 
-/// The site of a document that is in any form.
-fn site_of_tokens(alloc: Global, bytes: &[u8]) -> Result<Site, DocCause>
-    ensures { MatchResult result
-        (ReadsAsSite bytes.now) (OrMemory NoMemory (RefusesSite bytes.now)) }
-{
-    match cells_as_written(alloc, bytes, Kind::Site) {
-        Some((name, cells)) => Ok(Site::from_catalogue(name, cells)),
-        None => site_of_members(alloc, bytes),
-    }
-}
-
-/// The site of a document whose members may be in any order.
+/// The site of a document in any form.
 fn site_of_members(alloc: Global, bytes: &[u8]) -> Result<Site, DocCause>
     ensures { MatchResult result (ReadsAsSite bytes.now)
         (OrMemory NoMemory (RefusesSite bytes.now)) }
@@ -75,18 +63,7 @@ fn site_of_members(alloc: Global, bytes: &[u8]) -> Result<Site, DocCause>
     Ok(Site::from_catalogue(name, cells))
 }
 
-/// The delta of a document that is in any form.
-fn delta_of_tokens(alloc: Global, bytes: &[u8]) -> Result<Delta, DocCause>
-    ensures { MatchResult result
-        (ReadsAsDelta bytes.now) (OrMemory NoMemory (RefusesDelta bytes.now)) }
-{
-    match cells_as_written(alloc, bytes, Kind::Delta) {
-        Some((to, cells)) => Ok(Delta::from_catalogue(to, cells)),
-        None => delta_of_members(alloc, bytes),
-    }
-}
-
-/// The delta of a document whose members may be in any order.
+/// The delta of a document in any form.
 fn delta_of_members(alloc: Global, bytes: &[u8]) -> Result<Delta, DocCause>
     ensures { MatchResult result (ReadsAsDelta bytes.now)
         (OrMemory NoMemory (RefusesDelta bytes.now)) }

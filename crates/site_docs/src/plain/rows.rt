@@ -8,7 +8,7 @@ ghost use Rattle.site_docs.specs.Plain.{is_later, row_before, rows_text};
 ghost use Rattle.site_docs.specs.RowsSeen.{row_of};
 ghost use Rattle.site_docs.specs.Valid.{AreKeptCells, IsKept, IsKeptCell};
 
-use crate::document::as_written::put_above;
+use crate::plain::appending::put_above;
 use crate::plain::labels::next_label;
 use crate::plain::pieces::{after, number_after, text_after};
 use crate::row::fields::{CellEntry, StampEntry, stamp_entry};

@@ -1,7 +1,6 @@
 use Rattle.std.proofs.Common.{subst}
-use Rattle.site_docs.specs.AsWritten.{cells_document}
 use Rattle.site_docs.specs.Documents.{cells_values}
-use Rattle.site_docs.specs.Plain.{IsTextOf}
+use Rattle.site_docs.specs.Plain.{IsTextOf, cells_document}
 use Rattle.site_docs.proofs.PlainLemmas.{document_taken}
 use Rattle.site_docs.proofs.plain.documents.cells_of_plain.Goals as goal
 

@@ -1,5 +1,0 @@
-use Rattle.site_docs.proofs.AsWrittenLemmas.{delta_read}
-use Rattle.site_docs.proofs.document.site_documents.delta_of_tokens.Goals as goal
-
-pub returns-in-Some : goal.returns-in-Some
-returns-in-Some c = rw c.from_catalogue.ensures (delta_read c.args.bytes.now _ _ c.in-Some.ensures)
