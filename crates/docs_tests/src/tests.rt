@@ -7,6 +7,7 @@ mod exchange;
 mod lines;
 mod missing;
 mod outdated;
+mod questions;
 mod scripts;
 mod time_limits;
 mod update;

@@ -2,18 +2,22 @@
 use Rattle.std.proofs.Common.{◌≡◌, ◌∙◌, ◌++◌, ℕ, List, [], ◌∷◌, Bool, true, false, codes, decimal}
 use Rattle.std.proofs.Common.{map, refl, ap, sym, subst, append_assoc, append-nil, inl, inr}
 use Rattle.std.proofs.lemmas.List.{map-append}
-use Rattle.std.specs.Prelude.{Option}
+use Rattle.std.proofs.lemmas.List.Elements.{All-nil}
+use Rattle.std.specs.Prelude.{IfSome, IsUtf8, None, Option, Some, get_or}
+use Rattle.std.specs.declared.cmp.Ordering.TheVariants.{Less}
 use Rattle.json.specs.Print.{quoted}
 use Rattle.serde_json.specs.Data.{Data, array, string}
 use Rattle.serde_json.specs.View.{items_of}
 use Rattle.serde_json.specs.Written.{comma_if, compact_text, items_text}
+use Rattle.cell_core.specs.SiteNames.{IsSiteName}
 use Rattle.cell_core.specs.declared.stamp.Stamp.{Stamp}
-use Rattle.cata_core.specs.Entries.{Entries, Entry, EntryKey, IsAboveAll}
+use Rattle.cata_core.specs.Entries.{Entries, Entry, EntryKey, IsAboveAll, key_cmp, key_cmp_total}
 use Rattle.cata_core.proofs.Behind.{IsMap-behind}
 use Rattle.site_docs.specs.Documents.{cells_values, entry_value}
 use Rattle.site_docs.specs.Fields.{IsLabelText, stamp_of}
 use Rattle.site_docs.specs.Kinds.{kind_text, subject_of}
-use Rattle.site_docs.specs.Plain.{IsEnd, IsTextOf, cells_document, is_later, last_members}
+use Rattle.site_docs.specs.Plain.{IsEnd, IsLastOf, IsPlainText, IsTextOf, cells_document}
+use Rattle.site_docs.specs.Plain.{is_later, last_members}
 use Rattle.site_docs.specs.Plain.{open_items, row_before, rows_text}
 use Rattle.site_docs.specs.Valid.{AreKeptCells, IsKept, IsKeptCell}
 use Rattle.site_docs.specs.Values.{Row, cell_value, label_value}
@@ -36,7 +40,8 @@ is_later-map : {X Y : Type 0} (f : X → Y) (xs : List X) → is_later (map f xs
 is_later-map f [] = refl
 is_later-map f (x ∷ xs) = refl
 
-is_later-push : {X : Type 0} (xs : List X) (x : X) → is_later (xs ++ x ∷ []) ≡ true
+-- with one item more there are some
+pub is_later-push : {X : Type 0} (xs : List X) (x : X) → is_later (xs ++ x ∷ []) ≡ true
 is_later-push [] x = refl
 is_later-push (y ∷ xs) x = refl
 
@@ -145,6 +150,20 @@ entry_kept e key stamp row label keyed is kept text =
       text,
     )
 
+-- ---- keys
+
+-- any key is above all of none
+pub none_before : IsLastOf None []
+none_before = λ key _. All-nil (λ (x : Entry). key_cmp x.0 key ≡ Less)
+
+-- the key of one entry more is the last
+pub last_taken : (cells : Entries) (e : Entry) → IsAboveAll e.0 cells
+    → IsLastOf (Some e.0) (cells ++ e ∷ [])
+last_taken cells e above = λ key behind.
+    let before : IsAboveAll key cells = λ i d within.
+    key_cmp_total.trans (get_or cells i d).0 e.0 key (above i d within) behind in
+    kept_more (λ (x : Entry). key_cmp x.0 key ≡ Less) cells e before behind
+
 -- ---- cells
 
 -- one cell more
@@ -222,3 +241,25 @@ document_taken kind text rest left name end cells first rows (inr cut) last =
     (last ∙ ap (last_members (kind_text kind) (subject_of kind) name) cut) in
     inr (ap (λ t. t ++ 10 ∷ [])
     (is ∙ append-nil (compact_text (cells_document kind name (cells_values cells)))))
+
+-- the name of a document, its cells and what holds of them
+pub plain_taken : (kind : Kind) (bytes text rest left : List ℕ) (cells : Entries)
+    (Taken : Entries → Type 0) (name : Option (List ℕ)) → (text ≡ bytes) × IsUtf8 bytes
+    → text ≡ 123 ∷ (quoted (codes "cells") ++ 58 ∷ rest) → rest ≡ rows_text cells ++ left
+    → AreKeptCells cells → Taken cells
+    → IfSome name (λ n. (end : List ℕ) × IsEnd end
+    × (left ≡ last_members (kind_text kind) (subject_of kind) n end))
+    → IfSome name (λ n. IsSiteName n)
+    → IfSome name (λ n. (all : Entries) × IsPlainText kind bytes n all × Taken all)
+plain_taken kind bytes text rest left cells Taken None is first rows kept taken last named = tt
+plain_taken kind bytes text rest left cells Taken (Some n) is first rows kept taken last named = (
+  cells,
+  record {
+    text = subst (IsTextOf (cells_document kind n (cells_values cells))) is.0
+        (document_taken kind text rest left n last.0 cells first rows last.1 last.2);
+    utf8 = is.1;
+    is_name = named;
+    kept = kept;
+  },
+  taken,
+)

@@ -1,8 +1,10 @@
 -- The text that is written for a site or a delta reads as it, with its line feed or without.
 use Rattle.std.proofs.Common.{◌≡◌, ◌∙◌, ℕ, List, ap, inl, inr, sym}
+use Rattle.std.specs.Prelude.{IfSome, None, Option, Some}
 use Rattle.serde_json.specs.Data.{Data}
 use Rattle.serde_json.specs.Read.{read}
-use Rattle.cata_core.specs.Entries.{Entries}
+use Rattle.cell_core.specs.Maps.{IsMap}
+use Rattle.cata_core.specs.Entries.{Entries, key_cmp}
 use Rattle.json_docs.proofs.LineFeed.{read-line_feed}
 use Rattle.site_docs.specs.Documents.{cells_values}
 use Rattle.site_docs.specs.Plain.{IsPlainText, IsTextOf, cells_document}
@@ -29,3 +31,16 @@ pub plain_delta : (bytes name : List ℕ) (cells : Entries) → IsPlainText Delt
 plain_delta bytes name cells plain =
     reads_delta bytes (record { addressee = name; cells = cells }) plain.is_name plain.kept
     plain.utf8 (read_same (cells_document Delta name (cells_values cells)) bytes plain.text)
+
+-- a site whose cells were taken
+pub plain_taken_site : (bytes : List ℕ) (name : Option (List ℕ)) (Taken : Entries → Type 0)
+    → IfSome name (λ n. (cells : Entries) × IsPlainText Site bytes n cells × Taken cells)
+    → IfSome name (λ n. (cells : Entries)
+    × ReadsAsSite bytes (record { name = n; cells = cells }) × IsMap key_cmp cells × Taken cells)
+plain_taken_site bytes None Taken plain = tt
+plain_taken_site bytes (Some n) Taken (cells, plain, taken) = (
+  cells,
+  plain_site bytes n cells plain,
+  plain.kept.map,
+  taken,
+)

@@ -1,20 +1,23 @@
 -- Documents in the form in which they are written, and texts that begin with a part of one. Own
 -- rule.
 use Rattle.std.specs.Prelude.{◌≡◌, ◌⊎◌, ◌<◌, ◌≤◌, ◌+◌, ◌++◌, ◌∷◌, [], ℕ, List, Bool, true, false}
-use Rattle.std.specs.Prelude.{IsUtf8, codes, decimal, get_or, length, take}
+use Rattle.std.specs.Prelude.{IsUtf8, Option, codes, decimal, get_or, length, take}
 use Rattle.json.specs.Print.{escape_byte, quoted}
 use Rattle.serde_json.specs.Data.{Data, array, member, no_members, number, object, string}
 use Rattle.serde_json.specs.Data.{unsigned}
 use Rattle.serde_json.specs.View.{items_of}
 use Rattle.serde_json.specs.Written.{comma_if, compact_text}
 use Rattle.cell_core.specs.SiteNames.{IsSiteName}
-use Rattle.cata_core.specs.Entries.{Entries}
+use Rattle.cata_core.specs.Entries.{Entries, EntryKey, IsAboveAll}
 use Rattle.site_docs.specs.Documents.{cells_values}
+use Rattle.site_docs.specs.Fields.{IsBehind}
 use Rattle.site_docs.specs.Kinds.{kind_text, subject_of}
+use Rattle.site_docs.specs.RowsSeen.{row_of}
 use Rattle.site_docs.specs.Texts.{text}
 use Rattle.site_docs.specs.Valid.{AreKeptCells}
 use Rattle.site_docs.specs.Values.{Row}
 use Rattle.site_docs.specs.declared.document.kind.Kind.{Kind}
+use Rattle.site_docs.specs.declared.row.shapes.Row.{Row as ReadRow}
 
 -- `{"cells":[..],"kind":KIND,OWN:NAME,"version":2}`
 abbrev pub cells_document : Kind → List ℕ → List Data → Data
@@ -51,6 +54,14 @@ is_later (x ∷ xs) = true
 abbrev pub open_items : Bool → List Data → List ℕ
 open_items later [] = []
 open_items later (d ∷ ds) = comma_if later ++ (compact_text d ++ open_items true ds)
+
+-- the key of a row, as it is written
+abbrev pub key_in : ReadRow → EntryKey
+key_in row = let plain = row_of row in (plain.id, plain.language)
+
+-- a key that is behind the last one is above all these
+abbrev pub IsLastOf : Option EntryKey → Entries → Type 0
+IsLastOf last cells = (key : EntryKey) → IsBehind last key → IsAboveAll key cells
 
 -- a row as far as its label, and what comes after
 abbrev pub row_before : Row → List ℕ → List ℕ

@@ -5,6 +5,8 @@
 //! - The other items serve the crates of documents: [`read_header`] reads a document of a [`Kind`]
 //!   and gives its rows to a [`Rows`], one after another; [`CellRow`] is a row as it is written,
 //!   and [`cell_entry`] what it means; [`write_entry`] and [`write_texts`] write a row and a label.
+//!   [`take_written_site`] gives the cells of a site to a [`TakeCells`] and builds no catalogue,
+//!   where the document is in the form in which it is written.
 //!
 //! Callers find what they need in `docs_core`.
 #![tactic(auto)]
@@ -20,6 +22,8 @@ pub use document::reading::{delta_at, read_delta, read_site, read_summary, site_
 pub use document::tested_header::{TestedHeader, read_header};
 pub use document::version::Version;
 pub use document::writing::{write_delta, write_site, write_summary};
+pub use plain::documents::take_written_site;
+pub use plain::taking::TakeCells;
 pub use row::arrays::Rows;
 pub use row::entries::write_entry;
 pub use row::fields::{CellEntry, cell_entry, id_of, language_of, of_cell};

@@ -1,9 +1,9 @@
 //! The form in which documents of sites and deltas are written, where no id in it has an escape:
 //! read byte by byte, with no token and no value between.
 
-pub(crate) mod appending;
 pub(crate) mod documents;
 pub(crate) mod labels;
 pub(crate) mod pieces;
 pub(crate) mod rows;
 pub(crate) mod strings;
+pub(crate) mod taking;

@@ -1,13 +1,17 @@
 //! Whole documents of sites and deltas.
-ghost use Rattle.std.specs.Prelude.{◌≡◌, ◌++◌, ◌∷◌, List, ℕ, IfSome, IsTrue, decimal};
+ghost use Rattle.std.specs.Prelude.{◌≡◌, ◌++◌, ◌∷◌, [], List, ℕ, IfSome, IsTrue, decimal};
 ghost use Rattle.json.specs.Print.{quoted};
+ghost use Rattle.cell_core.specs.Maps.{IsMap};
 ghost use Rattle.cell_core.specs.SiteNames.{IsSiteName};
+ghost use Rattle.cata_core.specs.Entries.{Entries, key_cmp};
 ghost use Rattle.site_docs.specs.Kinds.{kind_text, subject_of};
 ghost use Rattle.site_docs.specs.Plain.{IsEnd, IsPlainText, last_members};
+ghost use Rattle.site_docs.specs.ReadsAs.{ReadsAsSite};
 
 use crate::document::kind::Kind;
 use crate::plain::pieces::{after, after_text, number_after, text_after};
 use crate::plain::rows::next_cells;
+use crate::plain::taking::TakeCells;
 use cata_core::Catalogue;
 use cell_core::SiteName;
 use json_docs::text_in;
@@ -25,13 +29,47 @@ pub(crate) fn cells_of_plain(
 ) -> Option<(SiteName, Catalogue)>
     ensures { IfSome result (λ r. IsPlainText kind bytes.now r.0 r.1) }
 {
+    let mut cells = Catalogue::new(alloc);
+    let name = take_plain(alloc, bytes, kind, &mut cells)?;
+    Some((name, cells))
+}
+
+/// Gives the cells of a site's document to the taker, and answers the name of the site, where the
+/// bytes are the text that is written for them, with its last line feed or without, and no id in it
+/// has an escape.
+///
+/// `None` says nothing of the document, and the taker may have taken some cells: the document may
+/// be valid in another form, it may be refused, or memory ran out.
+pub fn take_written_site<T: TakeCells>(
+    alloc: Global,
+    bytes: &[u8],
+    taker: &mut T,
+) -> Option<SiteName>
+    requires { T.Holds taker.old taker.old [] }
+    ensures { IfSome result (λ name. (cells : Entries)
+        × ReadsAsSite bytes.now (record { name = name; cells = cells }) × IsMap key_cmp cells
+        × T.Holds taker.old taker.new cells) }
+{
+    take_plain(alloc, bytes, Kind::Site, taker)
+}
+
+/// Gives the cells of a document of this kind to the taker, and answers its name.
+fn take_plain<T: TakeCells>(
+    alloc: Global,
+    bytes: &[u8],
+    kind: Kind,
+    taker: &mut T,
+) -> Option<SiteName>
+    requires { T.Holds taker.old taker.old [] }
+    ensures { IfSome result (λ name. (cells : Entries) × IsPlainText kind bytes.now name cells
+        × T.Holds taker.old taker.new cells) }
+{
     let Ok(text) = text_in(bytes) else {
         return None;
     };
     let rest = member_after(text, "{", "cells")?;
-    let (cells, rest) = next_cells(alloc, rest)?;
-    let name = last_name(rest, kind)?;
-    Some((name, cells))
+    let rest = next_cells(alloc, rest, taker)?;
+    last_name(rest, kind)
 }
 
 /// The name in the members after the rows.

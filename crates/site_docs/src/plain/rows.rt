@@ -1,68 +1,115 @@
 //! The rows of sites and deltas.
-ghost use Rattle.std.specs.Prelude.{◌≡◌, ◌++◌, IfSome};
+ghost use Rattle.std.specs.Prelude.{◌≡◌, ◌++◌, ◌∷◌, [], IfSome, IsTrue, is_some, option_map};
 ghost use Rattle.serde_json.specs.Written.{comma_if, compact_text};
+ghost use Rattle.cata_core.specs.Entries.{Entries, Entry, IsAboveAll};
 ghost use Rattle.site_docs.specs.Documents.{entry_value};
 ghost use Rattle.site_docs.specs.EntriesSeen.{entry_by, told_by};
-ghost use Rattle.site_docs.specs.Fields.{stamp_of};
-ghost use Rattle.site_docs.specs.Plain.{is_later, row_before, rows_text};
+ghost use Rattle.site_docs.specs.Fields.{IsBehind, stamp_of};
+ghost use Rattle.site_docs.specs.Plain.{IsLastOf, key_in, row_before, rows_text};
 ghost use Rattle.site_docs.specs.RowsSeen.{row_of};
 ghost use Rattle.site_docs.specs.Valid.{AreKeptCells, IsKept, IsKeptCell};
 
-use crate::plain::appending::put_above;
 use crate::plain::labels::next_label;
 use crate::plain::pieces::{after, number_after, text_after};
+use crate::plain::taking::TakeCells;
 use crate::row::fields::{CellEntry, StampEntry, stamp_entry};
 use crate::row::shapes::{Row, SiteText};
-use cata_core::Catalogue;
 use cell_core::{Cell, Label};
 use std::alloc::Global;
 
-/// The cells of the array of rows that the text begins with, and what comes after it. The keys
-/// rise.
-pub(crate) fn next_cells(alloc: Global, text: &str) -> Option<(Catalogue, &str)>
-    ensures text { IfSome result (λ r. text.now ≡ rows_text r.0 ++ r.1.now) }
-    ensures kept { IfSome result (λ r. AreKeptCells r.0) }
+/// Gives the cells of the array of rows that the text begins with to the taker, and answers what
+/// comes after it. The keys rise.
+pub(crate) fn next_cells<'t, T: TakeCells>(
+    alloc: Global,
+    text: &'t str,
+    taker: &mut T,
+) -> Option<&'t str>
+    requires { T.Holds taker.old taker.old [] }
+    ensures { IfSome result (λ rest. (cells : Entries) × (text.now ≡ rows_text cells ++ rest.now)
+        × AreKeptCells cells × T.Holds taker.old taker.new cells) }
 {
     let mut rest = after(text, "[")?;
-    let mut cells = Catalogue::new(alloc);
+    let mut last = None;
     while !rest.starts_with("]") {
-        let Some((entry, left)) = next_item(alloc, rest, &cells) else {
+        let Some((row, left)) = next_cell(alloc, rest, last, taker) else {
             return None;
         };
-        if !put_above(alloc, &mut cells, entry) {
-            return None;
-        }
+        last = Some(row);
         rest = left;
     }
     let rest = after(rest, "]")?;
-    Some((cells, rest))
+    Some(rest)
 }
 
-/// The row after these, with a comma before it where it is not the first.
-fn next_item<'t>(alloc: Global, text: &'t str, before: &Catalogue) -> Option<(CellEntry, &'t str)>
-    ensures text { IfSome result
-        (λ r. text.now ≡ comma_if (is_later before.now)
-        ++ (compact_text (entry_value (entry_by r.0)) ++ r.1.now)) }
-    ensures kept { IfSome result (λ r. IsKeptCell (entry_by r.0)) }
+/// Gives the cell of the row after the last one to the taker, where its key is greater.
+fn next_cell<'t, T: TakeCells>(
+    alloc: Global,
+    text: &'t str,
+    last: Option<Row<'t>>,
+    taker: &mut T,
+) -> Option<(Row<'t>, &'t str)>
+    requires { (first : T) × (before : Entries) × T.Holds first taker.old before
+        × IsLastOf (option_map key_in last) before }
+    ensures { IfSome result (λ r. (e : Entry) × (e.0 ≡ key_in r.0) × IsKeptCell e
+        × IsBehind (option_map key_in last.entry) e.0
+        × (text.now ≡ comma_if (is_some last.entry) ++ (compact_text (entry_value e) ++ r.1.now))
+        × ((first : T) → (before : Entries) → T.Holds first taker.old before
+        → IsAboveAll e.0 before → T.Holds first taker.new (before ++ e ∷ []))) }
 {
-    if before.is_empty() {
+    let (row, entry, rest) = next_item(alloc, text, last)?;
+    if !is_behind(last, row) {
+        return None;
+    }
+    match taker.take(alloc, entry) {
+        Ok(()) => Some((row, rest)),
+        Err(_) => None,
+    }
+}
+
+/// Whether the key of the row is greater than that of the last one.
+fn is_behind(last: Option<Row<'_>>, row: Row<'_>) -> bool
+    ensures { IsTrue result → IsBehind (option_map key_in last.entry) (key_in row.entry) }
+{
+    match last {
+        Some(last) => {
+            let ids = last.id.cmp(row.id);
+            ids.then(last.language.cmp(row.language)).is_lt()
+        }
+        None => true,
+    }
+}
+
+/// The row after the last one, with a comma before it where it is not the first.
+fn next_item<'t>(
+    alloc: Global,
+    text: &'t str,
+    last: Option<Row<'t>>,
+) -> Option<(Row<'t>, CellEntry, &'t str)>
+    ensures text { IfSome result
+        (λ r. text.now ≡ comma_if (is_some last.entry)
+        ++ (compact_text (entry_value (entry_by r.1)) ++ r.2.now)) }
+    ensures kept { IfSome result (λ r. IsKeptCell (entry_by r.1)) }
+    ensures key { IfSome result (λ r. (entry_by r.1).0 ≡ key_in r.0) }
+{
+    if last.is_none() {
         return next_entry(alloc, text);
     }
     let rest = after(text, ",")?;
     next_entry(alloc, rest)
 }
 
-/// The row that the text begins with.
-fn next_entry(alloc: Global, text: &str) -> Option<(CellEntry, &str)>
+/// The row that the text begins with, and its entry.
+fn next_entry(alloc: Global, text: &str) -> Option<(Row<'_>, CellEntry, &str)>
     ensures text { IfSome result
-        (λ r. text.now ≡ compact_text (entry_value (entry_by r.0)) ++ r.1.now) }
-    ensures kept { IfSome result (λ r. IsKeptCell (entry_by r.0)) }
+        (λ r. text.now ≡ compact_text (entry_value (entry_by r.1)) ++ r.2.now) }
+    ensures kept { IfSome result (λ r. IsKeptCell (entry_by r.1)) }
+    ensures key { IfSome result (λ r. (entry_by r.1).0 ≡ key_in r.0) }
 {
     let (row, rest) = next_row(text)?;
     let stamped = lower_entry(alloc, row)?;
     let (label, rest) = next_label(alloc, rest)?;
     let rest = after(rest, "]")?;
-    Some((with_label(stamped, label), rest))
+    Some((row, with_label(stamped, label), rest))
 }
 
 /// The entry of this key and this stamp that has this label.

@@ -1,3 +1,5 @@
+use Rattle.std.proofs.Common.{◌∙◌, ap}
+use Rattle.cata_core.specs.Entries.{Entry}
 use Rattle.site_docs.specs.EntriesSeen.{entry_by}
 use Rattle.site_docs.specs.RowsSeen.{row_of}
 use Rattle.site_docs.proofs.PlainLemmas.{entry_kept, entry_text}
@@ -20,3 +22,7 @@ returns-clause-kept c =
     entry_kept (entry_by c.with_label.result) (stamped.id, stamped.lang) stamped.stamp
     (row_of c.in_ok-row.row) label c.in_ok-stamped.ensures.is c.with_label.ensures
     c.in_ok-stamped.ensures.kept c.in_ok-label.ensures.label
+
+pub returns-clause-key : goal.returns-clause-key
+returns-clause-key c = ap (λ (e : Entry). e.0) c.with_label.ensures
+    ∙ ap (λ t. t.0) c.in_ok-stamped.ensures.is

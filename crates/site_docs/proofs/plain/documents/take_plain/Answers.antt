@@ -1,0 +1,12 @@
+use Rattle.site_docs.proofs.PlainLemmas.{plain_taken}
+use Rattle.site_docs.proofs.plain.documents.take_plain.Goals as goal
+
+pub returns : goal.returns
+returns g c =
+    let taken = c.in_ok-rest-2.ensures in
+    let cells = taken.0 in
+    plain_taken c.args.kind c.args.bytes.now c.in-Ok.text.now c.in_ok-rest.rest.now
+    c.in_ok-rest-2.rest.now cells
+    (λ all. g.T.TakeCells.Holds c.args.taker.now c.next_cells.new.taker all)
+    c.last_name.result c.in-Ok.ensures c.in_ok-rest.ensures taken.1 taken.2 taken.3
+    c.last_name.ensures.text c.last_name.ensures.name

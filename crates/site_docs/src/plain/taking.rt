@@ -1,0 +1,45 @@
+//! What takes the cells of a document one after another, as they are read.
+ghost use Rattle.std.specs.Prelude.{◌≡◌, ◌++◌, ◌∷◌, [], OnOk};
+ghost use Rattle.cata_core.specs.Deltas.{summary_of};
+ghost use Rattle.cata_core.specs.Entries.{Entries, IsAboveAll};
+ghost use Rattle.site_docs.specs.EntriesSeen.{entry_by};
+
+use crate::row::fields::CellEntry;
+use cata_core::{Catalogue, Summary};
+use std::alloc::{AllocError, Global};
+
+/// Takes the cells of a document one after another, in rising order of key.
+pub trait TakeCells {
+    /// The second value is what the first becomes by these cells.
+    ghost Holds: { Self → Self → Entries → Type 0 };
+
+    /// Takes one cell more, whose key is greater than all before it.
+    ///
+    /// Its one refusal is out of memory (26).
+    fn take(&mut self, alloc: Global, entry: CellEntry) -> Result<(), AllocError>
+        requires { (first : Self) × (before : Entries) × Holds first self.old before
+            × IsAboveAll (entry_by entry).0 before }
+        ensures { OnOk result ((first : Self) → (before : Entries) → Holds first self.old before
+            → IsAboveAll (entry_by entry).0 before
+            → Holds first self.new (before ++ entry_by entry ∷ [])) };
+}
+
+/// Keeps all cells.
+impl TakeCells for Catalogue {
+    ghost Holds = { λ first cells taken. cells ≡ taken };
+
+    fn take(&mut self, alloc: Global, entry: CellEntry) -> Result<(), AllocError> {
+        let CellEntry { id, lang, cell } = entry;
+        self.push(alloc, id, lang, cell)
+    }
+}
+
+/// Keeps the stamps of all cells; the owner stays.
+impl TakeCells for Summary {
+    ghost Holds = { λ first summary taken. summary.stamps ≡ summary_of taken };
+
+    fn take(&mut self, _alloc: Global, entry: CellEntry) -> Result<(), AllocError> {
+        let CellEntry { id, lang, cell } = entry;
+        self.push(id, lang, cell.stamp())
+    }
+}
