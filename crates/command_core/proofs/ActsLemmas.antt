@@ -9,7 +9,7 @@ use Rattle.json_docs.specs.Sinks.{AppendsFront}
 use Rattle.json_docs.specs.Sources.{IsReadFault, ReadsWhole}
 use Rattle.json_docs.specs.declared.fault.DocCause.TheVariants.{WriteFault}
 use Rattle.json_docs.specs.declared.fault.DocFault.{DocFault}
-use Rattle.site_docs.specs.ReadsAs.{no_memory}
+use Rattle.row_docs.specs.Reading.{no_memory}
 use Rattle.docs_core.specs.Replays.{RefusesReplay, Replays}
 use Rattle.command_core.specs.Acts.{Performs, Treats}
 use Rattle.command_core.specs.Endings.{EndsRefused, Writes}
@@ -65,6 +65,6 @@ not_replayed fault run status is told (inr (inl h)) =
 not_replayed fault run status is told (inr (inr h)) =
     let four : status ≡ 4 =
     is ∙ ap (λ (d : DocFault). status_of (number_of (document_fault d))) h.4 in
-    let write_told =
+    let write_stamped =
     subst (λ (d : DocFault). PrintsRefusal (document_fault d) run.faults) h.4 told in
-    inl (h.1, 0, (h.0, h.2, (h.3, refl)), inr (four, h.6, h.5, write_told))
+    inl (h.1, 0, (h.0, h.2, (h.3, refl)), inr (four, h.6, h.5, write_stamped))

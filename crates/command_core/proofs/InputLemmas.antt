@@ -7,16 +7,16 @@ use Rattle.std.proofs.lemmas.Bool.Decides.{nat_tests}
 use Rattle.std.proofs.lemmas.List.{append_assoc, drop_at, take_at}
 use Rattle.std.proofs.lemmas.List.Elements.{All-head, All-tail}
 use Rattle.cata_core.specs.Sites.{SiteState}
-use Rattle.site_docs.specs.Documents.{cells_values}
+use Rattle.row_docs.specs.Entries.{cells_values}
 use Rattle.site_docs.specs.ReadsAs.{IsSiteText, ReadsAsSite}
 use Rattle.site_docs.specs.SiteDocuments.{IsSiteDocument, site_checks}
-use Rattle.site_docs.specs.Texts.{IsOneLine}
+use Rattle.row_docs.specs.Texts.{IsOneLine}
 use Rattle.site_docs.specs.Values.{site_value}
 use Rattle.map_docs.specs.LangMapLabels.{AreLangMaps, ReadsAsLangMaps}
 use Rattle.map_docs.specs.LangMapChecks.{langmaps_checks}
 use Rattle.map_docs.specs.LangMaps.{Labelled}
 use Rattle.docs_core.proofs.FreeLineFeed.{free}
-use Rattle.docs_core.proofs.OneLine.{one_line}
+use Rattle.row_docs.proofs.OneLine.{one_line}
 use Rattle.command_core.specs.Input.{AreDocuments}
 
 other : (b : ℕ) → b ≢ 10 → (b == 10) ≡ false

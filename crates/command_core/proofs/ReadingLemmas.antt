@@ -5,7 +5,8 @@ use Rattle.cata_core.specs.Sites.{SiteState}
 use Rattle.json_docs.specs.Checks.{OrMemory}
 use Rattle.json_docs.specs.Sources.{ReadsWhole}
 use Rattle.json_docs.specs.declared.fault.DocFault.{DocFault}
-use Rattle.site_docs.specs.ReadsAs.{ReadsAsSite, no_memory}
+use Rattle.row_docs.specs.Reading.{no_memory}
+use Rattle.site_docs.specs.ReadsAs.{ReadsAsSite}
 use Rattle.command_core.specs.Documents.{RefusesOnly}
 use Rattle.command_core.specs.Reading.{FailsInput, ReadsSite}
 use Rattle.command_core.specs.Streams.{Reader}

@@ -11,7 +11,7 @@ use Rattle.cell_core.specs.Refusals.{RefusesName}
 use Rattle.cell_core.specs.SiteNames.{IsSiteName}
 use Rattle.docs_core.specs.Calls as call
 use Rattle.site_docs.specs.ReadsAs.{IsSiteText, ReadsAsSite}
-use Rattle.site_docs.specs.Fields.{IsSpelled}
+use Rattle.row_docs.specs.Fields.{IsSpelled}
 use Rattle.docs_core.specs.Missing as missing
 use Rattle.docs_core.specs.Outdated as outdated
 use Rattle.json_docs.specs.declared.fault.DocFault.{DocFault}

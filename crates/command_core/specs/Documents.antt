@@ -4,7 +4,8 @@ use Rattle.std.specs.Prelude.{ℕ, Bool, List}
 use Rattle.docs_core.specs.Calls as call
 use Rattle.docs_core.specs.Changed.{IsChanged, RefusesChanged}
 use Rattle.docs_core.specs.Exchange as exchange
-use Rattle.site_docs.specs.ReadsAs.{IsOfDocument, RefusesSite}
+use Rattle.row_docs.specs.Reading.{IsOfDocument}
+use Rattle.site_docs.specs.ReadsAs.{RefusesSite}
 use Rattle.docs_core.specs.TimeLimits.{IsTakenUntil, RefusesTakingUntil}
 use Rattle.docs_core.specs.Updated as updated
 use Rattle.json_docs.specs.declared.fault.DocFault.{DocFault}

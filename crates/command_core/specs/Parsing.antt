@@ -11,7 +11,7 @@ use Rattle.front_core.specs.Faults.{IsOf, cell_fault, language_fault}
 use Rattle.front_core.specs.declared.fault.FrontFault.{FrontFault}
 use Rattle.command_core.specs.declared.parsing.Key.{Key}
 use Rattle.command_core.specs.declared.parsing.Translation.{Translation}
-use Rattle.site_docs.specs.Fields.{IsSpelled}
+use Rattle.row_docs.specs.Fields.{IsSpelled}
 use Rattle.lang_core.specs.declared.fault.LangFault.{LangFault}
 
 -- a command without words that the product reads

@@ -5,7 +5,8 @@ use Rattle.cata_core.specs.Sites.{SiteState}
 use Rattle.json_docs.specs.Checks.{OrMemory}
 use Rattle.json_docs.specs.Sources.{IsReadFault, ReadsWhole}
 use Rattle.json_docs.specs.declared.fault.DocFault.{DocFault}
-use Rattle.site_docs.specs.ReadsAs.{ReadsAsSite, no_memory}
+use Rattle.row_docs.specs.Reading.{no_memory}
+use Rattle.site_docs.specs.ReadsAs.{ReadsAsSite}
 use Rattle.front_core.specs.Faults.{IsOf, document_fault}
 use Rattle.front_core.specs.declared.fault.FrontFault.{FrontFault}
 use Rattle.command_core.specs.Streams.{IsUnread, Reader}

@@ -1,7 +1,7 @@
 //! The commands that take a number at most, `--now` or `--not-after`: all else comes in documents.
 ghost use Rattle.std.specs.Prelude.{◌≡◌, false, MatchResult};
 ghost use Rattle.json_docs.specs.Checks.{OrMemory};
-ghost use Rattle.site_docs.specs.ReadsAs.{no_memory};
+ghost use Rattle.row_docs.specs.Reading.{no_memory};
 ghost use Rattle.command_core.specs.Acts.{Performs};
 ghost use Rattle.command_core.specs.Documents.{AreChangesOf, IsDocument, RefusesChanges};
 ghost use Rattle.command_core.specs.Documents.{RefusesDocuments};

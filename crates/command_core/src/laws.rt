@@ -2,7 +2,7 @@
 ghost use Rattle.std.specs.Prelude.{◌++◌, List, ℕ};
 ghost use Rattle.cata_core.specs.Sites.{SiteState};
 ghost use Rattle.site_docs.specs.ReadsAs.{IsSiteText, ReadsAsSite};
-ghost use Rattle.site_docs.specs.Texts.{IsOneLine};
+ghost use Rattle.row_docs.specs.Texts.{IsOneLine};
 ghost use Rattle.map_docs.specs.LangMapLabels.{AreLangMaps};
 ghost use Rattle.map_docs.specs.LangMaps.{Labelled};
 ghost use Rattle.command_core.specs.Input.{AreDocuments};

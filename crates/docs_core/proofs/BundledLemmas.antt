@@ -27,7 +27,7 @@ use Rattle.cata_core.proofs.LanguageLemmas.{live_among}
 use Rattle.cata_core.proofs.NestedCatalogues.{text_exact}
 use Rattle.cata_core.proofs.Search.{find_get}
 use Rattle.cata_core.proofs.UniqueAnswers.{one_lookup_answer_by}
-use Rattle.site_docs.specs.Texts.{Adds}
+use Rattle.row_docs.specs.Texts.{Adds}
 use Rattle.map_docs.specs.LangMaps.{Labelled}
 use Rattle.map_docs.specs.LangMapLaws.{IsWritable}
 use Rattle.map_docs.specs.LangMapsWritten.{IsWriting, label_tokens, opening_tokens}

@@ -8,7 +8,8 @@ use Rattle.json_docs.specs.Faults.{of_no_document, of_site}
 use Rattle.json_docs.specs.declared.fault.DocCause.TheVariants.{NoMemory}
 use Rattle.json_docs.specs.declared.fault.DocFault.{DocFault}
 use Rattle.site_docs.specs.Documents.{site_text}
-use Rattle.site_docs.specs.ReadsAs.{IsSiteText, ReadsAsSite, no_memory}
+use Rattle.row_docs.specs.Reading.{no_memory}
+use Rattle.site_docs.specs.ReadsAs.{IsSiteText, ReadsAsSite}
 use Rattle.docs_core.specs.Calls.{IsOfSite}
 
 -- the refusal of a site's call, as that of a call on documents

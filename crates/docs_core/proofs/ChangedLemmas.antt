@@ -13,7 +13,7 @@ use Rattle.cata_core.proofs.ChangesLemmas.{alike_at, one_changes}
 use Rattle.site_docs.specs.ReadsAs.{ReadsAsSite}
 use Rattle.docs_core.specs.Changed.{IsChanged, change_line, changes_lines, has_change}
 use Rattle.docs_core.specs.Lines.{line}
-use Rattle.docs_core.proofs.OneDocument.{one_site}
+use Rattle.site_docs.proofs.OneDocument.{one_site}
 
 -- ---- how many
 

@@ -7,7 +7,8 @@ use Rattle.json_docs.specs.Checks.{OrMemory}
 use Rattle.json_docs.specs.Faults.{of_no_document, of_site}
 use Rattle.json_docs.specs.declared.fault.DocFault.{DocFault}
 use Rattle.site_docs.specs.Documents.{site_text}
-use Rattle.site_docs.specs.ReadsAs.{ReadsAsSite, no_memory}
+use Rattle.row_docs.specs.Reading.{no_memory}
+use Rattle.site_docs.specs.ReadsAs.{ReadsAsSite}
 use Rattle.map_docs.specs.LangMapLabels.{AreLangMaps}
 use Rattle.map_docs.specs.LangMaps.{Labelled}
 use Rattle.docs_core.specs.Exchange.{RefusesImport}

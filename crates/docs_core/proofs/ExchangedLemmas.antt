@@ -7,13 +7,13 @@ use Rattle.cata_core.specs.declared.delta.Delta.{Delta}
 use Rattle.cata_core.specs.Summary.{SummaryState}
 use Rattle.cata_core.proofs.Deltas.{nothing_lost}
 use Rattle.cata_core.proofs.Summaries.{has_own}
-use Rattle.site_docs.specs.Documents.{cells_values}
+use Rattle.row_docs.specs.Entries.{cells_values}
 use Rattle.site_docs.specs.ReadsAs.{IsSiteText, ReadsAsDelta, ReadsAsSite}
-use Rattle.site_docs.specs.Texts.{text}
+use Rattle.row_docs.specs.Texts.{text}
 use Rattle.site_docs.specs.Values.{site_value}
 use Rattle.docs_core.specs.Calls.{AreSynced, IsDeltaFor, IsSummarised, IsTaken}
 use Rattle.docs_core.proofs.CallsLemmas.{site_written}
-use Rattle.docs_core.proofs.OneDocument.{one_delta, one_site, one_summary}
+use Rattle.site_docs.proofs.OneDocument.{one_delta, one_site, one_summary}
 
 -- a delta made against what the site has leaves it with all cells of the sender
 pub taken_suffices : (a b text : List ℕ) (site : SiteState) (sender : Entries) (told : Stamps)

@@ -28,7 +28,7 @@ use Rattle.nego_core.proofs.FieldLaws.{malformed_is_no_field, one_malformed}
 
 -- ---- languages
 
--- a piece that is refused does not stand in a list of allowed ones
+-- a piece that is refused is not in a list of allowed ones
 not_allowed : (allowed : ℕ → List ℕ → Bool) (from : ℕ) (before after : List (List ℕ))
     (piece : List ℕ) → are_allowed allowed from (before ++ piece ∷ after) ≡ true
     → allowed (from + length before) piece ≡ false → ⊥

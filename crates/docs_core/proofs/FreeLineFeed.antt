@@ -7,7 +7,7 @@ use Rattle.std.proofs.lemmas.Str.{IsUtf8-take}
 use Rattle.std.proofs.lemmas.Str.Ascii.{IsAscii-cons, IsAscii-nil}
 use Rattle.serde_json.specs.Data.{Data}
 use Rattle.json_docs.specs.Checks.{AreJson, Check}
-use Rattle.site_docs.specs.ReadsAs.{Reads}
+use Rattle.row_docs.specs.Reading.{Reads}
 use Rattle.json_docs.proofs.LineFeed.{read-line_feed}
 
 feed : IsUtf8 (10 ∷ [])
@@ -25,7 +25,7 @@ json_without bytes d json = (without bytes json.0, sym (read-line_feed bytes) �
 json_with : (bytes : List ℕ) (d : Data) → AreJson bytes d → AreJson (bytes ++ 10 ∷ []) d
 json_with bytes d json = (IsUtf8-append bytes (10 ∷ []) json.0 feed, read-line_feed bytes ∙ json.1)
 
--- what a text with a line feed behind it reads as, it reads as without
+-- what a text with a line feed after it reads as, it reads as without
 pub free : {X : Type 0} (checks : Data → List Check) (Is : Data → X → Type 0) (bytes : List ℕ)
     (x : X)
     → Reads checks Is (bytes ++ 10 ∷ []) x ↔ Reads checks Is bytes x

@@ -1,4 +1,4 @@
--- Lines behind lines.
+-- Lines after lines.
 use Rattle.std.proofs.Common.{◌≡◌, ◌∙◌, ◌+◌, ◌<◌, ◌++◌, ℕ, List, [], ◌∷◌, arith, ap, sym, length}
 use Rattle.std.proofs.Common.{take, get_or}
 use Rattle.std.specs.Prelude.{Option, flat_map, slice_get, Some, None}
@@ -9,13 +9,13 @@ use Rattle.json.specs.Written.{Written}
 use Rattle.serde_json.specs.Data.{Data}
 use Rattle.serde_json.specs.Written.{compact_text}
 use Rattle.serde_json.proofs.Texts.{print-outline}
-use Rattle.site_docs.specs.Texts.{Adds, value_tokens}
+use Rattle.row_docs.specs.Texts.{Adds, value_tokens}
 
--- a value written behind some bytes
-pub printed_behind : (a b : Written) (start : List ℕ) (d : Data) → a.before ≡ start → a.tokens ≡ []
+-- a value written after some bytes
+pub printed_after : (a b : Written) (start : List ℕ) (d : Data) → a.before ≡ start → a.tokens ≡ []
     → Adds a b (value_tokens d)
     → b.before ++ print b.tokens ≡ start ++ compact_text d
-printed_behind a b start d before none adds =
+printed_after a b start d before none adds =
     let tokens : b.tokens ≡ value_tokens d = adds.1 ∙ ap (λ t. t ++ value_tokens d) none in
     ap (λ t. t ++ print b.tokens) (adds.0 ∙ before)
     ∙ ap (λ t. start ++ t) (ap print tokens ∙ print-outline d)

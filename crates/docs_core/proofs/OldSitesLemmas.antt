@@ -23,34 +23,39 @@ use Rattle.cata_core.proofs.Basics.{some_same}
 use Rattle.cata_core.proofs.Migration.{keeps_catalogue_joins}
 use Rattle.json_docs.specs.Checks.{AllPass, AreJson, Check, rows_checks}
 use Rattle.json_docs.specs.Parts.{items_in, u32_in, u64_in}
-use Rattle.json_docs.proofs.ChecksLemmas.{AllPass-behind}
+use Rattle.json_docs.proofs.ChecksLemmas.{AllPass-rest}
 use Rattle.json_docs.proofs.SmallNumbers.{AreSmall, IsSmall, get_small, items_in_small, read_small}
 use Rattle.json_docs.proofs.SmallNumbers.{u32_in_small, u64_in_small}
-use Rattle.site_docs.specs.Headers.{header_checks, rows_in, subject_data, version_of}
-use Rattle.site_docs.specs.Kinds.{rows_of}
-use Rattle.site_docs.specs.ReadsAs.{Reads, ReadsAsDelta, ReadsAsSite, ReadsAsSummary}
-use Rattle.site_docs.specs.Rows.{label_in}
+use Rattle.row_docs.specs.Headers.{header_checks, rows_in, subject_data, version_of}
+use Rattle.row_docs.specs.Kinds.{rows_of}
+use Rattle.row_docs.specs.Reading.{Reads}
+use Rattle.site_docs.specs.ReadsAs.{ReadsAsDelta, ReadsAsSite, ReadsAsSummary}
+use Rattle.row_docs.specs.Rows.{label_in}
 use Rattle.site_docs.specs.SiteDocuments.{IsDeltaDocument, IsSiteDocument, IsSummaryDocument}
-use Rattle.site_docs.specs.Rising.{AreEntries, cell_checks, entry_in, stamp_checks}
+use Rattle.row_docs.specs.Rising.{AreEntries, cell_checks, entry_in, stamp_checks}
 use Rattle.site_docs.specs.SiteDocuments.{delta_checks, document_checks, site_checks}
 use Rattle.site_docs.specs.SiteDocuments.{subject_checks, summary_checks}
-use Rattle.site_docs.specs.declared.document.kind.Kind.{Kind}
-use Rattle.site_docs.specs.declared.document.kind.Kind.TheVariants as kind
-use Rattle.site_docs.specs.declared.document.version.Version.{Version}
-use Rattle.site_docs.specs.declared.document.version.Version.TheVariants.{One}
-use Rattle.site_docs.proofs.RisingKeys.{cells_rise, stamps_rise}
+use Rattle.row_docs.specs.declared.kind.Kind.{Kind}
+use Rattle.row_docs.specs.declared.kind.Kind.TheVariants as kind
+use Rattle.row_docs.specs.declared.version.Version.{Version}
+use Rattle.row_docs.specs.declared.version.Version.TheVariants.{One}
+use Rattle.row_docs.proofs.RisingKeys.{cells_rise, stamps_rise}
 use Rattle.script_docs.specs.ScriptReads.{IsScriptDocument, ReadsAsScript, script_checks}
 use Rattle.script_docs.specs.Scripts.{ScriptState}
 use Rattle.docs_core.specs.Calls.{AreSynced}
-use Rattle.docs_core.specs.OldRows.{AreOldStepsOf, IsOldDeltaDocument, IsOldScriptDocument}
-use Rattle.docs_core.specs.OldRows.{IsOldSiteDocument, IsOldStepOf, IsOldSummaryDocument, OldScript}
-use Rattle.docs_core.specs.OldRows.{migrated_script, old_entry_in, old_entry_of, old_parts_in}
-use Rattle.docs_core.specs.OldRows.{old_told, old_told_in, old_told_of}
+use Rattle.script_docs.specs.OldScripts.{AreOldStepsOf, IsOldScriptDocument}
+use Rattle.site_docs.specs.OldDocuments.{IsOldDeltaDocument}
+use Rattle.site_docs.specs.OldDocuments.{IsOldSiteDocument, IsOldSummaryDocument}
+use Rattle.script_docs.specs.OldScripts.{IsOldStepOf, OldScript}
+use Rattle.script_docs.specs.OldScripts.{migrated_script}
+use Rattle.row_docs.specs.OldRows.{old_entry_in, old_entry_of, old_parts_in}
+use Rattle.row_docs.specs.OldRows.{old_stamped, old_stamped_in, old_stamped_of}
 use Rattle.docs_core.specs.OldSites.{AreOldStamps, IsOldDelta, IsOldScript, IsOldSite, IsOldStep}
 use Rattle.docs_core.specs.OldSites.{IsOldSummary}
-use Rattle.docs_core.proofs.OldRowsLemmas.{delta_migrated, old_parts_by, script_migrated}
-use Rattle.docs_core.proofs.OldRowsLemmas.{site_migrated, summary_migrated}
-use Rattle.docs_core.proofs.OneDocument.{read_is, read_passes, same_some}
+use Rattle.row_docs.proofs.OldRowsLemmas.{old_parts_by}
+use Rattle.site_docs.proofs.OldDocumentsLemmas.{delta_migrated, site_migrated, summary_migrated}
+use Rattle.script_docs.proofs.OldScriptsLemmas.{script_migrated}
+use Rattle.row_docs.proofs.OneReading.{read_is, read_passes, same_some}
 
 -- ---- rows
 
@@ -82,7 +87,7 @@ parts_fit (Some i) (Some l) None os oc p time site count is = absurd (cc)
 parts_fit (Some i) (Some l) (Some t) None oc p time site count is = absurd (cc)
 parts_fit (Some i) (Some l) (Some t) (Some s) None p time site count is = absurd (cc)
 parts_fit (Some i) (Some l) (Some t) (Some s) (Some c) p time site count is =
-    subst (λ (q : EntryKey × OldStamp). IsOldStamp q.1) (some_same (old_told i l t s c) p is)
+    subst (λ (q : EntryKey × OldStamp). IsOldStamp q.1) (some_same (old_stamped i l t s c) p is)
     (record { time_fits = time t refl; site_fits = site s refl; count_fits = count c refl })
 
 row_fits : (i l t s c : Data) (p : EntryKey × OldStamp) → IsSmall t
@@ -110,10 +115,10 @@ cell_fits (i ∷ l ∷ t ∷ s ∷ c ∷ b ∷ []) old small is =
     subst IsOldStamp parts.2 (row_fits i l t s c parts.0 small.1.1.0 parts.1)
 cell_fits ds old small is = absurd (cc)
 
-told_fits : (ds : List Data) (p : EntryKey × OldStamp) → AreSmall ds → old_told_of ds ≡ Some p
+stamped_fits : (ds : List Data) (p : EntryKey × OldStamp) → AreSmall ds → old_stamped_of ds ≡ Some p
     → IsOldStamp p.1
-told_fits (i ∷ l ∷ t ∷ s ∷ c ∷ []) p small is = row_fits i l t s c p small.1.1.0 is
-told_fits ds p small is = absurd (cc)
+stamped_fits (i ∷ l ∷ t ∷ s ∷ c ∷ []) p small is = row_fits i l t s c p small.1.1.0 is
+stamped_fits ds p small is = absurd (cc)
 
 -- what is made of the items of a value whose numbers are small
 of_items : {A : Type 0} (P : A → Type 0) (f : List Data → Option A)
@@ -139,14 +144,14 @@ entries_fit (d ∷ ds) (e ∷ es) small are =
     (entry_fits d e small.0 first, entries_fit ds es small.1 later)
 
 stamps_fit : (ds : List Data) (olds : OldStamps) → AreSmall ds
-    → map old_told_in ds ≡ map Some olds → AllHold IsOldStamp olds
+    → map old_stamped_in ds ≡ map Some olds → AllHold IsOldStamp olds
 stamps_fit [] [] small are = tt
 stamps_fit [] (e ∷ es) small are = absurd (cc)
 stamps_fit (d ∷ ds) [] small are = absurd (cc)
 stamps_fit (d ∷ ds) (e ∷ es) small are =
-    let first : old_told_in d ≡ Some e = cc in
-    let later : map old_told_in ds ≡ map Some es = cc in
-    let here = of_items (λ (p : EntryKey × OldStamp). IsOldStamp p.1) old_told_of told_fits
+    let first : old_stamped_in d ≡ Some e = cc in
+    let later : map old_stamped_in ds ≡ map Some es = cc in
+    let here = of_items (λ (p : EntryKey × OldStamp). IsOldStamp p.1) old_stamped_of stamped_fits
     (items_in d) (λ ds e. items_in_small d ds small.0 e) e first in
     (here, stamps_fit ds es small.1 later)
 
@@ -210,7 +215,7 @@ document_rows : (kind : Kind) (checks : Version → List Data → Data → List 
 document_rows kind checks d pass =
     let subject = subject_checks (version_of d) (subject_data kind d) in
     let rows = rows_checks (checks (version_of d)) [] (rows_in kind d) in
-    AllPass-behind subject rows (AllPass-behind (header_checks kind d) (subject ++ rows) pass)
+    AllPass-rest subject rows (AllPass-rest (header_checks kind d) (subject ++ rows) pass)
 
 -- the cells of a document of version 1 are an old map
 cells_fit : (kind : Kind) (d : Data) (es : Entries) (olds : OldEntries)

@@ -9,22 +9,22 @@ use Rattle.nego_core.specs.declared.fault.NegoFault.{NegoFault}
 use Rattle.nego_core.specs.declared.scheme.Scheme.{Scheme}
 use Rattle.json_docs.specs.Checks.{AllPass, AreJson, Check, FirstFails, IsRefusal, IsTextRefusal}
 use Rattle.json_docs.specs.Checks.{check, rows_checks}
-use Rattle.site_docs.specs.Fields.{IsLabelRefusal, IsLabelText, cell_fields, key_of, label_check}
-use Rattle.site_docs.specs.Fields.{language_check, order_check, stamp_fields}
-use Rattle.site_docs.specs.Headers.{header_checks, rows_in, subject_data, version_of}
+use Rattle.row_docs.specs.Fields.{IsLabelRefusal, IsLabelText, cell_fields, key_of, label_check}
+use Rattle.row_docs.specs.Fields.{language_check, order_check, stamp_fields}
+use Rattle.row_docs.specs.Headers.{header_checks, rows_in, subject_data, version_of}
 use Rattle.map_docs.specs.LangMapChecks as maps
 use Rattle.map_docs.specs.LangMapRows as map_rows
 use Rattle.json_docs.specs.declared.fault.DocCause.{DocCause}
 use Rattle.json_docs.specs.declared.fault.DocCause.TheVariants.{Field}
 use Rattle.json_docs.specs.declared.fault.FieldFault.TheVariants.{Cell, Language, Priorities}
 use Rattle.site_docs.specs.SiteDocuments.{document_checks, subject_checks}
-use Rattle.site_docs.specs.ReadsAs.{Reads}
-use Rattle.site_docs.specs.Rising.{cell_checks, cell_row, entry_in, last_key, own_cell_checks}
-use Rattle.site_docs.specs.Rising.{own_stamp_checks, stamp_checks, stamp_row, told_in}
-use Rattle.site_docs.specs.Values.{Row}
-use Rattle.site_docs.specs.declared.document.kind.Kind.{Kind}
-use Rattle.site_docs.specs.declared.document.kind.Kind.TheVariants.{Script}
-use Rattle.site_docs.specs.declared.document.version.Version.{Version}
+use Rattle.row_docs.specs.Reading.{Reads}
+use Rattle.row_docs.specs.Rising.{cell_checks, cell_row, entry_in, last_key, own_cell_checks}
+use Rattle.row_docs.specs.Rising.{own_stamp_checks, stamp_checks, stamp_row, stamped_in}
+use Rattle.row_docs.specs.Values.{Row}
+use Rattle.row_docs.specs.declared.kind.Kind.{Kind}
+use Rattle.row_docs.specs.declared.kind.Kind.TheVariants.{Script}
+use Rattle.row_docs.specs.declared.version.Version.{Version}
 use Rattle.script_docs.specs.ScriptReads.{script_checks, sites_check}
 use Rattle.script_docs.specs.StepFields.{default_checks, list_check, shaped_fields, step_checks}
 use Rattle.script_docs.specs.StepFields.{step_fields}
@@ -142,7 +142,7 @@ stamp_rows : (version : Version) (before : List Data) (d : Data)
     → AreTests (stamp_checks version before d)
 stamp_rows version before d =
     both (own_stamp_checks version (length before) d)
-    (order_check (length before) (last_key (told_in version) before)
+    (order_check (length before) (last_key (stamped_in version) before)
     (key_of (stamp_row version d)) ∷ [])
     (plain _ _, stamps (length before) (stamp_row version d)) (plain _ _, tt)
 

@@ -12,7 +12,7 @@ use Rattle.cata_core.specs.declared.play_fault.PlayFault.TheVariants.{NoSuchSite
 use Rattle.json_docs.specs.Checks.{OrMemory}
 use Rattle.json_docs.specs.Faults.{of_no_document, of_step}
 use Rattle.json_docs.specs.declared.fault.DocFault.{DocFault}
-use Rattle.site_docs.specs.ReadsAs.{no_memory}
+use Rattle.row_docs.specs.Reading.{no_memory}
 use Rattle.script_docs.specs.ScriptReads.{ReadsAsScript}
 use Rattle.script_docs.specs.Scripts.{ScriptState}
 use Rattle.docs_core.specs.Replays.{IsPlayed, RefusesReplay, RefusesRun}

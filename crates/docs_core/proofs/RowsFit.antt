@@ -20,12 +20,12 @@ use Rattle.cata_core.specs.Entries.{EntryKey}
 use Rattle.cata_core.specs.Sites.{SiteState}
 use Rattle.cata_core.specs.declared.delta.Delta.{Delta as DeltaState}
 use Rattle.json_docs.specs.Parts.{items_in, list_of}
-use Rattle.site_docs.specs.Headers.{rows_in, version_of}
-use Rattle.site_docs.specs.Kinds.{rows_of}
+use Rattle.row_docs.specs.Headers.{rows_in, version_of}
+use Rattle.row_docs.specs.Kinds.{rows_of}
 use Rattle.site_docs.specs.ReadsAs.{ReadsAsDelta, ReadsAsSite}
-use Rattle.site_docs.specs.Rising.{AreEntries, entry_in}
-use Rattle.site_docs.specs.declared.document.kind.Kind.{Kind}
-use Rattle.site_docs.specs.declared.document.kind.Kind.TheVariants.{Delta, Site}
+use Rattle.row_docs.specs.Rising.{AreEntries, entry_in}
+use Rattle.row_docs.specs.declared.kind.Kind.{Kind}
+use Rattle.row_docs.specs.declared.kind.Kind.TheVariants.{Delta, Site}
 use Rattle.json_docs.proofs.WholeTextLemmas.{length-tokens}
 
 -- an array has fewer items than this

@@ -19,12 +19,13 @@ use Rattle.cata_core.proofs.Best.{same_key}
 use Rattle.cata_core.proofs.Members.{Contains-from_in, In}
 use Rattle.json_docs.specs.Checks.{OrMemory}
 use Rattle.json_docs.specs.declared.fault.DocFault.{DocFault}
-use Rattle.site_docs.specs.ReadsAs.{ReadsAsDelta, ReadsAsSite, no_memory}
+use Rattle.row_docs.specs.Reading.{no_memory}
+use Rattle.site_docs.specs.ReadsAs.{ReadsAsDelta, ReadsAsSite}
 use Rattle.docs_core.specs.Calls.{AreSynced, IsTaken, RefusesSync, RefusesTaking}
 use Rattle.docs_core.specs.TimeLimits.{AreInTime, AreSyncedUntil, IsFirstAhead, IsInTime}
 use Rattle.docs_core.specs.TimeLimits.{IsTakenUntil, RefusesSyncUntil, RefusesTakingUntil}
 use Rattle.map_docs.proofs.LangMapLabelsLemmas.{else_by}
-use Rattle.docs_core.proofs.OneDocument.{one_delta, one_site}
+use Rattle.site_docs.proofs.OneDocument.{one_delta, one_site}
 
 -- ---- the first row that is ahead
 

@@ -19,7 +19,7 @@ use Rattle.docs_core.specs.Made.{Change, Makes, with_change}
 use Rattle.docs_core.specs.Updated.{AreChanges, IsChangeAt, IsUpdated, Texts, Updates}
 use Rattle.map_docs.proofs.LangMapLawsLemmas.{same_labels}
 use Rattle.docs_core.proofs.LiveLemmas.{find-live, label_in, live-IsMap}
-use Rattle.docs_core.proofs.OneDocument.{one_site}
+use Rattle.site_docs.proofs.OneDocument.{one_site}
 use Rattle.docs_core.proofs.UpdatedLemmas.{one_change, one_key}
 
 -- ---- changes that were made

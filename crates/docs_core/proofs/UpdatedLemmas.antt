@@ -37,14 +37,14 @@ one_key q k t = key_cmp_exact q k (tied (key_cmp q k) t)
 itself : (k : EntryKey) → eq_by_cmp key_cmp k k ≡ true
 itself k = ap is_eq (tied_itself key_cmp_total k)
 
--- labels that are lent are the same where the comparison says so
-pub lent_decides : (x y : Option (Bor (List (List ℕ))))
+-- labels that are borrowed are the same where the comparison says so
+pub borrowed_decides : (x y : Option (Bor (List (List ℕ))))
     → Decides (option_eq (λ a b. pointwise (pointwise nat_eq) a.now b.now) x y)
     (option_map (λ l. l.now) x ≡ option_map (λ l. l.now) y)
-lent_decides None None = label_decides None None
-lent_decides None (Some y) = label_decides None (Some y.now)
-lent_decides (Some x) None = label_decides (Some x.now) None
-lent_decides (Some x) (Some y) = label_decides (Some x.now) (Some y.now)
+borrowed_decides None None = label_decides None None
+borrowed_decides None (Some y) = label_decides None (Some y.now)
+borrowed_decides (Some x) None = label_decides (Some x.now) None
+borrowed_decides (Some x) (Some y) = label_decides (Some x.now) (Some y.now)
 
 -- ---- the heads of lists
 
@@ -156,9 +156,9 @@ above_found k q (x ∷ xs) h found =
           (second_part (is_lt (key_cmp k x.0)) (below_all key_cmp k xs) h) more
     ] refl found
 
-found_behind : {J : Type 0} (q : EntryKey) (x : EntryKey × J) (xs : List (EntryKey × J))
+found_after : {J : Type 0} (q : EntryKey) (x : EntryKey × J) (xs : List (EntryKey × J))
     → find key_cmp q xs ≢ None → find key_cmp q (x ∷ xs) ≢ None
-found_behind q x xs found =
+found_after q x xs found =
     elim (eq_by_cmp key_cmp q x.0) as (λ t. cond t (Some x.1) (find key_cmp q xs) ≢ None) [
       | true ↦ Some≢None x.1
       | false ↦ found
@@ -175,7 +175,7 @@ below_found k (x ∷ xs) h =
     both_parts (is_lt (key_cmp k x.0)) (below_all key_cmp k xs)
     (subst (λ r. T (is_lt r)) (sym (h x.0 (λ none. Some≢None x.1 (sym (first_found x xs) ∙ none))))
     tt)
-    (below_found k xs (λ q found. h q (found_behind q x xs found)))
+    (below_found k xs (λ q found. h q (found_after q x xs found)))
 
 -- ---- a step at the least key
 
@@ -185,7 +185,7 @@ At old new cells changes q =
 
 module _ (k : EntryKey) (was is : Texts) (old new old_rest new_rest : List Labelled)
     (cells : Entries) (a : IsHead k was old old_rest) (b : IsHead k is new new_rest) where
-  -- the changes of what is left are behind the key
+  -- the changes of what is left are after the key
   changes_above : (mid : Entries) (changes : List Change) → AreChanges old_rest new_rest mid changes
       → T (below_all key_cmp k changes)
   changes_above mid changes h =
@@ -321,7 +321,7 @@ changes_at-IsMap done [] = tt
 changes_at-IsMap done (x ∷ xs) =
     put_if-IsMap x.0 (done x.0) (changes_at done xs) (changes_at-IsMap done xs)
 
--- what is found behind a change that may be put
+-- what is found after a change that may be put
 find-put_if : (q k : EntryKey) (change : Option Texts) (changes : List Change)
     → find key_cmp q (put_if k change changes)
     ≡ cond (eq_by_cmp key_cmp q k && is_some change) change (find key_cmp q changes)

@@ -14,7 +14,8 @@ use Rattle.cata_core.specs.declared.cata_fault.CataFault.TheVariants.{NoMemory}
 use Rattle.cata_core.specs.declared.delta.Delta.{Delta}
 use Rattle.json_docs.specs.Faults.{of_no_document, of_site}
 use Rattle.json_docs.specs.declared.fault.DocFault.{DocFault}
-use Rattle.site_docs.specs.ReadsAs.{IsDeltaText, IsOfDocument, IsSiteText, IsSummaryText}
+use Rattle.row_docs.specs.Reading.{IsOfDocument}
+use Rattle.site_docs.specs.ReadsAs.{IsDeltaText, IsSiteText, IsSummaryText}
 use Rattle.site_docs.specs.ReadsAs.{ReadsAsDelta, ReadsAsSite, ReadsAsSummary, RefusesDelta}
 use Rattle.site_docs.specs.ReadsAs.{RefusesSite, RefusesSummary}
 use Rattle.docs_core.specs.Status.{status_line}

@@ -8,8 +8,9 @@ use Rattle.cata_core.specs.Changes.{AreChanges, Changed, Sides}
 use Rattle.cata_core.specs.Entries.{EntryKey}
 use Rattle.cata_core.specs.Sites.{SiteState}
 use Rattle.json_docs.specs.declared.fault.DocFault.{DocFault}
-use Rattle.site_docs.specs.ReadsAs.{IsOfDocument, ReadsAsSite, RefusesSite}
-use Rattle.site_docs.specs.Values.{label_value}
+use Rattle.row_docs.specs.Reading.{IsOfDocument}
+use Rattle.site_docs.specs.ReadsAs.{ReadsAsSite, RefusesSite}
+use Rattle.row_docs.specs.Values.{label_value}
 use Rattle.docs_core.specs.Lines.{line, listed}
 
 -- `[TIME,SITE,COUNT,LABEL]`, or null where there is no cell

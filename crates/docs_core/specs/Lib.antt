@@ -10,7 +10,6 @@ pub mod Lines
 pub mod LooksUp
 pub mod Made
 pub mod Missing
-pub mod OldRows
 pub mod OldSites
 pub mod Outdated
 pub mod Replays

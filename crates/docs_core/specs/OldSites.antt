@@ -7,7 +7,7 @@ use Rattle.cell_core.specs.Migration.{IsOldStamp, OldStamp}
 use Rattle.cata_core.specs.Entries.{EntryKey, key_cmp}
 use Rattle.cata_core.specs.Migration.{IsOldMap, OldDelta, OldSite, OldStamps, OldSummary}
 use Rattle.cata_core.specs.OldSteps.{OldEdit, OldStep}
-use Rattle.docs_core.specs.OldRows.{OldScript}
+use Rattle.script_docs.specs.OldScripts.{OldScript}
 
 pub record AreOldStamps (told : OldStamps) : Type 0 where
   pub map : IsMap key_cmp told

@@ -9,7 +9,7 @@ use Rattle.cata_core.specs.declared.play_fault.PlayFault.{PlayFault}
 use Rattle.cata_core.specs.declared.play_fault.PlayFault.TheVariants.{NoMemory}
 use Rattle.json_docs.specs.Faults.{of_no_document, of_step}
 use Rattle.json_docs.specs.declared.fault.DocFault.{DocFault}
-use Rattle.site_docs.specs.ReadsAs.{IsOfDocument}
+use Rattle.row_docs.specs.Reading.{IsOfDocument}
 use Rattle.script_docs.specs.ScriptReads.{ReadsAsScript, RefusesScript}
 use Rattle.script_docs.specs.Scripts.{ScriptState}
 use Rattle.docs_core.specs.Lines.{lines}

@@ -7,7 +7,8 @@ use Rattle.cata_core.specs.Sites.{RefusesDelta as NotTaken, SiteState}
 use Rattle.cata_core.specs.declared.delta.Delta.{Delta}
 use Rattle.json_docs.specs.declared.fault.DocCause.TheVariants.{TimeAhead}
 use Rattle.json_docs.specs.declared.fault.DocFault.{DocFault}
-use Rattle.site_docs.specs.ReadsAs.{IsOfDocument, IsSiteText, ReadsAsDelta, ReadsAsSite}
+use Rattle.row_docs.specs.Reading.{IsOfDocument}
+use Rattle.site_docs.specs.ReadsAs.{IsSiteText, ReadsAsDelta, ReadsAsSite}
 use Rattle.site_docs.specs.ReadsAs.{RefusesDelta, RefusesSite}
 use Rattle.docs_core.specs.Calls.{IsOfSite}
 

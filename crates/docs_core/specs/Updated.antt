@@ -7,7 +7,8 @@ use Rattle.cata_core.specs.Sites.{SiteState}
 use Rattle.cata_core.specs.declared.cata_fault.CataFault.TheVariants.{ClockSpent}
 use Rattle.json_docs.specs.Faults.{of_no_document, of_site}
 use Rattle.json_docs.specs.declared.fault.DocFault.{DocFault}
-use Rattle.site_docs.specs.ReadsAs.{IsOfDocument, IsSiteText, ReadsAsSite, RefusesSite}
+use Rattle.row_docs.specs.Reading.{IsOfDocument}
+use Rattle.site_docs.specs.ReadsAs.{IsSiteText, ReadsAsSite, RefusesSite}
 use Rattle.map_docs.specs.LangMapLabels.{AreLangMaps, RefusesLangMaps}
 use Rattle.map_docs.specs.LangMaps.{Labelled}
 use Rattle.docs_core.specs.Exported.{label_at}

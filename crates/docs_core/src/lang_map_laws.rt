@@ -1,12 +1,3 @@
-//! Laws of language-map documents. Each function's contract is one; the functions do nothing.
-ghost use Rattle.map_docs.specs.LangMapLaws.{OneReading, ReadsBack};
+//! Laws of language-map documents.
 
-/// A document reads as one list of labels and no other.
-pub fn one_reading()
-    ensures { OneReading }
-{}
-
-/// The document of labels in rising order of key reads as these labels.
-pub fn reads_back()
-    ensures { ReadsBack }
-{}
+pub use map_docs::laws::{one_reading, reads_back};

@@ -1,14 +1,11 @@
 //! Laws over the definitions alone, each the contract of a function that does nothing.
 ghost use Rattle.std.specs.Prelude.{◌≡◌, ◌≤◌, ◌⊎◌, ◌↔◌, ◌∷◌, ◌++◌, ℕ, Bool, Contains, List, []};
-ghost use Rattle.std.specs.Prelude.{IsTrue, IsUtf8, None, Option, Some, false, length};
+ghost use Rattle.std.specs.Prelude.{IsTrue, None, Option, Some, false};
 ghost use Rattle.std.specs.FinMap.Entries.{find};
 ghost use Rattle.cell_core.specs.Maps.{IsMap};
-ghost use Rattle.cell_core.specs.SiteNames.{IsSiteName};
 ghost use Rattle.cell_core.specs.declared.cell.Cell.{Cell};
 ghost use Rattle.nego_core.specs.Item.{Item};
-ghost use Rattle.nego_core.specs.declared.scheme.Scheme.{Scheme};
 ghost use Rattle.nego_core.specs.declared.widening.Widening.{Widening};
-ghost use Rattle.serde_json.specs.Data.{Data};
 ghost use Rattle.cata_core.specs.Deltas.{HasAll, Stamps, delta_of};
 ghost use Rattle.cata_core.specs.Entries.{Agree, Entries, EntryKey, joined, key_cmp};
 ghost use Rattle.cata_core.specs.Parts.{part_of};
@@ -17,18 +14,16 @@ ghost use Rattle.cata_core.specs.Summary.{SummaryState};
 ghost use Rattle.cata_core.specs.declared.delta.Delta.{Delta};
 ghost use Rattle.json_docs.specs.declared.fault.DocCause.{DocCause};
 ghost use Rattle.json_docs.specs.declared.fault.DocFault.{DocFault};
-ghost use Rattle.site_docs.specs.Documents.{cells_values, delta_text, site_text, summary_text};
+ghost use Rattle.row_docs.specs.Entries.{cells_values};
+ghost use Rattle.site_docs.specs.Documents.{site_text};
 ghost use Rattle.site_docs.specs.ReadsAs.{IsSiteText, ReadsAsDelta, ReadsAsSite, ReadsAsSummary};
 ghost use Rattle.site_docs.specs.ReadsAs.{RefusesDelta, RefusesSite, RefusesSummary};
-ghost use Rattle.site_docs.specs.Texts.{IsOneLine, text};
-ghost use Rattle.site_docs.specs.Valid.{AreKeptCells, AreKeptStamps};
+ghost use Rattle.row_docs.specs.Texts.{text};
 ghost use Rattle.site_docs.specs.Values.{site_value};
 ghost use Rattle.map_docs.specs.LangMapLabels.{AreLangMaps, RefusesLangMaps};
 ghost use Rattle.map_docs.specs.LangMaps.{Labelled};
-ghost use Rattle.script_docs.specs.FieldWritten.{field_text};
 ghost use Rattle.script_docs.specs.ScriptReads.{ReadsAsScript, RefusesScript};
 ghost use Rattle.script_docs.specs.Scripts.{ScriptState};
-ghost use Rattle.script_docs.specs.StepFields.{Lists};
 ghost use Rattle.docs_core.specs.Bundled.{IsBundleBy};
 ghost use Rattle.docs_core.specs.Calls.{AreSynced, IsDeltaFor, IsSummarised, IsTaken, RefusesSync};
 ghost use Rattle.docs_core.specs.Calls.{RefusesTaking};
@@ -43,46 +38,12 @@ ghost use Rattle.docs_core.specs.TimeLimits.{AreInTime, AreSyncedUntil, IsTakenU
 ghost use Rattle.docs_core.specs.TimeLimits.{RefusesSyncUntil, RefusesTakingUntil};
 ghost use Rattle.docs_core.specs.Updated.{AreChanges, IsUpdated, Updates};
 
-/// The text that is written for a site reads as that site.
-pub fn written_site_reads()
-    ensures { (site : SiteState) → IsSiteName site.name → AreKeptCells site.cells
-        → IsUtf8 (site_text site) → ReadsAsSite (site_text site) site }
-{}
-
-/// The text that is written for a delta reads as that delta.
-pub fn written_delta_reads()
-    ensures { (delta : Delta) → IsSiteName delta.addressee → AreKeptCells delta.cells
-        → IsUtf8 (delta_text delta) → ReadsAsDelta (delta_text delta) delta }
-{}
-
-/// The text that is written for a summary reads as that summary.
-pub fn written_summary_reads()
-    ensures { (summary : SummaryState) → IsSiteName summary.owner → AreKeptStamps summary.stamps
-        → IsUtf8 (summary_text summary) → ReadsAsSummary (summary_text summary) summary }
-{}
-
-/// A text reads as one site at most.
-pub fn one_site()
-    ensures { (bytes : List ℕ) (s t : SiteState) → ReadsAsSite bytes s → ReadsAsSite bytes t
-        → s ≡ t }
-{}
-
-/// A text reads as one delta at most.
-pub fn one_delta()
-    ensures { (bytes : List ℕ) (s t : Delta) → ReadsAsDelta bytes s → ReadsAsDelta bytes t → s ≡ t }
-{}
-
-/// A text reads as one summary at most.
-pub fn one_summary()
-    ensures { (bytes : List ℕ) (s t : SummaryState) → ReadsAsSummary bytes s
-        → ReadsAsSummary bytes t → s ≡ t }
-{}
-
-/// A text reads as one script at most.
-pub fn one_script()
-    ensures { (bytes : List ℕ) (s t : ScriptState) → ReadsAsScript bytes s
-        → ReadsAsScript bytes t → s ≡ t }
-{}
+pub use row_docs::laws::a_written_text_is_one_line;
+pub use script_docs::laws::{a_written_field_is_the_shortest, one_script};
+pub use site_docs::laws::{
+    one_delta, one_site, one_summary, written_delta_reads, written_site_reads,
+    written_summary_reads,
+};
 
 /// A text is replayed as one text at most.
 pub fn one_replay()
@@ -144,18 +105,7 @@ pub fn synced_documents_have_equal_cells()
         (x ≡ text (site_value first.name cells)) × (y ≡ text (site_value second.name cells)) }
 {}
 
-/// The field that a script has for a priority list reads as it, and none that does is shorter.
-pub fn a_written_field_is_the_shortest()
-    ensures { (scheme : Scheme) (field : List ℕ) (items : List Item) → Lists scheme field items
-        → Lists scheme (field_text items) items × (length (field_text items) ≤ length field) }
-{}
-
-/// What is written for a value is one line, and ends in its line feed.
-pub fn a_written_text_is_one_line()
-    ensures { (value : Data) → IsOneLine (text value) }
-{}
-
-/// A line feed behind a text changes nothing in what it reads as.
+/// A line feed after a text changes nothing in what it reads as.
 pub fn a_last_line_feed_is_free()
     ensures site { (bytes : List ℕ) (site : SiteState) → ReadsAsSite (bytes ++ 10 ∷ []) site
         ↔ ReadsAsSite bytes site }

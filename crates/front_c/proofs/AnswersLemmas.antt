@@ -1,7 +1,7 @@
 -- What is reported of a question, and of a document for which there is no memory.
 use Rattle.std.proofs.Common.{◌≡◌, refl, inl, inr, ℤ, Option, Some}
 use Rattle.cata_core.specs.Sites.{SiteState}
-use Rattle.site_docs.specs.ReadsAs.{no_memory}
+use Rattle.row_docs.specs.Reading.{no_memory}
 use Rattle.front_core.specs.Fields.{FieldText}
 use Rattle.front_core.specs.Site.{RefusesOpening}
 use Rattle.front_core.specs.declared.fault.FrontFault.{FrontFault}

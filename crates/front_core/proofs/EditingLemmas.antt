@@ -3,7 +3,7 @@ use Rattle.std.proofs.Common.{◌≡◌, ◌∙◌, ℕ, Option, ap₂, inl, inr
 use Rattle.cata_core.specs.Entries.{Agree, Entries, catalogue_laws, joined}
 use Rattle.cata_core.specs.Sites.{SiteState}
 use Rattle.cata_core.specs.declared.delta.Delta.{Delta}
-use Rattle.docs_core.proofs.OneDocument.{one_delta}
+use Rattle.site_docs.proofs.OneDocument.{one_delta}
 use Rattle.front_core.specs.Editing.{IsMerged, IsPartlyJoined, IsTaken, LeavesMerge, LeavesTake}
 use Rattle.front_core.specs.Fields.{Text}
 

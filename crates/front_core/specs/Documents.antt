@@ -4,8 +4,10 @@ use Rattle.cata_core.specs.Deltas.{delta_of, summary_of}
 use Rattle.cata_core.specs.Sites.{SiteState}
 use Rattle.cata_core.specs.Summary.{SummaryState}
 use Rattle.json_docs.specs.Checks.{OrMemory}
-use Rattle.site_docs.specs.ReadsAs.{IsDeltaText, IsOfDocument, IsSiteText, IsSummaryText}
-use Rattle.site_docs.specs.ReadsAs.{ReadsAsSummary, RefusesSummary, no_memory}
+use Rattle.row_docs.specs.Reading.{IsOfDocument}
+use Rattle.site_docs.specs.ReadsAs.{IsDeltaText, IsSiteText, IsSummaryText}
+use Rattle.row_docs.specs.Reading.{no_memory}
+use Rattle.site_docs.specs.ReadsAs.{ReadsAsSummary, RefusesSummary}
 use Rattle.docs_core.specs.Status.{status_line}
 use Rattle.front_core.specs.Faults.{IsOf, document_fault}
 use Rattle.front_core.specs.Fields.{Text}

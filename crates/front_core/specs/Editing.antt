@@ -6,7 +6,7 @@ use Rattle.cata_core.specs.Entries.{Agree, Between, Entries, joined}
 use Rattle.cata_core.specs.Sites.{RefusesDelta, SiteState}
 use Rattle.cata_core.specs.declared.delta.Delta.{Delta}
 use Rattle.json_docs.specs.Checks.{OrMemory}
-use Rattle.site_docs.specs.ReadsAs.{no_memory}
+use Rattle.row_docs.specs.Reading.{no_memory}
 use Rattle.docs_core.specs.TimeLimits.{ReadsInTime, RefusesDeltaUntil}
 use Rattle.front_core.specs.Changes.{HasKey, HasLabel, IsChanged, IsDelete, IsPut}
 use Rattle.front_core.specs.Changes.{RefusesChange, RefusesKey, RefusesPut}

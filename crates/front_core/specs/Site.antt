@@ -5,7 +5,8 @@ use Rattle.cata_core.specs.Sites.{SiteState}
 use Rattle.cell_core.specs.SiteNames.{IsSiteName}
 use Rattle.cell_core.specs.declared.fault.CellFault.TheVariants.{SiteName}
 use Rattle.json_docs.specs.Checks.{OrMemory}
-use Rattle.site_docs.specs.ReadsAs.{IsOfDocument, RefusesSite, no_memory}
+use Rattle.row_docs.specs.Reading.{IsOfDocument, no_memory}
+use Rattle.site_docs.specs.ReadsAs.{RefusesSite}
 use Rattle.front_core.specs.Faults.{IsOf, document_fault}
 use Rattle.front_core.specs.declared.fault.FrontFault.{FrontFault}
 use Rattle.front_core.specs.declared.fault.FrontFault.TheVariants.{Cell}

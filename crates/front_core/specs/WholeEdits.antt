@@ -3,7 +3,7 @@ use Rattle.std.specs.Prelude.{◌≡◌, ◌⊎◌, ℕ, List}
 use Rattle.cata_core.specs.Sites.{SiteState}
 use Rattle.cata_core.specs.declared.cata_fault.CataFault.TheVariants.{ClockSpent}
 use Rattle.json_docs.specs.Checks.{OrMemory}
-use Rattle.site_docs.specs.ReadsAs.{IsOfDocument, no_memory}
+use Rattle.row_docs.specs.Reading.{IsOfDocument, no_memory}
 use Rattle.map_docs.specs.LangMapLabels.{AreLangMaps, RefusesLangMaps}
 use Rattle.map_docs.specs.LangMaps.{Labelled}
 use Rattle.docs_core.specs.Imported.{Imports, SpendsImport}

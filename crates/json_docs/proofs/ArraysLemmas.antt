@@ -9,7 +9,7 @@ use Rattle.json_docs.specs.Checks.{Check}
 use Rattle.json_docs.specs.Parts.{list_of}
 use Rattle.json_docs.specs.declared.fault.DocCause.{DocCause}
 use Rattle.json_docs.specs.declared.fault.DocCause.TheVariants.{NoMemory, NotJson}
-use Rattle.json_docs.proofs.ChecksLemmas.{rows-fail-behind, rows-fail-front, rows-pass}
+use Rattle.json_docs.proofs.ChecksLemmas.{rows-fail-rest, rows-fail-front, rows-pass}
 
 -- items with others after them
 abbrev pub before : List Data → Items → Items
@@ -49,7 +49,7 @@ pub TakesRows-next : {S : Type 0} (checks : List Data → Data → List Check)
 TakesRows-next checks Holds mid new None None front d p q = let r = q p.1 in
     (rows-pass checks [] front (d ∷ []) p.0 r.0, r.1)
 TakesRows-next checks Holds mid new None (Some e) front d p q =
-    rows-fail-behind checks [] front (d ∷ []) e p.0 (q p.1)
+    rows-fail-rest checks [] front (d ∷ []) e p.0 (q p.1)
 TakesRows-next checks Holds mid new (Some e) None front d p q = cc
 TakesRows-next checks Holds mid new (Some e) (Some f) front d p q =
     let same : f ≡ e = cc in

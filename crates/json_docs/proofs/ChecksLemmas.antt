@@ -16,9 +16,9 @@ AllPass-front [] ys p = tt
 AllPass-front (x ∷ xs) ys p = (p.0, AllPass-front xs ys p.1)
 
 -- of tests that all pass the last ones pass
-pub AllPass-behind : (xs ys : List Check) → AllPass (xs ++ ys) → AllPass ys
-AllPass-behind [] ys p = p
-AllPass-behind (x ∷ xs) ys p = AllPass-behind xs ys p.1
+pub AllPass-rest : (xs ys : List Check) → AllPass (xs ++ ys) → AllPass ys
+AllPass-rest [] ys p = p
+AllPass-rest (x ∷ xs) ys p = AllPass-rest xs ys p.1
 
 -- a test that fails is the first that fails, whatever follows it
 pub FirstFails-front : (xs ys : List Check) (e : DocCause) → FirstFails xs e
@@ -30,12 +30,12 @@ FirstFails-front (x ∷ xs) ys e p = elim p [
 ]
 
 -- after tests that pass the first that fails is that of the others
-pub FirstFails-behind : (xs ys : List Check) (e : DocCause) → AllPass xs → FirstFails ys e
+pub FirstFails-rest : (xs ys : List Check) (e : DocCause) → AllPass xs → FirstFails ys e
     → FirstFails (xs ++ ys) e
-FirstFails-behind [] ys e p q = q
-FirstFails-behind (x ∷ xs) ys e p q = inr (p.0, FirstFails-behind xs ys e p.1 q)
+FirstFails-rest [] ys e p q = q
+FirstFails-rest (x ∷ xs) ys e p q = inr (p.0, FirstFails-rest xs ys e p.1 q)
 
--- what fails behind the first tests may be any longer list that fails likewise
+-- what fails after the first tests may be any longer list that fails likewise
 fail_in : (xs ys zs : List Check) (e : DocCause) → (FirstFails ys e → FirstFails zs e)
     → FirstFails (xs ++ ys) e → FirstFails (xs ++ zs) e
 fail_in [] ys zs e f p = f p
@@ -59,7 +59,7 @@ module _ (checks : List Data → Data → List Check) where
       let rest = rows_checks checks (before ++ x ∷ []) xs in
       AllPass-both first (rows_checks checks (before ++ x ∷ []) (xs ++ ys))
       (AllPass-front first rest p)
-      (rows-pass (before ++ x ∷ []) xs ys (AllPass-behind first rest p)
+      (rows-pass (before ++ x ∷ []) xs ys (AllPass-rest first rest p)
       (subst (λ b. AllPass (rows_checks checks b ys)) (sym (one before xs x)) q))
 
   pub rows-fail-front : (before xs ys : List Data) (e : DocCause)
@@ -71,15 +71,15 @@ module _ (checks : List Data → Data → List Check) where
       (rows_checks checks (before ++ x ∷ []) (xs ++ ys)) e
       (rows-fail-front (before ++ x ∷ []) xs ys e) p
 
-  pub rows-fail-behind : (before xs ys : List Data) (e : DocCause)
+  pub rows-fail-rest : (before xs ys : List Data) (e : DocCause)
       → AllPass (rows_checks checks before xs) → FirstFails (rows_checks checks (before ++ xs) ys) e
       → FirstFails (rows_checks checks before (xs ++ ys)) e
-  rows-fail-behind before [] ys e p q =
+  rows-fail-rest before [] ys e p q =
       subst (λ b. FirstFails (rows_checks checks b ys) e) (append-nil before) q
-  rows-fail-behind before (x ∷ xs) ys e p q =
+  rows-fail-rest before (x ∷ xs) ys e p q =
       let first = checks before x in
       let rest = rows_checks checks (before ++ x ∷ []) xs in
-      FirstFails-behind first (rows_checks checks (before ++ x ∷ []) (xs ++ ys)) e
+      FirstFails-rest first (rows_checks checks (before ++ x ∷ []) (xs ++ ys)) e
       (AllPass-front first rest p)
-      (rows-fail-behind (before ++ x ∷ []) xs ys e (AllPass-behind first rest p)
+      (rows-fail-rest (before ++ x ∷ []) xs ys e (AllPass-rest first rest p)
       (subst (λ b. FirstFails (rows_checks checks b ys) e) (sym (one before xs x)) q))

@@ -38,16 +38,16 @@ second_so : (a b : Bool) → (a && b) ≡ true → b ≡ true
 second_so true b h = h
 second_so false b h = cc
 
--- the numbers behind a token
-pub range_behind : (t : Token) (ts : List Token) → are_in_range (t ∷ ts) ≡ true
+-- the numbers after a token
+pub range_after : (t : Token) (ts : List Token) → are_in_range (t ∷ ts) ≡ true
     → are_in_range ts ≡ true
-range_behind t ts h = second_so (is_token_in_range t) (are_in_range ts) h
+range_after t ts h = second_so (is_token_in_range t) (are_in_range ts) h
 
--- the numbers behind a name
-pub range_behind_key : (ts : List Token) (k : Option (List ℕ)) (r : List Token)
+-- the numbers after a name
+pub range_after_key : (ts : List Token) (k : Option (List ℕ)) (r : List Token)
     → read_key ts ≡ Some (k, r) → are_in_range ts ≡ true → are_in_range r ≡ true
-range_behind_key ts None r is range = sym (ap are_in_range (read_key_is ts None r is)) ∙ range
-range_behind_key ts (Some k) r is range =
+range_after_key ts None r is range = sym (ap are_in_range (read_key_is ts None r is)) ∙ range
+range_after_key ts (Some k) r is range =
     sym (ap are_in_range (read_key_is ts (Some k) r is)) ∙ range
 
 -- ---- what is skipped is some value

@@ -147,15 +147,15 @@ mutual
       member_by (of_json j) (λ d. of_members ms (put k d found)) out (json_small j)
       (λ d h e. members_small ms (put k d found) (put_small k d found h small) out e) is
 
-behind_json : (o : Option json.Json) (d : Data) → option_and_then of_json o ≡ Some d → IsSmall d
-behind_json None d is = absurd (cc)
-behind_json (Some j) d is = json_small j d is
+small_json : (o : Option json.Json) (d : Data) → option_and_then of_json o ≡ Some d → IsSmall d
+small_json None d is = absurd (cc)
+small_json (Some j) d is = json_small j d is
 
 -- what a text reads as has no unsigned whole number of 2 ^ 64 or more
 pub read_small : (text : List ℕ) (d : Data) → read text ≡ Some d → IsSmall d
 read_small text d is =
     let whole = option_and_then (λ p. json.if_last p.0 p.1) (json.value max_depth (tokens text)) in
-    behind_json whole d is
+    small_json whole d is
 
 -- ---- parts of such data
 

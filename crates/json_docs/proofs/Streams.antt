@@ -33,8 +33,8 @@ split_more text front rest n e =
     ∙ sym (append_assoc front (take n rest) (drop n rest))))
 
 -- n more bytes come after the first m of a buffer, which stay
-pub Consumes-behind : (a b c : Option (List ℕ)) (m n : ℕ) (old new : List ℕ)
+pub Consumes-rest : (a b c : Option (List ℕ)) (m n : ℕ) (old new : List ℕ)
     → Consumes a b (take m old) → take m new ≡ take m old → Consumes b c (take n (drop m new))
     → Consumes a c (take (m + n) new)
-Consumes-behind a b c m n old new given same more =
+Consumes-rest a b c m n old new given same more =
     rw (take-add m n new, same) (Consumes-then a b c (take m old) (take n (drop m new)) given more)

@@ -17,7 +17,7 @@ ReadsItems depth old ds new =
 abbrev pub ReadsNoItems : ℕ → List Token → Type 0
 ReadsNoItems depth old = converted of_items (items (value depth) (length old) old) ≡ None
 
--- behind these rows all of ds pass and are held too, or the first test that fails refuses for e
+-- after these rows all of ds pass and are held too, or the first test that fails refuses for e
 abbrev pub TakesRows : {S : Type 0} → (List Data → Data → List Check) → (S → List Data → Type 0)
     → List Data → S → Option DocCause → List Data → Type 0
 TakesRows checks Holds before new None ds =

@@ -20,7 +20,6 @@ mod stream;
 
 pub use doc::Doc;
 pub use fault::{DocCause, DocFault, FieldFault, Spot};
-pub use json_text::numbers::whole_number;
 pub use json_text::object::{begins_object, next_name};
 pub use json_text::parts::{items_of, text_of, u32_of, u64_of};
 pub use json_text::scanning::{is_scalar, next_value};

@@ -5,9 +5,9 @@ use Rattle.std.specs.Prelude.{◌⊎◌, ◌==◌, false}
 use Rattle.cell_core.specs.Refusals.{RefusesLabel}
 use Rattle.cell_core.specs.declared.fault.CellFault.{CellFault}
 use Rattle.json_docs.specs.declared.fault.DocCause.TheVariants.{NoMemory as no_memory}
-use Rattle.site_docs.specs.Fields.{cell_cause}
+use Rattle.row_docs.specs.Fields.{cell_cause}
 use Rattle.map_docs.specs.LangMapChecks.{IsStringsRefusal}
-use Rattle.site_docs.proofs.FieldsLemmas.{label_cause}
+use Rattle.row_docs.proofs.FieldsLemmas.{label_cause}
 
 -- a number that is not 0 is above 0
 pub some_strings : (n : ℕ) → (n == 0) ≡ false → 0 < n

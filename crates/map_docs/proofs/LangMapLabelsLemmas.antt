@@ -1,4 +1,4 @@
--- Labels that are found key by key, and then put behind those of lesser messages.
+-- Labels that are found key by key, and then put after those of lesser messages.
 use Rattle.std.proofs.Common.{◌≡◌, ◌∙◌, ℕ, suc, ◌+◌, length, arith, add-zero, zero-add, Bool, true}
 use Rattle.std.proofs.Common.{false, List, [], ◌∷◌, ◌++◌, ◌||◌, cond, map, String, string_cmp}
 use Rattle.std.proofs.Common.{Global, Option, None, Some, string_bytes, refl, sym, ap, ap₂, subst}
@@ -34,7 +34,7 @@ use Rattle.json_docs.specs.Checks.{AllPass, FirstFails}
 use Rattle.json_docs.specs.declared.fault.DocCause.{DocCause}
 use Rattle.json_docs.specs.declared.fault.DocCause.TheVariants.{NoMemory, RepeatedTag, Shape}
 use Rattle.json_docs.specs.declared.fault.Spot.TheVariants.{Row}
-use Rattle.site_docs.specs.Fields.{IsLanguageRefusal, IsSpelled}
+use Rattle.row_docs.specs.Fields.{IsLanguageRefusal, IsSpelled}
 use Rattle.map_docs.specs.LangMapChecks.{IsLabelOrNone, IsStringsRefusal, is_marked, is_repeated}
 use Rattle.map_docs.specs.LangMapChecks.{key_checks, keys_checks, message_checks, member_checks}
 use Rattle.map_docs.specs.LangMapChecks.{members_checks, unless_marked}
@@ -45,7 +45,7 @@ use Rattle.map_docs.specs.LangMapRowsSeen.{HeldStrings, HoldsKeys, IsOneLabel, k
 use Rattle.map_docs.specs.LangMapRowsSeen.{keys_seen, live, rows_seen, strings_seen}
 use Rattle.map_docs.specs.LangMaps.{Labelled}
 use Rattle.map_docs.specs.LangMapsValue.{Languages}
-use Rattle.json_docs.proofs.ChecksLemmas.{AllPass-both, FirstFails-behind, FirstFails-front}
+use Rattle.json_docs.proofs.ChecksLemmas.{AllPass-both, FirstFails-rest, FirstFails-front}
 
 -- ---- a language in lower case
 
@@ -61,13 +61,13 @@ spelled_lower text lang spells = elim spells [
 abbrev names : Keys → List (List ℕ)
 names ms = map (λ m. m.0) ms
 
-keys_behind : (k : ℕ) (before : List (List ℕ)) (ms ns : Keys)
+keys_after : (k : ℕ) (before : List (List ℕ)) (ms ns : Keys)
     → keys_checks k before (ms ++ ns)
     ≡ keys_checks k before ms ++ keys_checks k (before ++ names ms) ns
-keys_behind k before [] ns = ap (λ b. keys_checks k b ns) (sym (append-nil before))
-keys_behind k before (m ∷ ms) ns =
+keys_after k before [] ns = ap (λ b. keys_checks k b ns) (sym (append-nil before))
+keys_after k before (m ∷ ms) ns =
     ap (λ cs. key_checks k before m.0 m.1 ++ cs)
-    (keys_behind k (before ++ m.0 ∷ []) ms ns
+    (keys_after k (before ++ m.0 ∷ []) ms ns
     ∙ ap (λ b. keys_checks k (before ++ m.0 ∷ []) ms ++ keys_checks k b ns)
     (append_assoc before (m.0 ∷ []) (names ms)))
     ∙ sym (append_assoc (key_checks k before m.0 m.1) (keys_checks k (before ++ m.0 ∷ []) ms)
@@ -84,7 +84,7 @@ pub keys_pass : (k : ℕ) (ms : Keys) (key : List ℕ) (strings : Strings)
     → AllPass (keys_checks k [] (ms ++ (key, strings) ∷ []))
 keys_pass k ms key strings p q =
     subst AllPass
-    (sym (keys_behind k [] ms ((key, strings) ∷ [])
+    (sym (keys_after k [] ms ((key, strings) ∷ [])
     ∙ ap (λ cs. keys_checks k [] ms ++ cs) (one_key k (names ms) key strings)))
     (AllPass-both (keys_checks k [] ms) (key_checks k (names ms) key strings) p q)
 
@@ -94,20 +94,20 @@ pub keys_fail : (k : ℕ) (ms : Keys) (key : List ℕ) (strings : Strings) (ns :
     → FirstFails (keys_checks k [] (ms ++ (key, strings) ∷ ns)) e
 keys_fail k ms key strings ns e p q =
     let rest = keys_checks k (names ms ++ key ∷ []) ns in
-    subst (λ cs. FirstFails cs e) (sym (keys_behind k [] ms ((key, strings) ∷ ns)))
-    (FirstFails-behind (keys_checks k [] ms) (key_checks k (names ms) key strings ++ rest) e p
+    subst (λ cs. FirstFails cs e) (sym (keys_after k [] ms ((key, strings) ∷ ns)))
+    (FirstFails-rest (keys_checks k [] ms) (key_checks k (names ms) key strings ++ rest) e p
     (FirstFails-front (key_checks k (names ms) key strings) rest e q))
 
 later : (k n m : ℕ) → suc n ≡ m → (k + 1) + n ≡ k + m
 later k n m is = omega arith
 
-rows_behind : (k : ℕ) (rs ss : Rows)
+rows_after : (k : ℕ) (rs ss : Rows)
     → members_checks k (rs ++ ss) ≡ members_checks k rs ++ members_checks (k + length rs) ss
-rows_behind k [] ss = ap (λ n. members_checks n ss) (sym (add-zero k))
-rows_behind k (r ∷ rs) ss =
+rows_after k [] ss = ap (λ n. members_checks n ss) (sym (add-zero k))
+rows_after k (r ∷ rs) ss =
     let first = member_checks k r in
     ap (λ cs. first ++ cs)
-    (rows_behind (k + 1) rs ss
+    (rows_after (k + 1) rs ss
     ∙ ap (λ n. members_checks (k + 1) rs ++ members_checks n ss)
     (later k (length rs) (length (r ∷ rs)) refl))
     ∙ sym (append_assoc first (members_checks (k + 1) rs) (members_checks (k + length (r ∷ rs)) ss))
@@ -118,7 +118,7 @@ pub rows_pass : (rs : Rows) (r : List ℕ × Option Keys) (k : ℕ) → k ≡ le
     → AllPass (members_checks 0 (rs ++ r ∷ []))
 rows_pass rs r k at p q =
     subst AllPass
-    (sym (rows_behind 0 rs (r ∷ [])
+    (sym (rows_after 0 rs (r ∷ [])
     ∙ ap (λ cs. members_checks 0 rs ++ cs) (append-nil (member_checks (0 + length rs) r))))
     (AllPass-both (members_checks 0 rs) (member_checks (0 + length rs) r) p
     (subst (λ n. AllPass (member_checks n r)) (at ∙ sym (zero-add (length rs))) q))
@@ -130,8 +130,8 @@ pub rows_fail : (rs : Rows) (r : List ℕ × Option Keys) (ss : Rows) (k : ℕ) 
 rows_fail rs r ss k e at p q =
     let here = member_checks (0 + length rs) r in
     let rest = members_checks ((0 + length rs) + 1) ss in
-    subst (λ cs. FirstFails cs e) (sym (rows_behind 0 rs (r ∷ ss)))
-    (FirstFails-behind (members_checks 0 rs) (here ++ rest) e p
+    subst (λ cs. FirstFails cs e) (sym (rows_after 0 rs (r ∷ ss)))
+    (FirstFails-rest (members_checks 0 rs) (here ++ rest) e p
     (FirstFails-front here rest e
     (subst (λ n. FirstFails (member_checks n r) e) (at ∙ sym (zero-add (length rs))) q)))
 
@@ -221,7 +221,7 @@ live_insert (e ∷ es) lang label new =
           (live (insert_entry text_cmp es lang label)) rest))
     ] apart
 
--- the label of a key behind others
+-- the label of a key after others
 one_labelled : (key lang : List ℕ) (texts : List (List ℕ)) (label : Option (List (List ℕ)))
     → lang ≡ str_to_ascii_lowercase key → IsOneLabel texts label
     → languages_of ((key, Some texts) ∷ []) ≡ one lang label
@@ -342,17 +342,17 @@ below_both k (x ∷ xs) ys p q =
     (first_part (is_lt (key_cmp k x.0)) (below_all key_cmp k xs) p)
     (below_both k xs ys (second_part (is_lt (key_cmp k x.0)) (below_all key_cmp k xs) p) q)
 
--- the labels of a message stand behind those of lesser ones
-pub behind_IsMap : (es : List Labelled) (id : List ℕ) (ls : Languages) → IsMap key_cmp es
+-- the labels of a message come after those of lesser ones
+pub after_IsMap : (es : List Labelled) (id : List ℕ) (ls : Languages) → IsMap key_cmp es
     → AreLesser es id → IsMap text_cmp ls → IsMap key_cmp (es ++ under id ls)
-behind_IsMap [] id ls m lesser h = under_IsMap id ls h
-behind_IsMap (e ∷ es) id ls m lesser h =
+after_IsMap [] id ls m lesser h = under_IsMap id ls h
+after_IsMap (e ∷ es) id ls m lesser h =
     both_parts (below_all key_cmp e.0 (es ++ under id ls)) (is_sorted key_cmp (es ++ under id ls))
     (below_both e.0 es (under id ls)
     (first_part (below_all key_cmp e.0 es) (is_sorted key_cmp es) m)
     (below_other e.0 id ls
     (all_first (λ (x : Labelled). text_cmp x.0.0 id ≡ Less) e es lesser)))
-    (behind_IsMap es id ls (second_part (below_all key_cmp e.0 es) (is_sorted key_cmp es) m)
+    (after_IsMap es id ls (second_part (below_all key_cmp e.0 es) (is_sorted key_cmp es) m)
     (all_rest (λ (x : Labelled). text_cmp x.0.0 id ≡ Less) e es lesser) h)
 
 below_in : (k : EntryKey) (es : List Labelled) (x : Labelled) (ys : List Labelled)
@@ -433,7 +433,7 @@ labels_skip rs r labels marked p =
     ++ unless_marked b (under r.0 (languages_of (unwrap_or r.1 [])))) marked
     ∙ append-nil (rows_labels rs))) p
 
--- a row more, whose labels come behind
+-- a row more, whose labels come after the others
 pub labels_next : (rs : Rows) (r : List ℕ × Option Keys) (old new : List Labelled)
     → is_marked r.0 ≡ false → IsPermutation (rows_labels rs) old
     → AddsLanguages old new r.0 (unwrap_or r.1 [])
@@ -543,15 +543,15 @@ module _ (found : Found) (k : ℕ) (text key lang : List ℕ) (same : text ≡ k
 -- ---- keys and rows as they are kept
 
 -- what is seen of two lists of keys is seen of both
-pub keys_seen_behind : (es fs : List (String Global × HeldStrings))
+pub keys_seen_after : (es fs : List (String Global × HeldStrings))
     → keys_seen (es ++ fs) ≡ keys_seen es ++ keys_seen fs
-keys_seen_behind es fs =
+keys_seen_after es fs =
     map-append (λ (e : String Global × HeldStrings). (string_bytes e.0, strings_seen e.1)) es fs
 
 -- what is seen of two lists of rows is seen of both
-pub rows_seen_behind : (es fs : List (String Global × Option HeldKeys))
+pub rows_seen_after : (es fs : List (String Global × Option HeldKeys))
     → rows_seen (es ++ fs) ≡ rows_seen es ++ rows_seen fs
-rows_seen_behind es fs =
+rows_seen_after es fs =
     map-append (λ (e : String Global × Option HeldKeys). (string_bytes e.0, keys_in_seen e.1)) es fs
 
 -- the next item goes to those that are done
@@ -611,7 +611,7 @@ message_next rows old new r left holds unmarked adds =
       same = labels_next rows (seen_row r) old new unmarked holds.same adds;
       map =
           subst (IsMap key_cmp) (sym adds.3)
-          (behind_IsMap old (string_bytes r.0) adds.0 holds.map lesser adds.2);
+          (after_IsMap old (string_bytes r.0) adds.0 holds.map lesser adds.2);
       lesser =
           subst (λ (labels : List Labelled).
           All (λ (x : String Global × Option HeldKeys). AreLesser labels (string_bytes x.0))

@@ -47,9 +47,9 @@ use Rattle.serde_json.specs.Written.{compact_text, items_outline, members_outlin
 use Rattle.serde_json.proofs.Texts.{print-outline}
 use Rattle.json_docs.specs.Checks.{AllPass}
 use Rattle.json_docs.specs.Parts.{list_of}
-use Rattle.site_docs.specs.Fields.{IsSpelled}
-use Rattle.site_docs.specs.Texts.{text}
-use Rattle.site_docs.specs.Values.{texts_value}
+use Rattle.row_docs.specs.Fields.{IsSpelled}
+use Rattle.row_docs.specs.Texts.{text}
+use Rattle.row_docs.specs.Values.{texts_value}
 use Rattle.map_docs.specs.LangMapChecks.{IsLabelOrNone, is_marked, is_repeated, keys_checks}
 use Rattle.map_docs.specs.LangMapChecks.{langmaps_checks, message_checks, member_checks}
 use Rattle.map_docs.specs.LangMapChecks.{members_checks, unless_marked}
@@ -128,7 +128,7 @@ language_back (t ∷ u ∷ ts) = ap (option_map plain.array) (items_back (t ∷ 
 above : (k l : List ℕ) → text_cmp l k ≡ Less → text_cmp k l ≡ Greater
 above k l less = nat_list_cmp_total.antisymm k l ∙ ap ordering_reverse less
 
--- a language above those before it goes behind them
+-- a language above those before it goes after them
 put_language : (front : Languages) (l : List ℕ × List (List ℕ)) (rest : Languages)
     → IsMap text_cmp (front ++ l ∷ rest)
     → plain.put l.0 (language_value l.1) (languages_members front)

@@ -9,13 +9,13 @@ use Rattle.json.specs.Token.{Token, begin_object, end_object, key}
 use Rattle.json.specs.Tree.{members_tokens}
 use Rattle.json.specs.Written.{Written}
 use Rattle.serde_json.specs.Written.{members_outline}
-use Rattle.site_docs.specs.Texts.{text, value_tokens}
+use Rattle.row_docs.specs.Texts.{text, value_tokens}
 use Rattle.map_docs.specs.LangMaps.{Labelled, labels_of}
 use Rattle.map_docs.specs.LangMapsValue.{Messages, by_message, langmaps_value, language_value}
 use Rattle.map_docs.specs.LangMapsValue.{languages_members, messages_members, with_label}
 use Rattle.map_docs.specs.LangMapsWritten.{label_tokens, labels_tokens, opening_tokens}
 use Rattle.map_docs.specs.declared.maps.KeyedLabel.{KeyedLabel}
-use Rattle.site_docs.proofs.TextsLemmas.{printed}
+use Rattle.row_docs.proofs.TextsLemmas.{printed}
 
 -- one label more is pushed after the others
 pub labels_push : (labels : List KeyedLabel) (l : KeyedLabel)

@@ -8,7 +8,7 @@ use Rattle.cell_core.specs.Maps.{IsMap}
 use Rattle.cata_core.specs.Entries.{key_cmp}
 use Rattle.json.specs.Token.{begin_object}
 use Rattle.json.specs.Written.{Written}
-use Rattle.site_docs.specs.Texts.{Adds, text}
+use Rattle.row_docs.specs.Texts.{Adds, text}
 use Rattle.map_docs.specs.LangMapLabels.{AreLangMaps}
 use Rattle.map_docs.specs.LangMapLaws.{AreWritable, IsWritable}
 use Rattle.map_docs.specs.LangMapTexts.{IsTextOf, has_label}
@@ -57,9 +57,10 @@ pub found_last : (draft : Written) (current : Option (List ℕ)) (all : List Lab
 found_last draft current all w = sym (or_false (is_some current)) ∙ w.found
 
 -- a borrowed value is there where the value is
-pub some_lent : {A : Type 0} (o : Option (Bor A)) → is_some o ≡ is_some (option_map (λ x. x.now) o)
-some_lent None = refl
-some_lent (Some x) = refl
+pub some_borrowed : {A : Type 0} (o : Option (Bor A))
+    → is_some o ≡ is_some (option_map (λ x. x.now) o)
+some_borrowed None = refl
+some_borrowed (Some x) = refl
 
 -- a text that was written for labels is theirs
 pub text_of : {E : Type 0} (all : List Labelled) (result : Result (List ℕ) E) → IsMap key_cmp all

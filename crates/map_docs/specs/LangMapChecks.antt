@@ -9,7 +9,7 @@ use Rattle.json_docs.specs.Checks.{Check, check}
 use Rattle.json_docs.specs.declared.fault.DocCause.{DocCause}
 use Rattle.json_docs.specs.declared.fault.DocCause.TheVariants.{RepeatedTag, Shape}
 use Rattle.json_docs.specs.declared.fault.Spot.TheVariants.{Document, Row}
-use Rattle.site_docs.specs.Fields.{IsLabelRefusal, id_check, language_check}
+use Rattle.row_docs.specs.Fields.{IsLabelRefusal, id_check, language_check}
 use Rattle.map_docs.specs.LangMapRows.{Keys, Rows, Strings, message_rows_in}
 
 -- an earlier key is equal without case

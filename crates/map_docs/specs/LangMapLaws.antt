@@ -6,7 +6,7 @@ use Rattle.cell_core.specs.Maps.{IsMap}
 use Rattle.cell_core.specs.MessageIds.{IsMessageId}
 use Rattle.cata_core.specs.Entries.{key_cmp}
 use Rattle.lang_core.specs.Lang.{IsLang}
-use Rattle.site_docs.specs.Texts.{text}
+use Rattle.row_docs.specs.Texts.{text}
 use Rattle.map_docs.specs.LangMapLabels.{AreLangMaps}
 use Rattle.map_docs.specs.LangMaps.{Labelled}
 use Rattle.map_docs.specs.LangMapsValue.{langmaps_value}

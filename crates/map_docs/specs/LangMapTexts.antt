@@ -1,6 +1,6 @@
 -- Labels as the text of their language maps.
 use Rattle.std.specs.Prelude.{◌≡◌, ℕ, Bool, true, false, List, [], ◌∷◌}
-use Rattle.site_docs.specs.Texts.{text}
+use Rattle.row_docs.specs.Texts.{text}
 use Rattle.map_docs.specs.LangMapLabels.{AreLangMaps}
 use Rattle.map_docs.specs.LangMaps.{Labelled}
 use Rattle.map_docs.specs.LangMapsValue.{langmaps_value}

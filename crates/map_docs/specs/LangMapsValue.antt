@@ -3,7 +3,7 @@
 use Rattle.std.specs.Prelude.{ℕ, List, [], ◌∷◌, if◌then◌else◌}
 use Rattle.std.specs.Str.{bytes_eq}
 use Rattle.serde_json.specs.Data.{Data, string, object, Members, no_members, member}
-use Rattle.site_docs.specs.Values.{texts_value}
+use Rattle.row_docs.specs.Values.{texts_value}
 use Rattle.map_docs.specs.LangMaps.{Labelled}
 
 -- languages with the texts of their labels

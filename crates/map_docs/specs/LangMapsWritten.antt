@@ -4,7 +4,7 @@ use Rattle.std.specs.Prelude.{if◌then◌else◌}
 use Rattle.std.specs.Str.{bytes_eq}
 use Rattle.json.specs.Token.{Token, begin_object, end_object, key}
 use Rattle.json.specs.Written.{Written}
-use Rattle.site_docs.specs.Texts.{value_tokens}
+use Rattle.row_docs.specs.Texts.{value_tokens}
 use Rattle.map_docs.specs.LangMapLaws.{AreWritable}
 use Rattle.map_docs.specs.LangMapTexts.{has_label}
 use Rattle.map_docs.specs.LangMaps.{Labelled}

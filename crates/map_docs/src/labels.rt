@@ -26,7 +26,7 @@ use crate::rows::{Keys, Rows, Strings};
 use cell_core::{Key, Label, MessageId};
 use json_docs::{DocCause, FieldFault, Spot};
 use lang_core::Lang;
-use site_docs::{language_of, of_cell};
+use row_docs::{language_of, of_cell};
 use std::alloc::{AllocError, Global};
 use std::collections::BTreeMap;
 

@@ -11,6 +11,7 @@
 
 mod ascending_map;
 mod labels;
+pub mod laws;
 mod maps;
 mod members;
 mod reading;

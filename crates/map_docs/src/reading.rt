@@ -2,7 +2,7 @@
 ghost use Rattle.std.specs.Prelude.{MatchResult};
 ghost use Rattle.json_docs.specs.Checks.{OrMemory};
 ghost use Rattle.json_docs.specs.declared.fault.DocCause.TheVariants.{NoMemory};
-ghost use Rattle.site_docs.specs.ReadsAs.{IsOfDocument, no_memory};
+ghost use Rattle.row_docs.specs.Reading.{IsOfDocument, no_memory};
 ghost use Rattle.map_docs.specs.LangMapLabels.{AreLangMaps, RefusesLangMaps};
 
 use crate::labels::labels_of;

@@ -5,7 +5,7 @@ ghost use Rattle.cell_core.specs.Labels.{texts_of};
 ghost use Rattle.cell_core.specs.Maps.{IsMap};
 ghost use Rattle.cell_core.specs.MessageIds.{IsMessageId};
 ghost use Rattle.cata_core.specs.Entries.{key_cmp};
-ghost use Rattle.site_docs.specs.Texts.{Adds, text, value_tokens};
+ghost use Rattle.row_docs.specs.Texts.{Adds, text, value_tokens};
 ghost use Rattle.map_docs.specs.LangMapLabels.{AreLangMaps};
 ghost use Rattle.map_docs.specs.LangMapLaws.{IsWritable};
 ghost use Rattle.map_docs.specs.LangMapTexts.{IsTextOf};
@@ -19,7 +19,7 @@ use cell_core::{Label, MessageId};
 use json::Writer;
 use json_docs::Doc;
 use lang_core::Lang;
-use site_docs::{finish, write_texts};
+use row_docs::{finish, write_texts};
 use std::alloc::{AllocError, Global};
 
 /// The text of the language-map document of these labels, with its line feed: one object from

@@ -402,15 +402,15 @@ pieces_again scheme (p ∷ pieces) (i ∷ items) small a = elim a [
       })
 ]
 
-abbrev behind_commas : List Item → List ℕ
-behind_commas items = flat_map (λ i. (44 ∷ []) ++ item_text i) items
+abbrev after_commas : List Item → List ℕ
+after_commas items = flat_map (λ i. (44 ∷ []) ++ item_text i) items
 
 split_again : (text : List ℕ) (items : List Item) → IsPlain text → ArePlain items
-    → slice_split (λ b. b == 44) (text ++ behind_commas items) ≡ text ∷ map item_text items
+    → slice_split (λ b. b == 44) (text ++ after_commas items) ≡ text ∷ map item_text items
 split_again text [] first rest =
     ap (slice_split (λ b. b == 44)) (append-nil text) ∙ slice_split_none (λ b. b == 44) text first
 split_again text (i ∷ items) first rest =
-    slice_split_at (λ b. b == 44) text 44 (item_text i ++ behind_commas items) first refl
+    slice_split_at (λ b. b == 44) text 44 (item_text i ++ after_commas items) first refl
     ∙ ap (λ (t : List (List ℕ)). text ∷ t) (split_again (item_text i) items rest.0 rest.1)
 
 field_pieces : (i : Item) (items : List Item) → ArePlain (i ∷ items)

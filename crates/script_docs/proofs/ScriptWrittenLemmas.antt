@@ -23,11 +23,11 @@ use Rattle.serde_json.specs.Find.{get_member}
 use Rattle.serde_json.proofs.Numbers.{number_of-decimal}
 use Rattle.json_docs.specs.Checks.{AllPass, Check, rows_checks}
 use Rattle.json_docs.specs.declared.fault.DocCause.{DocCause}
-use Rattle.site_docs.specs.Envelope.{version_tokens}
-use Rattle.site_docs.specs.Kinds.{names_of}
-use Rattle.site_docs.specs.Headers.{HasJust, header_checks, rows_in, subject_data, version_of}
-use Rattle.site_docs.specs.Texts.{Adds, text, value_tokens}
-use Rattle.site_docs.specs.declared.document.kind.Kind.TheVariants.{Script}
+use Rattle.row_docs.specs.Envelope.{version_tokens}
+use Rattle.row_docs.specs.Kinds.{names_of}
+use Rattle.row_docs.specs.Headers.{HasJust, header_checks, rows_in, subject_data, version_of}
+use Rattle.row_docs.specs.Texts.{Adds, text, value_tokens}
+use Rattle.row_docs.specs.declared.kind.Kind.TheVariants.{Script}
 use Rattle.script_docs.specs.ScriptReads.{ReadsAsScript, sites_check}
 use Rattle.script_docs.specs.ScriptWritten.{AreRowsOf, HasRows, HoldsSteps, IsFirstUnwritable}
 use Rattle.script_docs.specs.ScriptWritten.{RefusesWriting, script_value}
@@ -36,9 +36,9 @@ use Rattle.script_docs.specs.StepFields.{step_checks}
 use Rattle.script_docs.specs.Steps.{StepText}
 use Rattle.script_docs.specs.StepsWritten.{IsWritableStep, RefusesStep, WritesStep, step_value}
 use Rattle.json_docs.proofs.ChecksLemmas.{AllPass-both}
-use Rattle.site_docs.proofs.TextsLemmas.{printed, row_tokens-push, rows_member}
-use Rattle.site_docs.proofs.WrittenRows.{list_of-items_of}
-use Rattle.site_docs.proofs.WrittenTexts.{read-text}
+use Rattle.row_docs.proofs.TextsLemmas.{printed, row_tokens-push, rows_member}
+use Rattle.row_docs.proofs.WrittenRows.{list_of-items_of}
+use Rattle.row_docs.proofs.WrittenTexts.{read-text}
 use Rattle.script_docs.proofs.StepsWrittenLemmas.{rows_push, rows_sound, steps_again, steps_pass}
 use Rattle.script_docs.proofs.StepsWrittenLemmas.{writable_of}
 
@@ -76,7 +76,7 @@ all_writable (t ∷ ts) [] rows = absurd rows
 all_writable (t ∷ ts) (s ∷ ss) rows =
     All-cons IsWritableStep s ss (writable_of t s rows.0) (all_writable ts ss rows.1)
 
--- the step behind these rows is the first that is not writable
+-- the step after these rows is the first that is not writable
 first_unwritable : (a : Written) (sites : ℕ) (steps : List Step) (k : ℕ) (step : Step)
     → k < length steps → step ≡ get_or steps k step → HasRows a sites (take k steps)
     → ¬ IsWritableStep step → IsFirstUnwritable steps k

@@ -19,11 +19,11 @@ use Rattle.serde_json.specs.View.{items_of}
 use Rattle.serde_json.specs.Written.{items_outline, outline}
 use Rattle.serde_json.proofs.Numbers.{number_of-decimal}
 use Rattle.json_docs.specs.Checks.{AllPass, rows_checks}
-use Rattle.site_docs.specs.Entries.{row_of}
-use Rattle.site_docs.specs.Rows.{cell_in}
-use Rattle.site_docs.specs.Valid.{IsKeptCell}
-use Rattle.site_docs.specs.Values.{Row, cell_value, label_value}
-use Rattle.site_docs.specs.declared.document.version.Version.TheVariants.{Two}
+use Rattle.row_docs.specs.Entries.{row_of}
+use Rattle.row_docs.specs.Rows.{cell_in}
+use Rattle.row_docs.specs.Valid.{IsKeptCell}
+use Rattle.row_docs.specs.Values.{Row, cell_value, label_value}
+use Rattle.row_docs.specs.declared.version.Version.TheVariants.{Two}
 use Rattle.script_docs.specs.FieldWritten.{field_text}
 use Rattle.script_docs.specs.ScriptWritten.{AreRowsOf}
 use Rattle.script_docs.specs.StepFields.{AreSteps, Lists, default_checks, step_checks}
@@ -32,8 +32,8 @@ use Rattle.script_docs.specs.Steps.{cells_step, tell_step, post_step, deliver_st
 use Rattle.script_docs.specs.StepsWritten.{FitsMember, HasRoom, IsDefault, IsRowOf, IsWritableStep}
 use Rattle.script_docs.specs.StepsWritten.{step_row, step_value}
 use Rattle.json_docs.proofs.ChecksLemmas.{AllPass-both}
-use Rattle.site_docs.proofs.LowerLemmas.{lower-IsLang, spells-IsLang}
-use Rattle.site_docs.proofs.WrittenRows.{label_again, narrow}
+use Rattle.row_docs.proofs.LowerLemmas.{lower-IsLang, spells-IsLang}
+use Rattle.row_docs.proofs.WrittenRows.{label_again, narrow}
 use Rattle.script_docs.proofs.StepsLemmas.{step_passes}
 
 -- ---- the text of a row

@@ -1,4 +1,5 @@
 pub mod FieldWritten
+pub mod OldScripts
 pub mod ScriptReads
 pub mod ScriptWritten
 pub mod Scripts

@@ -6,9 +6,9 @@ use Rattle.json_docs.specs.Checks.{Check, IsRefusal, check, rows_checks}
 use Rattle.json_docs.specs.Parts.{u64_in}
 use Rattle.json_docs.specs.declared.fault.DocCause.{DocCause}
 use Rattle.json_docs.specs.declared.fault.DocCause.TheVariants.{Shape}
-use Rattle.site_docs.specs.Headers.{header_checks, rows_in, subject_data, version_of}
-use Rattle.site_docs.specs.ReadsAs.{Reads}
-use Rattle.site_docs.specs.declared.document.kind.Kind.TheVariants.{Script}
+use Rattle.row_docs.specs.Headers.{header_checks, rows_in, subject_data, version_of}
+use Rattle.row_docs.specs.Reading.{Reads}
+use Rattle.row_docs.specs.declared.kind.Kind.TheVariants.{Script}
 use Rattle.script_docs.specs.Scripts.{ScriptState}
 use Rattle.script_docs.specs.StepFields.{AreSteps, step_checks}
 use Rattle.json_docs.specs.declared.fault.Spot.TheVariants as spot

@@ -13,7 +13,7 @@ use Rattle.json_docs.specs.Faults.{of_no_document}
 use Rattle.json_docs.specs.declared.fault.DocCause.{DocCause}
 use Rattle.json_docs.specs.declared.fault.DocCause.TheVariants.{NoMemory, Shape}
 use Rattle.json_docs.specs.declared.fault.DocFault.{DocFault}
-use Rattle.site_docs.specs.Texts.{row_tokens, text}
+use Rattle.row_docs.specs.Texts.{row_tokens, text}
 use Rattle.script_docs.specs.ScriptReads.{ReadsAsScript}
 use Rattle.script_docs.specs.Scripts.{ScriptState}
 use Rattle.script_docs.specs.Steps.{StepText}

@@ -17,8 +17,8 @@ use Rattle.json_docs.specs.Checks.{Check, check}
 use Rattle.json_docs.specs.declared.fault.DocCause.{DocCause}
 use Rattle.json_docs.specs.declared.fault.DocCause.TheVariants.{Field, Shape}
 use Rattle.json_docs.specs.declared.fault.FieldFault.TheVariants.{Priorities}
-use Rattle.site_docs.specs.Fields.{cell_fields, entry_of, id_check, language_check}
-use Rattle.site_docs.specs.declared.document.version.Version.{Version}
+use Rattle.row_docs.specs.Fields.{cell_fields, entry_of, id_check, language_check}
+use Rattle.row_docs.specs.declared.version.Version.{Version}
 use Rattle.script_docs.specs.Steps.{StepText, edit_step, merge_step, filter_step, lookup_step}
 use Rattle.script_docs.specs.Steps.{cells_step, tell_step, post_step, deliver_step, step_in}
 use Rattle.json_docs.specs.declared.fault.Spot.TheVariants as spot

@@ -11,9 +11,9 @@ use Rattle.serde_json.specs.Data.{Data, null, array, number, unsigned, string, n
 use Rattle.json_docs.specs.Checks.{AllPass, OrMemory}
 use Rattle.json_docs.specs.declared.fault.DocCause.{DocCause}
 use Rattle.json_docs.specs.declared.fault.DocCause.TheVariants.{NoMemory, Shape}
-use Rattle.site_docs.specs.Entries.{row_of}
-use Rattle.site_docs.specs.Texts.{Adds, value_tokens}
-use Rattle.site_docs.specs.Values.{Row, cell_value}
+use Rattle.row_docs.specs.Entries.{row_of}
+use Rattle.row_docs.specs.Texts.{Adds, value_tokens}
+use Rattle.row_docs.specs.Values.{Row, cell_value}
 use Rattle.script_docs.specs.FieldWritten.{IsListed, field_text}
 use Rattle.script_docs.specs.StepFields.{Makes, step_fields}
 use Rattle.script_docs.specs.Steps.{StepText, edit_step, merge_step, filter_step, lookup_step}

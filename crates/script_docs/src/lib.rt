@@ -5,6 +5,7 @@
 #![tactic(auto)]
 
 mod field_writing;
+pub mod laws;
 mod reading;
 mod scripts;
 mod step_fields;

@@ -2,19 +2,19 @@
 ghost use Rattle.std.specs.Prelude.{◌≡◌, None, Some, is_some, true, MatchResult};
 ghost use Rattle.serde_json.specs.Data.{Data};
 ghost use Rattle.json_docs.specs.Checks.{AllPass, AreJson, OrMemory};
-ghost use Rattle.site_docs.specs.Headers.{IsSubject, rows_in, subject_data, version_of};
-ghost use Rattle.site_docs.specs.ReadsAs.{IsOfDocument, no_memory};
+ghost use Rattle.row_docs.specs.Headers.{IsSubject, rows_in, subject_data, version_of};
+ghost use Rattle.row_docs.specs.Reading.{IsOfDocument, no_memory};
 ghost use Rattle.script_docs.specs.ScriptReads.{ReadsAsScript, RefusesScript, count_of};
 ghost use Rattle.script_docs.specs.ScriptReads.{script_checks, sites_in};
 ghost use Rattle.script_docs.specs.Scripts.{IsSiteCount};
 ghost use Rattle.script_docs.specs.StepFields.{AreSteps};
-ghost use Rattle.site_docs.specs.declared.document.kind.Kind.TheVariants as kind;
+ghost use Rattle.row_docs.specs.declared.kind.Kind.TheVariants as kind;
 ghost use Rattle.json_docs.specs.declared.fault.DocCause.TheVariants.{NoMemory, Shape};
 ghost use Rattle.json_docs.specs.declared.fault.Spot.TheVariants as spot;
 
 use crate::scripts::{Script, Steps};
 use json_docs::{DocCause, DocFault, Spot};
-use site_docs::{Kind, Subject, read_header};
+use row_docs::{Kind, Subject, read_header};
 use std::alloc::Global;
 
 /// The most sites of a script.

@@ -8,7 +8,7 @@ use crate::steps::step_of;
 use cata_core::Step;
 use json::Value;
 use json_docs::{DocCause, Spot};
-use site_docs::{Rows, Version};
+use row_docs::{Rows, Version};
 use std::alloc::Global;
 use std::marker::Model;
 

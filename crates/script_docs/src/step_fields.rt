@@ -3,7 +3,7 @@ ghost use Rattle.std.specs.Prelude.{◌≡◌, option_map, MatchResult};
 ghost use Rattle.std.specs.Str.{str_to_ascii_lowercase};
 ghost use Rattle.json_docs.specs.Checks.{AllPass, FirstFails, OrMemory};
 ghost use Rattle.json_docs.specs.declared.fault.DocCause.TheVariants.{NoMemory};
-ghost use Rattle.site_docs.specs.RowsSeen.{AreTextsOf, cell_of};
+ghost use Rattle.row_docs.specs.RowsSeen.{AreTextsOf, cell_of};
 ghost use Rattle.script_docs.specs.StepFields.{IsListRefusal, Lists, Makes, default_checks};
 ghost use Rattle.script_docs.specs.StepFields.{step_fields};
 ghost use Rattle.script_docs.specs.Steps.{edit_step, filter_step, lookup_step};
@@ -14,7 +14,7 @@ use cata_core::{Edit, Step};
 use json_docs::{DocCause, FieldFault};
 use lang_core::Lang;
 use nego_core::{Malformed, NegoFault, PriorityList, Scheme};
-use site_docs::{CellEntry, CellRow, cell_entry, id_of, language_of};
+use row_docs::{CellEntry, CellRow, cell_entry, id_of, language_of};
 use std::alloc::Global;
 
 /// What the fields of a step make.

@@ -5,9 +5,9 @@ ghost use Rattle.cata_core.specs.declared.step.Step.TheVariants.{Deliver, Edit a
 ghost use Rattle.cata_core.specs.declared.step.Step.TheVariants.{Post, Tell};
 ghost use Rattle.cell_core.specs.MessageIds.{IsMessageId};
 ghost use Rattle.json_docs.specs.declared.fault.DocCause.TheVariants.{Shape};
-ghost use Rattle.site_docs.specs.Entries.{row_of};
-ghost use Rattle.site_docs.specs.Texts.{Adds, value_tokens};
-ghost use Rattle.site_docs.specs.Valid.{IsKeptCell};
+ghost use Rattle.row_docs.specs.Entries.{row_of};
+ghost use Rattle.row_docs.specs.Texts.{Adds, value_tokens};
+ghost use Rattle.row_docs.specs.Valid.{IsKeptCell};
 ghost use Rattle.script_docs.specs.StepsWritten.{FitsMember, IsDefault, RefusesRow, RefusesStep};
 ghost use Rattle.script_docs.specs.StepsWritten.{WritesStep, edit_value, filter_value};
 ghost use Rattle.script_docs.specs.StepsWritten.{lookup_value, pair_value, scheme_text};
@@ -21,7 +21,7 @@ use json::Writer;
 use json_docs::{DocCause, Spot};
 use lang_core::Lang;
 use nego_core::{PriorityList, Scheme};
-use site_docs::write_entry;
+use row_docs::write_entry;
 use std::alloc::{AllocError, Global};
 
 /// The most that a document has as the number of a site, a told summary or a post.

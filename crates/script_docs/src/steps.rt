@@ -9,7 +9,7 @@ ghost use Rattle.script_docs.specs.StepsSeen.{HasTexts, text_of};
 use json::Value;
 use json_docs::{items_of, text_of, u32_of};
 use nego_core::Scheme;
-use site_docs::{CellRow, Version, cell_of};
+use row_docs::{CellRow, Version, cell_of};
 
 /// The word that a step begins with. Definitions that other crates cite name it, so it is `pub`.
 #[derive(Clone, Copy, Debug)]

@@ -2,8 +2,8 @@
 ghost use Rattle.std.specs.Prelude.{◌≡◌, ◌∷◌, [], ℕ, List, IfErr, IfOk, IsUtf8, MatchResult, OnOk};
 ghost use Rattle.json.specs.Token.{end_array};
 ghost use Rattle.serde_json.specs.Data.{Data};
-ghost use Rattle.site_docs.specs.Envelope.{version_tokens};
-ghost use Rattle.site_docs.specs.Texts.{Adds, text};
+ghost use Rattle.row_docs.specs.Envelope.{version_tokens};
+ghost use Rattle.row_docs.specs.Texts.{Adds, text};
 ghost use Rattle.script_docs.specs.ScriptWritten.{HasRows, HoldsSteps, IsOfNone, IsScriptText};
 ghost use Rattle.script_docs.specs.ScriptWritten.{RefusesWriting, script_value};
 ghost use Rattle.script_docs.specs.Scripts.{IsSiteCount};
@@ -12,7 +12,7 @@ use crate::scripts::Script;
 use crate::step_writing::write_step;
 use json::Writer;
 use json_docs::{Doc, DocCause, DocFault};
-use site_docs::finish;
+use row_docs::finish;
 use std::alloc::{AllocError, Global};
 
 /// The document of a script, version 2: a row for each step, and a priority list as its items with

@@ -10,9 +10,10 @@ use Rattle.json.specs.Written.{Written}
 use Rattle.serde_json.specs.Data.{Data}
 use Rattle.cata_core.specs.Entries.{Entries, Entry, EntryKey}
 use Rattle.cell_core.specs.declared.stamp.Stamp.{Stamp}
-use Rattle.site_docs.specs.Documents.{cells_values, entry_value, stamps_values, told_value}
-use Rattle.site_docs.specs.Texts.{Adds, HoldsCells, HoldsStamps, value_tokens}
-use Rattle.site_docs.proofs.TextsLemmas.{row_tokens-push}
+use Rattle.row_docs.specs.Entries.{cells_values, entry_value, stamps_values, stamped_value}
+use Rattle.row_docs.specs.Texts.{Adds, value_tokens}
+use Rattle.site_docs.specs.Drafts.{HoldsCells, HoldsStamps}
+use Rattle.row_docs.proofs.TextsLemmas.{row_tokens-push}
 
 HoldsCells-adds : (a b : Written) (rows : List Data) (d : Data) → HoldsCells a rows
     → Adds a b (value_tokens d) → HoldsCells b (rows ++ d ∷ [])
@@ -52,11 +53,11 @@ taken (y ∷ xs) (suc k) x is = ap (λ t. y ∷ t) (taken xs k x is)
 -- one stamp more is written
 pub stamp_more : (a b : Written) (owner : List ℕ) (stamps : List (EntryKey × Stamp)) (k : ℕ)
     (t : EntryKey × Stamp) → HoldsStamps a owner (stamps_values (take k stamps))
-    → Adds a b (value_tokens (told_value t)) → slice_get stamps k ≡ Some t
+    → Adds a b (value_tokens (stamped_value t)) → slice_get stamps k ≡ Some t
     → HoldsStamps b owner (stamps_values (take (k + 1) stamps))
 stamp_more a b owner stamps k t holds adds is =
-    rw (add-one, taken stamps k t is, map-append told_value (take k stamps) (t ∷ []))
-    (HoldsStamps-adds a b owner (stamps_values (take k stamps)) (told_value t) holds adds)
+    rw (add-one, taken stamps k t is, map-append stamped_value (take k stamps) (t ∷ []))
+    (HoldsStamps-adds a b owner (stamps_values (take k stamps)) (stamped_value t) holds adds)
 
 -- there is a stamp at each place
 pub some_at : {A : Type 0} (xs : List A) (k : ℕ) → k < length xs → slice_get xs k ≡ None → ⊥

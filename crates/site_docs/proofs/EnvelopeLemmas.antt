@@ -1,8 +1,5 @@
 -- A draft that is closed is the text of its document, and is UTF-8.
-use Rattle.std.proofs.Common.{◌≡◌, ◌∙◌, ◌++◌, ℕ, List, [], ◌∷◌, codes, refl, ap, sym, subst}
-use Rattle.std.specs.Prelude.{IsUtf8}
-use Rattle.std.proofs.lemmas.Str.{IsUtf8-append}
-use Rattle.json.proofs.Printed.Utf8.{IsUtf8-are_ascii}
+use Rattle.std.proofs.Common.{◌≡◌, ◌∙◌, ◌++◌, ℕ, List, [], ◌∷◌, codes, ap, sym}
 use Rattle.json.specs.Print.{print}
 use Rattle.json.specs.Token.{Token, begin_object, begin_array, end_array, key, string}
 use Rattle.json.specs.Tree.{items_tokens}
@@ -10,17 +7,18 @@ use Rattle.json.specs.Written.{Written}
 use Rattle.serde_json.specs.Data.{Data}
 use Rattle.serde_json.specs.View.{items_of}
 use Rattle.serde_json.specs.Written.{items_outline}
-use Rattle.site_docs.specs.Envelope.{name_tokens, version_tokens}
-use Rattle.site_docs.specs.Texts.{HoldsCells, HoldsStamps, row_tokens, text, value_tokens}
+use Rattle.row_docs.specs.Envelope.{name_tokens, version_tokens}
+use Rattle.row_docs.specs.Texts.{row_tokens, text, value_tokens}
+use Rattle.site_docs.specs.Drafts.{HoldsCells, HoldsStamps}
 use Rattle.site_docs.specs.Values.{delta_value, site_value, summary_value}
-use Rattle.site_docs.proofs.TextsLemmas.{printed, rows_member}
+use Rattle.row_docs.proofs.TextsLemmas.{printed, rows_member}
 
--- the text behind nothing
+-- the text with nothing before it
 whole : (before : List ℕ) (ts : List Token) (d : Data) → before ≡ [] → ts ≡ value_tokens d
     → before ++ (print ts ++ 10 ∷ []) ≡ text d
 whole before ts d none is = ap (λ b. b ++ (print ts ++ 10 ∷ [])) none ∙ printed ts d is
 
--- the tokens of cells and of what stands behind them
+-- the tokens of cells and of what comes after them
 cells_closed : (tokens rest : List Token) (rows : List Data)
     → tokens ≡ begin_object ∷ key (codes "cells") ∷ begin_array ∷ row_tokens rows
     → tokens ++ end_array ∷ rest ≡ begin_object ∷ key (codes "cells") ∷ begin_array ∷
@@ -58,9 +56,3 @@ summary_closed draft owner rows holds =
     ∙ ap (λ t. begin_object ∷ key (codes "kind") ∷ string (codes "summary") ∷ key (codes "owner")
     ∷ string owner ∷ key (codes "stamps") ∷ begin_array ∷ t)
     (sym (rows_member rows version_tokens)))
-
--- a text in UTF-8 behind nothing, and its line feed
-pub utf8_line : (before bytes : List ℕ) → IsUtf8 bytes → before ≡ []
-    → IsUtf8 (before ++ (bytes ++ 10 ∷ []))
-utf8_line before bytes utf8 none = subst (λ b. IsUtf8 (b ++ (bytes ++ 10 ∷ []))) (sym none)
-    (IsUtf8-append bytes (10 ∷ []) utf8 (IsUtf8-are_ascii (10 ∷ []) refl))

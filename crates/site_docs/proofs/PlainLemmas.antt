@@ -13,15 +13,15 @@ use Rattle.cell_core.specs.SiteNames.{IsSiteName}
 use Rattle.cell_core.specs.declared.stamp.Stamp.{Stamp}
 use Rattle.cata_core.specs.Entries.{Entries, Entry, EntryKey, IsAboveAll, key_cmp, key_cmp_total}
 use Rattle.cata_core.proofs.Behind.{IsMap-behind}
-use Rattle.site_docs.specs.Documents.{cells_values, entry_value}
-use Rattle.site_docs.specs.Fields.{IsLabelText, stamp_of}
-use Rattle.site_docs.specs.Kinds.{kind_text, subject_of}
+use Rattle.row_docs.specs.Entries.{cells_values, entry_value}
+use Rattle.row_docs.specs.Fields.{IsLabelText, stamp_of}
+use Rattle.row_docs.specs.Kinds.{kind_text, subject_of}
 use Rattle.site_docs.specs.Plain.{IsEnd, IsLastOf, IsPlainText, IsTextOf, cells_document}
 use Rattle.site_docs.specs.Plain.{is_later, last_members}
 use Rattle.site_docs.specs.Plain.{open_items, row_before, rows_text}
-use Rattle.site_docs.specs.Valid.{AreKeptCells, IsKept, IsKeptCell}
-use Rattle.site_docs.specs.Values.{Row, cell_value, label_value}
-use Rattle.site_docs.specs.declared.document.kind.Kind.{Kind}
+use Rattle.row_docs.specs.Valid.{AreKeptCells, IsKept, IsKeptCell}
+use Rattle.row_docs.specs.Values.{Row, cell_value, label_value}
+use Rattle.row_docs.specs.declared.kind.Kind.{Kind}
 use Rattle.site_docs.proofs.DocumentsLemmas.{kept_more}
 
 -- ---- arrays

@@ -6,11 +6,11 @@ use Rattle.serde_json.specs.Read.{read}
 use Rattle.cell_core.specs.Maps.{IsMap}
 use Rattle.cata_core.specs.Entries.{Entries, key_cmp}
 use Rattle.json_docs.proofs.LineFeed.{read-line_feed}
-use Rattle.site_docs.specs.Documents.{cells_values}
+use Rattle.row_docs.specs.Entries.{cells_values}
 use Rattle.site_docs.specs.Plain.{IsPlainText, IsTextOf, cells_document}
 use Rattle.site_docs.specs.ReadsAs.{ReadsAsDelta, ReadsAsSite}
-use Rattle.site_docs.specs.Texts.{text}
-use Rattle.site_docs.specs.declared.document.kind.Kind.TheVariants.{Delta, Site}
+use Rattle.row_docs.specs.Texts.{text}
+use Rattle.row_docs.specs.declared.kind.Kind.TheVariants.{Delta, Site}
 use Rattle.site_docs.proofs.RoundTrip.{reads_delta, reads_site}
 
 -- a text reads as it does without its line feed

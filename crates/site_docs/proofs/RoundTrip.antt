@@ -16,22 +16,23 @@ use Rattle.cata_core.specs.declared.delta.Delta.{Delta as DeltaState}
 use Rattle.cata_core.specs.Sites.{SiteState}
 use Rattle.cata_core.specs.Summary.{SummaryState}
 use Rattle.json_docs.specs.Checks.{AllPass, Check, rows_checks}
-use Rattle.site_docs.specs.Documents.{cells_values, delta_text, site_text, stamps_values}
+use Rattle.row_docs.specs.Entries.{cells_values, stamps_values}
+use Rattle.site_docs.specs.Documents.{delta_text, site_text}
 use Rattle.site_docs.specs.Documents.{summary_text}
-use Rattle.site_docs.specs.Kinds.{names_of}
-use Rattle.site_docs.specs.Headers.{HasJust, header_checks, rows_in, subject_data, version_of}
+use Rattle.row_docs.specs.Kinds.{names_of}
+use Rattle.row_docs.specs.Headers.{HasJust, header_checks, rows_in, subject_data, version_of}
 use Rattle.site_docs.specs.SiteDocuments.{subject_checks}
 use Rattle.site_docs.specs.ReadsAs.{ReadsAsDelta, ReadsAsSite, ReadsAsSummary}
-use Rattle.site_docs.specs.Rising.{cell_checks, stamp_checks}
-use Rattle.site_docs.specs.Valid.{AreKeptCells, AreKeptStamps}
+use Rattle.row_docs.specs.Rising.{cell_checks, stamp_checks}
+use Rattle.row_docs.specs.Valid.{AreKeptCells, AreKeptStamps}
 use Rattle.site_docs.specs.Values.{delta_value, site_value, summary_value}
-use Rattle.site_docs.specs.declared.document.kind.Kind.{Kind}
-use Rattle.site_docs.specs.declared.document.kind.Kind.TheVariants.{Delta, Site, Summary}
-use Rattle.site_docs.specs.declared.document.version.Version.{Version}
+use Rattle.row_docs.specs.declared.kind.Kind.{Kind}
+use Rattle.row_docs.specs.declared.kind.Kind.TheVariants.{Delta, Site, Summary}
+use Rattle.row_docs.specs.declared.version.Version.{Version}
 use Rattle.json_docs.proofs.ChecksLemmas.{AllPass-both}
-use Rattle.site_docs.proofs.WrittenRows.{cells_pass, entries_again, list_of-items_of, stamps_again}
-use Rattle.site_docs.proofs.WrittenRows.{stamps_pass}
-use Rattle.site_docs.proofs.WrittenTexts.{read-delta, read-site, read-summary}
+use Rattle.row_docs.proofs.WrittenRows.{cells_pass, entries_again, list_of-items_of, stamps_again}
+use Rattle.row_docs.proofs.WrittenRows.{stamps_pass}
+use Rattle.site_docs.proofs.WrittenDocuments.{read-delta, read-site, read-summary}
 
 -- ---- members by their names
 
@@ -72,7 +73,7 @@ rows_third false false false true = refl
 rows_third false false false false = refl
 
 -- the document of a site has the members of its kind
-pub site_names : (name : List ℕ) (rows : List Data) → HasJust (names_of Site) (site_value name rows)
+site_names : (name : List ℕ) (rows : List Data) → HasJust (names_of Site) (site_value name rows)
 site_names name rows q =
     rw (
       some_member q (codes "cells"),
@@ -85,7 +86,7 @@ site_names name rows q =
     (bytes_eq q (codes "version")))
 
 -- the document of a delta has the members of its kind
-pub delta_names : (name : List ℕ) (rows : List Data)
+delta_names : (name : List ℕ) (rows : List Data)
     → HasJust (names_of Delta) (delta_value name rows)
 delta_names name rows q =
     rw (
@@ -114,7 +115,7 @@ summary_names name rows q =
 -- ---- documents
 
 -- the tests after those of the header
-abbrev pub rest_checks : Kind → (Version → List Data → Data → List Check) → Data → List Check
+abbrev rest_checks : Kind → (Version → List Data → Data → List Check) → Data → List Check
 rest_checks kind checks d = subject_checks (version_of d) (subject_data kind d) ++ rows_checks
     (checks (version_of d)) [] (rows_in kind d)
 

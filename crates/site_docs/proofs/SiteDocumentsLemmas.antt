@@ -4,11 +4,11 @@ use Rattle.serde_json.specs.Data.{Data}
 use Rattle.json_docs.specs.Checks.{Check, IsRefusal, OrMemory, rows_checks}
 use Rattle.json_docs.specs.declared.fault.DocCause.{DocCause}
 use Rattle.json_docs.specs.declared.fault.DocCause.TheVariants.{NoMemory}
-use Rattle.site_docs.specs.Headers.{header_checks, rows_in, subject_data, version_of}
+use Rattle.row_docs.specs.Headers.{header_checks, rows_in, subject_data, version_of}
 use Rattle.site_docs.specs.SiteDocuments.{document_checks, subject_checks}
-use Rattle.site_docs.specs.TestedHeaders.{RefusesHeader}
-use Rattle.site_docs.specs.declared.document.kind.Kind.{Kind}
-use Rattle.site_docs.specs.declared.document.version.Version.{Version}
+use Rattle.row_docs.specs.TestedHeaders.{RefusesHeader}
+use Rattle.row_docs.specs.declared.kind.Kind.{Kind}
+use Rattle.row_docs.specs.declared.version.Version.{Version}
 use Rattle.json_docs.proofs.ChecksLemmas.{FirstFails-front}
 
 -- what refuses the header refuses the document

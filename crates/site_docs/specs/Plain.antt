@@ -9,15 +9,15 @@ use Rattle.serde_json.specs.View.{items_of}
 use Rattle.serde_json.specs.Written.{comma_if, compact_text}
 use Rattle.cell_core.specs.SiteNames.{IsSiteName}
 use Rattle.cata_core.specs.Entries.{Entries, EntryKey, IsAboveAll}
-use Rattle.site_docs.specs.Documents.{cells_values}
-use Rattle.site_docs.specs.Fields.{IsBehind}
-use Rattle.site_docs.specs.Kinds.{kind_text, subject_of}
-use Rattle.site_docs.specs.RowsSeen.{row_of}
-use Rattle.site_docs.specs.Texts.{text}
-use Rattle.site_docs.specs.Valid.{AreKeptCells}
-use Rattle.site_docs.specs.Values.{Row}
-use Rattle.site_docs.specs.declared.document.kind.Kind.{Kind}
-use Rattle.site_docs.specs.declared.row.shapes.Row.{Row as ReadRow}
+use Rattle.row_docs.specs.Entries.{cells_values}
+use Rattle.row_docs.specs.Fields.{IsAfter}
+use Rattle.row_docs.specs.Kinds.{kind_text, subject_of}
+use Rattle.row_docs.specs.RowsSeen.{row_of}
+use Rattle.row_docs.specs.Texts.{text}
+use Rattle.row_docs.specs.Valid.{AreKeptCells}
+use Rattle.row_docs.specs.Values.{Row}
+use Rattle.row_docs.specs.declared.kind.Kind.{Kind}
+use Rattle.row_docs.specs.declared.shapes.Row.{Row as ReadRow}
 
 -- `{"cells":[..],"kind":KIND,OWN:NAME,"version":2}`
 abbrev pub cells_document : Kind → List ℕ → List Data → Data
@@ -61,7 +61,7 @@ key_in row = let plain = row_of row in (plain.id, plain.language)
 
 -- a key that is behind the last one is above all these
 abbrev pub IsLastOf : Option EntryKey → Entries → Type 0
-IsLastOf last cells = (key : EntryKey) → IsBehind last key → IsAboveAll key cells
+IsLastOf last cells = (key : EntryKey) → IsAfter last key → IsAboveAll key cells
 
 -- a row as far as its label, and what comes after
 abbrev pub row_before : Row → List ℕ → List ℕ

@@ -7,12 +7,12 @@ use Rattle.cata_core.specs.Sites.{SiteState}
 use Rattle.cata_core.specs.Summary.{SummaryState}
 use Rattle.json_docs.specs.Checks.{Check, check, rows_checks}
 use Rattle.json_docs.specs.declared.fault.DocCause.TheVariants.{Shape, SiteName}
-use Rattle.site_docs.specs.Headers.{header_checks, rows_in, subject_data, version_of}
-use Rattle.site_docs.specs.Rising.{AreEntries, cell_checks, entry_in, stamp_checks, told_in}
-use Rattle.site_docs.specs.Rows.{site_in}
-use Rattle.site_docs.specs.declared.document.kind.Kind.{Kind}
-use Rattle.site_docs.specs.declared.document.kind.Kind.TheVariants.{Delta, Site, Summary}
-use Rattle.site_docs.specs.declared.document.version.Version.{Version}
+use Rattle.row_docs.specs.Headers.{header_checks, rows_in, subject_data, version_of}
+use Rattle.row_docs.specs.Rising.{AreEntries, cell_checks, entry_in, stamp_checks, stamped_in}
+use Rattle.row_docs.specs.Rows.{site_in}
+use Rattle.row_docs.specs.declared.kind.Kind.{Kind}
+use Rattle.row_docs.specs.declared.kind.Kind.TheVariants.{Delta, Site, Summary}
+use Rattle.row_docs.specs.declared.version.Version.{Version}
 use Rattle.json_docs.specs.declared.fault.Spot.TheVariants as spot
 
 -- the name that the document has, as its version writes it
@@ -54,4 +54,4 @@ pub record IsDeltaDocument (d : Data) (delta : DeltaState) : Type 0 where
 
 pub record IsSummaryDocument (d : Data) (summary : SummaryState) : Type 0 where
   pub owner : named_in Summary d ≡ Some summary.owner
-  pub stamps : AreEntries (told_in (version_of d)) (rows_in Summary d) summary.stamps
+  pub stamps : AreEntries (stamped_in (version_of d)) (rows_in Summary d) summary.stamps

@@ -2,7 +2,8 @@
 ghost use Rattle.std.specs.Prelude.{◌≡◌, IfOk, MatchResult};
 ghost use Rattle.cata_core.specs.LentAnswers.{reply_of};
 ghost use Rattle.json_docs.specs.Checks.{OrMemory};
-ghost use Rattle.site_docs.specs.ReadsAs.{IsOfDocument, RefusesSite, no_memory};
+ghost use Rattle.row_docs.specs.Reading.{IsOfDocument, no_memory};
+ghost use Rattle.site_docs.specs.ReadsAs.{RefusesSite};
 ghost use Rattle.docs_core.specs.Asks.{Answers, IsAsked, is_found};
 
 use crate::call::lines::{filter_lines, reply_line};

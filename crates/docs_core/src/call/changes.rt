@@ -5,8 +5,8 @@ ghost use Rattle.cell_core.specs.Labels.{texts_of};
 ghost use Rattle.cata_core.specs.Changes.{AreChanges, Changed};
 ghost use Rattle.cata_core.specs.ChangesLeft.{change_seen};
 ghost use Rattle.json_docs.specs.Checks.{OrMemory};
-ghost use Rattle.site_docs.specs.ReadsAs.{no_memory};
-ghost use Rattle.site_docs.specs.Texts.{Adds, value_tokens};
+ghost use Rattle.row_docs.specs.Reading.{no_memory};
+ghost use Rattle.row_docs.specs.Texts.{Adds, value_tokens};
 ghost use Rattle.docs_core.specs.Changed.{IsChanged, RefusesChanged, change_value, changes_lines};
 ghost use Rattle.docs_core.specs.Changed.{has_change, side_value};
 
@@ -15,7 +15,8 @@ use cata_core::{Catalogue, Change};
 use cell_core::{Cell, Stamp};
 use json::Writer;
 use json_docs::{Doc, DocFault};
-use site_docs::{site_at, write_texts};
+use row_docs::write_texts;
+use site_docs::site_at;
 use std::alloc::{AllocError, Global};
 
 /// `changes N`, then N lines in rising order of key, and whether there is a change: one line for

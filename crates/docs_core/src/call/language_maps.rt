@@ -1,7 +1,8 @@
 //! Language maps put into the document of a site, and made of it.
 ghost use Rattle.std.specs.Prelude.{MatchResult};
 ghost use Rattle.json_docs.specs.Checks.{OrMemory};
-ghost use Rattle.site_docs.specs.ReadsAs.{IsOfDocument, RefusesSite, no_memory};
+ghost use Rattle.row_docs.specs.Reading.{IsOfDocument, no_memory};
+ghost use Rattle.site_docs.specs.ReadsAs.{RefusesSite};
 ghost use Rattle.docs_core.specs.Exchange.{IsExported, IsImported, RefusesImport};
 ghost use Rattle.docs_core.specs.Missing.{IsMissing};
 

@@ -15,7 +15,7 @@ use itoa::Buffer;
 use json::Writer;
 use json_docs::Doc;
 use lang_core::Lang;
-use site_docs::{write_entry, write_texts};
+use row_docs::{write_entry, write_texts};
 use std::alloc::{AllocError, Global};
 use std::marker::Model;
 

@@ -1,7 +1,8 @@
 //! What a translator has to look at again.
 ghost use Rattle.std.specs.Prelude.{◌≡◌, IfOk, MatchResult};
 ghost use Rattle.json_docs.specs.Checks.{OrMemory};
-ghost use Rattle.site_docs.specs.ReadsAs.{IsOfDocument, RefusesSite, no_memory};
+ghost use Rattle.row_docs.specs.Reading.{IsOfDocument, no_memory};
+ghost use Rattle.site_docs.specs.ReadsAs.{RefusesSite};
 ghost use Rattle.map_docs.specs.LangMapTexts.{AreWritten};
 ghost use Rattle.docs_core.specs.Outdated.{IsOutdated, outdated_labels};
 

@@ -7,7 +7,7 @@ ghost use Rattle.json_docs.specs.Faults.{of_no_document};
 ghost use Rattle.json_docs.specs.Sinks.{AppendsFront};
 ghost use Rattle.json_docs.specs.Sources.{IsReadFault, ReadsWhole};
 ghost use Rattle.json_docs.specs.declared.fault.DocCause.TheVariants.{WriteFault};
-ghost use Rattle.site_docs.specs.ReadsAs.{IsOfDocument, no_memory};
+ghost use Rattle.row_docs.specs.Reading.{IsOfDocument, no_memory};
 ghost use Rattle.script_docs.specs.ScriptReads.{ReadsAsScript, RefusesScript};
 ghost use Rattle.docs_core.specs.Lines.{lines};
 ghost use Rattle.docs_core.specs.Replays.{IsPlayed, RefusesReplay, RefusesRun, Replays};

@@ -1,7 +1,7 @@
 //! Deltas and sites of others, taken only where no time of theirs is after a limit.
 ghost use Rattle.std.specs.Prelude.{◌^◌, ◌<◌, length, IfErr, MatchOption, MatchResult, OnOk, Some};
 ghost use Rattle.json_docs.specs.Checks.{OrMemory};
-ghost use Rattle.site_docs.specs.ReadsAs.{no_memory};
+ghost use Rattle.row_docs.specs.Reading.{no_memory};
 ghost use Rattle.docs_core.specs.TimeLimits.{AreInTime, AreSyncedUntil, IsFirstAhead, IsTakenUntil};
 ghost use Rattle.docs_core.specs.TimeLimits.{IsTimeAhead, ReadsInTime, RefusesDeltaUntil};
 ghost use Rattle.docs_core.specs.TimeLimits.{RefusesSyncUntil, RefusesTakingUntil};

@@ -6,7 +6,7 @@ ghost use Rattle.cell_core.specs.Maps.{IsMap};
 ghost use Rattle.cata_core.specs.Entries.{key_cmp};
 ghost use Rattle.cata_core.specs.declared.cata_fault.CataFault.TheVariants.{ClockSpent, NoMemory};
 ghost use Rattle.json_docs.specs.Checks.{OrMemory};
-ghost use Rattle.site_docs.specs.ReadsAs.{no_memory};
+ghost use Rattle.row_docs.specs.Reading.{no_memory};
 ghost use Rattle.map_docs.specs.LangMaps.{labels_of};
 ghost use Rattle.docs_core.specs.Revised.{IsFirstRevised, IsRevised, NoStamp, key_of, new_of};
 ghost use Rattle.docs_core.specs.Revised.{old_of};

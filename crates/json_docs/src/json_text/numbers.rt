@@ -8,7 +8,7 @@ ghost use Rattle.serde_json.specs.Read.{float_of, number_from, number_of};
 use fast_float::Numeral;
 
 /// The unsigned whole number of 64 bits that the text is, where it is one.
-pub fn whole_number(text: &str) -> Option<u64>
+pub(crate) fn whole_number(text: &str) -> Option<u64>
     ensures { result ≡ option_and_then as_u64 (number_of text.now) }
 {
     let bytes = text.as_bytes();

@@ -95,7 +95,7 @@ pub fn read_all<S: Source>(alloc: Global, reader: &mut S) -> Result<Doc, DocFaul
     let mut filled = 0;
     while filled <= MOST_BYTES {
         make_room(&mut buffer, filled)?;
-        let Ok(count) = read_behind(reader, &mut buffer, filled) else {
+        let Ok(count) = read_after(reader, &mut buffer, filled) else {
             return Err(DocFault::of_no_document(DocCause::ReadFault));
         };
         if count == 0 {
@@ -108,7 +108,7 @@ pub fn read_all<S: Source>(alloc: Global, reader: &mut S) -> Result<Doc, DocFaul
 }
 
 /// One read into the part of the buffer that is not filled yet.
-fn read_behind<S: Source>(reader: &mut S, buffer: &mut Vec<u8>, filled: usize) -> io::Result<usize>
+fn read_after<S: Source>(reader: &mut S, buffer: &mut Vec<u8>, filled: usize) -> io::Result<usize>
     requires { filled ≤ vec_len buffer.old }
     ensures bound { IfOk result (λ count. filled + count ≤ vec_len buffer.new) }
     ensures len { vec_len buffer.new ≡ vec_len buffer.old }

@@ -43,7 +43,7 @@ fn drip(text: &[u8], fails_at: usize) -> Dripping<'_> {
     }
 }
 
-/// Fills what it is handed up to its end, and notes whether it was asked for too much.
+/// Fills what it is given up to its end, and notes whether it was asked for too much.
 #[derive(Drop)]
 struct Meter {
     left: usize,

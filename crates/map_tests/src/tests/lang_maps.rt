@@ -8,7 +8,7 @@ use std::alloc::Global;
 use std::process::Abort;
 use std::test::Fail;
 
-/// The first row is no message; languages stand in any order and case.
+/// The first row is no message; languages come in any order and case.
 const IMPORT: &str = r#"{"@context":{},"m":{"EN":"a","de":null,"fr":["b",null],"@none":"c"}}"#;
 
 const EXPORT: &str = "{\"m\":{\"@none\":\"c\",\"en\":\"a\",\"fr\":\"b\"}}\n";
@@ -280,7 +280,7 @@ fn repeated(
     Ok(format!(in alloc; "{start}{middle}{end}")?)
 }
 
-/// Arrays that stand inside one another, this many.
+/// Arrays inside one another, this many.
 fn nested(alloc: Global, depth: usize) -> Result<String, Fail> {
     let open = repeated(alloc, r#"{"@x":"#, "[", depth, "")?;
     repeated(alloc, &open, "]", depth, "}")

@@ -83,7 +83,7 @@ fn no_step(rt: HostRuntime) {
     assert_rewritten(&rt, rt.alloc(), none, none);
 }
 
-/// Why a step behind another is refused.
+/// Why a step after another is refused.
 fn refusal(alloc: Global, step: Step) -> Option<DocFault> {
     let steps = Vec::from_array(alloc, [Step::Tell { site: 0 }, step]).ok()?;
     write_script(alloc, &Script::new(1, steps)).err()

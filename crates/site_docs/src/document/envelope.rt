@@ -4,12 +4,14 @@ ghost use Rattle.json.specs.Print.{print};
 ghost use Rattle.json.specs.Token.{begin_object, end_object, begin_array, end_array, key, number};
 ghost use Rattle.json.specs.Token.{string};
 ghost use Rattle.serde_json.specs.Data.{Data};
-ghost use Rattle.site_docs.specs.Envelope.{name_tokens, version_tokens};
-ghost use Rattle.site_docs.specs.Texts.{Adds, HoldsCells, HoldsStamps, text};
+ghost use Rattle.row_docs.specs.Envelope.{name_tokens, version_tokens};
+ghost use Rattle.row_docs.specs.Texts.{Adds, text};
+ghost use Rattle.site_docs.specs.Drafts.{HoldsCells, HoldsStamps};
 ghost use Rattle.site_docs.specs.Values.{delta_value, site_value, summary_value};
 
 use json::Writer;
 use json_docs::Doc;
+use row_docs::finish;
 use std::alloc::{AllocError, Global};
 
 /// Opens a site's or a delta's document, with no row yet.
@@ -61,16 +63,6 @@ pub(crate) fn close_summary(draft: Writer) -> Result<Doc, AllocError>
     ensures utf8 { IfOk result (λ doc. draft.before ≡ [] → IsUtf8 doc) }
 {
     close_rows(draft)
-}
-
-/// The text with its line feed.
-pub fn finish(draft: Writer) -> Result<Doc, AllocError>
-    ensures text { IfOk result (λ doc. doc ≡ draft.before ++ (print draft.tokens ++ 10 ∷ [])) }
-    ensures utf8 { IfOk result (λ doc. draft.before ≡ [] → IsUtf8 doc) }
-{
-    let mut bytes = draft.into_inner();
-    bytes.push(b'\n')?;
-    Ok(Doc::from(bytes))
 }
 
 /// Closes the rows, and adds the version.

@@ -3,22 +3,18 @@ ghost use Rattle.std.specs.Prelude.{◌≡◌, Some, MatchResult, IfOk, IfErr};
 ghost use Rattle.serde_json.specs.Data.{Data};
 ghost use Rattle.json_docs.specs.Checks.{AllPass, AreJson, FirstFails, IsRefusal, OrMemory};
 ghost use Rattle.json_docs.specs.declared.fault.DocCause.TheVariants.{NoMemory};
-ghost use Rattle.site_docs.specs.Headers.{IsSubject, rows_in, version_of};
+ghost use Rattle.row_docs.specs.Headers.{IsSubject, rows_in, version_of};
 ghost use Rattle.site_docs.specs.ReadsAs.{ReadsAsDelta, ReadsAsSite, ReadsAsSummary, RefusesDelta};
 ghost use Rattle.site_docs.specs.ReadsAs.{RefusesSite, RefusesSummary};
-ghost use Rattle.site_docs.specs.Rows.{site_in};
+ghost use Rattle.row_docs.specs.Rows.{site_in};
 ghost use Rattle.site_docs.specs.SiteDocuments.{document_checks, named_in, subject_checks};
-ghost use Rattle.site_docs.specs.declared.document.version.Version.TheVariants.{One, Two};
+ghost use Rattle.row_docs.specs.declared.version.Version.TheVariants.{One, Two};
 
-use crate::document::header::Subject;
-use crate::document::kind::Kind;
-use crate::document::tested_header::read_header;
-use crate::document::version::Version;
 use crate::plain::documents::cells_of_plain;
-use crate::row::arrays::Rows;
 use cata_core::{Catalogue, Delta, Site, Summary};
 use cell_core::SiteName;
 use json_docs::{DocCause, Spot};
+use row_docs::{Kind, Rows, Subject, Version, read_header};
 use std::alloc::Global;
 
 /// The site of a document, or why it is refused.

@@ -1,20 +1,17 @@
 //! The documents of sites, deltas and summaries, written.
-ghost use Rattle.std.specs.Prelude.{◌≡◌, IfOk, OnOk};
+ghost use Rattle.std.specs.Prelude.{◌≡◌, IfOk};
 ghost use Rattle.cell_core.specs.SiteNames.{IsSiteName};
-ghost use Rattle.site_docs.specs.Documents.{cells_values, delta_text, site_text, stamps_values};
-ghost use Rattle.site_docs.specs.Documents.{summary_text, told_value};
+ghost use Rattle.row_docs.specs.Entries.{cells_values, stamps_values};
+ghost use Rattle.row_docs.specs.Valid.{AreKeptCells, AreKeptStamps};
+ghost use Rattle.site_docs.specs.Documents.{delta_text, site_text, summary_text};
+ghost use Rattle.site_docs.specs.Drafts.{HoldsCells, HoldsStamps};
 ghost use Rattle.site_docs.specs.ReadsAs.{ReadsAsDelta, ReadsAsSite, ReadsAsSummary};
-ghost use Rattle.site_docs.specs.Texts.{Adds, HoldsCells, HoldsStamps, value_tokens};
-ghost use Rattle.site_docs.specs.Valid.{AreKeptCells, AreKeptStamps, IsKeptStamp};
 
 use crate::document::envelope::{close_delta, close_site, close_summary, open_cells, open_stamps};
-use crate::row::entries::write_entry;
-use crate::row::writing::{WrittenRow, write_stamp};
 use cata_core::{Catalogue, Delta, Site, Summary};
-use cell_core::{MessageId, Stamp};
 use json::Writer;
 use json_docs::Doc;
-use lang_core::Lang;
+use row_docs::{write_entry, write_stamped};
 use std::alloc::{AllocError, Global};
 
 /// The document of a site, version 2: its cells in rising order of key, deletions among them. It
@@ -74,24 +71,8 @@ fn stamps_draft(alloc: Global, summary: &Summary) -> Result<Writer, AllocError>
     let mut draft = open_stamps(alloc, summary.owner().as_str())?;
     for place in 0..summary.len() {
         if let Some((id, lang, stamp)) = summary.nth(place) {
-            write_told(&mut draft, id, lang, stamp)?;
+            write_stamped(&mut draft, id, lang, stamp)?;
         }
     }
     Ok(draft)
-}
-
-/// Adds the `STAMP` of a key.
-fn write_told(out: &mut Writer, id: &MessageId, lang: &Lang, stamp: Stamp) -> Result<(), AllocError>
-    ensures tokens { OnOk result (Adds out.old out.new
-        (value_tokens (told_value ((id.now, lang.now), stamp)))) }
-    ensures kept { OnOk result (IsKeptStamp ((id.now, lang.now), stamp)) }
-{
-    let row = WrittenRow {
-        id: id.as_str(),
-        language: lang.as_str(),
-        time: stamp.time,
-        site: stamp.site.as_str(),
-        count: stamp.count,
-    };
-    write_stamp(out, &row)
 }

@@ -4,17 +4,17 @@ ghost use Rattle.json.specs.Print.{quoted};
 ghost use Rattle.cell_core.specs.Maps.{IsMap};
 ghost use Rattle.cell_core.specs.SiteNames.{IsSiteName};
 ghost use Rattle.cata_core.specs.Entries.{Entries, key_cmp};
-ghost use Rattle.site_docs.specs.Kinds.{kind_text, subject_of};
+ghost use Rattle.row_docs.specs.Kinds.{kind_text, subject_of};
 ghost use Rattle.site_docs.specs.Plain.{IsEnd, IsPlainText, last_members};
 ghost use Rattle.site_docs.specs.ReadsAs.{ReadsAsSite};
 
-use crate::document::kind::Kind;
 use crate::plain::pieces::{after, after_text, number_after, text_after};
 use crate::plain::rows::next_cells;
 use crate::plain::taking::TakeCells;
 use cata_core::Catalogue;
 use cell_core::SiteName;
 use json_docs::text_in;
+use row_docs::Kind;
 use std::alloc::Global;
 
 /// The name and the cells of a document of this kind, where the bytes are the text that is written

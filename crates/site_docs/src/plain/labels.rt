@@ -3,8 +3,8 @@ ghost use Rattle.std.specs.Prelude.{◌≡◌, ◌++◌, ◌∷◌, [], IfSome, 
 ghost use Rattle.json.specs.Print.{quoted};
 ghost use Rattle.serde_json.specs.Written.{compact_text};
 ghost use Rattle.cell_core.specs.Labels.{IsLabel};
-ghost use Rattle.site_docs.specs.Fields.{IsLabelText};
-ghost use Rattle.site_docs.specs.Values.{label_value, texts_value};
+ghost use Rattle.row_docs.specs.Fields.{IsLabelText};
+ghost use Rattle.row_docs.specs.Values.{label_value, texts_value};
 
 use crate::plain::pieces::after;
 use crate::plain::strings::string_after;

@@ -2,19 +2,18 @@
 ghost use Rattle.std.specs.Prelude.{◌≡◌, ◌++◌, ◌∷◌, [], IfSome, IsTrue, is_some, option_map};
 ghost use Rattle.serde_json.specs.Written.{comma_if, compact_text};
 ghost use Rattle.cata_core.specs.Entries.{Entries, Entry, IsAboveAll};
-ghost use Rattle.site_docs.specs.Documents.{entry_value};
-ghost use Rattle.site_docs.specs.EntriesSeen.{entry_by, told_by};
-ghost use Rattle.site_docs.specs.Fields.{IsBehind, stamp_of};
+ghost use Rattle.row_docs.specs.Entries.{entry_value};
+ghost use Rattle.row_docs.specs.EntriesSeen.{entry_by, stamped_by};
+ghost use Rattle.row_docs.specs.Fields.{IsAfter, stamp_of};
 ghost use Rattle.site_docs.specs.Plain.{IsLastOf, key_in, row_before, rows_text};
-ghost use Rattle.site_docs.specs.RowsSeen.{row_of};
-ghost use Rattle.site_docs.specs.Valid.{AreKeptCells, IsKept, IsKeptCell};
+ghost use Rattle.row_docs.specs.RowsSeen.{row_of};
+ghost use Rattle.row_docs.specs.Valid.{AreKeptCells, IsKept, IsKeptCell};
 
 use crate::plain::labels::next_label;
 use crate::plain::pieces::{after, number_after, text_after};
 use crate::plain::taking::TakeCells;
-use crate::row::fields::{CellEntry, StampEntry, stamp_entry};
-use crate::row::shapes::{Row, SiteText};
 use cell_core::{Cell, Label};
+use row_docs::{CellEntry, Row, SiteText, StampEntry, stamp_entry};
 use std::alloc::Global;
 
 /// Gives the cells of the array of rows that the text begins with to the taker, and answers what
@@ -51,7 +50,7 @@ fn next_cell<'t, T: TakeCells>(
     requires { (first : T) × (before : Entries) × T.Holds first taker.old before
         × IsLastOf (option_map key_in last) before }
     ensures { IfSome result (λ r. (e : Entry) × (e.0 ≡ key_in r.0) × IsKeptCell e
-        × IsBehind (option_map key_in last.entry) e.0
+        × IsAfter (option_map key_in last.entry) e.0
         × (text.now ≡ comma_if (is_some last.entry) ++ (compact_text (entry_value e) ++ r.1.now))
         × ((first : T) → (before : Entries) → T.Holds first taker.old before
         → IsAboveAll e.0 before → T.Holds first taker.new (before ++ e ∷ []))) }
@@ -68,7 +67,7 @@ fn next_cell<'t, T: TakeCells>(
 
 /// Whether the key of the row is greater than that of the last one.
 fn is_behind(last: Option<Row<'_>>, row: Row<'_>) -> bool
-    ensures { IsTrue result → IsBehind (option_map key_in last.entry) (key_in row.entry) }
+    ensures { IsTrue result → IsAfter (option_map key_in last.entry) (key_in row.entry) }
 {
     match last {
         Some(last) => {
@@ -148,7 +147,7 @@ fn next_row(text: &str) -> Option<(Row<'_>, &str)>
 /// What the row's fields make, where its language is in lower case.
 fn lower_entry(alloc: Global, row: Row<'_>) -> Option<StampEntry>
     ensures is { let plain = row_of row.entry in IfSome result
-        (λ x. told_by x ≡ ((plain.id, plain.language), stamp_of plain)) }
+        (λ x. stamped_by x ≡ ((plain.id, plain.language), stamp_of plain)) }
     ensures kept { let plain = row_of row.entry in IfSome result
         (λ x. IsKept (plain.id, plain.language) (stamp_of plain)) }
 {

@@ -2,10 +2,10 @@
 ghost use Rattle.std.specs.Prelude.{◌≡◌, ◌++◌, ◌∷◌, [], OnOk};
 ghost use Rattle.cata_core.specs.Deltas.{summary_of};
 ghost use Rattle.cata_core.specs.Entries.{Entries, IsAboveAll};
-ghost use Rattle.site_docs.specs.EntriesSeen.{entry_by};
+ghost use Rattle.row_docs.specs.EntriesSeen.{entry_by};
 
-use crate::row::fields::CellEntry;
 use cata_core::{Catalogue, Summary};
+use row_docs::CellEntry;
 use std::alloc::{AllocError, Global};
 
 /// Takes the cells of a document one after another, in rising order of key.

@@ -141,7 +141,7 @@ fn read(alloc: Global, rows: &str, rest: &str) -> Result<(), DocFault> {
     Ok(())
 }
 
-/// A site with these rows, and this behind them, is refused.
+/// A site with these rows, and this after them, is refused.
 fn assert_refused(rt: &impl Abort, alloc: Global, rows: &str, rest: &str, cause: DocCause) {
     let fault = DocFault { document: 1, cause };
     assert_eq!(rt; read(alloc, rows, rest), Err(fault), "{rows}{rest}");
@@ -157,7 +157,7 @@ fn assert_rests_refused(rt: &impl Abort, alloc: Global, cases: &[(&str, DocCause
     }
 }
 
-/// What stands behind rows that pass is tested as ever.
+/// What comes after rows that pass is tested as ever.
 #[test]
 fn what_follows_the_rows(rt: HostRuntime) {
     let cases = [
@@ -199,7 +199,7 @@ fn cell(fault: CellFault) -> DocCause {
     DocCause::Field { row: 1, fault }
 }
 
-/// This row behind another is refused.
+/// This row after another is refused.
 fn assert_row_refused(rt: &impl Abort, alloc: Global, row: &str, cause: DocCause) {
     let rows = format!(in alloc; "{ROW},{row}").expect(rt, "memory");
     assert_refused(rt, alloc, &rows, REST, cause);

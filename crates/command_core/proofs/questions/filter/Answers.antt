@@ -1,6 +1,6 @@
 use Rattle.std.proofs.Common.{inr}
 use Rattle.std.proofs.lemmas.Result.{err_from_is_err_and}
-use Rattle.site_docs.specs.ReadsAs.{no_memory}
+use Rattle.row_docs.specs.Reading.{no_memory}
 use Rattle.command_core.specs.Streams.{reads}
 use Rattle.command_core.proofs.ReadingLemmas.{memory_ended}
 use Rattle.command_core.proofs.questions.filter.Goals as goal

@@ -1,6 +1,6 @@
 use Rattle.site_docs.specs.SiteDocuments.{IsDeltaDocument, IsSiteDocument, IsSummaryDocument}
 use Rattle.site_docs.specs.SiteDocuments.{delta_checks, site_checks, summary_checks}
-use Rattle.site_docs.specs.declared.document.kind.Kind.TheVariants.{Delta, Site, Summary}
+use Rattle.row_docs.specs.declared.kind.Kind.TheVariants.{Delta, Site, Summary}
 use Rattle.map_docs.specs.LangMapChecks.{langmaps_checks}
 use Rattle.map_docs.specs.LangMapLabels.{ReadsAsLangMaps}
 use Rattle.script_docs.specs.ScriptReads.{IsScriptDocument, script_checks}

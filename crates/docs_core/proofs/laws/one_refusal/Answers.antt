@@ -1,5 +1,5 @@
 use Rattle.site_docs.specs.SiteDocuments.{delta_checks, site_checks, summary_checks}
-use Rattle.site_docs.specs.declared.document.kind.Kind.TheVariants.{Delta, Site, Summary}
+use Rattle.row_docs.specs.declared.kind.Kind.TheVariants.{Delta, Site, Summary}
 use Rattle.map_docs.specs.LangMapChecks.{langmaps_checks}
 use Rattle.script_docs.specs.ScriptReads.{script_checks}
 use Rattle.docs_core.proofs.OneRefusal.{cells_named, langmaps, one_cause, scripts, stamps_named}

@@ -3,7 +3,7 @@ use Rattle.cell_core.specs.Maps.{IsMap}
 use Rattle.cata_core.specs.Entries.{key_cmp}
 use Rattle.cata_core.specs.Flat.{under}
 use Rattle.map_docs.specs.LangMapRowsSeen.{keys_in_seen, keys_seen, live}
-use Rattle.map_docs.proofs.LangMapLabelsLemmas.{behind_IsMap, live_IsMap, message_added}
+use Rattle.map_docs.proofs.LangMapLabelsLemmas.{after_IsMap, live_IsMap, message_added}
 use Rattle.map_docs.proofs.labels.add_message.Goals as goal
 
 -- what was found ascends, and comes after smaller messages
@@ -11,7 +11,7 @@ pub push_languages-requires : goal.push_languages-requires
 push_languages-requires c =
     subst (λ (id : List ℕ). IsMap key_cmp
     (c.args.maps.now ++ under id (live c.in_ok-found.found.entries))) (sym c.in_ok-id.ensures.1)
-    (behind_IsMap c.args.maps.now (string_bytes c.args.name) (live c.in_ok-found.found.entries)
+    (after_IsMap c.args.maps.now (string_bytes c.args.name) (live c.in_ok-found.found.entries)
     c.requires.sorted c.requires.lesser
     (live_IsMap c.in_ok-found.found.entries c.in_ok-found.ensures.1.map))
 

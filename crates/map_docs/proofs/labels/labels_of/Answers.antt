@@ -9,7 +9,7 @@ use Rattle.map_docs.specs.LangMapRowsSeen.{AreSorted, HeldKeys, keys_in_seen, ro
 use Rattle.map_docs.specs.LangMaps.{Labelled}
 use Rattle.map_docs.proofs.LangMapLabelsLemmas.{HoldsRows, HoldsRows-next, HoldsRows-none}
 use Rattle.map_docs.proofs.LangMapLabelsLemmas.{first_lesser, else_by, one_further, rows_fail}
-use Rattle.map_docs.proofs.LangMapLabelsLemmas.{rows_pass, rows_seen_behind, same_length}
+use Rattle.map_docs.proofs.LangMapLabelsLemmas.{rows_pass, rows_seen_after, same_length}
 use Rattle.map_docs.proofs.labels.labels_of.Goals as goal
 
 pub loop-name-init : goal.loop-name-init
@@ -42,7 +42,7 @@ returns-in_err-add_row c =
     let e = c.in_err-add_row.field-0.0 in
     let all =
     ap rows_seen (inv.1 ∙ ap (λ t. front ++ t) c.in-Some.ensures.steps.0)
-    ∙ rows_seen_behind front ((c.in-Some.name, c.in-Some.keys) ∷ left) in
+    ∙ rows_seen_after front ((c.in-Some.name, c.in-Some.keys) ∷ left) in
     let p =
     err_from_is_err_and c.from_residual-in_err-add_row.result
     c.from_residual-in_err-add_row.ensures.1 in
@@ -58,7 +58,7 @@ loop-name-preserved c =
     let front = inv.0 in
     let left = into_iter_items c.next.new.self in
     let took = c.in_ok-add_row.ensures.ok in
-    let pushed = rows_seen_behind front ((c.in-Some.name, c.in-Some.keys) ∷ []) in
+    let pushed = rows_seen_after front ((c.in-Some.name, c.in-Some.keys) ∷ []) in
     let before =
     subst (λ (es : List (String Global × Option HeldKeys)).
     HoldsRows (rows_seen front) c.loop-name.maps es) c.in-Some.ensures.steps.0 inv.4 in

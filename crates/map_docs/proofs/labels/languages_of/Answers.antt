@@ -5,7 +5,7 @@ use Rattle.json_docs.specs.Checks.{AllPass, FirstFails}
 use Rattle.map_docs.specs.LangMapChecks.{keys_checks}
 use Rattle.map_docs.specs.LangMapRows.{Keys}
 use Rattle.map_docs.specs.LangMapRowsSeen.{HoldsKeys, keys_seen, strings_seen}
-use Rattle.map_docs.proofs.LangMapLabelsLemmas.{else_by, keys_fail, keys_pass, keys_seen_behind}
+use Rattle.map_docs.proofs.LangMapLabelsLemmas.{else_by, keys_fail, keys_pass, keys_seen_after}
 use Rattle.map_docs.proofs.LangMapLabelsLemmas.{one_further}
 use Rattle.map_docs.proofs.labels.languages_of.Goals as goal
 
@@ -16,7 +16,7 @@ loop-key-preserved c =
     let key = c.in-Some.key in
     let strings = c.in-Some.strings in
     let took = c.in_ok-add_key.ensures.ok (keys_seen front) inv.3 in
-    let pushed = keys_seen_behind front ((key, strings) ∷ []) in (
+    let pushed = keys_seen_after front ((key, strings) ∷ []) in (
       front ++ (key, strings) ∷ [],
       one_further c.args.keys.items front (key, strings) (into_iter_items c.loop-key.key-iterator)
           (into_iter_items c.next.new.self) inv.1 c.in-Some.ensures.steps.0,
@@ -36,7 +36,7 @@ returns-in_err-add_key c =
     let e = c.in_err-add_key.field-0.0 in
     let all =
     ap keys_seen (inv.1 ∙ ap (λ t. front ++ t) c.in-Some.ensures.steps.0)
-    ∙ keys_seen_behind front ((key, strings) ∷ left) in
+    ∙ keys_seen_after front ((key, strings) ∷ left) in
     let p = err_from_is_err_and c.from_residual.result c.from_residual.ensures.1 in
     rw (p.1, p.2)
     (else_by c.in_err-add_key.ensures.err

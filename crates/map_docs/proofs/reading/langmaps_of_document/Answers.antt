@@ -1,5 +1,5 @@
 use Rattle.map_docs.specs.LangMapLabels.{RefusesLangMaps}
-use Rattle.site_docs.proofs.ReadersLemmas.{of_reader}
+use Rattle.row_docs.proofs.ReadersLemmas.{of_reader}
 use Rattle.map_docs.proofs.reading.langmaps_of_document.Goals as goal
 
 pub returns-in-Err : goal.returns-in-Err

@@ -3,7 +3,7 @@ use Rattle.std.specs.Prelude.{flat_map, string_bytes}
 use Rattle.script_docs.specs.FieldWritten.{item_text}
 use Rattle.script_docs.proofs.field_writing.push_others.Given as goal
 
--- the items so far, each behind a comma
+-- the items so far, each after a comma
 abbrev pub invariant-loop-item : goal.invariant-loop-item
 invariant-loop-item l =
     string_bytes l.text

@@ -1,5 +1,5 @@
 use Rattle.script_docs.specs.ScriptReads.{RefusesScript}
-use Rattle.site_docs.proofs.ReadersLemmas.{of_reader}
+use Rattle.row_docs.proofs.ReadersLemmas.{of_reader}
 use Rattle.script_docs.proofs.reading.read_script.Goals as goal
 
 pub returns-in-Err : goal.returns-in-Err

@@ -1,6 +1,6 @@
 use Rattle.std.proofs.Common.{◌≡◌, ◌∙◌, ℕ, List, ap, map, subst, sym}
 use Rattle.std.specs.Prelude.{IsUtf8}
-use Rattle.site_docs.specs.Texts.{text}
+use Rattle.row_docs.specs.Texts.{text}
 use Rattle.script_docs.specs.ScriptReads.{ReadsAsScript}
 use Rattle.script_docs.specs.ScriptWritten.{script_value}
 use Rattle.script_docs.specs.StepsWritten.{step_row, step_value}

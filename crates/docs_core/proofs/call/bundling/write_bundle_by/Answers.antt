@@ -4,7 +4,7 @@ use Rattle.nego_core.specs.Filtering.{texts_of}
 use Rattle.cata_core.specs.LentAnswers.{reply_of}
 use Rattle.cata_core.specs.LiveMessages.{LiveMessage}
 use Rattle.cata_core.specs.MessagesLeft.{messages_left}
-use Rattle.map_docs.proofs.WritingLemmas.{found_last, some_lent}
+use Rattle.map_docs.proofs.WritingLemmas.{found_last, some_borrowed}
 use Rattle.docs_core.proofs.BundledLemmas.{AreLive, IsBundling, are_live, bundling_first}
 use Rattle.docs_core.proofs.BundledLemmas.{bundling_found, bundling_last, bundling_passed}
 use Rattle.docs_core.proofs.BundledLemmas.{shortlisted}
@@ -38,7 +38,7 @@ returns c =
       (
         c.in_ok-doc.ensures last.0 last.1.rising last.2,
         c.is_some.ensures
-            ∙ some_lent c.messages.current ∙ found_last c.messages.draft current last.0 last.2,
+            ∙ some_borrowed c.messages.current ∙ found_last c.messages.draft current last.0 last.2,
       ),
     )
 

@@ -4,7 +4,7 @@ use Rattle.cata_core.specs.CellsLeft.{cells_left}
 use Rattle.cata_core.specs.Entries.{Entries}
 use Rattle.map_docs.specs.LangMapsWritten.{IsWriting}
 use Rattle.docs_core.specs.Chosen.{chosen_labels, chosen_of}
-use Rattle.map_docs.proofs.WritingLemmas.{found_last, some_lent}
+use Rattle.map_docs.proofs.WritingLemmas.{found_last, some_borrowed}
 use Rattle.docs_core.proofs.LiveLemmas.{chosen-IsMap}
 use Rattle.docs_core.proofs.call.exporting.write_live.Goals as goal
 
@@ -27,6 +27,6 @@ returns c =
     c.loop-id.invariant in (
       c.in_ok-doc.ensures (chosen_labels c.args.messages cells)
           (chosen-IsMap c.args.messages cells c.iter-id-items.ensures.sorted) w,
-      c.is_some.ensures ∙ some_lent c.loop-id.current
+      c.is_some.ensures ∙ some_borrowed c.loop-id.current
           ∙ found_last c.loop-id.draft current (chosen_labels c.args.messages cells) w,
     )

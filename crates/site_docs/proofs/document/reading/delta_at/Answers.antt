@@ -1,5 +1,5 @@
 use Rattle.site_docs.specs.ReadsAs.{RefusesDelta}
-use Rattle.site_docs.proofs.ReadersLemmas.{of_reader}
+use Rattle.row_docs.proofs.ReadersLemmas.{of_reader}
 use Rattle.site_docs.proofs.document.reading.delta_at.Goals as goal
 
 pub returns-in-Err : goal.returns-in-Err

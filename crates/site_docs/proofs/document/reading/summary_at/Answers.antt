@@ -1,5 +1,5 @@
 use Rattle.site_docs.specs.ReadsAs.{RefusesSummary}
-use Rattle.site_docs.proofs.ReadersLemmas.{of_reader}
+use Rattle.row_docs.proofs.ReadersLemmas.{of_reader}
 use Rattle.site_docs.proofs.document.reading.summary_at.Goals as goal
 
 pub returns-in-Err : goal.returns-in-Err

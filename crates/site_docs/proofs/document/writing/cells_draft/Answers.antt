@@ -2,7 +2,7 @@ use Rattle.std.proofs.Common.{◌≡◌, ◌∙◌, ◌++◌, [], ◌∷◌, app
 use Rattle.std.proofs.lemmas.List.Elements.{All-nil}
 use Rattle.cata_core.specs.CellsLeft.{cells_left}
 use Rattle.cata_core.specs.Entries.{Entries, Entry}
-use Rattle.site_docs.specs.Valid.{IsKeptCell}
+use Rattle.row_docs.specs.Valid.{IsKeptCell}
 use Rattle.site_docs.proofs.DocumentsLemmas.{cell_more, kept_more}
 use Rattle.site_docs.proofs.document.writing.cells_draft.Goals as goal
 

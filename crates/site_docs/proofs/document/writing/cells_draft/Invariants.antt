@@ -2,9 +2,9 @@ use Rattle.std.proofs.Common.{◌≡◌, ◌++◌}
 use Rattle.std.specs.List.{All}
 use Rattle.cata_core.specs.CellsLeft.{cells_left}
 use Rattle.cata_core.specs.Entries.{Entries}
-use Rattle.site_docs.specs.Documents.{cells_values}
-use Rattle.site_docs.specs.Texts.{HoldsCells}
-use Rattle.site_docs.specs.Valid.{IsKeptCell}
+use Rattle.row_docs.specs.Entries.{cells_values}
+use Rattle.site_docs.specs.Drafts.{HoldsCells}
+use Rattle.row_docs.specs.Valid.{IsKeptCell}
 use Rattle.site_docs.proofs.document.writing.cells_draft.Given as goal
 
 -- the cells that were written, and those that are left

@@ -1,8 +1,8 @@
 use Rattle.std.proofs.Common.{take}
 use Rattle.std.specs.List.{All}
-use Rattle.site_docs.specs.Documents.{stamps_values}
-use Rattle.site_docs.specs.Texts.{HoldsStamps}
-use Rattle.site_docs.specs.Valid.{IsKeptStamp}
+use Rattle.row_docs.specs.Entries.{stamps_values}
+use Rattle.site_docs.specs.Drafts.{HoldsStamps}
+use Rattle.row_docs.specs.Valid.{IsKeptStamp}
 use Rattle.site_docs.proofs.document.writing.stamps_draft.Given as goal
 
 abbrev pub invariant-loop-place : goal.invariant-loop-place

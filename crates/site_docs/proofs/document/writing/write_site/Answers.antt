@@ -1,10 +1,11 @@
 use Rattle.std.proofs.Common.{◌∙◌, ap₂, subst}
 use Rattle.std.proofs.lemmas.Result.{IfOk-weaker}
 use Rattle.cell_core.specs.SiteNames.{IsSiteName}
-use Rattle.site_docs.specs.Documents.{cells_values, site_text}
+use Rattle.row_docs.specs.Entries.{cells_values}
+use Rattle.site_docs.specs.Documents.{site_text}
 use Rattle.site_docs.specs.ReadsAs.{ReadsAsSite}
-use Rattle.site_docs.specs.Texts.{text}
-use Rattle.site_docs.specs.Valid.{AreKeptCells}
+use Rattle.row_docs.specs.Texts.{text}
+use Rattle.row_docs.specs.Valid.{AreKeptCells}
 use Rattle.site_docs.specs.Values.{site_value}
 use Rattle.site_docs.proofs.DocumentsLemmas.{written_reads}
 use Rattle.site_docs.proofs.RoundTrip.{site_again}

@@ -1,5 +1,6 @@
 use Rattle.std.proofs.lemmas.Result.{IfOk-weaker}
-use Rattle.site_docs.specs.Documents.{stamps_values, summary_text}
+use Rattle.row_docs.specs.Entries.{stamps_values}
+use Rattle.site_docs.specs.Documents.{summary_text}
 use Rattle.site_docs.specs.ReadsAs.{ReadsAsSummary}
 use Rattle.site_docs.proofs.DocumentsLemmas.{written_reads}
 use Rattle.site_docs.proofs.RoundTrip.{summary_again}

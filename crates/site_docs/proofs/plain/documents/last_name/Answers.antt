@@ -1,5 +1,5 @@
 use Rattle.std.proofs.Common.{refl}
-use Rattle.site_docs.specs.Kinds.{kind_text, subject_of}
+use Rattle.row_docs.specs.Kinds.{kind_text, subject_of}
 use Rattle.site_docs.proofs.PlainLemmas.{members_taken}
 use Rattle.site_docs.proofs.plain.documents.last_name.Goals as goal
 

@@ -1,7 +1,7 @@
 use Rattle.std.proofs.Common.{refl, subst, sym}
 use Rattle.std.specs.Prelude.{option_map}
-use Rattle.site_docs.specs.EntriesSeen.{entry_by}
-use Rattle.site_docs.specs.Fields.{IsBehind}
+use Rattle.row_docs.specs.EntriesSeen.{entry_by}
+use Rattle.row_docs.specs.Fields.{IsAfter}
 use Rattle.site_docs.specs.Plain.{key_in}
 use Rattle.site_docs.proofs.plain.rows.next_cell.Goals as goal
 
@@ -14,7 +14,7 @@ take-requires g c =
       req.0,
       req.1,
       req.2,
-      req.3 e.0 (subst (IsBehind last) (sym c.in_ok-row.ensures.key)
+      req.3 e.0 (subst (IsAfter last) (sym c.in_ok-row.ensures.key)
           (c.if-not-is_behind.ensures refl)),
     )
 
@@ -24,7 +24,7 @@ returns-in-Ok g c =
       entry_by c.in_ok-row.entry,
       c.in_ok-row.ensures.key,
       c.in_ok-row.ensures.kept,
-      subst (IsBehind last) (sym c.in_ok-row.ensures.key) (c.if-not-is_behind.ensures refl),
+      subst (IsAfter last) (sym c.in_ok-row.ensures.key) (c.if-not-is_behind.ensures refl),
       c.in_ok-row.ensures.text,
       c.in-Ok.ensures,
     )

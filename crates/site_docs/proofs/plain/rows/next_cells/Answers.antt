@@ -3,9 +3,9 @@ use Rattle.std.proofs.lemmas.List.Elements.{All-nil}
 use Rattle.std.specs.Prelude.{Some}
 use Rattle.serde_json.specs.Written.{comma_if, compact_text}
 use Rattle.cata_core.specs.Entries.{EntryKey}
-use Rattle.site_docs.specs.Documents.{cells_values, entry_value}
+use Rattle.row_docs.specs.Entries.{cells_values, entry_value}
 use Rattle.site_docs.specs.Plain.{IsLastOf}
-use Rattle.site_docs.specs.Valid.{IsKeptCell}
+use Rattle.row_docs.specs.Valid.{IsKeptCell}
 use Rattle.site_docs.proofs.PlainLemmas.{array_taken, cell_taken, cells_kept, is_later-push}
 use Rattle.site_docs.proofs.PlainLemmas.{last_taken, none_before}
 use Rattle.site_docs.proofs.plain.rows.next_cells.Goals as goal

@@ -3,9 +3,9 @@ use Rattle.std.specs.Prelude.{is_some, option_map}
 use denote.Text.{Utf8}
 use denote.Shadow.{shadow}
 use Rattle.cata_core.specs.Entries.{Entries}
-use Rattle.site_docs.specs.Documents.{cells_values}
+use Rattle.row_docs.specs.Entries.{cells_values}
 use Rattle.site_docs.specs.Plain.{IsLastOf, is_later, key_in, open_items}
-use Rattle.site_docs.specs.Valid.{AreKeptCells}
+use Rattle.row_docs.specs.Valid.{AreKeptCells}
 use Rattle.site_docs.proofs.plain.rows.next_cells.Given as goal
 
 -- the cells that were read, and what is left

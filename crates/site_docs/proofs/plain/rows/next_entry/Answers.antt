@@ -1,7 +1,7 @@
 use Rattle.std.proofs.Common.{◌∙◌, ap}
 use Rattle.cata_core.specs.Entries.{Entry}
-use Rattle.site_docs.specs.EntriesSeen.{entry_by}
-use Rattle.site_docs.specs.RowsSeen.{row_of}
+use Rattle.row_docs.specs.EntriesSeen.{entry_by}
+use Rattle.row_docs.specs.RowsSeen.{row_of}
 use Rattle.site_docs.proofs.PlainLemmas.{entry_kept, entry_text}
 use Rattle.site_docs.proofs.plain.rows.next_entry.Goals as goal
 

@@ -2,12 +2,12 @@ use Rattle.std.proofs.Common.{◌∙◌, ◌++◌, ◌∷◌, [], ap, append_ass
 use Rattle.std.proofs.lemmas.Result.{IfOk-weaker}
 use Rattle.cata_core.specs.ChangesLeft.{change_seen}
 use Rattle.docs_core.specs.Changed.{change_value}
-use Rattle.docs_core.proofs.LinesLemmas.{printed_behind}
+use Rattle.docs_core.proofs.LinesLemmas.{printed_after}
 use Rattle.docs_core.proofs.call.lines.Lines.change.Goals as goal
 
 pub returns : goal.returns
 returns c =
-    let row = printed_behind c.new-json.result c.write_change.new.out c.args.self (change_value
+    let row = printed_after c.new-json.result c.write_change.new.out c.args.self (change_value
     (change_seen c.args.change.now)) (c.new-json.ensures.before
     ∙ c.self.view_is) c.new-json.ensures.tokens
     c.in_ok-write_change.ensures in

@@ -1,5 +1,0 @@
-use Rattle.script_docs.proofs.FieldWrittenLemmas.{shortest}
-use Rattle.docs_core.proofs.laws.a_written_field_is_the_shortest.Goals as goal
-
-pub returns : goal.returns
-returns c = shortest

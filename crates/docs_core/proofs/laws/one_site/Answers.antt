@@ -1,5 +1,0 @@
-use Rattle.docs_core.proofs.OneDocument.{one_site}
-use Rattle.docs_core.proofs.laws.one_site.Goals as goal
-
-pub returns : goal.returns
-returns c = one_site

@@ -1,5 +1,0 @@
-use Rattle.site_docs.proofs.RoundTrip.{delta_again}
-use Rattle.docs_core.proofs.laws.written_delta_reads.Goals as goal
-
-pub returns : goal.returns
-returns c = delta_again

@@ -1,5 +1,0 @@
-use Rattle.site_docs.proofs.RoundTrip.{site_again}
-use Rattle.docs_core.proofs.laws.written_site_reads.Goals as goal
-
-pub returns : goal.returns
-returns c = site_again

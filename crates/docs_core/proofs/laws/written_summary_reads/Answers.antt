@@ -1,5 +1,0 @@
-use Rattle.site_docs.proofs.RoundTrip.{summary_again}
-use Rattle.docs_core.proofs.laws.written_summary_reads.Goals as goal
-
-pub returns : goal.returns
-returns c = summary_again

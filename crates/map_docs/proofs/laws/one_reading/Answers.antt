@@ -1,0 +1,5 @@
+use Rattle.map_docs.proofs.LangMapLawsLemmas.{same_labels}
+use Rattle.map_docs.proofs.laws.one_reading.Goals as goal
+
+pub returns : goal.returns
+returns c = same_labels

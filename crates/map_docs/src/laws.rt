@@ -1,0 +1,12 @@
+//! Laws of language-map documents. Each function's contract is one; the functions do nothing.
+ghost use Rattle.map_docs.specs.LangMapLaws.{OneReading, ReadsBack};
+
+/// A document reads as one list of labels and no other.
+pub fn one_reading()
+    ensures { OneReading }
+{}
+
+/// The document of labels in rising order of key reads as these labels.
+pub fn reads_back()
+    ensures { ReadsBack }
+{}

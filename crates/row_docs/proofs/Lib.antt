@@ -1,0 +1,14 @@
+pub mod FieldsLemmas
+pub mod HeadersLemmas
+pub mod LowerLemmas
+pub mod OldRowsLemmas
+pub mod OneLine
+pub mod OneReading
+pub mod ReadersLemmas
+pub mod RisingKeys
+pub mod RisingLemmas
+pub mod RowsLemmas
+pub mod TestsLemmas
+pub mod TextsLemmas
+pub mod WrittenRows
+pub mod WrittenTexts

@@ -1,0 +1,11 @@
+-- Entries that were made, as pairs of a key and what it has.
+use Rattle.cell_core.specs.declared.stamp.Stamp.{Stamp}
+use Rattle.cata_core.specs.Entries.{Entry, EntryKey}
+use Rattle.row_docs.specs.declared.fields.CellEntry.{CellEntry}
+use Rattle.row_docs.specs.declared.fields.StampEntry.{StampEntry}
+
+abbrev pub stamped_by : StampEntry → EntryKey × Stamp
+stamped_by e = ((e.id, e.lang), e.stamp)
+
+abbrev pub entry_by : CellEntry → Entry
+entry_by e = ((e.id, e.lang), e.cell)

@@ -1,0 +1,32 @@
+-- What every catalogue and summary in memory keeps: its ids, languages, names and labels are some,
+-- and its numbers fit. Own rule.
+use Rattle.std.specs.Prelude.{◌<◌, ◌^◌, All}
+use Rattle.cell_core.specs.Maps.{IsMap}
+use Rattle.cell_core.specs.MessageIds.{IsMessageId}
+use Rattle.cell_core.specs.SiteNames.{IsSiteName}
+use Rattle.cell_core.specs.declared.stamp.Stamp.{Stamp}
+use Rattle.lang_core.specs.Lang.{IsLang}
+use Rattle.cata_core.specs.Deltas.{Stamps}
+use Rattle.cata_core.specs.Entries.{Entries, Entry, EntryKey, key_cmp}
+use Rattle.row_docs.specs.Fields.{IsLabelText}
+
+pub record IsKept (key : EntryKey) (stamp : Stamp) : Type 0 where
+  pub id : IsMessageId key.0
+  pub lang : IsLang key.1
+  pub time : stamp.time < 2 ^ 64
+  pub site : IsSiteName stamp.site
+  pub count : stamp.count < 2 ^ 32
+
+abbrev pub IsKeptCell : Entry → Type 0
+IsKeptCell e = IsKept e.0 e.1.stamp × IsLabelText e.1.label
+
+abbrev pub IsKeptStamp : EntryKey × Stamp → Type 0
+IsKeptStamp t = IsKept t.0 t.1
+
+pub record AreKeptCells (cells : Entries) : Type 0 where
+  pub each : All IsKeptCell cells
+  pub map : IsMap key_cmp cells
+
+pub record AreKeptStamps (stamps : Stamps) : Type 0 where
+  pub each : All IsKeptStamp stamps
+  pub map : IsMap key_cmp stamps

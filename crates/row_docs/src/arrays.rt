@@ -1,0 +1,158 @@
+//! The rows of an array, taken one after another as they are read.
+ghost use Rattle.std.specs.Prelude.{◌≡◌, ◌≢◌, ◌∷◌, [], ◌++◌, ◌<◌, ◌+◌, ◌≤◌, ◌^◌, ℕ, List, None};
+ghost use Rattle.std.specs.Prelude.{true, length, MatchResult, OnOk, IfErr};
+ghost use Rattle.json.specs.Json.{value};
+ghost use Rattle.json.specs.Value.{value_view};
+ghost use Rattle.serde_json.specs.Data.{Data, Items};
+ghost use Rattle.json_docs.specs.Arrays.{ReadsItems, ReadsNoItems, TakesNext, TakesRows};
+ghost use Rattle.json_docs.specs.Checks.{AllPass, Check, FirstFails, OrMemory};
+ghost use Rattle.json_docs.specs.Numbers.{are_in_range};
+ghost use Rattle.json_docs.specs.Reads.{IsRead, Reads, seen};
+ghost use Rattle.json_docs.specs.Parts.{list_of};
+ghost use Rattle.json_docs.specs.declared.fault.DocCause.TheVariants.{NoMemory, NotJson};
+ghost use Rattle.row_docs.specs.declared.version.Version.{Version};
+
+use crate::version::Version;
+use json::{Reader, Value};
+use json_docs::{DocCause, next_value};
+use std::alloc::Global;
+
+/// Takes the rows of a document in their order, each only where it passes the tests of a row.
+pub trait Rows {
+    /// The tests of a row of this version after those before it, in their order.
+    ghost Checks: { Version → List Data → Data → List Check };
+
+    /// The value is what these rows of this version make.
+    ghost Holds: { Version → Self → List Data → Type 0 };
+
+    /// Forgets all rows.
+    fn clear(&mut self, alloc: Global)
+        ensures { (version : Version) → Holds version self.new [] };
+
+    /// Takes the row at this place, which is of this version.
+    fn take(
+        &mut self,
+        alloc: Global,
+        version: Version,
+        place: usize,
+        row: &Value<'_>,
+    ) -> Result<(), DocCause>
+        requires { IsRead (value_view row.now) }
+        ensures ok { OnOk result ((before : List Data) → length before ≡ place
+            → Holds version self.old before
+            → AllPass (Checks version before (seen row.now))
+            × Holds version self.new (before ++ seen row.now ∷ [])) }
+        ensures err { IfErr result (OrMemory NoMemory (λ e. (before : List Data)
+            → length before ≡ place → Holds version self.old before
+            → FirstFails (Checks version before (seen row.now)) e)) };
+}
+
+/// Reads an array after its `[`. Returns the first refused row, if any, but reads on: a syntax
+/// error later in the text takes precedence.
+pub(crate) fn read_rows<R: Rows>(
+    alloc: Global,
+    reader: &mut Reader<'_>,
+    depth: usize,
+    version: Version,
+    rows: &mut R,
+) -> Result<Option<DocCause>, DocCause>
+    requires numbers { are_in_range reader.old ≡ true }
+    requires places { length reader.old < 2 ^ 64 }
+    ensures read { MatchResult result
+        (λ refusal. (ds : Items) × ReadsItems depth reader.old ds reader.new
+        × TakesRows (R.Checks version) (R.Holds version) [] rows.new refusal (list_of ds))
+        (OrMemory NoMemory (λ e. (e ≡ NotJson) × ReadsNoItems depth reader.old)) }
+    ensures left { OnOk result (are_in_range reader.new ≡ true) }
+    ensures shorter { OnOk result (length reader.new < length reader.old) }
+{
+    rows.clear(alloc);
+    let mut refusal = None;
+    let mut place = 0;
+    while !reader.take_end_array() {
+        match read_row(alloc, reader, depth, version, place, rows, refusal) {
+            Ok(next) => refusal = next,
+            Err(cause) => return Err(cause),
+        }
+        place += 1;
+    }
+    Ok(refusal)
+}
+
+/// Reads the next row, and takes it where no row was refused before it.
+fn read_row<R: Rows>(
+    alloc: Global,
+    reader: &mut Reader<'_>,
+    depth: usize,
+    version: Version,
+    place: usize,
+    rows: &mut R,
+    refusal: Option<DocCause>,
+) -> Result<Option<DocCause>, DocCause>
+    requires { are_in_range reader.old ≡ true }
+    ensures read { MatchResult result
+        (λ next. (d : Data) × Reads depth reader.old d reader.new
+        × ((before : List Data) → length before ≡ place
+        → TakesNext (R.Checks version) (R.Holds version) before refusal rows.old rows.new next d))
+        (OrMemory NoMemory (λ e. (e ≡ NotJson) × (value depth reader.old ≡ None))) }
+    ensures left { OnOk result (are_in_range reader.new ≡ true) }
+    ensures shorter { OnOk result (length reader.new < length reader.old) }
+{
+    let row = next_value(alloc, reader, depth)?;
+    take_row(alloc, version, place, &row, rows, refusal)
+}
+
+/// Takes a row, unless one was refused before it.
+fn take_row<R: Rows>(
+    alloc: Global,
+    version: Version,
+    place: usize,
+    row: &Value<'_>,
+    rows: &mut R,
+    refusal: Option<DocCause>,
+) -> Result<Option<DocCause>, DocCause>
+    requires { IsRead (value_view row.now) }
+    ensures { MatchResult result
+        (λ next. (before : List Data) → length before ≡ place
+        → TakesNext (R.Checks version) (R.Holds version) before refusal rows.old rows.new
+        next (seen row.now))
+        (λ e. e ≡ NoMemory) }
+{
+    match refusal {
+        Some(cause) => Ok(Some(cause)),
+        None => take_or_refuse(alloc, version, place, row, rows),
+    }
+}
+
+/// Takes a row, or says why it is refused; out of memory is no refusal.
+fn take_or_refuse<R: Rows>(
+    alloc: Global,
+    version: Version,
+    place: usize,
+    row: &Value<'_>,
+    rows: &mut R,
+) -> Result<Option<DocCause>, DocCause>
+    requires { IsRead (value_view row.now) }
+    ensures { MatchResult result
+        (λ refusal. (before : List Data) → length before ≡ place → R.Holds version rows.old before
+        → TakesRows (R.Checks version) (R.Holds version) before rows.new refusal
+        (seen row.now ∷ []))
+        (λ e. e ≡ NoMemory) }
+{
+    match rows.take(alloc, version, place, row) {
+        Ok(()) => Ok(None),
+        Err(cause) => {
+            let refusal = unless_memory(cause)?;
+            Ok(Some(refusal))
+        }
+    }
+}
+
+/// The refusal, unless it is out of memory.
+fn unless_memory(cause: DocCause) -> Result<DocCause, DocCause>
+    ensures { MatchResult result (λ e. (e ≡ cause) × (cause ≢ NoMemory)) (λ e. e ≡ NoMemory) }
+{
+    match cause {
+        DocCause::NoMemory => Err(DocCause::NoMemory),
+        other => Ok(other),
+    }
+}

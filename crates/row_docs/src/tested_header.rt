@@ -1,0 +1,172 @@
+//! The header of a document, tested, and its rows as they were taken.
+ghost use Rattle.std.specs.Prelude.{◌≡◌, ◌<◌, ◌^◌, [], None, Some, true, length, MatchOption};
+ghost use Rattle.std.specs.Prelude.{MatchResult};
+ghost use Rattle.json.specs.Lex.{tokens};
+ghost use Rattle.serde_json.specs.Data.{Data, Members, object};
+ghost use Rattle.serde_json.specs.Find.{as_object};
+ghost use Rattle.serde_json.specs.Read.{read};
+ghost use Rattle.json_docs.specs.Checks.{AreJson, OrMemory};
+ghost use Rattle.json_docs.specs.MembersRead.{IsNotWhole, ReadsMembers};
+ghost use Rattle.json_docs.specs.Numbers.{are_in_range};
+ghost use Rattle.json_docs.specs.declared.fault.DocCause.TheVariants.{NoMemory, NotJson};
+ghost use Rattle.row_docs.specs.HeaderSeen.{Shows};
+ghost use Rattle.row_docs.specs.HeaderTests.{FailsHeader, PassesHeader};
+ghost use Rattle.row_docs.specs.TestedHeaders.{HasHeader, RefusesHeader, RefusesText};
+
+use crate::arrays::Rows;
+use crate::header::{Header, Subject, read_members};
+use crate::kind::Kind;
+use crate::version::Version;
+use json::{Reader, Scratch};
+use json_docs::{DocCause, Spot, begins_object, check_numbers, check_value, text_in};
+use std::alloc::Global;
+
+/// The header of a document, and the first refusal of a row.
+#[derive(Clone, Copy, Debug)]
+pub struct TestedHeader {
+    /// The version by which its rows were read.
+    pub version: Version,
+    /// What names a site, or says how many there are.
+    pub subject: Subject,
+    /// The first refusal of a row, if any.
+    pub refusal: Option<DocCause>,
+}
+
+/// The tested header of a document of this kind, whose rows are taken by `rows`.
+///
+/// Refused where the bytes are not UTF-8 (18) or no JSON (19), then where the kind or the version
+/// is not what it should be (20, 28), then where the members are not exactly those of the kind
+/// (20); or when memory runs out (26). The first refusal of a row is returned, since the document
+/// is refused for its own member first.
+pub fn read_header<R: Rows>(
+    alloc: Global,
+    bytes: &[u8],
+    kind: Kind,
+    rows: &mut R,
+) -> Result<TestedHeader, DocCause>
+    ensures { MatchResult result
+        (λ tested. (d : Data) × AreJson bytes.now d
+        × HasHeader kind (R.Checks tested.version) (R.Holds tested.version) d tested rows.new)
+        (OrMemory NoMemory (RefusesHeader kind bytes.now)) }
+{
+    let text = text_in(bytes)?;
+    let mut scratch = Scratch::new(alloc);
+    check_numbers(text, &mut scratch)?;
+    let tested = read_as(alloc, text, &mut scratch, kind, Version::Two, rows)?;
+    match tested.version {
+        Version::One => read_as(alloc, text, &mut scratch, kind, Version::One, rows),
+        Version::Two => Ok(tested),
+    }
+}
+
+/// The tested header of a text, whose rows are read as those of version 1 or of version 2.
+fn read_as<R: Rows>(
+    alloc: Global,
+    text: &str,
+    scratch: &mut Scratch,
+    kind: Kind,
+    version: Version,
+    rows: &mut R,
+) -> Result<TestedHeader, DocCause>
+    requires { are_in_range (tokens text.now) ≡ true }
+    ensures { MatchResult result
+        (λ tested. (d : Data) × (read text.now ≡ Some d)
+        × HasHeader kind (R.Checks version) (R.Holds version) d tested rows.new)
+        (OrMemory NoMemory (RefusesText kind text.now)) }
+{
+    match read_object(alloc, text, scratch, kind, version, rows)? {
+        Some(header) => test_header(header),
+        None => Err(DocCause::Shape {
+            spot: Spot::Document,
+        }),
+    }
+}
+
+/// The members of a text, or none where it is no object.
+fn read_object<R: Rows>(
+    alloc: Global,
+    text: &str,
+    scratch: &mut Scratch,
+    kind: Kind,
+    version: Version,
+    rows: &mut R,
+) -> Result<Option<Header>, DocCause>
+    requires { are_in_range (tokens text.now) ≡ true }
+    ensures { MatchResult result
+        (λ header. MatchOption header ((d : Data) × (read text.now ≡ Some d) × (as_object d ≡ None))
+        (λ h. (ms : Members) × (read text.now ≡ Some (object ms))
+        × Shows kind (R.Checks version) (R.Holds version) h rows.new ms))
+        (OrMemory NoMemory (λ e. (e ≡ NotJson) × (read text.now ≡ None))) }
+{
+    let Ok(mut reader) = Reader::new(text, scratch) else {
+        return Err(DocCause::NoMemory);
+    };
+    if begins_object(&mut reader) {
+        let header = read_rest(alloc, &mut reader, kind, version, rows)?;
+        Ok(Some(header))
+    } else {
+        check_value(text, scratch)?;
+        Ok(None)
+    }
+}
+
+/// The members of the object whose brace was read, where nothing follows it.
+fn read_rest<R: Rows>(
+    alloc: Global,
+    reader: &mut Reader<'_>,
+    kind: Kind,
+    version: Version,
+    rows: &mut R,
+) -> Result<Header, DocCause>
+    requires numbers { are_in_range reader.old ≡ true }
+    requires places { length reader.old < 2 ^ 64 }
+    ensures { MatchResult result
+        (λ header. (ms : Members) × ReadsMembers 126 reader.old ms []
+        × Shows kind (R.Checks version) (R.Holds version) header rows.new ms)
+        (OrMemory NoMemory (λ e. (e ≡ NotJson) × IsNotWhole reader.old)) }
+{
+    let header = read_members(alloc, reader, kind, version, rows)?;
+    match reader.next() {
+        None => Ok(header),
+        Some(_) => Err(DocCause::NotJson),
+    }
+}
+
+/// The header, where it passes its tests.
+fn test_header(header: Header) -> Result<TestedHeader, DocCause>
+    ensures { MatchResult result (PassesHeader header) (FailsHeader header) }
+{
+    let Header {
+        is_kind,
+        version,
+        subject,
+        rows,
+        has_other,
+    } = header;
+    let shape = DocCause::Shape {
+        spot: Spot::Document,
+    };
+    if !is_kind {
+        return Err(shape);
+    }
+    let Some(number) = version else {
+        return Err(shape);
+    };
+    let Some(version) = Version::of_number(number) else {
+        return Err(DocCause::VersionUnknown);
+    };
+    if has_other {
+        return Err(shape);
+    }
+    let Some(subject) = subject else {
+        return Err(shape);
+    };
+    let Some(refusal) = rows else {
+        return Err(shape);
+    };
+    Ok(TestedHeader {
+        version,
+        subject,
+        refusal,
+    })
+}

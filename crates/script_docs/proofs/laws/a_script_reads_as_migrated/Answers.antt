@@ -1,0 +1,5 @@
+use Rattle.script_docs.proofs.OldScriptsLemmas.{script_migrated}
+use Rattle.script_docs.proofs.laws.a_script_reads_as_migrated.Goals as goal
+
+pub returns : goal.returns
+returns c = script_migrated

@@ -1,0 +1,5 @@
+use Rattle.site_docs.proofs.OneDocument.{one_summary}
+use Rattle.site_docs.proofs.laws.one_summary.Goals as goal
+
+pub returns : goal.returns
+returns c = one_summary
