@@ -68,6 +68,6 @@ pub use refusal::{Refusal, explain};
 pub use site::{new_site, open_site};
 pub use tag_filter::filter_tags;
 pub use tag_pick::{Picked, pick};
-pub use whole_edits::{import, update};
 pub use version::{VERSION, VERSION_NUMBER};
+pub use whole_edits::{import, update};
 pub use work::{changes, export, missing, outdated};
