@@ -3,6 +3,7 @@ pub mod Bundled
 pub mod Calls
 pub mod Changed
 pub mod Chosen
+pub mod Counted
 pub mod Exchange
 pub mod Exported
 pub mod Imported

@@ -16,13 +16,16 @@ last_text (Some stamp) = decimal stamp.time ++ 32 ∷ (stamp.site ++ 32 ∷ deci
 abbrev pub is_labelled : Entry → Bool
 is_labelled entry = is_some entry.1.label
 
--- `site NAME cells N labels N last ..`; labels are the cells that have one
-abbrev pub status_line : SiteState → List ℕ
-status_line site =
+-- `site NAME cells N labels N last ..`
+abbrev pub counted_line : List ℕ → ℕ → ℕ → Option Stamp → List ℕ
+counted_line name cells labels last =
     line (codes "site "
-    ++ (site.name
+    ++ (name
     ++ (codes " cells "
-    ++ (decimal (length site.cells)
-    ++ (codes " labels "
-    ++ (decimal (count_by is_labelled site.cells)
-    ++ (codes " last " ++ last_text (latest_of site.cells))))))))
+    ++ (decimal cells
+    ++ (codes " labels " ++ (decimal labels ++ (codes " last " ++ last_text last)))))))
+
+-- the same of a site; labels are the cells that have one
+abbrev pub status_line : SiteState → List ℕ
+status_line site = counted_line site.name (length site.cells) (count_by is_labelled site.cells)
+    (latest_of site.cells)

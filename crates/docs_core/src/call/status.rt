@@ -1,9 +1,15 @@
 //! The line of a site's status.
-ghost use Rattle.std.specs.Prelude.{◌≡◌, count_by, IfOk};
-ghost use Rattle.docs_core.specs.Status.{is_labelled, status_line};
+ghost use Rattle.std.specs.Prelude.{◌≡◌, ◌+◌, [], Some, cond, count_by, is_some, IfOk};
+ghost use Rattle.cell_core.specs.Cells.{joined_stamps};
+ghost use Rattle.cell_core.specs.Maps.{joined_if_both};
+ghost use Rattle.docs_core.specs.Counted.{AreCounts};
+ghost use Rattle.docs_core.specs.Status.{counted_line, is_labelled, status_line};
 
 use cata_core::{Catalogue, Site};
+use cell_core::{Cell, Join, SiteName, Stamp};
 use json_docs::Doc;
+use row_docs::CellEntry;
+use site_docs::TakeCells;
 use std::alloc::{AllocError, Global};
 
 /// `site NAME cells N labels N last TIME NAME COUNT`, or `.. last none` where there is no cell. The
@@ -11,14 +17,101 @@ use std::alloc::{AllocError, Global};
 pub fn status_line(alloc: Global, site: &Site) -> Result<Doc, AllocError>
     ensures { IfOk result (λ doc. doc ≡ status_line site.now) }
 {
-    let name = site.name();
-    let cells = site.catalogue().len();
     let labels = label_count(site.catalogue());
-    let line = match site.last() {
-        Some(last) => format!(in alloc; "site {name} cells {cells} labels {labels} last {last}\n")?,
-        None => format!(in alloc; "site {name} cells {cells} labels {labels} last none\n")?,
+    let counts = Counts {
+        cells: site.catalogue().len(),
+        labels,
+        last: site.last(),
     };
-    Ok(Doc::from(line))
+    counts.line(alloc, site.name())
+}
+
+/// What a status line says of the cells of a site.
+#[derive(Drop)]
+pub(crate) struct Counts {
+    cells: u128,
+    labels: u128,
+    last: Option<Stamp>,
+}
+
+impl Counts {
+    /// Those of no cells.
+    pub(crate) fn new() -> Counts
+        ensures { AreCounts result [] }
+    {
+        Counts {
+            cells: 0,
+            labels: 0,
+            last: None,
+        }
+    }
+
+    /// The status line of the site of this name.
+    pub(crate) fn line(&self, alloc: Global, name: SiteName) -> Result<Doc, AllocError>
+        ensures { IfOk result
+            (λ doc. doc ≡ counted_line name self.now.cells self.now.labels self.now.last) }
+    {
+        let Counts {
+            cells,
+            labels,
+            last,
+        } = self;
+        let line = match last {
+            Some(last) => {
+                format!(in alloc; "site {name} cells {cells} labels {labels} last {last}\n")?
+            }
+            None => format!(in alloc; "site {name} cells {cells} labels {labels} last none\n")?,
+        };
+        Ok(Doc::from(line))
+    }
+}
+
+impl TakeCells for Counts {
+    ghost Holds = { λ first counts taken. AreCounts counts taken };
+
+    fn take(&mut self, alloc: Global, entry: CellEntry) -> Result<(), AllocError> {
+        let cells = one_more(self.cells)?;
+        let labels = labels_with(self.labels, &entry.cell)?;
+        let last = latest_of_both(alloc, self.last, entry.cell.stamp())?;
+        *self = Counts {
+            cells,
+            labels,
+            last: Some(last),
+        };
+        Ok(())
+    }
+}
+
+/// One more than a count, unless that is more than is counted.
+fn one_more(count: u128) -> Result<u128, AllocError>
+    ensures { IfOk result (λ more. more ≡ count + 1) }
+{
+    match count.checked_add(1) {
+        Some(more) => Ok(more),
+        None => Err(AllocError),
+    }
+}
+
+/// The labels, with that of the cell where it has one.
+fn labels_with(labels: u128, cell: &Cell) -> Result<u128, AllocError>
+    ensures { IfOk result (λ more. more ≡ labels + cond (is_some cell.now.label) 1 0) }
+{
+    match cell.label() {
+        Some(_) => one_more(labels),
+        None => Ok(labels),
+    }
+}
+
+/// The later of two stamps, or the second alone.
+fn latest_of_both(alloc: Global, stamp: Option<Stamp>, other: Stamp) -> Result<Stamp, AllocError>
+    ensures { IfOk result
+        (λ later. Some later ≡ joined_if_both joined_stamps stamp (Some other)) }
+{
+    let Some(mut later) = stamp else {
+        return Ok(other);
+    };
+    later.join(alloc, &other)?;
+    Ok(later)
 }
 
 /// How many cells have a label.
