@@ -1,5 +1,5 @@
 -- Ranges in hash buckets.
-use Rattle.std.proofs.Common.{ℕ, ◌≡◌, ◌≤◌, ◌<◌, ◌+◌, List, [], ◌∷◌, Some, None, inl, inr, false}
+use Rattle.std.proofs.Common.{ℕ, ◌≡◌, ◌<◌, ◌+◌, List, [], ◌∷◌, Some, inl, inr, false}
 use Rattle.std.proofs.Common.{sym, ◌∙◌, ap, subst, arith, length, get_or}
 use Rattle.std.specs.List.{slice_get}
 use Rattle.std.specs.Str.{bytes_eq}
