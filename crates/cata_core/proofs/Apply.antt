@@ -15,7 +15,6 @@ use Rattle.cata_core.specs.Entries.{key_cmp, key_cmp_total, key_cmp_exact, Entry
 use Rattle.cata_core.specs.Entries.{joined}
 use Rattle.cata_core.specs.Clashes.{IsFirstClash}
 use Rattle.cata_core.proofs.Basics.{tied}
-use Rattle.cata_core.proofs.NestedCatalogues.{put_same}
 use Rattle.cata_core.proofs.KeyPlaces.{stands_at_place, before_place}
 
 -- A cell, or none, agrees with the absence of a cell.

@@ -1,8 +1,9 @@
 -- Why one cell is not joined to that of its key (project rule).
-use Rattle.std.specs.Prelude.{◌≡◌, Option, Some, None, ⊤}
+use Rattle.std.specs.Prelude.{◌≡◌, ℕ, Option, Some, None, ⊤}
 use Rattle.cell_core.specs.declared.cell.Cell.{Cell}
 use Rattle.cell_core.specs.Cells.{AgreeCells}
-use Rattle.cell_core.specs.Maps.{AgreeIfBoth}
+use Rattle.cata_core.specs.declared.cata_fault.CataFault.{CataFault}
+use Rattle.cata_core.specs.declared.cata_fault.CataFault.TheVariants.{StampReused}
 use Rattle.cata_core.specs.declared.cell_refusal.CellRefusal.{CellRefusal}
 use Rattle.cata_core.specs.declared.cell_refusal.CellRefusal.TheVariants.{Clash, NoMemory}
 
@@ -12,3 +13,8 @@ IsCellRefusal (Some mine) c (Clash stamp) = ¬ (AgreeCells mine c) × (stamp ≡
 IsCellRefusal (Some mine) c NoMemory = AgreeCells mine c
 IsCellRefusal None c (Clash stamp) = ⊥
 IsCellRefusal None c NoMemory = ⊤
+
+-- the refusal of a cell whose key has this place
+abbrev pub at_place : ℕ → CellRefusal → CataFault
+at_place place (Clash stamp) = StampReused place stamp
+at_place place NoMemory = CataFault.NoMemory

@@ -6,8 +6,9 @@ ghost use Rattle.std.specs.Option.{option_map, option_copied, is_none};
 ghost use Rattle.std.specs.FinMap.Entries.{find, put};
 ghost use Rattle.cell_core.specs.Cells.{AgreeCells, joined_cells};
 ghost use Rattle.cell_core.specs.Maps.{IsMap, AgreeIfBoth, joined_at};
+ghost use Rattle.cell_core.specs.Places.{place_of};
 ghost use Rattle.cata_core.specs.CataFaults.{IsRefusal, IsLeft};
-ghost use Rattle.cata_core.specs.CellRefusals.{IsCellRefusal};
+ghost use Rattle.cata_core.specs.CellRefusals.{IsCellRefusal, at_place};
 ghost use Rattle.cata_core.specs.CellsLeft.{cells_left};
 ghost use Rattle.cata_core.specs.Changes.{AreChanges};
 ghost use Rattle.cata_core.specs.ChangesLeft.{changes_left};
@@ -153,8 +154,28 @@ impl Catalogue {
         ensures fault { IfErr result (IsRefusal self.old (edit.now ∷ [])) }
         ensures settled { IsSettledIn self.old edit.now → IsOk result }
     {
+        self.join_cell(alloc, edit.id(), edit.lang(), edit.cell())
+    }
+
+    /// Joins a cell to that of its key, as [`Catalogue::apply`] does.
+    pub(crate) fn join_cell(
+        &mut self,
+        alloc: Global,
+        id: &MessageId,
+        lang: &Lang,
+        cell: &Cell,
+    ) -> Result<(), CataFault>
+        ensures ok { OnOk result
+            (self.new ≡ joined self.old (((id.now, lang.now), cell.now) ∷ [])) }
+        ensures agree { OnOk result (Agree self.old (((id.now, lang.now), cell.now) ∷ [])) }
+        ensures err { OnErr result (self.new ≡ self.old) }
+        ensures fault { IfErr result
+            (IsRefusal self.old (((id.now, lang.now), cell.now) ∷ [])) }
+        ensures settled { IsSettledIn self.old ((id.now, lang.now), cell.now) → IsOk result }
+        ensures sorted { IsMap key_cmp self.old }
+    {
         let len = self.next_len();
-        match join_cell(&mut self.map, alloc, edit) {
+        match join_in(&mut self.map, alloc, id, lang, cell) {
             Ok(is_new) => {
                 if is_new {
                     self.len = match len {
@@ -164,7 +185,7 @@ impl Catalogue {
                 }
                 Ok(())
             }
-            Err(refusal) => Err(at_key(&self.map, edit, refusal)),
+            Err(refusal) => Err(at_key(&self.map, id, lang, refusal)),
         }
     }
 
@@ -262,26 +283,7 @@ impl Catalogue {
         ensures err { OnErr result (self.new ≡ self.old) }
     {
         let len = self.len_with(1)?;
-        put_in(&mut self.map, alloc, id, lang, cell)?;
-        self.len = len;
-        Ok(())
-    }
-
-    /// Appends copies of the key and the cell.
-    pub(crate) fn push_copy(
-        &mut self,
-        alloc: Global,
-        id: &MessageId,
-        lang: &Lang,
-        cell: &Cell,
-    ) -> Result<(), AllocError>
-        requires { IsAboveAll (id.now, lang.now) self.old }
-        ensures ok { OnOk result (self.new ≡ self.old ++ ((id.now, lang.now), cell.now) ∷ []) }
-        ensures err { OnErr result (self.new ≡ self.old) }
-    {
-        let len = self.len_with(1)?;
-        let cell = cell.copy(alloc)?;
-        write_in(&mut self.map, alloc, id, lang, cell)?;
+        append(&mut self.map, alloc, id, lang, cell)?;
         self.len = len;
         Ok(())
     }
@@ -302,25 +304,6 @@ impl Catalogue {
             None => Err(AllocError),
         }
     }
-
-    /// Gives the key the cell.
-    pub(crate) fn write(
-        &mut self,
-        alloc: Global,
-        id: &MessageId,
-        lang: &Lang,
-        cell: Cell,
-    ) -> Result<(), AllocError>
-        ensures ok { OnOk result (self.new ≡ put key_cmp (id.now, lang.now) cell self.old) }
-        ensures err { OnErr result (self.new ≡ self.old) }
-    {
-        let len = self.len_with(1)?;
-        let is_new = write_in(&mut self.map, alloc, id, lang, cell)?;
-        if is_new {
-            self.len = len;
-        }
-        Ok(())
-    }
 }
 
 /// Lists the cells, each with its message and language.
@@ -330,48 +313,57 @@ impl fmt::Debug for Catalogue {
     }
 }
 
-/// Why the edit is refused, with the place of its key where it clashes.
-fn at_key(map: &Keyed<MessageId, Keyed<Lang, Cell>>, edit: &Edit, refusal: CellRefusal) -> CataFault
+/// The refusal of the cell of a key, with the place of the key where it clashes.
+fn at_key(
+    map: &Keyed<MessageId, Keyed<Lang, Cell>>,
+    id: &MessageId,
+    lang: &Lang,
+    refusal: CellRefusal,
+) -> CataFault
     requires nested { IsCatalogue map.now }
     requires fits { IsCountable map.now }
-    requires refused { IsCellRefusal (find key_cmp edit.now.0 (flat map.now)) edit.now.1 refusal }
-    ensures { IsRefusal (flat map.now) (edit.now ∷ []) result }
+    ensures { result ≡ at_place (place_of key_cmp (id.now, lang.now) (flat map.now)) refusal }
 {
     match refusal {
         CellRefusal::Clash(stamp) => CataFault::StampReused {
-            place: places::place(map, edit.id(), edit.lang()),
+            place: places::place(map, id, lang),
             stamp,
         },
         CellRefusal::NoMemory => CataFault::NoMemory,
     }
 }
 
-/// Joins the cell of an edit, and says whether its key is new. A key is searched once.
-fn join_cell(
+/// Joins the cell to that of its key, and says whether the key is new.
+fn join_in(
     map: &mut Keyed<MessageId, Keyed<Lang, Cell>>,
     alloc: Global,
-    edit: &Edit,
+    id: &MessageId,
+    lang: &Lang,
+    cell: &Cell,
 ) -> Result<bool, CellRefusal>
     requires { IsCatalogue map.old }
     ensures nested { IsCatalogue map.new }
     ensures ok { OnOk result (flat map.new
-        ≡ put key_cmp edit.now.0
-        (joined_at joined_cells (find key_cmp edit.now.0 (flat map.old)) edit.now.1)
+        ≡ put key_cmp (id.now, lang.now)
+        (joined_at joined_cells (find key_cmp (id.now, lang.now) (flat map.old)) cell.now)
         (flat map.old)) }
     ensures agree { OnOk result
-        (AgreeIfBoth AgreeCells (find key_cmp edit.now.0 (flat map.old)) (Some edit.now.1)) }
-    ensures new { IfOk result (λ new. new ≡ is_none (find key_cmp edit.now.0 (flat map.old))) }
+        (AgreeIfBoth AgreeCells (find key_cmp (id.now, lang.now) (flat map.old)) (Some cell.now)) }
+    ensures new { IfOk result
+        (λ new. new ≡ is_none (find key_cmp (id.now, lang.now) (flat map.old))) }
     ensures err { OnErr result (map.new ≡ map.old) }
     ensures fault { IfErr result
-        (IsCellRefusal (find key_cmp edit.now.0 (flat map.old)) edit.now.1) }
-    ensures settled { IsSettledIn (flat map.old) edit.now → IsOk result }
+        (IsCellRefusal (find key_cmp (id.now, lang.now) (flat map.old)) cell.now) }
+    ensures settled { IsSettledIn (flat map.old) ((id.now, lang.now), cell.now) → IsOk result }
 {
-    match map.get_mut(edit.id()) {
-        Some(cells) => join_lang(cells, alloc, edit.lang(), edit.cell()),
-        None => match add_message(map, alloc, edit) {
-            Ok(()) => Ok(true),
-            Err(AllocError) => Err(CellRefusal::NoMemory),
-        },
+    match map.get_mut(id) {
+        Some(cells) => join_lang(cells, alloc, lang, cell),
+        None => {
+            let mut cells = Keyed::new(alloc);
+            let is_new = join_lang(&mut cells, alloc, lang, cell)?;
+            put(map, id.copy(alloc)?, cells)?;
+            Ok(is_new)
+        }
     }
 }
 
@@ -398,10 +390,10 @@ fn join_lang(
             Ok(()) => Ok(false),
             Err(refusal) => Err(refusal),
         },
-        None => match add_lang(cells, alloc, lang, cell) {
-            Ok(()) => Ok(true),
-            Err(AllocError) => Err(CellRefusal::NoMemory),
-        },
+        None => {
+            put(cells, lang.copy(alloc)?, cell.copy(alloc)?)?;
+            Ok(true)
+        }
     }
 }
 
@@ -423,65 +415,8 @@ fn join_stored(mine: &mut Cell, alloc: Global, cell: &Cell) -> Result<(), CellRe
     Ok(())
 }
 
-/// Gives a message that is not there its first cell, a copy of that of the edit.
-fn add_message(
-    map: &mut Keyed<MessageId, Keyed<Lang, Cell>>,
-    alloc: Global,
-    edit: &Edit,
-) -> Result<(), AllocError>
-    requires nested { IsCatalogue map.old }
-    requires new { find text_cmp edit.now.0.0 map.old ≡ None }
-    ensures nested { IsCatalogue map.new }
-    ensures ok { OnOk result (flat map.new ≡ put key_cmp edit.now.0 edit.now.1 (flat map.old)) }
-    ensures err { OnErr result (map.new ≡ map.old) }
-{
-    let id = edit.id().copy(alloc)?;
-    let lang = edit.lang().copy(alloc)?;
-    let cell = edit.cell().copy(alloc)?;
-    put_message(map, alloc, id, lang, cell)
-}
-
-/// Gives a language that is not there a copy of the cell.
-fn add_lang(
-    cells: &mut Keyed<Lang, Cell>,
-    alloc: Global,
-    lang: &Lang,
-    cell: &Cell,
-) -> Result<(), AllocError>
-    ensures ok { OnOk result (cells.new ≡ put text_cmp lang.now cell.now cells.old) }
-    ensures err { OnErr result (cells.new ≡ cells.old) }
-{
-    let cell = cell.copy(alloc)?;
-    put(cells, lang.copy(alloc)?, cell)
-}
-
-/// Gives copies of the keys the cell, and says whether they are new.
-fn write_in(
-    map: &mut Keyed<MessageId, Keyed<Lang, Cell>>,
-    alloc: Global,
-    id: &MessageId,
-    lang: &Lang,
-    cell: Cell,
-) -> Result<bool, AllocError>
-    requires { IsCatalogue map.old }
-    ensures nested { IsCatalogue map.new }
-    ensures ok { OnOk result (flat map.new ≡ put key_cmp (id.now, lang.now) cell (flat map.old)) }
-    ensures new { IfOk result
-        (λ new. new ≡ is_none (find key_cmp (id.now, lang.now) (flat map.old))) }
-    ensures err { OnErr result (map.new ≡ map.old) }
-{
-    let lang = lang.copy(alloc)?;
-    match map.get_mut(id) {
-        Some(cells) => put_counted(cells, lang, cell),
-        None => {
-            put_message(map, alloc, id.copy(alloc)?, lang, cell)?;
-            Ok(true)
-        }
-    }
-}
-
-/// Gives the keys the cell.
-fn put_in(
+/// Appends a cell, whose key is greater than all others.
+fn append(
     map: &mut Keyed<MessageId, Keyed<Lang, Cell>>,
     alloc: Global,
     id: MessageId,
@@ -495,38 +430,12 @@ fn put_in(
 {
     match map.get_mut(&id) {
         Some(cells) => put(cells, lang, cell),
-        None => put_message(map, alloc, id, lang, cell),
+        None => {
+            let mut cells = Keyed::new(alloc);
+            put(&mut cells, lang, cell)?;
+            put(map, id, cells)
+        }
     }
-}
-
-/// Gives a message that is not there its first cell.
-fn put_message(
-    map: &mut Keyed<MessageId, Keyed<Lang, Cell>>,
-    alloc: Global,
-    id: MessageId,
-    lang: Lang,
-    cell: Cell,
-) -> Result<(), AllocError>
-    requires nested { IsCatalogue map.old }
-    requires new { find text_cmp id map.old ≡ None }
-    ensures nested { IsCatalogue map.new }
-    ensures ok { OnOk result (flat map.new ≡ put key_cmp (id, lang) cell (flat map.old)) }
-    ensures err { OnErr result (map.new ≡ map.old) }
-{
-    let mut cells = Keyed::new(alloc);
-    put(&mut cells, lang, cell)?;
-    put(map, id, cells)
-}
-
-/// Gives the language the cell, and says whether it is new.
-fn put_counted(cells: &mut Keyed<Lang, Cell>, lang: Lang, cell: Cell) -> Result<bool, AllocError>
-    ensures ok { OnOk result (cells.new ≡ put text_cmp lang cell cells.old) }
-    ensures new { IfOk result (λ new. new ≡ is_none (find text_cmp lang cells.old)) }
-    ensures err { OnErr result (cells.new ≡ cells.old) }
-{
-    let before = cells.len();
-    put(cells, lang, cell)?;
-    Ok(cells.len() > before)
 }
 
 /// Gives the key the value.

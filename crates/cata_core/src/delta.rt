@@ -10,7 +10,7 @@ ghost use Rattle.cata_core.specs.Summary.{stamps_of};
 
 use crate::catalogue::Catalogue;
 use crate::summary::{Summary, SummaryEntry};
-use cell_core::{MessageId, SiteName, Stamp};
+use cell_core::{Join, Key, MessageId, SiteName, Stamp};
 use lang_core::Lang;
 use std::alloc::{AllocError, Global};
 use std::cmp::Ordering;
@@ -78,7 +78,7 @@ pub(crate) fn missing_cells(
         if !is_missing(stamp, cell.stamp()) {
             continue;
         }
-        missing.push_copy(alloc, id, lang, cell)?;
+        missing.push(alloc, id.copy(alloc)?, lang.copy(alloc)?, cell.copy(alloc)?)?;
     }
     Ok(missing)
 }

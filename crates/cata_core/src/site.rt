@@ -145,11 +145,10 @@ impl Site {
         ensures err { IfErr result (RefusesEdit self.old now) }
         ensures left { OnErr result (self.new ≡ self.old) }
     {
-        let stamp = self.next_stamp(now)?;
-        match self.write_label(alloc, id, lang, &stamp, label) {
-            Ok(()) => Ok(stamp),
-            Err(AllocError) => Err(CataFault::NoMemory),
-        }
+        let cell = Cell::new(self.next_stamp(now)?, Some(label.copy(alloc)?));
+        let stamp = cell.stamp();
+        self.write(alloc, id, lang, cell)?;
+        Ok(stamp)
     }
 
     /// Deletes the label of the key, if there is one, and answers the stamp of the edit. The cell
@@ -174,11 +173,10 @@ impl Site {
         ensures err { IfErr result (RefusesEdit self.old now) }
         ensures left { OnErr result (self.new ≡ self.old) }
     {
-        let stamp = self.next_stamp(now)?;
-        match self.write_none(alloc, id, lang, &stamp) {
-            Ok(()) => Ok(stamp),
-            Err(AllocError) => Err(CataFault::NoMemory),
-        }
+        let cell = Cell::new(self.next_stamp(now)?, None);
+        let stamp = cell.stamp();
+        self.write(alloc, id, lang, cell)?;
+        Ok(stamp)
     }
 
     /// Joins the one cell of an edit, whose stamp may name any site. An edit that is not newer than
@@ -319,53 +317,6 @@ impl Site {
         }
     }
 
-    /// Gives the key a copy of the label with the stamp, which is greater than all of the site.
-    fn write_label(
-        &mut self,
-        alloc: Global,
-        id: &MessageId,
-        lang: &Lang,
-        stamp: &Stamp,
-        label: &Label,
-    ) -> Result<(), AllocError>
-        requires { IsAbove (latest_of self.old.cells) stamp.now }
-        ensures ok { OnOk result
-            (self.new
-            ≡ record {
-              name = self.old.name;
-              cells =
-                  put key_cmp (id.now, lang.now)
-                  (record { stamp = stamp.now; label = Some label.now })
-                  self.old.cells;
-            }) }
-        ensures err { OnErr result (self.new ≡ self.old) }
-    {
-        let label = label.copy(alloc)?;
-        self.write(alloc, id, lang, Cell::new(*stamp, Some(label)))
-    }
-
-    /// Gives the key no label with the stamp, which is greater than all of the site.
-    fn write_none(
-        &mut self,
-        alloc: Global,
-        id: &MessageId,
-        lang: &Lang,
-        stamp: &Stamp,
-    ) -> Result<(), AllocError>
-        requires { IsAbove (latest_of self.old.cells) stamp.now }
-        ensures ok { OnOk result
-            (self.new
-            ≡ record {
-              name = self.old.name;
-              cells =
-                  put key_cmp (id.now, lang.now) (record { stamp = stamp.now; label = None })
-                  self.old.cells;
-            }) }
-        ensures err { OnErr result (self.new ≡ self.old) }
-    {
-        self.write(alloc, id, lang, Cell::new(*stamp, None))
-    }
-
     /// Gives the key the cell, whose stamp is greater than all of the site.
     fn write(
         &mut self,
@@ -373,7 +324,7 @@ impl Site {
         id: &MessageId,
         lang: &Lang,
         cell: Cell,
-    ) -> Result<(), AllocError>
+    ) -> Result<(), CataFault>
         requires { IsAbove (latest_of self.old.cells) cell.stamp }
         ensures ok { OnOk result
             (self.new
@@ -383,10 +334,10 @@ impl Site {
                   put key_cmp (id.now, lang.now) cell self.old.cells;
             }) }
         ensures err { OnErr result (self.new ≡ self.old) }
+        ensures fault { IfErr result (λ fault. fault ≡ CataFault.NoMemory) }
     {
-        let stamp = cell.stamp();
-        self.catalogue.write(alloc, id, lang, cell)?;
-        self.latest = Latest::Known(Some(stamp));
+        self.catalogue.join_cell(alloc, id, lang, &cell)?;
+        self.latest = Latest::Known(Some(cell.stamp()));
         Ok(())
     }
 }

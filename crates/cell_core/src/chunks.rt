@@ -218,7 +218,7 @@ fn push_in<T: Drop>(chunk: &mut Vec<T>, item: T) -> Result<(), T>
             chunk.push_reserved(item);
             Ok(())
         }
-        Err(_) => Err(item),
+        Err(AllocError) => Err(item),
     }
 }
 
@@ -246,11 +246,11 @@ fn push_chunk<T: Drop>(chunks: &mut Vec<Vec<T>>, item: T) -> Result<(), T>
     let room = if chunks.is_empty() { 1 } else { FULL };
     match make_room(chunks) {
         Ok(()) => {}
-        Err(_) => return Err(item),
+        Err(AllocError) => return Err(item),
     }
     let mut chunk = match Vec::with_capacity(*chunks.allocator(), room) {
         Ok(chunk) => chunk,
-        Err(_) => return Err(item),
+        Err(AllocError) => return Err(item),
     };
     chunk.push_reserved(item);
     chunks.push_reserved(chunk);
@@ -283,7 +283,7 @@ fn put_in<K: Key, J: Drop>(
             };
             match make_room(pairs) {
                 Ok(()) => {}
-                Err(_) => return Err((key, value)),
+                Err(AllocError) => return Err((key, value)),
             }
             match pairs.insert(at, (key, value)) {
                 Ok(()) => {

@@ -1,15 +1,15 @@
-use Rattle.std.proofs.Common.{sym, ◌∙◌, subst}
+use Rattle.std.proofs.Common.{[], ◌∷◌, ◌++◌, sym, ◌∙◌, subst}
 use Rattle.cata_core.specs.CellsLeft.{cells_left}
 use Rattle.cata_core.specs.Deltas.{is_missing}
-use Rattle.cata_core.specs.Entries.{EntryKey, Entries}
+use Rattle.cata_core.specs.Entries.{EntryKey, Entries, IsAboveAll}
 use Rattle.cata_core.specs.Summary.{stamps_of}
 use Rattle.cata_core.proofs.MissingCells.{AreMissingSoFar, sent_above, missing_more, missing_same}
 use Rattle.cata_core.proofs.SummaryLists.{not_greater_self}
 use Rattle.cata_core.proofs.delta.missing_cells.Goals as goal
 
 -- the key of a cell is above those before it
-pub push_copy-requires : goal.push_copy-requires
-push_copy-requires c =
+pub push-requires : goal.push-requires
+push-requires c =
     let all = c.args.catalogue.now in
     let left = cells_left c.next.new.self in
     let summary = c.args.summary.now.stamps in
@@ -21,10 +21,12 @@ push_copy-requires c =
     c.args.summary.now.stamps (stamps_of c.loop-id.rest.now)) c.in-Some.ensures.steps
     c.loop-id.invariant in
     let found = c.stamp_at-stamp.ensures.stamp ∙ h.same k (not_greater_self k) in
-    sent_above all left c.loop-id.missing summary rest more k c.in-Some.cell.now h
+    subst (λ (key : EntryKey). IsAboveAll key c.loop-id.missing)
+    (λ i. (sym c.in_ok-copy.ensures.equal i, sym c.in_ok-copy-2.ensures.equal i))
+    (sent_above all left c.loop-id.missing summary rest more k c.in-Some.cell.now h
     c.stamp_at-stamp.ensures.rest
     ((λ i. is_missing (sym found i) (sym c.stamp.ensures i)) ∙ sym c.is_missing.ensures
-    ∙ c.if-not-is_missing.false)
+    ∙ c.if-not-is_missing.false))
 
 pub loop-id-preserved : goal.loop-id-preserved
 loop-id-preserved c =
@@ -41,7 +43,10 @@ loop-id-preserved c =
     let found = c.stamp_at-stamp.ensures.stamp ∙ h.same k (not_greater_self k) in
     subst (λ (missing : Entries). AreMissingSoFar c.args.catalogue.now (cells_left c.next.new.self)
     missing c.args.summary.now.stamps (stamps_of c.stamp_at-stamp.result.1.now))
-    (sym c.in_ok-push_copy.ensures.ok)
+    (sym (c.in_ok-push.ensures.ok
+    ∙ (λ i. c.loop-id.missing
+    ++ ((c.in_ok-copy.ensures.equal i, c.in_ok-copy-2.ensures.equal i), c.in_ok-copy-3.ensures i)
+    ∷ [])))
     (missing_more all left c.loop-id.missing summary rest more k c.in-Some.cell.now h
     c.stamp_at-stamp.ensures.rest
     ((λ i. is_missing (sym found i) (sym c.stamp.ensures i)) ∙ sym c.is_missing.ensures

@@ -1,67 +1,22 @@
-use Rattle.std.proofs.Common.{◌≡◌, [], ◌∷◌, length, true, false, sym, ◌∙◌, ap, subst}
-use Rattle.std.specs.FinMap.Entries.{find}
-use Rattle.cell_core.specs.Cells.{joined_cells}
-use Rattle.cell_core.specs.Maps.{joined_at}
+use Rattle.std.proofs.Common.{◌≡◌, [], ◌∷◌, subst}
+use Rattle.std.specs.Prelude.{OnOk, IfErr, IsOk}
 use Rattle.cata_core.specs.CataFaults.{IsRefusal}
-use Rattle.cata_core.specs.Entries.{key_cmp, Agree, joined}
-use Rattle.cata_core.specs.Flat.{flat}
-use Rattle.cata_core.proofs.Apply.{agree_only, joined_only}
-use Rattle.cata_core.proofs.NestedCatalogues.{IsMap-catalogue}
-use Rattle.cata_core.proofs.Written.{length_written}
+use Rattle.cata_core.specs.Entries.{Entry, joined}
+use Rattle.cata_core.specs.Settled.{IsSettledIn}
 use Rattle.cata_core.proofs.catalogue.Catalogue.apply.Goals as goal
-use Rattle.cata_core.proofs.catalogue.Catalogue.apply.Goals.{then-is_new, in-Some, in-None}
-use Rattle.cata_core.proofs.catalogue.Catalogue.apply.Goals.{else-is_new}
 
-pub invariant_of-self : goal.invariant_of-self
-invariant_of-self c =
-    let m = c.self.inside.map in
-    let new = c.join_cell.new.map in
-    let e = c.args.edit.now in
-    record {
-      nested = c.join_cell.ensures.nested;
-      counted = elim c.match-len.branch as (λ _. c.match-len.self ≡ length (flat new)) [
-        | in-Some w ↦
-            w.self-is ∙ w.in-Some.ensures
-            ∙ sym (length_written m new c.self.invariant.nested c.args.self.now c.self.view_is e.0
-            (joined_at joined_cells (find key_cmp e.0 (flat m)) e.1) true
-            (sym c.if-is_new.true ∙ c.in-Ok.ensures.new) c.in-Ok.ensures.ok)
-        | in-None w ↦ w.self-is ∙ w.count-self-inside.ensures
-      ];
-    }
+pub returns-clause-ok : goal.returns-clause-ok
+returns-clause-ok c =
+    subst (λ (e : Entry). OnOk c.join_cell.result
+    (c.join_cell.new.self ≡ joined c.args.self.now (e ∷ [])))
+    (λ i. ((c.id.ensures i, c.lang.ensures i), c.cell.ensures i)) c.join_cell.ensures.ok
 
-pub invariant_of-self-else-is_new : goal.invariant_of-self-else-is_new
-invariant_of-self-else-is_new c =
-    let m = c.self.inside.map in
-    let e = c.args.edit.now in
-    record {
-      nested = c.join_cell.ensures.nested;
-      counted = c.self.invariant.counted ∙ ap length c.self.view_is
-          ∙ sym (length_written m c.join_cell.new.map c.self.invariant.nested c.args.self.now
-          c.self.view_is e.0 (joined_at joined_cells (find key_cmp e.0 (flat m)) e.1) false
-          (sym c.if-is_new.false ∙ c.in-Ok.ensures.new) c.in-Ok.ensures.ok);
-    }
+pub returns-clause-fault : goal.returns-clause-fault
+returns-clause-fault c =
+    subst (λ (e : Entry). IfErr c.join_cell.result (IsRefusal c.args.self.now (e ∷ [])))
+    (λ i. ((c.id.ensures i, c.lang.ensures i), c.cell.ensures i)) c.join_cell.ensures.fault
 
-pub returns-after-is_new-clause-ok : goal.returns-after-is_new-clause-ok
-returns-after-is_new-clause-ok c =
-    let m = c.self.inside.map in
-    let e = c.args.edit.now in
-    let all : flat c.join_cell.new.map ≡ joined c.args.self.now (e ∷ []) =
-    c.in-Ok.ensures.ok
-    ∙ sym (joined_only (flat m) e (IsMap-catalogue m c.self.invariant.nested))
-    ∙ ap (λ es. joined es (e ∷ [])) c.self.view_is in
-    elim c.if-is_new.branch as (λ _. c.if-is_new.self ≡ joined c.args.self.now (e ∷ [])) [
-      | then-is_new w ↦ w.self-is ∙ all
-      | else-is_new w ↦ w.self-is ∙ all
-    ]
-
-pub returns-after-is_new-clause-agree : goal.returns-after-is_new-clause-agree
-returns-after-is_new-clause-agree c =
-    let m = c.self.inside.map in
-    let e = c.args.edit.now in
-    subst (λ es. Agree es (e ∷ [])) c.self.view_is
-    (agree_only (flat m) e (IsMap-catalogue m c.self.invariant.nested) c.in-Ok.ensures.agree)
-
-pub returns-in-Err-clause-fault : goal.returns-in-Err-clause-fault
-returns-in-Err-clause-fault c =
-    subst (λ es. IsRefusal es (c.args.edit.now ∷ []) c.at_key.result)
-    (ap flat c.in-Err.ensures.err ∙ c.self.view_is) c.at_key.ensures
+pub returns-clause-settled : goal.returns-clause-settled
+returns-clause-settled c =
+    subst (λ (e : Entry). IsSettledIn c.args.self.now e → IsOk c.join_cell.result)
+    (λ i. ((c.id.ensures i, c.lang.ensures i), c.cell.ensures i)) c.join_cell.ensures.settled

@@ -8,7 +8,7 @@ use Rattle.cata_core.proofs.catalogue.Catalogue.push.Goals as goal
 pub returns-clause-ok : goal.returns-clause-ok
 returns-clause-ok c =
     let key : EntryKey = (c.args.id, c.args.lang) in
-    c.in_ok-put_in.ensures.ok
+    c.in_ok-append.ensures.ok
     ∙ put_behind (flat c.self.inside.map) key c.args.cell
     (subst (λ (es : Entries). IsAboveAll key es) (sym c.self.view_is) c.requires)
     ∙ ap (λ es. es ++ (key, c.args.cell) ∷ []) c.self.view_is
@@ -18,8 +18,8 @@ invariant_of-self-2 c =
     let key : EntryKey = (c.args.id, c.args.lang) in
     let above = subst (λ (es : Entries). IsAboveAll key es) (sym c.self.view_is) c.requires in
     record {
-      nested = c.put_in.ensures.nested;
+      nested = c.append.ensures.nested;
       counted = c.in_ok-len.ensures ∙ ap (λ es. length es + 1) (sym c.self.view_is)
-          ∙ sym (length_behind (flat c.self.inside.map) (flat c.put_in.new.map) key c.args.cell
-          above c.in_ok-put_in.ensures.ok);
+          ∙ sym (length_behind (flat c.self.inside.map) (flat c.append.new.map) key c.args.cell
+          above c.in_ok-append.ensures.ok);
     }

@@ -1,7 +1,5 @@
 use Rattle.std.proofs.Common.{◌≡◌, true, sym, ◌∙◌, subst}
 use Rattle.std.specs.Result.{is_ok}
-use Rattle.cata_core.specs.Entries.{Agree}
-use Rattle.cata_core.specs.Sites.{SiteState}
 use Rattle.cata_core.specs.KnownLatest.{IsKnownLatest}
 use Rattle.cata_core.specs.Latest.{latest_of}
 use Rattle.cata_core.proofs.JoinedLatest.{at_ok}

@@ -1,9 +1,9 @@
-use Rattle.std.proofs.Common.{sym, ap, subst}
+use Rattle.std.proofs.Common.{sym, ap, ◌∙◌, subst}
 use Rattle.std.proofs.lemmas.Result.{on_ok_weaker, on_err_weaker}
-use Rattle.cata_core.specs.Flat.{inner_of}
+use Rattle.cata_core.specs.Flat.{flat, inner_of}
 use Rattle.cata_core.specs.Nested.{IsCatalogue}
 use Rattle.cata_core.proofs.NestedCatalogues.{either_way, IsCatalogue-put, flat-put, put_back}
-use Rattle.cata_core.proofs.catalogue.put_in.Goals as goal
+use Rattle.cata_core.proofs.catalogue.append.Goals as goal
 
 pub returns-in-Some-clause-nested : goal.returns-in-Some-clause-nested
 returns-in-Some-clause-nested c =
@@ -30,3 +30,22 @@ returns-in-Some-clause-err c =
     (λ is. put_back c.args.map.now c.requires c.args.id c.in-Some.cells.now c.put.new.map
     c.in-Some.ensures.value is)
     c.put.ensures.err
+
+pub returns-in_ok-put-in-None-clause-nested : goal.returns-in_ok-put-in-None-clause-nested
+returns-in_ok-put-in-None-clause-nested c =
+    let m = c.args.map.now in
+    either_way c.put-in-None-2.result c.put-in-None-2.ensures.ok c.put-in-None-2.ensures.err
+    (λ is. subst IsCatalogue (sym is)
+    (IsCatalogue-put m c.requires c.args.id c.args.lang c.args.cell c.new-cells.result
+    c.put-in-None.new.map (c.new-cells.ensures ∙ ap inner_of c.in-None.ensures.value)
+    c.in_ok-put-in-None.ensures.ok))
+    (λ is. subst IsCatalogue (sym is) c.requires)
+
+pub returns-in_ok-put-in-None-clause-ok : goal.returns-in_ok-put-in-None-clause-ok
+returns-in_ok-put-in-None-clause-ok c =
+    on_ok_weaker c.put-in-None-2.result
+    (λ is. ap flat is
+    ∙ flat-put c.args.map.now c.requires c.args.id c.args.lang c.args.cell c.new-cells.result
+    c.put-in-None.new.map (c.new-cells.ensures ∙ ap inner_of c.in-None.ensures.value)
+    c.in_ok-put-in-None.ensures.ok)
+    c.put-in-None-2.ensures.ok
