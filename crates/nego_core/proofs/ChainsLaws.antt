@@ -1,18 +1,28 @@
 -- Items in chains.
-use Rattle.std.proofs.Common.{ℕ, ◌≡◌, ◌≤◌, ◌<◌, ◌+◌, List, [], ◌∷◌, ◌++◌, Option, Some, None, Bool}
+use Rattle.std.proofs.Common.{ℕ, ◌≡◌, ◌≢◌, ◌≤◌, ◌<◌, ◌+◌, ◌*◌, ◌⊎◌, List, [], ◌∷◌, ◌++◌, Option}
+use Rattle.std.proofs.Common.{Some, None}
 use Rattle.std.proofs.Common.{true, false, inl, inr, length, get_or, refl, sym, ◌∙◌, ap, subst}
 use Rattle.std.proofs.Common.{arith}
-use Rattle.std.specs.Prelude.{Contains, slice_set, replicate, zero, suc}
-use Rattle.std.specs.List.{slice_get}
+use Rattle.std.specs.Prelude.{AllPairs, Contains, nat_eq, slice_set, replicate, sum_by}
+use Rattle.std.specs.List.{list_any, slice_get}
 use Rattle.std.specs.Str.{bytes_eq}
 use Rattle.std.proofs.lemmas.Bool.{cases_Bool, cases_lt, cases_eq}
+use Rattle.std.proofs.lemmas.Bool.Decides.{nat_tests}
 use Rattle.std.proofs.lemmas.List.{length-replicate, get_or-replicate, length_push}
 use Rattle.std.proofs.lemmas.List.{get_or_append_left, get_or-append-add, length-set}
 use Rattle.std.proofs.lemmas.List.{get_or-set_same, get_or-set_other}
+use Rattle.std.proofs.lemmas.List.Elements.{Contains-append_left, Contains-append_right}
+use Rattle.std.proofs.lemmas.List.Elements.{Contains-append_cases}
+use Rattle.std.proofs.lemmas.List.Folds.{list_any_at}
+use Rattle.std.proofs.lemmas.List.Quantifiers.{all_pairs_push}
+use Rattle.std.proofs.lemmas.Nat.{mod_below}
 use Rattle.std.proofs.lemmas.Option.{slice_get_within}
 use Rattle.lang_core.specs.Text.{pieces}
-use Rattle.lang_core.specs.Grammar.{is_star}
+use Rattle.lang_core.specs.Grammar.{is_star, is_run, is_private_piece, are_allowed, tag_piece}
+use Rattle.lang_core.specs.Tag.{IsTag}
 use Rattle.lang_core.specs.Matching.{Embeds, Extended, without_stars, specificity}
+use Rattle.lang_core.proofs.Basics.{each_true}
+use Rattle.lang_core.proofs.PiecesLaws.{size_pieces, size_cons}
 use Rattle.nego_core.proofs.Basics.{false_true, contains_first, contains_later, contains_cases}
 use Rattle.nego_core.proofs.Basics.{same_at}
 use Rattle.nego_core.proofs.MostSpecificLaws.{best_same, better_joins, Before, passed, newest}
@@ -20,9 +30,10 @@ use Rattle.nego_core.proofs.MostSpecificLaws.{passed_to, all_before}
 use Rattle.nego_core.specs.Deciding.{IsBest, better_of, is_above}
 use Rattle.nego_core.specs.declared.deciding.MostSpecific.{MostSpecific}
 use Rattle.nego_core.specs.Item.{Item}
-use Rattle.nego_core.specs.Fingerprint.{IsTableOf}
+use Rattle.nego_core.specs.Fingerprint.{fingerprint_of}
 use Rattle.nego_core.specs.Chains.{chain_of, MayStandIn, AreNumbers, IsNextIn, AreLinksFrom}
-use Rattle.nego_core.specs.Chains.{AreLinked, StandsIn, StandsAmong}
+use Rattle.nego_core.specs.Chains.{AreLinked, StandsIn, StandsAmong, IsChainOfOne, AreChainsOf}
+use Rattle.nego_core.specs.declared.chains.TheConstants.{LAST_CHAIN, CHAIN_COUNT}
 use Rattle.nego_core.specs.declared.chains.Chains.{Chains}
 
 -- ---- what a range that matches has, the tag has
@@ -94,7 +105,7 @@ may_stand s left all chain h e f =
 -- With a chain in which the next item's range may be, the numbers are those of one item more.
 pub push_number : (items : List Item) (n : ℕ) (i : Item) (numbers : List ℕ) (number : ℕ)
     → AreNumbers items n numbers → slice_get items n ≡ Some i → MayStandIn (pieces i.range) number
-    → number < 8193 → AreNumbers items (n + 1) (numbers ++ number ∷ [])
+    → number < CHAIN_COUNT → AreNumbers items (n + 1) (numbers ++ number ∷ [])
 push_number items n i numbers number a s m small =
     let size = length_push numbers number in
     let many = a.as_many in
@@ -283,106 +294,205 @@ pub asked_whole : (Fits : Item → Type 0) (items : List Item) (numbers : List �
 asked_whole Fits items numbers chain place best end a =
     all_before (FitsIn Fits numbers chain) items place best end a.so_far
 
+-- ---- the chains of a tag's subtags
+
+-- a piece of a tag has a byte
+sized_piece : (s : List ℕ) → is_private_piece s ≡ true → 0 < length s
+unfolding is_private_piece is_run
+sized_piece [] h = cc
+sized_piece (b ∷ s) h = omega arith
+
+sized_pieces : (place : ℕ) (list : List (List ℕ)) → are_allowed tag_piece place list ≡ true
+    → 2 * length list ≤ sum_by (λ s. length s + 1) list
+sized_pieces place [] h = omega arith
+sized_pieces place (s ∷ list) h =
+    let parts = each_true (tag_piece place s) (are_allowed tag_piece (place + 1) list) h in
+    let rest = sized_pieces (place + 1) list parts.1 in
+    let one = sized_piece s parts.0 in
+    omega (arith, size_cons s list)
+
+-- A tag has at most 128 subtags.
+pub few_subtags : (tag text : List ℕ) → text ≡ tag → IsTag text → length (pieces tag) ≤ 128
+few_subtags tag text e h =
+    let most = h.0.1 in
+    let size = size_pieces 45 text in
+    let half = sized_pieces 0 (pieces text) h.1 in
+    subst (λ (t : List ℕ). length (pieces t) ≤ 128) e (omega arith)
+
+same_number : (m n : ℕ) → nat_eq m n ≡ true → m ≡ n
+same_number m n h = grind (arith, nat_tests)
+
+number_same : (m n : ℕ) → m ≡ n → nat_eq m n ≡ true
+number_same m n h = grind (arith, nat_tests)
+
+any_contains : (list : List ℕ) (n : ℕ) → list_any (λ m. nat_eq m n) list ≡ true → Contains list n
+any_contains [] n h = cc
+any_contains (m ∷ list) n h = elim (cases_Bool (nat_eq m n)) [
+  | inl e ↦ subst (Contains (m ∷ list)) (same_number m n e) (contains_first m list)
+  | inr e ↦ contains_later m n list (any_contains list n (rw e at h))
+]
+
+-- the chains of a tag's subtags before those that are left, each once
+pub record AreChainsSoFar (tag left : List (List ℕ)) (chains : List ℕ) : Type 0 where
+  pub room : length chains + length left ≤ length tag
+  pub among : AreAmong left tag
+  pub each : (s : List ℕ) → Contains tag s → Contains left s ⊎ Contains chains (chain_of s)
+  pub only : (c : ℕ) → Contains chains c → IsChainOfOne tag c
+  pub once : AllPairs ◌≢◌ chains
+
+-- Where the next subtag's chain is there already, the chains so far are those of one subtag more.
+pub old_chain : (tag left : List (List ℕ)) (s : List ℕ) (chain : ℕ) (chains : List ℕ)
+    → AreChainsSoFar tag (s ∷ left) chains → chain ≡ chain_of s
+    → list_any (λ c. nat_eq c chain) chains ≡ true → AreChainsSoFar tag left chains
+old_chain tag left s chain chains h is there = record {
+  room = (let r = h.room in omega arith);
+  among = among_later s left tag h.among;
+  each = λ t c. elim (h.each t c) [
+    | inl old ↦ elim (contains_cases s t left old) [
+      | inl same ↦
+          inr (subst (Contains chains) (is ∙ ap chain_of same) (any_contains chains chain there))
+      | inr later ↦ inl later
+    ]
+    | inr done ↦ inr done
+  ];
+  only = h.only;
+  once = h.once;
+}
+
+-- With the next subtag's chain, which is not there, the chains are those of one subtag more.
+pub new_chain : (tag left : List (List ℕ)) (s : List ℕ) (chain : ℕ) (chains : List ℕ)
+    → AreChainsSoFar tag (s ∷ left) chains → chain ≡ chain_of s
+    → list_any (λ c. nat_eq c chain) chains ≡ false
+    → AreChainsSoFar tag left (chains ++ chain ∷ [])
+new_chain tag left s chain chains h is new = record {
+  room = (let r = h.room in let size = length_push chains chain in omega arith);
+  among = among_later s left tag h.among;
+  each = λ t c. elim (h.each t c) [
+    | inl old ↦ elim (contains_cases s t left old) [
+      | inl same ↦
+          inr
+          (Contains-append_right chains (chain ∷ []) (chain_of t)
+          (subst (Contains (chain ∷ [])) (is ∙ ap chain_of same) (contains_first chain [])))
+      | inr later ↦ inl later
+    ]
+    | inr done ↦ inr (Contains-append_left chains (chain ∷ []) (chain_of t) done)
+  ];
+  only = λ c there. elim (Contains-append_cases chains (chain ∷ []) c there) [
+    | inl old ↦ h.only c old
+    | inr one ↦ elim (contains_cases chain c [] one) [
+      | inl same ↦ (s, h.among s (contains_first s left), sym is ∙ same)
+      | inr none ↦ absurd (let low = none.1 in omega arith)
+    ]
+  ];
+  once =
+      all_pairs_push ◌≢◌ chains chain h.once
+      (λ k d low same. false_true
+      (sym new
+      ∙ list_any_at (λ c. nat_eq c chain) chains k d low
+      (number_same (get_or chains k d) chain same)));
+}
+
+-- Where no subtag is left, the chains so far are those of the tag.
+pub all_chains : (tag : List (List ℕ)) (chains : List ℕ) → AreChainsSoFar tag [] chains
+    → AreChainsOf tag chains
+all_chains tag chains h = record {
+  each = λ s c. elim (h.each s c) [
+    | inl none ↦ absurd (let low = none.1 in omega arith)
+    | inr done ↦ done
+  ];
+  only = h.only;
+  once = h.once;
+}
+
+-- The chains of a tag are not the last one.
+pub before_last : (tag : List (List ℕ)) (chains : List ℕ) (chain : ℕ) → AreChainsOf tag chains
+    → Contains chains chain → chain < LAST_CHAIN
+before_last tag chains chain h c =
+    let one = h.only chain c in
+    subst (λ (n : ℕ). n < LAST_CHAIN) one.2
+    (mod_below (fingerprint_of one.0) LAST_CHAIN (omega arith))
+
 -- ---- which chains are searched
 
--- an item of a chain that the table has, or of the last one, that fits
-abbrev pub FitsAmong : (Item → Type 0) → List ℕ → List Bool → ℕ → Item → Type 0
-FitsAmong Fits numbers table k i = StandsAmong numbers table k × Fits i
+-- an item of one of these chains, or of the last one, that fits
+abbrev pub FitsAmong : (Item → Type 0) → List ℕ → List ℕ → ℕ → Item → Type 0
+FitsAmong Fits numbers chains k i = StandsAmong numbers chains k × Fits i
 
-none_set : (n c : ℕ) → get_or (replicate n false) c false ≡ true → ⊥
-none_set zero c h = cc
-none_set (suc n) zero h = cc
-none_set (suc n) (suc c) h = none_set n c h
-
--- The best of the last chain is the best of that chain and those of an empty table.
+-- The best of the last chain is the best of that chain and of no other.
 pub last_asked : (Fits : Item → Type 0) (items : List Item) (numbers : List ℕ)
-    (best : Option MostSpecific) → IsBest (FitsIn Fits numbers 8192) items best
-    → IsBest (FitsAmong Fits numbers (replicate 8192 false)) items best
+    (best : Option MostSpecific) → IsBest (FitsIn Fits numbers LAST_CHAIN) items best
+    → IsBest (FitsAmong Fits numbers []) items best
 last_asked Fits items numbers best h =
-    best_same (FitsIn Fits numbers 8192) (FitsAmong Fits numbers (replicate 8192 false)) items best
+    best_same (FitsIn Fits numbers LAST_CHAIN) (FitsAmong Fits numbers []) items best
     (λ k i. (
       (λ f. (inl f.0, f.1)),
       (λ f. elim f.0 [
         | inl last ↦ (last, f.1)
-        | inr set ↦ absurd (none_set 8192 (get_or numbers k 0) set)
+        | inr none ↦ absurd (let low = none.1 in omega arith)
       ]),
     ))
     h
 
--- With one more chain in the table, the best is the better of the best so far and of that chain.
-pub one_asked : (Fits : Item → Type 0) (items : List Item) (numbers : List ℕ) (table : List Bool)
-    (chain : ℕ) (best found : Option MostSpecific) → chain < length table
-    → IsBest (FitsAmong Fits numbers table) items best
+-- With one more chain, the best is the better of the best so far and of that chain.
+pub one_asked : (Fits : Item → Type 0) (items : List Item) (numbers chains : List ℕ) (chain : ℕ)
+    (best found : Option MostSpecific) → IsBest (FitsAmong Fits numbers chains) items best
     → IsBest (FitsIn Fits numbers chain) items found
-    → IsBest (FitsAmong Fits numbers (slice_set table chain true)) items (better_of best found)
-one_asked Fits items numbers table chain best found low h f =
-    better_joins (FitsAmong Fits numbers table) (FitsIn Fits numbers chain)
-    (FitsAmong Fits numbers (slice_set table chain true)) items best found
+    → IsBest (FitsAmong Fits numbers (chains ++ chain ∷ [])) items (better_of best found)
+one_asked Fits items numbers chains chain best found h f =
+    better_joins (FitsAmong Fits numbers chains) (FitsIn Fits numbers chain)
+    (FitsAmong Fits numbers (chains ++ chain ∷ [])) items best found
     (λ k i. (
       (λ a. (
         elim a.0 [
           | inl last ↦ inl last
-          | inr set ↦ inr (still table chain (get_or numbers k 0) low set)
+          | inr old ↦ inr (Contains-append_left chains (chain ∷ []) (get_or numbers k 0) old)
         ],
         a.1,
       )),
       (λ s. (
         inr
-            (ap (λ (n : ℕ). get_or (slice_set table chain true) n false) s.0
-            ∙ get_or-set_same table chain true false low),
+            (Contains-append_right chains (chain ∷ []) (get_or numbers k 0)
+            (subst (Contains (chain ∷ [])) (sym s.0) (contains_first chain []))),
         s.1,
       )),
       (λ a. elim a.0 [
         | inl last ↦ inl (inl last, a.1)
-        | inr set ↦ elim (cases_eq (get_or numbers k 0) chain) [
-          | inl same ↦ inr (same, a.1)
-          | inr other ↦
-              inl (
-                inr
-                    (sym (get_or-set_other table chain (get_or numbers k 0) true false other)
-                    ∙ set),
-                a.1,
-              )
+        | inr there ↦ elim (Contains-append_cases chains (chain ∷ []) (get_or numbers k 0) there) [
+          | inl old ↦ inl (inr old, a.1)
+          | inr one ↦ elim (contains_cases chain (get_or numbers k 0) [] one) [
+            | inl same ↦ inr (sym same, a.1)
+            | inr none ↦ absurd (let low = none.1 in omega arith)
+          ]
         ]
       ]),
     ))
     h f
-  where
-    still : (table : List Bool) (chain n : ℕ) → chain < length table → get_or table n false ≡ true
-        → get_or (slice_set table chain true) n false ≡ true
-    still table chain n low h = elim (cases_eq n chain) [
-      | inl same ↦
-          ap (λ (m : ℕ). get_or (slice_set table chain true) m false) same
-          ∙ get_or-set_same table chain true false low
-      | inr other ↦ get_or-set_other table chain n true false other ∙ h
-    ]
 
-stands_among : (items : List Item) (numbers : List ℕ) (tag : List (List ℕ)) (table : List Bool)
-    (k : ℕ) (i : Item) → AreNumbers items (length items) numbers → IsTableOf chain_of 8192 tag table
-    → slice_get items k ≡ Some i → Extended (pieces i.range) tag → StandsAmong numbers table k
-stands_among items numbers tag table k i n t s h =
+stands_among : (items : List Item) (numbers : List ℕ) (tag : List (List ℕ)) (chains : List ℕ)
+    (k : ℕ) (i : Item) → AreNumbers items (length items) numbers → AreChainsOf tag chains
+    → slice_get items k ≡ Some i → Extended (pieces i.range) tag → StandsAmong numbers chains k
+stands_among items numbers tag chains k i n t s h =
     elim (n.may k i (slice_get_within items k i s) s) [
       | inl last ↦ inl last
       | inr one ↦
-          inr (ap (λ (c : ℕ). get_or table c false) (sym one.3)
-          ∙ t.set one.0 (extended_has (pieces i.range) tag one.0 h one.1 one.2))
+          inr (subst (Contains chains) one.3
+          (t.each one.0 (extended_has (pieces i.range) tag one.0 h one.1 one.2)))
     ]
 
 -- The best of the last chain and the chains of a tag's subtags is the best of all items.
-pub all_asked : (items : List Item) (numbers : List ℕ) (tag : List (List ℕ)) (table : List Bool)
-    (best : Option MostSpecific) → AreNumbers items (length items) numbers
-    → IsTableOf chain_of 8192 tag table
-    → IsBest (FitsAmong (λ i. Extended (pieces i.range) tag) numbers table) items best
+pub all_asked : (items : List Item) (numbers : List ℕ) (tag : List (List ℕ)) (chains : List ℕ)
+    (best : Option MostSpecific) → AreNumbers items (length items) numbers → AreChainsOf tag chains
+    → IsBest (FitsAmong (λ i. Extended (pieces i.range) tag) numbers chains) items best
     → IsBest (λ _ i. Extended (pieces i.range) tag) items best
-all_asked items numbers tag table None n t h =
-    λ k other s f. h k other s (stands_among items numbers tag table k other n t s f, f)
-all_asked items numbers tag table (Some best) n t h = record {
+all_asked items numbers tag chains None n t h =
+    λ k other s f. h k other s (stands_among items numbers tag chains k other n t s f, f)
+all_asked items numbers tag chains (Some best) n t h = record {
   item = h.item;
   stands = h.stands;
   specificity_is = h.specificity_is;
   fits = h.fits.1;
-  most = λ k other s f. h.most k other s (stands_among items numbers tag table k other n t s f, f);
+  most = λ k other s f. h.most k other s (stands_among items numbers tag chains k other n t s f, f);
   first =
       λ k other low s f. h.first k other low s
-      (stands_among items numbers tag table k other n t s f, f);
+      (stands_among items numbers tag chains k other n t s f, f);
 }

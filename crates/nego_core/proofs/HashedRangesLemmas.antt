@@ -1,17 +1,21 @@
 -- Ranges in hash buckets.
 use Rattle.std.proofs.Common.{ℕ, ◌≡◌, ◌<◌, ◌+◌, List, [], ◌∷◌, Some, inl, inr, false}
-use Rattle.std.proofs.Common.{sym, ◌∙◌, ap, subst, arith, length, get_or}
+use Rattle.std.proofs.Common.{◌≤◌, true, cond, sym, ◌∙◌, ap, subst, arith, length, get_or, take}
+use Rattle.std.specs.Prelude.{◌==◌, count_by, slice_set}
 use Rattle.std.specs.List.{slice_get}
 use Rattle.std.specs.Str.{bytes_eq}
-use Rattle.std.proofs.lemmas.Bool.{cases_lt}
+use Rattle.std.proofs.lemmas.Bool.{cases_eq, cases_lt}
+use Rattle.std.proofs.lemmas.Bool.Decides.{nat_tests}
 use Rattle.std.proofs.lemmas.Nat.{mod_below}
 use Rattle.std.proofs.lemmas.List.{length-map, get_or-map}
+use Rattle.std.proofs.lemmas.List.{length-set, get_or-set_same, get_or-set_other, take_all}
+use Rattle.std.proofs.lemmas.List.Sums.{count_by_more_yes, count_by_more_no, sum_by-take-le}
 use Rattle.std.proofs.lemmas.Option.{slice_get_within, get_or_from_slice_get}
 use Rattle.nego_core.proofs.IndexLaws.{NoneBefore, none_here}
 use Rattle.nego_core.specs.Item.{Item}
 use Rattle.nego_core.specs.Fingerprint.{fingerprint_of}
 use Rattle.nego_core.specs.Chains.{IsNextIn}
-use Rattle.nego_core.specs.HashedRanges.{AreBuckets, bucket_numbers, bucket_of}
+use Rattle.nego_core.specs.HashedRanges.{AreBuckets, IsCrowded, bucket_numbers, bucket_of}
 use Rattle.nego_core.specs.declared.chains.Chains.{Chains}
 
 -- ---- the numbers of the buckets
@@ -108,3 +112,80 @@ sought_next items buckets text place next i a low is other e h =
     (get_or buckets.next.items place 0)) (h.stands low)
     (a.1.next_is place (omega arith)
     (let m = as_many_numbers (length items) items in omega arith))))
+
+-- ---- whether a bucket is crowded
+
+-- the numbers of items in the buckets of the first k, none of which has more than the most
+pub record AreLengths (most : ℕ) (numbers : List ℕ) (k : ℕ) (lengths : List ℕ) : Type 0 where
+  pub many : length lengths ≡ length numbers
+  pub each : (b : ℕ) → b < length numbers
+      → get_or lengths b 0 ≡ count_by (λ n. n == b) (take k numbers)
+  pub few : (b : ℕ) → count_by (λ n. n == b) (take k numbers) ≤ most
+
+number_is : (n b : ℕ) → n ≡ b → (n == b) ≡ true
+number_is n b h = grind (arith, nat_tests)
+
+number_differs : (n b : ℕ) → (n ≡ b → ⊥) → (n == b) ≡ false
+number_differs n b h = grind (arith, nat_tests)
+
+counted : (numbers : List ℕ) (k b : ℕ) → k < length numbers → get_or numbers k 0 ≡ b
+    → count_by (λ n. n == b) (take (k + 1) numbers) ≡ count_by (λ n. n == b) (take k numbers) + 1
+counted numbers k b low e =
+    count_by_more_yes (λ n. n == b) numbers k 0 low (number_is (get_or numbers k 0) b e)
+
+not_counted : (numbers : List ℕ) (k b : ℕ) → k < length numbers → (get_or numbers k 0 ≡ b → ⊥)
+    → count_by (λ n. n == b) (take (k + 1) numbers) ≡ count_by (λ n. n == b) (take k numbers)
+not_counted numbers k b low e =
+    count_by_more_no (λ n. n == b) numbers k 0 low (number_differs (get_or numbers k 0) b e)
+
+-- With one more in the bucket of the next number, which is no more than the most, the lengths are
+-- those of one number more.
+pub one_more : (most : ℕ) (numbers lengths : List ℕ) (k number longer : ℕ) → k < length numbers
+    → number ≡ get_or numbers k 0 → number < length numbers
+    → longer ≡ get_or lengths number 0 + 1 → longer ≤ most → AreLengths most numbers k lengths
+    → AreLengths most numbers (k + 1) (slice_set lengths number longer)
+one_more most numbers lengths k number longer low is small e most_ok h = record {
+  many = length-set lengths number longer ∙ h.many;
+  each = λ b lt. elim (cases_eq b number) [
+    | inl same ↦
+        (let here = get_or-set_same lengths number longer 0 (let m = h.many in omega arith) in
+        let one = counted numbers k number low (sym is) in
+        let old = h.each number small in
+        subst (λ (n : ℕ). get_or (slice_set lengths number longer) n 0
+        ≡ count_by (λ m. m == n) (take (k + 1) numbers)) (sym same) (omega arith))
+    | inr other ↦
+        get_or-set_other lengths number b longer 0 other
+        ∙ (h.each b lt ∙ sym (not_counted numbers k b low (λ f. other (sym f ∙ sym is))))
+  ];
+  few = λ b. elim (cases_eq b number) [
+    | inl same ↦
+        (let one = counted numbers k number low (sym is) in
+        let old = h.each number small in
+        subst (λ (n : ℕ). count_by (λ m. m == n) (take (k + 1) numbers) ≤ most) (sym same)
+        (omega arith))
+    | inr other ↦
+        (let none = not_counted numbers k b low (λ f. other (sym f ∙ sym is)) in
+        let old = h.few b in omega arith)
+  ];
+}
+
+-- A bucket with more than the most is one of all numbers.
+pub crowded : (most : ℕ) (numbers lengths : List ℕ) (k number longer : ℕ) → k < length numbers
+    → number ≡ get_or numbers k 0 → number < length numbers
+    → longer ≡ get_or lengths number 0 + 1 → most < longer → AreLengths most numbers k lengths
+    → IsCrowded most numbers
+crowded most numbers lengths k number longer low is small e more h =
+    let one = counted numbers k number low (sym is) in
+    let old = h.each number small in
+    let whole = sum_by-take-le (λ n. cond (n == number) 1 0) numbers (k + 1) in
+    (number, omega arith)
+
+-- Where no bucket of all numbers has more than the most, none is crowded.
+pub not_crowded : (most : ℕ) (numbers lengths : List ℕ) (k : ℕ) → length numbers ≤ k
+    → AreLengths most numbers k lengths → IsCrowded most numbers → ⊥
+not_crowded most numbers lengths k end h c =
+    let few = h.few c.0 in
+    let all : take k numbers ≡ numbers = take_all k numbers end in
+    let few_of_all = subst (λ (list : List ℕ). count_by (λ n. n == c.0) list ≤ most) all few in
+    let more = c.1 in
+    omega arith

@@ -1,6 +1,6 @@
 -- A set of languages and its table.
 use Rattle.std.proofs.Common.{ℕ, ◌≡◌, List, [], ◌∷◌, Bool, true, false, inl, inr, refl, sym, ◌∙◌}
-use Rattle.std.proofs.Common.{ap, arith, subst}
+use Rattle.std.proofs.Common.{◌⊎◌, ap, arith, get_or, length, subst}
 use Rattle.std.specs.Prelude.{Contains, slice_index_or}
 use Rattle.std.specs.Str.{bytes_eq}
 use Rattle.std.proofs.lemmas.Bool.{cases_Bool}
@@ -43,3 +43,12 @@ absent langs slots text n t e f = elim (cases_Bool (is_among langs text)) [
       ∙ t.set text (among_contains langs text h))))
   | inr h ↦ sym h
 ]
+
+-- ---- while the table is made
+
+-- the numbers of the texts so far are set
+pub record IsTableSoFar (number : List ℕ → ℕ) (size : ℕ) (list left : List (List ℕ))
+    (table : List Bool) : Type 0 where
+  pub full : length table ≡ size
+  pub set : (s : List ℕ) → Contains list s
+      → Contains left s ⊎ (get_or table (number s) false ≡ true)

@@ -15,7 +15,6 @@ pub mod MostSpecificLaws
 pub mod OrderedTextLaws
 pub mod IndexLaws
 pub mod HashedRangesLemmas
-pub mod TableLaws
 pub mod FirstByteLaws
 pub mod DecidingLaws
 pub mod ChainsLaws

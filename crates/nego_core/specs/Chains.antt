@@ -1,25 +1,37 @@
-use Rattle.std.specs.Prelude.{ℕ, ◌≡◌, ◌≢◌, ◌≤◌, ◌<◌, ◌+◌, ◌%◌, ◌⊎◌, Bool, true, false, List}
-use Rattle.std.specs.Prelude.{length, Some, Contains, slice_index, slice_index_or}
+use Rattle.std.specs.Prelude.{ℕ, ◌≡◌, ◌≢◌, ◌≤◌, ◌<◌, ◌+◌, ◌%◌, ◌⊎◌, false, List}
+use Rattle.std.specs.Prelude.{length, Some, AllPairs, Contains, slice_index}
 use Rattle.std.specs.List.{slice_get}
 use Rattle.lang_core.specs.Text.{pieces}
 use Rattle.lang_core.specs.Grammar.{is_star}
 use Rattle.nego_core.specs.Item.{Item}
 use Rattle.nego_core.specs.Fingerprint.{fingerprint_of}
 use Rattle.nego_core.specs.declared.chains.Chains.{Chains}
+use Rattle.nego_core.specs.declared.chains.TheConstants.{LAST_CHAIN, CHAIN_COUNT}
 
--- the chain of a subtag, below 8,192
+-- the chain of a subtag, one of those before the last
 abbrev pub chain_of : List ℕ → ℕ
-chain_of subtag = fingerprint_of subtag % 8192
+chain_of subtag = fingerprint_of subtag % LAST_CHAIN
+
+-- the chain of one of these subtags
+abbrev pub IsChainOfOne : List (List ℕ) → ℕ → Type 0
+IsChainOfOne subtags chain = (s : List ℕ) × Contains subtags s × (chain_of s ≡ chain)
+
+-- the chains of these subtags, each once
+pub record AreChainsOf (subtags : List (List ℕ)) (chains : List ℕ) : Type 0 where
+  pub each : (s : List ℕ) → Contains subtags s → Contains chains (chain_of s)
+  pub only : (c : ℕ) → Contains chains c → IsChainOfOne subtags c
+  pub once : AllPairs ◌≢◌ chains
 
 -- A range may stand in the chain of each of its subtags other than "*", and in the last one.
 abbrev pub MayStandIn : List (List ℕ) → ℕ → Type 0
 MayStandIn range chain =
-    (chain ≡ 8192) ⊎ ((s : List ℕ) × Contains range s × (is_star s ≡ false) × (chain_of s ≡ chain))
+    (chain ≡ LAST_CHAIN)
+    ⊎ ((s : List ℕ) × Contains range s × (is_star s ≡ false) × (chain_of s ≡ chain))
 
 -- a chain in which the range at each of the first n places may stand
 pub record AreNumbers (items : List Item) (n : ℕ) (numbers : List ℕ) : Type 0 where
   pub as_many : length numbers ≡ n
-  pub within : (k : ℕ) → k < n → slice_index numbers k < 8193
+  pub within : (k : ℕ) → k < n → slice_index numbers k < CHAIN_COUNT
   pub may : (k : ℕ) (i : Item) → k < n → slice_get items k ≡ Some i
       → MayStandIn (pieces i.range) (slice_index numbers k)
 
@@ -47,7 +59,7 @@ AreLinks many numbers chains = AreLinksFrom many numbers 0 chains.first.items ch
 -- the items stand in chains of these numbers
 pub record AreLinked (items : List Item) (numbers : List ℕ) (chains : Chains) : Type 0 where
   pub numbers_ok : AreNumbers items (length items) numbers
-  pub links_ok : AreLinks 8193 numbers chains
+  pub links_ok : AreLinks CHAIN_COUNT numbers chains
 
 -- each item stands in a chain in which its range may stand
 abbrev pub AreChains : List Item → Chains → Type 0
@@ -57,7 +69,7 @@ AreChains items chains = (numbers : List ℕ) × AreLinked items numbers chains
 abbrev pub StandsIn : List ℕ → ℕ → ℕ → Type 0
 StandsIn numbers chain place = slice_index numbers place ≡ chain
 
--- the item at the place stands in a chain that the table has, or in the last one
-abbrev pub StandsAmong : List ℕ → List Bool → ℕ → Type 0
-StandsAmong numbers table place =
-    StandsIn numbers 8192 place ⊎ (slice_index_or table (slice_index numbers place) false ≡ true)
+-- the item at the place stands in one of these chains, or in the last one
+abbrev pub StandsAmong : List ℕ → List ℕ → ℕ → Type 0
+StandsAmong numbers chains place =
+    StandsIn numbers LAST_CHAIN place ⊎ Contains chains (slice_index numbers place)

@@ -6,17 +6,24 @@ ghost use Rattle.std.specs.Prelude.{ℕ, ◌≡◌, ◌<◌, length, slice_index
 ghost use Rattle.lang_core.specs.Text.{pieces};
 ghost use Rattle.nego_core.specs.Fingerprint.{fingerprint_of};
 ghost use Rattle.nego_core.specs.Chains.{chain_of, MayStandIn, AreNumbers, AreLinks, AreChains};
+ghost use Rattle.nego_core.specs.Chains.{AreChainsOf};
+ghost use Rattle.nego_core.specs.declared.chains.TheConstants.{LAST_CHAIN, CHAIN_COUNT};
 
 use crate::fingerprint::fingerprint_of;
 use crate::item::Item;
-use lang_core::Range;
+use arrayvec::ArrayVec;
+use lang_core::{Range, Tag};
 use std::alloc::{AllocError, Global};
 
 /// How many chains there are for subtags. The last chain, after them, is of the ranges that have
 /// no subtag other than "*".
-pub(crate) const LAST: usize = 8192;
+pub(crate) const LAST_CHAIN: usize = 8192;
 
-const CHAINS: usize = LAST + 1;
+/// How many chains there are, the last one included.
+const CHAIN_COUNT: usize = 8193;
+
+/// The most subtags of a tag: 128 of one byte take 255 with their hyphens.
+const MAX_SUBTAGS: usize = 128;
 
 /// Places in chains, each in rising order. What follows the last of a chain is the number of
 /// places.
@@ -34,22 +41,38 @@ pub(crate) fn chains_of(alloc: Global, items: &[Item]) -> Result<Chains, AllocEr
     ensures { IfOk result (AreChains items.now) }
 {
     let numbers = numbers_of(alloc, items)?;
-    link_chains(alloc, CHAINS, &numbers)
+    link_chains(alloc, CHAIN_COUNT, &numbers)
+}
+
+/// The chains of a tag's subtags, each once.
+pub(crate) fn chains_of_tag(tag: &Tag) -> ArrayVec<usize, MAX_SUBTAGS>
+    ensures { AreChainsOf (pieces tag.now) result.items }
+{
+    let bytes = tag.as_str().len();
+    prove!(bytes <= 255);
+    let mut chains = ArrayVec::new();
+    for subtag in tag.subtags() {
+        let chain = chain_of(subtag);
+        if !chains.contains(&chain) {
+            chains.push(chain);
+        }
+    }
+    chains
 }
 
 /// The chain of a subtag.
-pub(crate) fn chain_of(subtag: &str) -> usize
+fn chain_of(subtag: &str) -> usize
     ensures chain { result ≡ chain_of subtag.now }
-    ensures within { result < 8192 }
+    ensures within { result < LAST_CHAIN }
 {
-    usize::from(fingerprint_of(subtag.as_bytes()) % 8192)
+    usize::from(fingerprint_of(subtag.as_bytes())) % LAST_CHAIN
 }
 
 /// For each item the number of its chain.
 fn numbers_of(alloc: Global, items: &[Item]) -> Result<Vec<usize>, AllocError>
     ensures { IfOk result (λ numbers. AreNumbers items.now (length items.now) numbers.items) }
 {
-    let mut lengths = [0u16; CHAINS];
+    let mut lengths = [0u16; CHAIN_COUNT];
     let mut numbers = Vec::with_capacity(alloc, items.len())?;
     for item in items {
         let number = shortest_for(&lengths, item.range());
@@ -60,15 +83,15 @@ fn numbers_of(alloc: Global, items: &[Item]) -> Result<Vec<usize>, AllocError>
 }
 
 /// The shortest of the chains that the range may go into.
-fn shortest_for(lengths: &[u16; CHAINS], range: &Range) -> usize
+fn shortest_for(lengths: &[u16; CHAIN_COUNT], range: &Range) -> usize
     ensures may { MayStandIn (pieces range.now) result }
-    ensures within { result < 8193 }
+    ensures within { result < CHAIN_COUNT }
 {
-    let mut shortest = LAST;
+    let mut shortest = LAST_CHAIN;
     for subtag in range.subtags() {
         if subtag != "*" {
             let chain = chain_of(subtag);
-            if shortest == LAST || lengths[chain] < lengths[shortest] {
+            if shortest == LAST_CHAIN || lengths[chain] < lengths[shortest] {
                 shortest = chain;
             }
         }

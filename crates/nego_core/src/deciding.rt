@@ -1,24 +1,17 @@
 //! The item that decides a tag: of those whose ranges match, the most specific one, and the first
 //! written among equals.
-ghost use Rattle.std.specs.Prelude.{ℕ, ◌≡◌, ◌<◌, List, IfSome};
+ghost use Rattle.std.specs.Prelude.{ℕ, ◌≡◌, ◌<◌, List};
 ghost use Rattle.lang_core.specs.Text.{pieces};
-ghost use Rattle.lang_core.specs.Matching.{Basic, Extended};
-ghost use Rattle.nego_core.specs.Deciding.{IsBest, IsAny, Matches, MatchesNamed, better_of};
-ghost use Rattle.nego_core.specs.Deciding.{is_above, is_worse};
-ghost use Rattle.nego_core.specs.Index.{IsIndex};
+ghost use Rattle.lang_core.specs.Matching.{Extended};
+ghost use Rattle.nego_core.specs.Deciding.{IsBest, Matches, better_of, is_above, is_worse};
 ghost use Rattle.nego_core.specs.Chains.{AreChains, AreLinked, StandsIn};
+ghost use Rattle.nego_core.specs.declared.chains.TheConstants.{CHAIN_COUNT};
 
-use crate::chains::{Chains, LAST, chain_of};
+use crate::chains::{Chains, LAST_CHAIN, chains_of_tag};
 use crate::fingerprint::first_byte;
-use crate::index::{Index, place_of};
 use crate::item::Item;
 use crate::scheme::Scheme;
 use lang_core::Tag;
-
-const HYPHEN: u8 = b'-';
-
-/// The range that matches every tag.
-const ANY: &[u8] = b"*";
 
 /// The item that decides a tag or a language.
 #[derive(Clone, Copy)]
@@ -50,51 +43,44 @@ pub(crate) fn best_of(items: &[Item], scheme: Scheme, tag: &Tag) -> Option<MostS
     best
 }
 
-/// The best of the items that match under the basic match.
-pub(crate) fn best_basic(items: &[Item], index: Option<&Index>, text: &[u8]) -> Option<MostSpecific>
-    requires { IfSome index (λ index. IsIndex items.now index.now) }
-    ensures { IsBest (λ _ i. Basic (pieces i.range) (pieces text.now)) items.now result }
-{
-    better_of(best_named(items, index, text), best_with(items, index, ANY))
-}
-
 /// The best of the items that match under the extended match. It searches the last chain, and each
 /// chain of the tag's subtags once.
 pub(crate) fn best_extended(items: &[Item], chains: &Chains, tag: &Tag) -> Option<MostSpecific>
     requires { AreChains items.now chains.now }
     ensures { IsBest (λ _ i. Extended (pieces i.range) (pieces tag.now)) items.now result }
 {
-    let mut asked = [false; LAST];
-    let mut best = best_in(items, chains, LAST, tag);
-    for subtag in tag.subtags() {
-        let chain = chain_of(subtag);
-        if !asked[chain] {
-            asked[chain] = true;
-            best = better_of(best, best_in(items, chains, chain, tag));
-        }
+    let mut best = best_in(items, chains, LAST_CHAIN, tag);
+    let asked = chains_of_tag(tag);
+    for chain in asked.as_slice() {
+        best = better_of(best, best_in(items, chains, *chain, tag));
     }
     best
 }
 
-/// Of the items other than "*" that match under the basic match, the best: their ranges are the
-/// text and its prefixes before hyphens (RFC 4647 section 3.3.1).
-pub(crate) fn best_named(items: &[Item], index: Option<&Index>, text: &[u8]) -> Option<MostSpecific>
-    requires { IfSome index (λ index. IsIndex items.now index.now) }
-    ensures { IsBest (λ _ i. MatchesNamed (pieces text.now) i) items.now result }
+/// The better of the two, where there are two.
+pub(crate) fn better_of(
+    best: Option<MostSpecific>,
+    other: Option<MostSpecific>,
+) -> Option<MostSpecific>
+    ensures { result ≡ better_of best other }
 {
-    let mut best = None;
-    for at in 0..text.len() {
-        if text[at] == HYPHEN {
-            best = better_of(best, best_named_with(items, index, &text[..at]));
+    match (best, other) {
+        (None, other) => other,
+        (Some(best), None) => Some(best),
+        (Some(best), Some(other)) => {
+            if is_worse(best, other) {
+                Some(other)
+            } else {
+                Some(best)
+            }
         }
     }
-    better_of(best, best_named_with(items, index, text))
 }
 
 /// The best of the items of one chain that match under the extended match.
 fn best_in(items: &[Item], chains: &Chains, chain: usize, tag: &Tag) -> Option<MostSpecific>
     requires linked { AreChains items.now chains.now }
-    requires within { chain < 8193 }
+    requires within { chain < CHAIN_COUNT }
     ensures { (numbers : List ℕ) → AreLinked items.now numbers chains.now
         → IsBest (λ k i. StandsIn numbers chain k × Extended (pieces i.range) (pieces tag.now))
         items.now result }
@@ -110,49 +96,6 @@ fn best_in(items: &[Item], chains: &Chains, chain: usize, tag: &Tag) -> Option<M
         place = chains.next[place];
     }
     best
-}
-
-/// The first item whose range is the text, unless that is "*".
-fn best_named_with(items: &[Item], index: Option<&Index>, text: &[u8]) -> Option<MostSpecific>
-    requires { IfSome index (λ index. IsIndex items.now index.now) }
-    ensures { IsBest (λ _ i. (¬ IsAny i) × (i.range ≡ text.now)) items.now result }
-{
-    if text == ANY {
-        None
-    } else {
-        best_with(items, index, text)
-    }
-}
-
-/// The first item whose range is the text.
-fn best_with(items: &[Item], index: Option<&Index>, text: &[u8]) -> Option<MostSpecific>
-    requires { IfSome index (λ index. IsIndex items.now index.now) }
-    ensures { IsBest (λ _ i. i.range ≡ text.now) items.now result }
-{
-    match place_of(items, index, text) {
-        Some(place) => Some(MostSpecific {
-            place,
-            specificity: items[place].specificity(),
-        }),
-        None => None,
-    }
-}
-
-/// The better of the two, where there are two.
-fn better_of(best: Option<MostSpecific>, other: Option<MostSpecific>) -> Option<MostSpecific>
-    ensures { result ≡ better_of best other }
-{
-    match (best, other) {
-        (None, other) => other,
-        (Some(best), None) => Some(best),
-        (Some(best), Some(other)) => {
-            if is_worse(best, other) {
-                Some(other)
-            } else {
-                Some(best)
-            }
-        }
-    }
 }
 
 /// Whether `specificity` exceeds the best specificity so far.

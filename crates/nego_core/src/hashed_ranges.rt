@@ -1,8 +1,9 @@
 //! The items of a long list in hash buckets by their ranges' texts, so that a text is compared with
 //! few of them.
-ghost use Rattle.std.specs.Prelude.{ℕ, ◌≡◌, ◌<◌, length, slice_index, IfOk, IfSome};
+ghost use Rattle.std.specs.Prelude.{ℕ, ◌≡◌, ◌<◌, ◌↔◌, length, slice_index, IfOk, IfSome, IsTrue};
 ghost use Rattle.nego_core.specs.Index.{MatchFirst};
-ghost use Rattle.nego_core.specs.HashedRanges.{AreBuckets, bucket_numbers, bucket_of};
+ghost use Rattle.nego_core.specs.HashedRanges.{AreBuckets, IsCrowded, bucket_numbers, bucket_of};
+ghost use Rattle.nego_core.specs.declared.hashed_ranges.TheConstants.{MAX_BUCKET_LEN};
 
 use crate::chains::{Chains, link_chains};
 use crate::fingerprint::fingerprint_of;
@@ -63,16 +64,18 @@ fn bucket_numbers(alloc: Global, items: &[Item]) -> Result<Vec<usize>, AllocErro
     Ok(numbers)
 }
 
-/// Whether some bucket has more than `MAX_BUCKET_LEN` items. No answer of a list depends on it.
+/// Whether some bucket has more than `MAX_BUCKET_LEN` items.
 fn is_crowded(alloc: Global, numbers: &[usize]) -> Result<bool, AllocError>
     requires { (k : ℕ) → k < length numbers.now → slice_index numbers.now k < length numbers.now }
+    ensures { IfOk result (λ crowded. IsTrue crowded ↔ IsCrowded MAX_BUCKET_LEN numbers.now) }
 {
     let mut lengths = Vec::from_elem(alloc, 0u16, numbers.len())?;
     for number in numbers {
-        lengths[*number] = lengths[*number].wrapping_add(1);
-        if lengths[*number] > MAX_BUCKET_LEN {
+        let length = lengths[*number] + 1;
+        if length > MAX_BUCKET_LEN {
             return Ok(true);
         }
+        lengths[*number] = length;
     }
     Ok(false)
 }

@@ -6,7 +6,7 @@ ghost use Rattle.std.specs.Ordering.{is_lt, nat_cmp};
 ghost use Rattle.std.specs.Cmp.Lexicographic.{slice_cmp};
 
 use crate::chains::{Chains, chains_of};
-use crate::hashed_ranges::{buckets_of, place_in};
+use crate::hashed_ranges::buckets_of;
 use crate::item::Item;
 use crate::ordered_text::OrderedText;
 use crate::scheme::Scheme;
@@ -44,31 +44,8 @@ pub(crate) fn index_of(
     }
 }
 
-/// The place of the first item whose range is the text.
-pub(crate) fn place_of(items: &[Item], index: Option<&Index>, text: &[u8]) -> Option<usize>
-    requires { IfSome index (λ index. IsIndex items.now index.now) }
-    ensures { MatchFirst items.now text.now result }
-{
-    match index {
-        Some(Index::Buckets(buckets)) => place_in(items, buckets, text),
-        Some(Index::Ranges(places)) => sought_place(items, places, text),
-        _ => first_place(items, text),
-    }
-}
-
-/// The index of basic ranges: in buckets, or sorted where a bucket would be long.
-fn range_index_of(alloc: Global, items: &[Item]) -> Result<Index, AllocError>
-    requires { 0 < length items.now }
-    ensures { IfOk result (IsIndex items.now) }
-{
-    match buckets_of(alloc, items)? {
-        Some(buckets) => Ok(Index::Buckets(buckets)),
-        None => Ok(Index::Ranges(places_of(alloc, items)?)),
-    }
-}
-
 /// The place of the first item whose range is the text, sought among the places in their order.
-fn sought_place(items: &[Item], places: &[usize], text: &[u8]) -> Option<usize>
+pub(crate) fn sought_place(items: &[Item], places: &[usize], text: &[u8]) -> Option<usize>
     requires { IsRangeIndex items.now places.now }
     ensures { MatchFirst items.now text.now result }
 {
@@ -85,7 +62,7 @@ fn sought_place(items: &[Item], places: &[usize], text: &[u8]) -> Option<usize>
 }
 
 /// The place of the first item whose range is the text, by a scan of all items.
-fn first_place(items: &[Item], text: &[u8]) -> Option<usize>
+pub(crate) fn first_place(items: &[Item], text: &[u8]) -> Option<usize>
     ensures { MatchFirst items.now text.now result }
 {
     for (place, item) in items.iter().enumerate() {
@@ -94,6 +71,17 @@ fn first_place(items: &[Item], text: &[u8]) -> Option<usize>
         }
     }
     None
+}
+
+/// The index of basic ranges: in buckets, or sorted where a bucket would be long.
+fn range_index_of(alloc: Global, items: &[Item]) -> Result<Index, AllocError>
+    requires { 0 < length items.now }
+    ensures { IfOk result (IsIndex items.now) }
+{
+    match buckets_of(alloc, items)? {
+        Some(buckets) => Ok(Index::Buckets(buckets)),
+        None => Ok(Index::Ranges(places_of(alloc, items)?)),
+    }
 }
 
 /// How many of the ranges are below the text.

@@ -39,6 +39,7 @@ mod filtering;
 mod fingerprint;
 mod hashed_ranges;
 mod index;
+mod indexed_items;
 mod item;
 mod lang_set;
 pub mod laws;

@@ -6,7 +6,6 @@ ghost use Rattle.lang_core.specs.Candidates.{candidates};
 ghost use Rattle.nego_core.specs.Deciding.{NamedRefuse};
 ghost use Rattle.nego_core.specs.LookupCandidates.{IsOpen, MatchFirstOf, IsLookedUp, candidates_at};
 
-use crate::deciding::best_named;
 use crate::lang_set::Holds;
 use crate::priority_list::PriorityList;
 use lang_core::Range;
@@ -67,7 +66,7 @@ pub(crate) fn named_refuse(list: &PriorityList, text: &str) -> bool
         return false;
     }
     let items = list.items();
-    match best_named(items, list.index(), text.as_bytes()) {
+    match list.indexed_items().best_named(text.as_bytes()) {
         Some(best) => items[best.place].weight() == 0,
         None => false,
     }

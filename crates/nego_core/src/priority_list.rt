@@ -7,7 +7,7 @@ ghost use Rattle.std.specs.Cmp.Lexicographic.{pointwise, lists_equiv};
 ghost use Rattle.lang_core.specs.Text.{pieces};
 ghost use Rattle.nego_core.specs.Item.{item_eq, item_equiv};
 ghost use Rattle.nego_core.specs.Basics.{IsTheOne};
-ghost use Rattle.nego_core.specs.Deciding.{IsBest, Matches, IsDeciding, IsDecidedBy};
+ghost use Rattle.nego_core.specs.Deciding.{IsDeciding, IsDecidedBy};
 ghost use Rattle.nego_core.specs.Deciding.{IsDecidingWeight, DecidesLang};
 ghost use Rattle.nego_core.specs.LookupOrder.{AreOrderKeys};
 ghost use Rattle.nego_core.specs.Unweighted.{AllPositive};
@@ -18,10 +18,11 @@ ghost use Rattle.nego_core.specs.declared.scheme.Scheme.TheVariants.{Basic, Exte
 ghost use Rattle.nego_core.specs.declared.field.Malformed.TheVariants.{Refused};
 ghost use Rattle.nego_core.specs.declared.fault.NegoFault.TheVariants.{NoMemory};
 
-use crate::deciding::{Decision, MostSpecific, best_basic, best_extended, best_of};
+use crate::deciding::Decision;
 use crate::fault::NegoFault;
 use crate::field::{Malformed, read_items};
 use crate::index::{Index, index_of};
+use crate::indexed_items::IndexedItems;
 use crate::item::Item;
 use crate::lookup_order::{OrderKey, order_of};
 use crate::scheme::Scheme;
@@ -126,11 +127,11 @@ impl PriorityList {
         &self.order
     }
 
-    /// What makes questions fast, where the items are many.
-    pub(crate) fn index(&self) -> Option<&Index>
-        ensures { IfSome result (λ index. IsIndex self.now index.now) }
+    /// The items with their index.
+    pub(crate) fn indexed_items(&self) -> IndexedItems<'_>
+        ensures { result ≡ self.now }
     {
-        self.index.as_ref()
+        IndexedItems::new(&self.items, self.index.as_ref())
     }
 
     /// Whether an item may have weight 0, and so refuse what it decides.
@@ -140,44 +141,13 @@ impl PriorityList {
         self.may_refuse
     }
 
-    /// The best of the items that match the tag, by the index where there is one for the scheme.
-    fn best(&self, scheme: Scheme, tag: &Tag) -> Option<MostSpecific>
-        ensures { IsBest (λ _ i. Matches scheme (pieces i.range) (pieces tag.now)) self.now result }
-    {
-        match (scheme, &self.index) {
-            (Scheme::Extended, Some(Index::Chains(chains))) => {
-                best_extended(&self.items, chains, tag)
-            }
-            (Scheme::Basic, Some(Index::Buckets(_) | Index::Ranges(_))) => {
-                best_basic(&self.items, self.index(), tag.as_str().as_bytes())
-            }
-            _ => best_of(&self.items, scheme, tag),
-        }
-    }
-
     /// The place of the item that decides the tag: of those whose ranges match, the one with the
     /// most subtags other than "*", the first written among equals.
     pub fn item_for(&self, scheme: Scheme, tag: &Tag) -> Option<usize>
         ensures { IsTheOne result (IsDeciding scheme self.now (pieces tag.now)) }
     {
-        match self.best(scheme, tag) {
-            Some(best) => Some(best.place),
-            None => None,
-        }
-    }
-
-    /// The item that decides the tag, and its weight.
-    fn decision(&self, scheme: Scheme, tag: &Tag) -> Option<Decision>
-        ensures decides { MatchOption result
-            ((place : ℕ) → ¬ IsDeciding scheme self.now (pieces tag.now) place)
-            (λ d. IsDecidedBy scheme self.now (pieces tag.now) d.place d.weight) }
-        ensures small { IfSome result (λ d. d.weight ≤ 1000) }
-    {
-        match self.item_for(scheme, tag) {
-            Some(place) => Some(Decision {
-                place,
-                weight: self.items[place].weight(),
-            }),
+        match self.decide(scheme, tag) {
+            Some(decision) => Some(decision.place),
             None => None,
         }
     }
@@ -186,7 +156,7 @@ impl PriorityList {
     pub fn weight_for(&self, scheme: Scheme, tag: &Tag) -> Option<u16>
         ensures { IsTheOne result (IsDecidingWeight scheme self.now (pieces tag.now)) }
     {
-        match self.decision(scheme, tag) {
+        match self.decide(scheme, tag) {
             Some(decision) => Some(decision.weight),
             None => None,
         }
@@ -200,7 +170,23 @@ impl PriorityList {
         ensures small { IfSome result (λ d. d.weight ≤ 1000) }
     {
         match lang.tag() {
-            Some(tag) => self.decision(scheme, tag),
+            Some(tag) => self.decide(scheme, tag),
+            None => None,
+        }
+    }
+
+    /// The item that decides the tag, and its weight.
+    fn decide(&self, scheme: Scheme, tag: &Tag) -> Option<Decision>
+        ensures decides { MatchOption result
+            ((place : ℕ) → ¬ IsDeciding scheme self.now (pieces tag.now) place)
+            (λ d. IsDecidedBy scheme self.now (pieces tag.now) d.place d.weight) }
+        ensures small { IfSome result (λ d. d.weight ≤ 1000) }
+    {
+        match self.indexed_items().best(scheme, tag) {
+            Some(best) => Some(Decision {
+                place: best.place,
+                weight: self.items[best.place].weight(),
+            }),
             None => None,
         }
     }
