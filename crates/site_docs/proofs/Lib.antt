@@ -2,10 +2,9 @@ pub mod DocumentsLemmas
 pub mod EnvelopeLemmas
 pub mod OldDocumentsLemmas
 pub mod OneDocument
-pub mod PiecesLemmas
 pub mod PlainLemmas
 pub mod PlainReads
 pub mod RoundTrip
 pub mod SiteDocumentsLemmas
-pub mod StringsLemmas
+pub mod TextsLemmas
 pub mod WrittenDocuments

@@ -5,24 +5,23 @@ use Rattle.std.proofs.lemmas.List.{map-append}
 use Rattle.std.proofs.lemmas.List.Elements.{All-nil}
 use Rattle.std.specs.Prelude.{IfSome, IsUtf8, None, Option, Some, get_or}
 use Rattle.std.specs.declared.cmp.Ordering.TheVariants.{Less}
-use Rattle.json.specs.Print.{quoted}
+use Rattle.json.specs.Print.{escape, quoted}
 use Rattle.serde_json.specs.Data.{Data, array, string}
 use Rattle.serde_json.specs.View.{items_of}
 use Rattle.serde_json.specs.Written.{comma_if, compact_text, items_text}
 use Rattle.cell_core.specs.SiteNames.{IsSiteName}
-use Rattle.cell_core.specs.declared.stamp.Stamp.{Stamp}
-use Rattle.cata_core.specs.Entries.{Entries, Entry, EntryKey, IsAboveAll, key_cmp, key_cmp_total}
+use Rattle.cata_core.specs.Entries.{Entries, Entry, IsAboveAll, key_cmp, key_cmp_total}
 use Rattle.cata_core.proofs.Behind.{IsMap-behind}
 use Rattle.row_docs.specs.Entries.{cells_values, entry_value}
-use Rattle.row_docs.specs.Fields.{IsLabelText, stamp_of}
 use Rattle.row_docs.specs.Kinds.{kind_text, subject_of}
-use Rattle.site_docs.specs.Plain.{IsEnd, IsLastOf, IsPlainText, IsTextOf, cells_document}
-use Rattle.site_docs.specs.Plain.{is_later, last_members}
-use Rattle.site_docs.specs.Plain.{open_items, row_before, rows_text}
-use Rattle.row_docs.specs.Valid.{AreKeptCells, IsKept, IsKeptCell}
+use Rattle.site_docs.specs.Plain.{IsEnd, IsPlainText, IsTextOf, cells_document}
+use Rattle.site_docs.specs.Plain.{is_later, last_members, open_items, rows_text}
+use Rattle.site_docs.specs.PlainRows.{IsLastOf, row_before}
+use Rattle.row_docs.specs.Valid.{AreKeptCells, IsKeptCell}
 use Rattle.row_docs.specs.Values.{Row, cell_value, label_value}
 use Rattle.row_docs.specs.declared.kind.Kind.{Kind}
 use Rattle.site_docs.proofs.DocumentsLemmas.{kept_more}
+use Rattle.site_docs.proofs.TextsLemmas.{quotes_taken}
 
 -- ---- arrays
 
@@ -101,60 +100,30 @@ texts_later old new t is = ap is_later is ∙ is_later-push old t
 
 -- ---- rows
 
--- a row is its front, its label and its bracket
-row_taken : (row : Row) (label : Option (List (List ℕ))) (text rest left after : List ℕ)
-    → text ≡ row_before row rest → rest ≡ compact_text (label_value label) ++ left
-    → left ≡ 93 ∷ after
+-- what a row has before its label, one after another
+pub front_taken : (row : Row) (text r1 r2 r3 r4 r5 after : List ℕ) → text ≡ 91 ∷ 34 ∷ r1
+    → r1 ≡ escape row.id ++ 34 ∷ 44 ∷ 34 ∷ r2 → r2 ≡ escape row.language ++ 34 ∷ 44 ∷ r3
+    → r3 ≡ decimal row.time ++ 44 ∷ 34 ∷ r4 → r4 ≡ escape row.site ++ 34 ∷ 44 ∷ r5
+    → r5 ≡ decimal row.count ++ 44 ∷ after
+    → text ≡ row_before row after
+front_taken row text r1 r2 r3 r4 r5 after p1 p2 p3 p4 p5 p6 =
+    p1 ∙ ap (λ r. 91 ∷ r)
+    (ap (λ r. 34 ∷ r) p2 ∙ quotes_taken row.id (44 ∷ 34 ∷ r2)
+    ∙ ap (λ r. quoted row.id ++ 44 ∷ r)
+    (ap (λ r. 34 ∷ r) p3 ∙ quotes_taken row.language (44 ∷ r3)
+    ∙ ap (λ r. quoted row.language ++ 44 ∷ r)
+    (p4 ∙ ap (λ r. decimal row.time ++ 44 ∷ r)
+    (ap (λ r. 34 ∷ r) p5 ∙ quotes_taken row.site (44 ∷ r5)
+    ∙ ap (λ r. quoted row.site ++ 44 ∷ r) p6))))
+
+-- a row is what it has before its label, its label and its bracket
+pub row_taken : (row : Row) (label : Option (List (List ℕ))) (text rest after : List ℕ)
+    → text ≡ row_before row rest → rest ≡ compact_text (label_value label) ++ 93 ∷ after
     → text ≡ compact_text (cell_value row label) ++ after
-row_taken row label text rest left after first labelled last = first
-    ∙ ap (row_before row) (labelled ∙ ap (λ r. compact_text (label_value label) ++ r) last)
-    ∙ simp append_assoc
-
-abbrev row_by : EntryKey × Stamp → Row
-row_by t = record {
-  id = t.0.0;
-  language = t.0.1;
-  time = t.1.time;
-  site = t.1.site;
-  count =
-      t.1.count;
-}
-
--- the key and the stamp are those of the row, with its language as it is there
-abbrev pub IsKeyedAs : EntryKey → Stamp → Row → Type 0
-IsKeyedAs key stamp row = ◌≡◌ {A = EntryKey × Stamp} (key, stamp)
-    ((row.id, row.language), stamp_of row)
-
--- the entry has this label at the key and the stamp
-abbrev pub IsEntryWith : Entry → EntryKey → Stamp → Option (List (List ℕ)) → Type 0
-IsEntryWith e key stamp label = ◌≡◌ {A = Entry} e (key, record { stamp = stamp; label = label })
-
--- the text of a row is that of its entry
-pub entry_text : (e : Entry) (key : EntryKey) (stamp : Stamp) (row : Row)
-    (label : Option (List (List ℕ))) (text rest left after : List ℕ) → IsKeyedAs key stamp row
-    → IsEntryWith e key stamp label → text ≡ row_before row rest
-    → rest ≡ compact_text (label_value label) ++ left → left ≡ 93 ∷ after
-    → text ≡ compact_text (entry_value e) ++ after
-entry_text e key stamp row label text rest left after keyed is first labelled last =
-    row_taken row label text rest left after first labelled last
-    ∙ sym (ap (λ (x : Entry). compact_text (entry_value x) ++ after) is
-    ∙ ap (λ (t : EntryKey × Stamp). compact_text (cell_value (row_by t) label) ++ after) keyed)
-
--- the parts of the entry are as every catalogue keeps them
-pub entry_kept : (e : Entry) (key : EntryKey) (stamp : Stamp) (row : Row)
-    (label : Option (List (List ℕ))) → IsKeyedAs key stamp row → IsEntryWith e key stamp label
-    → IsKept (row.id, row.language) (stamp_of row) → IsLabelText label → IsKeptCell e
-entry_kept e key stamp row label keyed is kept text =
-    subst IsKeptCell (sym is) (
-      subst (λ (t : EntryKey × Stamp). IsKept t.0 t.1) (sym keyed) kept,
-      text,
-    )
+row_taken row label text rest after front labelled =
+    front ∙ ap (row_before row) labelled ∙ simp append_assoc
 
 -- ---- keys
-
--- any key is above all of none
-pub none_before : IsLastOf None []
-none_before = λ key _. All-nil (λ (x : Entry). key_cmp x.0 key ≡ Less)
 
 -- the key of one entry more is the last
 pub last_taken : (cells : Entries) (e : Entry) → IsAboveAll e.0 cells
@@ -176,6 +145,10 @@ cell_taken old new e text rest after so_far next pushed =
     rw (pushed, map-append entry_value old (e ∷ []))
     (item_taken (cells_values old) (entry_value e) text rest after so_far
     (next ∙ ap (λ b. comma_if b ++ (compact_text (entry_value e) ++ after)) later))
+
+-- no cells are as every catalogue keeps them
+pub none_kept : AreKeptCells []
+none_kept = record { each = All-nil IsKeptCell; map = tt }
 
 -- the cells are as every catalogue keeps them, with one cell more
 pub cells_kept : (old new : Entries) (e : Entry) → AreKeptCells old → IsKeptCell e

@@ -1,23 +1,20 @@
 -- Documents in the form in which they are written, and texts that begin with a part of one. Own
 -- rule.
 use Rattle.std.specs.Prelude.{◌≡◌, ◌⊎◌, ◌<◌, ◌≤◌, ◌+◌, ◌++◌, ◌∷◌, [], ℕ, List, Bool, true, false}
-use Rattle.std.specs.Prelude.{IsUtf8, Option, codes, decimal, get_or, length, take}
+use Rattle.std.specs.Prelude.{IsUtf8, codes, decimal, get_or, length, take}
 use Rattle.json.specs.Print.{escape_byte, quoted}
+use Rattle.json.specs.Run.{is_stop}
 use Rattle.serde_json.specs.Data.{Data, array, member, no_members, number, object, string}
 use Rattle.serde_json.specs.Data.{unsigned}
 use Rattle.serde_json.specs.View.{items_of}
 use Rattle.serde_json.specs.Written.{comma_if, compact_text}
 use Rattle.cell_core.specs.SiteNames.{IsSiteName}
-use Rattle.cata_core.specs.Entries.{Entries, EntryKey, IsAboveAll}
+use Rattle.cata_core.specs.Entries.{Entries}
 use Rattle.row_docs.specs.Entries.{cells_values}
-use Rattle.row_docs.specs.Fields.{IsAfter}
 use Rattle.row_docs.specs.Kinds.{kind_text, subject_of}
-use Rattle.row_docs.specs.RowsSeen.{row_of}
 use Rattle.row_docs.specs.Texts.{text}
 use Rattle.row_docs.specs.Valid.{AreKeptCells}
-use Rattle.row_docs.specs.Values.{Row}
 use Rattle.row_docs.specs.declared.kind.Kind.{Kind}
-use Rattle.row_docs.specs.declared.shapes.Row.{Row as ReadRow}
 
 -- `{"cells":[..],"kind":KIND,OWN:NAME,"version":2}`
 abbrev pub cells_document : Kind → List ℕ → List Data → Data
@@ -55,21 +52,6 @@ abbrev pub open_items : Bool → List Data → List ℕ
 open_items later [] = []
 open_items later (d ∷ ds) = comma_if later ++ (compact_text d ++ open_items true ds)
 
--- the key of a row, as it is written
-abbrev pub key_in : ReadRow → EntryKey
-key_in row = let plain = row_of row in (plain.id, plain.language)
-
--- a key that is behind the last one is above all these
-abbrev pub IsLastOf : Option EntryKey → Entries → Type 0
-IsLastOf last cells = (key : EntryKey) → IsAfter last key → IsAboveAll key cells
-
--- a row as far as its label, and what comes after
-abbrev pub row_before : Row → List ℕ → List ℕ
-row_before row rest =
-    91 ∷ (quoted row.id ++ 44 ∷
-    (quoted row.language ++ 44 ∷
-    (decimal row.time ++ 44 ∷ (quoted row.site ++ 44 ∷ (decimal row.count ++ 44 ∷ rest)))))
-
 -- the brace that ends a document, with the line feed or without
 abbrev pub IsEnd : List ℕ → Type 0
 IsEnd end = (end ≡ 125 ∷ 10 ∷ []) ⊎ (end ≡ 125 ∷ [])
@@ -87,6 +69,16 @@ last_members kind subject name end =
 -- the text begins with the escape of this byte, which is ASCII, and goes on with the rest
 abbrev pub IsEscaped : ℕ → List ℕ → List ℕ → Type 0
 IsEscaped byte text rest = (text ≡ escape_byte byte ++ rest) × (byte < 128)
+
+-- no byte before this place ends a string or is escaped in it
+abbrev pub IsPlainBefore : List ℕ → ℕ → Type 0
+IsPlainBefore bytes place = (k : ℕ) → k < place → is_stop (get_or bytes k 0) ≡ false
+
+-- the first byte that ends a string or is escaped in it is at this place
+pub record IsFirstStop (bytes : List ℕ) (place : ℕ) : Type 0 where
+  pub within : place < length bytes
+  pub stops : is_stop (get_or bytes place 0) ≡ true
+  pub before : IsPlainBefore bytes place
 
 -- ---- numbers
 

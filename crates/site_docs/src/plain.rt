@@ -3,7 +3,6 @@
 
 pub(crate) mod documents;
 pub(crate) mod labels;
-pub(crate) mod pieces;
 pub(crate) mod rows;
-pub(crate) mod strings;
 pub(crate) mod taking;
+pub(crate) mod texts;

@@ -8,9 +8,9 @@ ghost use Rattle.row_docs.specs.Kinds.{kind_text, subject_of};
 ghost use Rattle.site_docs.specs.Plain.{IsEnd, IsPlainText, last_members};
 ghost use Rattle.site_docs.specs.ReadsAs.{ReadsAsSite};
 
-use crate::plain::pieces::{after, after_text, number_after, text_after};
 use crate::plain::rows::next_cells;
 use crate::plain::taking::TakeCells;
+use crate::plain::texts::{after, after_text, number_before, text_after};
 use cata_core::Catalogue;
 use cell_core::SiteName;
 use json_docs::text_in;
@@ -96,7 +96,7 @@ fn last_name(text: &str, kind: Kind) -> Option<SiteName>
 fn is_version(text: &str) -> bool
     ensures { IsTrue result → (end : List ℕ) × IsEnd end × (text.now ≡ decimal 2 ++ end) }
 {
-    match number_after(text, "") {
+    match number_before(text, "") {
         Some((2, rest)) => is_end(rest),
         _ => false,
     }

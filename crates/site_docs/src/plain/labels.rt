@@ -6,8 +6,7 @@ ghost use Rattle.cell_core.specs.Labels.{IsLabel};
 ghost use Rattle.row_docs.specs.Fields.{IsLabelText};
 ghost use Rattle.row_docs.specs.Values.{label_value, texts_value};
 
-use crate::plain::pieces::after;
-use crate::plain::strings::string_after;
+use crate::plain::texts::{after, copy_of, string_after, text_before};
 use cell_core::Label;
 use std::alloc::Global;
 
@@ -25,6 +24,30 @@ pub(crate) fn next_label(alloc: Global, text: &str) -> Option<(Option<Label>, &s
 
 /// The label whose array the text begins with.
 fn array_label(alloc: Global, text: &str) -> Option<(Label, &str)>
+    ensures text { IfSome result (λ r. text.now ≡ compact_text (texts_value r.0) ++ r.1.now) }
+    ensures label { IfSome result (λ r. IsLabel r.0) }
+{
+    match only_text(text) {
+        Some((only, rest)) => {
+            let only = copy_of(alloc, only)?;
+            let label = one_text(only)?;
+            Some((label, rest))
+        }
+        None => written_label(alloc, text),
+    }
+}
+
+/// The text of an array of one text without escapes, and what comes after the array.
+fn only_text(text: &str) -> Option<(&str, &str)>
+    ensures { IfSome result
+        (λ r. text.now ≡ compact_text (texts_value (r.0.now ∷ [])) ++ r.1.now) }
+{
+    let rest = after(text, "[\"")?;
+    text_before(rest, "\"]")
+}
+
+/// The label whose array the text begins with, where its texts may have escapes.
+fn written_label(alloc: Global, text: &str) -> Option<(Label, &str)>
     ensures text { IfSome result (λ r. text.now ≡ compact_text (texts_value r.0) ++ r.1.now) }
     ensures label { IfSome result (λ r. IsLabel r.0) }
 {

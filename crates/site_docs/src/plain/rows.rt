@@ -1,20 +1,55 @@
 //! The rows of sites and deltas.
-ghost use Rattle.std.specs.Prelude.{◌≡◌, ◌++◌, ◌∷◌, [], IfSome, IsTrue, is_some, option_map};
-ghost use Rattle.serde_json.specs.Written.{comma_if, compact_text};
+ghost use Rattle.std.specs.Prelude.{◌≡◌, ◌++◌, ◌∷◌, [], List, ℕ, IfSome, IsTrue, Option, Some};
+ghost use Rattle.serde_json.specs.Written.{compact_text};
+ghost use Rattle.cell_core.specs.MessageIds.{IsMessageId};
+ghost use Rattle.cell_core.specs.SiteNames.{IsSiteName};
+ghost use Rattle.lang_core.specs.Lang.{IsLang};
 ghost use Rattle.cata_core.specs.Entries.{Entries, Entry, IsAboveAll};
 ghost use Rattle.row_docs.specs.Entries.{entry_value};
-ghost use Rattle.row_docs.specs.EntriesSeen.{entry_by, stamped_by};
-ghost use Rattle.row_docs.specs.Fields.{IsAfter, stamp_of};
-ghost use Rattle.site_docs.specs.Plain.{IsLastOf, key_in, row_before, rows_text};
-ghost use Rattle.row_docs.specs.RowsSeen.{row_of};
-ghost use Rattle.row_docs.specs.Valid.{AreKeptCells, IsKept, IsKeptCell};
+ghost use Rattle.row_docs.specs.EntriesSeen.{entry_by};
+ghost use Rattle.row_docs.specs.Fields.{IsAfter, IsLabelText};
+ghost use Rattle.row_docs.specs.Valid.{AreKeptCells, IsKeptCell};
+ghost use Rattle.row_docs.specs.Values.{label_value};
+ghost use Rattle.site_docs.specs.Plain.{rows_text};
+ghost use Rattle.site_docs.specs.PlainRows.{IsLastOf, IsSpelled, entry_in, key_in, row_before};
+ghost use Rattle.site_docs.specs.PlainRows.{row_in};
 
 use crate::plain::labels::next_label;
-use crate::plain::pieces::{after, number_after, text_after};
 use crate::plain::taking::TakeCells;
-use cell_core::{Cell, Label};
-use row_docs::{CellEntry, Row, SiteText, StampEntry, stamp_entry};
+use crate::plain::texts::{after, number_before, text_before};
+use cell_core::{Cell, Key, Label, MessageId, SiteName, Stamp};
+use lang_core::Lang;
+use row_docs::CellEntry;
 use std::alloc::Global;
+use std::cmp::Ordering;
+
+/// What a row has before its label, as it is written.
+#[derive(Clone, Copy)]
+struct Front<'t> {
+    /// The id of the message.
+    id: &'t str,
+    /// The language.
+    language: &'t str,
+    /// The time of the stamp.
+    time: u64,
+    /// The site of the stamp.
+    site: &'t str,
+    /// The count of the stamp.
+    count: u32,
+}
+
+/// A row without its label, and what its texts spell.
+#[derive(Drop)]
+struct Spelled<'t> {
+    /// The row, as it is written.
+    front: Front<'t>,
+    /// The message.
+    id: MessageId,
+    /// The language.
+    lang: Lang,
+    /// The site of the stamp.
+    site: SiteName,
+}
 
 /// Gives the cells of the array of rows that the text begins with to the taker, and answers what
 /// comes after it. The keys rise.
@@ -27,136 +62,251 @@ pub(crate) fn next_cells<'t, T: TakeCells>(
     ensures { IfSome result (λ rest. (cells : Entries) × (text.now ≡ rows_text cells ++ rest.now)
         × AreKeptCells cells × T.Holds taker.old taker.new cells) }
 {
-    let mut rest = after(text, "[")?;
-    let mut last = None;
-    while !rest.starts_with("]") {
-        let Some((row, left)) = next_cell(alloc, rest, last, taker) else {
+    match after(text, "[]") {
+        Some(rest) => Some(rest),
+        None => some_cells(alloc, text, taker),
+    }
+}
+
+/// Gives the cells of the array of one row or more to the taker, and answers what comes after it.
+fn some_cells<'t, T: TakeCells>(alloc: Global, text: &'t str, taker: &mut T) -> Option<&'t str>
+    requires { T.Holds taker.old taker.old [] }
+    ensures { IfSome result (λ rest. (cells : Entries) × (text.now ≡ rows_text cells ++ rest.now)
+        × AreKeptCells cells × T.Holds taker.old taker.new cells) }
+{
+    let rest = after(text, "[")?;
+    let (mut last, mut rest) = first_cell(alloc, rest, taker)?;
+    while let Some(row) = after(rest, ",") {
+        let Some(left) = next_cell(alloc, row, &mut last, taker) else {
             return None;
         };
-        last = Some(row);
         rest = left;
     }
     let rest = after(rest, "]")?;
     Some(rest)
 }
 
+/// Gives the cell of the first row to the taker.
+fn first_cell<'t, T: TakeCells>(
+    alloc: Global,
+    text: &'t str,
+    taker: &mut T,
+) -> Option<(Spelled<'t>, &'t str)>
+    requires { T.Holds taker.old taker.old [] }
+    ensures { IfSome result (λ r. (e : Entry) × (e.0 ≡ key_in r.0.front) × IsKeptCell e
+        × IsSpelled r.0 × (text.now ≡ compact_text (entry_value e) ++ r.1.now)
+        × T.Holds taker.old taker.new (e ∷ [])) }
+{
+    let (front, rest) = next_front(text)?;
+    let spelled = Spelled::new(alloc, front)?;
+    let rest = give_cell(alloc, rest, &spelled, taker)?;
+    Some((spelled, rest))
+}
+
 /// Gives the cell of the row after the last one to the taker, where its key is greater.
 fn next_cell<'t, T: TakeCells>(
     alloc: Global,
     text: &'t str,
-    last: Option<Row<'t>>,
+    last: &mut Spelled<'t>,
     taker: &mut T,
-) -> Option<(Row<'t>, &'t str)>
-    requires { (first : T) × (before : Entries) × T.Holds first taker.old before
-        × IsLastOf (option_map key_in last) before }
-    ensures { IfSome result (λ r. (e : Entry) × (e.0 ≡ key_in r.0) × IsKeptCell e
-        × IsAfter (option_map key_in last.entry) e.0
-        × (text.now ≡ comma_if (is_some last.entry) ++ (compact_text (entry_value e) ++ r.1.now))
+) -> Option<&'t str>
+    requires spelled { IsSpelled last.old }
+    requires holds { (first : T) × (before : Entries) × T.Holds first taker.old before
+        × IsLastOf (Some (key_in last.old.front)) before }
+    ensures { IfSome result (λ rest. (e : Entry) × (e.0 ≡ key_in last.new.front) × IsKeptCell e
+        × IsSpelled last.new × IsAfter (Some (key_in last.old.front)) e.0
+        × (text.now ≡ compact_text (entry_value e) ++ rest.now)
         × ((first : T) → (before : Entries) → T.Holds first taker.old before
         → IsAboveAll e.0 before → T.Holds first taker.new (before ++ e ∷ []))) }
 {
-    let (row, entry, rest) = next_item(alloc, text, last)?;
-    if !is_behind(last, row) {
-        return None;
-    }
+    let (front, rest) = next_front(text)?;
+    last.follow(alloc, front)?;
+    let rest = give_cell(alloc, rest, last, taker)?;
+    Some(rest)
+}
+
+/// Gives the cell of this row to the taker, with the label that the text begins with.
+fn give_cell<'t, T: TakeCells>(
+    alloc: Global,
+    text: &'t str,
+    row: &Spelled<'_>,
+    taker: &mut T,
+) -> Option<&'t str>
+    requires spelled { IsSpelled row.now }
+    requires holds { (first : T) × (before : Entries) × T.Holds first taker.old before
+        × IsAboveAll (key_in row.now.front) before }
+    ensures { IfSome result (λ rest. (label : Option (List (List ℕ)))
+        × IsKeptCell (entry_in row.now.front label)
+        × (text.now ≡ compact_text (label_value label) ++ 93 ∷ rest.now)
+        × ((first : T) → (before : Entries) → T.Holds first taker.old before
+        → IsAboveAll (key_in row.now.front) before
+        → T.Holds first taker.new (before ++ entry_in row.now.front label ∷ []))) }
+{
+    let (label, rest) = next_label(alloc, text)?;
+    let rest = after(rest, "]")?;
+    let entry = row.entry(alloc, label)?;
     match taker.take(alloc, entry) {
-        Ok(()) => Some((row, rest)),
+        Ok(()) => Some(rest),
         Err(_) => None,
     }
 }
 
-/// Whether the key of the row is greater than that of the last one.
-fn is_behind(last: Option<Row<'_>>, row: Row<'_>) -> bool
-    ensures { IsTrue result → IsAfter (option_map key_in last.entry) (key_in row.entry) }
-{
-    match last {
-        Some(last) => {
-            let ids = last.id.cmp(row.id);
-            ids.then(last.language.cmp(row.language)).is_lt()
-        }
-        None => true,
-    }
-}
-
-/// The row after the last one, with a comma before it where it is not the first.
-fn next_item<'t>(
-    alloc: Global,
-    text: &'t str,
-    last: Option<Row<'t>>,
-) -> Option<(Row<'t>, CellEntry, &'t str)>
-    ensures text { IfSome result
-        (λ r. text.now ≡ comma_if (is_some last.entry)
-        ++ (compact_text (entry_value (entry_by r.1)) ++ r.2.now)) }
-    ensures kept { IfSome result (λ r. IsKeptCell (entry_by r.1)) }
-    ensures key { IfSome result (λ r. (entry_by r.1).0 ≡ key_in r.0) }
-{
-    if last.is_none() {
-        return next_entry(alloc, text);
-    }
-    let rest = after(text, ",")?;
-    next_entry(alloc, rest)
-}
-
-/// The row that the text begins with, and its entry.
-fn next_entry(alloc: Global, text: &str) -> Option<(Row<'_>, CellEntry, &str)>
-    ensures text { IfSome result
-        (λ r. text.now ≡ compact_text (entry_value (entry_by r.1)) ++ r.2.now) }
-    ensures kept { IfSome result (λ r. IsKeptCell (entry_by r.1)) }
-    ensures key { IfSome result (λ r. (entry_by r.1).0 ≡ key_in r.0) }
-{
-    let (row, rest) = next_row(text)?;
-    let stamped = lower_entry(alloc, row)?;
-    let (label, rest) = next_label(alloc, rest)?;
-    let rest = after(rest, "]")?;
-    Some((row, with_label(stamped, label), rest))
-}
-
-/// The entry of this key and this stamp that has this label.
-fn with_label(stamped: StampEntry, label: Option<Label>) -> CellEntry
-    ensures { entry_by result
-        ≡ ((stamped.id, stamped.lang), record { stamp = stamped.stamp; label = label }) }
-{
-    let StampEntry { id, lang, stamp } = stamped;
-    let cell = Cell::new(stamp, label);
-    CellEntry { id, lang, cell }
-}
-
 /// What a row begins with, up to and including the comma after its count.
-fn next_row(text: &str) -> Option<(Row<'_>, &str)>
-    ensures { IfSome result (λ r. text.now ≡ row_before (row_of r.0) r.1.now) }
+fn next_front(text: &str) -> Option<(Front<'_>, &str)>
+    ensures { IfSome result (λ r. text.now ≡ row_before (row_in r.0) r.1.now) }
 {
-    let (id, rest) = text_after(text, "[")?;
-    let (language, rest) = text_after(rest, ",")?;
-    let (time, rest) = number_after(rest, ",")?;
-    let (site, rest) = text_after(rest, ",")?;
-    let (count, rest) = number_after(rest, ",")?;
-    let rest = after(rest, ",")?;
+    let rest = after(text, "[\"")?;
+    let (id, rest) = text_before(rest, "\",\"")?;
+    let (language, rest) = text_before(rest, "\",")?;
+    let (time, rest) = number_before(rest, ",\"")?;
+    let (site, rest) = text_before(rest, "\",")?;
+    let (count, rest) = number_before(rest, ",")?;
     let Ok(count) = u32::try_from(count) else {
         return None;
     };
-    let row = Row {
+    let front = Front {
         id,
         language,
         time,
-        site: SiteText::Name(site),
+        site,
         count,
     };
-    Some((row, rest))
+    Some((front, rest))
 }
 
-/// What the row's fields make, where its language is in lower case.
-fn lower_entry(alloc: Global, row: Row<'_>) -> Option<StampEntry>
-    ensures is { let plain = row_of row.entry in IfSome result
-        (λ x. stamped_by x ≡ ((plain.id, plain.language), stamp_of plain)) }
-    ensures kept { let plain = row_of row.entry in IfSome result
-        (λ x. IsKept (plain.id, plain.language) (stamp_of plain)) }
+impl<'t> Spelled<'t> {
+    /// What the texts of the row spell, where its language is in lower case.
+    fn new(alloc: Global, front: Front<'t>) -> Option<Spelled<'t>>
+        ensures spelled { IfSome result (λ spelled. IsSpelled spelled) }
+        ensures front { IfSome result (λ spelled. row_in spelled.front ≡ row_in front.entry) }
+    {
+        let id = spelled_id(alloc, front.id)?;
+        let lang = spelled_lang(alloc, front.language)?;
+        let site = spelled_site(front.site)?;
+        Some(Spelled {
+            front,
+            id,
+            lang,
+            site,
+        })
+    }
+
+    /// Becomes what this row spells, where its key is greater. What the last row spells by the
+    /// same text stays as it is.
+    fn follow(&mut self, alloc: Global, front: Front<'t>) -> Option<()>
+        requires { IsSpelled self.old }
+        ensures spelled { IfSome result (λ _. IsSpelled self.new) }
+        ensures front { IfSome result (λ _. row_in self.new.front ≡ row_in front.entry) }
+        ensures key { IfSome result
+            (λ _. IsAfter (Some (key_in self.old.front)) (key_in self.new.front)) }
+    {
+        if !rises(self.front, front) {
+            return None;
+        }
+        set_id(alloc, &mut self.id, self.front.id, front.id)?;
+        set_lang(alloc, &mut self.lang, self.front.language, front.language)?;
+        set_site(&mut self.site, self.front.site, front.site)?;
+        self.front = front;
+        Some(())
+    }
+
+    /// The entry of the row with this label.
+    fn entry(&self, alloc: Global, label: Option<Label>) -> Option<CellEntry>
+        requires { IsSpelled self.now }
+        ensures entry { IfSome result (λ e. entry_by e ≡ entry_in self.now.front label) }
+        ensures kept { IfSome result
+            (λ e. IsLabelText label → IsKeptCell (entry_in self.now.front label)) }
+    {
+        let Ok(id) = self.id.copy(alloc) else {
+            return None;
+        };
+        let Ok(lang) = self.lang.copy(alloc) else {
+            return None;
+        };
+        let stamp = Stamp {
+            time: self.front.time,
+            site: self.site,
+            count: self.front.count,
+        };
+        let cell = Cell::new(stamp, label);
+        Some(CellEntry { id, lang, cell })
+    }
+}
+
+/// Whether the key of the row is greater than that of the last one.
+fn rises(last: Front<'_>, row: Front<'_>) -> bool
+    ensures { IsTrue result → IsAfter (Some (key_in last.entry)) (key_in row.entry) }
 {
-    let Ok(entry) = stamp_entry(alloc, 0, row) else {
+    match last.id.cmp(row.id) {
+        Ordering::Less => true,
+        Ordering::Equal => last.language.cmp(row.language).is_lt(),
+        Ordering::Greater => false,
+    }
+}
+
+/// Makes the id that of the text, which it is where the last text is the same.
+fn set_id(alloc: Global, id: &mut MessageId, last: &str, text: &str) -> Option<()>
+    requires { (id.old ≡ last.now) × IsMessageId last.now }
+    ensures { IfSome result (λ _. (id.new ≡ text.now) × IsMessageId text.now) }
+{
+    if last != text {
+        *id = spelled_id(alloc, text)?;
+    }
+    Some(())
+}
+
+/// Makes the language that of the text, which it is where the last text is the same.
+fn set_lang(alloc: Global, lang: &mut Lang, last: &str, text: &str) -> Option<()>
+    requires { (lang.old ≡ last.now) × IsLang last.now }
+    ensures { IfSome result (λ _. (lang.new ≡ text.now) × IsLang text.now) }
+{
+    if last != text {
+        *lang = spelled_lang(alloc, text)?;
+    }
+    Some(())
+}
+
+/// Makes the name that of the text, which it is where the last text is the same.
+fn set_site(site: &mut SiteName, last: &str, text: &str) -> Option<()>
+    requires { (site.old ≡ last.now) × IsSiteName last.now }
+    ensures { IfSome result (λ _. (site.new ≡ text.now) × IsSiteName text.now) }
+{
+    if last != text {
+        *site = spelled_site(text)?;
+    }
+    Some(())
+}
+
+/// The id with this text.
+fn spelled_id(alloc: Global, text: &str) -> Option<MessageId>
+    ensures { IfSome result (λ id. (id ≡ text.now) × IsMessageId text.now) }
+{
+    match MessageId::new(alloc, text) {
+        Ok(id) => Some(id),
+        Err(_) => None,
+    }
+}
+
+/// The language with this text, which is in lower case.
+fn spelled_lang(alloc: Global, text: &str) -> Option<Lang>
+    ensures { IfSome result (λ lang. (lang ≡ text.now) × IsLang text.now) }
+{
+    let Ok(lang) = Lang::parse(alloc, text.as_bytes()) else {
         return None;
     };
-    if entry.lang.as_str() == row.language {
-        Some(entry)
+    if lang.as_str() == text {
+        Some(lang)
     } else {
         None
+    }
+}
+
+/// The name with this text.
+fn spelled_site(text: &str) -> Option<SiteName>
+    ensures { IfSome result (λ site. (site ≡ text.now) × IsSiteName text.now) }
+{
+    match SiteName::new(text) {
+        Ok(site) => Some(site),
+        Err(_) => None,
     }
 }

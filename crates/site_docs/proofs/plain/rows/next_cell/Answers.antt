@@ -1,30 +1,27 @@
-use Rattle.std.proofs.Common.{refl, subst, sym}
-use Rattle.std.specs.Prelude.{option_map}
-use Rattle.row_docs.specs.EntriesSeen.{entry_by}
-use Rattle.row_docs.specs.Fields.{IsAfter}
-use Rattle.site_docs.specs.Plain.{key_in}
+use Rattle.std.proofs.Common.{◌∙◌, ap, refl, sym}
+use Rattle.site_docs.specs.PlainRows.{entry_in, key_in, row_before, row_in}
+use Rattle.site_docs.proofs.PlainLemmas.{row_taken}
 use Rattle.site_docs.proofs.plain.rows.next_cell.Goals as goal
 
--- the key is behind the last one, and so above all
-pub take-requires : goal.take-requires
-take-requires g c =
-    let last = option_map key_in c.args.last in
-    let e = entry_by c.in_ok-row.entry in
-    let req = c.requires in (
-      req.0,
-      req.1,
-      req.2,
-      req.3 e.0 (subst (IsAfter last) (sym c.in_ok-row.ensures.key)
-          (c.if-not-is_behind.ensures refl)),
-    )
+-- the key is greater than the last one, and so than all
+pub give_cell-requires-clause-holds : goal.give_cell-requires-clause-holds
+give_cell-requires-clause-holds g c =
+    let req = c.requires.holds in
+    (req.0, req.1, req.2, req.3 (key_in c.follow.new.self.front) c.in_ok-follow.ensures.key)
 
-pub returns-in-Ok : goal.returns-in-Ok
-returns-in-Ok g c =
-    let last = option_map key_in c.args.last in (
-      entry_by c.in_ok-row.entry,
-      c.in_ok-row.ensures.key,
-      c.in_ok-row.ensures.kept,
-      subst (IsAfter last) (sym c.in_ok-row.ensures.key) (c.if-not-is_behind.ensures refl),
-      c.in_ok-row.ensures.text,
-      c.in-Ok.ensures,
+pub returns : goal.returns
+returns g c =
+    let front = c.follow.new.self.front in
+    let followed = c.in_ok-follow.ensures in
+    let given = c.in_ok-rest.ensures in
+    let rest = c.in_ok-front.rest.now in
+    let before = c.in_ok-front.ensures
+    ∙ ap (λ row. row_before row rest) (sym followed.front) in (
+      entry_in front given.0,
+      refl,
+      given.1,
+      followed.spelled,
+      followed.key,
+      row_taken (row_in front) given.0 c.args.text.now rest c.in_ok-rest.rest.now before given.2,
+      given.3,
     )

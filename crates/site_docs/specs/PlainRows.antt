@@ -1,0 +1,49 @@
+-- Rows as they are written, and what their texts spell.
+use Rattle.std.specs.Prelude.{◌≡◌, ◌++◌, ◌∷◌, ℕ, List, Option, decimal}
+use Rattle.json.specs.Print.{quoted}
+use Rattle.cell_core.specs.MessageIds.{IsMessageId}
+use Rattle.cell_core.specs.SiteNames.{IsSiteName}
+use Rattle.lang_core.specs.Lang.{IsLang}
+use Rattle.cata_core.specs.Entries.{Entries, Entry, EntryKey, IsAboveAll}
+use Rattle.row_docs.specs.Fields.{IsAfter, stamp_of}
+use Rattle.row_docs.specs.Values.{Row}
+use Rattle.site_docs.specs.declared.plain.rows.Front.{Front}
+use Rattle.site_docs.specs.declared.plain.rows.Spelled.{Spelled}
+
+-- a row without its label
+abbrev pub row_in : Front → Row
+row_in front = record {
+  id = front.id.now;
+  language = front.language.now;
+  time = front.time;
+  site = front.site.now;
+  count = front.count;
+}
+
+-- its key, as it is written
+abbrev pub key_in : Front → EntryKey
+key_in front = (front.id.now, front.language.now)
+
+-- its entry with this label
+abbrev pub entry_in : Front → Option (List (List ℕ)) → Entry
+entry_in front label = (key_in front, record { stamp = stamp_of (row_in front); label = label })
+
+-- the values are those that the texts of the row spell
+pub record IsSpelled (row : Spelled) : Type 0 where
+  pub id : row.id ≡ row.front.id.now
+  pub lang : row.lang ≡ row.front.language.now
+  pub site : row.site ≡ row.front.site.now
+  pub is_id : IsMessageId row.front.id.now
+  pub is_lang : IsLang row.front.language.now
+  pub is_site : IsSiteName row.front.site.now
+
+-- a key that is greater than the last one is greater than all these
+abbrev pub IsLastOf : Option EntryKey → Entries → Type 0
+IsLastOf last cells = (key : EntryKey) → IsAfter last key → IsAboveAll key cells
+
+-- a row as far as its label, and what comes after
+abbrev pub row_before : Row → List ℕ → List ℕ
+row_before row rest =
+    91 ∷ (quoted row.id ++ 44 ∷
+    (quoted row.language ++ 44 ∷
+    (decimal row.time ++ 44 ∷ (quoted row.site ++ 44 ∷ (decimal row.count ++ 44 ∷ rest)))))
