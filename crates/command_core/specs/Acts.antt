@@ -9,11 +9,11 @@ use Rattle.cell_core.specs.Labels.{IsLabel}
 use Rattle.cell_core.specs.MessageIds.{IsMessageId}
 use Rattle.cell_core.specs.Refusals.{RefusesName}
 use Rattle.cell_core.specs.SiteNames.{IsSiteName}
+use Rattle.query_docs.specs.Missing as missing
+use Rattle.query_docs.specs.Outdated as outdated
 use Rattle.docs_core.specs.Calls as call
 use Rattle.site_docs.specs.ReadsAs.{IsSiteText, ReadsAsSite}
 use Rattle.row_docs.specs.Fields.{IsSpelled}
-use Rattle.docs_core.specs.Missing as missing
-use Rattle.docs_core.specs.Outdated as outdated
 use Rattle.json_docs.specs.declared.fault.DocFault.{DocFault}
 use Rattle.docs_core.specs.Replays.{RefusesReplay, Replays}
 use Rattle.docs_core.specs.TimeLimits.{AreSyncedUntil, RefusesSyncUntil}

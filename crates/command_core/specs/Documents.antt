@@ -1,8 +1,10 @@
 -- What the commands of documents alone answer, and why they refuse them: as the document calls do
 -- (project rules).
 use Rattle.std.specs.Prelude.{ℕ, Bool, List}
+use Rattle.query_docs.specs.Changed.{IsChanged, RefusesChanged}
+use Rattle.query_docs.specs.Exported.{IsExported}
+use Rattle.query_docs.specs.Status.{IsStatus}
 use Rattle.docs_core.specs.Calls as call
-use Rattle.docs_core.specs.Changed.{IsChanged, RefusesChanged}
 use Rattle.docs_core.specs.Exchange as exchange
 use Rattle.row_docs.specs.Reading.{IsOfDocument}
 use Rattle.site_docs.specs.ReadsAs.{RefusesSite}
@@ -17,13 +19,13 @@ use Rattle.command_core.specs.declared.documents.DocumentTask.TheVariants.{Take}
 
 -- the document that answers the documents of an input
 abbrev pub IsDocument : DocumentTask → List ℕ → List ℕ → Type 0
-IsDocument Status input text = call.IsStatus input text
+IsDocument Status input text = IsStatus input text
 IsDocument (Import now) input text =
     (site maps : List ℕ) × AreDocuments input site maps × exchange.IsImported site now maps text
 IsDocument (Update now) input text =
     (site old new : List ℕ) × AreThreeDocuments input site old new
     × updated.IsUpdated site now old new text
-IsDocument Export input text = exchange.IsExported input text
+IsDocument Export input text = IsExported input text
 IsDocument Summary input text = call.IsSummarised input text
 IsDocument Delta input text =
     (site summary : List ℕ) × AreDocuments input site summary × call.IsDeltaFor site summary text

@@ -6,9 +6,9 @@ use Rattle.cell_core.specs.Maps.{IsMap, same_maps}
 use Rattle.cata_core.specs.Entries.{Entries, EntryKey, key_cmp, key_cmp_exact, key_cmp_total}
 use Rattle.cata_core.proofs.Mapped.{find-mapped, mapped-IsMap}
 use Rattle.map_docs.specs.LangMaps.{Labelled}
-use Rattle.docs_core.specs.Exported.{label_at, live_labels}
+use Rattle.query_docs.specs.Exported.{label_at, live_labels}
+use Rattle.query_docs.proofs.LiveLemmas.{find-live, label_in, live-IsMap}
 use Rattle.docs_core.specs.Imported.{Imports, puts_of}
-use Rattle.docs_core.proofs.LiveLemmas.{find-live, label_in, live-IsMap}
 use Rattle.docs_core.proofs.UpdateLaws.{made-IsMap, made_at}
 
 module _ (now : ℕ) (name : List ℕ) (labels : List Labelled) (cells imported : Entries)

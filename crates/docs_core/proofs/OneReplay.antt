@@ -3,7 +3,7 @@ use Rattle.std.proofs.Common.{◌≡◌, ◌∙◌, ℕ, List, [], ap, sym, subs
 use Rattle.cata_core.specs.Held.{held}
 use Rattle.cata_core.proofs.UniqueAnswers.{one_by}
 use Rattle.script_docs.proofs.OneScript.{one_script}
-use Rattle.docs_core.specs.Lines.{lines}
+use Rattle.query_docs.specs.Lines.{lines}
 use Rattle.docs_core.specs.Replays.{IsPlayed, Replays}
 
 -- one script, one list of answers, one text

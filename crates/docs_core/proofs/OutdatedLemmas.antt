@@ -10,9 +10,9 @@ use Rattle.cata_core.specs.Parts.{part_of}
 use Rattle.cata_core.proofs.Members.{Contains-from_in, filter_in, in_filter, in_from_Contains}
 use Rattle.cata_core.proofs.Parts.{find-part}
 use Rattle.map_docs.specs.LangMaps.{Labelled}
-use Rattle.docs_core.specs.Exported.{live_labels}
-use Rattle.docs_core.specs.Outdated.{IsOutdatedMessage, is_before, is_outdated, labelled_at}
-use Rattle.docs_core.specs.Outdated.{live_time, outdated_labels}
+use Rattle.query_docs.specs.Exported.{live_labels}
+use Rattle.query_docs.specs.Outdated.{IsOutdatedMessage, is_before, is_outdated, labelled_at}
+use Rattle.query_docs.specs.Outdated.{live_time, outdated_labels}
 use Rattle.docs_core.proofs.PartLaws.{chosen_of_part, live_of_part}
 
 abbrev Label : Type 0

@@ -18,10 +18,10 @@ use Rattle.cata_core.specs.declared.reply.Reply.TheVariants.{Default, Matched}
 use Rattle.nego_core.specs.Item.{Item}
 use Rattle.nego_core.specs.declared.widening.Widening.{Widening}
 use Rattle.map_docs.specs.LangMaps.{Labelled}
-use Rattle.docs_core.specs.Bundled.{IsAnswer, IsBundleBy}
-use Rattle.docs_core.specs.Exported.{label_at, live_labels}
-use Rattle.docs_core.specs.Missing.{missing_labels}
-use Rattle.docs_core.proofs.BundledLemmas.{answer_live, label_of}
+use Rattle.query_docs.specs.Bundled.{IsAnswer, IsBundleBy}
+use Rattle.query_docs.specs.Exported.{label_at, live_labels}
+use Rattle.query_docs.specs.Missing.{missing_labels}
+use Rattle.query_docs.proofs.BundledLemmas.{answer_live, label_of}
 
 -- ---- exports
 

@@ -14,11 +14,11 @@ use Rattle.site_docs.specs.Documents.{site_text}
 use Rattle.site_docs.specs.ReadsAs.{ReadsAsSite}
 use Rattle.map_docs.specs.LangMapLabels.{AreLangMaps}
 use Rattle.map_docs.specs.LangMaps.{Labelled}
-use Rattle.docs_core.specs.Exported.{label_at, live_labels}
+use Rattle.query_docs.specs.Exported.{label_at, live_labels}
+use Rattle.query_docs.proofs.LiveLemmas.{find-live, label_in, live-IsMap}
 use Rattle.docs_core.specs.Made.{Change, Makes, with_change}
 use Rattle.docs_core.specs.Updated.{AreChanges, IsChangeAt, IsUpdated, Texts, Updates}
 use Rattle.map_docs.proofs.LangMapLawsLemmas.{same_labels}
-use Rattle.docs_core.proofs.LiveLemmas.{find-live, label_in, live-IsMap}
 use Rattle.site_docs.proofs.OneDocument.{one_site}
 use Rattle.docs_core.proofs.UpdatedLemmas.{one_change, one_key}
 

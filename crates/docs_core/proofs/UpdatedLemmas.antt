@@ -22,13 +22,13 @@ use Rattle.cata_core.proofs.Basics.{both_parts, first_part, less_than, second_pa
 use Rattle.cata_core.proofs.Filtered.{find-below}
 use Rattle.cata_core.proofs.KeyPlaces.{below_lesser}
 use Rattle.map_docs.specs.LangMaps.{Labelled}
-use Rattle.docs_core.specs.Exported.{label_at}
+use Rattle.query_docs.specs.Exported.{label_at}
+use Rattle.query_docs.proofs.LiveLemmas.{label_in}
 use Rattle.docs_core.specs.Made.{Change, Makes, SpendsClock, with_change}
 use Rattle.docs_core.specs.Revised.{IsFirstRevised, IsHead, IsRevised, NoStamp, key_of, new_of}
 use Rattle.docs_core.specs.Revised.{old_of}
 use Rattle.docs_core.specs.Updated.{AreChanges, IsChangeAt, SpendsUpdate, Texts, Updates}
 use Rattle.docs_core.specs.declared.call.updating.Revised.{Revised}
-use Rattle.docs_core.proofs.LiveLemmas.{label_in}
 
 -- keys that tie are one
 pub one_key : (q k : EntryKey) → eq_by_cmp key_cmp q k ≡ true → q ≡ k

@@ -18,7 +18,6 @@ use Rattle.row_docs.specs.Reading.{IsOfDocument}
 use Rattle.site_docs.specs.ReadsAs.{IsDeltaText, IsSiteText, IsSummaryText}
 use Rattle.site_docs.specs.ReadsAs.{ReadsAsDelta, ReadsAsSite, ReadsAsSummary, RefusesDelta}
 use Rattle.site_docs.specs.ReadsAs.{RefusesSite, RefusesSummary}
-use Rattle.docs_core.specs.Status.{status_line}
 
 -- it is the refusal of a site's call, out of memory apart
 abbrev pub IsOfSite : (CataFault → Type 0) → DocFault → Type 0
@@ -93,8 +92,3 @@ RefusesTaking a b fault =
     ⊎ ((site : SiteState) × ReadsAsSite a site × IsOfDocument 2 (RefusesDelta b) fault)
     ⊎ ((site : SiteState) × (delta : Delta) × ReadsAsSite a site × ReadsAsDelta b delta
     × IsOfSite (NotTaken site delta) fault)
-
--- ---- the status
-
-abbrev pub IsStatus : List ℕ → List ℕ → Type 0
-IsStatus bytes text = (site : SiteState) × ReadsAsSite bytes site × (text ≡ status_line site)

@@ -1,4 +1,4 @@
--- What import and export answer, and which refusals (JSON-LD 1.1, section 9.8; project rules).
+-- What an import answers, and which refusals (JSON-LD 1.1, section 9.8; project rules).
 use Rattle.std.specs.Prelude.{◌≡◌, ◌⊎◌, ℕ, List}
 use Rattle.cata_core.specs.Entries.{Entries}
 use Rattle.cata_core.specs.Sites.{SiteState}
@@ -8,9 +8,7 @@ use Rattle.json_docs.specs.declared.fault.DocFault.{DocFault}
 use Rattle.row_docs.specs.Reading.{IsOfDocument}
 use Rattle.site_docs.specs.ReadsAs.{IsSiteText, ReadsAsSite, RefusesSite}
 use Rattle.map_docs.specs.LangMapLabels.{AreLangMaps, RefusesLangMaps}
-use Rattle.map_docs.specs.LangMapTexts.{IsTextOf}
 use Rattle.map_docs.specs.LangMaps.{Labelled}
-use Rattle.docs_core.specs.Exported.{live_labels}
 use Rattle.docs_core.specs.Imported.{Imports, SpendsImport}
 
 -- the site with each label of the language maps put at this time, in rising order of key
@@ -29,8 +27,3 @@ RefusesImport bytes now maps fault =
     ⊎ ((site : SiteState) × (labels : List Labelled) × ReadsAsSite bytes site
     × AreLangMaps maps labels
     × SpendsImport now site.name labels site.cells × (fault ≡ of_no_document (of_site ClockSpent)))
-
--- the language maps of the site's live labels
-abbrev pub IsExported : List ℕ → List ℕ → Type 0
-IsExported bytes doc =
-    (site : SiteState) × ReadsAsSite bytes site × IsTextOf (live_labels site.cells) doc

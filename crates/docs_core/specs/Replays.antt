@@ -12,7 +12,7 @@ use Rattle.json_docs.specs.declared.fault.DocFault.{DocFault}
 use Rattle.row_docs.specs.Reading.{IsOfDocument}
 use Rattle.script_docs.specs.ScriptReads.{ReadsAsScript, RefusesScript}
 use Rattle.script_docs.specs.Scripts.{ScriptState}
-use Rattle.docs_core.specs.Lines.{lines}
+use Rattle.query_docs.specs.Lines.{lines}
 
 -- no step is faulty, and these are the answers: by what the sites hold, and where no two edits
 -- clash, or nothing is delivered, the expected ones

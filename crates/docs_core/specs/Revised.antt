@@ -8,7 +8,7 @@ use Rattle.cell_core.specs.declared.stamp.Stamp.{Stamp}
 use Rattle.cata_core.specs.Entries.{Entries, EntryKey, key_cmp}
 use Rattle.cata_core.specs.Latest.{latest_of}
 use Rattle.map_docs.specs.LangMaps.{Labelled}
-use Rattle.docs_core.specs.Exported.{label_at}
+use Rattle.query_docs.specs.Exported.{label_at}
 use Rattle.docs_core.specs.Made.{with_change}
 use Rattle.docs_core.specs.Updated.{IsChangeAt, Texts}
 use Rattle.docs_core.specs.declared.call.updating.Revised.{Revised}

@@ -11,7 +11,7 @@ use Rattle.row_docs.specs.Reading.{IsOfDocument}
 use Rattle.site_docs.specs.ReadsAs.{IsSiteText, ReadsAsSite, RefusesSite}
 use Rattle.map_docs.specs.LangMapLabels.{AreLangMaps, RefusesLangMaps}
 use Rattle.map_docs.specs.LangMaps.{Labelled}
-use Rattle.docs_core.specs.Exported.{label_at}
+use Rattle.query_docs.specs.Exported.{label_at}
 use Rattle.docs_core.specs.Made.{Change, Makes, SpendsClock}
 
 -- the texts of a label, or none where there is no label

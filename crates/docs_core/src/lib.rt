@@ -27,19 +27,11 @@ pub mod lang_map_laws;
 pub mod laws;
 pub mod migration;
 
-pub use call::asking::{Ask, ask_document};
-pub use call::bundling::{bundle_document, bundle_document_by, write_bundle, write_bundle_by};
-pub use call::changes::{changes_document, changes_lines};
-pub use call::exporting::{write_live_labels, write_missing};
-pub use call::importing::put_labels;
-pub use call::language_maps::{export_document, import_document, missing_document};
-pub use call::lines::{answer_lines, filter_lines, reply_line};
-pub use call::outdated::{outdated_document, write_outdated};
+pub use call::importing::{import_document, put_labels};
 pub use call::replaying::replay;
 pub use call::sites::{
-    delta_document, edit_document, status_document, summary_document, sync_documents, take_document,
+    delta_document, edit_document, summary_document, sync_documents, take_document,
 };
-pub use call::status::status_line;
 pub use call::time_limits::{
     first_row_ahead, read_delta_until, sync_documents_until, take_document_until,
 };
@@ -49,5 +41,11 @@ pub use json_docs::{
     write_out,
 };
 pub use map_docs::{KeyedLabel, LangMaps, read_langmaps, write_langmaps};
+pub use query_docs::{
+    Ask, answer_lines, ask_document, bundle_document, bundle_document_by, changes_document,
+    changes_lines, export_document, filter_lines, missing_document, outdated_document, reply_line,
+    status_document, status_line, write_bundle, write_bundle_by, write_live_labels, write_missing,
+    write_outdated,
+};
 pub use script_docs::{Script, read_script, write_script};
 pub use site_docs::{read_delta, read_site, read_summary, write_delta, write_site, write_summary};

@@ -8,7 +8,7 @@ use Rattle.row_docs.specs.Reading.{IsOfDocument}
 use Rattle.site_docs.specs.ReadsAs.{IsDeltaText, IsSiteText, IsSummaryText}
 use Rattle.row_docs.specs.Reading.{no_memory}
 use Rattle.site_docs.specs.ReadsAs.{ReadsAsSummary, RefusesSummary}
-use Rattle.docs_core.specs.Status.{status_line}
+use Rattle.query_docs.specs.Status.{status_line}
 use Rattle.front_core.specs.Faults.{IsOf, document_fault}
 use Rattle.front_core.specs.Fields.{Text}
 use Rattle.front_core.specs.declared.answer.Answer.{Answer}

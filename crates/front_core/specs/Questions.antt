@@ -10,11 +10,11 @@ use Rattle.cell_core.specs.declared.fault.CellFault.{CellFault}
 use Rattle.cell_core.specs.declared.fault.CellFault.TheVariants as cell
 use Rattle.map_docs.specs.LangMapTexts.{AreWritten}
 use Rattle.map_docs.specs.LangMaps.{Labelled}
-use Rattle.docs_core.specs.Asks.{Answers, is_found as is_reply}
-use Rattle.docs_core.specs.Bundled.{IsBundleBy}
-use Rattle.docs_core.specs.Lines.{reply_line}
-use Rattle.docs_core.specs.LooksUp.{answered}
-use Rattle.docs_core.specs.declared.call.asking.Ask.TheVariants as ask
+use Rattle.query_docs.specs.Asks.{Answers, is_found as is_reply}
+use Rattle.query_docs.specs.Bundled.{IsBundleBy}
+use Rattle.query_docs.specs.Lines.{reply_line}
+use Rattle.query_docs.specs.LooksUp.{answered}
+use Rattle.query_docs.specs.declared.asking.Ask.TheVariants as ask
 use Rattle.front_core.specs.Faults.{IsOf, cell_fault, field_fault}
 use Rattle.front_core.specs.Fields.{FieldText, HasList, ReadsAs, RefusesRanges, Text}
 use Rattle.front_core.specs.Preferences.{ArePreferences, HasPreferences, RefusesPreferences}

@@ -6,7 +6,7 @@ use Rattle.std.specs.Borrow.{Bor}
 use Rattle.nego_core.specs.Filtering.{IsFiltered}
 use Rattle.nego_core.specs.Item.{Item}
 use Rattle.nego_core.specs.declared.filtering.Pick.{Pick}
-use Rattle.docs_core.specs.Lines.{line, listed}
+use Rattle.query_docs.specs.Lines.{line, listed}
 use Rattle.front_core.specs.Faults.{IsOf, field_fault, language_fault}
 use Rattle.front_core.specs.Fields.{FieldText, HasList, ReadsAs, RefusesRanges, Text}
 use Rattle.front_core.specs.Questions.{is_found}

@@ -4,10 +4,10 @@ use Rattle.lang_core.specs.Lang.{RefusesLang, SpellsLang}
 use Rattle.cata_core.specs.Changes.{AreChanges, Changed}
 use Rattle.cata_core.specs.Sites.{SiteState}
 use Rattle.map_docs.specs.LangMapTexts.{AreWritten, IsTextOf}
-use Rattle.docs_core.specs.Changed.{changes_lines, has_change}
-use Rattle.docs_core.specs.Exported.{live_labels}
-use Rattle.docs_core.specs.Missing.{missing_labels}
-use Rattle.docs_core.specs.Outdated.{outdated_labels}
+use Rattle.query_docs.specs.Changed.{changes_lines, has_change}
+use Rattle.query_docs.specs.Exported.{live_labels}
+use Rattle.query_docs.specs.Missing.{missing_labels}
+use Rattle.query_docs.specs.Outdated.{outdated_labels}
 use Rattle.front_core.specs.Documents.{IsFound}
 use Rattle.front_core.specs.Faults.{IsOf, language_fault}
 use Rattle.front_core.specs.Fields.{Text}

@@ -1,7 +1,7 @@
 //! Lookups in a site.
 ghost use Rattle.std.specs.Prelude.{◌≡◌, option_map, slice_get};
 ghost use Rattle.cata_core.specs.LentAnswers.{reply_of};
-ghost use Rattle.docs_core.specs.Asks.{is_found as is_reply};
+ghost use Rattle.query_docs.specs.Asks.{is_found as is_reply};
 ghost use Rattle.front_core.specs.Questions.{IsTextAt, is_found, texts_of};
 
 use crate::answer::{Answer, LabelText, Outcome};

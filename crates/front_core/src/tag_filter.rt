@@ -1,7 +1,7 @@
 //! Filtering several tags, one on a line.
 ghost use Rattle.std.specs.Prelude.{◌≡◌, ◌<◌, ◌++◌, ◌∷◌, [], decimal, get_or, length};
 ghost use Rattle.std.specs.Prelude.{IfOk, MatchResult};
-ghost use Rattle.docs_core.specs.Lines.{line};
+ghost use Rattle.query_docs.specs.Lines.{line};
 ghost use Rattle.front_core.specs.Fields.{field_text};
 ghost use Rattle.front_core.specs.Lines.{lines_of};
 ghost use Rattle.front_core.specs.TagFilters.{HaveNames, IsTagFilter, RefusesTagFilter};

@@ -1,12 +1,39 @@
 //! Labels put into a site.
-ghost use Rattle.std.specs.Prelude.{◌≡◌, IfErr, OnOk};
+ghost use Rattle.std.specs.Prelude.{◌≡◌, IfErr, MatchResult, OnOk};
 ghost use Rattle.cata_core.specs.declared.cata_fault.CataFault.TheVariants.{ClockSpent, NoMemory};
 ghost use Rattle.json_docs.specs.Checks.{OrMemory};
+ghost use Rattle.row_docs.specs.Reading.{no_memory};
+ghost use Rattle.docs_core.specs.Exchange.{IsImported, RefusesImport};
 ghost use Rattle.docs_core.specs.Imported.{Imports, SpendsImport};
 
 use cata_core::{CataFault, Site};
-use map_docs::LangMaps;
+use json_docs::{Doc, DocFault};
+use map_docs::{LangMaps, langmaps_of_document};
+use site_docs::{site_at, write_site};
 use std::alloc::Global;
+
+/// The document of the site after each label of the language maps was put, in rising order of key,
+/// at the time `now`: each with the next stamp of the site. A label that the site has already is
+/// put again and gets a new stamp; no other cell changes.
+///
+/// Refusals, in their order: a reader's with document 1, a reader's with document 2, then 14 where
+/// there is no next stamp for a label, which refuses the whole. Out of memory (26) may come before.
+pub fn import_document(
+    alloc: Global,
+    site: &[u8],
+    now: u64,
+    langmaps: &[u8],
+) -> Result<Doc, DocFault>
+    ensures { MatchResult result (IsImported site.now now langmaps.now)
+        (OrMemory no_memory (RefusesImport site.now now langmaps.now)) }
+{
+    let mut site = site_at(alloc, 1, site)?;
+    let maps = langmaps_of_document(alloc, 2, langmaps)?;
+    put_labels(alloc, &mut site, now, &maps)?;
+    drop(maps);
+    let doc = write_site(alloc, &site)?;
+    Ok(doc)
+}
 
 /// Puts each label, in rising order of key, at this time: with the next stamp of the site after the
 /// greatest that it then has. A label that the site has already is put again.

@@ -9,12 +9,12 @@ ghost use Rattle.json_docs.specs.Sources.{IsReadFault, ReadsWhole};
 ghost use Rattle.json_docs.specs.declared.fault.DocCause.TheVariants.{WriteFault};
 ghost use Rattle.row_docs.specs.Reading.{IsOfDocument, no_memory};
 ghost use Rattle.script_docs.specs.ScriptReads.{ReadsAsScript, RefusesScript};
-ghost use Rattle.docs_core.specs.Lines.{lines};
+ghost use Rattle.query_docs.specs.Lines.{lines};
 ghost use Rattle.docs_core.specs.Replays.{IsPlayed, RefusesReplay, RefusesRun, Replays};
 
-use crate::call::lines::answer_lines;
 use cata_core::{Answers, PlayFault, play};
 use json_docs::{Doc, DocFault, Sink, Source, read_all, write_out};
+use query_docs::answer_lines;
 use script_docs::{Script, read_script};
 use std::alloc::Global;
 

@@ -8,11 +8,10 @@ ghost use Rattle.cata_core.specs.Sites.{RefusesEdit};
 ghost use Rattle.json_docs.specs.Checks.{OrMemory};
 ghost use Rattle.row_docs.specs.Reading.{IsOfDocument, no_memory};
 ghost use Rattle.site_docs.specs.ReadsAs.{RefusesSite};
-ghost use Rattle.docs_core.specs.Calls.{AreSynced, IsEdited, IsDeltaFor, IsStatus, IsSummarised};
+ghost use Rattle.docs_core.specs.Calls.{AreSynced, IsEdited, IsDeltaFor, IsSummarised};
 ghost use Rattle.docs_core.specs.Calls.{IsTaken, RefusesEditing, RefusesDeltaFor, RefusesSync};
 ghost use Rattle.docs_core.specs.Calls.{RefusesTaking};
 
-use crate::call::status::{Counts, status_line};
 use crate::call::time_limits::{sync_documents_until, take_document_until};
 use cata_core::{CataFault, Site, Summary};
 use cell_core::{Label, MessageId, SiteName, Stamp};
@@ -133,31 +132,4 @@ pub fn take_document(alloc: Global, site: &[u8], delta: &[u8]) -> Result<Doc, Do
         (OrMemory no_memory (RefusesTaking site.now delta.now)) }
 {
     take_document_until(alloc, site, delta, None)
-}
-
-/// The status line of the site: how many cells and labels it has, and its greatest stamp.
-///
-/// Refusals: a reader's with document 1. Out of memory (26) may come before.
-pub fn status_document(alloc: Global, site: &[u8]) -> Result<Doc, DocFault>
-    ensures { MatchResult result (IsStatus site.now)
-        (OrMemory no_memory (IsOfDocument 1 (RefusesSite site.now))) }
-{
-    if let Some(line) = written_status(alloc, site) {
-        return Ok(line);
-    }
-    let site = site_at(alloc, 1, site)?;
-    let line = status_line(alloc, &site)?;
-    Ok(line)
-}
-
-/// The same where the document is in the form in which it is written.
-fn written_status(alloc: Global, site: &[u8]) -> Option<Doc>
-    ensures { IfSome result (IsStatus site.now) }
-{
-    let mut counts = Counts::new();
-    let name = take_written_site(alloc, site, &mut counts)?;
-    match counts.line(alloc, name) {
-        Ok(line) => Some(line),
-        Err(_) => None,
-    }
 }

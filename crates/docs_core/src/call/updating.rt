@@ -12,12 +12,12 @@ ghost use Rattle.docs_core.specs.Revised.{IsFirstRevised, IsRevised, NoStamp, ke
 ghost use Rattle.docs_core.specs.Revised.{old_of};
 ghost use Rattle.docs_core.specs.Updated.{IsUpdated, RefusesUpdate, SpendsUpdate, Updates};
 
-use crate::call::exporting::label_at;
 use crate::call::sites::edit;
 use cata_core::{CataFault, Site};
 use cell_core::Label;
 use json_docs::{Doc, DocFault};
 use map_docs::{KeyedLabel, LangMaps, langmaps_of_document};
+use query_docs::label_at;
 use site_docs::{site_at, write_site};
 use std::alloc::Global;
 use std::cmp::Ordering;

@@ -1,6 +1,6 @@
 use Rattle.std.proofs.Common.{◌≡◌, ◌∙◌, ◌++◌, ◌∷◌, codes, decimal, length, rules, sym}
-use Rattle.docs_core.specs.Lines.{line}
-use Rattle.docs_core.proofs.LinesLemmas.{item_there, more_lines}
+use Rattle.query_docs.specs.Lines.{line}
+use Rattle.query_docs.proofs.LinesLemmas.{item_there, more_lines}
 use Rattle.front_core.specs.TagFilters.{taken_line, texts_of}
 use Rattle.front_core.proofs.tag_filter.taken.Goals as goal
 use Rattle.front_core.proofs.tag_filter.taken.Goals.{in-Some+in_ok-text-2, in_default}

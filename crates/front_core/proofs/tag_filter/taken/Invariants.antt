@@ -1,6 +1,6 @@
 use Rattle.std.proofs.Common.{◌≡◌, ◌++◌, ◌∷◌, codes, decimal, length, take}
 use Rattle.std.specs.Prelude.{flat_map}
-use Rattle.docs_core.specs.Lines.{line}
+use Rattle.query_docs.specs.Lines.{line}
 use Rattle.front_core.specs.TagFilters.{taken_line, texts_of}
 use Rattle.front_core.proofs.tag_filter.taken.Given as goal
 

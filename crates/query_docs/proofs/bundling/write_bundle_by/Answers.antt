@@ -1,0 +1,87 @@
+use Rattle.std.proofs.Common.{◌∙◌, ap, subst, sym}
+use Rattle.std.specs.Prelude.{List, None, option_map}
+use Rattle.nego_core.specs.Filtering.{texts_of}
+use Rattle.cata_core.specs.LentAnswers.{reply_of}
+use Rattle.cata_core.specs.LiveMessages.{LiveMessage}
+use Rattle.cata_core.specs.MessagesLeft.{messages_left}
+use Rattle.map_docs.proofs.WritingLemmas.{found_last, some_borrowed}
+use Rattle.query_docs.proofs.BundledLemmas.{AreLive, IsBundling, are_live, bundling_first}
+use Rattle.query_docs.proofs.BundledLemmas.{bundling_found, bundling_last, bundling_passed}
+use Rattle.query_docs.proofs.BundledLemmas.{shortlisted}
+use Rattle.query_docs.proofs.bundling.write_bundle_by.Goals as goal
+
+pub messages-init : goal.messages-init
+messages-init c =
+    let default = option_map (λ l. l.now) c.args.default in
+    let all = ap messages_left c.into_iter-message-iterator.ensures.into_iter_gives in
+    let messages = messages_left c.messages-message-items.result in
+    let are = c.messages-message-items.ensures.messages in (
+      subst (λ (left : List LiveMessage). IsBundling c.args.widening c.args.catalogue.now
+          c.args.list.now (option_map (λ l. l.now) c.args.default) c.in_ok-draft.draft None left)
+          (sym all)
+          (bundling_first c.args.widening c.args.catalogue.now c.args.list.now default
+          c.in_ok-draft.draft messages are c.in_ok-draft.ensures),
+      subst (AreLive c.args.catalogue.now) (sym all) (are_live c.args.catalogue.now messages are),
+    )
+
+pub returns : goal.returns
+returns c =
+    let default = option_map (λ l. l.now) c.args.default in
+    let current = option_map (λ id. id.now) c.messages.current in
+    let b = subst (λ (left : List LiveMessage). IsBundling c.args.widening c.args.catalogue.now
+    c.args.list.now default c.messages.draft current left) c.in-None.ensures.steps.0
+    c.messages.invariant.0 in
+    let last = bundling_last c.args.widening c.args.catalogue.now c.args.list.now default
+    c.messages.draft current b in (
+      last.0,
+      last.1,
+      (
+        c.in_ok-doc.ensures last.0 last.1.rising last.2,
+        c.is_some.ensures
+            ∙ some_borrowed c.messages.current ∙ found_last c.messages.draft current last.0 last.2,
+      ),
+    )
+
+pub messages-preserved-in-Some-answered : goal.messages-preserved-in-Some-answered
+messages-preserved-in-Some-answered c =
+    let cells = c.args.catalogue.now in
+    let default = option_map (λ l. l.now) c.args.default in
+    let current = option_map (λ id. id.now) c.messages.current in
+    let left = messages_left c.next.new.self in
+    let b = subst (λ (left : List LiveMessage). IsBundling c.args.widening cells
+    c.args.list.now default c.messages.draft current left) c.in-Some.ensures.steps
+    c.messages.invariant.0 in
+    let live = subst (AreLive cells) c.in-Some.ensures.steps c.messages.invariant.1 in
+    let reply = reply_of c.lookup_within.result in
+    let texts = ap texts_of c.deref.ensures.value ∙ c.in_ok-listed.ensures in
+    let found = shortlisted c.args.widening cells c.args.list.now c.in_ok-langs.langs
+    c.in_ok-shortlist.shortlist c.in-Some.message default reply (texts_of c.deref.result.now)
+    c.in_ok-shortlist.ensures texts c.in_ok-langs.ensures live.0 c.lookup_within.ensures in (
+      bundling_found c.args.widening cells c.args.list.now default c.messages.draft
+          c.write_label.new.out current c.in-Some.message left reply
+          c.id-id.result.now c.in-Some-answered.lang.now c.in-Some-answered.label.now
+          c.id-id.ensures b
+          found c.in-Some-answered.ensures
+          c.in_ok-write_label.ensures.tokens c.in_ok-write_label.ensures.valid,
+      live.1,
+    )
+
+pub messages-preserved : goal.messages-preserved
+messages-preserved c =
+    let cells = c.args.catalogue.now in
+    let default = option_map (λ l. l.now) c.args.default in
+    let current = option_map (λ id. id.now) c.messages.current in
+    let left = messages_left c.next.new.self in
+    let b = subst (λ (left : List LiveMessage). IsBundling c.args.widening cells
+    c.args.list.now default c.messages.draft current left) c.in-Some.ensures.steps
+    c.messages.invariant.0 in
+    let live = subst (AreLive cells) c.in-Some.ensures.steps c.messages.invariant.1 in
+    let reply = reply_of c.lookup_within.result in
+    let texts = ap texts_of c.deref.ensures.value ∙ c.in_ok-listed.ensures in
+    let found = shortlisted c.args.widening cells c.args.list.now c.in_ok-langs.langs
+    c.in_ok-shortlist.shortlist c.in-Some.message default reply (texts_of c.deref.result.now)
+    c.in_ok-shortlist.ensures texts c.in_ok-langs.ensures live.0 c.lookup_within.ensures in (
+      bundling_passed c.args.widening cells c.args.list.now default c.messages.draft current
+          c.in-Some.message left reply b found c.in_default.ensures,
+      live.1,
+    )

@@ -1,0 +1,10 @@
+use Rattle.std.specs.Prelude.{option_map}
+use Rattle.cata_core.specs.MessagesLeft.{messages_left}
+use Rattle.query_docs.proofs.BundledLemmas.{AreLive, IsBundling}
+use Rattle.query_docs.proofs.bundling.write_bundle_by.Given as goal
+
+abbrev pub invariant-messages : goal.invariant-messages
+invariant-messages l =
+    IsBundling l.fn.widening l.catalogue l.list (option_map (λ lang. lang.now) l.default) l.draft
+    (option_map (λ id. id.now) l.current) (messages_left l.message-iterator)
+    × AreLive l.catalogue (messages_left l.message-iterator)

@@ -1,0 +1,11 @@
+pub mod Asks
+pub mod Bundled
+pub mod Changed
+pub mod Chosen
+pub mod Counted
+pub mod Exported
+pub mod Lines
+pub mod LooksUp
+pub mod Missing
+pub mod Outdated
+pub mod Status

@@ -1,0 +1,118 @@
+//! The labels of one reader: what a lookup answers for each message.
+ghost use Rattle.std.specs.Prelude.{◌≡◌, IfOk, List, MatchResult, option_map};
+ghost use Rattle.cata_core.specs.Lent.{lent_pair};
+ghost use Rattle.cata_core.specs.LentAnswers.{reply_of};
+ghost use Rattle.json_docs.specs.Checks.{OrMemory};
+ghost use Rattle.row_docs.specs.Reading.{IsOfDocument, no_memory};
+ghost use Rattle.site_docs.specs.ReadsAs.{RefusesSite};
+ghost use Rattle.map_docs.specs.LangMapTexts.{AreWritten};
+ghost use Rattle.map_docs.specs.LangMaps.{Labelled};
+ghost use Rattle.query_docs.specs.Bundled.{IsBundle, IsBundleBy, IsBundled, IsBundledBy};
+ghost use Rattle.query_docs.specs.LooksUp.{answered};
+
+use cata_core::{Catalogue, LentReply, list_languages};
+use cell_core::{Label, MessageId};
+use json_docs::{Doc, DocFault};
+use lang_core::Lang;
+use map_docs::{close_labels, open_labels, write_label};
+use nego_core::{PriorityList, Shortlist, Widening};
+use site_docs::site_at;
+use std::alloc::{AllocError, Global};
+
+/// The language-map document of the labels of one reader, and whether there is one: for each
+/// message the one label that its lookup answers, matched or as the default (RFC 4647, section
+/// 3.4). A message for which nothing is answered is left out.
+///
+/// Refusals: a reader's with document 1. Out of memory (26) may come before.
+pub fn bundle_document(
+    alloc: Global,
+    site: &[u8],
+    list: &PriorityList,
+    default: Option<&Lang>,
+) -> Result<(Doc, bool), DocFault>
+    ensures { MatchResult result (λ answer. IsBundled site.now list.now (option_map
+        (λ l. l.now) default.entry) answer.0 answer.1) (OrMemory no_memory (IsOfDocument 1
+        (RefusesSite site.now))) }
+{
+    bundle_document_by(alloc, site, list, Widening::Off, default)
+}
+
+/// The same by a lookup that may be widened: then a range also finds the languages of a message
+/// that it matches, as `en` finds `en-us`.
+///
+/// Refusals: a reader's with document 1. Out of memory (26) may come before.
+pub fn bundle_document_by(
+    alloc: Global,
+    site: &[u8],
+    list: &PriorityList,
+    widening: Widening,
+    default: Option<&Lang>,
+) -> Result<(Doc, bool), DocFault>
+    ensures { MatchResult result (λ answer. IsBundledBy widening site.now list.now (option_map
+        (λ l. l.now) default.entry) answer.0 answer.1) (OrMemory no_memory (IsOfDocument 1
+        (RefusesSite site.now))) }
+{
+    let site = site_at(alloc, 1, site)?;
+    let answer = write_bundle_by(alloc, site.catalogue(), list, widening, default)?;
+    Ok(answer)
+}
+
+/// The same for a catalogue in memory: what [`bundle_document`] gives for its document.
+///
+/// Out of memory is the only refusal (26).
+pub fn write_bundle(
+    alloc: Global,
+    catalogue: &Catalogue,
+    list: &PriorityList,
+    default: Option<&Lang>,
+) -> Result<(Doc, bool), AllocError>
+    ensures { IfOk result (λ written. (labels : List Labelled)
+        × IsBundle catalogue.now list.now (option_map (λ l. l.now) default.entry) labels
+        × AreWritten labels written.0 written.1) }
+{
+    write_bundle_by(alloc, catalogue, list, Widening::Off, default)
+}
+
+/// The same by a lookup that may be widened: what [`bundle_document_by`] gives for the document of
+/// a catalogue in memory.
+///
+/// The list is cut once to the languages of the catalogue, so a message costs no more ranges than
+/// there are languages, however long the list is.
+///
+/// Out of memory is the only refusal (26).
+pub fn write_bundle_by(
+    alloc: Global,
+    catalogue: &Catalogue,
+    list: &PriorityList,
+    widening: Widening,
+    default: Option<&Lang>,
+) -> Result<(Doc, bool), AllocError>
+    ensures { IfOk result (λ written. (labels : List Labelled)
+        × IsBundleBy widening catalogue.now list.now (option_map
+        (λ l. l.now) default.entry) labels × AreWritten labels written.0 written.1) }
+{
+    let langs = catalogue.languages(alloc)?;
+    let listed = list_languages(alloc, &langs)?;
+    let shortlist = Shortlist::new(alloc, list, widening, &listed)?;
+    let mut draft = open_labels(alloc)?;
+    let mut current: Option<&MessageId> = None;
+    'messages: for message in catalogue.messages() {
+        if let Some((lang, label)) = answered(message.lookup_within(&shortlist, default)) {
+            let id = message.id();
+            write_label(&mut draft, current, id, lang, label)?;
+            current = Some(id);
+        }
+    }
+    let doc = close_labels(draft, current)?;
+    Ok((doc, current.is_some()))
+}
+
+/// The language that was answered, with its label.
+fn answered(reply: LentReply<'_>) -> Option<(&Lang, &Label)>
+    ensures { lent_pair result ≡ answered (reply_of reply.entry) }
+{
+    match reply {
+        LentReply::Matched(lang, label) | LentReply::Default(lang, label) => Some((lang, label)),
+        LentReply::Nothing => None,
+    }
+}

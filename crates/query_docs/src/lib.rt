@@ -1,0 +1,32 @@
+//! Questions to the document of a site: from bytes to the text of the answer.
+//!
+//! - [`status_document`], [`ask_document`], [`bundle_document`], [`export_document`],
+//!   [`missing_document`] and [`outdated_document`] answer of one site, [`changes_document`] of
+//!   two.
+//! - [`status_line`], [`filter_lines`], [`reply_line`], [`write_bundle`], [`write_live_labels`],
+//!   [`write_missing`], [`write_outdated`] and [`changes_lines`] write the same of sites in memory.
+//! - [`answer_lines`] and [`label_at`] serve `docs_core`, whose calls write the answers of a run
+//!   and edit a site.
+//!
+//! Callers find what they need in `docs_core`.
+#![tactic(auto)]
+
+mod asking;
+mod bundling;
+mod changes;
+mod chosen;
+mod exporting;
+mod lines;
+mod messages;
+mod missing;
+mod outdated;
+mod status;
+
+pub use asking::{Ask, ask_document};
+pub use bundling::{bundle_document, bundle_document_by, write_bundle, write_bundle_by};
+pub use changes::{changes_document, changes_lines};
+pub use exporting::{export_document, label_at, write_live_labels};
+pub use lines::{answer_lines, filter_lines, reply_line};
+pub use missing::{missing_document, write_missing};
+pub use outdated::{outdated_document, write_outdated};
+pub use status::{status_document, status_line};

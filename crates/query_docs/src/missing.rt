@@ -1,0 +1,45 @@
+//! What a translator has to do: the messages that lack a language.
+ghost use Rattle.std.specs.Prelude.{IfOk, MatchResult};
+ghost use Rattle.json_docs.specs.Checks.{OrMemory};
+ghost use Rattle.row_docs.specs.Reading.{IsOfDocument, no_memory};
+ghost use Rattle.site_docs.specs.ReadsAs.{RefusesSite};
+ghost use Rattle.map_docs.specs.LangMapTexts.{AreWritten};
+ghost use Rattle.query_docs.specs.Missing.{IsMissing, missing_labels};
+
+use crate::chosen::write_live;
+use crate::messages::Messages;
+use cata_core::Catalogue;
+use json_docs::{Doc, DocFault};
+use lang_core::Lang;
+use site_docs::site_at;
+use std::alloc::{AllocError, Global};
+
+/// The language-map document of the messages that have a live label but none of just this language,
+/// each with all its live labels, and whether there is one. A deleted label is none, and `fr-ca` is
+/// not `fr`.
+///
+/// Refusals: a reader's with document 1. Out of memory (26) may come before.
+pub fn missing_document(alloc: Global, site: &[u8], lang: &Lang) -> Result<(Doc, bool), DocFault>
+    ensures { MatchResult result (λ answer. IsMissing site.now lang.now answer.0 answer.1)
+        (OrMemory no_memory (IsOfDocument 1 (RefusesSite site.now))) }
+{
+    let site = site_at(alloc, 1, site)?;
+    let answer = write_missing(alloc, site.catalogue(), lang)?;
+    Ok(answer)
+}
+
+/// The language-map document of the messages of a catalogue that have no live label in this
+/// language, and whether there is one: what [`missing_document`](crate::missing_document) gives for
+/// the document of its site.
+///
+/// Its one refusal is out of memory (26).
+pub fn write_missing(
+    alloc: Global,
+    catalogue: &Catalogue,
+    lang: &Lang,
+) -> Result<(Doc, bool), AllocError>
+    ensures { IfOk result (λ written. AreWritten
+        (missing_labels lang.now catalogue.now) written.0 written.1) }
+{
+    write_live(alloc, catalogue, Messages::Lacking(lang))
+}
