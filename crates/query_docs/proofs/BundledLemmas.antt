@@ -94,8 +94,8 @@ are_live cells messages are =
 
 module _ (widening : Widening) (cells : Entries) (items : List Item) (default : Option (List ℕ))
   where
-    -- an answer is of its message
-    answer_of : (id : List ℕ) (reply : Reply) (e : Labelled)
+    -- An answer is of its message.
+    pub answer_of : (id : List ℕ) (reply : Reply) (e : Labelled)
         → IsLookupAnswerBy widening cells id items default reply
         → Contains (answered_of id (answered reply)) e → IsAnswer widening cells items default e
     answer_of id (Matched lang label) e is at = elim (member_cases ((id, lang), label) e [] at) [
@@ -136,8 +136,8 @@ module _ (widening : Widening) (cells : Entries) (items : List Item) (default : 
           | inr later ↦ each_answered ms rest live.1 more e later
         ]
 
-    -- the answer of a message is there
-    answered_here : (id : List ℕ) (reply : Reply) (e : Labelled)
+    -- The answer of a message is there.
+    pub answered_here : (id : List ℕ) (reply : Reply) (e : Labelled)
         → IsLookupAnswerBy widening cells id items default reply → id ≡ e.0.0
         → IsAnswer widening cells items default e → Contains (answered_of id (answered reply)) e
     answered_here id reply e is same answer = elim answer [

@@ -1,5 +1,10 @@
+pub mod BundleByMessageLemmas
 pub mod BundledLemmas
+pub mod ByMessageLemmas
 pub mod ChangedLemmas
+pub mod ChosenLemmas
 pub mod CountedLemmas
+pub mod DraftLemmas
 pub mod LinesLemmas
 pub mod LiveLemmas
+pub mod OneMessageLemmas

@@ -1,11 +1,15 @@
 pub mod Asks
+pub mod BundleByMessage
 pub mod Bundled
+pub mod ByMessage
 pub mod Changed
 pub mod Chosen
 pub mod Counted
+pub mod Draft
 pub mod Exported
 pub mod Lines
 pub mod LooksUp
 pub mod Missing
+pub mod OneMessage
 pub mod Outdated
 pub mod Status

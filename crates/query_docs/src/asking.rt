@@ -7,12 +7,12 @@ ghost use Rattle.site_docs.specs.ReadsAs.{RefusesSite};
 ghost use Rattle.query_docs.specs.Asks.{Answers, IsAsked, is_found};
 
 use crate::lines::{filter_lines, reply_line};
+use crate::one_message::read_message;
 use cata_core::{Catalogue, LentReply};
 use cell_core::MessageId;
 use json_docs::{Doc, DocFault};
 use lang_core::Lang;
 use nego_core::{PriorityList, Scheme};
-use site_docs::site_at;
 use std::alloc::{AllocError, Global};
 
 /// A question about the live labels of a message.
@@ -38,7 +38,7 @@ pub fn ask_document(
     ensures { MatchResult result (λ answer. IsAsked site.now id.now ask.now answer.0 answer.1)
         (OrMemory no_memory (IsOfDocument 1 (RefusesSite site.now))) }
 {
-    let site = site_at(alloc, 1, site)?;
+    let site = read_message(alloc, site, id)?;
     let answer = answer_of(alloc, site.catalogue(), id, ask)?;
     Ok(answer)
 }

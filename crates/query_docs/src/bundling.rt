@@ -10,6 +10,7 @@ ghost use Rattle.map_docs.specs.LangMaps.{Labelled};
 ghost use Rattle.query_docs.specs.Bundled.{IsBundle, IsBundleBy, IsBundled, IsBundledBy};
 ghost use Rattle.query_docs.specs.LooksUp.{answered};
 
+use crate::bundle_by_message::written_bundle;
 use cata_core::{Catalogue, LentReply, list_languages};
 use cell_core::{Label, MessageId};
 use json_docs::{Doc, DocFault};
@@ -18,6 +19,10 @@ use map_docs::{close_labels, open_labels, write_label};
 use nego_core::{PriorityList, Shortlist, Widening};
 use site_docs::site_at;
 use std::alloc::{AllocError, Global};
+
+/// The most items of a list by which each message is looked up as it is read. A longer list is cut
+/// to the languages of the whole site first.
+const MAX_ITEMS: usize = 16;
 
 /// The language-map document of the labels of one reader, and whether there is one: for each
 /// message the one label that its lookup answers, matched or as the default (RFC 4647, section
@@ -52,6 +57,11 @@ pub fn bundle_document_by(
         (λ l. l.now) default.entry) answer.0 answer.1) (OrMemory no_memory (IsOfDocument 1
         (RefusesSite site.now))) }
 {
+    if list.items().len() <= MAX_ITEMS {
+        if let Some(answer) = written_bundle(alloc, site, list, widening, default) {
+            return Ok(answer);
+        }
+    }
     let site = site_at(alloc, 1, site)?;
     let answer = write_bundle_by(alloc, site.catalogue(), list, widening, default)?;
     Ok(answer)
@@ -108,7 +118,7 @@ pub fn write_bundle_by(
 }
 
 /// The language that was answered, with its label.
-fn answered(reply: LentReply<'_>) -> Option<(&Lang, &Label)>
+pub(crate) fn answered(reply: LentReply<'_>) -> Option<(&Lang, &Label)>
     ensures { lent_pair result ≡ answered (reply_of reply.entry) }
 {
     match reply {

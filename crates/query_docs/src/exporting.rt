@@ -1,5 +1,5 @@
 //! The live labels of a site, as language maps.
-ghost use Rattle.std.specs.Prelude.{◌≡◌, IfOk, MatchResult};
+ghost use Rattle.std.specs.Prelude.{◌≡◌, IfOk, IfSome, MatchResult};
 ghost use Rattle.std.specs.Option.{option_copied};
 ghost use Rattle.json_docs.specs.Checks.{OrMemory};
 ghost use Rattle.row_docs.specs.Reading.{IsOfDocument, no_memory};
@@ -8,12 +8,13 @@ ghost use Rattle.map_docs.specs.LangMapTexts.{IsTextOf};
 ghost use Rattle.query_docs.specs.Exported.{IsExported, label_at, live_labels};
 
 use crate::chosen::write_live;
+use crate::draft::Draft;
 use crate::messages::Messages;
 use cata_core::Catalogue;
 use cell_core::{Label, MessageId};
 use json_docs::{Doc, DocFault};
 use lang_core::Lang;
-use site_docs::site_at;
+use site_docs::{site_at, take_written_site};
 use std::alloc::{AllocError, Global};
 
 /// The language-map document of the live labels of the site: deletions are left out, and so is a
@@ -24,6 +25,9 @@ pub fn export_document(alloc: Global, site: &[u8]) -> Result<Doc, DocFault>
     ensures { MatchResult result (IsExported site.now)
         (OrMemory no_memory (IsOfDocument 1 (RefusesSite site.now))) }
 {
+    if let Some(doc) = written_export(alloc, site) {
+        return Ok(doc);
+    }
     let site = site_at(alloc, 1, site)?;
     let doc = write_live_labels(alloc, site.catalogue())?;
     Ok(doc)
@@ -47,5 +51,19 @@ pub fn label_at<'a>(catalogue: &'a Catalogue, id: &MessageId, lang: &Lang) -> Op
     match catalogue.cell(id, lang) {
         Some(cell) => cell.label(),
         None => None,
+    }
+}
+
+/// The document of the live labels where the site's is in the form in which it is written.
+fn written_export(alloc: Global, site: &[u8]) -> Option<Doc>
+    ensures { IfSome result (IsExported site.now) }
+{
+    let Ok(mut draft) = Draft::new(alloc) else {
+        return None;
+    };
+    take_written_site(alloc, site, &mut draft)?;
+    match draft.close() {
+        Ok((doc, _)) => Some(doc),
+        Err(_) => None,
     }
 }

@@ -5,6 +5,7 @@
 //!   two.
 //! - [`status_line`], [`filter_lines`], [`reply_line`], [`write_bundle`], [`write_live_labels`],
 //!   [`write_missing`], [`write_outdated`] and [`changes_lines`] write the same of sites in memory.
+//! - [`read_message`] reads of a site what a question about one message needs.
 //! - [`answer_lines`] and [`label_at`] serve `docs_core`, whose calls write the answers of a run
 //!   and edit a site.
 //!
@@ -12,13 +13,17 @@
 #![tactic(auto)]
 
 mod asking;
+mod bundle_by_message;
 mod bundling;
+mod by_message;
 mod changes;
 mod chosen;
+mod draft;
 mod exporting;
 mod lines;
 mod messages;
 mod missing;
+mod one_message;
 mod outdated;
 mod status;
 
@@ -28,5 +33,6 @@ pub use changes::{changes_document, changes_lines};
 pub use exporting::{export_document, label_at, write_live_labels};
 pub use lines::{answer_lines, filter_lines, reply_line};
 pub use missing::{missing_document, write_missing};
+pub use one_message::read_message;
 pub use outdated::{outdated_document, write_outdated};
 pub use status::{status_document, status_line};

@@ -6,12 +6,11 @@ ghost use Rattle.site_docs.specs.ReadsAs.{RefusesSite};
 ghost use Rattle.map_docs.specs.LangMapTexts.{AreWritten};
 ghost use Rattle.query_docs.specs.Missing.{IsMissing, missing_labels};
 
-use crate::chosen::write_live;
+use crate::chosen::{chosen_document, write_live};
 use crate::messages::Messages;
 use cata_core::Catalogue;
 use json_docs::{Doc, DocFault};
 use lang_core::Lang;
-use site_docs::site_at;
 use std::alloc::{AllocError, Global};
 
 /// The language-map document of the messages that have a live label but none of just this language,
@@ -23,9 +22,7 @@ pub fn missing_document(alloc: Global, site: &[u8], lang: &Lang) -> Result<(Doc,
     ensures { MatchResult result (λ answer. IsMissing site.now lang.now answer.0 answer.1)
         (OrMemory no_memory (IsOfDocument 1 (RefusesSite site.now))) }
 {
-    let site = site_at(alloc, 1, site)?;
-    let answer = write_missing(alloc, site.catalogue(), lang)?;
-    Ok(answer)
+    chosen_document(alloc, site, Messages::Lacking(lang))
 }
 
 /// The language-map document of the messages of a catalogue that have no live label in this

@@ -6,12 +6,11 @@ ghost use Rattle.site_docs.specs.ReadsAs.{RefusesSite};
 ghost use Rattle.map_docs.specs.LangMapTexts.{AreWritten};
 ghost use Rattle.query_docs.specs.Outdated.{IsOutdated, outdated_labels};
 
-use crate::chosen::write_live;
+use crate::chosen::{chosen_document, write_live};
 use crate::messages::Messages;
 use cata_core::Catalogue;
 use json_docs::{Doc, DocFault};
 use lang_core::Lang;
-use site_docs::site_at;
 use std::alloc::{AllocError, Global};
 
 /// The language-map document of the messages that have a live label in both languages, where that
@@ -30,9 +29,7 @@ pub fn outdated_document(
     ensures { MatchResult result (λ answer. IsOutdated site.now lang.now source.now answer.0
         answer.1) (OrMemory no_memory (IsOfDocument 1 (RefusesSite site.now))) }
 {
-    let site = site_at(alloc, 1, site)?;
-    let answer = write_outdated(alloc, site.catalogue(), lang, source)?;
-    Ok(answer)
+    chosen_document(alloc, site, Messages::Outdated(lang, source))
 }
 
 /// The same for a catalogue in memory: what [`outdated_document`] gives for its document.

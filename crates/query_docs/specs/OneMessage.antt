@@ -1,0 +1,24 @@
+-- A site that is read for one message.
+use Rattle.std.specs.Prelude.{◌≡◌, ℕ, Bool, List}
+use Rattle.std.specs.Ordering.{is_eq}
+use Rattle.cata_core.specs.Entries.{Entries, text_cmp}
+use Rattle.cata_core.specs.Live.{live}
+use Rattle.cata_core.specs.Parts.{part_of}
+use Rattle.cata_core.specs.Sites.{SiteState}
+use Rattle.site_docs.specs.ReadsAs.{ReadsAsSite}
+use Rattle.query_docs.specs.declared.one_message.OneMessage.{OneMessage}
+
+-- whether an id is this one
+abbrev pub is_of : List ℕ → List ℕ → Bool
+is_of id other = is_eq (text_cmp id other)
+
+-- of these cells those of the message were kept
+pub record KeepsMessage (first message : OneMessage) (taken : Entries) : Type 0 where
+  pub id_is : message.id.now ≡ first.id.now
+  pub cells_are : message.cells ≡ part_of (is_of first.id.now) taken
+
+-- the site has the name and the live labels of this message that the document says
+abbrev pub IsReadFor : List ℕ → List ℕ → SiteState → Type 0
+IsReadFor bytes id part =
+    (site : SiteState) × ReadsAsSite bytes site × (part.name ≡ site.name)
+    × (live part.cells id ≡ live site.cells id)

@@ -1,0 +1,87 @@
+//! Language maps that are being written, label by label.
+ghost use Rattle.std.specs.Prelude.{◌≡◌, ◌++◌, ◌∷◌, [], IfOk, List, OnOk, Some};
+ghost use Rattle.cell_core.specs.Maps.{IsMap};
+ghost use Rattle.cata_core.specs.Entries.{key_cmp};
+ghost use Rattle.map_docs.specs.LangMapTexts.{AreWritten};
+ghost use Rattle.map_docs.specs.LangMaps.{Labelled};
+ghost use Rattle.query_docs.specs.Draft.{HasWritten};
+ghost use Rattle.query_docs.specs.Exported.{live_labels};
+
+use cell_core::{Key, Label, MessageId};
+use json::Writer;
+use json_docs::Doc;
+use lang_core::Lang;
+use map_docs::{close_labels, open_labels, write_label};
+use row_docs::CellEntry;
+use site_docs::TakeCells;
+use std::alloc::{AllocError, Global};
+
+/// The language maps of some labels, without their end, and the message that is open.
+#[derive(Drop)]
+pub(crate) struct Draft {
+    out: Writer,
+    current: Option<MessageId>,
+}
+
+impl Draft {
+    /// That of no label.
+    pub(crate) fn new(alloc: Global) -> Result<Draft, AllocError>
+        ensures { IfOk result (λ draft. HasWritten draft []) }
+    {
+        let out = open_labels(alloc)?;
+        Ok(Draft { out, current: None })
+    }
+
+    /// Adds a label, in a message of its own unless that is the open one.
+    pub(crate) fn add(
+        &mut self,
+        alloc: Global,
+        id: &MessageId,
+        lang: &Lang,
+        label: &Label,
+    ) -> Result<(), AllocError>
+        ensures { OnOk result ((labels : List Labelled) → HasWritten self.old labels
+            → HasWritten self.new (labels ++ ((id.now, lang.now), label.now) ∷ [])) }
+    {
+        write_label(&mut self.out, self.current.as_ref(), id, lang, label)?;
+        self.current = with_open(alloc, self.current.take(), id)?;
+        Ok(())
+    }
+
+    /// The document of the labels, and whether there is one.
+    pub(crate) fn close(self) -> Result<(Doc, bool), AllocError>
+        ensures { IfOk result (λ written. (labels : List Labelled) → HasWritten self labels
+            → IsMap key_cmp labels → AreWritten labels written.0 written.1) }
+    {
+        let Draft { out, current } = self;
+        let doc = close_labels(out, current.as_ref())?;
+        Ok((doc, current.is_some()))
+    }
+}
+
+/// Writes the live label of each cell.
+impl TakeCells for Draft {
+    ghost Holds = { λ first draft taken. HasWritten draft (live_labels taken) };
+
+    fn take(&mut self, alloc: Global, entry: CellEntry) -> Result<(), AllocError> {
+        let CellEntry { id, lang, cell } = entry;
+        match cell.label() {
+            Some(label) => self.add(alloc, &id, &lang, label),
+            None => Ok(()),
+        }
+    }
+}
+
+/// This message as the open one, copied unless it is that already.
+fn with_open(
+    alloc: Global,
+    open: Option<MessageId>,
+    id: &MessageId,
+) -> Result<Option<MessageId>, AllocError>
+    ensures { IfOk result (λ new. new ≡ Some id.now) }
+{
+    match open {
+        Some(open) if open.cmp(id).is_eq() => Ok(Some(open)),
+        _ => Ok(Some(id.copy(alloc)?)),
+    }
+}
