@@ -9,7 +9,7 @@ use Rattle.cell_core.specs.declared.cell.Cell.{Cell}
 use Rattle.cell_core.specs.declared.stamp.Stamp.{Stamp}
 use Rattle.cell_core.specs.Cells.{AgreeStamps, joined_stamps, stamp_laws, stamp_cmp_total}
 use Rattle.cell_core.specs.Maps.{AgreeIfBoth, joined_if_both, if_both_laws}
-use Rattle.cell_core.specs.Stamps.{stamp_cmp, IsAbove, IsNext, NoNext}
+use Rattle.cell_core.specs.Stamps.{stamp_cmp, IsAbove}
 use Rattle.cata_core.specs.Entries.{EntryKey, key_cmp, Entry, Entries}
 use Rattle.cata_core.specs.Latest.{latest_of, IsLatest}
 use Rattle.cata_core.proofs.Basics.{less_of, not_less_of, some_same}
@@ -220,8 +220,3 @@ pub latest_written : (es new : Entries) (k : EntryKey) (c : Cell) (s : Stamp)
     → Some s ≡ latest_of new
 latest_written es new k c s is above same =
     ap Some same ∙ sym (ap latest_of is ∙ latest_put k c es above)
-
--- a site that has a next stamp is not without one
-pub has_next : (latest : Option Stamp) (now : ℕ) (name : List ℕ) (s : Stamp)
-    → IsNext latest now name s → ¬ (NoNext latest now name)
-has_next latest now name s next = λ none. none s next.new
