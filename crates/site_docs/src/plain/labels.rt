@@ -11,6 +11,7 @@ use cell_core::Label;
 use std::alloc::Global;
 
 /// The label that the text begins with, none for null, and what comes after it.
+#[inline(always)]
 pub(crate) fn next_label(alloc: Global, text: &str) -> Option<(Option<Label>, &str)>
     ensures text { IfSome result (λ r. text.now ≡ compact_text (label_value r.0) ++ r.1.now) }
     ensures label { IfSome result (λ r. IsLabelText r.0) }
@@ -23,6 +24,7 @@ pub(crate) fn next_label(alloc: Global, text: &str) -> Option<(Option<Label>, &s
 }
 
 /// The label whose array the text begins with.
+#[inline(always)]
 fn array_label(alloc: Global, text: &str) -> Option<(Label, &str)>
     ensures text { IfSome result (λ r. text.now ≡ compact_text (texts_value r.0) ++ r.1.now) }
     ensures label { IfSome result (λ r. IsLabel r.0) }
@@ -38,6 +40,7 @@ fn array_label(alloc: Global, text: &str) -> Option<(Label, &str)>
 }
 
 /// The text of an array of one text without escapes, and what comes after the array.
+#[inline(always)]
 fn only_text(text: &str) -> Option<(&str, &str)>
     ensures { IfSome result
         (λ r. text.now ≡ compact_text (texts_value (r.0.now ∷ [])) ++ r.1.now) }

@@ -1,10 +1,13 @@
 //! The rows of sites and deltas.
-ghost use Rattle.std.specs.Prelude.{◌≡◌, ◌++◌, ◌∷◌, [], List, ℕ, IfSome, IsTrue, Option, Some};
+ghost use Rattle.std.specs.Prelude.{◌≡◌, ◌↔◌, ◌++◌, ◌∷◌, [], List, ℕ, IfSome, IsTrue, Option};
+ghost use Rattle.std.specs.Prelude.{Some};
+ghost use Rattle.std.specs.Ordering.{ordering_then};
+ghost use Rattle.std.specs.declared.cmp.Ordering.TheVariants.{Less};
 ghost use Rattle.serde_json.specs.Written.{compact_text};
 ghost use Rattle.cell_core.specs.MessageIds.{IsMessageId};
 ghost use Rattle.cell_core.specs.SiteNames.{IsSiteName};
 ghost use Rattle.lang_core.specs.Lang.{IsLang};
-ghost use Rattle.cata_core.specs.Entries.{Entries, Entry, IsAboveAll};
+ghost use Rattle.cata_core.specs.Entries.{Entries, Entry, IsAboveAll, text_cmp};
 ghost use Rattle.row_docs.specs.Entries.{entry_value};
 ghost use Rattle.row_docs.specs.EntriesSeen.{entry_by};
 ghost use Rattle.row_docs.specs.Fields.{IsAfter, IsLabelText};
@@ -152,6 +155,7 @@ fn give_cell<'t, T: TakeCells>(
 }
 
 /// What a row begins with, up to and including the comma after its count.
+#[inline(always)]
 fn next_front(text: &str) -> Option<(Front<'_>, &str)>
     ensures { IfSome result (λ r. text.now ≡ row_before (row_in r.0) r.1.now) }
 {
@@ -193,6 +197,7 @@ impl<'t> Spelled<'t> {
 
     /// Becomes what this row spells, where its key is greater. What the last row spells by the
     /// same text stays as it is.
+    #[inline(always)]
     fn follow(&mut self, alloc: Global, front: Front<'t>) -> Option<()>
         requires { IsSpelled self.old }
         ensures spelled { IfSome result (λ _. IsSpelled self.new) }
@@ -200,10 +205,11 @@ impl<'t> Spelled<'t> {
         ensures key { IfSome result
             (λ _. IsAfter (Some (key_in self.old.front)) (key_in self.new.front)) }
     {
-        if !rises(self.front, front) {
+        let ids = self.front.id.cmp(front.id);
+        if !rises(ids, self.front.language, front.language) {
             return None;
         }
-        set_id(alloc, &mut self.id, self.front.id, front.id)?;
+        set_id(alloc, &mut self.id, ids, front.id)?;
         set_lang(alloc, &mut self.lang, self.front.language, front.language)?;
         set_site(&mut self.site, self.front.site, front.site)?;
         self.front = front;
@@ -211,6 +217,7 @@ impl<'t> Spelled<'t> {
     }
 
     /// The entry of the row with this label.
+    #[inline(always)]
     fn entry(&self, alloc: Global, label: Option<Label>) -> Option<CellEntry>
         requires { IsSpelled self.now }
         ensures entry { IfSome result (λ e. entry_by e ≡ entry_in self.now.front label) }
@@ -233,23 +240,24 @@ impl<'t> Spelled<'t> {
     }
 }
 
-/// Whether the key of the row is greater than that of the last one.
-fn rises(last: Front<'_>, row: Front<'_>) -> bool
-    ensures { IsTrue result → IsAfter (Some (key_in last.entry)) (key_in row.entry) }
+/// Whether a key is greater than the last one, where the ids are ordered so.
+fn rises(ids: Ordering, last: &str, language: &str) -> bool
+    ensures { IsTrue result ↔ (ordering_then ids (text_cmp last.now language.now) ≡ Less) }
 {
-    match last.id.cmp(row.id) {
+    match ids {
         Ordering::Less => true,
-        Ordering::Equal => last.language.cmp(row.language).is_lt(),
+        Ordering::Equal => last.cmp(language).is_lt(),
         Ordering::Greater => false,
     }
 }
 
-/// Makes the id that of the text, which it is where the last text is the same.
-fn set_id(alloc: Global, id: &mut MessageId, last: &str, text: &str) -> Option<()>
-    requires { (id.old ≡ last.now) × IsMessageId last.now }
+/// Makes the id that of the text, to which it is ordered so: an equal one stays.
+fn set_id(alloc: Global, id: &mut MessageId, order: Ordering, text: &str) -> Option<()>
+    requires order { order ≡ text_cmp id.old text.now }
+    requires id { IsMessageId id.old }
     ensures { IfSome result (λ _. (id.new ≡ text.now) × IsMessageId text.now) }
 {
-    if last != text {
+    if order.is_ne() {
         *id = spelled_id(alloc, text)?;
     }
     Some(())

@@ -1,5 +1,7 @@
 //! What a text begins with: literals, numbers, and strings with or without the escapes that are
 //! written.
+//!
+//! What is called for each row is inlined, so that its literals are known where they are compared.
 ghost use Rattle.std.specs.Prelude.{◌≡◌, ◌<◌, ◌++◌, ◌∷◌, [], IfSome, MatchOption, Some, decimal};
 ghost use Rattle.std.specs.Prelude.{get_or, length, map, nat_lt, string_bytes};
 ghost use Rattle.std.specs.Char.{digit_char};
@@ -19,7 +21,7 @@ const MOST_TENTH: u64 = (u64::MAX - 9) / 10;
 const BLOCK: usize = 16;
 
 /// What comes after the literal that the text begins with.
-#[inline]
+#[inline(always)]
 pub(crate) fn after<'t>(text: &'t str, literal: &str) -> Option<&'t str>
     ensures { IfSome result (λ rest. text.now ≡ literal.now ++ rest.now) }
 {
@@ -44,7 +46,7 @@ pub(crate) fn text_after<'t>(text: &'t str, literal: &str) -> Option<(&'t str, &
 
 /// What comes before the literal, where it needs no escape in a string and ends at the first byte
 /// that does, and what comes after the literal.
-#[inline]
+#[inline(always)]
 pub(crate) fn text_before<'t>(text: &'t str, literal: &str) -> Option<(&'t str, &'t str)>
     ensures { IfSome result (λ r. text.now ≡ escape r.0.now ++ (literal.now ++ r.1.now)) }
 {
@@ -54,7 +56,7 @@ pub(crate) fn text_before<'t>(text: &'t str, literal: &str) -> Option<(&'t str, 
 }
 
 /// The number before the literal, in decimal without leading zeros, and what comes after that.
-#[inline]
+#[inline(always)]
 pub(crate) fn number_before<'t>(text: &'t str, literal: &str) -> Option<(u64, &'t str)>
     ensures { IfSome result (λ r. text.now ≡ decimal r.0 ++ (literal.now ++ r.1.now)) }
 {
@@ -103,7 +105,7 @@ fn plain_text(text: &str) -> Option<(&str, &str)>
 }
 
 /// What comes before the first byte that ends a string or is escaped in it, and the rest.
-#[inline]
+#[inline(always)]
 fn plain_front(text: &str) -> Option<(&str, &str)>
     ensures cut { IfSome result (λ r. text.now ≡ r.0.now ++ r.1.now) }
     ensures plain { IfSome result (λ r. escape r.0.now ≡ r.0.now) }
@@ -113,7 +115,7 @@ fn plain_front(text: &str) -> Option<(&str, &str)>
 }
 
 /// The place of the first byte that ends a string or is escaped in it.
-#[inline]
+#[inline(always)]
 fn stop_in(bytes: &[u8]) -> Option<usize>
     ensures { MatchOption result (IsPlainBefore bytes.now (length bytes.now))
         (IsFirstStop bytes.now) }
@@ -136,7 +138,7 @@ fn stop_in(bytes: &[u8]) -> Option<usize>
 }
 
 /// A bit for each byte, which is set where the byte ends a string or is escaped in it.
-#[inline]
+#[inline(always)]
 fn stops_of(bytes: u8x16) -> u64
     ensures { result ≡ mask_l (map is_stop bytes) }
 {
@@ -154,7 +156,7 @@ fn is_stop(b: u8) -> bool
 }
 
 /// The number that the text begins with, and what comes after it.
-#[inline]
+#[inline(always)]
 fn number_front(text: &str) -> Option<(u64, &str)>
     ensures { IfSome result (λ r. text.now ≡ decimal r.0 ++ r.1.now) }
 {

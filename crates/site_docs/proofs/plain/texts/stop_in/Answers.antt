@@ -1,4 +1,4 @@
-use Rattle.std.proofs.Common.{◌∙◌, ◌+◌, ap, arith, subst, sym}
+use Rattle.std.proofs.Common.{◌+◌, arith, subst, sym}
 use lib.Count.{count_trailing_zeros}
 use Rattle.site_docs.specs.Plain.{IsFirstStop}
 use Rattle.site_docs.proofs.TextsLemmas.{first_in_block, none_in_block}
