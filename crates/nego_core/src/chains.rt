@@ -45,14 +45,14 @@ pub(crate) fn chains_of(alloc: Global, items: &[Item]) -> Result<Chains, AllocEr
 }
 
 /// The chains of a tag's subtags, each once.
-pub(crate) fn chains_of_tag(tag: &Tag) -> ArrayVec<usize, MAX_SUBTAGS>
+pub(crate) fn chains_of_tag(tag: &Tag) -> ArrayVec<u16, MAX_SUBTAGS>
     ensures { AreChainsOf (pieces tag.now) result.items }
 {
     let bytes = tag.as_str().len();
     prove!(bytes <= 255);
     let mut chains = ArrayVec::new();
     for subtag in tag.subtags() {
-        let chain = chain_of(subtag);
+        let chain = chain_of(subtag) as u16;
         if !chains.contains(&chain) {
             chains.push(chain);
         }

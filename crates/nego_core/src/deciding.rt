@@ -52,7 +52,7 @@ pub(crate) fn best_extended(items: &[Item], chains: &Chains, tag: &Tag) -> Optio
     let mut best = best_in(items, chains, LAST_CHAIN, tag);
     let asked = chains_of_tag(tag);
     for chain in asked.as_slice() {
-        best = better_of(best, best_in(items, chains, *chain, tag));
+        best = better_of(best, best_in(items, chains, usize::from(*chain), tag));
     }
     best
 }

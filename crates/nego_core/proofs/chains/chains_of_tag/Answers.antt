@@ -18,21 +18,21 @@ push-requires c =
 
 pub loop-subtag-preserved-then-not-contains : goal.loop-subtag-preserved-then-not-contains
 loop-subtag-preserved-then-not-contains c =
-    let absent : list_any (λ n. nat_eq n c.chain_of-chain.result) c.deref.result.now ≡ false =
+    let absent : list_any (λ n. nat_eq n c.chain_of.result) c.deref.result.now ≡ false =
     sym c.contains.ensures.value ∙ c.if-not-contains.true in
     rw c.push.ensures.items
     (new_chain (pieces c.args.tag.now) (subtags_left c.next.new.self) c.in-Some.subtag.now
-    c.chain_of-chain.result c.loop-subtag.chains.items
-    (rw c.in-Some.ensures.steps at c.loop-subtag.invariant) c.chain_of-chain.ensures.chain
+    c.chain_of.result c.loop-subtag.chains.items
+    (rw c.in-Some.ensures.steps at c.loop-subtag.invariant) c.chain_of.ensures.chain
     (rw c.deref.ensures.0 at absent))
 
 pub loop-subtag-preserved : goal.loop-subtag-preserved
 loop-subtag-preserved c =
-    let there : list_any (λ n. nat_eq n c.chain_of-chain.result) c.deref.result.now ≡ true =
+    let there : list_any (λ n. nat_eq n c.chain_of.result) c.deref.result.now ≡ true =
     sym c.contains.ensures.value ∙ c.if-not-contains.false in
     old_chain (pieces c.args.tag.now) (subtags_left c.next.new.self) c.in-Some.subtag.now
-    c.chain_of-chain.result c.loop-subtag.chains.items
-    (rw c.in-Some.ensures.steps at c.loop-subtag.invariant) c.chain_of-chain.ensures.chain
+    c.chain_of.result c.loop-subtag.chains.items
+    (rw c.in-Some.ensures.steps at c.loop-subtag.invariant) c.chain_of.ensures.chain
     (rw c.deref.ensures.0 at there)
 
 pub returns : goal.returns

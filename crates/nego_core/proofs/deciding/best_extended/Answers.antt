@@ -36,7 +36,7 @@ loop-chain-preserved c = λ numbers h.
     rw (more, c.better_of-best.ensures)
     (one_asked (λ i. Extended (pieces i.range) (pieces c.args.tag.now)) c.args.items.now numbers
     (take k xs) (get_or xs k 0) c.loop-chain.best c.best_in.result
-    (c.loop-chain.invariant numbers h) (c.best_in.ensures numbers h))
+    (c.loop-chain.invariant numbers h) (rw c.from.ensures at (c.best_in.ensures numbers h)))
 
 pub returns : goal.returns
 returns c =
