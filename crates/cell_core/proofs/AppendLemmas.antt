@@ -1,19 +1,24 @@
 -- What comes after all entries of the chunks, and what is added there.
 use Rattle.std.proofs.Common.{◌≡◌, ℕ, suc, zero, ◌+◌, ◌-◌, ◌<◌, ◌≤◌, List, [], ◌∷◌, ◌++◌, length}
 use Rattle.std.proofs.Common.{get_or, set, take, drop, slice_get, Some, None, sym, ap, ◌∙◌, subst}
-use Rattle.std.proofs.Common.{refl, arith, append_assoc, append-nil, length-append}
+use Rattle.std.proofs.Common.{refl, arith, append_assoc, append-nil, length-append, true, false}
+use Rattle.std.proofs.Common.{cond}
+use Rattle.std.specs.Prelude.{T}
+use Rattle.std.specs.Ordering.{is_gt}
+use Rattle.std.specs.FinMap.Entries.{find, below_all}
 use Rattle.std.specs.declared.cmp.Ordering.{Ordering}
-use Rattle.std.specs.declared.cmp.Ordering.TheVariants.{Greater}
+use Rattle.std.specs.declared.cmp.Ordering.TheVariants.{Equal, Greater}
 use Rattle.std.specs.Cmp.{IsTotalOrder}
 use Rattle.std.specs.declared.vec.Vec.{Vec}
 use Rattle.std.proofs.lemmas.List.{drop_all, get_or-append-add, get_or_append_left}
+use Rattle.std.proofs.lemmas.List.{get_or_default}
 use Rattle.std.proofs.lemmas.Option.{get_or_from_slice_get, slice_get-get_or, slice_get_read}
 use Rattle.cell_core.specs.Maps.{IsMap}
-use Rattle.cell_core.specs.Places.{IsGap}
-use Rattle.cell_core.specs.Chunks.{all_of, AllFilled, IsChunked}
+use Rattle.cell_core.specs.Places.{place_of, IsPlace, IsGap}
+use Rattle.cell_core.specs.Chunks.{all_of, AllFilled, IsChunked, IsPlaceIn}
 use Rattle.cell_core.proofs.Basics.{some_not_none}
-use Rattle.cell_core.proofs.WalkLemmas.{gap_at_end}
-use Rattle.cell_core.proofs.ChunkLemmas.{all_of-split, all_of-set, filled_at}
+use Rattle.cell_core.proofs.WalkLemmas.{gap_at_end, place_found_in_map}
+use Rattle.cell_core.proofs.ChunkLemmas.{all_of-split, all_of-set, filled_at, chunk_map}
 use Rattle.cell_core.proofs.RunLemmas.{all_of-append}
 
 last_entry : {X : Type 0} (f c : List X) (e : X) → 0 < length c → e ≡ get_or c (length c - 1) e
@@ -128,3 +133,61 @@ gap_behind {K} {J} {Z} cmp total key cs i c e h last is read greater =
     subst (λ xs. IsGap cmp key xs (length xs)) (sym whole)
     (gap_at_end cmp total key all (length all - 1) e (subst (IsMap cmp) whole h.map) long
     (ap (λ (x : K × J). cmp key x.0) (sym (last_entry f c.items e some read)) ∙ greater))
+
+-- Where there is no last chunk nothing is found.
+pub none_found : {K J Z : Type 0} (cmp : K → K → Ordering) (key : K) (cs : List (Vec (K × J) Z))
+    → None ≡ slice_get cs (length cs - 1) → find cmp key (all_of cs) ≡ None
+none_found cmp key [] e = refl
+none_found cmp key (c ∷ cs) e =
+    absurd
+    (some_not_none (get_or (c ∷ cs) (length (c ∷ cs) - 1) c)
+    (sym (slice_get-get_or (c ∷ cs) (length (c ∷ cs) - 1) c (omega arith)) ∙ sym e))
+
+-- a front that ends at or before the place of a key has lesser keys alone
+place_front : {K J : Type 0} (cmp : K → K → Ordering) (q : K) (xs ys : List (K × J))
+    → length xs ≤ place_of cmp q (xs ++ ys) → place_of cmp q xs ≡ length xs
+place_front cmp q [] ys le = refl
+place_front cmp q (x ∷ xs) ys le =
+    elim (is_gt (cmp q x.0)) as
+    (λ t. suc (length xs) ≤ cond t (suc (place_of cmp q (xs ++ ys))) 0
+    → cond t (suc (place_of cmp q xs)) 0 ≡ suc (length xs)) [
+      | true ↦ λ h. ap suc (place_front cmp q xs ys (omega (arith, h)))
+      | false ↦ λ h. absurd (omega (arith, h))
+    ] le
+
+-- A key that ties with the last of all is in the last chunk, at its last place.
+pub place_at_last : {K J Z : Type 0} (cmp : K → K → Ordering) → IsTotalOrder cmp
+    → (key : K) (cs : List (Vec (K × J) Z)) (i : ℕ) (c : Vec (K × J) Z) (e : K × J)
+    → IsChunked cmp cs → i + 1 ≡ length cs → c ≡ get_or cs i c
+    → e ≡ get_or c.items (length c.items - 1) e → cmp key e.0 ≡ Equal
+    → IsPlaceIn cmp key cs i (length c.items - 1)
+place_at_last {K} {J} {Z} cmp total key cs i c e h last is read tie =
+    let f = all_of (take i cs) in
+    let all = f ++ c.items in
+    let whole = all_of_last cs i c last is in
+    let lt : i < length cs = omega (arith, last) in
+    let some =
+    subst (λ (y : Vec (K × J) Z). 0 < length y.items) (sym is) (filled_at cs i c h.filled lt) in
+    let long : length all - 1 < length all = omega (arith, some, length-append f c.items) in
+    let place =
+    place_found_in_map cmp total key all (length all - 1) e (subst (IsMap cmp) whole h.map) long
+    (ap (λ (x : K × J). cmp key x.0) (sym (last_entry f c.items e some read)) ∙ tie) in
+    let inside =
+    place_found_in_map cmp total key c.items (length c.items - 1) e
+    (subst (λ (y : Vec (K × J) Z). IsMap cmp y.items) (sym is) (chunk_map cmp total cs h i c lt))
+    (omega (arith, some)) (ap (λ (x : K × J). cmp key x.0) (sym read) ∙ tie) in
+    record {
+      fits =
+          record {
+            in_range = lt;
+            front =
+                place_front cmp key f c.items
+                (omega (arith, place.is, some, length-append f c.items));
+            back =
+                subst (λ (ds : List (Vec (K × J) Z)). T (below_all cmp key (all_of ds)))
+                (sym (drop_all (suc i) cs (omega (arith, last)))) tt;
+          };
+      there = λ d.
+          subst (λ (y : Vec (K × J) Z). IsPlace cmp key y.items (length c.items - 1))
+          (is ∙ get_or_default cs i c d lt) inside;
+    }

@@ -2,7 +2,8 @@
 //! alone.
 
 ghost use Rattle.std.specs.Prelude.{◌≡◌, ◌+◌, ◌-◌, ◌<◌, ◌≤◌, ◌∷◌, ◌++◌, [], IfOk, IfErr, OnOk};
-ghost use Rattle.std.specs.Prelude.{IsOk, IsSome, IsTrue, false, length, slice_get};
+ghost use Rattle.std.specs.Prelude.{IsOk, IsSome, IsTrue, MatchOption, None, false, length};
+ghost use Rattle.std.specs.Prelude.{slice_get};
 ghost use Rattle.std.specs.Option.{option_copied};
 ghost use Rattle.std.specs.FinMap.Entries.{find, put};
 ghost use Rattle.std.specs.Vec.{vec_len, vec_capacity};
@@ -10,12 +11,13 @@ ghost use Rattle.cell_core.specs.Above.{IsAboveAll};
 ghost use Rattle.cell_core.specs.Maps.{IsMap};
 ghost use Rattle.cell_core.specs.Places.{IsGap};
 ghost use Rattle.cell_core.specs.Chunks.{all_of, entries_of, AllFilled, IsChunked, IsChunkFor};
-ghost use Rattle.cell_core.specs.Chunks.{IsKept};
+ghost use Rattle.cell_core.specs.Chunks.{IsKept, IsPlaceIn};
 
 use crate::join::Join;
 use crate::key::{Key, Query};
 use crate::pairs::bisect;
 use std::alloc::{AllocError, Global};
+use std::cmp::Ordering;
 
 /// A chunk that reaches this length is split in two.
 pub(crate) const FULL: usize = 64;
@@ -46,17 +48,21 @@ pub(crate) fn chunk_for<K: Key, J, Q: Query<K>>(chunks: &[Vec<(K, J)>], query: Q
     low
 }
 
-/// As [`chunk_for`], with a look at the last chunk first.
-pub(crate) fn chunk_from_last<K: Key, J>(chunks: &[Vec<(K, J)>], key: &K) -> usize
-    requires chunked { IsChunked K.cmp chunks.now }
-    requires some { 0 < length chunks.now }
-    ensures { IsChunkFor K.cmp key.now chunks.now result }
+/// The chunk that has the key, and the key's place in it. The greatest key, and one above it, are
+/// looked for first.
+pub(crate) fn place_from_last<K: Key, J>(chunks: &[Vec<(K, J)>], key: &K) -> Option<(usize, usize)>
+    requires { IsChunked K.cmp chunks.now }
+    ensures { MatchOption result (find K.cmp key.now (all_of chunks.now) ≡ None)
+        (λ at. IsPlaceIn K.cmp key.now chunks.now at.0 at.1) }
 {
-    let last = chunks.len() - 1;
-    if key.cmp(&chunks[last][0].0).is_lt() {
-        return chunk_for(chunks, key);
+    match chunks.last() {
+        Some(chunk) => match key.cmp(&chunk[chunk.len() - 1].0) {
+            Ordering::Less => place_in(chunks, key),
+            Ordering::Equal => Some((chunks.len() - 1, chunk.len() - 1)),
+            Ordering::Greater => None,
+        },
+        None => None,
     }
-    last
 }
 
 /// The last entry of all chunks.
@@ -178,6 +184,20 @@ pub(crate) fn cut_if_full<K: Key, J: Drop>(chunks: &mut Vec<Vec<(K, J)>>, at: us
 {
     if chunks[at].len() >= FULL {
         let _ = cut(chunks, at);
+    }
+}
+
+/// The chunk that has the key, and the key's place in it.
+fn place_in<K: Key, J>(chunks: &[Vec<(K, J)>], key: &K) -> Option<(usize, usize)>
+    requires chunked { IsChunked K.cmp chunks.now }
+    requires some { 0 < length chunks.now }
+    ensures { MatchOption result (find K.cmp key.now (all_of chunks.now) ≡ None)
+        (λ at. IsPlaceIn K.cmp key.now chunks.now at.0 at.1) }
+{
+    let at = chunk_for(chunks, key);
+    match bisect(&chunks[at], key) {
+        Ok(place) => Some((at, place)),
+        Err(_) => None,
     }
 }
 

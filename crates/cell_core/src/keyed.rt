@@ -15,13 +15,13 @@ pub(crate) mod iter;
 
 use crate::chunk_joins::{agree_chunks, join_chunks};
 use crate::chunks::{
-    Chunks, append, chunk_for, chunk_from_last, copy_chunks, is_above_all, last_pair, nth_pair,
+    Chunks, append, chunk_for, copy_chunks, is_above_all, last_pair, nth_pair, place_from_last,
     put_pair,
 };
 use crate::join::Join;
 use crate::key::{Key, Query};
 use crate::keyed::iter::{Iter, are_equal};
-use crate::pairs::{bisect, bisect_from_last};
+use crate::pairs::bisect;
 use std::alloc::{AllocError, Global};
 use std::fmt;
 use std::marker::Model;
@@ -159,13 +159,9 @@ impl<K: Key, J> Keyed<K, J> {
         ensures value { option_copied_mut result ≡ find K.cmp key.now self.old }
         ensures map { IsMap K.cmp self.old }
     {
-        if self.chunks.list.is_empty() {
-            return None;
-        }
-        let at = chunk_from_last(&self.chunks.list, key);
-        match bisect_from_last(&self.chunks.list[at], key) {
-            Ok(place) => Some(&mut self.chunks.list[at][place].1),
-            Err(_) => None,
+        match place_from_last(&self.chunks.list, key) {
+            Some((at, place)) => Some(&mut self.chunks.list[at][place].1),
+            None => None,
         }
     }
 

@@ -31,23 +31,6 @@ pub(crate) fn bisect<K: Key, J, Q: Query<K>>(pairs: &[(K, J)], query: Q) -> Resu
     Err(low)
 }
 
-/// As [`bisect`], with a look at the last entry first.
-pub(crate) fn bisect_from_last<K: Key, J>(pairs: &[(K, J)], key: &K) -> Result<usize, usize>
-    requires { IsMap K.cmp pairs.now }
-    ensures found { IfOk result (IsPlace K.cmp key.now pairs.now) }
-    ensures absent { IfErr result (IsGap K.cmp key.now pairs.now) }
-{
-    let len = pairs.len();
-    if len == 0 {
-        return Err(0);
-    }
-    match key.cmp(&pairs[len - 1].0) {
-        Ordering::Less => bisect(pairs, key),
-        Ordering::Equal => Ok(len - 1),
-        Ordering::Greater => Err(len),
-    }
-}
-
 /// Whether the values of common keys agree, by one walk over the first run.
 pub(crate) fn agree_pairs<K: Key, J: Join>(mine: &[(K, J)], theirs: &[(K, J)]) -> bool
     requires mine { IsMap K.cmp mine.now }
