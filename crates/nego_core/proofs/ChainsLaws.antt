@@ -33,7 +33,7 @@ use Rattle.nego_core.specs.Item.{Item}
 use Rattle.nego_core.specs.Fingerprint.{fingerprint_of}
 use Rattle.nego_core.specs.Chains.{chain_of, MayStandIn, AreNumbers, IsNextIn, AreLinksFrom}
 use Rattle.nego_core.specs.Chains.{AreLinked, StandsIn, StandsAmong, IsChainOfOne, AreChainsOf}
-use Rattle.nego_core.specs.declared.chains.TheConstants.{LAST_CHAIN, CHAIN_COUNT}
+use Rattle.nego_core.specs.declared.chains.TheConstants.{LAST_CHAIN, CHAIN_COUNT, MAX_SUBTAGS}
 use Rattle.nego_core.specs.declared.chains.Chains.{Chains}
 
 -- ---- what a range that matches has, the tag has
@@ -311,13 +311,14 @@ sized_pieces place (s ∷ list) h =
     let one = sized_piece s parts.0 in
     omega (arith, size_cons s list)
 
--- A tag has at most 128 subtags.
-pub few_subtags : (tag text : List ℕ) → text ≡ tag → IsTag text → length (pieces tag) ≤ 128
+-- A tag has no more subtags than the most.
+pub few_subtags : (tag text : List ℕ) → text ≡ tag → IsTag text
+    → length (pieces tag) ≤ MAX_SUBTAGS
 few_subtags tag text e h =
     let most = h.0.1 in
     let size = size_pieces 45 text in
     let half = sized_pieces 0 (pieces text) h.1 in
-    subst (λ (t : List ℕ). length (pieces t) ≤ 128) e (omega arith)
+    subst (λ (t : List ℕ). length (pieces t) ≤ MAX_SUBTAGS) e (omega arith)
 
 same_number : (m n : ℕ) → nat_eq m n ≡ true → m ≡ n
 same_number m n h = grind (arith, nat_tests)

@@ -20,7 +20,7 @@ use std::alloc::{AllocError, Global};
 pub(crate) const LAST_CHAIN: usize = 8192;
 
 /// How many chains there are, the last one included.
-const CHAIN_COUNT: usize = 8193;
+const CHAIN_COUNT: usize = LAST_CHAIN + 1;
 
 /// The most subtags of a tag: 128 of one byte take 255 with their hyphens.
 const MAX_SUBTAGS: usize = 128;
