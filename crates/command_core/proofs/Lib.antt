@@ -5,5 +5,6 @@ pub mod FaultLineLemmas
 pub mod InputLemmas
 pub mod MatchesLemmas
 pub mod ProgramLemmas
+pub mod QuestionsLemmas
 pub mod ReadingLemmas
 pub mod TaskLemmas

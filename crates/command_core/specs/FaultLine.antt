@@ -1,5 +1,5 @@
 -- The line that reports a refusal, and what a sink takes of it (project rule).
-use Rattle.std.specs.Prelude.{◌≡◌, ◌==◌, ◌≤◌, ℕ, Bool, false, List, ◌++◌, length, Option, None}
+use Rattle.std.specs.Prelude.{◌≡◌, ◌==◌, ◌≤◌, ℕ, false, List, ◌++◌, length, Option, None}
 use Rattle.std.specs.Prelude.{Some, [], codes, decimal, if◌then◌else◌, IfSome, MatchBool}
 use Rattle.std.specs.Fmt.Cut.{IsTextOrCut}
 use Rattle.std.specs.Io.KnownBytes.{Appends}

@@ -6,7 +6,7 @@ use Rattle.json_docs.specs.Checks.{OrMemory}
 use Rattle.json_docs.specs.Sources.{IsReadFault, ReadsWhole}
 use Rattle.json_docs.specs.declared.fault.DocFault.{DocFault}
 use Rattle.row_docs.specs.Reading.{no_memory}
-use Rattle.site_docs.specs.ReadsAs.{ReadsAsSite}
+use Rattle.query_docs.specs.OneMessage.{IsReadFor}
 use Rattle.front_core.specs.Faults.{IsOf, document_fault}
 use Rattle.front_core.specs.declared.fault.FrontFault.{FrontFault}
 use Rattle.command_core.specs.Streams.{IsUnread, Reader}
@@ -32,8 +32,8 @@ RefusesInput words refuses_words refuses reader fault =
     (refuses_words fault × IsUnread reader)
     ⊎ (words × IsOf document_fault (FailsInput refuses reader) fault)
 
--- the whole input was read, and is this site
-abbrev pub ReadsSite : {R : Type 0} → Reader R → SiteState → Type 0
-ReadsSite reader site =
+-- the whole input was read, and this is its site as far as a question about a message needs it
+abbrev pub ReadsFor : {R : Type 0} → List ℕ → Reader R → SiteState → Type 0
+ReadsFor id reader part =
     (input : List ℕ) × ReadsWhole reader.failed reader.remaining reader.old reader.new input
-    × ReadsAsSite input site
+    × IsReadFor input id part

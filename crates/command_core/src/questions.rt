@@ -3,7 +3,7 @@ ghost use Rattle.std.specs.Prelude.{◌≡◌, false, MatchResult};
 ghost use Rattle.front_core.specs.Fields.{field_text};
 ghost use Rattle.command_core.specs.Acts.{Performs};
 ghost use Rattle.command_core.specs.Documents.{RefusesOnly};
-ghost use Rattle.command_core.specs.Reading.{FailsInput, ReadsSite};
+ghost use Rattle.command_core.specs.Reading.{FailsInput, ReadsFor};
 ghost use Rattle.command_core.specs.Streams.{reads};
 ghost use Rattle.command_core.specs.TaskWords.{Bundle, Filter as FilterTask, Lookup as LookupTask};
 ghost use Rattle.command_core.specs.TaskWords.{Missing, Outdated};
@@ -13,7 +13,11 @@ use crate::answer::Answered;
 use crate::matches::PreferenceValues;
 use crate::parsing::{Translation, read_lang, read_translation};
 use cata_core::Site;
-use docs_core::{DocFault, Source, missing_document, outdated_document, read_all, read_site};
+use cell_core::MessageId;
+use docs_core::{
+    DocFault, Source, bundle_document_by, missing_document, outdated_document, read_all,
+    read_message,
+};
 use front_core::{Answer, Field, Filter, Lookup, Outcome, Preferences};
 use std::alloc::Global;
 
@@ -59,7 +63,7 @@ pub(crate) fn filter<R: Source>(
         (reads R.remaining R.failed reader.old reader.new) result }
 {
     let question = Filter::read(alloc, id, field)?;
-    let site = read_input(alloc, reader)?;
+    let site = read_input_for(alloc, &question.id, reader)?;
     let answer = question.lines(alloc, &site)?;
     Ok(answer)
 }
@@ -77,7 +81,7 @@ pub(crate) fn lookup<R: Source>(
         (reads R.remaining R.failed reader.old reader.new) result }
 {
     let question = Lookup::read(alloc, id, preferences.field, preferences.default)?;
-    let site = read_input(alloc, reader)?;
+    let site = read_input_for(alloc, &question.id, reader)?;
     let answer = question.line(alloc, &site)?;
     Ok(answer)
 }
@@ -93,17 +97,28 @@ pub(crate) fn bundle<R: Source>(
         (reads R.remaining R.failed reader.old reader.new) result }
 {
     let question = Preferences::read(alloc, preferences.field, preferences.default)?;
-    let site = read_input(alloc, reader)?;
-    let answer = question.bundle(alloc, &site)?;
-    Ok(answer)
+    let site = read_all(alloc, reader)?;
+    let Preferences {
+        list,
+        widening,
+        default,
+    } = question;
+    let default = default.as_ref();
+    let (text, found) = bundle_document_by(alloc, site.bytes(), &list, widening, default)?;
+    Ok(Answer::new(text, Outcome::of(found)))
 }
 
-/// The site of the input.
-fn read_input<R: Source>(alloc: Global, reader: &mut R) -> Result<Site, DocFault>
+/// The site of the input, as far as a question about the message needs it.
+fn read_input_for<R: Source>(
+    alloc: Global,
+    id: &MessageId,
+    reader: &mut R,
+) -> Result<Site, DocFault>
     requires { R.failed reader.old ≡ false }
-    ensures { MatchResult result (ReadsSite (reads R.remaining R.failed reader.old reader.new))
+    ensures { MatchResult result
+        (ReadsFor id.now (reads R.remaining R.failed reader.old reader.new))
         (FailsInput RefusesOnly (reads R.remaining R.failed reader.old reader.new)) }
 {
     let input = read_all(alloc, reader)?;
-    read_site(alloc, input.bytes())
+    read_message(alloc, input.bytes(), id)
 }

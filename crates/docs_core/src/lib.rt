@@ -8,6 +8,7 @@
 //!   [`sync_documents`], [`summary_document`], [`delta_document`], [`take_document`],
 //!   [`ask_document`] and [`status_document`] work on whole documents, from bytes to bytes;
 //!   [`take_document_until`] and [`sync_documents_until`] under a limit on times.
+//! - [`read_message`] reads of a site what a question about one message needs.
 //! - [`filter_lines`], [`reply_line`], [`status_line`], [`changes_lines`], [`write_live_labels`],
 //!   [`write_missing`], [`write_outdated`] and [`write_bundle`] write the answers of a site in
 //!   memory, without its document; [`put_labels`] and [`update_labels`] edit it.
@@ -43,9 +44,9 @@ pub use json_docs::{
 pub use map_docs::{KeyedLabel, LangMaps, read_langmaps, write_langmaps};
 pub use query_docs::{
     Ask, answer_lines, ask_document, bundle_document, bundle_document_by, changes_document,
-    changes_lines, export_document, filter_lines, missing_document, outdated_document, reply_line,
-    status_document, status_line, write_bundle, write_bundle_by, write_live_labels, write_missing,
-    write_outdated,
+    changes_lines, export_document, filter_lines, missing_document, outdated_document,
+    read_message, reply_line, status_document, status_line, write_bundle, write_bundle_by,
+    write_live_labels, write_missing, write_outdated,
 };
 pub use script_docs::{Script, read_script, write_script};
 pub use site_docs::{read_delta, read_site, read_summary, write_delta, write_site, write_summary};

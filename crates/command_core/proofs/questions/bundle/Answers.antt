@@ -1,24 +1,25 @@
-use Rattle.std.proofs.Common.{inr}
-use Rattle.std.proofs.lemmas.Result.{err_from_is_err_and}
-use Rattle.row_docs.specs.Reading.{no_memory}
-use Rattle.command_core.specs.Streams.{reads}
-use Rattle.command_core.proofs.ReadingLemmas.{memory_ended}
+use Rattle.std.proofs.Common.{Bool, refl, subst, sym}
+use Rattle.map_docs.specs.LangMapTexts.{AreWritten}
+use Rattle.front_core.specs.Questions.{is_found}
+use Rattle.front_core.specs.declared.answer.Answer.{Answer}
 use Rattle.command_core.proofs.questions.bundle.Goals as goal
 
-pub returns-in_err-answer : goal.returns-in_err-answer
-returns-in_err-answer g c =
-    let p =
-    err_from_is_err_and c.from_residual-in_err-answer.result
-    c.from_residual-in_err-answer.ensures.1 in
-    let asked = c.in_ok-question.ensures in
-    let reader =
-    reads g.R.Source.remaining g.R.Source.failed c.args.reader.now c.read_input.new.reader in
-    let ended = memory_ended c.in_ok-site.site reader c.in_ok-site.ensures in
-    rw p.1
-    (inr (
+pub returns : goal.returns
+returns g c =
+    let bundle = rw (c.bytes.ensures, c.as_ref-default.ensures.value) at c.in_ok-text.ensures in
+    let labels = bundle.1 in
+    let written =
+    subst (λ (a : Answer). AreWritten labels a.text (is_found a.outcome)) (sym c.new.ensures)
+    (subst (λ (found : Bool). AreWritten labels c.in_ok-text.text found) (sym c.of.ensures)
+    bundle.4) in (
+      c.in_ok-site.site,
+      c.in_ok-site.ensures,
       (
-        (c.in_ok-question.question.default, asked.1),
-        (c.in_ok-question.question.list, asked.0),
+        bundle.0,
+        c.new.result,
+        bundle.2,
+        (c.in_ok-question.question, c.in_ok-question.ensures, (labels, bundle.3, written)),
+        refl,
+        refl,
       ),
-      (no_memory, ended, p.2),
-    ))
+    )
