@@ -30,6 +30,18 @@ const PLAIN: &str = concat!(
     "\n"
 );
 
+/// A site whose rows have the id, the language or the site of the row before, short and long ones,
+/// and texts of about sixteen bytes.
+const ALIKE: &str = concat!(
+    r#"{"cells":[["an id of thirty-three bytes, yes!","de",1,"a",0,["fifteen bytes .","x"]],"#,
+    r#"["an id of thirty-three bytes, yes!","de-x-aaaaaaaa-bbbbbbbb",1,"a",1,["sixteen bytes .."]],"#,
+    r#"["b","de-x-aaaaaaaa-bbbbbbbb",2,"sixteen-bytes-ok",1,["seventeen bytes ."]],"#,
+    r#"["b","en",2,"sixteen-bytes-ok",1,null],"#,
+    r#"["c","en",2,"b",1,["thirty-two bytes, all of them a.","\n"]]],"#,
+    r#""kind":"site","site":"paris","version":2}"#,
+    "\n"
+);
+
 const EMPTY: &str = "{\"cells\":[],\"kind\":\"site\",\"site\":\"0-z\",\"version\":2}\n";
 
 const DELTA: &str = concat!(
@@ -75,6 +87,11 @@ fn what_is_written_is_read(rt: HostRuntime) {
 #[test]
 fn what_is_written_without_escapes_is_read(rt: HostRuntime) {
     assert_written(&rt, rt.alloc(), PLAIN, PLAIN);
+}
+
+#[test]
+fn rows_like_the_row_before_are_read(rt: HostRuntime) {
+    assert_written(&rt, rt.alloc(), ALIKE, ALIKE);
 }
 
 /// Each of these ends of a site's text may be after its brace.

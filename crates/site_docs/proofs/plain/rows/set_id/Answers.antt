@@ -10,3 +10,7 @@ returns-else-is_ne c =
     let equal : c.args.order ≡ Equal = search rules in
     let same = exact_bytes c.args.id.now c.args.text.now (sym c.requires.order ∙ equal) in
     (same, subst IsMessageId same c.requires.id)
+
+-- the id with the new text
+pub returns-in_ok-id : goal.returns-in_ok-id
+returns-in_ok-id c = c.in_ok-id.ensures

@@ -7,3 +7,7 @@ pub returns-else-ne : goal.returns-else-ne
 returns-else-ne c =
     let same : c.args.last.now ≡ c.args.text.now = search rules in
     (c.requires.0 ∙ same, subst IsLang same c.requires.1)
+
+-- the language with the new text
+pub returns-in_ok-lang : goal.returns-in_ok-lang
+returns-in_ok-lang c = c.in_ok-lang.ensures

@@ -1,0 +1,20 @@
+use Rattle.std.proofs.Common.{◌≡◌, ◌∙◌, ◌++◌, ◌∷◌, ap, decimal, rules}
+use Rattle.row_docs.specs.Values.{Row}
+use Rattle.site_docs.proofs.PlainLemmas.{front_taken}
+use Rattle.site_docs.proofs.plain.rows.next_front.Goals as goal
+
+pub returns : goal.returns
+returns c =
+    let row : Row = record {
+      id = c.in_ok-id.id.now;
+      language = c.in_ok-language.language.now;
+      time = c.in_ok-time.time;
+      site = c.in_ok-site.site.now;
+      count = c.in-Ok.count;
+    } in
+    let rest = c.in_ok-count.rest.now in
+    let count : c.in_ok-count.count ≡ c.in-Ok.count = search rules in
+    front_taken row c.args.text.now c.in_ok-rest.rest.now c.in_ok-id.rest.now
+    c.in_ok-language.rest.now c.in_ok-time.rest.now c.in_ok-site.rest.now rest
+    c.in_ok-rest.ensures c.in_ok-id.ensures c.in_ok-language.ensures c.in_ok-time.ensures
+    c.in_ok-site.ensures (c.in_ok-count.ensures ∙ ap (λ n. decimal n ++ 44 ∷ rest) count)
