@@ -1,6 +1,7 @@
 //! What no contract says: texts, and streams of every kind in action.
 
 mod bundle;
+mod by_message;
 mod changes;
 mod documents;
 mod exchange;
