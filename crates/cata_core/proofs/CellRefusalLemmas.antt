@@ -5,16 +5,16 @@ use Rattle.std.specs.Result.{IfErr, IsErrAnd}
 use Rattle.std.specs.FinMap.Entries.{find}
 use Rattle.cell_core.specs.declared.cell.Cell.{Cell}
 use Rattle.cell_core.specs.declared.stamp.Stamp.{Stamp}
-use Rattle.cell_core.specs.Maps.{IsMap}
+use Rattle.cell_core.specs.Keyed.{IsMap}
 use Rattle.cell_core.specs.Places.{place_of}
 use Rattle.cata_core.specs.declared.cell_refusal.CellRefusal.{CellRefusal}
 use Rattle.cata_core.specs.declared.cell_refusal.CellRefusal.TheVariants.{Clash, NoMemory}
-use Rattle.cata_core.specs.CataFaults.{IsRefusal}
-use Rattle.cata_core.specs.CellRefusals.{IsCellRefusal, at_place}
-use Rattle.cata_core.specs.Clashes.{IsFirstClash}
+use Rattle.cata_core.specs.CataFault.{IsRefusal}
+use Rattle.cata_core.specs.CellRefusal.{IsCellRefusal, at_place}
+use Rattle.cata_core.specs.Clash.{IsFirstClash}
 use Rattle.cata_core.specs.Entries.{key_cmp, Entry, Entries, Agree}
 use Rattle.cata_core.specs.Settled.{IsSettledBy}
-use Rattle.cata_core.proofs.Apply.{agree_some, agree_none, first_clash_only}
+use Rattle.cata_core.proofs.ApplyLemmas.{agree_some, agree_none, first_clash_only}
 
 -- A cell that clashes with the stored one is the first clash of its edit with the catalogue.
 pub clash_refused : (es : Entries) (e : Entry) (o : Option Cell) (place : ℕ) (stamp : Stamp)

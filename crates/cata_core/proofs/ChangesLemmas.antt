@@ -11,7 +11,7 @@ use Rattle.std.specs.FinMap.Entries.{find, below_all, is_sorted}
 use Rattle.std.proofs.lemmas.Bool.{cases_Bool}
 use Rattle.std.proofs.lemmas.Bool.Decides.{Decides-and, Decides-like}
 use Rattle.cell_core.specs.declared.cell.Cell.{Cell}
-use Rattle.cell_core.specs.Maps.{IsMap, same_maps}
+use Rattle.cell_core.specs.Keyed.{IsMap, same_maps}
 use Rattle.cell_core.proofs.CellLemmas.{stamp_eq, stamp_decides, label_decides}
 use Rattle.cata_core.specs.Changes.{Sides, Changed, is_same, change_of, AreChanges, AreMade}
 use Rattle.cata_core.specs.Changes.{made_at, exchanged}
@@ -21,11 +21,11 @@ use Rattle.cata_core.specs.Entries.{EntryKey, Entry, Entries, key_cmp, key_cmp_t
 use Rattle.cata_core.specs.Equality.{cell_eq}
 use Rattle.cata_core.specs.Parts.{part_of}
 use Rattle.cata_core.proofs.Basics.{both_parts, false_if, first_part, second_part, some_same, tied}
-use Rattle.cata_core.proofs.Filtered.{find-below, below_tied_all, filter-IsMap, find-filter}
-use Rattle.cata_core.proofs.Filtered.{kept_if}
-use Rattle.cata_core.proofs.KeyPlaces.{below_lesser}
-use Rattle.cata_core.proofs.Mapped.{find-mapped, mapped-IsMap}
-use Rattle.cata_core.proofs.Parts.{find-part}
+use Rattle.cata_core.proofs.FilteredLemmas.{find-below, below_tied_all, filter-IsMap, find-filter}
+use Rattle.cata_core.proofs.FilteredLemmas.{kept_if}
+use Rattle.cata_core.proofs.KeyPlacesLemmas.{below_lesser}
+use Rattle.cata_core.proofs.MappedLemmas.{find-mapped, mapped-IsMap}
+use Rattle.cata_core.proofs.PartsLemmas.{find-part}
 
 -- ---- equal cells
 

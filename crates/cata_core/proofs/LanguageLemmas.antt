@@ -13,13 +13,13 @@ use Rattle.std.proofs.lemmas.Cmp.{tied_itself}
 use Rattle.std.proofs.lemmas.List.Elements.{All-nil, All-cons, All-weaker}
 use Rattle.nego_core.specs.Shortlist.{AreAmong}
 use Rattle.nego_core.proofs.Basics.{contains_first, contains_later}
-use Rattle.cell_core.specs.Maps.{IsMap}
+use Rattle.cell_core.specs.Keyed.{IsMap}
 use Rattle.cata_core.specs.Entries.{text_cmp, Entries, Entry}
 use Rattle.cata_core.specs.Languages.{AddsLanguage, AreLanguages, LanguageMap, is_in, is_used}
 use Rattle.cata_core.specs.Languages.{texts_in}
 use Rattle.cata_core.specs.Live.{Labelled, languages, live, live_of}
 use Rattle.cata_core.proofs.Basics.{tied}
-use Rattle.cata_core.proofs.NestedCatalogues.{text_exact}
+use Rattle.cata_core.proofs.NestedCataloguesLemmas.{text_exact}
 
 -- ---- a language more
 

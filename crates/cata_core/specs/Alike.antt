@@ -5,7 +5,7 @@ use Rattle.nego_core.specs.declared.scheme.Scheme.{Scheme}
 use Rattle.cata_core.specs.declared.step.Step.TheVariants.{AskFilter, AskLookup, AskCells}
 use Rattle.cata_core.specs.declared.answer.Answer.{Answer}
 use Rattle.cata_core.specs.Entries.{Entries}
-use Rattle.cata_core.specs.Answers.{IsAnswered}
+use Rattle.cata_core.specs.Answer.{IsAnswered}
 
 -- whatever is answered to a question at the one site, and to the same question at the other, is the
 -- same

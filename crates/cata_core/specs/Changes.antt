@@ -3,7 +3,7 @@ use Rattle.std.specs.Prelude.{◌≡◌, Bool, List, Option, Some, None, if◌th
 use Rattle.std.specs.Option.{option_eq}
 use Rattle.std.specs.FinMap.Entries.{find}
 use Rattle.cell_core.specs.declared.cell.Cell.{Cell}
-use Rattle.cell_core.specs.Maps.{IsMap}
+use Rattle.cell_core.specs.Keyed.{IsMap}
 use Rattle.cata_core.specs.Entries.{EntryKey, Entries, key_cmp}
 use Rattle.cata_core.specs.Equality.{cell_eq}
 

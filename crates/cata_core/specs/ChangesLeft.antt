@@ -9,7 +9,7 @@ use Rattle.cata_core.specs.declared.changes.Ahead.{Ahead}
 use Rattle.cata_core.specs.declared.changes.BothSides.{BothSides}
 use Rattle.cata_core.specs.declared.changes.Change.{Change}
 use Rattle.cata_core.specs.declared.changes.Changes.{Changes}
-use Rattle.cata_core.specs.CellsLeft.{cells_left}
+use Rattle.cata_core.specs.Cells.{cells_left}
 use Rattle.cata_core.specs.Changes.{Sides, Changed, is_same}
 use Rattle.cata_core.specs.Entries.{EntryKey, Entry, Entries, key_cmp}
 use Rattle.cata_core.specs.Equality.{seen}

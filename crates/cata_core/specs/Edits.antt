@@ -5,7 +5,7 @@ use Rattle.std.specs.Ordering.{is_lt, is_eq}
 use Rattle.std.specs.declared.cmp.Ordering.TheVariants.{Less}
 use Rattle.std.specs.FinMap.Entries.{put}
 use Rattle.cell_core.specs.declared.cell.Cell.{Cell}
-use Rattle.cell_core.specs.Stamps.{stamp_cmp}
+use Rattle.cell_core.specs.Stamp.{stamp_cmp}
 use Rattle.cata_core.specs.Entries.{EntryKey, key_cmp, Entry, Entries}
 
 -- two edits of one key with one stamp are equal

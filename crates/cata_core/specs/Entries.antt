@@ -7,10 +7,10 @@ use Rattle.std.specs.Cmp.{IsTotalOrder, on_total, then_total}
 use Rattle.std.specs.Cmp.Lexicographic.{slice_cmp, nat_list_cmp_total}
 use Rattle.std.proofs.lemmas.Map.Lookups.{exact_pairs, exact_bytes}
 use Rattle.cell_core.specs.declared.cell.Cell.{Cell}
-use Rattle.cell_core.specs.Joins.{JoinLaws, IsBelow}
-use Rattle.cell_core.specs.Cells.{AgreeCells, joined_cells, cell_laws}
+use Rattle.cell_core.specs.Join.{JoinLaws, IsBelow}
+use Rattle.cell_core.specs.Cell.{AgreeCells, joined_cells, cell_laws}
 use Rattle.cell_core.specs.Later.{IsEitherOf}
-use Rattle.cell_core.specs.Maps.{AgreeMaps, joined_maps, BetweenMaps, map_laws}
+use Rattle.cell_core.specs.Keyed.{AgreeMaps, joined_maps, BetweenMaps, map_laws}
 
 -- the bytes of a message's id and of a language
 abbrev pub EntryKey : Type 0

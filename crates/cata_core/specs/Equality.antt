@@ -8,7 +8,7 @@ use Rattle.cell_core.specs.declared.cell.Cell.{Cell}
 use Rattle.cell_core.specs.contracts.cell.CellPartialEq.TheImpl as cell_impl
 use Rattle.cell_core.specs.contracts.cell.CellEq.TheImpl.Laws as cell_laws
 use Rattle.cata_core.specs.Entries.{Entry, Entries, key_cmp, key_cmp_total}
-use Rattle.cata_core.specs.Sites.{SiteState}
+use Rattle.cata_core.specs.Site.{SiteState}
 
 -- what `==` says of two cells
 abbrev pub cell_eq : Cell → Cell → Bool

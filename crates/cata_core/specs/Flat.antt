@@ -3,7 +3,7 @@ use Rattle.std.specs.Prelude.{◌<◌, List, [], Option, Some, None, All, length
 use Rattle.std.specs.List.{flat_map}
 use Rattle.std.specs.declared.cmp.Ordering.{Ordering}
 use Rattle.std.specs.FinMap.Entries.{find}
-use Rattle.cell_core.specs.Maps.{IsMap}
+use Rattle.cell_core.specs.Keyed.{IsMap}
 
 -- the entries of one inner map, each with the outer key
 abbrev pub under : {K L J : Type 0} → K → List (L × J) → List ((K × L) × J)

@@ -1,8 +1,8 @@
 -- What a site knows of the latest stamp of its cells (project rule).
 use Rattle.std.specs.Prelude.{◌≡◌, Option, ⊤}
 use Rattle.cell_core.specs.declared.stamp.Stamp.{Stamp}
-use Rattle.cell_core.specs.Cells.{joined_stamps}
-use Rattle.cell_core.specs.Maps.{joined_if_both}
+use Rattle.cell_core.specs.Cell.{joined_stamps}
+use Rattle.cell_core.specs.Keyed.{joined_if_both}
 use Rattle.cata_core.specs.declared.latest.Latest.{Latest}
 use Rattle.cata_core.specs.declared.latest.Latest.TheVariants.{Known, Unknown}
 use Rattle.cata_core.specs.Entries.{Entries}

@@ -2,9 +2,9 @@
 use Rattle.std.specs.Prelude.{◌≡◌, ◌≢◌, [], ◌∷◌, Option, Some, None, Contains, MatchOption}
 use Rattle.std.specs.declared.cmp.Ordering.TheVariants.{Less}
 use Rattle.cell_core.specs.declared.stamp.Stamp.{Stamp}
-use Rattle.cell_core.specs.Cells.{joined_stamps}
-use Rattle.cell_core.specs.Stamps.{stamp_cmp}
-use Rattle.cell_core.specs.Maps.{joined_if_both}
+use Rattle.cell_core.specs.Cell.{joined_stamps}
+use Rattle.cell_core.specs.Stamp.{stamp_cmp}
+use Rattle.cell_core.specs.Keyed.{joined_if_both}
 use Rattle.cata_core.specs.Entries.{Entry, Entries}
 
 -- the latest stamp of the cells; none where there are no cells

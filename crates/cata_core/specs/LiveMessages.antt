@@ -1,7 +1,7 @@
 -- The messages of a catalogue that have live labels.
 use Rattle.std.specs.Prelude.{◌≡◌, ℕ, List, [], ◌∷◌, Option, Some, None}
 use Rattle.std.specs.FinMap.Entries.{find}
-use Rattle.cell_core.specs.Maps.{IsMap}
+use Rattle.cell_core.specs.Keyed.{IsMap}
 use Rattle.cata_core.specs.Entries.{text_cmp, Entries}
 use Rattle.cata_core.specs.Live.{Labelled, live}
 

@@ -2,14 +2,14 @@
 -- and what they become (project rules).
 use Rattle.std.specs.Prelude.{◌≡◌, ℕ, List, Some, map}
 use Rattle.std.specs.FinMap.Entries.{find}
-use Rattle.cell_core.specs.Maps.{IsMap, AgreeMaps, joined_maps}
-use Rattle.cell_core.specs.SiteNames.{padded_name}
+use Rattle.cell_core.specs.Keyed.{IsMap, AgreeMaps, joined_maps}
+use Rattle.cell_core.specs.SiteName.{padded_name}
 use Rattle.cell_core.specs.Migration.{OldStamp, IsOldStamp, OldCell, AgreeOldCells}
 use Rattle.cell_core.specs.Migration.{joined_old_cells, migrated_stamp, migrated_cell}
 use Rattle.cata_core.specs.declared.delta.Delta.{Delta}
 use Rattle.cata_core.specs.Entries.{EntryKey, key_cmp, Entry, Entries}
-use Rattle.cata_core.specs.Deltas.{Stamps}
-use Rattle.cata_core.specs.Sites.{SiteState}
+use Rattle.cata_core.specs.Delta.{Stamps}
+use Rattle.cata_core.specs.Site.{SiteState}
 use Rattle.cata_core.specs.Summary.{SummaryState}
 
 -- an entry whose stamp names its site by a number

@@ -1,9 +1,9 @@
 -- Catalogues as maps of maps, each seen as one list of entries.
 use Rattle.std.specs.Prelude.{◌≡◌, ℕ, ◌<◌, List, length}
 use Rattle.cell_core.specs.declared.cell.Cell.{Cell}
-use Rattle.cell_core.specs.Cells.{AgreeCells, joined_cells}
+use Rattle.cell_core.specs.Cell.{AgreeCells, joined_cells}
 use Rattle.cell_core.specs.Later.{IsEitherOf}
-use Rattle.cell_core.specs.Maps.{AgreeMaps, joined_maps, BetweenMaps}
+use Rattle.cell_core.specs.Keyed.{AgreeMaps, joined_maps, BetweenMaps}
 use Rattle.cata_core.specs.Entries.{text_cmp}
 use Rattle.cata_core.specs.Flat.{flat, IsNested}
 

@@ -3,8 +3,8 @@ use Rattle.std.specs.Prelude.{◌≡◌, false, Option, Some, None}
 use Rattle.std.specs.Ordering.{is_lt}
 use Rattle.std.specs.FinMap.Entries.{find}
 use Rattle.cell_core.specs.declared.cell.Cell.{Cell}
-use Rattle.cell_core.specs.Cells.{AgreeCells}
-use Rattle.cell_core.specs.Stamps.{stamp_cmp}
+use Rattle.cell_core.specs.Cell.{AgreeCells}
+use Rattle.cell_core.specs.Stamp.{stamp_cmp}
 use Rattle.cata_core.specs.Entries.{key_cmp, Entry, Entries}
 
 -- a cell is held that agrees and is not older

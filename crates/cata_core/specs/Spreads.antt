@@ -6,7 +6,7 @@ use Rattle.cata_core.specs.declared.step.Step.{Step}
 use Rattle.cata_core.specs.declared.step.Step.TheVariants.{Edit, Merge, Post, Deliver}
 use Rattle.cata_core.specs.Entries.{Entry}
 use Rattle.cata_core.specs.Taken.{taken_after, nothing_taken}
-use Rattle.cata_core.specs.Faulty.{NamesSites}
+use Rattle.cata_core.specs.PlayFault.{NamesSites}
 
 -- the step is an edit at the site
 abbrev pub IsEditAt : ℕ → Step → Type 0

@@ -4,8 +4,8 @@ use Rattle.std.specs.Ordering.{eq_by_cmp, on, eq_of_both}
 use Rattle.std.specs.Cmp.{IsEquivalence, eq_by_cmp_equiv, and_equiv, on_equiv}
 use Rattle.std.specs.Cmp.Lexicographic.{pointwise, on_texts_equal, lists_equiv}
 use Rattle.cell_core.specs.declared.stamp.Stamp.{Stamp}
-use Rattle.cell_core.specs.Cells.{stamp_cmp_total}
-use Rattle.cell_core.specs.Stamps.{stamp_cmp}
+use Rattle.cell_core.specs.Cell.{stamp_cmp_total}
+use Rattle.cell_core.specs.Stamp.{stamp_cmp}
 use Rattle.cata_core.specs.Entries.{EntryKey, key_cmp, key_cmp_total}
 use Rattle.cata_core.specs.Summary.{SummaryState}
 

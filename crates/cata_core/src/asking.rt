@@ -2,17 +2,17 @@
 
 ghost use Rattle.std.specs.Prelude.{◌≡◌, ℕ, List, IfOk};
 ghost use Rattle.std.specs.Option.{option_map};
-ghost use Rattle.cell_core.specs.Maps.{IsMap};
+ghost use Rattle.cell_core.specs.Keyed.{IsMap};
 ghost use Rattle.cata_core.specs.Entries.{text_cmp};
 ghost use Rattle.cata_core.specs.Live.{live, languages};
 ghost use Rattle.nego_core.specs.Filtering.{texts_of};
-ghost use Rattle.cata_core.specs.LiveLeft.{labels_left};
+ghost use Rattle.cata_core.specs.Labels.{labels_left};
 ghost use Rattle.cata_core.specs.LiveIn.{live_in};
 ghost use Rattle.cata_core.specs.LentEntries.{labelled_of};
-ghost use Rattle.cata_core.specs.LentAnswers.{reply_of};
+ghost use Rattle.cata_core.specs.Reply.{reply_of};
 ghost use Rattle.cata_core.specs.Asking.{IsFilterAnswer, IsLookupAnswer, IsLookupAnswerBy};
 ghost use Rattle.cata_core.specs.LiveMessages.{AreMessages};
-ghost use Rattle.cata_core.specs.MessagesLeft.{messages_left};
+ghost use Rattle.cata_core.specs.Messages.{messages_left};
 
 use crate::catalogue::Catalogue;
 use crate::entries::{LentEntries, pick_all};

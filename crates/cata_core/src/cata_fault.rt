@@ -27,7 +27,7 @@ pub enum CataFault {
 }
 
 impl CataFault {
-    ghost use Rattle.cata_core.specs.CataFaults.{number_of};
+    ghost use Rattle.cata_core.specs.CataFault.{number_of};
 
     /// The number of the refusal, in the numbering that all crates of the product share.
     pub fn number(&self) -> u8

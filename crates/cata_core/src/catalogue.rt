@@ -4,12 +4,12 @@ ghost use Rattle.std.specs.Prelude.{◌≡◌, ◌+◌, [], ◌∷◌, ◌++◌,
 ghost use Rattle.std.specs.Prelude.{OnOk, OnErr, IfOk, IfErr, IfSome, IsOk, IsTrue, ◌↔◌};
 ghost use Rattle.std.specs.Option.{option_map, option_copied, is_none};
 ghost use Rattle.std.specs.FinMap.Entries.{find, put};
-ghost use Rattle.cell_core.specs.Cells.{AgreeCells, joined_cells};
-ghost use Rattle.cell_core.specs.Maps.{IsMap, AgreeIfBoth, joined_at};
+ghost use Rattle.cell_core.specs.Cell.{AgreeCells, joined_cells};
+ghost use Rattle.cell_core.specs.Keyed.{IsMap, AgreeIfBoth, joined_at};
 ghost use Rattle.cell_core.specs.Places.{place_of};
-ghost use Rattle.cata_core.specs.CataFaults.{IsRefusal, IsLeft};
-ghost use Rattle.cata_core.specs.CellRefusals.{IsCellRefusal, at_place};
-ghost use Rattle.cata_core.specs.CellsLeft.{cells_left};
+ghost use Rattle.cata_core.specs.CataFault.{IsRefusal, IsLeft};
+ghost use Rattle.cata_core.specs.CellRefusal.{IsCellRefusal, at_place};
+ghost use Rattle.cata_core.specs.Cells.{cells_left};
 ghost use Rattle.cata_core.specs.Changes.{AreChanges};
 ghost use Rattle.cata_core.specs.ChangesLeft.{changes_left};
 ghost use Rattle.cata_core.specs.Counts.{count_absent};

@@ -16,7 +16,7 @@ pub struct Cells<'a> {
 impl<'a> Cells<'a> {
     ghost use Rattle.std.specs.Prelude.{◌≡◌};
     ghost use Rattle.cata_core.specs.Flat.{flat};
-    ghost use Rattle.cata_core.specs.CellsLeft.{cells_left};
+    ghost use Rattle.cata_core.specs.Cells.{cells_left};
 
     /// All cells of a map of maps, in rising order of key.
     pub fn new(map: &'a Keyed<MessageId, Keyed<Lang, Cell>>) -> Cells<'a>
@@ -32,7 +32,7 @@ impl<'a> Cells<'a> {
 impl<'a> Iterator for Cells<'a> {
     type Item = (&'a MessageId, &'a Lang, &'a Cell);
 
-    ghost use Rattle.cata_core.specs.CellsLeft.{cells_left};
+    ghost use Rattle.cata_core.specs.Cells.{cells_left};
 
     ghost next_gives = { YieldsFirstBy (λ x. ((x.0.now, x.1.now), x.2.now)) cells_left };
 
@@ -65,7 +65,7 @@ struct MessageCells<'a> {
 impl<'a> Iterator for MessageCells<'a> {
     type Item = (&'a MessageId, &'a Lang, &'a Cell);
 
-    ghost use Rattle.cata_core.specs.CellsLeft.{message_left};
+    ghost use Rattle.cata_core.specs.Cells.{message_left};
 
     ghost next_gives = { YieldsFirstBy (λ x. ((x.0.now, x.1.now), x.2.now)) message_left };
 

@@ -33,7 +33,7 @@ pub struct Changes<'a> {
 }
 
 impl<'a> Changes<'a> {
-    ghost use Rattle.cata_core.specs.CellsLeft.{cells_left};
+    ghost use Rattle.cata_core.specs.Cells.{cells_left};
     ghost use Rattle.cata_core.specs.ChangesLeft.{changes_left, differing, side_by_side};
 
     /// The changes from these cells to those.
@@ -124,7 +124,7 @@ struct Ahead<'a> {
 }
 
 impl<'a> Ahead<'a> {
-    ghost use Rattle.cata_core.specs.CellsLeft.{cells_left};
+    ghost use Rattle.cata_core.specs.Cells.{cells_left};
     ghost use Rattle.cata_core.specs.ChangesLeft.{ahead_left};
 
     /// All these cells.

@@ -4,7 +4,7 @@ ghost use Rattle.std.specs.Prelude.{ℕ, ◌<◌, MatchOption, length};
 ghost use Rattle.cata_core.specs.Flat.{flat};
 ghost use Rattle.cata_core.specs.Entries.{text_cmp, key_cmp, Agree};
 ghost use Rattle.cata_core.specs.Nested.{IsCatalogue, IsCountable};
-ghost use Rattle.cata_core.specs.Clashes.{AgreesAt, IsFirstClash};
+ghost use Rattle.cata_core.specs.Clash.{AgreesAt, IsFirstClash};
 
 use cell_core::{Cell, Join, Keyed, MessageId, Stamp};
 use lang_core::Lang;

@@ -2,8 +2,8 @@
 
 ghost use Rattle.std.specs.Prelude.{◌≡◌, IfOk};
 ghost use Rattle.std.specs.FinMap.Entries.{find};
-ghost use Rattle.cell_core.specs.Maps.{IsMap};
-ghost use Rattle.cata_core.specs.Deltas.{delta_of, is_missing};
+ghost use Rattle.cell_core.specs.Keyed.{IsMap};
+ghost use Rattle.cata_core.specs.Delta.{delta_of, is_missing};
 ghost use Rattle.cata_core.specs.Entries.{key_cmp};
 ghost use Rattle.cata_core.specs.Seeking.{IsBehind};
 ghost use Rattle.cata_core.specs.Summary.{stamps_of};

@@ -2,7 +2,7 @@
 
 ghost use Rattle.std.specs.Prelude.{◌≡◌};
 ghost use Rattle.std.specs.Cmp as laws_of;
-ghost use Rattle.cata_core.specs.CellsLeft.{cells_left};
+ghost use Rattle.cata_core.specs.Cells.{cells_left};
 ghost use Rattle.cata_core.specs.Equality.{entry_eq, entry_equiv, entries_eq, entries_equiv};
 ghost use Rattle.cata_core.specs.Equality.{site_eq, site_equiv, seen};
 

@@ -2,7 +2,7 @@
 
 ghost use Rattle.std.specs.Prelude.{◌≡◌};
 ghost use Rattle.std.specs.Iterator.{YieldsFirstBy, item_count};
-ghost use Rattle.cata_core.specs.LiveLeft.{live_left};
+ghost use Rattle.cata_core.specs.Labels.{live_left};
 
 use cell_core::{Cell, Iter, Keyed, Label};
 use lang_core::Lang;
@@ -17,10 +17,10 @@ pub struct Labels<'a> {
 impl<'a> Labels<'a> {
     ghost use Rattle.std.specs.Option.{option_copied};
     ghost use Rattle.cata_core.specs.Flat.{inner_of};
-    ghost use Rattle.cell_core.specs.Maps.{IsMap};
+    ghost use Rattle.cell_core.specs.Keyed.{IsMap};
     ghost use Rattle.cata_core.specs.Entries.{text_cmp};
     ghost use Rattle.cata_core.specs.Live.{live_of};
-    ghost use Rattle.cata_core.specs.LiveLeft.{labels_left};
+    ghost use Rattle.cata_core.specs.Labels.{labels_left};
 
     /// The live labels of these cells.
     pub(crate) fn new(cells: Option<&'a Keyed<Lang, Cell>>) -> Labels<'a>
@@ -39,7 +39,7 @@ impl<'a> Labels<'a> {
 impl<'a> Iterator for Labels<'a> {
     type Item = (&'a Lang, &'a Label);
 
-    ghost use Rattle.cata_core.specs.LiveLeft.{labels_left};
+    ghost use Rattle.cata_core.specs.Labels.{labels_left};
 
     ghost next_gives = { YieldsFirstBy (λ x. (x.0.now, x.1.now)) labels_left };
 

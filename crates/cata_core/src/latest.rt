@@ -1,8 +1,8 @@
 //! The latest stamp of a catalogue, and what a site knows of it.
 
 ghost use Rattle.std.specs.Prelude.{◌≡◌, Some};
-ghost use Rattle.cell_core.specs.Cells.{joined_stamps};
-ghost use Rattle.cell_core.specs.Maps.{joined_if_both};
+ghost use Rattle.cell_core.specs.Cell.{joined_stamps};
+ghost use Rattle.cell_core.specs.Keyed.{joined_if_both};
 ghost use Rattle.cata_core.specs.Latest.{latest_of};
 
 use crate::catalogue::Catalogue;

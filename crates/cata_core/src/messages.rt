@@ -34,9 +34,9 @@ impl<'a> Message<'a> {
     ghost use Rattle.std.specs.Option.{option_copied, option_map};
     ghost use Rattle.cata_core.specs.Asking.{IsLookedUpBy, IsLookedUpOf};
     ghost use Rattle.cata_core.specs.Entries.{text_cmp};
-    ghost use Rattle.cata_core.specs.LentAnswers.{reply_of};
+    ghost use Rattle.cata_core.specs.Reply.{reply_of};
     ghost use Rattle.cata_core.specs.Live.{languages};
-    ghost use Rattle.cata_core.specs.LiveLeft.{labels_left};
+    ghost use Rattle.cata_core.specs.Labels.{labels_left};
     ghost use Rattle.nego_core.specs.Shortlist.{AreAmong};
 
     /// Its id.
@@ -114,7 +114,7 @@ pub struct Messages<'a> {
 }
 
 impl<'a> Messages<'a> {
-    ghost use Rattle.cata_core.specs.MessagesLeft.{live_messages, messages_left};
+    ghost use Rattle.cata_core.specs.Messages.{live_messages, messages_left};
 
     /// The messages of these cells.
     pub(crate) fn new(map: &'a Keyed<MessageId, Keyed<Lang, Cell>>) -> Messages<'a>
@@ -130,7 +130,7 @@ impl<'a> Iterator for Messages<'a> {
     type Item = Message<'a>;
 
     ghost use Rattle.std.specs.Iterator.{YieldsFirst, item_count};
-    ghost use Rattle.cata_core.specs.MessagesLeft.{messages_left};
+    ghost use Rattle.cata_core.specs.Messages.{messages_left};
 
     ghost next_gives = { YieldsFirst messages_left };
 

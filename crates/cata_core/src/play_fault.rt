@@ -34,7 +34,7 @@ pub enum PlayFault {
 }
 
 impl PlayFault {
-    ghost use Rattle.cata_core.specs.Faulty.{number_of};
+    ghost use Rattle.cata_core.specs.PlayFault.{number_of};
 
     /// The number of the refusal among all refusals.
     pub fn number(&self) -> u8

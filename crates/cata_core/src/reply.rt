@@ -1,7 +1,7 @@
 //! Answers of lookup.
 
 ghost use Rattle.std.specs.Prelude.{◌≡◌, IfOk};
-ghost use Rattle.cata_core.specs.LentAnswers.{reply_of};
+ghost use Rattle.cata_core.specs.Reply.{reply_of};
 
 use cell_core::Label;
 use lang_core::Lang;

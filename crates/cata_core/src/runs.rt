@@ -4,8 +4,8 @@ ghost use Rattle.std.specs.Prelude.{◌≡◌, ◌⊎◌, ◌≤◌, IfOk, IfErr
 ghost use Rattle.cata_core.specs.declared.play_fault.PlayFault.TheVariants.{NoMemory};
 ghost use Rattle.cata_core.specs.Edits.{IsConsistent};
 ghost use Rattle.cata_core.specs.Taken.{edits_of};
-ghost use Rattle.cata_core.specs.Answers.{AreHeldAnswers, AreAnswers};
-ghost use Rattle.cata_core.specs.Faulty.{NoneFaulty, IsFirstFault, IsNoClash, NoDelivers};
+ghost use Rattle.cata_core.specs.Answer.{AreHeldAnswers, AreAnswers};
+ghost use Rattle.cata_core.specs.PlayFault.{NoneFaulty, IsFirstFault, IsNoClash, NoDelivers};
 
 pub(crate) mod steps;
 pub(crate) mod world;

@@ -3,9 +3,9 @@
 ghost use Rattle.std.specs.Prelude.{◌≡◌, [], ◌∷◌, OnOk, OnErr, IfOk, IfErr, IsOk, MatchResult};
 ghost use Rattle.std.specs.Prelude.{Some, None};
 ghost use Rattle.std.specs.FinMap.Entries.{put};
-ghost use Rattle.cell_core.specs.Stamps.{IsNext, IsAbove};
-ghost use Rattle.cata_core.specs.CataFaults.{IsRefusal, IsLeft};
-ghost use Rattle.cata_core.specs.Deltas.{summary_of, delta_of};
+ghost use Rattle.cell_core.specs.Stamp.{IsNext, IsAbove};
+ghost use Rattle.cata_core.specs.CataFault.{IsRefusal, IsLeft};
+ghost use Rattle.cata_core.specs.Delta.{summary_of, delta_of};
 ghost use Rattle.cata_core.specs.Entries.{key_cmp, Agree, joined, Between};
 ghost use Rattle.cata_core.specs.Latest.{latest_of, IsLatest};
 ghost use Rattle.cata_core.specs.Settled.{IsSettledIn};
@@ -31,7 +31,7 @@ pub struct Site {
 
 impl Model for Site {
     ghost use Rattle.cata_core.specs.KnownLatest.{IsKnownLatest};
-    ghost use Rattle.cata_core.specs.Sites.{SiteState};
+    ghost use Rattle.cata_core.specs.Site.{SiteState};
 
     ghost Value = { SiteState };
 
@@ -42,7 +42,7 @@ impl Model for Site {
 
 impl Site {
     ghost use Rattle.cata_core.specs.KnownLatest.{IsKnownLatest};
-    ghost use Rattle.cata_core.specs.Sites.{SiteState, RefusesEdit, RefusesDelta, IsLeftSite};
+    ghost use Rattle.cata_core.specs.Site.{SiteState, RefusesEdit, RefusesDelta, IsLeftSite};
     ghost use Rattle.cata_core.specs.Summary.{SummaryState};
 
     /// The empty site of this name, whose catalogue grows by this allocator.

@@ -3,8 +3,8 @@
 ghost use Rattle.std.specs.Prelude.{◌≡◌, ◌++◌, ◌∷◌, [], IfOk, OnOk, OnErr, IsTrue, ◌↔◌, Some};
 ghost use Rattle.std.specs.Prelude.{length, slice_get};
 ghost use Rattle.std.specs.Option.{option_map};
-ghost use Rattle.cell_core.specs.Maps.{IsMap};
-ghost use Rattle.cata_core.specs.Deltas.{summary_of};
+ghost use Rattle.cell_core.specs.Keyed.{IsMap};
+ghost use Rattle.cata_core.specs.Delta.{summary_of};
 ghost use Rattle.cata_core.specs.Entries.{key_cmp};
 
 use crate::catalogue::Catalogue;
@@ -54,7 +54,7 @@ pub struct Summary {
 }
 
 impl Model for Summary {
-    ghost use Rattle.cell_core.specs.Maps.{IsMap};
+    ghost use Rattle.cell_core.specs.Keyed.{IsMap};
     ghost use Rattle.cata_core.specs.Entries.{key_cmp};
     ghost use Rattle.cata_core.specs.Summary.{SummaryState, stamps_of};
 
@@ -67,7 +67,7 @@ impl Model for Summary {
 
 impl Summary {
     ghost use Rattle.cata_core.specs.Entries.{IsAboveAll};
-    ghost use Rattle.cata_core.specs.StampsLeft.{stamps_left};
+    ghost use Rattle.cata_core.specs.SummaryEntries.{stamps_left};
     ghost use Rattle.cata_core.specs.Summary.{SummaryState, stamps_of};
 
     /// The summary of this owner without a key, which grows by this allocator.

@@ -15,7 +15,7 @@ pub struct SummaryEntries<'a> {
 impl<'a> SummaryEntries<'a> {
     ghost use Rattle.std.specs.Prelude.{◌≡◌};
     ghost use Rattle.cata_core.specs.Summary.{stamps_of};
-    ghost use Rattle.cata_core.specs.StampsLeft.{stamps_left};
+    ghost use Rattle.cata_core.specs.SummaryEntries.{stamps_left};
 
     /// The entries of this slice.
     pub(crate) fn new(entries: &'a [SummaryEntry]) -> SummaryEntries<'a>
@@ -28,7 +28,7 @@ impl<'a> SummaryEntries<'a> {
 impl<'a> Iterator for SummaryEntries<'a> {
     type Item = (&'a MessageId, &'a Lang, Stamp);
 
-    ghost use Rattle.cata_core.specs.StampsLeft.{stamps_left};
+    ghost use Rattle.cata_core.specs.SummaryEntries.{stamps_left};
 
     ghost next_gives = { YieldsFirstBy (λ x. ((x.0.now, x.1.now), x.2)) stamps_left };
 

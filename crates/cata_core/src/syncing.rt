@@ -1,9 +1,9 @@
 //! Two sites take each other's cells.
 
 ghost use Rattle.std.specs.Prelude.{◌≡◌, ◌⊎◌, OnOk, OnErr, IfErr};
-ghost use Rattle.cata_core.specs.CataFaults.{IsRefusal};
+ghost use Rattle.cata_core.specs.CataFault.{IsRefusal};
 ghost use Rattle.cata_core.specs.Entries.{Agree, joined};
-ghost use Rattle.cata_core.specs.Sites.{SiteState, IsLeftSite};
+ghost use Rattle.cata_core.specs.Site.{SiteState, IsLeftSite};
 
 use crate::cata_fault::CataFault;
 use crate::site::Site;

@@ -13,7 +13,7 @@ use Rattle.std.specs.declared.vec.Vec.{Vec}
 use Rattle.std.proofs.lemmas.List.{drop_all, get_or-append-add, get_or_append_left}
 use Rattle.std.proofs.lemmas.List.{get_or_default}
 use Rattle.std.proofs.lemmas.Option.{get_or_from_slice_get, slice_get-get_or, slice_get_read}
-use Rattle.cell_core.specs.Maps.{IsMap}
+use Rattle.cell_core.specs.Keyed.{IsMap}
 use Rattle.cell_core.specs.Places.{place_of, IsPlace, IsGap}
 use Rattle.cell_core.specs.Chunks.{all_of, AllFilled, IsChunked, IsPlaceIn}
 use Rattle.cell_core.proofs.Basics.{some_not_none}

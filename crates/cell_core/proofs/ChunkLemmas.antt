@@ -10,7 +10,7 @@ use Rattle.std.specs.Cmp.{IsTotalOrder}
 use Rattle.std.specs.List.{insert}
 use Rattle.std.specs.declared.vec.Vec.{Vec}
 use Rattle.std.specs.FinMap.Entries.{find, put, by_order, is_sorted-put, is_sorted, below_all}
-use Rattle.cell_core.specs.Maps.{IsMap}
+use Rattle.cell_core.specs.Keyed.{IsMap}
 use Rattle.cell_core.specs.Places.{place_of}
 use Rattle.cell_core.specs.Chunks.{all_of, AllFilled, IsChunked, IsChunkFor}
 use Rattle.cell_core.proofs.Basics.{first_part, second_part, both_parts, less_than}

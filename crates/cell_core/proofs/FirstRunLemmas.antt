@@ -10,7 +10,7 @@ use Rattle.std.specs.Cmp.{IsTotalOrder}
 use Rattle.std.specs.declared.vec.Vec.{Vec}
 use Rattle.std.specs.FinMap.Entries.{find, is_sorted, below_all}
 use Rattle.std.proofs.lemmas.List.{drop_all, take_all, get_or_append_left, length-append}
-use Rattle.cell_core.specs.Maps.{IsMap}
+use Rattle.cell_core.specs.Keyed.{IsMap}
 use Rattle.cell_core.specs.Places.{place_of}
 use Rattle.cell_core.specs.Chunks.{all_of, IsChunked, IsChunkFor, IsRunFor}
 use Rattle.cell_core.proofs.Basics.{first_part, some_not_none, tied_order}

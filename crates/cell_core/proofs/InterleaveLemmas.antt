@@ -10,7 +10,7 @@ use Rattle.std.specs.Cmp.{IsTotalOrder}
 use Rattle.std.specs.List.{insert}
 use Rattle.std.specs.FinMap.Entries.{find, put, by_order, is_sorted, below_all, is_sorted-put}
 use Rattle.std.specs.FinMap.Entries.{find-put, find_tied, is_sorted-where_key, find-where_key}
-use Rattle.cell_core.specs.Maps.{IsMap, joined_if_both}
+use Rattle.cell_core.specs.Keyed.{IsMap, joined_if_both}
 use Rattle.cell_core.specs.Places.{place_of}
 use Rattle.cell_core.specs.Missing.{pairs_of, AllGaps, AllFrom, or_other, kept_joined, is_new}
 use Rattle.cell_core.specs.Missing.{IsCommonJoined}

@@ -7,7 +7,7 @@ use Rattle.std.proofs.lemmas.List.{get_or-take, get_or_default, length-take, tak
 use Rattle.std.proofs.lemmas.List.Sorted.{All-permutation, IsPermutation-sym, length_permutation}
 use Rattle.std.specs.List.Sorted.{IsPermutation}
 use Rattle.std.specs.Prelude.{AllPairs, Some, None, Option, slice_get}
-use Rattle.cell_core.specs.Joins.{JoinLaws, IsBelow, IsJoinOf, IsJoinOfAll}
+use Rattle.cell_core.specs.Join.{JoinLaws, IsBelow, IsJoinOf, IsJoinOfAll}
 
 module _ {J : Type 0} {agree : J → J → Type 0} {joined : J → J → J} {between : J → J → J → Type 0}
     (laws : JoinLaws agree joined between) where

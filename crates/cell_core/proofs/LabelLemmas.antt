@@ -8,7 +8,7 @@ use Rattle.std.specs.List.{position, position_or_len}
 use Rattle.std.specs.Cmp.Lexicographic.{pointwise, pointwise_decides, bytes_decides}
 use Rattle.std.specs.String.{string_eq, string_bytes}
 use Rattle.std.specs.declared.string.String.{String}
-use Rattle.cell_core.specs.Labels.{texts_of, is_too_long}
+use Rattle.cell_core.specs.Label.{texts_of, is_too_long}
 
 -- texts are compared by their bytes
 pub pointwise-texts_of : {Z : Type 0} (xs ys : List (String Z))

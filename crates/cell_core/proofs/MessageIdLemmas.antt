@@ -5,7 +5,7 @@ use Rattle.std.proofs.lemmas.List.Elements.{All-weaker}
 use Rattle.std.specs.Str.{IsUtf8}
 use Rattle.std.specs.Cmp.Lexicographic.{slice_cmp}
 use Rattle.std.specs.Ordering.{nat_cmp}
-use Rattle.cell_core.specs.MessageIds.{is_id_byte, IsMessageId, KeepsShortId}
+use Rattle.cell_core.specs.MessageId.{is_id_byte, IsMessageId, KeepsShortId}
 use Rattle.cell_core.specs.ZeroPadded.{zero_padded, before_zeros}
 use Rattle.cell_core.proofs.ZeroPaddedLemmas.{cmp-zero_padded, before_zeros-zero_padded}
 

@@ -4,9 +4,9 @@ use Rattle.std.specs.Ordering.{nat_cmp, ordering_then, is_lt}
 use Rattle.std.specs.Cmp.{tied_itself}
 use Rattle.std.specs.Cmp.Lexicographic.{slice_cmp, nat_list_cmp_total}
 use Rattle.std.proofs.lemmas.Map.Lookups.{exact_unsigned}
-use Rattle.cell_core.specs.SiteNames.{padded_name}
-use Rattle.cell_core.specs.Stamps.{stamp_cmp}
-use Rattle.cell_core.specs.Cells.{AgreeStamps, joined_stamps, AgreeCells, joined_cells}
+use Rattle.cell_core.specs.SiteName.{padded_name}
+use Rattle.cell_core.specs.Stamp.{stamp_cmp}
+use Rattle.cell_core.specs.Cell.{AgreeStamps, joined_stamps, AgreeCells, joined_cells}
 use Rattle.cell_core.specs.Migration.{OldStamp, IsOldStamp, OldCell, old_stamp_cmp, AgreeOldStamps}
 use Rattle.cell_core.specs.Migration.{joined_old_stamps, AgreeOldCells, joined_old_cells}
 use Rattle.cell_core.specs.Migration.{migrated_stamp, migrated_cell, KeepsJoins}

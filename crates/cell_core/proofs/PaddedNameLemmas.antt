@@ -16,7 +16,7 @@ use Rattle.std.specs.Cmp.{nat_cmp_is}
 use Rattle.std.specs.Cmp.Lexicographic.{slice_cmp}
 use Rattle.std.specs.Ordering.{nat_cmp, ordering_then}
 use Rattle.std.specs.declared.cmp.Ordering.TheVariants.{Less, Equal, Greater}
-use Rattle.cell_core.specs.SiteNames.{is_site_byte, IsSiteName, padded_name}
+use Rattle.cell_core.specs.SiteName.{is_site_byte, IsSiteName, padded_name}
 
 -- the last k decimal digits
 abbrev pub last_digits : ℕ → ℕ → List ℕ

@@ -12,10 +12,10 @@ use Rattle.std.specs.Ordering.{is_gt, is_eq, is_lt, eq_by_cmp}
 use Rattle.std.specs.Cmp.{IsTotalOrder, tied_itself}
 use Rattle.std.specs.declared.vec.Vec.{Vec}
 use Rattle.std.specs.FinMap.Entries.{find, is_sorted, below_all}
-use Rattle.cell_core.specs.Joins.{JoinLaws}
-use Rattle.cell_core.specs.Maps.{IsMap, AgreeIfBoth, joined_if_both, BetweenIfBoth, BetweenAtKeys}
-use Rattle.cell_core.specs.Maps.{IsJoinedWith, joined_maps, joined_maps-IsMap, find-joined_maps}
-use Rattle.cell_core.specs.Maps.{same_maps}
+use Rattle.cell_core.specs.Join.{JoinLaws}
+use Rattle.cell_core.specs.Keyed.{IsMap, AgreeIfBoth, joined_if_both, BetweenIfBoth, BetweenAtKeys}
+use Rattle.cell_core.specs.Keyed.{IsJoinedWith, joined_maps, joined_maps-IsMap, find-joined_maps}
+use Rattle.cell_core.specs.Keyed.{same_maps}
 use Rattle.cell_core.specs.Places.{place_of}
 use Rattle.cell_core.specs.Missing.{or_other}
 use Rattle.cell_core.specs.Chunks.{all_of, IsChunked, IsRunFor}

@@ -8,7 +8,7 @@ use Rattle.std.proofs.lemmas.Str.Ascii.{IsAscii-from_all}
 use Rattle.std.specs.Str.{IsUtf8}
 use Rattle.std.specs.Cmp.Lexicographic.{slice_cmp}
 use Rattle.std.specs.Ordering.{nat_cmp}
-use Rattle.cell_core.specs.SiteNames.{is_site_byte, IsSiteName, KeepsName}
+use Rattle.cell_core.specs.SiteName.{is_site_byte, IsSiteName, KeepsName}
 use Rattle.cell_core.specs.ZeroPadded.{zero_padded, before_zeros}
 use Rattle.cell_core.proofs.ZeroPaddedLemmas.{cmp-zero_padded, before_zeros-zero_padded}
 

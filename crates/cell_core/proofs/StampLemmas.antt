@@ -9,7 +9,7 @@ use Rattle.std.specs.declared.cmp.Ordering.{Ordering}
 use Rattle.std.specs.declared.cmp.Ordering.TheVariants.{Less, Equal, Greater}
 use Rattle.std.proofs.lemmas.Cmp.{ranked}
 use Rattle.cell_core.specs.declared.stamp.Stamp.{Stamp}
-use Rattle.cell_core.specs.Stamps.{stamp_cmp, IsNew, IsNext}
+use Rattle.cell_core.specs.Stamp.{stamp_cmp, IsNew, IsNext}
 
 abbrev sites : Stamp → Stamp → Ordering
 sites a b = slice_cmp nat_cmp a.site b.site

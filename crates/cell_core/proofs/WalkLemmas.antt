@@ -7,7 +7,7 @@ use Rattle.std.specs.Ordering.{is_gt, is_eq, ordering_reverse}
 use Rattle.std.specs.Cmp.{IsTotalOrder}
 use Rattle.std.specs.FinMap.Entries.{is_sorted, below_all}
 use Rattle.std.proofs.lemmas.List.{get_or_default}
-use Rattle.cell_core.specs.Maps.{IsMap}
+use Rattle.cell_core.specs.Keyed.{IsMap}
 use Rattle.cell_core.specs.Places.{place_of, IsPlace, IsGap}
 use Rattle.cell_core.proofs.Basics.{first_part, second_part}
 use Rattle.cell_core.proofs.PlaceLemmas.{below-at, place_of-le, gap_at}

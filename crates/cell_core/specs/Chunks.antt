@@ -5,7 +5,7 @@ use Rattle.std.specs.declared.cmp.Ordering.{Ordering}
 use Rattle.std.specs.FinMap.Entries.{find, below_all}
 use Rattle.std.specs.declared.vec.Vec.{Vec}
 use Rattle.cell_core.specs.declared.chunks.Chunks.{Chunks}
-use Rattle.cell_core.specs.Maps.{IsMap}
+use Rattle.cell_core.specs.Keyed.{IsMap}
 use Rattle.cell_core.specs.Places.{place_of, IsPlace}
 
 -- the entries of all chunks

@@ -1,7 +1,7 @@
 -- The laws of the join from which the others follow: what an implementation proves.
 use Rattle.std.specs.Prelude.{◌≡◌}
 use Rattle.std.proofs.Common.{sym, ap, ◌∙◌, subst}
-use Rattle.cell_core.specs.Joins.{JoinLaws, IsBelow}
+use Rattle.cell_core.specs.Join.{JoinLaws, IsBelow}
 
 -- the laws but the fifth
 pub record JoinBasis {J : Type 0} (agree : J → J → Type 0) (joined : J → J → J)

@@ -6,7 +6,7 @@ use Rattle.std.specs.declared.cmp.Ordering.{Ordering}
 use Rattle.std.specs.declared.cmp.Ordering.TheVariants.{Less, Equal, Greater}
 use Rattle.std.specs.Ordering.{is_lt, is_gt, ordering_reverse}
 use Rattle.std.specs.Cmp.{IsTotalOrder, upto}
-use Rattle.cell_core.specs.Joins.{JoinLaws, IsBelow}
+use Rattle.cell_core.specs.Join.{JoinLaws, IsBelow}
 use Rattle.cell_core.specs.JoinBasis.{join_laws}
 use Rattle.cell_core.specs.Later.{later_by, IsEitherOf}
 

@@ -5,10 +5,10 @@ use Rattle.std.specs.Ordering.{nat_cmp}
 use Rattle.std.specs.declared.cmp.Ordering.{Ordering}
 use Rattle.cell_core.specs.declared.stamp.Stamp.{Stamp}
 use Rattle.cell_core.specs.declared.cell.Cell.{Cell}
-use Rattle.cell_core.specs.Stamps.{by_time_site_count}
+use Rattle.cell_core.specs.Stamp.{by_time_site_count}
 use Rattle.cell_core.specs.Later.{later_by}
-use Rattle.cell_core.specs.Cells.{AgreeBy}
-use Rattle.cell_core.specs.SiteNames.{padded_name}
+use Rattle.cell_core.specs.Cell.{AgreeBy}
+use Rattle.cell_core.specs.SiteName.{padded_name}
 
 -- a stamp of a numbered site
 pub record OldStamp : Type 0 where

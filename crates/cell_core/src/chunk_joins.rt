@@ -4,7 +4,7 @@
 ghost use Rattle.std.specs.Prelude.{◌≡◌, ◌<◌, ◌≤◌, ◌↔◌, IfOk, OnOk, OnErr, IsTrue, length, take};
 ghost use Rattle.std.specs.FinMap.Entries.{find};
 ghost use Rattle.std.specs.Vec.{vec_len};
-ghost use Rattle.cell_core.specs.Maps.{IsMap, AgreeIfBoth, BetweenAtKeys, IsJoinedWith};
+ghost use Rattle.cell_core.specs.Keyed.{IsMap, AgreeIfBoth, BetweenAtKeys, IsJoinedWith};
 ghost use Rattle.cell_core.specs.Chunks.{all_of, entries_of, IsChunked, IsKept, IsRunFor};
 ghost use Rattle.cell_core.specs.Places.{place_of};
 

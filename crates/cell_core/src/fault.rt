@@ -30,7 +30,7 @@ pub enum CellFault {
 }
 
 impl CellFault {
-    ghost use Rattle.cell_core.specs.Numbers.{number_of};
+    ghost use Rattle.cell_core.specs.Fault.{number_of};
 
     /// The number of the refusal, in the numbering that all crates of the product share.
     pub fn number(&self) -> u8

@@ -3,7 +3,7 @@
 ghost use Rattle.std.specs.Prelude.{◌≡◌, ◌↔◌, IfOk, OnOk, OnErr, IsTrue, IfSome, AllPairs, List};
 ghost use Rattle.std.specs.Prelude.{Option};
 ghost use Rattle.std.specs.List.Sorted.{IsPermutation};
-ghost use Rattle.cell_core.specs.Joins.{JoinLaws, IsJoinOf, IsJoinOfAll};
+ghost use Rattle.cell_core.specs.Join.{JoinLaws, IsJoinOf, IsJoinOfAll};
 
 use std::alloc::{AllocError, Global};
 

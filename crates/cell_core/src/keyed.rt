@@ -9,7 +9,7 @@ ghost use Rattle.std.specs.FinMap.Entries.{find, put};
 ghost use Rattle.cell_core.specs.contracts.keyed.Keyed.{the_row};
 ghost use Rattle.cell_core.specs.Above.{IsAboveAll};
 ghost use Rattle.cell_core.specs.Found.{with_key};
-ghost use Rattle.cell_core.specs.Maps.{IsMap, AgreeMaps, joined_maps, BetweenMaps, map_laws};
+ghost use Rattle.cell_core.specs.Keyed.{IsMap, AgreeMaps, joined_maps, BetweenMaps, map_laws};
 
 pub(crate) mod iter;
 
@@ -62,7 +62,7 @@ impl<K: Key, J> Model for Keyed<K, J> {
 }
 
 impl<K: Key, J> Keyed<K, J> {
-    ghost use Rattle.cell_core.specs.EntriesLeft.{entries_left};
+    ghost use Rattle.cell_core.specs.Iter.{entries_left};
 
     /// The empty map, which grows by this allocator. It takes no memory.
     pub fn new(alloc: Global) -> Self

@@ -6,8 +6,8 @@ ghost use Rattle.std.specs.List.{position};
 ghost use Rattle.std.specs.String.{string_bytes};
 ghost use Rattle.std.specs.Cmp as laws_of;
 ghost use Rattle.std.specs.Cmp.Lexicographic.{pointwise, nat_list_eq_equiv, lists_equiv};
-ghost use Rattle.cell_core.specs.Refusals.{RefusesLabel, RefusesTexts};
-ghost use Rattle.cell_core.specs.Labels.{texts_of, is_too_long, IsLabel, IsLabelCount};
+ghost use Rattle.cell_core.specs.Fault.{RefusesLabel, RefusesTexts};
+ghost use Rattle.cell_core.specs.Label.{texts_of, is_too_long, IsLabel, IsLabelCount};
 
 use crate::fault::CellFault;
 use smallvec::SmallVec;
@@ -32,7 +32,7 @@ pub struct Label {
 
 impl Model for Label {
     ghost use Rattle.std.specs.Prelude.{List, ℕ};
-    ghost use Rattle.cell_core.specs.Labels.{shared_texts, IsLabel};
+    ghost use Rattle.cell_core.specs.Label.{shared_texts, IsLabel};
 
     ghost Value = { List (List ℕ) };
 

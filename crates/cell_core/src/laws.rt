@@ -4,10 +4,10 @@
 ghost use Rattle.std.specs.Prelude.{◌≡◌, ◌<◌, ◌^◌, ℕ, List};
 ghost use Rattle.std.specs.Ordering.{nat_cmp};
 ghost use Rattle.std.specs.Cmp.Lexicographic.{slice_cmp};
-ghost use Rattle.cell_core.specs.SiteNames.{IsSiteName, padded_name};
+ghost use Rattle.cell_core.specs.SiteName.{IsSiteName, padded_name};
 ghost use Rattle.cell_core.specs.ZeroPadded.{zero_padded};
-ghost use Rattle.cell_core.specs.Stamps.{stamp_cmp};
-ghost use Rattle.cell_core.specs.Cells.{AgreeStamps, joined_stamps, AgreeCells, joined_cells};
+ghost use Rattle.cell_core.specs.Stamp.{stamp_cmp};
+ghost use Rattle.cell_core.specs.Cell.{AgreeStamps, joined_stamps, AgreeCells, joined_cells};
 ghost use Rattle.cell_core.specs.Migration.{OldStamp, IsOldStamp, OldCell, old_stamp_cmp};
 ghost use Rattle.cell_core.specs.Migration.{AgreeOldStamps, joined_old_stamps, AgreeOldCells};
 ghost use Rattle.cell_core.specs.Migration.{joined_old_cells, migrated_stamp, migrated_cell};

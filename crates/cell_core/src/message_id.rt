@@ -9,8 +9,8 @@ ghost use Rattle.std.specs.Cmp.Lexicographic.{slice_cmp, pointwise, nat_list_cmp
 ghost use Rattle.std.specs.Cmp.Lexicographic.{nat_list_eq_equiv, texts_po};
 ghost use Rattle.std.specs.String.{string_bytes};
 ghost use Rattle.std.proofs.lemmas.Map.Lookups.{exact_bytes};
-ghost use Rattle.cell_core.specs.MessageIds.{is_id_byte, IsMessageId, IdTakesMemory, id_bytes};
-ghost use Rattle.cell_core.specs.MessageIds.{KeepsId};
+ghost use Rattle.cell_core.specs.MessageId.{is_id_byte, IsMessageId, IdTakesMemory, id_bytes};
+ghost use Rattle.cell_core.specs.MessageId.{KeepsId};
 ghost use Rattle.cell_core.specs.TextOrder.{texts_tie};
 
 use crate::fault::CellFault;
@@ -38,7 +38,7 @@ pub struct MessageId {
 
 impl Model for MessageId {
     ghost use Rattle.std.specs.Prelude.{List, ℕ};
-    ghost use Rattle.cell_core.specs.MessageIds.{id_bytes, KeepsId};
+    ghost use Rattle.cell_core.specs.MessageId.{id_bytes, KeepsId};
 
     ghost Value = { List ℕ };
 
@@ -48,7 +48,7 @@ impl Model for MessageId {
 }
 
 impl MessageId {
-    ghost use Rattle.cell_core.specs.Refusals.{RefusesId};
+    ghost use Rattle.cell_core.specs.Fault.{RefusesId};
 
     /// The id with this text: in place up to 32 bytes, else by one allocation.
     ///
@@ -274,7 +274,7 @@ fn are_id_bytes(bytes: &[u8]) -> bool
 }
 
 /// Whether the byte is allowed in an id.
-#[tactic(auto, unfolding(crate::specs::MessageIds::is_id_byte))]
+#[tactic(auto, unfolding(crate::specs::MessageId::is_id_byte))]
 fn is_id_byte(b: u8) -> bool
     ensures { result ≡ is_id_byte b }
 {

@@ -6,7 +6,7 @@ ghost use Rattle.std.specs.Ordering.{nat_cmp};
 ghost use Rattle.std.specs.Cmp as laws_of;
 ghost use Rattle.std.specs.Cmp.Lexicographic.{slice_cmp, pointwise, nat_list_cmp_total};
 ghost use Rattle.std.specs.Cmp.Lexicographic.{nat_list_eq_equiv, texts_po};
-ghost use Rattle.cell_core.specs.SiteNames.{is_site_byte, IsSiteName, padded_name};
+ghost use Rattle.cell_core.specs.SiteName.{is_site_byte, IsSiteName, padded_name};
 ghost use Rattle.cell_core.specs.TextOrder.{texts_tie};
 
 use crate::fault::CellFault;
@@ -32,7 +32,7 @@ pub struct SiteName {
 
 impl Model for SiteName {
     ghost use Rattle.std.specs.Prelude.{List, ℕ};
-    ghost use Rattle.cell_core.specs.SiteNames.{KeepsName};
+    ghost use Rattle.cell_core.specs.SiteName.{KeepsName};
     ghost use Rattle.cell_core.specs.ZeroPadded.{zero_padded, before_zeros};
 
     ghost Value = { List ℕ };
@@ -47,7 +47,7 @@ impl Model for SiteName {
 }
 
 impl SiteName {
-    ghost use Rattle.cell_core.specs.Refusals.{RefusesName};
+    ghost use Rattle.cell_core.specs.Fault.{RefusesName};
 
     /// The name with this text.
     ///
@@ -153,7 +153,7 @@ fn are_site_bytes(bytes: &[u8]) -> bool
 }
 
 /// Whether the byte is allowed in a name.
-#[tactic(auto, unfolding(crate::specs::SiteNames::is_site_byte))]
+#[tactic(auto, unfolding(crate::specs::SiteName::is_site_byte))]
 fn is_site_byte(b: u8) -> bool
     ensures { result ≡ is_site_byte b }
 {

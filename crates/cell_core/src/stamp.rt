@@ -2,8 +2,8 @@
 
 ghost use Rattle.std.specs.Prelude.{◌≡◌, ◌∷◌, ◌++◌, Some, MatchResult, OnOk, OnErr, IsOk, IfOk};
 ghost use Rattle.std.specs.Fmt.{decimal};
-ghost use Rattle.cell_core.specs.Stamps.{IsNext, NoNext};
-ghost use Rattle.cell_core.specs.Cells.{AgreeStamps, joined_stamps, stamp_laws};
+ghost use Rattle.cell_core.specs.Stamp.{IsNext, NoNext};
+ghost use Rattle.cell_core.specs.Cell.{AgreeStamps, joined_stamps, stamp_laws};
 ghost use Rattle.cell_core.specs.Later.{IsEitherOf};
 
 use crate::fault::CellFault;

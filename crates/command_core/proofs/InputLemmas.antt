@@ -6,7 +6,7 @@ use Rattle.std.specs.List.{prefix_len}
 use Rattle.std.proofs.lemmas.Bool.Decides.{nat_tests}
 use Rattle.std.proofs.lemmas.List.{append_assoc, drop_at, take_at}
 use Rattle.std.proofs.lemmas.List.Elements.{All-head, All-tail}
-use Rattle.cata_core.specs.Sites.{SiteState}
+use Rattle.cata_core.specs.Site.{SiteState}
 use Rattle.row_docs.specs.Entries.{cells_values}
 use Rattle.site_docs.specs.ReadsAs.{IsSiteText, ReadsAsSite}
 use Rattle.site_docs.specs.SiteDocuments.{IsSiteDocument, site_checks}

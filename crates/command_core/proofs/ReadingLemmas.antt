@@ -1,7 +1,7 @@
 -- From what is read of an input for a message to what a command reads.
 use Rattle.std.proofs.Common.{ℕ, List, Result, Ok, Err, inl, inr, refl}
 use Rattle.std.specs.Prelude.{MatchResult}
-use Rattle.cata_core.specs.Sites.{SiteState}
+use Rattle.cata_core.specs.Site.{SiteState}
 use Rattle.json_docs.specs.Checks.{OrMemory}
 use Rattle.json_docs.specs.Sources.{ReadsWhole}
 use Rattle.json_docs.specs.declared.fault.DocFault.{DocFault}

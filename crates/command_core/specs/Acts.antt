@@ -4,11 +4,11 @@ use Rattle.std.specs.Prelude.{◌≡◌, ◌⊎◌, ◌++◌, ℕ, Bool, List, [
 use Rattle.std.specs.Prelude.{MatchOption, MatchResult}
 use Rattle.clap.specs.Words.{Row, Text}
 use Rattle.cata_core.specs.Entries.{Entries}
-use Rattle.cata_core.specs.Sites.{SiteState}
-use Rattle.cell_core.specs.Labels.{IsLabel}
-use Rattle.cell_core.specs.MessageIds.{IsMessageId}
-use Rattle.cell_core.specs.Refusals.{RefusesName}
-use Rattle.cell_core.specs.SiteNames.{IsSiteName}
+use Rattle.cata_core.specs.Site.{SiteState}
+use Rattle.cell_core.specs.Label.{IsLabel}
+use Rattle.cell_core.specs.MessageId.{IsMessageId}
+use Rattle.cell_core.specs.Fault.{RefusesName}
+use Rattle.cell_core.specs.SiteName.{IsSiteName}
 use Rattle.query_docs.specs.Missing as missing
 use Rattle.query_docs.specs.Outdated as outdated
 use Rattle.docs_core.specs.Calls as call

@@ -1,9 +1,9 @@
 -- The product's reading of a command's words (project rules).
 use Rattle.std.specs.Prelude.{◌≡◌, ◌⊎◌, List, Option, None, Some}
 use Rattle.clap.specs.Words.{Text}
-use Rattle.cell_core.specs.Labels.{IsLabel}
-use Rattle.cell_core.specs.MessageIds.{IsMessageId}
-use Rattle.cell_core.specs.Refusals.{RefusesId, RefusesTexts}
+use Rattle.cell_core.specs.Label.{IsLabel}
+use Rattle.cell_core.specs.MessageId.{IsMessageId}
+use Rattle.cell_core.specs.Fault.{RefusesId, RefusesTexts}
 use Rattle.cell_core.specs.declared.fault.CellFault.{CellFault}
 use Rattle.cell_core.specs.declared.fault.CellFault.TheVariants as cell
 use Rattle.lang_core.specs.Lang.{SpellsLang, RefusesLang}

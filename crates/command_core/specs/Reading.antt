@@ -1,7 +1,7 @@
 -- What a command does with its input: its words are read first, then the whole input, and what that
 -- holds is answered or refused (project rules).
 use Rattle.std.specs.Prelude.{◌⊎◌, ℕ, List}
-use Rattle.cata_core.specs.Sites.{SiteState}
+use Rattle.cata_core.specs.Site.{SiteState}
 use Rattle.json_docs.specs.Checks.{OrMemory}
 use Rattle.json_docs.specs.Sources.{IsReadFault, ReadsWhole}
 use Rattle.json_docs.specs.declared.fault.DocFault.{DocFault}

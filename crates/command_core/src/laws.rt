@@ -1,6 +1,6 @@
 //! Laws over the definitions alone, each the contract of a function that does nothing.
 ghost use Rattle.std.specs.Prelude.{◌++◌, List, ℕ};
-ghost use Rattle.cata_core.specs.Sites.{SiteState};
+ghost use Rattle.cata_core.specs.Site.{SiteState};
 ghost use Rattle.site_docs.specs.ReadsAs.{IsSiteText, ReadsAsSite};
 ghost use Rattle.row_docs.specs.Texts.{IsOneLine};
 ghost use Rattle.map_docs.specs.LangMapLabels.{AreLangMaps};

@@ -1,6 +1,6 @@
 //! The product's reading of arguments.
 ghost use Rattle.std.specs.Prelude.{◌≡◌, map, option_map, IfOk, MatchResult};
-ghost use Rattle.cell_core.specs.Labels.{texts_of};
+ghost use Rattle.cell_core.specs.Label.{texts_of};
 ghost use Rattle.lang_core.specs.Lang.{SpellsLang, RefusesLang};
 ghost use Rattle.command_core.specs.Parsing.{IsKey, RefusesKey, IsLabelOf, RefusesLabelWords};
 ghost use Rattle.command_core.specs.Parsing.{IsTranslation, RefusesTranslation};

@@ -1,6 +1,6 @@
 -- Why labels are not put into a site.
 use Rattle.std.proofs.Common.{◌≡◌, ◌∙◌, ℕ, List, ap, inl, inr}
-use Rattle.cata_core.specs.Sites.{SiteState}
+use Rattle.cata_core.specs.Site.{SiteState}
 use Rattle.cata_core.specs.declared.cata_fault.CataFault.{CataFault}
 use Rattle.cata_core.specs.declared.cata_fault.CataFault.TheVariants.{ClockSpent, NoMemory}
 use Rattle.json_docs.specs.Checks.{OrMemory}

@@ -1,12 +1,12 @@
 -- What documents hold after a delta or a sync.
 use Rattle.std.proofs.Common.{◌≡◌, ◌∙◌, ℕ, List, ap, ap₂, subst}
-use Rattle.cata_core.specs.Deltas.{HasAll, Stamps, delta_of, summary_of}
+use Rattle.cata_core.specs.Delta.{HasAll, Stamps, delta_of, summary_of}
 use Rattle.cata_core.specs.Entries.{Agree, Entries, joined}
-use Rattle.cata_core.specs.Sites.{SiteState}
+use Rattle.cata_core.specs.Site.{SiteState}
 use Rattle.cata_core.specs.declared.delta.Delta.{Delta}
 use Rattle.cata_core.specs.Summary.{SummaryState}
-use Rattle.cata_core.proofs.Deltas.{nothing_lost}
-use Rattle.cata_core.proofs.Summaries.{has_own}
+use Rattle.cata_core.proofs.DeltaLemmas.{nothing_lost}
+use Rattle.cata_core.proofs.SummaryLemmas.{has_own}
 use Rattle.row_docs.specs.Entries.{cells_values}
 use Rattle.site_docs.specs.ReadsAs.{IsSiteText, ReadsAsDelta, ReadsAsSite}
 use Rattle.row_docs.specs.Texts.{text}

@@ -14,8 +14,8 @@ use Rattle.lang_core.specs.declared.fault.LangFault.{LangFault}
 use Rattle.lang_core.specs.declared.fault.LangFault.TheVariants as lang
 use Rattle.lang_core.proofs.Basics.{each_true}
 use Rattle.lang_core.proofs.OneOffset.{one_offset}
-use Rattle.cell_core.specs.Labels.{IsLabel, IsLabelCount, is_too_long}
-use Rattle.cell_core.specs.Refusals.{RefusesTexts}
+use Rattle.cell_core.specs.Label.{IsLabel, IsLabelCount, is_too_long}
+use Rattle.cell_core.specs.Fault.{RefusesTexts}
 use Rattle.cell_core.specs.declared.fault.CellFault.{CellFault}
 use Rattle.cell_core.specs.declared.fault.CellFault.TheVariants as cell
 use Rattle.nego_core.specs.Field.{IsField, IsFirstMalformed, RefusesField}
@@ -24,7 +24,7 @@ use Rattle.nego_core.specs.declared.fault.NegoFault.{NegoFault}
 use Rattle.nego_core.specs.declared.fault.NegoFault.TheVariants as nego
 use Rattle.nego_core.specs.declared.field.Malformed.TheVariants.{Refused}
 use Rattle.nego_core.specs.declared.scheme.Scheme.{Scheme}
-use Rattle.nego_core.proofs.FieldLaws.{malformed_is_no_field, one_malformed}
+use Rattle.nego_core.proofs.FieldLemmas.{malformed_is_no_field, one_malformed}
 
 -- ---- languages
 

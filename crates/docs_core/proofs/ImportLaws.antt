@@ -2,9 +2,9 @@
 use Rattle.std.proofs.Common.{◌≡◌, ◌∙◌, ℕ, List, [], ap, refl, sym}
 use Rattle.std.specs.Prelude.{None, Option, Some, option_map}
 use Rattle.std.specs.FinMap.Entries.{find}
-use Rattle.cell_core.specs.Maps.{IsMap, same_maps}
+use Rattle.cell_core.specs.Keyed.{IsMap, same_maps}
 use Rattle.cata_core.specs.Entries.{Entries, EntryKey, key_cmp, key_cmp_exact, key_cmp_total}
-use Rattle.cata_core.proofs.Mapped.{find-mapped, mapped-IsMap}
+use Rattle.cata_core.proofs.MappedLemmas.{find-mapped, mapped-IsMap}
 use Rattle.map_docs.specs.LangMaps.{Labelled}
 use Rattle.query_docs.specs.Exported.{label_at, live_labels}
 use Rattle.query_docs.proofs.LiveLemmas.{find-live, label_in, live-IsMap}

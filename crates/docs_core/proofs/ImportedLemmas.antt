@@ -1,11 +1,11 @@
 -- One label more is put.
 use Rattle.std.proofs.Common.{◌≡◌, ℕ, List, ◌∷◌, refl, subst, inl, inr}
 use Rattle.std.specs.Prelude.{◌⊎◌, Some}
-use Rattle.cell_core.specs.Stamps.{IsNext, NoNext}
+use Rattle.cell_core.specs.Stamp.{IsNext, NoNext}
 use Rattle.cell_core.specs.declared.stamp.Stamp.{Stamp}
 use Rattle.cata_core.specs.Entries.{Entries}
 use Rattle.cata_core.specs.Latest.{latest_of}
-use Rattle.cata_core.specs.Sites.{RefusesEdit, SiteState}
+use Rattle.cata_core.specs.Site.{RefusesEdit, SiteState}
 use Rattle.cata_core.specs.declared.cata_fault.CataFault.{CataFault}
 use Rattle.cata_core.specs.declared.cata_fault.CataFault.TheVariants.{ClockSpent, NoMemory}
 use Rattle.cata_core.specs.declared.cata_fault.CataFault.TheVariants.{NotForMe, StampReused}

@@ -7,20 +7,20 @@ use Rattle.std.specs.Ordering.{eq_by_cmp, is_lt}
 use Rattle.std.proofs.lemmas.List.Elements.{All-cons, All-nil}
 use Rattle.serde_json.specs.Data.{Data}
 use Rattle.serde_json.specs.Find.{as_str, get}
-use Rattle.cell_core.specs.Maps.{IsMap}
+use Rattle.cell_core.specs.Keyed.{IsMap}
 use Rattle.cell_core.specs.Migration.{IsOldStamp, OldCell, OldStamp, migrated_cell, migrated_stamp}
-use Rattle.cell_core.specs.SiteNames.{padded_name}
+use Rattle.cell_core.specs.SiteName.{padded_name}
 use Rattle.cata_core.specs.Entries.{Agree, Entries, EntryKey, joined, key_cmp}
 use Rattle.cata_core.specs.Migration.{AgreeOld, IsOldMap, OldDelta, OldEntries, OldEntry, OldSite}
 use Rattle.cata_core.specs.Migration.{OldStamps, OldSummary, joined_old, migrated_delta}
 use Rattle.cata_core.specs.Migration.{migrated_entries, migrated_site, migrated_summary}
 use Rattle.cata_core.specs.OldSteps.{OldStep, OldEdit, OldMerge, OldAskFilter, OldAskLookup}
 use Rattle.cata_core.specs.OldSteps.{OldAskCells, OldTell, OldPost, OldDeliver}
-use Rattle.cata_core.specs.Sites.{SiteState}
+use Rattle.cata_core.specs.Site.{SiteState}
 use Rattle.cata_core.specs.Summary.{SummaryState}
 use Rattle.cata_core.specs.declared.delta.Delta.{Delta as DeltaState}
 use Rattle.cata_core.proofs.Basics.{some_same}
-use Rattle.cata_core.proofs.Migration.{keeps_catalogue_joins}
+use Rattle.cata_core.proofs.MigrationLemmas.{keeps_catalogue_joins}
 use Rattle.json_docs.specs.Checks.{AllPass, AreJson, Check, rows_checks}
 use Rattle.json_docs.specs.Parts.{items_in, u32_in, u64_in}
 use Rattle.json_docs.proofs.ChecksLemmas.{AllPass-rest}

@@ -6,14 +6,14 @@ use Rattle.std.specs.FinMap.Entries.{find}
 use Rattle.std.specs.List.{cons_option}
 use Rattle.std.specs.Option.{is_none, option_and_then}
 use Rattle.std.specs.Ordering.{eq_by_cmp}
-use Rattle.cell_core.specs.Maps.{same_maps}
+use Rattle.cell_core.specs.Keyed.{same_maps}
 use Rattle.cata_core.specs.Entries.{Entries, EntryKey, key_cmp, key_cmp_exact, key_cmp_total}
 use Rattle.cata_core.specs.Parts.{part_of}
 use Rattle.cata_core.proofs.Basics.{some_same}
-use Rattle.cata_core.proofs.Best.{own_key, same_key}
-use Rattle.cata_core.proofs.Filtered.{filter-IsMap}
-use Rattle.cata_core.proofs.Members.{Contains-from_in, In, filter_in, in_filter, in_from_Contains}
-use Rattle.cata_core.proofs.Parts.{find-part, part_looks_up_by}
+use Rattle.cata_core.proofs.BestLemmas.{own_key, same_key}
+use Rattle.cata_core.proofs.FilteredLemmas.{filter-IsMap}
+use Rattle.cata_core.proofs.MembersLemmas.{Contains-from_in, In, filter_in, in_filter, in_from_Contains}
+use Rattle.cata_core.proofs.PartsLemmas.{find-part, part_looks_up_by}
 use Rattle.cata_core.specs.declared.reply.Reply.TheVariants.{Default, Matched}
 use Rattle.nego_core.specs.Item.{Item}
 use Rattle.nego_core.specs.declared.widening.Widening.{Widening}

@@ -17,7 +17,7 @@ use Rattle.serde_json.specs.Data.{null, number, object, put, string}
 use Rattle.serde_json.specs.Find.{get, get_member}
 use Rattle.serde_json.specs.Read.{max_depth, number_of, of_items, of_json, of_members, read}
 use Rattle.cata_core.specs.Entries.{EntryKey}
-use Rattle.cata_core.specs.Sites.{SiteState}
+use Rattle.cata_core.specs.Site.{SiteState}
 use Rattle.cata_core.specs.declared.delta.Delta.{Delta as DeltaState}
 use Rattle.json_docs.specs.Parts.{items_in, list_of}
 use Rattle.row_docs.specs.Headers.{rows_in, version_of}

@@ -6,17 +6,17 @@ use Rattle.std.specs.Prelude.{◌⊎◌, ◌↔◌, All, Err, MatchResult, None,
 use Rattle.std.specs.FinMap.Entries.{find}
 use Rattle.std.specs.Ordering.{eq_by_cmp, is_lt}
 use Rattle.std.proofs.lemmas.List.Elements.{All-contains, All-nil, All-push}
-use Rattle.cell_core.specs.Cells.{cell_laws, joined_cells}
-use Rattle.cell_core.specs.Maps.{find-joined_maps, joined_if_both}
-use Rattle.cell_core.specs.Stamps.{stamp_cmp}
+use Rattle.cell_core.specs.Cell.{cell_laws, joined_cells}
+use Rattle.cell_core.specs.Keyed.{find-joined_maps, joined_if_both}
+use Rattle.cell_core.specs.Stamp.{stamp_cmp}
 use Rattle.cell_core.specs.declared.cell.Cell.{Cell}
 use Rattle.cata_core.specs.Entries.{Agree, Entries, Entry, EntryKey, catalogue_laws, joined}
 use Rattle.cata_core.specs.Entries.{key_cmp, key_cmp_total}
-use Rattle.cata_core.specs.Sites.{SiteState}
+use Rattle.cata_core.specs.Site.{SiteState}
 use Rattle.cata_core.specs.declared.delta.Delta.{Delta}
 use Rattle.cata_core.proofs.Basics.{append_nil, some_same}
-use Rattle.cata_core.proofs.Best.{same_key}
-use Rattle.cata_core.proofs.Members.{Contains-from_in, In}
+use Rattle.cata_core.proofs.BestLemmas.{same_key}
+use Rattle.cata_core.proofs.MembersLemmas.{Contains-from_in, In}
 use Rattle.json_docs.specs.Checks.{OrMemory}
 use Rattle.json_docs.specs.declared.fault.DocFault.{DocFault}
 use Rattle.row_docs.specs.Reading.{no_memory}

@@ -4,12 +4,12 @@ use Rattle.std.proofs.Common.{inl, inr}
 use Rattle.std.specs.Prelude.{◌⊎◌, None, Option, Some}
 use Rattle.std.specs.Ordering.{eq_by_cmp}
 use Rattle.std.specs.FinMap.Entries.{below_all, find, find-put, is_sorted, is_sorted-put}
-use Rattle.cell_core.specs.Maps.{IsMap, same_maps}
+use Rattle.cell_core.specs.Keyed.{IsMap, same_maps}
 use Rattle.cell_core.specs.declared.cell.Cell.{Cell}
 use Rattle.cata_core.specs.Entries.{Entries, EntryKey, key_cmp, key_cmp_exact, key_cmp_total}
-use Rattle.cata_core.specs.Sites.{SiteState}
+use Rattle.cata_core.specs.Site.{SiteState}
 use Rattle.cata_core.proofs.Basics.{first_part, second_part}
-use Rattle.cata_core.proofs.Filtered.{find-below}
+use Rattle.cata_core.proofs.FilteredLemmas.{find-below}
 use Rattle.site_docs.specs.Documents.{site_text}
 use Rattle.site_docs.specs.ReadsAs.{ReadsAsSite}
 use Rattle.map_docs.specs.LangMapLabels.{AreLangMaps}

@@ -11,16 +11,16 @@ use Rattle.std.specs.Cmp.{tied_itself}
 use Rattle.std.specs.Cmp.Lexicographic.{pointwise}
 use Rattle.std.specs.FinMap.Entries.{below_all, find, find-put, is_sorted, is_sorted-put, put}
 use Rattle.std.proofs.Common.{nat_eq}
-use Rattle.cell_core.specs.Maps.{IsMap}
-use Rattle.cell_core.specs.Stamps.{NoNext}
+use Rattle.cell_core.specs.Keyed.{IsMap}
+use Rattle.cell_core.specs.Stamp.{NoNext}
 use Rattle.cell_core.specs.declared.cell.Cell.{Cell}
 use Rattle.cell_core.specs.declared.stamp.Stamp.{Stamp}
 use Rattle.cell_core.proofs.CellLemmas.{label_decides}
 use Rattle.cata_core.specs.Entries.{Entries, EntryKey, key_cmp, key_cmp_exact, key_cmp_total}
 use Rattle.cata_core.specs.Latest.{latest_of}
 use Rattle.cata_core.proofs.Basics.{both_parts, first_part, less_than, second_part, tied}
-use Rattle.cata_core.proofs.Filtered.{find-below}
-use Rattle.cata_core.proofs.KeyPlaces.{below_lesser}
+use Rattle.cata_core.proofs.FilteredLemmas.{find-below}
+use Rattle.cata_core.proofs.KeyPlacesLemmas.{below_lesser}
 use Rattle.map_docs.specs.LangMaps.{Labelled}
 use Rattle.query_docs.specs.Exported.{label_at}
 use Rattle.query_docs.proofs.LiveLemmas.{label_in}

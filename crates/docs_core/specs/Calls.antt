@@ -1,13 +1,13 @@
 -- What the calls on whole documents answer, and which refusals. Own rules.
 use Rattle.std.specs.Prelude.{◌≡◌, ◌≢◌, ◌⊎◌, ℕ, List, Option}
 use Rattle.std.specs.FinMap.Entries.{put}
-use Rattle.cell_core.specs.Stamps.{IsNext}
+use Rattle.cell_core.specs.Stamp.{IsNext}
 use Rattle.cell_core.specs.declared.stamp.Stamp.{Stamp}
-use Rattle.cata_core.specs.CataFaults.{IsRefusal}
-use Rattle.cata_core.specs.Deltas.{delta_of, summary_of}
+use Rattle.cata_core.specs.CataFault.{IsRefusal}
+use Rattle.cata_core.specs.Delta.{delta_of, summary_of}
 use Rattle.cata_core.specs.Entries.{Agree, EntryKey, joined, key_cmp}
 use Rattle.cata_core.specs.Latest.{latest_of}
-use Rattle.cata_core.specs.Sites.{RefusesDelta as NotTaken, RefusesEdit, SiteState}
+use Rattle.cata_core.specs.Site.{RefusesDelta as NotTaken, RefusesEdit, SiteState}
 use Rattle.cata_core.specs.Summary.{SummaryState}
 use Rattle.cata_core.specs.declared.cata_fault.CataFault.{CataFault}
 use Rattle.cata_core.specs.declared.cata_fault.CataFault.TheVariants.{NoMemory}

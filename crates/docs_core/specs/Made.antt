@@ -1,7 +1,7 @@
 -- Changes that are made one after another, each with a stamp of its own.
 use Rattle.std.specs.Prelude.{◌≡◌, ◌⊎◌, ℕ, List, [], ◌∷◌, Option}
 use Rattle.std.specs.FinMap.Entries.{put}
-use Rattle.cell_core.specs.Stamps.{IsNext, NoNext}
+use Rattle.cell_core.specs.Stamp.{IsNext, NoNext}
 use Rattle.cell_core.specs.declared.stamp.Stamp.{Stamp}
 use Rattle.cata_core.specs.Entries.{Entries, EntryKey, key_cmp}
 use Rattle.cata_core.specs.Latest.{latest_of}

@@ -2,7 +2,7 @@
 -- 32. Own rule.
 use Rattle.std.specs.Prelude.{◌≡◌, ℕ, ◌<◌, ◌^◌, All, Some, ⊤}
 use Rattle.std.specs.FinMap.Entries.{find}
-use Rattle.cell_core.specs.Maps.{IsMap}
+use Rattle.cell_core.specs.Keyed.{IsMap}
 use Rattle.cell_core.specs.Migration.{IsOldStamp, OldStamp}
 use Rattle.cata_core.specs.Entries.{EntryKey, key_cmp}
 use Rattle.cata_core.specs.Migration.{IsOldMap, OldDelta, OldSite, OldStamps, OldSummary}

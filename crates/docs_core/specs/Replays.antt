@@ -1,8 +1,8 @@
 -- A script from bytes to bytes. Own rule.
 use Rattle.std.specs.Prelude.{◌≡◌, ◌≢◌, ◌⊎◌, List, ℕ}
-use Rattle.cata_core.specs.Answers.{AreAnswers, AreHeldAnswers}
+use Rattle.cata_core.specs.Answer.{AreAnswers, AreHeldAnswers}
 use Rattle.cata_core.specs.Edits.{IsConsistent}
-use Rattle.cata_core.specs.Faulty.{IsFirstFault, IsNoClash, NoDelivers, NoneFaulty}
+use Rattle.cata_core.specs.PlayFault.{IsFirstFault, IsNoClash, NoDelivers, NoneFaulty}
 use Rattle.cata_core.specs.Taken.{edits_of}
 use Rattle.cata_core.specs.declared.answer.Answer.{Answer}
 use Rattle.cata_core.specs.declared.play_fault.PlayFault.{PlayFault}

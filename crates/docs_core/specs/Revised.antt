@@ -2,8 +2,8 @@
 use Rattle.std.specs.Prelude.{◌≡◌, ◌⊎◌, ℕ, List, None, Some, T, cond, option_map}
 use Rattle.std.specs.Ordering.{eq_by_cmp}
 use Rattle.std.specs.FinMap.Entries.{below_all, find}
-use Rattle.cell_core.specs.Maps.{IsMap}
-use Rattle.cell_core.specs.Stamps.{IsNext, NoNext}
+use Rattle.cell_core.specs.Keyed.{IsMap}
+use Rattle.cell_core.specs.Stamp.{IsNext, NoNext}
 use Rattle.cell_core.specs.declared.stamp.Stamp.{Stamp}
 use Rattle.cata_core.specs.Entries.{Entries, EntryKey, key_cmp}
 use Rattle.cata_core.specs.Latest.{latest_of}

@@ -1,9 +1,9 @@
 -- A limit on the times of what comes in, and what the calls answer under it. Own rule.
 use Rattle.std.specs.Prelude.{◌≡◌, ◌⊎◌, ◌++◌, ◌∷◌, ◌<◌, ◌≤◌, ℕ, All, List, None, Option, Some, ⊤}
 use Rattle.std.specs.Prelude.{length}
-use Rattle.cata_core.specs.CataFaults.{IsRefusal}
+use Rattle.cata_core.specs.CataFault.{IsRefusal}
 use Rattle.cata_core.specs.Entries.{Agree, Entries, Entry, joined}
-use Rattle.cata_core.specs.Sites.{RefusesDelta as NotTaken, SiteState}
+use Rattle.cata_core.specs.Site.{RefusesDelta as NotTaken, SiteState}
 use Rattle.cata_core.specs.declared.delta.Delta.{Delta}
 use Rattle.json_docs.specs.declared.fault.DocCause.TheVariants.{TimeAhead}
 use Rattle.json_docs.specs.declared.fault.DocFault.{DocFault}

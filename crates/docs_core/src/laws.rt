@@ -2,14 +2,14 @@
 ghost use Rattle.std.specs.Prelude.{◌≡◌, ◌≤◌, ◌⊎◌, ◌↔◌, ◌∷◌, ◌++◌, ℕ, Bool, Contains, List, []};
 ghost use Rattle.std.specs.Prelude.{IsTrue, None, Option, Some, false};
 ghost use Rattle.std.specs.FinMap.Entries.{find};
-ghost use Rattle.cell_core.specs.Maps.{IsMap};
+ghost use Rattle.cell_core.specs.Keyed.{IsMap};
 ghost use Rattle.cell_core.specs.declared.cell.Cell.{Cell};
 ghost use Rattle.nego_core.specs.Item.{Item};
 ghost use Rattle.nego_core.specs.declared.widening.Widening.{Widening};
-ghost use Rattle.cata_core.specs.Deltas.{HasAll, Stamps, delta_of};
+ghost use Rattle.cata_core.specs.Delta.{HasAll, Stamps, delta_of};
 ghost use Rattle.cata_core.specs.Entries.{Agree, Entries, EntryKey, joined, key_cmp};
 ghost use Rattle.cata_core.specs.Parts.{part_of};
-ghost use Rattle.cata_core.specs.Sites.{SiteState};
+ghost use Rattle.cata_core.specs.Site.{SiteState};
 ghost use Rattle.cata_core.specs.Summary.{SummaryState};
 ghost use Rattle.cata_core.specs.declared.delta.Delta.{Delta};
 ghost use Rattle.json_docs.specs.declared.fault.DocCause.{DocCause};

@@ -4,7 +4,7 @@ ghost use Rattle.serde_json.specs.Data.{Data};
 ghost use Rattle.cata_core.specs.Migration.{AgreeOld, OldDelta, OldSite, OldSummary};
 ghost use Rattle.cata_core.specs.Migration.{joined_old, migrated_delta};
 ghost use Rattle.cata_core.specs.Migration.{migrated_site, migrated_summary};
-ghost use Rattle.cata_core.specs.Sites.{SiteState};
+ghost use Rattle.cata_core.specs.Site.{SiteState};
 ghost use Rattle.cata_core.specs.Summary.{SummaryState};
 ghost use Rattle.cata_core.specs.declared.delta.Delta.{Delta};
 ghost use Rattle.json_docs.specs.Checks.{AreJson};

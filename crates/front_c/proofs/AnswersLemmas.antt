@@ -1,6 +1,6 @@
 -- What is reported of a question, and of a document for which there is no memory.
 use Rattle.std.proofs.Common.{◌≡◌, refl, inl, inr, ℤ, Option, Some}
-use Rattle.cata_core.specs.Sites.{SiteState}
+use Rattle.cata_core.specs.Site.{SiteState}
 use Rattle.row_docs.specs.Reading.{no_memory}
 use Rattle.front_core.specs.Fields.{FieldText}
 use Rattle.front_core.specs.Site.{RefusesOpening}

@@ -1,7 +1,7 @@
 -- Edits of a site that is shared, and sites that are put into a handle.
 use Rattle.std.proofs.Common.{◌≡◌, ◌≢◌, ℕ, ℤ, Option, Some, inl, inr, refl, subst}
 use Rattle.std.specs.Prelude.{Err, IfErr, MatchResult, Ok, OnErr, OnOk, Result, ⊤}
-use Rattle.cata_core.specs.Sites.{SiteState}
+use Rattle.cata_core.specs.Site.{SiteState}
 use Rattle.cata_core.specs.declared.delta.Delta.{Delta}
 use Rattle.docs_core.specs.TimeLimits.{ReadsInTime}
 use Rattle.site_docs.specs.ReadsAs.{ReadsAsSite}

@@ -1,6 +1,6 @@
 -- What the calls answer C (project rules).
 use Rattle.std.specs.Prelude.{◌≡◌, ◌⊎◌, ℕ, ℤ, List, Option, Some, MatchOption}
-use Rattle.cata_core.specs.Sites.{SiteState}
+use Rattle.cata_core.specs.Site.{SiteState}
 use Rattle.site_docs.specs.ReadsAs.{ReadsAsSite}
 use Rattle.front_core.specs.Questions.{AreBundleMaps, IsFilterLines, IsLookupLine, IsLookupText}
 use Rattle.front_core.specs.Questions.{RefusesBundle, RefusesFilterLines, RefusesLookup}

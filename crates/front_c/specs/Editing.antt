@@ -1,6 +1,6 @@
 -- Sites that C makes, edits and writes (project rules).
 use Rattle.std.specs.Prelude.{◌≡◌, ◌≢◌, ◌⊎◌, ℕ, ℤ, None, Option, Some, MatchOption}
-use Rattle.cata_core.specs.Sites.{SiteState}
+use Rattle.cata_core.specs.Site.{SiteState}
 use Rattle.front_core.specs.Documents.{IsDelta, IsDocument, IsStatus, IsSummary, RefusesDelta}
 use Rattle.front_core.specs.Editing.{Edits, IsDeleted, IsMerged, IsPutInto, IsTaken, LeavesMerge}
 use Rattle.front_core.specs.Editing.{LeavesTake, RefusesDelete, RefusesMerge, RefusesPutInto}

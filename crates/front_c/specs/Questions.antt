@@ -5,7 +5,7 @@ use Rattle.nego_core.specs.declared.field.Malformed.TheVariants.{Refused, Passed
 use Rattle.nego_core.specs.declared.scheme.Scheme.{Scheme}
 use Rattle.nego_core.specs.declared.scheme.Scheme.TheVariants.{Basic, Extended}
 use Rattle.nego_core.specs.declared.widening.Widening.TheVariants.{By, Off}
-use Rattle.cata_core.specs.Sites.{SiteState}
+use Rattle.cata_core.specs.Site.{SiteState}
 use Rattle.front_core.specs.Fields.{FieldText}
 
 abbrev pub field : Scheme → Malformed → List ℕ → FieldText

@@ -1,7 +1,7 @@
 -- What a refused merge or take leaves can be joined again.
 use Rattle.std.proofs.Common.{◌≡◌, ◌∙◌, ℕ, Option, ap₂, inl, inr, subst, sym}
 use Rattle.cata_core.specs.Entries.{Agree, Entries, catalogue_laws, joined}
-use Rattle.cata_core.specs.Sites.{SiteState}
+use Rattle.cata_core.specs.Site.{SiteState}
 use Rattle.cata_core.specs.declared.delta.Delta.{Delta}
 use Rattle.site_docs.proofs.OneDocument.{one_delta}
 use Rattle.front_core.specs.Editing.{IsMerged, IsPartlyJoined, IsTaken, LeavesMerge, LeavesTake}

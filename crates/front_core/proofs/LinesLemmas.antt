@@ -3,7 +3,7 @@ use Rattle.std.proofs.Common.{◌≡◌, ◌∙◌, ◌<◌, ◌==◌, ◌+◌, 
 use Rattle.std.proofs.Common.{take, drop, position, refl, None, Some, cond, true, false, Bool}
 use Rattle.std.proofs.Common.{arith}
 use Rattle.std.specs.List.{onto_first, slice_split}
-use Rattle.lang_core.proofs.PiecesLaws.{pieces_cut, pieces_whole}
+use Rattle.lang_core.proofs.PiecesLemmas.{pieces_cut, pieces_whole}
 use Rattle.lang_core.specs.Text.{pieces_by}
 use Rattle.front_core.specs.Lines.{lines_of, without_empty_last}
 

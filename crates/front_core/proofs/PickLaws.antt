@@ -6,16 +6,16 @@ use Rattle.lang_core.specs.Tag.{IsTag, RefusesTag}
 use Rattle.lang_core.specs.Grammar.{tag_piece}
 use Rattle.lang_core.specs.Lang.{SpellsLang, RefusesLang}
 use Rattle.lang_core.specs.Text.{joined, pieces}
-use Rattle.lang_core.proofs.PiecesLaws.{joined-pieces}
+use Rattle.lang_core.proofs.PiecesLemmas.{joined-pieces}
 use Rattle.lang_core.proofs.RangeText.{not_allowed}
 use Rattle.lang_core.specs.declared.fault.LangFault.{LangFault}
 use Rattle.lang_core.specs.declared.fault.LangFault.TheVariants as lang
 use Rattle.nego_core.specs.Choosing.{HasOpenDefault}
 use Rattle.nego_core.specs.LangSet.{is_among}
 use Rattle.nego_core.specs.Item.{Item}
-use Rattle.nego_core.proofs.FieldLaws.{malformed_is_no_field}
+use Rattle.nego_core.proofs.FieldLemmas.{malformed_is_no_field}
 use Rattle.nego_core.proofs.FieldUnique.{one_items}
-use Rattle.nego_core.proofs.LookupCandidatesLaws.{one_lookup}
+use Rattle.nego_core.proofs.LookupCandidatesLemmas.{one_lookup}
 use Rattle.nego_core.proofs.WideningLemmas.{one_widened}
 use Rattle.nego_core.specs.declared.widening.Widening.{Widening}
 use Rattle.nego_core.specs.declared.widening.Widening.TheVariants.{Off, By}

@@ -1,6 +1,6 @@
 -- What a copy says of the site that it is of.
 use Rattle.std.proofs.Common.{◌≡◌, ◌∙◌, ℕ, List, ap, inl, inr, subst}
-use Rattle.cata_core.specs.Sites.{SiteState}
+use Rattle.cata_core.specs.Site.{SiteState}
 use Rattle.cata_core.specs.declared.cata_fault.CataFault.{CataFault}
 use Rattle.cata_core.specs.declared.cata_fault.CataFault.TheVariants as cata
 use Rattle.json_docs.specs.Checks.{OrMemory}

@@ -4,13 +4,13 @@ use Rattle.std.specs.FinMap.Entries.{put}
 use Rattle.std.specs.Str.{IsUtf8}
 use Rattle.std.specs.Str.Lossy.{utf8_valid_len}
 use Rattle.lang_core.specs.Lang.{SpellsLang, RefusesLang}
-use Rattle.cell_core.specs.Labels.{IsLabel}
-use Rattle.cell_core.specs.Refusals.{RefusesLabel}
-use Rattle.cell_core.specs.Stamps.{IsNext}
+use Rattle.cell_core.specs.Label.{IsLabel}
+use Rattle.cell_core.specs.Fault.{RefusesLabel}
+use Rattle.cell_core.specs.Stamp.{IsNext}
 use Rattle.cell_core.specs.declared.stamp.Stamp.{Stamp}
 use Rattle.cata_core.specs.Entries.{EntryKey, key_cmp}
 use Rattle.cata_core.specs.Latest.{latest_of}
-use Rattle.cata_core.specs.Sites.{RefusesEdit, SiteState}
+use Rattle.cata_core.specs.Site.{RefusesEdit, SiteState}
 use Rattle.json_docs.specs.Faults.{of_no_document}
 use Rattle.json_docs.specs.declared.fault.DocCause.TheVariants.{NotUtf8}
 use Rattle.front_core.specs.Faults.{IsOf, cell_fault, language_fault, site_fault}

@@ -1,7 +1,7 @@
 -- The documents of an open site (project rules).
 use Rattle.std.specs.Prelude.{◌≡◌}
-use Rattle.cata_core.specs.Deltas.{delta_of, summary_of}
-use Rattle.cata_core.specs.Sites.{SiteState}
+use Rattle.cata_core.specs.Delta.{delta_of, summary_of}
+use Rattle.cata_core.specs.Site.{SiteState}
 use Rattle.cata_core.specs.Summary.{SummaryState}
 use Rattle.json_docs.specs.Checks.{OrMemory}
 use Rattle.row_docs.specs.Reading.{IsOfDocument}

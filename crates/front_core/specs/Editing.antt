@@ -1,9 +1,9 @@
 -- Edits of an open site: what each makes of it, why it is refused, and what a refusal leaves
 -- (project rules).
 use Rattle.std.specs.Prelude.{◌≡◌, ◌⊎◌, ℕ, Option}
-use Rattle.cata_core.specs.CataFaults.{IsRefusal}
+use Rattle.cata_core.specs.CataFault.{IsRefusal}
 use Rattle.cata_core.specs.Entries.{Agree, Between, Entries, joined}
-use Rattle.cata_core.specs.Sites.{RefusesDelta, SiteState}
+use Rattle.cata_core.specs.Site.{RefusesDelta, SiteState}
 use Rattle.cata_core.specs.declared.delta.Delta.{Delta}
 use Rattle.json_docs.specs.Checks.{OrMemory}
 use Rattle.row_docs.specs.Reading.{no_memory}

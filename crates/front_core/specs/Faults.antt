@@ -7,7 +7,7 @@ use Rattle.lang_core.specs.declared.fault.LangFault.TheVariants as lang
 use Rattle.nego_core.specs.Fault.{number_of as nego_number}
 use Rattle.nego_core.specs.declared.fault.NegoFault.{NegoFault}
 use Rattle.nego_core.specs.declared.fault.NegoFault.TheVariants as nego
-use Rattle.cell_core.specs.Numbers.{number_of as cell_number}
+use Rattle.cell_core.specs.Fault.{number_of as cell_number}
 use Rattle.cell_core.specs.declared.fault.CellFault.{CellFault}
 use Rattle.cell_core.specs.declared.fault.CellFault.TheVariants as cell
 use Rattle.cata_core.specs.declared.cata_fault.CataFault.{CataFault}

@@ -5,7 +5,7 @@ use Rattle.std.specs.Str.{IsUtf8}
 use Rattle.cata_core.specs.Asking.{IsLookupAnswerBy}
 use Rattle.cata_core.specs.Entries.{Entries}
 use Rattle.cata_core.specs.declared.reply.Reply.{Reply}
-use Rattle.cell_core.specs.MessageIds.{IsMessageId}
+use Rattle.cell_core.specs.MessageId.{IsMessageId}
 use Rattle.cell_core.specs.declared.fault.CellFault.{CellFault}
 use Rattle.cell_core.specs.declared.fault.CellFault.TheVariants as cell
 use Rattle.map_docs.specs.LangMapTexts.{AreWritten}

@@ -1,8 +1,8 @@
 -- A site that is opened, or made.
 use Rattle.std.specs.Prelude.{◌≡◌, [], ℕ, List}
 use Rattle.std.specs.Str.{IsUtf8}
-use Rattle.cata_core.specs.Sites.{SiteState}
-use Rattle.cell_core.specs.SiteNames.{IsSiteName}
+use Rattle.cata_core.specs.Site.{SiteState}
+use Rattle.cell_core.specs.SiteName.{IsSiteName}
 use Rattle.cell_core.specs.declared.fault.CellFault.TheVariants.{SiteName}
 use Rattle.json_docs.specs.Checks.{OrMemory}
 use Rattle.row_docs.specs.Reading.{IsOfDocument, no_memory}

@@ -1,6 +1,6 @@
 -- Edits of a site that are made all or none (project rules).
 use Rattle.std.specs.Prelude.{◌≡◌, ◌⊎◌, ℕ, List}
-use Rattle.cata_core.specs.Sites.{SiteState}
+use Rattle.cata_core.specs.Site.{SiteState}
 use Rattle.cata_core.specs.declared.cata_fault.CataFault.TheVariants.{ClockSpent}
 use Rattle.json_docs.specs.Checks.{OrMemory}
 use Rattle.row_docs.specs.Reading.{IsOfDocument, no_memory}

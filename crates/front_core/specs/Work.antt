@@ -2,7 +2,7 @@
 use Rattle.std.specs.Prelude.{◌≡◌, ◌⊎◌}
 use Rattle.lang_core.specs.Lang.{RefusesLang, SpellsLang}
 use Rattle.cata_core.specs.Changes.{AreChanges, Changed}
-use Rattle.cata_core.specs.Sites.{SiteState}
+use Rattle.cata_core.specs.Site.{SiteState}
 use Rattle.map_docs.specs.LangMapTexts.{AreWritten, IsTextOf}
 use Rattle.query_docs.specs.Changed.{changes_lines, has_change}
 use Rattle.query_docs.specs.Exported.{live_labels}

@@ -1,6 +1,6 @@
 //! Laws about the definitions alone: each function's contract is the law.
 ghost use Rattle.std.specs.Prelude.{◌≡◌, ◌≢◌, ℕ, List, Option};
-ghost use Rattle.cata_core.specs.Sites.{SiteState};
+ghost use Rattle.cata_core.specs.Site.{SiteState};
 ghost use Rattle.front_core.specs.Editing.{IsMerged, IsTaken, LeavesMerge, LeavesTake};
 ghost use Rattle.front_core.specs.Fields.{FieldText, Text};
 ghost use Rattle.front_core.specs.Picks.{IsPickLine, RefusesPick};

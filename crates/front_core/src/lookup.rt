@@ -1,6 +1,6 @@
 //! Lookups in a site.
 ghost use Rattle.std.specs.Prelude.{◌≡◌, option_map, slice_get};
-ghost use Rattle.cata_core.specs.LentAnswers.{reply_of};
+ghost use Rattle.cata_core.specs.Reply.{reply_of};
 ghost use Rattle.query_docs.specs.Asks.{is_found as is_reply};
 ghost use Rattle.front_core.specs.Questions.{IsTextAt, is_found, texts_of};
 
@@ -69,7 +69,7 @@ impl Lookup {
         }
     }
 
-    ghost use Rattle.cata_core.specs.LentAnswers.{reply_of};
+    ghost use Rattle.cata_core.specs.Reply.{reply_of};
     ghost use Rattle.front_core.specs.Questions.{IsReply};
 
     /// The answer of the site's catalogue.

@@ -5,9 +5,9 @@ use Rattle.std.proofs.lemmas.Bool.Decides.{nat_tests}
 use Rattle.lang_core.specs.Text.{pieces, joined}
 use Rattle.lang_core.specs.Fronts.{ends_subtag}
 use Rattle.lang_core.specs.Matching.{Basic, BasicInBytes}
-use Rattle.lang_core.proofs.PiecesLaws.{joined-pieces}
+use Rattle.lang_core.proofs.PiecesLemmas.{joined-pieces}
 use Rattle.lang_core.proofs.RangeText.{star_pieces}
-use Rattle.lang_core.proofs.FrontLaws.{front_of_rest, rest_of_front}
+use Rattle.lang_core.proofs.FrontLemmas.{front_of_rest, rest_of_front}
 use Rattle.lang_core.proofs.Stars.{star_self}
 
 -- what comes after a front where a subtag ends: nothing, or a hyphen and more

@@ -6,8 +6,8 @@ use Rattle.lang_core.specs.Grammar.{is_star}
 use Rattle.lang_core.specs.Matching.{as_basic, without_stars}
 use Rattle.lang_core.specs.LookupText.{lookup_text, HasOtherText}
 use Rattle.lang_core.proofs.Basics.{cases_bool}
-use Rattle.lang_core.proofs.LookupLaws.{pieces-lookup_text}
-use Rattle.lang_core.proofs.PiecesLaws.{joined-pieces}
+use Rattle.lang_core.proofs.LookupLemmas.{pieces-lookup_text}
+use Rattle.lang_core.proofs.PiecesLemmas.{joined-pieces}
 use Rattle.lang_core.proofs.RangeText.{star_pieces}
 use Rattle.lang_core.proofs.Stars.{star_self, star_kept, star_dropped}
 

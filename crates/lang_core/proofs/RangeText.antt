@@ -13,7 +13,7 @@ use Rattle.lang_core.specs.Grammar.{BasicRange, ExtendedRange, IsFirstRefused}
 use Rattle.lang_core.specs.LowerText.{is_plain, IsPlain}
 use Rattle.lang_core.proofs.Basics.{cases_bool, each_true, both, one_true, or_left, or_right}
 use Rattle.lang_core.proofs.Classes.{run_of}
-use Rattle.lang_core.proofs.PiecesLaws.{joined-pieces, some_pieces}
+use Rattle.lang_core.proofs.PiecesLemmas.{joined-pieces, some_pieces}
 use Rattle.lang_core.proofs.Stars.{star_self}
 
 -- a walk that is refused somewhere is not allowed as a whole

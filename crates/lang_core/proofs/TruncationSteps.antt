@@ -9,8 +9,8 @@ use Rattle.lang_core.specs.Candidates.{is_single, is_cut, last_of, truncated, ca
 use Rattle.lang_core.specs.Candidates.{without_last, without_last_singles, shortened}
 use Rattle.lang_core.specs.Candidates.{candidates_left}
 use Rattle.lang_core.proofs.Basics.{cases_bool, each_true, both, and_false}
-use Rattle.lang_core.proofs.CandidateLaws.{truncated_one, truncated_push, is_cut_one, is_cut_push}
-use Rattle.lang_core.proofs.LookupLaws.{no_star}
+use Rattle.lang_core.proofs.CandidateLemmas.{truncated_one, truncated_push, is_cut_one, is_cut_push}
+use Rattle.lang_core.proofs.LookupLemmas.{no_star}
 
 -- ---- a list and its last subtag
 

@@ -9,8 +9,8 @@ use Rattle.std.proofs.lemmas.List.Sums.{sum_by-append}
 use Rattle.lang_core.specs.Text.{pieces, subtags}
 use Rattle.lang_core.specs.Grammar.{are_allowed}
 use Rattle.lang_core.proofs.Basics.{each_true, both}
-use Rattle.lang_core.proofs.CaseLaws.{lowered}
-use Rattle.lang_core.proofs.PiecesLaws.{size_pieces, size_cons, length_le_size, pieces-lower}
+use Rattle.lang_core.proofs.CaseLemmas.{lowered}
+use Rattle.lang_core.proofs.PiecesLemmas.{size_pieces, size_cons, length_le_size, pieces-lower}
 
 -- the subtags before the offset are allowed, and the pieces that are left are still to come
 pub record IsWalked (allowed : ℕ → List ℕ → Bool) (text : List ℕ) (left : List (List ℕ))

@@ -60,7 +60,7 @@ pub(crate) fn separator_at(text: &[u8], separator: u8) -> Option<usize>
 }
 
 /// The first piece and the text after its separator, where there is one.
-#[tactic(auto, using(crate::proofs::PiecesLaws::cuts))]
+#[tactic(auto, using(crate::proofs::PiecesLemmas::cuts))]
 fn cut(text: &[u8], separator: u8) -> Option<(&[u8], &[u8])>
     ensures whole { IfNone result (pieces_by separator text.now ≡ text.now ∷ []) }
     ensures parts { IfSome result

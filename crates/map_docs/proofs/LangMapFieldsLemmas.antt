@@ -2,7 +2,7 @@
 use Rattle.std.proofs.Common.{◌≡◌, ◌<◌, ℕ, List, [], ◌∷◌, length, arith}
 use Rattle.std.proofs.lemmas.Bool.Decides.{nat_tests}
 use Rattle.std.specs.Prelude.{◌⊎◌, ◌==◌, false}
-use Rattle.cell_core.specs.Refusals.{RefusesLabel}
+use Rattle.cell_core.specs.Fault.{RefusesLabel}
 use Rattle.cell_core.specs.declared.fault.CellFault.{CellFault}
 use Rattle.json_docs.specs.declared.fault.DocCause.TheVariants.{NoMemory as no_memory}
 use Rattle.row_docs.specs.Fields.{cell_cause}

@@ -23,10 +23,10 @@ use Rattle.std.specs.Cmp.Lexicographic.{nat_list_cmp_total}
 use Rattle.std.specs.Str.{bytes_eq, str_to_ascii_lowercase}
 use Rattle.std.specs.declared.cmp.Ordering.{Ordering}
 use Rattle.std.specs.declared.cmp.Ordering.TheVariants.{Less, Equal, Greater}
-use Rattle.cell_core.specs.Maps.{IsMap}
-use Rattle.cell_core.specs.MessageIds.{IsMessageId}
+use Rattle.cell_core.specs.Keyed.{IsMap}
+use Rattle.cell_core.specs.MessageId.{IsMessageId}
 use Rattle.cata_core.proofs.Basics.{both_parts, first_part, less_than, second_part}
-use Rattle.cata_core.proofs.Flat.{all_first, all_rest}
+use Rattle.cata_core.proofs.FlatLemmas.{all_first, all_rest}
 use Rattle.cata_core.specs.Entries.{EntryKey, IsAboveAll, key_cmp, text_cmp}
 use Rattle.cata_core.specs.Flat.{under}
 use Rattle.lang_core.specs.Lang.{SpellsLang}

@@ -11,10 +11,10 @@ use Rattle.std.specs.FinMap.Entries.{below_all, is_sorted}
 use Rattle.std.specs.Ordering.{is_lt, ordering_reverse, ordering_then}
 use Rattle.std.specs.declared.cmp.Ordering.{Ordering}
 use Rattle.std.specs.declared.cmp.Ordering.TheVariants.{Less, Equal}
-use Rattle.cell_core.specs.Maps.{IsMap}
+use Rattle.cell_core.specs.Keyed.{IsMap}
 use Rattle.cata_core.proofs.Basics.{first_part, second_part}
-use Rattle.cata_core.proofs.Flat.{pair_total}
-use Rattle.cata_core.proofs.KeyPlaces.{below-at}
+use Rattle.cata_core.proofs.FlatLemmas.{pair_total}
+use Rattle.cata_core.proofs.KeyPlacesLemmas.{below-at}
 use Rattle.cata_core.specs.Entries.{key_cmp, key_cmp_exact, key_cmp_total, pair_cmp, text_cmp}
 use Rattle.nego_core.proofs.Unique.{one_order, text_tied, then_tied}
 use Rattle.serde_json.specs.Data.{Data}

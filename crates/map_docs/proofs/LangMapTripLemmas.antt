@@ -17,11 +17,11 @@ use Rattle.std.specs.Ordering.{is_eq, is_lt, match_ordering, ordering_reverse, o
 use Rattle.std.specs.Str.{bytes_eq, str_to_ascii_lowercase}
 use Rattle.std.specs.declared.cmp.Ordering.{Ordering}
 use Rattle.std.specs.declared.cmp.Ordering.TheVariants.{Less, Equal, Greater}
-use Rattle.cell_core.specs.Labels.{IsLabel}
-use Rattle.cell_core.specs.Maps.{IsMap}
-use Rattle.cell_core.specs.MessageIds.{IsMessageId}
+use Rattle.cell_core.specs.Label.{IsLabel}
+use Rattle.cell_core.specs.Keyed.{IsMap}
+use Rattle.cell_core.specs.MessageId.{IsMessageId}
 use Rattle.cata_core.proofs.Basics.{both_parts, first_part, less_than, second_part}
-use Rattle.cata_core.proofs.KeyPlaces.{below_lesser}
+use Rattle.cata_core.proofs.KeyPlacesLemmas.{below_lesser}
 use Rattle.cata_core.specs.Entries.{EntryKey, key_cmp, text_cmp}
 use Rattle.cata_core.specs.Flat.{flat, under}
 use Rattle.json.specs.Json.{value}
@@ -31,8 +31,8 @@ use Rattle.json.specs.Tree.{json_tokens, members_depth}
 use Rattle.json.proofs.Printed.Tokens.{tokens-print}
 use Rattle.json.proofs.Printed.Trees.{ArePrintable-json_tokens, value-json_tokens}
 use Rattle.lang_core.proofs.Basics.{each_true}
-use Rattle.lang_core.proofs.CaseLaws.{lowered}
-use Rattle.lang_core.proofs.PiecesLaws.{joined-pieces, pieces-lower}
+use Rattle.lang_core.proofs.CaseLemmas.{lowered}
+use Rattle.lang_core.proofs.PiecesLemmas.{joined-pieces, pieces-lower}
 use Rattle.lang_core.specs.Tag.{IsTag}
 use Rattle.lang_core.specs.Grammar.{are_allowed, is_alphanum, is_private_piece, is_run, tag_piece}
 use Rattle.lang_core.specs.Text.{joined, pieces}

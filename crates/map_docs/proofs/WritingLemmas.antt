@@ -4,7 +4,7 @@ use Rattle.std.proofs.Common.{subst}
 use Rattle.std.specs.Borrow.{Bor}
 use Rattle.std.specs.Prelude.{◌||◌, Err, IfOk, IsUtf8, None, Ok, Option, Result, Some, is_some}
 use Rattle.std.specs.Prelude.{option_map}
-use Rattle.cell_core.specs.Maps.{IsMap}
+use Rattle.cell_core.specs.Keyed.{IsMap}
 use Rattle.cata_core.specs.Entries.{key_cmp}
 use Rattle.json.specs.Token.{begin_object}
 use Rattle.json.specs.Written.{Written}

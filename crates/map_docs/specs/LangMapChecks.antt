@@ -3,7 +3,7 @@ use Rattle.std.specs.Prelude.{◌≡◌, ◌==◌, ℕ, ◌+◌, Bool, true, fal
 use Rattle.std.specs.Prelude.{Some, is_some, unwrap_or}
 use Rattle.std.specs.List.{list_any}
 use Rattle.std.specs.Str.{bytes_eq, str_to_ascii_lowercase}
-use Rattle.cell_core.specs.Labels.{IsLabel}
+use Rattle.cell_core.specs.Label.{IsLabel}
 use Rattle.serde_json.specs.Data.{Data}
 use Rattle.json_docs.specs.Checks.{Check, check}
 use Rattle.json_docs.specs.declared.fault.DocCause.{DocCause}

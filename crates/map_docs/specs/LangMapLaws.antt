@@ -1,9 +1,9 @@
 -- Laws of language-map documents.
 use Rattle.std.specs.Prelude.{◌≡◌, ℕ, List, IsUtf8}
 use Rattle.std.specs.List.{AllByRecursion}
-use Rattle.cell_core.specs.Labels.{IsLabel}
-use Rattle.cell_core.specs.Maps.{IsMap}
-use Rattle.cell_core.specs.MessageIds.{IsMessageId}
+use Rattle.cell_core.specs.Label.{IsLabel}
+use Rattle.cell_core.specs.Keyed.{IsMap}
+use Rattle.cell_core.specs.MessageId.{IsMessageId}
 use Rattle.cata_core.specs.Entries.{key_cmp}
 use Rattle.lang_core.specs.Lang.{IsLang}
 use Rattle.row_docs.specs.Texts.{text}

@@ -9,8 +9,8 @@ use Rattle.std.specs.Str.{bytes_eq, str_to_ascii_lowercase}
 use Rattle.std.specs.String.{string_cmp}
 use Rattle.std.specs.declared.alloc.Global.{Global}
 use Rattle.std.specs.declared.cmp.Ordering.TheVariants.{Less}
-use Rattle.cell_core.specs.Labels.{texts_of}
-use Rattle.cell_core.specs.Maps.{IsMap}
+use Rattle.cell_core.specs.Label.{texts_of}
+use Rattle.cell_core.specs.Keyed.{IsMap}
 use Rattle.cata_core.specs.Entries.{text_cmp}
 use Rattle.cata_core.specs.Flat.{under}
 use Rattle.map_docs.specs.LangMapChecks.{is_marked}

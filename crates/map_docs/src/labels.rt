@@ -2,7 +2,7 @@
 ghost use Rattle.std.specs.Prelude.{◌≡◌, ◌++◌, ◌∷◌, ◌<◌, ◌^◌, [], List, ℕ, Bool, MatchResult};
 ghost use Rattle.std.specs.Prelude.{IfErr, OnOk, IfOk, map, string_bytes, unwrap_or, length};
 ghost use Rattle.std.specs.List.Sorted.{IsPermutation};
-ghost use Rattle.cell_core.specs.Maps.{IsMap};
+ghost use Rattle.cell_core.specs.Keyed.{IsMap};
 ghost use Rattle.cata_core.specs.Entries.{key_cmp, text_cmp};
 ghost use Rattle.cata_core.specs.Flat.{under};
 ghost use Rattle.json_docs.specs.Checks.{AllPass, FirstFails, OrMemory};
@@ -18,7 +18,7 @@ ghost use Rattle.map_docs.specs.LangMapRows.{Keys as PlainKeys};
 ghost use Rattle.map_docs.specs.LangMapRowsSeen.{AddsLanguages, AddsRow, AreLesser};
 ghost use Rattle.map_docs.specs.LangMapRowsSeen.{AreSorted, HoldsKeys, IsOneLabel, keys_in_seen};
 ghost use Rattle.map_docs.specs.LangMapRowsSeen.{keys_seen, live, rows_seen, strings_seen};
-ghost use Rattle.cell_core.specs.MessageIds.{IsMessageId};
+ghost use Rattle.cell_core.specs.MessageId.{IsMessageId};
 ghost use Rattle.cell_core.specs.declared.fault.CellFault.TheVariants.{IdRefused};
 
 use crate::maps::LangMaps;

@@ -2,7 +2,7 @@
 ghost use Rattle.std.specs.Prelude.{◌≡◌, ◌==◌, ◌++◌, ◌∷◌, [], IfOk, OnOk, OnErr, length, slice_get};
 ghost use Rattle.std.specs.Prelude.{option_map};
 ghost use Rattle.std.specs.Slice.Iter.{iter_rest};
-ghost use Rattle.cell_core.specs.Maps.{IsMap};
+ghost use Rattle.cell_core.specs.Keyed.{IsMap};
 ghost use Rattle.cata_core.specs.Entries.{key_cmp};
 
 use cell_core::{Label, MessageId};
@@ -31,7 +31,7 @@ pub struct LangMaps {
 
 impl Model for LangMaps {
     ghost use Rattle.std.specs.Prelude.{List};
-    ghost use Rattle.cell_core.specs.Maps.{IsMap};
+    ghost use Rattle.cell_core.specs.Keyed.{IsMap};
     ghost use Rattle.cata_core.specs.Entries.{key_cmp};
     ghost use Rattle.map_docs.specs.LangMaps.{Labelled, labels_of};
 

@@ -1,9 +1,9 @@
 //! Language maps written piece by piece into one buffer.
 ghost use Rattle.std.specs.Prelude.{◌≡◌, ◌∷◌, [], ◌++◌, List, IfOk, None, OnOk, option_map};
 ghost use Rattle.json.specs.Token.{begin_object, end_object, key};
-ghost use Rattle.cell_core.specs.Labels.{texts_of};
-ghost use Rattle.cell_core.specs.Maps.{IsMap};
-ghost use Rattle.cell_core.specs.MessageIds.{IsMessageId};
+ghost use Rattle.cell_core.specs.Label.{texts_of};
+ghost use Rattle.cell_core.specs.Keyed.{IsMap};
+ghost use Rattle.cell_core.specs.MessageId.{IsMessageId};
 ghost use Rattle.cata_core.specs.Entries.{key_cmp};
 ghost use Rattle.row_docs.specs.Texts.{Adds, text, value_tokens};
 ghost use Rattle.map_docs.specs.LangMapLabels.{AreLangMaps};

@@ -2,8 +2,8 @@
 use Rattle.std.proofs.Common.{ℕ, ◌≡◌, List, [], ◌∷◌, inl, inr, refl, sym, ◌∙◌, ap, subst}
 use Rattle.std.specs.Str.{str_to_ascii_lowercase}
 use Rattle.lang_core.specs.Text.{pieces_by}
-use Rattle.nego_core.proofs.WeightLaws.{one_tail}
-use Rattle.nego_core.proofs.ElementLaws.{start_of_padded, start_is}
+use Rattle.nego_core.proofs.WeightLemmas.{one_tail}
+use Rattle.nego_core.proofs.ElementLemmas.{start_of_padded, start_is}
 use Rattle.nego_core.proofs.FieldWalk.{none_not_padded}
 use Rattle.nego_core.specs.Item.{Item}
 use Rattle.nego_core.specs.Blanks.{skip_blanks}

@@ -9,7 +9,7 @@ use Rattle.std.proofs.lemmas.Option.{slice_get_within, get_or_from_slice_get}
 use Rattle.lang_core.specs.Text.{pieces}
 use Rattle.lang_core.specs.Lang.{tag_of}
 use Rattle.nego_core.proofs.Basics.{contains_first, contains_later, contains_map}
-use Rattle.nego_core.proofs.FilteringLaws.{one_key}
+use Rattle.nego_core.proofs.FilteringLemmas.{one_key}
 use Rattle.nego_core.specs.Item.{Item}
 use Rattle.nego_core.specs.Deciding.{DecidesLang, IsDecidedBy}
 use Rattle.nego_core.specs.Filtering.{Key, IsKey, AreKeys, IsFiltered, IsPicked, pick_of}

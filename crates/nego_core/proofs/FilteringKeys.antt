@@ -11,7 +11,7 @@ use Rattle.nego_core.specs.Item.{Item}
 use Rattle.std.proofs.lemmas.List.Sorted.{IsPermutation-map}
 use Rattle.nego_core.specs.declared.filtering.Pick.{Pick}
 use Rattle.nego_core.specs.declared.scheme.Scheme.{Scheme}
-use Rattle.nego_core.proofs.DecidingLaws.{one_decision}
+use Rattle.nego_core.proofs.DecidingLemmas.{one_decision}
 use Rattle.nego_core.specs.declared.filtering.FilterKey.{FilterKey}
 
 key_in : (x : FilterKey) (xs : List FilterKey) (k : ℕ) (d : Key) → k < length xs

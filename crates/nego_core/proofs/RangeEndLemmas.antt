@@ -12,10 +12,10 @@ use Rattle.std.proofs.lemmas.List.{length-map, take_all, take-append-drop}
 use Rattle.std.proofs.lemmas.List.Splits.{slice_split-cons_no}
 use Rattle.lang_core.specs.Text.{pieces_by}
 use Rattle.lang_core.specs.Range.{IsRange}
-use Rattle.nego_core.proofs.ElementLaws.{range_is_sized, tail_ends, no_item_range, no_item_weight}
-use Rattle.nego_core.proofs.ElementLaws.{has_item}
-use Rattle.nego_core.proofs.OverlongLaws.{ends_early, stop_ends}
-use Rattle.nego_core.proofs.SeparatorLaws.{cut_piece, first_byte, no_pieces, pieces_at_comma}
+use Rattle.nego_core.proofs.ElementLemmas.{range_is_sized, tail_ends, no_item_range, no_item_weight}
+use Rattle.nego_core.proofs.ElementLemmas.{has_item}
+use Rattle.nego_core.proofs.OverlongLemmas.{ends_early, stop_ends}
+use Rattle.nego_core.proofs.SeparatorLemmas.{cut_piece, first_byte, no_pieces, pieces_at_comma}
 use Rattle.nego_core.specs.Blanks.{is_plain, EndsPlain, IsCut}
 use Rattle.nego_core.specs.Element.{RangeGrammar, WeightGrammar, IsStart, HasStart, is_inner}
 use Rattle.nego_core.specs.Element.{EndsInner, IsBegun, IsRangeEnd, BeginsOverlong}

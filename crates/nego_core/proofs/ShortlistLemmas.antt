@@ -19,10 +19,10 @@ use Rattle.std.proofs.lemmas.Slice.Eq.{bytes_eq-Decides}
 use Rattle.lang_core.specs.Text.{pieces, joined}
 use Rattle.nego_core.proofs.Basics.{contains_cases, contains_from_map, contains_map, element_at}
 use Rattle.nego_core.proofs.Basics.{same_default}
-use Rattle.nego_core.proofs.LangSetLaws.{among_contains, contains_among}
-use Rattle.nego_core.proofs.LookupCandidatesLaws.{first_append, first_front, first_here}
-use Rattle.nego_core.proofs.LookupCandidatesLaws.{first_later, ordered_items}
-use Rattle.nego_core.proofs.LookupCandidatesLaws.{looked_up as looked_up_off}
+use Rattle.nego_core.proofs.LangSetLemmas.{among_contains, contains_among}
+use Rattle.nego_core.proofs.LookupCandidatesLemmas.{first_append, first_front, first_here}
+use Rattle.nego_core.proofs.LookupCandidatesLemmas.{first_later, ordered_items}
+use Rattle.nego_core.proofs.LookupCandidatesLemmas.{looked_up as looked_up_off}
 use Rattle.nego_core.proofs.Prefixes.{joined-pieces}
 use Rattle.nego_core.proofs.WideningLemmas.{Open, all_widened, at_place, first_among, first_split}
 use Rattle.nego_core.proofs.WideningLemmas.{matched_are, matched_of, none_back, none_front}

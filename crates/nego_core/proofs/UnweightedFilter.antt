@@ -9,7 +9,7 @@ use Rattle.std.proofs.lemmas.Option.{slice_get_within, get_or_from_slice_get}
 use Rattle.lang_core.specs.Text.{pieces}
 use Rattle.lang_core.specs.Lang.{tag_of}
 use Rattle.nego_core.proofs.Basics.{all_at, contains_map, contains_from_map}
-use Rattle.nego_core.proofs.MatchedLaws.{a_match_decides}
+use Rattle.nego_core.proofs.MatchedLemmas.{a_match_decides}
 use Rattle.nego_core.proofs.FilteringEach.{IsKeyFrom, keys_right, keys_all}
 use Rattle.nego_core.specs.Item.{Item}
 use Rattle.nego_core.specs.Deciding.{IsDecidedBy}

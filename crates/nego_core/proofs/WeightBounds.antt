@@ -6,7 +6,7 @@ use Rattle.std.proofs.lemmas.Bool.{and_parts}
 use Rattle.std.proofs.lemmas.Bool.Decides.{nat_tests}
 use Rattle.lang_core.specs.Text.{pieces_by}
 use Rattle.lang_core.specs.Grammar.{is_digit}
-use Rattle.nego_core.proofs.FieldLaws.{all_items}
+use Rattle.nego_core.proofs.FieldLemmas.{all_items}
 use Rattle.nego_core.specs.Weight.{IsQvalue, thousandths}
 use Rattle.nego_core.specs.Element.{WeightGrammar}
 use Rattle.nego_core.specs.Item.{Item}

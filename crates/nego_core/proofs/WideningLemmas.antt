@@ -30,10 +30,10 @@ use Rattle.nego_core.proofs.Basics.{contains_cases, contains_first, contains_fro
 use Rattle.nego_core.proofs.Basics.{false_true, same_default, stands_at}
 use Rattle.nego_core.proofs.FilteringKeys.{take_next}
 use Rattle.nego_core.proofs.FoundCandidates.{IsTriedOf, each_tried}
-use Rattle.nego_core.proofs.LangSetLaws.{among_contains, contains_among}
-use Rattle.nego_core.proofs.LookupCandidatesLaws.{first_append, first_front, first_here}
-use Rattle.nego_core.proofs.LookupCandidatesLaws.{first_later, one_first, ordered_items}
-use Rattle.nego_core.proofs.LookupOrderLaws.{one_order_of}
+use Rattle.nego_core.proofs.LangSetLemmas.{among_contains, contains_among}
+use Rattle.nego_core.proofs.LookupCandidatesLemmas.{first_append, first_front, first_here}
+use Rattle.nego_core.proofs.LookupCandidatesLemmas.{first_later, one_first, ordered_items}
+use Rattle.nego_core.proofs.LookupOrderLemmas.{one_order_of}
 use Rattle.nego_core.proofs.Prefixes.{joined-pieces}
 use Rattle.nego_core.proofs.Rising.{all_above, not_both, one_rising, rising_from, rising_has}
 use Rattle.nego_core.proofs.Rising.{rising_is, rising_of, rising_tail}

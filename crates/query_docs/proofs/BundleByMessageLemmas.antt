@@ -8,7 +8,7 @@ use Rattle.std.proofs.lemmas.List.Elements.{Contains-append_cases, Contains-appe
 use Rattle.std.proofs.lemmas.List.Elements.{Contains-append_right}
 use Rattle.std.specs.Ordering.{is_eq, ordering_then}
 use Rattle.std.specs.declared.cmp.Ordering.TheVariants.{Less}
-use Rattle.cell_core.specs.Maps.{IsMap}
+use Rattle.cell_core.specs.Keyed.{IsMap}
 use Rattle.nego_core.specs.Item.{Item}
 use Rattle.nego_core.specs.declared.widening.Widening.{Widening}
 use Rattle.cata_core.specs.Asking.{IsLookedUpBy, IsLookupAnswerBy}
@@ -17,8 +17,8 @@ use Rattle.cata_core.specs.Live.{Labelled as Labels, live}
 use Rattle.cata_core.specs.declared.reply.Reply.{Reply}
 use Rattle.cata_core.specs.declared.reply.Reply.TheVariants.{Default, Matched}
 use Rattle.cata_core.proofs.Basics.{append_nil, some_same, tied}
-use Rattle.cata_core.proofs.Behind.{IsMap-behind}
-use Rattle.cata_core.proofs.NestedCatalogues.{text_exact}
+use Rattle.cata_core.proofs.BehindLemmas.{IsMap-behind}
+use Rattle.cata_core.proofs.NestedCataloguesLemmas.{text_exact}
 use Rattle.map_docs.specs.LangMaps.{Labelled}
 use Rattle.query_docs.specs.BundleByMessage.{HasBundled, default_of}
 use Rattle.query_docs.specs.Bundled.{IsAnswer, IsBundleBy}

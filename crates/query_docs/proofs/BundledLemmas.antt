@@ -10,7 +10,7 @@ use Rattle.std.specs.Cmp.Lexicographic.{nat_list_cmp_total}
 use Rattle.std.specs.Ordering.{eq_by_cmp, is_eq, is_lt, ordering_then}
 use Rattle.std.specs.declared.cmp.Ordering.TheVariants.{Less}
 use Rattle.std.specs.FinMap.Entries.{below_all, find, is_sorted}
-use Rattle.cell_core.specs.Maps.{IsMap}
+use Rattle.cell_core.specs.Keyed.{IsMap}
 use Rattle.json.specs.Written.{Written}
 use Rattle.nego_core.specs.Item.{Item}
 use Rattle.nego_core.specs.Shortlist.{AreAmong, IsShortlist, Shortlist}
@@ -24,9 +24,9 @@ use Rattle.cata_core.specs.declared.reply.Reply.{Reply}
 use Rattle.cata_core.specs.declared.reply.Reply.TheVariants.{Default, Matched, Nothing}
 use Rattle.cata_core.proofs.Basics.{both_parts, first_part, less_than, second_part, some_same, tied}
 use Rattle.cata_core.proofs.LanguageLemmas.{live_among}
-use Rattle.cata_core.proofs.NestedCatalogues.{text_exact}
-use Rattle.cata_core.proofs.Search.{find_get}
-use Rattle.cata_core.proofs.UniqueAnswers.{one_lookup_answer_by}
+use Rattle.cata_core.proofs.NestedCataloguesLemmas.{text_exact}
+use Rattle.cata_core.proofs.SearchLemmas.{find_get}
+use Rattle.cata_core.proofs.UniqueAnswersLemmas.{one_lookup_answer_by}
 use Rattle.row_docs.specs.Texts.{Adds}
 use Rattle.map_docs.specs.LangMaps.{Labelled}
 use Rattle.map_docs.specs.LangMapLaws.{IsWritable}

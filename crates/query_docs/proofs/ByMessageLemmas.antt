@@ -13,8 +13,8 @@ use Rattle.std.specs.declared.cmp.Ordering.TheVariants.{Equal, Greater, Less}
 use Rattle.cata_core.specs.Entries.{Entries, Entry, EntryKey, IsAboveAll, key_cmp, text_cmp}
 use Rattle.cata_core.specs.Live.{live, live_of}
 use Rattle.cata_core.proofs.Basics.{apart_first, append_nil, tied}
-use Rattle.cata_core.proofs.Flat.{find-append_lists}
-use Rattle.cata_core.proofs.NestedCatalogues.{text_exact}
+use Rattle.cata_core.proofs.FlatLemmas.{find-append_lists}
+use Rattle.cata_core.proofs.NestedCataloguesLemmas.{text_exact}
 use Rattle.query_docs.specs.ByMessage.{HasGiven, IsNextMessage, begins_with_other}
 
 -- What is so of all of two lists in sequence is so of all of the second.

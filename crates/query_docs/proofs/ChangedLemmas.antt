@@ -4,10 +4,10 @@ use Rattle.std.proofs.Common.{false}
 use Rattle.std.proofs.Common.{eqb-true, length, refl, subst, sym, true, true≢false}
 use Rattle.std.specs.Prelude.{◌==◌, ◌↔◌, codes, decimal, flat_map, not}
 use Rattle.std.specs.FinMap.Entries.{find}
-use Rattle.cell_core.specs.Maps.{same_maps}
+use Rattle.cell_core.specs.Keyed.{same_maps}
 use Rattle.cata_core.specs.Changes.{AreChanges, Changed, Sides}
 use Rattle.cata_core.specs.Entries.{Entries, EntryKey, key_cmp, key_cmp_exact, key_cmp_total}
-use Rattle.cata_core.specs.Sites.{SiteState}
+use Rattle.cata_core.specs.Site.{SiteState}
 use Rattle.cata_core.proofs.Basics.{append_nil}
 use Rattle.cata_core.proofs.ChangesLemmas.{alike_at, one_changes}
 use Rattle.site_docs.specs.ReadsAs.{ReadsAsSite}

@@ -3,11 +3,11 @@ use Rattle.std.proofs.Common.{◌≡◌, ◌∙◌, ◌+◌, ◌++◌, [], ◌�
 use Rattle.std.proofs.Common.{length-append, refl, sym, zero-add}
 use Rattle.std.proofs.lemmas.List.Sums.{sum_by-append}
 use Rattle.std.specs.Prelude.{Some}
-use Rattle.cell_core.specs.Cells.{joined_stamps}
-use Rattle.cell_core.specs.Maps.{joined_if_both}
+use Rattle.cell_core.specs.Cell.{joined_stamps}
+use Rattle.cell_core.specs.Keyed.{joined_if_both}
 use Rattle.cata_core.specs.Entries.{Entries, Entry}
 use Rattle.cata_core.specs.Latest.{latest_of}
-use Rattle.cata_core.proofs.LatestStamps.{latest_assoc}
+use Rattle.cata_core.proofs.LatestLemmas.{latest_assoc}
 use Rattle.query_docs.specs.Counted.{AreCounts}
 use Rattle.query_docs.specs.Status.{is_labelled}
 use Rattle.query_docs.specs.declared.status.Counts.{Counts}

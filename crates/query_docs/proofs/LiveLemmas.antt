@@ -4,11 +4,11 @@ use Rattle.std.specs.Prelude.{None, Option, Some, T, filter, option_and_then, op
 use Rattle.std.specs.List.{cons_option}
 use Rattle.std.specs.Ordering.{eq_by_cmp, is_lt}
 use Rattle.std.specs.FinMap.Entries.{below_all, find, is_sorted}
-use Rattle.cell_core.specs.Maps.{IsMap}
+use Rattle.cell_core.specs.Keyed.{IsMap}
 use Rattle.cell_core.specs.declared.cell.Cell.{Cell}
 use Rattle.cata_core.specs.Entries.{Entries, EntryKey, key_cmp, key_cmp_total}
 use Rattle.cata_core.proofs.Basics.{both_parts, first_part, second_part, tied}
-use Rattle.cata_core.proofs.Filtered.{below_tied_all, filter-IsMap, find-below}
+use Rattle.cata_core.proofs.FilteredLemmas.{below_tied_all, filter-IsMap, find-below}
 use Rattle.map_docs.specs.LangMaps.{Labelled}
 use Rattle.query_docs.specs.Chosen.{chosen_labels, is_chosen}
 use Rattle.query_docs.specs.Exported.{label_at, live_labels}

@@ -2,7 +2,7 @@
 use Rattle.std.specs.Prelude.{◌≡◌, ◌==◌, List, ℕ, Bool, true, false, not, length}
 use Rattle.cata_core.specs.Asking.{IsFilterAnswer, IsLookupAnswer, Weighed}
 use Rattle.cata_core.specs.Entries.{Entries}
-use Rattle.cata_core.specs.Sites.{SiteState}
+use Rattle.cata_core.specs.Site.{SiteState}
 use Rattle.cata_core.specs.declared.reply.Reply.{Reply}
 use Rattle.cata_core.specs.declared.reply.Reply.TheVariants.{Matched, Default, Nothing}
 use Rattle.site_docs.specs.ReadsAs.{ReadsAsSite}

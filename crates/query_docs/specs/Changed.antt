@@ -6,7 +6,7 @@ use Rattle.serde_json.specs.Written.{compact_text}
 use Rattle.cell_core.specs.declared.cell.Cell.{Cell}
 use Rattle.cata_core.specs.Changes.{AreChanges, Changed, Sides}
 use Rattle.cata_core.specs.Entries.{EntryKey}
-use Rattle.cata_core.specs.Sites.{SiteState}
+use Rattle.cata_core.specs.Site.{SiteState}
 use Rattle.json_docs.specs.declared.fault.DocFault.{DocFault}
 use Rattle.row_docs.specs.Reading.{IsOfDocument}
 use Rattle.site_docs.specs.ReadsAs.{ReadsAsSite, RefusesSite}

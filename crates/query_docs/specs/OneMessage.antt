@@ -4,7 +4,7 @@ use Rattle.std.specs.Ordering.{is_eq}
 use Rattle.cata_core.specs.Entries.{Entries, text_cmp}
 use Rattle.cata_core.specs.Live.{live}
 use Rattle.cata_core.specs.Parts.{part_of}
-use Rattle.cata_core.specs.Sites.{SiteState}
+use Rattle.cata_core.specs.Site.{SiteState}
 use Rattle.site_docs.specs.ReadsAs.{ReadsAsSite}
 use Rattle.query_docs.specs.declared.one_message.OneMessage.{OneMessage}
 

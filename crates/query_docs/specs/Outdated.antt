@@ -5,7 +5,7 @@ use Rattle.std.specs.Prelude.{nat_lt, option_and_then, option_map, true}
 use Rattle.std.specs.FinMap.Entries.{find}
 use Rattle.cell_core.specs.declared.cell.Cell.{Cell}
 use Rattle.cata_core.specs.Entries.{Entries, EntryKey, key_cmp}
-use Rattle.cata_core.specs.Sites.{SiteState}
+use Rattle.cata_core.specs.Site.{SiteState}
 use Rattle.site_docs.specs.ReadsAs.{ReadsAsSite}
 use Rattle.map_docs.specs.LangMapTexts.{AreWritten}
 use Rattle.map_docs.specs.LangMaps.{Labelled}

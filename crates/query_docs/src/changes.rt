@@ -1,7 +1,7 @@
 //! What changed between two states of a site.
 ghost use Rattle.std.specs.Prelude.{◌≡◌, IfOk, MatchResult, OnOk, Some, length, option_map};
 ghost use Rattle.std.specs.Option.{option_copied};
-ghost use Rattle.cell_core.specs.Labels.{texts_of};
+ghost use Rattle.cell_core.specs.Label.{texts_of};
 ghost use Rattle.cata_core.specs.Changes.{AreChanges, Changed};
 ghost use Rattle.cata_core.specs.ChangesLeft.{change_seen};
 ghost use Rattle.json_docs.specs.Checks.{OrMemory};

@@ -2,7 +2,7 @@
 ghost use Rattle.std.specs.Prelude.{◌≡◌, ◌++◌, ◌∷◌, [], length, slice_get, codes, decimal, IfOk};
 ghost use Rattle.cata_core.specs.Asking.{Weighed};
 ghost use Rattle.cata_core.specs.ChangesLeft.{change_seen};
-ghost use Rattle.cata_core.specs.LentAnswers.{reply_of};
+ghost use Rattle.cata_core.specs.Reply.{reply_of};
 ghost use Rattle.cata_core.specs.LentEntries.{lent_weighed};
 ghost use Rattle.query_docs.specs.Changed.{change_line};
 ghost use Rattle.query_docs.specs.Lines.{cell_line, cells_lines, filter_lines, found_line};

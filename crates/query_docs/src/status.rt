@@ -1,8 +1,8 @@
 //! The line of a site's status.
 ghost use Rattle.std.specs.Prelude.{◌≡◌, ◌+◌, [], Some, cond, count_by, is_some, IfOk, IfSome};
 ghost use Rattle.std.specs.Prelude.{MatchResult};
-ghost use Rattle.cell_core.specs.Cells.{joined_stamps};
-ghost use Rattle.cell_core.specs.Maps.{joined_if_both};
+ghost use Rattle.cell_core.specs.Cell.{joined_stamps};
+ghost use Rattle.cell_core.specs.Keyed.{joined_if_both};
 ghost use Rattle.json_docs.specs.Checks.{OrMemory};
 ghost use Rattle.row_docs.specs.Reading.{IsOfDocument, no_memory};
 ghost use Rattle.site_docs.specs.ReadsAs.{RefusesSite};

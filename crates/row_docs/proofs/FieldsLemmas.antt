@@ -10,7 +10,7 @@ use Rattle.std.specs.Prelude.{unwrap_or}
 use Rattle.json.specs.declared.value.Value.{Value}
 use Rattle.serde_json.specs.Data.{Data}
 use Rattle.serde_json.specs.Find.{as_str}
-use Rattle.cell_core.specs.Refusals.{RefusesLabel}
+use Rattle.cell_core.specs.Fault.{RefusesLabel}
 use Rattle.cell_core.specs.declared.fault.CellFault.{CellFault}
 use Rattle.cell_core.specs.declared.fault.CellFault.TheVariants.{IdRefused, TextTooLong, LabelCount}
 use Rattle.cell_core.specs.declared.fault.CellFault.TheVariants.{ClockSpent, NoMemory, SiteName}

@@ -9,7 +9,7 @@ use Rattle.lang_core.specs.Tag.{IsTag}
 use Rattle.lang_core.specs.Grammar.{are_allowed, is_alphanum, is_private_piece, is_run, tag_piece}
 use Rattle.lang_core.specs.Lang.{IsLang, SpellsLang}
 use Rattle.lang_core.specs.Text.{joined, pieces}
-use Rattle.lang_core.proofs.PiecesLaws.{joined-pieces, pieces-lower}
+use Rattle.lang_core.proofs.PiecesLemmas.{joined-pieces, pieces-lower}
 
 second_true : (a b : Bool) → (a && b) ≡ true → b ≡ true
 second_true true b h = h

@@ -2,8 +2,8 @@
 use Rattle.std.proofs.Common.{◌≡◌, ◌∙◌, ℕ, List, [], ◌∷◌, ap, sym, refl}
 use Rattle.std.specs.Prelude.{Option, None, Some, map, option_map, option_and_then}
 use Rattle.cell_core.specs.Migration.{OldStamp, migrated_stamp}
-use Rattle.cell_core.specs.SiteNames.{padded_name}
-use Rattle.cata_core.specs.Deltas.{Stamps}
+use Rattle.cell_core.specs.SiteName.{padded_name}
+use Rattle.cata_core.specs.Delta.{Stamps}
 use Rattle.cata_core.specs.Entries.{Entries, EntryKey}
 use Rattle.cell_core.specs.declared.stamp.Stamp.{Stamp}
 use Rattle.cata_core.specs.Migration.{OldEntries, OldEntry, OldStamps}

@@ -7,7 +7,7 @@ use Rattle.std.specs.Prelude.{option_and_then, option_map, slice_get, unwrap_or}
 use Rattle.std.proofs.lemmas.List.{length-map, map-append}
 use Rattle.std.proofs.lemmas.Option.{slice_get-map}
 use Rattle.serde_json.specs.Data.{Data}
-use Rattle.cell_core.specs.Maps.{IsMap}
+use Rattle.cell_core.specs.Keyed.{IsMap}
 use Rattle.cata_core.specs.Entries.{Entry, EntryKey, key_cmp, IsAboveAll}
 use Rattle.cell_core.specs.declared.stamp.Stamp.{Stamp}
 use Rattle.json_docs.specs.Checks.{AllPass, Check, FirstFails}
@@ -24,8 +24,8 @@ use Rattle.row_docs.specs.declared.fields.CellEntry.{CellEntry}
 use Rattle.row_docs.specs.declared.fields.StampEntry.{StampEntry}
 use Rattle.row_docs.specs.declared.version.Version.{Version}
 use Rattle.cata_core.proofs.Basics.{less_of}
-use Rattle.cata_core.proofs.Behind.{IsMap-behind}
-use Rattle.cata_core.proofs.LastKeys.{above_last, above_none}
+use Rattle.cata_core.proofs.BehindLemmas.{IsMap-behind}
+use Rattle.cata_core.proofs.LastKeysLemmas.{above_last, above_none}
 use Rattle.json_docs.proofs.ChecksLemmas.{AllPass-both, FirstFails-rest}
 
 at_end : (xs : List Data) (x : Data) → slice_get (xs ++ x ∷ []) (length xs) ≡ Some x

@@ -8,7 +8,7 @@ use Rattle.std.specs.FinMap.Entries.{below_all, is_sorted}
 use Rattle.cell_core.specs.declared.stamp.Stamp.{Stamp}
 use Rattle.cata_core.specs.Entries.{Entries, Entry, EntryKey, key_cmp}
 use Rattle.cata_core.proofs.Basics.{first_part, less_than, second_part}
-use Rattle.cata_core.proofs.Flat.{all_first, all_rest}
+use Rattle.cata_core.proofs.FlatLemmas.{all_first, all_rest}
 use Rattle.serde_json.specs.Data.{Data, string}
 use Rattle.serde_json.specs.View.{items_of}
 use Rattle.json_docs.specs.Checks.{AllPass, rows_checks}

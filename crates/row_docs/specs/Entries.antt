@@ -2,7 +2,7 @@
 use Rattle.std.specs.Prelude.{List, map}
 use Rattle.serde_json.specs.Data.{Data}
 use Rattle.cell_core.specs.declared.stamp.Stamp.{Stamp}
-use Rattle.cata_core.specs.Deltas.{Stamps}
+use Rattle.cata_core.specs.Delta.{Stamps}
 use Rattle.cata_core.specs.Entries.{Entries, Entry, EntryKey}
 use Rattle.row_docs.specs.Values.{Row, cell_value, stamp_value}
 

@@ -2,10 +2,10 @@
 use Rattle.std.specs.Prelude.{◌≡◌, ◌≢◌, ℕ, List, [], ◌∷◌, ◌++◌, Option, None, Some}
 use Rattle.std.specs.Str.{str_to_ascii_lowercase}
 use Rattle.std.specs.declared.cmp.Ordering.TheVariants.{Less}
-use Rattle.cell_core.specs.Labels.{IsLabel}
-use Rattle.cell_core.specs.MessageIds.{IsMessageId}
-use Rattle.cell_core.specs.Refusals.{RefusesTexts}
-use Rattle.cell_core.specs.SiteNames.{IsSiteName}
+use Rattle.cell_core.specs.Label.{IsLabel}
+use Rattle.cell_core.specs.MessageId.{IsMessageId}
+use Rattle.cell_core.specs.Fault.{RefusesTexts}
+use Rattle.cell_core.specs.SiteName.{IsSiteName}
 use Rattle.cell_core.specs.declared.cell.Cell.{Cell as HeldCell}
 use Rattle.cell_core.specs.declared.fault.CellFault.{CellFault}
 use Rattle.cell_core.specs.declared.fault.CellFault.TheVariants.{IdRefused, SiteName}

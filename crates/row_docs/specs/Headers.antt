@@ -1,7 +1,7 @@
 -- The tests of a document before its rows, in their order. Own rule.
 use Rattle.std.specs.Prelude.{◌≡◌, ◌⊎◌, ◌==◌, ℕ, List, [], ◌∷◌, true, codes, Option, None, Some}
 use Rattle.std.specs.Prelude.{is_some, if◌then◌else◌, unwrap_or, option_and_then}
-use Rattle.cell_core.specs.SiteNames.{IsSiteName}
+use Rattle.cell_core.specs.SiteName.{IsSiteName}
 use Rattle.serde_json.specs.Data.{Data, null}
 use Rattle.serde_json.specs.Find.{as_str, get}
 use Rattle.json_docs.specs.Checks.{Check, check}

@@ -1,6 +1,6 @@
 -- The shapes of rows as JSON data, in both versions. Own rule.
 use Rattle.std.specs.Prelude.{ℕ, List, [], ◌∷◌, Option, None, Some, option_map, option_and_then}
-use Rattle.cell_core.specs.SiteNames.{padded_name}
+use Rattle.cell_core.specs.SiteName.{padded_name}
 use Rattle.serde_json.specs.Data.{Data, null, boolean, number, string, array, object}
 use Rattle.serde_json.specs.Find.{as_str}
 use Rattle.json_docs.specs.Parts.{list_of, items_in, u64_in, u32_in, texts_in}

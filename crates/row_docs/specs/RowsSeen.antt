@@ -2,7 +2,7 @@
 use Rattle.std.specs.Prelude.{◌≡◌, ℕ, List, [], true, map, Option, None, Some, is_some, option_map}
 use Rattle.std.specs.Prelude.{unwrap_or}
 use Rattle.std.specs.Borrow.{Bor}
-use Rattle.cell_core.specs.SiteNames.{padded_name}
+use Rattle.cell_core.specs.SiteName.{padded_name}
 use Rattle.json.specs.declared.value.Value.{Value}
 use Rattle.json_docs.specs.Reads.{seen}
 use Rattle.json_docs.specs.Parts.{texts_in}

@@ -1,12 +1,12 @@
 -- What every catalogue and summary in memory keeps: its ids, languages, names and labels are some,
 -- and its numbers fit. Own rule.
 use Rattle.std.specs.Prelude.{◌<◌, ◌^◌, All}
-use Rattle.cell_core.specs.Maps.{IsMap}
-use Rattle.cell_core.specs.MessageIds.{IsMessageId}
-use Rattle.cell_core.specs.SiteNames.{IsSiteName}
+use Rattle.cell_core.specs.Keyed.{IsMap}
+use Rattle.cell_core.specs.MessageId.{IsMessageId}
+use Rattle.cell_core.specs.SiteName.{IsSiteName}
 use Rattle.cell_core.specs.declared.stamp.Stamp.{Stamp}
 use Rattle.lang_core.specs.Lang.{IsLang}
-use Rattle.cata_core.specs.Deltas.{Stamps}
+use Rattle.cata_core.specs.Delta.{Stamps}
 use Rattle.cata_core.specs.Entries.{Entries, Entry, EntryKey, key_cmp}
 use Rattle.row_docs.specs.Fields.{IsLabelText}
 

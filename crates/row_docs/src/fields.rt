@@ -1,7 +1,7 @@
 //! The fields of a row, each by the call that reads it.
 ghost use Rattle.std.specs.Prelude.{◌≡◌, Some, map, option_map, string_bytes, MatchResult, IfOk};
-ghost use Rattle.cell_core.specs.MessageIds.{IsMessageId};
-ghost use Rattle.cell_core.specs.SiteNames.{IsSiteName};
+ghost use Rattle.cell_core.specs.MessageId.{IsMessageId};
+ghost use Rattle.cell_core.specs.SiteName.{IsSiteName};
 ghost use Rattle.cell_core.specs.declared.fault.CellFault.TheVariants.{IdRefused};
 ghost use Rattle.cell_core.specs.declared.fault.CellFault.TheVariants.{SiteName as NameRefused};
 ghost use Rattle.lang_core.specs.Lang.{SpellsLang};

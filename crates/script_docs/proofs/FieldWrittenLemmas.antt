@@ -15,8 +15,8 @@ use Rattle.std.proofs.lemmas.List.Sums.{sum_by-cons}
 use Rattle.lang_core.specs.Grammar.{ExtendedRange, is_digit}
 use Rattle.lang_core.specs.Range.{IsRange}
 use Rattle.lang_core.specs.Text.{pieces, pieces_by}
-use Rattle.lang_core.proofs.LookupLaws.{lower-range}
-use Rattle.lang_core.proofs.PiecesLaws.{size_pieces}
+use Rattle.lang_core.proofs.LookupLemmas.{lower-range}
+use Rattle.lang_core.proofs.PiecesLemmas.{size_pieces}
 use Rattle.lang_core.proofs.RangeText.{basic_extended, is_range_byte, range_bytes}
 use Rattle.nego_core.specs.Element.{IsElement, IsPadded, RangeGrammar, WeightGrammar}
 use Rattle.nego_core.specs.Field.{ArePieces, IsField, RefusesField}
@@ -28,7 +28,7 @@ use Rattle.nego_core.specs.declared.fault.NegoFault.TheVariants.{NoMemory}
 use Rattle.nego_core.specs.declared.field.Malformed.TheVariants.{Refused}
 use Rattle.nego_core.specs.declared.scheme.Scheme.{Scheme}
 use Rattle.nego_core.specs.declared.scheme.Scheme.TheVariants.{Basic, Extended}
-use Rattle.nego_core.proofs.FieldLaws.{malformed_is_no_field}
+use Rattle.nego_core.proofs.FieldLemmas.{malformed_is_no_field}
 use Rattle.nego_core.proofs.FieldUnique.{one_items}
 use Rattle.nego_core.proofs.WeightBounds.{small_weights}
 use Rattle.script_docs.specs.FieldWritten.{IsListed, field_text, fraction_text, item_text}

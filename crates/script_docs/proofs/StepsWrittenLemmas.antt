@@ -6,7 +6,7 @@ use Rattle.std.specs.Str.{str_to_ascii_lowercase}
 use Rattle.cata_core.specs.Entries.{Entry}
 use Rattle.cata_core.specs.declared.step.Step.{Step}
 use Rattle.cata_core.specs.declared.step.Step.TheVariants.{AskFilter, AskLookup, Edit}
-use Rattle.cell_core.specs.MessageIds.{IsMessageId}
+use Rattle.cell_core.specs.MessageId.{IsMessageId}
 use Rattle.json.specs.Tree.{HasNumbers, ItemsHaveNumbers}
 use Rattle.json.specs.Tree as tree
 use Rattle.json.proofs.Printed.Decimals.{IsNumber-decimal}

@@ -3,7 +3,7 @@ ghost use Rattle.std.specs.Prelude.{◌≡◌, IfErr, IfOk, OnOk};
 ghost use Rattle.cata_core.specs.declared.step.Step.TheVariants.{AskCells, AskFilter, AskLookup};
 ghost use Rattle.cata_core.specs.declared.step.Step.TheVariants.{Deliver, Edit as EditStep, Merge};
 ghost use Rattle.cata_core.specs.declared.step.Step.TheVariants.{Post, Tell};
-ghost use Rattle.cell_core.specs.MessageIds.{IsMessageId};
+ghost use Rattle.cell_core.specs.MessageId.{IsMessageId};
 ghost use Rattle.json_docs.specs.declared.fault.DocCause.TheVariants.{Shape};
 ghost use Rattle.row_docs.specs.Entries.{row_of};
 ghost use Rattle.row_docs.specs.Texts.{Adds, value_tokens};

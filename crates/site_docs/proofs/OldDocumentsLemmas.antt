@@ -1,8 +1,8 @@
 -- What is read of a site, a delta or a summary of version 1 is what its plain data become.
 use Rattle.std.proofs.Common.{◌≡◌, ◌∙◌, ℕ, List, ap, sym}
 use Rattle.std.specs.Prelude.{Some}
-use Rattle.cell_core.specs.SiteNames.{padded_name}
-use Rattle.cata_core.specs.Sites.{SiteState}
+use Rattle.cell_core.specs.SiteName.{padded_name}
+use Rattle.cata_core.specs.Site.{SiteState}
 use Rattle.cata_core.specs.Summary.{SummaryState}
 use Rattle.cata_core.specs.declared.delta.Delta.{Delta as DeltaState}
 use Rattle.cata_core.specs.Migration.{OldDelta, OldSite}

@@ -2,7 +2,7 @@
 use Rattle.std.proofs.Common.{◌≡◌, ◌∙◌, ℕ, List, ap₂, sym}
 use Rattle.serde_json.specs.Data.{Data}
 use Rattle.cata_core.specs.Entries.{Entries}
-use Rattle.cata_core.specs.Sites.{SiteState}
+use Rattle.cata_core.specs.Site.{SiteState}
 use Rattle.cata_core.specs.Summary.{SummaryState}
 use Rattle.cata_core.specs.declared.delta.Delta.{Delta}
 use Rattle.row_docs.proofs.OneReading.{inside, one_read, same_entries}

@@ -9,9 +9,9 @@ use Rattle.json.specs.Print.{escape, quoted}
 use Rattle.serde_json.specs.Data.{Data, array, string}
 use Rattle.serde_json.specs.View.{items_of}
 use Rattle.serde_json.specs.Written.{comma_if, compact_text, items_text}
-use Rattle.cell_core.specs.SiteNames.{IsSiteName}
+use Rattle.cell_core.specs.SiteName.{IsSiteName}
 use Rattle.cata_core.specs.Entries.{Entries, Entry, IsAboveAll, key_cmp, key_cmp_total}
-use Rattle.cata_core.proofs.Behind.{IsMap-behind}
+use Rattle.cata_core.proofs.BehindLemmas.{IsMap-behind}
 use Rattle.row_docs.specs.Entries.{cells_values, entry_value}
 use Rattle.row_docs.specs.Kinds.{kind_text, subject_of}
 use Rattle.site_docs.specs.Plain.{IsEnd, IsPlainText, IsTextOf, cells_document}

@@ -3,7 +3,7 @@ use Rattle.std.proofs.Common.{◌≡◌, ◌∙◌, ℕ, List, ap, inl, inr, sym
 use Rattle.std.specs.Prelude.{IfSome, None, Option, Some}
 use Rattle.serde_json.specs.Data.{Data}
 use Rattle.serde_json.specs.Read.{read}
-use Rattle.cell_core.specs.Maps.{IsMap}
+use Rattle.cell_core.specs.Keyed.{IsMap}
 use Rattle.cata_core.specs.Entries.{Entries, key_cmp}
 use Rattle.json_docs.proofs.LineFeed.{read-line_feed}
 use Rattle.row_docs.specs.Entries.{cells_values}

@@ -8,12 +8,12 @@ use Rattle.std.specs.declared.cmp.Ordering.TheVariants.{Less, Equal, Greater}
 use Rattle.std.specs.Cmp.Lexicographic.{slice_cmp}
 use Rattle.std.specs.Str.{bytes_eq}
 use Rattle.std.proofs.lemmas.Map.Text.{is_eq-slice_cmp}
-use Rattle.cell_core.specs.SiteNames.{IsSiteName}
+use Rattle.cell_core.specs.SiteName.{IsSiteName}
 use Rattle.serde_json.specs.Data.{Data, Members, member}
 use Rattle.serde_json.specs.Find.{get_member}
 use Rattle.serde_json.specs.Read.{read}
 use Rattle.cata_core.specs.declared.delta.Delta.{Delta as DeltaState}
-use Rattle.cata_core.specs.Sites.{SiteState}
+use Rattle.cata_core.specs.Site.{SiteState}
 use Rattle.cata_core.specs.Summary.{SummaryState}
 use Rattle.json_docs.specs.Checks.{AllPass, Check, rows_checks}
 use Rattle.row_docs.specs.Entries.{cells_values, stamps_values}

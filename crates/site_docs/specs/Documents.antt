@@ -1,7 +1,7 @@
 -- The texts of the documents of sites, deltas and summaries, version 2.
 use Rattle.std.specs.Prelude.{ℕ, List}
 use Rattle.cata_core.specs.declared.delta.Delta.{Delta}
-use Rattle.cata_core.specs.Sites.{SiteState}
+use Rattle.cata_core.specs.Site.{SiteState}
 use Rattle.cata_core.specs.Summary.{SummaryState}
 use Rattle.row_docs.specs.Entries.{cells_values, stamps_values}
 use Rattle.row_docs.specs.Texts.{text}

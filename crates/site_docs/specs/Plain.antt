@@ -8,7 +8,7 @@ use Rattle.serde_json.specs.Data.{Data, array, member, no_members, number, objec
 use Rattle.serde_json.specs.Data.{unsigned}
 use Rattle.serde_json.specs.View.{items_of}
 use Rattle.serde_json.specs.Written.{comma_if, compact_text}
-use Rattle.cell_core.specs.SiteNames.{IsSiteName}
+use Rattle.cell_core.specs.SiteName.{IsSiteName}
 use Rattle.cata_core.specs.Entries.{Entries}
 use Rattle.row_docs.specs.Entries.{cells_values}
 use Rattle.row_docs.specs.Kinds.{kind_text, subject_of}

@@ -1,8 +1,8 @@
 -- Rows as they are written, and what their texts spell.
 use Rattle.std.specs.Prelude.{◌≡◌, ◌++◌, ◌∷◌, ℕ, List, Option, decimal}
 use Rattle.json.specs.Print.{quoted}
-use Rattle.cell_core.specs.MessageIds.{IsMessageId}
-use Rattle.cell_core.specs.SiteNames.{IsSiteName}
+use Rattle.cell_core.specs.MessageId.{IsMessageId}
+use Rattle.cell_core.specs.SiteName.{IsSiteName}
 use Rattle.lang_core.specs.Lang.{IsLang}
 use Rattle.cata_core.specs.Entries.{Entries, Entry, EntryKey, IsAboveAll}
 use Rattle.row_docs.specs.Fields.{IsAfter, stamp_of}

@@ -1,7 +1,7 @@
 -- What the readers answer on the bytes of a document, and which refusals.
 use Rattle.std.specs.Prelude.{◌≡◌, ℕ, List}
 use Rattle.cata_core.specs.declared.delta.Delta.{Delta}
-use Rattle.cata_core.specs.Sites.{SiteState}
+use Rattle.cata_core.specs.Site.{SiteState}
 use Rattle.cata_core.specs.Summary.{SummaryState}
 use Rattle.json_docs.specs.Checks.{IsRefusal}
 use Rattle.json_docs.specs.declared.fault.DocCause.{DocCause}

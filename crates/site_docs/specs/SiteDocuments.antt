@@ -1,9 +1,9 @@
 -- The documents that name a site: their tests in order, and what they read as. Own rule.
 use Rattle.std.specs.Prelude.{◌≡◌, true, ℕ, List, [], ◌∷◌, ◌++◌, Option, Some, is_some, unwrap_or}
-use Rattle.cell_core.specs.SiteNames.{IsSiteName}
+use Rattle.cell_core.specs.SiteName.{IsSiteName}
 use Rattle.serde_json.specs.Data.{Data}
 use Rattle.cata_core.specs.declared.delta.Delta.{Delta as DeltaState}
-use Rattle.cata_core.specs.Sites.{SiteState}
+use Rattle.cata_core.specs.Site.{SiteState}
 use Rattle.cata_core.specs.Summary.{SummaryState}
 use Rattle.json_docs.specs.Checks.{Check, check, rows_checks}
 use Rattle.json_docs.specs.declared.fault.DocCause.TheVariants.{Shape, SiteName}

@@ -1,7 +1,7 @@
 //! Laws over the definitions alone, each the contract of a function that does nothing.
 ghost use Rattle.std.specs.Prelude.{◌≡◌, ℕ, IsUtf8, List};
-ghost use Rattle.cell_core.specs.SiteNames.{IsSiteName};
-ghost use Rattle.cata_core.specs.Sites.{SiteState};
+ghost use Rattle.cell_core.specs.SiteName.{IsSiteName};
+ghost use Rattle.cata_core.specs.Site.{SiteState};
 ghost use Rattle.cata_core.specs.Summary.{SummaryState};
 ghost use Rattle.cata_core.specs.declared.delta.Delta.{Delta};
 ghost use Rattle.row_docs.specs.Valid.{AreKeptCells, AreKeptStamps};

@@ -5,9 +5,9 @@ ghost use Rattle.cata_core.specs.declared.step.Step.TheVariants.{Edit as EditSte
 ghost use Rattle.cata_core.specs.declared.step.Step.TheVariants.{AskFilter, AskLookup, AskCells};
 ghost use Rattle.cata_core.specs.declared.step.Step.TheVariants.{Tell, Post, Deliver};
 ghost use Rattle.cata_core.specs.Entries.{Entries, Agree, joined};
-ghost use Rattle.cata_core.specs.CataFaults.{IsRefusal, IsOfCells};
-ghost use Rattle.cata_core.specs.Faulty.{IsFaultOf};
-ghost use Rattle.cata_core.specs.Worlds.{held_in, IsRunning, IsStepped, IsClashAt};
+ghost use Rattle.cata_core.specs.CataFault.{IsRefusal, IsOfCells};
+ghost use Rattle.cata_core.specs.PlayFault.{IsFaultOf};
+ghost use Rattle.cata_core.specs.World.{held_in, IsRunning, IsStepped, IsClashAt};
 
 use crate::answer::{Answer, Edits};
 use crate::cata_fault::CataFault;

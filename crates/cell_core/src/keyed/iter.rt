@@ -3,7 +3,7 @@
 ghost use Rattle.std.specs.Prelude.{◌≡◌, ◌&&◌, length};
 ghost use Rattle.std.specs.Cmp.Lexicographic.{pointwise};
 ghost use Rattle.std.specs.Iterator.{YieldsFirstBy, at_most};
-ghost use Rattle.cell_core.specs.EntriesLeft.{entries_left};
+ghost use Rattle.cell_core.specs.Iter.{entries_left};
 
 use std::fmt;
 
@@ -17,7 +17,7 @@ pub struct Iter<'a, K, J> {
 impl<'a, K, J> Iterator for Iter<'a, K, J> {
     type Item = (&'a K, &'a J);
 
-    ghost use Rattle.cell_core.specs.EntriesLeft.{entries_left};
+    ghost use Rattle.cell_core.specs.Iter.{entries_left};
 
     ghost next_gives = { YieldsFirstBy (λ e. (e.0.now, e.1.now)) entries_left };
 

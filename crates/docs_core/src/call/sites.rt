@@ -1,10 +1,10 @@
 //! Calls on whole documents, from bytes to bytes.
 ghost use Rattle.std.specs.Prelude.{◌≡◌, option_map, IfErr, IfOk, IfSome, MatchResult};
 ghost use Rattle.std.specs.FinMap.Entries.{put};
-ghost use Rattle.cell_core.specs.Stamps.{IsNext};
+ghost use Rattle.cell_core.specs.Stamp.{IsNext};
 ghost use Rattle.cata_core.specs.Entries.{key_cmp};
 ghost use Rattle.cata_core.specs.Latest.{latest_of};
-ghost use Rattle.cata_core.specs.Sites.{RefusesEdit};
+ghost use Rattle.cata_core.specs.Site.{RefusesEdit};
 ghost use Rattle.json_docs.specs.Checks.{OrMemory};
 ghost use Rattle.row_docs.specs.Reading.{IsOfDocument, no_memory};
 ghost use Rattle.site_docs.specs.ReadsAs.{RefusesSite};

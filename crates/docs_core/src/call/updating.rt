@@ -2,7 +2,7 @@
 ghost use Rattle.std.specs.Prelude.{◌≡◌, ◌+◌, ◌<◌, [], IfErr, IfSome, MatchOption, MatchResult};
 ghost use Rattle.std.specs.Prelude.{None, OnOk, Some, length, option_map};
 ghost use Rattle.std.specs.Bool.{Decides};
-ghost use Rattle.cell_core.specs.Maps.{IsMap};
+ghost use Rattle.cell_core.specs.Keyed.{IsMap};
 ghost use Rattle.cata_core.specs.Entries.{key_cmp};
 ghost use Rattle.cata_core.specs.declared.cata_fault.CataFault.TheVariants.{ClockSpent, NoMemory};
 ghost use Rattle.json_docs.specs.Checks.{OrMemory};

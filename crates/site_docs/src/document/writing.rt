@@ -1,6 +1,6 @@
 //! The documents of sites, deltas and summaries, written.
 ghost use Rattle.std.specs.Prelude.{◌≡◌, IfOk};
-ghost use Rattle.cell_core.specs.SiteNames.{IsSiteName};
+ghost use Rattle.cell_core.specs.SiteName.{IsSiteName};
 ghost use Rattle.row_docs.specs.Entries.{cells_values, stamps_values};
 ghost use Rattle.row_docs.specs.Valid.{AreKeptCells, AreKeptStamps};
 ghost use Rattle.site_docs.specs.Documents.{delta_text, site_text, summary_text};

@@ -1,8 +1,8 @@
 //! Whole documents of sites and deltas.
 ghost use Rattle.std.specs.Prelude.{◌≡◌, ◌++◌, ◌∷◌, [], List, ℕ, IfSome, IsTrue, decimal};
 ghost use Rattle.json.specs.Print.{quoted};
-ghost use Rattle.cell_core.specs.Maps.{IsMap};
-ghost use Rattle.cell_core.specs.SiteNames.{IsSiteName};
+ghost use Rattle.cell_core.specs.Keyed.{IsMap};
+ghost use Rattle.cell_core.specs.SiteName.{IsSiteName};
 ghost use Rattle.cata_core.specs.Entries.{Entries, key_cmp};
 ghost use Rattle.row_docs.specs.Kinds.{kind_text, subject_of};
 ghost use Rattle.site_docs.specs.Plain.{IsEnd, IsPlainText, last_members};

@@ -2,7 +2,7 @@
 ghost use Rattle.std.specs.Prelude.{◌≡◌, ◌++◌, ◌∷◌, [], IfSome, string_bytes};
 ghost use Rattle.json.specs.Print.{quoted};
 ghost use Rattle.serde_json.specs.Written.{compact_text};
-ghost use Rattle.cell_core.specs.Labels.{IsLabel};
+ghost use Rattle.cell_core.specs.Label.{IsLabel};
 ghost use Rattle.row_docs.specs.Fields.{IsLabelText};
 ghost use Rattle.row_docs.specs.Values.{label_value, texts_value};
 

@@ -1,6 +1,6 @@
 //! What takes the cells of a document one after another, as they are read.
 ghost use Rattle.std.specs.Prelude.{◌≡◌, ◌++◌, ◌∷◌, [], OnOk};
-ghost use Rattle.cata_core.specs.Deltas.{summary_of};
+ghost use Rattle.cata_core.specs.Delta.{summary_of};
 ghost use Rattle.cata_core.specs.Entries.{Entries, IsAboveAll};
 ghost use Rattle.row_docs.specs.EntriesSeen.{entry_by};
 

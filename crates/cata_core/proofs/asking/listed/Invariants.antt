@@ -1,5 +1,5 @@
 use Rattle.std.proofs.Common.{◌≡◌, ◌++◌}
-use Rattle.cata_core.specs.LiveLeft.{labels_left}
+use Rattle.cata_core.specs.Labels.{labels_left}
 use Rattle.cata_core.specs.LentEntries.{labelled_of}
 use Rattle.cata_core.proofs.asking.listed.Given as goal
 

@@ -2,7 +2,7 @@ use Rattle.std.proofs.Common.{sym, ap, ◌∙◌, subst}
 use Rattle.std.proofs.lemmas.Result.{on_ok_weaker, on_err_weaker}
 use Rattle.cata_core.specs.Flat.{flat, inner_of}
 use Rattle.cata_core.specs.Nested.{IsCatalogue}
-use Rattle.cata_core.proofs.NestedCatalogues.{either_way, IsCatalogue-put, flat-put, put_back}
+use Rattle.cata_core.proofs.NestedCataloguesLemmas.{either_way, IsCatalogue-put, flat-put, put_back}
 use Rattle.cata_core.proofs.catalogue.append.Goals as goal
 
 pub returns-in-Some-clause-nested : goal.returns-in-Some-clause-nested

@@ -4,17 +4,17 @@ use Rattle.std.specs.Option.{is_none}
 use Rattle.std.specs.FinMap.Entries.{find, put}
 use Rattle.std.proofs.lemmas.Result.{on_ok_weaker, on_err_weaker}
 use Rattle.cell_core.specs.declared.cell.Cell.{Cell}
-use Rattle.cell_core.specs.Cells.{AgreeCells, joined_cells}
-use Rattle.cell_core.specs.Maps.{AgreeIfBoth, joined_at}
+use Rattle.cell_core.specs.Cell.{AgreeCells, joined_cells}
+use Rattle.cell_core.specs.Keyed.{AgreeIfBoth, joined_at}
 use Rattle.cata_core.specs.declared.cell_refusal.CellRefusal.TheVariants.{NoMemory}
-use Rattle.cata_core.specs.CellRefusals.{IsCellRefusal}
+use Rattle.cata_core.specs.CellRefusal.{IsCellRefusal}
 use Rattle.cata_core.specs.Entries.{text_cmp}
 use Rattle.cata_core.specs.Flat.{flat, inner_of}
 use Rattle.cata_core.specs.Nested.{Inner, IsCatalogue}
 use Rattle.cata_core.specs.Settled.{IsSettledBy}
-use Rattle.cata_core.proofs.NestedCatalogues.{either_way, IsCatalogue-put, put_back}
+use Rattle.cata_core.proofs.NestedCataloguesLemmas.{either_way, IsCatalogue-put, put_back}
 use Rattle.cata_core.proofs.CellRefusalLemmas.{refused_new, unsettled}
-use Rattle.cata_core.proofs.Written.{found_inner, joined_inner, no_cell}
+use Rattle.cata_core.proofs.WrittenLemmas.{found_inner, joined_inner, no_cell}
 use Rattle.cata_core.proofs.catalogue.join_in.Goals as goal
 
 pub returns-in-Some-clause-nested : goal.returns-in-Some-clause-nested

@@ -1,11 +1,11 @@
 use Rattle.std.proofs.Common.{◌+◌, length, sym, subst, arith}
 use Rattle.std.proofs.lemmas.Option.{slice_get_within}
-use Rattle.cell_core.specs.EntriesLeft.{entries_left}
+use Rattle.cell_core.specs.Iter.{entries_left}
 use Rattle.cata_core.specs.Entries.{key_cmp}
 use Rattle.cata_core.specs.Flat.{flat}
 use Rattle.cata_core.specs.Nested.{Nested}
-use Rattle.cata_core.proofs.ClashWalks.{IsAgreed, agreed_with, agreed_without, clash_with}
-use Rattle.cata_core.proofs.ClashWalks.{front_fits, agreed_catalogues}
+use Rattle.cata_core.proofs.ClashWalksLemmas.{IsAgreed, agreed_with, agreed_without, clash_with}
+use Rattle.cata_core.proofs.ClashWalksLemmas.{front_fits, agreed_catalogues}
 use Rattle.cata_core.proofs.clash.find_clash.Goals as goal
 use Rattle.cata_core.proofs.clash.find_clash.Goals.{in-Some-get+in_default-find_clash_in}
 use Rattle.cata_core.proofs.clash.find_clash.Goals.{in_default}

@@ -1,9 +1,9 @@
 use Rattle.std.proofs.Common.{◌≡◌, Some, None, sym, ◌∙◌, subst, true≢false}
-use Rattle.cell_core.specs.Cells.{AgreeCells}
-use Rattle.cell_core.specs.EntriesLeft.{entries_left}
+use Rattle.cell_core.specs.Cell.{AgreeCells}
+use Rattle.cell_core.specs.Iter.{entries_left}
 use Rattle.cata_core.specs.Entries.{text_cmp}
 use Rattle.cata_core.proofs.Basics.{some_same}
-use Rattle.cata_core.proofs.ClashWalks.{IsAgreed, clash_one, agreed_one, agreed_all}
+use Rattle.cata_core.proofs.ClashWalksLemmas.{IsAgreed, clash_one, agreed_one, agreed_all}
 use Rattle.cata_core.proofs.clash.find_clash_in.Goals as goal
 use Rattle.cata_core.proofs.clash.find_clash_in.Goals.{in-Some-get+else-not-agrees, in_default}
 

@@ -1,6 +1,6 @@
-use Rattle.cell_core.specs.EntriesLeft.{entries_left}
+use Rattle.cell_core.specs.Iter.{entries_left}
 use Rattle.cata_core.specs.Entries.{text_cmp}
-use Rattle.cata_core.proofs.ClashWalks.{IsAgreed}
+use Rattle.cata_core.proofs.ClashWalksLemmas.{IsAgreed}
 use Rattle.cata_core.proofs.clash.find_clash_in.Given as goal
 
 abbrev pub invariant-loop-lang : goal.invariant-loop-lang

@@ -1,4 +1,4 @@
-use Rattle.cata_core.proofs.NestedCatalogues.{agree_both_ways}
+use Rattle.cata_core.proofs.NestedCataloguesLemmas.{agree_both_ways}
 use Rattle.cata_core.proofs.clash.first_clash.Goals as goal
 
 pub returns-then-agrees : goal.returns-then-agrees

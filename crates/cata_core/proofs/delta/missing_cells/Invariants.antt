@@ -1,6 +1,6 @@
-use Rattle.cata_core.specs.CellsLeft.{cells_left}
+use Rattle.cata_core.specs.Cells.{cells_left}
 use Rattle.cata_core.specs.Summary.{stamps_of}
-use Rattle.cata_core.proofs.MissingCells.{AreMissingSoFar}
+use Rattle.cata_core.proofs.MissingCellsLemmas.{AreMissingSoFar}
 use Rattle.cata_core.proofs.delta.missing_cells.Given as goal
 
 abbrev pub invariant-loop-id : goal.invariant-loop-id

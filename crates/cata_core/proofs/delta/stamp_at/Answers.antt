@@ -3,13 +3,13 @@ use Rattle.std.specs.declared.cmp.Ordering.TheVariants.{Less, Greater}
 use Rattle.std.specs.Ordering.{is_lt, is_eq}
 use Rattle.std.proofs.lemmas.List.{nil_from_length}
 use Rattle.std.specs.FinMap.Entries.{find, is_sorted, below_all}
-use Rattle.cell_core.specs.Maps.{IsMap}
+use Rattle.cell_core.specs.Keyed.{IsMap}
 use Rattle.cata_core.specs.declared.summary.SummaryEntry.{SummaryEntry}
 use Rattle.cata_core.specs.Entries.{EntryKey, key_cmp}
 use Rattle.cata_core.specs.Summary.{stamps_of}
 use Rattle.cata_core.proofs.Basics.{second_part}
-use Rattle.cata_core.proofs.SummaryLists.{passed, passed_found, first_found, first_absent}
-use Rattle.cata_core.proofs.SummaryLists.{not_greater, not_greater_self}
+use Rattle.cata_core.proofs.SummaryListsLemmas.{passed, passed_found, first_found, first_absent}
+use Rattle.cata_core.proofs.SummaryListsLemmas.{not_greater, not_greater_self}
 use Rattle.cata_core.proofs.delta.stamp_at.Goals as goal
 
 pub loop-first-preserved : goal.loop-first-preserved

@@ -3,8 +3,8 @@ use Rattle.std.specs.List.{cons_option}
 use Rattle.cata_core.specs.Asking.{picked}
 use Rattle.cata_core.specs.LentEntries.{weighed_of, labelled_of}
 use Rattle.cata_core.proofs.Basics.{append_nil}
-use Rattle.cata_core.proofs.LentLists.{weighed_push, picked_more}
-use Rattle.cata_core.proofs.Worlds.{there}
+use Rattle.cata_core.proofs.LentListsLemmas.{weighed_push, picked_more}
+use Rattle.cata_core.proofs.WorldLemmas.{there}
 use Rattle.cata_core.proofs.entries.pick_all.Goals as goal
 use Rattle.cata_core.proofs.entries.pick_all.Goals.{in-Some+in-Some-pick_one+in_ok-push}
 use Rattle.cata_core.proofs.entries.pick_all.Goals.{in-Some+in_default-pick_one, in_default}

@@ -1,5 +1,5 @@
 use Rattle.std.proofs.Common.{◌≡◌, length}
-use Rattle.cata_core.specs.CellsLeft.{cells_left}
+use Rattle.cata_core.specs.Cells.{cells_left}
 use Rattle.cata_core.specs.Equality.{entries_eq}
 use Rattle.cata_core.proofs.equality.are_equal.Given as goal
 

@@ -1,6 +1,6 @@
 use Rattle.std.proofs.Common.{◌≡◌, length}
-use Rattle.cell_core.specs.EntriesLeft.{entries_left}
-use Rattle.cata_core.specs.LiveLeft.{live_left}
+use Rattle.cell_core.specs.Iter.{entries_left}
+use Rattle.cata_core.specs.Labels.{live_left}
 use Rattle.cata_core.proofs.labels.next_live.Given as goal
 
 abbrev pub invariant-loop-lang : goal.invariant-loop-lang

@@ -1,5 +1,5 @@
 use Rattle.std.proofs.Common.{◌≡◌, ◌++◌}
-use Rattle.cell_core.specs.EntriesLeft.{entries_left}
+use Rattle.cell_core.specs.Iter.{entries_left}
 use Rattle.nego_core.specs.Filtering.{texts_of}
 use Rattle.cata_core.specs.Languages.{texts_in}
 use Rattle.cata_core.proofs.languages.list_languages.Given as goal

@@ -1,5 +1,5 @@
-use Rattle.cell_core.specs.Cells.{joined_cells}
-use Rattle.cell_core.specs.Maps.{joined_maps-IsMap, find-joined_maps}
+use Rattle.cell_core.specs.Cell.{joined_cells}
+use Rattle.cell_core.specs.Keyed.{joined_maps-IsMap, find-joined_maps}
 use Rattle.cell_core.proofs.RunLemmas.{joined_is}
 use Rattle.cata_core.specs.Entries.{key_cmp, key_cmp_total, key_cmp_exact}
 use Rattle.cata_core.proofs.laws.a_join_has_each_key.Goals as goal

@@ -1,4 +1,4 @@
-use Rattle.cata_core.proofs.Parts.{find-part}
+use Rattle.cata_core.proofs.PartsLemmas.{find-part}
 use Rattle.cata_core.proofs.laws.a_part_has_its_keys.Goals as goal
 
 pub returns : goal.returns

@@ -1,6 +1,6 @@
-use Rattle.cata_core.specs.Deltas.{summary_of}
-use Rattle.cata_core.proofs.HeldRises.{told_serves}
-use Rattle.cata_core.proofs.Summaries.{has_own, has_risen}
+use Rattle.cata_core.specs.Delta.{summary_of}
+use Rattle.cata_core.proofs.HeldRisesLemmas.{told_serves}
+use Rattle.cata_core.proofs.SummaryLemmas.{has_own, has_risen}
 use Rattle.cata_core.proofs.laws.a_told_summary_serves.Goals as goal
 
 pub returns-clause-now : goal.returns-clause-now

@@ -1,7 +1,7 @@
 use Rattle.std.proofs.Common.{sym, subst, refl}
 use Rattle.std.specs.Prelude.{IsSome}
-use Rattle.cata_core.proofs.Members.{in_from_Contains}
-use Rattle.cata_core.proofs.Catalogues.{catalogue_of-IsMap, found_best, best_found, has_cell}
+use Rattle.cata_core.proofs.MembersLemmas.{in_from_Contains}
+use Rattle.cata_core.proofs.CatalogueLemmas.{catalogue_of-IsMap, found_best, best_found, has_cell}
 use Rattle.cata_core.proofs.laws.catalogue_has_best_edits.Goals as goal
 
 pub returns-clause-map : goal.returns-clause-map

@@ -1,4 +1,4 @@
-use Rattle.cata_core.proofs.Clashes.{clash_not_agree, clash_is_one}
+use Rattle.cata_core.proofs.ClashLemmas.{clash_not_agree, clash_is_one}
 use Rattle.cata_core.proofs.laws.clashes_are_one.Goals as goal
 
 pub returns-clause-differ : goal.returns-clause-differ

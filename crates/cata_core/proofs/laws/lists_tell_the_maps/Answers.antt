@@ -1,4 +1,4 @@
-use Rattle.cata_core.proofs.NestedCatalogues.{agree_both_ways, flat-joined, same_catalogue}
+use Rattle.cata_core.proofs.NestedCataloguesLemmas.{agree_both_ways, flat-joined, same_catalogue}
 use Rattle.cata_core.proofs.laws.lists_tell_the_maps.Goals as goal
 
 pub returns-clause-one : goal.returns-clause-one

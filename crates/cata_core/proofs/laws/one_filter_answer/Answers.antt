@@ -1,4 +1,4 @@
-use Rattle.cata_core.proofs.UniqueAnswers.{one_filter_answer}
+use Rattle.cata_core.proofs.UniqueAnswersLemmas.{one_filter_answer}
 use Rattle.cata_core.proofs.laws.one_filter_answer.Goals as goal
 
 pub returns : goal.returns

@@ -1,4 +1,4 @@
-use Rattle.cata_core.proofs.UniqueAnswers.{one_lookup_answer_by}
+use Rattle.cata_core.proofs.UniqueAnswersLemmas.{one_lookup_answer_by}
 use Rattle.cata_core.proofs.laws.one_lookup_answer_by.Goals as goal
 
 pub returns-clause-one : goal.returns-clause-one

@@ -2,7 +2,7 @@ use Rattle.std.proofs.Common.{[]}
 use Rattle.cata_core.specs.Edits.{catalogue_of}
 use Rattle.cata_core.specs.Taken.{taken}
 use Rattle.cata_core.specs.Held.{held}
-use Rattle.cata_core.proofs.UniqueAnswers.{one_by}
+use Rattle.cata_core.proofs.UniqueAnswersLemmas.{one_by}
 use Rattle.cata_core.proofs.laws.one_run.Goals as goal
 
 pub returns-clause-held : goal.returns-clause-held

@@ -1,4 +1,4 @@
-use Rattle.cata_core.proofs.Catalogues.{same_settled, same_catalogue}
+use Rattle.cata_core.proofs.CatalogueLemmas.{same_settled, same_catalogue}
 use Rattle.cata_core.proofs.laws.same_edits_same_catalogue.Goals as goal
 
 pub returns : goal.returns

@@ -1,5 +1,5 @@
-use Rattle.cata_core.proofs.JoinedLatest.{latest_joined}
-use Rattle.cata_core.proofs.LatestTaken.{latest_taken}
+use Rattle.cata_core.proofs.JoinedLatestLemmas.{latest_joined}
+use Rattle.cata_core.proofs.LatestTakenLemmas.{latest_taken}
 use Rattle.cata_core.proofs.laws.the_latest_held_is_the_latest_taken.Goals as goal
 
 pub returns-clause-edits : goal.returns-clause-edits

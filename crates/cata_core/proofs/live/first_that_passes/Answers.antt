@@ -1,7 +1,7 @@
 use Rattle.std.proofs.Common.{sym, ◌∙◌, true≢false}
 use Rattle.nego_core.specs.WidenedChoice.{Passes}
-use Rattle.cata_core.specs.LiveLeft.{labels_left}
-use Rattle.cata_core.proofs.LiveLanguages.{seek_all, seek_found, seek_none, seek_passed}
+use Rattle.cata_core.specs.Labels.{labels_left}
+use Rattle.cata_core.proofs.LiveLanguagesLemmas.{seek_all, seek_found, seek_none, seek_passed}
 use Rattle.cata_core.proofs.live.first_that_passes.Goals as goal
 
 pub loop-lang-init : goal.loop-lang-init

@@ -1,6 +1,6 @@
 use Rattle.nego_core.specs.WidenedChoice.{Passes}
-use Rattle.cata_core.specs.LiveLeft.{labels_left}
-use Rattle.cata_core.proofs.LiveLanguages.{Seeks}
+use Rattle.cata_core.specs.Labels.{labels_left}
+use Rattle.cata_core.proofs.LiveLanguagesLemmas.{Seeks}
 use Rattle.cata_core.proofs.live.first_that_passes.Given as goal
 
 abbrev pub invariant-loop-lang : goal.invariant-loop-lang

@@ -1,5 +1,5 @@
 use Rattle.std.proofs.Common.{sym, Some, None}
-use Rattle.cata_core.proofs.LiveLabels.{with_label, with_none}
+use Rattle.cata_core.proofs.LabelsLemmas.{with_label, with_none}
 use Rattle.cata_core.proofs.live.label_in.Goals as goal
 
 pub returns-in-Some-label : goal.returns-in-Some-label

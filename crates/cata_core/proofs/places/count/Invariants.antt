@@ -1,5 +1,5 @@
-use Rattle.cell_core.specs.EntriesLeft.{entries_left}
-use Rattle.cata_core.proofs.NestedPlaces.{IsCounted}
+use Rattle.cell_core.specs.Iter.{entries_left}
+use Rattle.cata_core.proofs.NestedPlacesLemmas.{IsCounted}
 use Rattle.cata_core.proofs.places.count.Given as goal
 
 abbrev pub invariant-loop-cells : goal.invariant-loop-cells

@@ -1,10 +1,10 @@
 use Rattle.std.proofs.Common.{◌≡◌, ◌+◌, ◌-◌, ◌<◌, length, sym, ap, subst, ◌∙◌, arith}
 use Rattle.std.specs.Prelude.{slice_get}
 use Rattle.std.specs.Option.{option_map}
-use Rattle.cell_core.specs.EntriesLeft.{entries_left}
+use Rattle.cell_core.specs.Iter.{entries_left}
 use Rattle.cata_core.specs.Flat.{flat}
 use Rattle.cata_core.specs.Nested.{Nested}
-use Rattle.cata_core.proofs.NestedPlaces.{with_outer, place_within, place_behind}
+use Rattle.cata_core.proofs.NestedPlacesLemmas.{with_outer, place_within, place_behind}
 use Rattle.cata_core.proofs.places.entry.Goals as goal
 
 pub returns-in-Some-nth : goal.returns-in-Some-nth

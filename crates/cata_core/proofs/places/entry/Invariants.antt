@@ -1,6 +1,6 @@
 use Rattle.std.proofs.Common.{◌≡◌}
 use Rattle.std.specs.Prelude.{slice_get}
-use Rattle.cell_core.specs.EntriesLeft.{entries_left}
+use Rattle.cell_core.specs.Iter.{entries_left}
 use Rattle.cata_core.specs.Flat.{flat}
 use Rattle.cata_core.proofs.places.entry.Given as goal
 

@@ -4,7 +4,7 @@ use Rattle.std.specs.Option.{option_map}
 use Rattle.cata_core.specs.Flat.{flat}
 use Rattle.cell_core.specs.declared.cell.Cell.{Cell}
 use Rattle.cata_core.specs.Nested.{Nested}
-use Rattle.cata_core.proofs.LastKeys.{last_of_all, no_last, last_is_some}
+use Rattle.cata_core.proofs.LastKeysLemmas.{last_of_all, no_last, last_is_some}
 use Rattle.cata_core.proofs.places.last.Goals as goal
 
 pub returns-in_err-id : goal.returns-in_err-id

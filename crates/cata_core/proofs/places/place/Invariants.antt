@@ -1,5 +1,5 @@
-use Rattle.cell_core.specs.EntriesLeft.{entries_left}
-use Rattle.cata_core.proofs.NestedPlaces.{IsInFront}
+use Rattle.cell_core.specs.Iter.{entries_left}
+use Rattle.cata_core.proofs.NestedPlacesLemmas.{IsInFront}
 use Rattle.cata_core.proofs.places.place.Given as goal
 
 abbrev pub invariant-loop-key : goal.invariant-loop-key

@@ -1,5 +1,5 @@
 use Rattle.std.proofs.Common.{◌≡◌, ◌+◌, length}
-use Rattle.cell_core.specs.EntriesLeft.{entries_left}
+use Rattle.cell_core.specs.Iter.{entries_left}
 use Rattle.cell_core.specs.Places.{place_of}
 use Rattle.cata_core.specs.Entries.{text_cmp}
 use Rattle.cata_core.proofs.places.place_in.Given as goal

@@ -1,13 +1,13 @@
 use Rattle.std.proofs.Common.{◌∙◌, ap, arith, subst, sym, length, length-append, ◌++◌, ◌∷◌, []}
 use Rattle.std.proofs.lemmas.Result.{err_from_is_err_and}
 use Rattle.cata_core.specs.Entries.{Entries}
-use Rattle.cata_core.specs.Answers.{AreHeldAnswers, AreAnswers}
-use Rattle.cata_core.specs.Worlds.{at_sites}
-use Rattle.cata_core.proofs.Machine.{first_fault}
-use Rattle.cata_core.proofs.TakenAndHeld.{consistent_no_clash}
-use Rattle.cata_core.proofs.Worlds.{one_more_empty}
-use Rattle.cata_core.proofs.Playing.{played_on, refused_now, none_is_faulty, answers_held}
-use Rattle.cata_core.proofs.Playing.{answers_consistent, answers_undelivered}
+use Rattle.cata_core.specs.Answer.{AreHeldAnswers, AreAnswers}
+use Rattle.cata_core.specs.World.{at_sites}
+use Rattle.cata_core.proofs.MachineLemmas.{first_fault}
+use Rattle.cata_core.proofs.TakenAndHeldLemmas.{consistent_no_clash}
+use Rattle.cata_core.proofs.WorldLemmas.{one_more_empty}
+use Rattle.cata_core.proofs.PlayingLemmas.{played_on, refused_now, none_is_faulty, answers_held}
+use Rattle.cata_core.proofs.PlayingLemmas.{answers_consistent, answers_undelivered}
 use Rattle.cata_core.proofs.runs.play.Goals as goal
 
 pub loop-preserved : goal.loop-preserved

@@ -1,7 +1,7 @@
 use Rattle.std.proofs.Common.{◌-◌, Vec, Global, length, take, drop, arith, sym, ap, ◌∙◌, subst}
 use Rattle.std.proofs.Common.{true≢false}
 use Rattle.std.specs.FinMap.Entries.{find}
-use Rattle.cell_core.specs.Maps.{IsMap, AgreeIfBoth}
+use Rattle.cell_core.specs.Keyed.{IsMap, AgreeIfBoth}
 use Rattle.cell_core.specs.Chunks.{all_of}
 use Rattle.cell_core.proofs.AbsentLemmas.{same_right}
 use Rattle.cell_core.proofs.ChunkLemmas.{chunk_map}

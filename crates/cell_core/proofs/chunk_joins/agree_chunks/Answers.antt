@@ -1,6 +1,6 @@
 use Rattle.std.proofs.Common.{◌++◌, Vec, Global, suc, take, drop, sym, ap, ◌∙◌, subst, true≢false}
 use Rattle.std.specs.FinMap.Entries.{find}
-use Rattle.cell_core.specs.Maps.{IsMap, AgreeIfBoth}
+use Rattle.cell_core.specs.Keyed.{IsMap, AgreeIfBoth}
 use Rattle.cell_core.specs.Chunks.{all_of}
 use Rattle.cell_core.proofs.ChunkLemmas.{all_of-split, chunk_map}
 use Rattle.cell_core.proofs.RunLemmas.{all_of_more, run_agrees, agree_parts}

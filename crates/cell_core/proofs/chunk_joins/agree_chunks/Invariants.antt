@@ -1,6 +1,6 @@
 use Rattle.std.proofs.Common.{take}
 use Rattle.std.specs.FinMap.Entries.{find}
-use Rattle.cell_core.specs.Maps.{AgreeIfBoth}
+use Rattle.cell_core.specs.Keyed.{AgreeIfBoth}
 use Rattle.cell_core.specs.Chunks.{all_of}
 use Rattle.cell_core.proofs.chunk_joins.agree_chunks.Given as goal
 

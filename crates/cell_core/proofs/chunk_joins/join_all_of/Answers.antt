@@ -1,5 +1,5 @@
 use Rattle.std.proofs.Common.{◌+◌, ◌-◌, [], length, take, drop, arith, sym, subst}
-use Rattle.cell_core.specs.Maps.{IsMap, IsJoinedWith}
+use Rattle.cell_core.specs.Keyed.{IsMap, IsJoinedWith}
 use Rattle.cell_core.specs.Chunks.{all_of}
 use Rattle.cell_core.proofs.Basics.{on_err_always}
 use Rattle.cell_core.proofs.RunLemmas.{take_run, split_rest, length_rest, map_of_take, map_of_rest}

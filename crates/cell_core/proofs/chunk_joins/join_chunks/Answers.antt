@@ -1,5 +1,5 @@
 use Rattle.std.proofs.Common.{◌++◌, append_assoc, Vec, Global, suc, take, drop, sym, ap, ◌∙◌, subst}
-use Rattle.cell_core.specs.Maps.{IsMap, IsJoinedWith}
+use Rattle.cell_core.specs.Keyed.{IsMap, IsJoinedWith}
 use Rattle.cell_core.specs.Chunks.{all_of}
 use Rattle.cell_core.proofs.Basics.{on_err_always}
 use Rattle.cell_core.proofs.ChunkLemmas.{all_of-split, chunk_map, map_front}

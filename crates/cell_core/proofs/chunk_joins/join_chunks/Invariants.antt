@@ -1,5 +1,5 @@
 use Rattle.std.proofs.Common.{◌<◌, take, vec_len}
-use Rattle.cell_core.specs.Maps.{IsJoinedWith}
+use Rattle.cell_core.specs.Keyed.{IsJoinedWith}
 use Rattle.cell_core.specs.Chunks.{all_of, IsKept}
 use Rattle.cell_core.proofs.chunk_joins.join_chunks.Given as goal
 

@@ -1,6 +1,6 @@
 use Rattle.std.proofs.Common.{[], ◌∷◌, sym, ap, ◌∙◌, subst, refl, arith, length, length-append}
 use Rattle.std.specs.FinMap.Entries.{is_sorted-put}
-use Rattle.cell_core.specs.Maps.{IsMap}
+use Rattle.cell_core.specs.Keyed.{IsMap}
 use Rattle.cell_core.specs.Chunks.{all_of}
 use Rattle.cell_core.proofs.PlaceLemmas.{push_as_put}
 use Rattle.cell_core.proofs.chunks.append.Goals as goal

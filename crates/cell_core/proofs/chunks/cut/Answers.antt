@@ -2,7 +2,7 @@ use Rattle.std.proofs.Common.{◌≡◌, ◌/◌, ◌<◌, ◌++◌, Vec, Global
 use Rattle.std.proofs.Common.{sym, ap, ◌∙◌, subst, add-one, take-append-drop}
 use Rattle.std.specs.List.{insert}
 use Rattle.std.proofs.lemmas.List.{get_or_default}
-use Rattle.cell_core.specs.Maps.{IsMap}
+use Rattle.cell_core.specs.Keyed.{IsMap}
 use Rattle.cell_core.specs.Chunks.{all_of, AllFilled}
 use Rattle.cell_core.proofs.ChunkLemmas.{all_of-cut, filled-cut}
 use Rattle.cell_core.proofs.chunks.cut.Goals as goal

@@ -1,7 +1,7 @@
 use Rattle.std.proofs.Common.{◌≡◌, Vec, Global, length, arith, sym, ap, ◌∙◌, subst}
 use Rattle.std.specs.Option.{IsSome}
 use Rattle.std.specs.FinMap.Entries.{find, put}
-use Rattle.cell_core.specs.Maps.{IsMap}
+use Rattle.cell_core.specs.Keyed.{IsMap}
 use Rattle.cell_core.specs.Chunks.{all_of, IsChunked, IsChunkFor}
 use Rattle.cell_core.proofs.ChunkLemmas.{chunk_map, chunked_put, chunked_same, find-chunk}
 use Rattle.cell_core.proofs.RunLemmas.{length_with}

@@ -1,7 +1,7 @@
 use Rattle.std.proofs.Common.{◌≡◌, ◌≤◌, length, take, drop, arith, sym, ap, ◌∙◌, subst}
 use Rattle.std.specs.FinMap.Entries.{find}
 use Rattle.std.proofs.lemmas.List.{take_all}
-use Rattle.cell_core.specs.Maps.{BetweenAtKeys}
+use Rattle.cell_core.specs.Keyed.{BetweenAtKeys}
 use Rattle.cell_core.specs.Missing.{AllGaps, IsCommonJoined, or_other, pairs_of}
 use Rattle.cell_core.proofs.Basics.{on_err_always}
 use Rattle.cell_core.proofs.CommonLemmas.{stopped_between}

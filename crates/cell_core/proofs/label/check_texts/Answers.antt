@@ -1,6 +1,6 @@
 use Rattle.std.proofs.Common.{sym, ◌∙◌, arith}
 use Rattle.std.specs.String.{string_bytes}
-use Rattle.cell_core.specs.Labels.{texts_of, is_too_long}
+use Rattle.cell_core.specs.Label.{texts_of, is_too_long}
 use Rattle.cell_core.proofs.LabelLemmas.{position-map, length-texts_of, all_short}
 use Rattle.cell_core.proofs.label.check_texts.Goals as goal
 

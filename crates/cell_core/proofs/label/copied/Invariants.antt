@@ -1,5 +1,5 @@
 use Rattle.std.proofs.Common.{◌≡◌, take}
-use Rattle.cell_core.specs.Labels.{texts_of}
+use Rattle.cell_core.specs.Label.{texts_of}
 use Rattle.cell_core.proofs.label.copied.Given as goal
 
 abbrev pub invariant-loop-text : goal.invariant-loop-text

@@ -1,5 +1,5 @@
 use Rattle.std.proofs.Common.{◌≡◌, map, take}
-use Rattle.cell_core.specs.Labels.{texts_of}
+use Rattle.cell_core.specs.Label.{texts_of}
 use Rattle.command_core.proofs.parsing.owned.Given as goal
 
 -- each text so far is that of its word

@@ -1,4 +1,4 @@
-use Rattle.lang_core.proofs.LangLaws.{none_no_tag}
+use Rattle.lang_core.proofs.LangLemmas.{none_no_tag}
 use Rattle.lang_core.proofs.laws.none_is_no_tag.Goals as goal
 
 pub returns : goal.returns

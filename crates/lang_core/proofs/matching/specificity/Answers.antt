@@ -1,7 +1,7 @@
 use Rattle.std.proofs.Common.{arith, inl, ◌≡◌, ◌≤◌, ◌+◌, length, ap, ◌∙◌}
 use Rattle.lang_core.specs.Text.{pieces}
 use Rattle.lang_core.specs.Pieces.{pieces_left}
-use Rattle.lang_core.proofs.PiecesLaws.{few_pieces}
+use Rattle.lang_core.proofs.PiecesLemmas.{few_pieces}
 use Rattle.lang_core.proofs.matching.specificity.Goals as goal
 
 pub count-requires-clause-fits : goal.count-requires-clause-fits

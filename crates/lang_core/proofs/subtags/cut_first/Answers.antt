@@ -1,6 +1,6 @@
 use Rattle.std.proofs.Common.{arith, ◌≡◌, ◌∙◌, take}
 use Rattle.std.proofs.lemmas.Str.{IsCharBoundary-before_ascii, IsCharBoundary-after_ascii}
-use Rattle.lang_core.proofs.PiecesLaws.{separator_is, whole_of, cut_of}
+use Rattle.lang_core.proofs.PiecesLemmas.{separator_is, whole_of, cut_of}
 use Rattle.lang_core.proofs.subtags.cut_first.Goals as goal
 
 pub range-requires-clause-end_boundary : goal.range-requires-clause-end_boundary

@@ -1,7 +1,7 @@
 use Rattle.std.proofs.Common.{◌≡◌, arith, take, get_or, ◌∙◌}
 use Rattle.std.proofs.lemmas.Str.{IsCharBoundary-after_ascii}
-use Rattle.lang_core.proofs.CandidateLaws.{pieces_last}
-use Rattle.lang_core.proofs.PiecesLaws.{pieces_no_hyphen}
+use Rattle.lang_core.proofs.CandidateLemmas.{pieces_last}
+use Rattle.lang_core.proofs.PiecesLemmas.{pieces_no_hyphen}
 use Rattle.lang_core.proofs.truncations.cut_last.Goals as goal
 
 pub range_from-requires : goal.range_from-requires

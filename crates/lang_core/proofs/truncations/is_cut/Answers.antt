@@ -3,8 +3,8 @@ use Rattle.std.specs.Prelude.{◌||◌}
 use Rattle.lang_core.specs.Grammar.{is_star}
 use Rattle.lang_core.specs.Text.{pieces}
 use Rattle.lang_core.specs.Candidates.{is_cut, is_single}
-use Rattle.lang_core.proofs.CandidateLaws.{is_cut_one, is_cut_push}
-use Rattle.lang_core.proofs.PiecesLaws.{some_pieces}
+use Rattle.lang_core.proofs.CandidateLemmas.{is_cut_one, is_cut_push}
+use Rattle.lang_core.proofs.PiecesLemmas.{some_pieces}
 use Rattle.lang_core.proofs.truncations.is_cut.Goals as goal
 
 pub returns-in-Some : goal.returns-in-Some

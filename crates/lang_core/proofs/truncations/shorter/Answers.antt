@@ -1,7 +1,7 @@
 use Rattle.std.proofs.Common.{rules, ap, ◌∙◌}
 use Rattle.lang_core.specs.Candidates.{truncated}
-use Rattle.lang_core.proofs.CandidateLaws.{truncated_one, truncated_stands, truncated_skips}
-use Rattle.lang_core.proofs.PiecesLaws.{some_pieces}
+use Rattle.lang_core.proofs.CandidateLemmas.{truncated_one, truncated_stands, truncated_skips}
+use Rattle.lang_core.proofs.PiecesLemmas.{some_pieces}
 use Rattle.lang_core.proofs.truncations.shorter.Goals as goal
 
 pub returns-then-not-is_cut : goal.returns-then-not-is_cut

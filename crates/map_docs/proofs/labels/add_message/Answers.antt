@@ -1,5 +1,5 @@
 use Rattle.std.proofs.Common.{◌∙◌, ◌++◌, List, ℕ, ap, string_bytes, subst, sym}
-use Rattle.cell_core.specs.Maps.{IsMap}
+use Rattle.cell_core.specs.Keyed.{IsMap}
 use Rattle.cata_core.specs.Entries.{key_cmp}
 use Rattle.cata_core.specs.Flat.{under}
 use Rattle.map_docs.specs.LangMapRowsSeen.{keys_in_seen, keys_seen, live}

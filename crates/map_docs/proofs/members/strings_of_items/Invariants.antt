@@ -1,6 +1,6 @@
 use Rattle.std.proofs.Common.{◌≡◌, map, take, true}
 use Rattle.std.specs.List.{filter_map, list_all}
-use Rattle.cell_core.specs.Labels.{texts_of}
+use Rattle.cell_core.specs.Label.{texts_of}
 use Rattle.serde_json.specs.Find.{as_str}
 use Rattle.json_docs.specs.Reads.{seen}
 use Rattle.map_docs.specs.LangMapRows.{is_string_or_null}

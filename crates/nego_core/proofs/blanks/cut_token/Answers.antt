@@ -1,5 +1,5 @@
 use Rattle.std.proofs.Common.{sym, ◌∙◌}
-use Rattle.nego_core.proofs.BlanksLaws.{cut_at, cut_whole}
+use Rattle.nego_core.proofs.BlanksLemmas.{cut_at, cut_whole}
 use Rattle.nego_core.proofs.blanks.cut_token.Goals as goal
 
 pub returns-in-Some : goal.returns-in-Some

@@ -2,7 +2,7 @@ use Rattle.std.proofs.Common.{rules, ℕ, ◌≡◌, ◌-◌, ◌∙◌, refl, s
 use Rattle.std.specs.Prelude.{replicate}
 use Rattle.nego_core.specs.Chains.{AreLinksFrom}
 use Rattle.nego_core.proofs.Basics.{same_default}
-use Rattle.nego_core.proofs.ChainsLaws.{none_linked, link_more}
+use Rattle.nego_core.proofs.ChainsLemmas.{none_linked, link_more}
 use Rattle.nego_core.proofs.chains.link_chains.Goals as goal
 
 pub loop-place-preserved : goal.loop-place-preserved

@@ -2,7 +2,7 @@ use Rattle.std.proofs.Common.{List, ℕ, subst}
 use Rattle.lang_core.specs.Text.{pieces}
 use Rattle.nego_core.specs.Chains.{MayStandIn}
 use Rattle.nego_core.proofs.Basics.{stands_at}
-use Rattle.nego_core.proofs.ChainsLaws.{push_number}
+use Rattle.nego_core.proofs.ChainsLemmas.{push_number}
 use Rattle.nego_core.proofs.chains.numbers_of.Goals as goal
 
 pub loop-item-preserved : goal.loop-item-preserved

@@ -2,7 +2,7 @@ use Rattle.std.proofs.Common.{sym, ◌∙◌, arith}
 use Rattle.lang_core.specs.Text.{pieces}
 use Rattle.lang_core.specs.Subtags.{subtags_left}
 use Rattle.nego_core.proofs.Basics.{not_true}
-use Rattle.nego_core.proofs.ChainsLaws.{among_later, may_stand}
+use Rattle.nego_core.proofs.ChainsLemmas.{among_later, may_stand}
 use Rattle.nego_core.proofs.chains.shortest_for.Goals as goal
 
 pub loop-subtag-preserved-then-ne : goal.loop-subtag-preserved-then-ne

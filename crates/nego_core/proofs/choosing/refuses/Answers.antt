@@ -1,6 +1,6 @@
 use Rattle.nego_core.specs.Deciding.{RefusesLang}
 use Rattle.nego_core.specs.declared.scheme.Scheme.TheVariants as scheme
-use Rattle.nego_core.proofs.ChoosingLaws.{none_refused}
+use Rattle.nego_core.proofs.ChoosingLemmas.{none_refused}
 use Rattle.nego_core.proofs.NothingRefused.{no_lang_refused}
 use Rattle.nego_core.proofs.choosing.refuses.Goals as goal
 

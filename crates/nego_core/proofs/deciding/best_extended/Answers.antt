@@ -7,7 +7,7 @@ use Rattle.std.specs.Prelude.{Contains}
 use Rattle.lang_core.specs.Text.{pieces}
 use Rattle.lang_core.specs.Matching.{Extended}
 use Rattle.nego_core.specs.Deciding.{IsBest}
-use Rattle.nego_core.proofs.ChainsLaws.{FitsAmong, before_last, last_asked, one_asked, all_asked}
+use Rattle.nego_core.proofs.ChainsLemmas.{FitsAmong, before_last, last_asked, one_asked, all_asked}
 use Rattle.nego_core.proofs.deciding.best_extended.Goals as goal
 
 pub loop-chain-init : goal.loop-chain-init

@@ -3,7 +3,7 @@ use Rattle.lang_core.specs.Text.{pieces}
 use Rattle.lang_core.specs.Matching.{Extended}
 use Rattle.nego_core.specs.Deciding.{IsBest}
 use Rattle.nego_core.specs.Chains.{AreLinked}
-use Rattle.nego_core.proofs.ChainsLaws.{FitsAmong}
+use Rattle.nego_core.proofs.ChainsLemmas.{FitsAmong}
 use Rattle.nego_core.proofs.deciding.best_extended.Given as goal
 
 abbrev pub invariant-loop-chain : goal.invariant-loop-chain

@@ -2,7 +2,7 @@ use Rattle.std.proofs.Common.{◌≡◌, List, ℕ, get_or, subst, sym, ◌∙�
 use Rattle.lang_core.specs.Text.{pieces}
 use Rattle.lang_core.specs.Matching.{Extended}
 use Rattle.nego_core.proofs.Basics.{stands_at, same_default, false_true}
-use Rattle.nego_core.proofs.ChainsLaws.{asked_better, asked_passed, asked_whole}
+use Rattle.nego_core.proofs.ChainsLemmas.{asked_better, asked_passed, asked_whole}
 use Rattle.nego_core.proofs.deciding.best_in.Goals as goal
 use Rattle.nego_core.proofs.deciding.best_in.Goals.{then-is_above+then-matches_extended}
 use Rattle.nego_core.proofs.deciding.best_in.Goals.{else-is_above}

@@ -2,7 +2,7 @@ use Rattle.std.proofs.Common.{ℕ, List, length, ◌-◌}
 use Rattle.lang_core.specs.Text.{pieces}
 use Rattle.lang_core.specs.Matching.{Extended}
 use Rattle.nego_core.specs.Chains.{AreLinked}
-use Rattle.nego_core.proofs.ChainsLaws.{IsAskedTo}
+use Rattle.nego_core.proofs.ChainsLemmas.{IsAskedTo}
 use Rattle.nego_core.proofs.deciding.best_in.Given as goal
 
 abbrev pub invariant-loop-place : goal.invariant-loop-place

@@ -1,6 +1,6 @@
 use Rattle.lang_core.specs.Text.{pieces}
 use Rattle.nego_core.specs.Deciding.{IsBest, Matches}
-use Rattle.nego_core.proofs.MostSpecificLaws.{Before}
+use Rattle.nego_core.proofs.MostSpecificLemmas.{Before}
 use Rattle.nego_core.proofs.deciding.best_of.Given as goal
 
 abbrev pub invariant-loop-place : goal.invariant-loop-place

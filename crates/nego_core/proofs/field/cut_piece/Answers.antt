@@ -1,5 +1,5 @@
 use Rattle.std.proofs.Common.{inl, inr, refl, sym, ◌∙◌}
-use Rattle.lang_core.proofs.PiecesLaws.{pieces_cut, pieces_whole}
+use Rattle.lang_core.proofs.PiecesLemmas.{pieces_cut, pieces_whole}
 use Rattle.nego_core.proofs.field.cut_piece.Goals as goal
 
 pub returns-in-Some : goal.returns-in-Some

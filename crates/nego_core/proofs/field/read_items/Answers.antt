@@ -2,10 +2,10 @@ use Rattle.std.proofs.Common.{rules, ◌≡◌, ◌<◌, ◌-◌, ◌++◌, leng
 use Rattle.nego_core.specs.Element.{BeginsOverlong}
 use Rattle.nego_core.specs.Field.{HasElement, RefusesField, IsFirstPiece}
 use Rattle.nego_core.specs.declared.fault.NegoFault.TheVariants.{FieldMalformed}
-use Rattle.nego_core.proofs.SeparatorLaws.{BeginsElement, walked_from, begins_element, element_read}
-use Rattle.nego_core.proofs.SeparatorLaws.{element_refused, overlong_refused, element_passed}
-use Rattle.nego_core.proofs.SeparatorLaws.{element_fits, cut_shorter, no_more, rest_fits}
-use Rattle.nego_core.proofs.SeparatorLaws.{walked_to_end}
+use Rattle.nego_core.proofs.SeparatorLemmas.{BeginsElement, walked_from, begins_element, element_read}
+use Rattle.nego_core.proofs.SeparatorLemmas.{element_refused, overlong_refused, element_passed}
+use Rattle.nego_core.proofs.SeparatorLemmas.{element_fits, cut_shorter, no_more, rest_fits}
+use Rattle.nego_core.proofs.SeparatorLemmas.{walked_to_end}
 use Rattle.nego_core.proofs.FieldWalk.{no_bytes}
 use Rattle.nego_core.proofs.RangeEndLemmas.{end_overlong, piece_begun, whole_piece}
 use Rattle.nego_core.proofs.field.read_items.Goals.{in-Some+in_ok-push_item-in-Some}

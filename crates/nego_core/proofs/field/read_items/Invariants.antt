@@ -1,5 +1,5 @@
 use Rattle.std.proofs.Common.{◌≤◌, length}
-use Rattle.nego_core.proofs.SeparatorLaws.{BeginsElement, IsWalkedTo}
+use Rattle.nego_core.proofs.SeparatorLemmas.{BeginsElement, IsWalkedTo}
 use Rattle.nego_core.proofs.field.read_items.Given as goal
 
 abbrev pub invariant-loop-rest : goal.invariant-loop-rest

@@ -1,6 +1,6 @@
 use Rattle.std.proofs.Common.{ℕ, List, ◌∙◌, ap}
 use Rattle.std.specs.Prelude.{slice_index}
-use Rattle.nego_core.proofs.FirstByteLaws.{first_is_hyphen, first_is_other}
+use Rattle.nego_core.proofs.FirstByteLemmas.{first_is_hyphen, first_is_other}
 use Rattle.nego_core.proofs.fingerprint.first_byte.Goals as goal
 
 pub returns-then-first-eq45 : goal.returns-then-first-eq45

@@ -1,4 +1,4 @@
-use Rattle.nego_core.proofs.OrderedTextLaws.{head_read}
+use Rattle.nego_core.proofs.OrderedTextLemmas.{head_read}
 use Rattle.nego_core.proofs.fingerprint.head_of.Goals as goal
 
 pub returns : goal.returns

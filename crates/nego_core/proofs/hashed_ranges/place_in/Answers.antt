@@ -1,6 +1,6 @@
 use Rattle.std.proofs.Common.{sym, ◌∙◌, arith, length}
 use Rattle.nego_core.proofs.Basics.{same_default}
-use Rattle.nego_core.proofs.IndexLaws.{found_here, none_of_all}
+use Rattle.nego_core.proofs.IndexLemmas.{found_here, none_of_all}
 use Rattle.nego_core.proofs.HashedRangesLemmas.{sought_first, sought_next, as_many_numbers}
 use Rattle.nego_core.proofs.hashed_ranges.place_in.Goals as goal
 

@@ -1,5 +1,5 @@
 use Rattle.std.proofs.Common.{sym, ◌∙◌}
-use Rattle.nego_core.proofs.IndexLaws.{found_here, none_here, none_of_all}
+use Rattle.nego_core.proofs.IndexLemmas.{found_here, none_here, none_of_all}
 use Rattle.nego_core.proofs.index.first_place.Goals as goal
 
 pub returns-then-is_range : goal.returns-then-is_range

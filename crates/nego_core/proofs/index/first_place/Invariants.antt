@@ -1,4 +1,4 @@
-use Rattle.nego_core.proofs.IndexLaws.{NoneBefore}
+use Rattle.nego_core.proofs.IndexLemmas.{NoneBefore}
 use Rattle.nego_core.proofs.index.first_place.Given as goal
 
 abbrev pub invariant-loop-place : goal.invariant-loop-place

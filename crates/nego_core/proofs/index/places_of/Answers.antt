@@ -1,6 +1,6 @@
 use Rattle.nego_core.specs.Index.{IsRangeIndex}
 use Rattle.nego_core.proofs.Basics.{if_ok}
-use Rattle.nego_core.proofs.IndexLaws.{index_made}
+use Rattle.nego_core.proofs.IndexLemmas.{index_made}
 use Rattle.nego_core.proofs.index.places_of.Goals as goal
 
 pub returns : goal.returns

@@ -1,5 +1,5 @@
 use Rattle.std.proofs.Common.{arith, sym, ◌∙◌}
-use Rattle.nego_core.proofs.IndexLaws.{seat_above, seat_below}
+use Rattle.nego_core.proofs.IndexLemmas.{seat_above, seat_below}
 use Rattle.nego_core.proofs.index.seat_of.Goals as goal
 
 pub loop-low-preserved-then-is_below : goal.loop-low-preserved-then-is_below

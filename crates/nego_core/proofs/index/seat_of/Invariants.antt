@@ -1,5 +1,5 @@
 use Rattle.std.proofs.Common.{◌-◌}
-use Rattle.nego_core.proofs.IndexLaws.{IsSeatWithin}
+use Rattle.nego_core.proofs.IndexLemmas.{IsSeatWithin}
 use Rattle.nego_core.proofs.index.seat_of.Given as goal
 
 abbrev pub invariant-loop-low : goal.invariant-loop-low

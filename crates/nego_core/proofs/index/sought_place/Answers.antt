@@ -1,7 +1,7 @@
 use Rattle.std.proofs.Common.{◌≡◌, sym, ◌∙◌, arith}
 use Rattle.std.proofs.lemmas.Slice.Eq.{bytes_eq-Decides}
 use Rattle.nego_core.proofs.Basics.{stands_at}
-use Rattle.nego_core.proofs.IndexLaws.{differs, none_found, other_found, one_found, text_stands}
+use Rattle.nego_core.proofs.IndexLemmas.{differs, none_found, other_found, one_found, text_stands}
 use Rattle.nego_core.proofs.index.sought_place.Goals as goal
 
 pub returns-then-seat-places : goal.returns-then-seat-places

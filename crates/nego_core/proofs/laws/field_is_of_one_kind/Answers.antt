@@ -1,4 +1,4 @@
-use Rattle.nego_core.proofs.FieldLaws.{one_kind}
+use Rattle.nego_core.proofs.FieldLemmas.{one_kind}
 use Rattle.nego_core.proofs.laws.field_is_of_one_kind.Goals as goal
 
 pub returns : goal.returns

@@ -1,4 +1,4 @@
-use Rattle.nego_core.proofs.LenientLaws.{of_elements}
+use Rattle.nego_core.proofs.LenientLemmas.{of_elements}
 use Rattle.nego_core.proofs.laws.items_are_of_elements.Goals as goal
 
 pub returns : goal.returns

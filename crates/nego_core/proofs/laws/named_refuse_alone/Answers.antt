@@ -1,4 +1,4 @@
-use Rattle.nego_core.proofs.NamedLaws.{named_refuse}
+use Rattle.nego_core.proofs.NamedLemmas.{named_refuse}
 use Rattle.nego_core.proofs.laws.named_refuse_alone.Goals as goal
 
 pub returns : goal.returns

@@ -1,4 +1,4 @@
-use Rattle.nego_core.proofs.FilteringLaws.{one_filtered}
+use Rattle.nego_core.proofs.FilteringLemmas.{one_filtered}
 use Rattle.nego_core.proofs.laws.one_filtered.Goals as goal
 
 pub returns : goal.returns

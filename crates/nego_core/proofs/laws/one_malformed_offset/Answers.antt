@@ -1,4 +1,4 @@
-use Rattle.nego_core.proofs.FieldLaws.{one_malformed}
+use Rattle.nego_core.proofs.FieldLemmas.{one_malformed}
 use Rattle.nego_core.proofs.laws.one_malformed_offset.Goals as goal
 
 pub returns : goal.returns

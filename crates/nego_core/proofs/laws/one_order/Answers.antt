@@ -1,4 +1,4 @@
-use Rattle.nego_core.proofs.LookupOrderLaws.{one_order_of}
+use Rattle.nego_core.proofs.LookupOrderLemmas.{one_order_of}
 use Rattle.nego_core.proofs.laws.one_order.Goals as goal
 
 pub returns : goal.returns

@@ -1,5 +1,5 @@
 use Rattle.nego_core.specs.LookupCandidates.{IsOpen}
-use Rattle.nego_core.proofs.LookupCandidatesLaws.{no_candidates, item_candidates}
+use Rattle.nego_core.proofs.LookupCandidatesLemmas.{no_candidates, item_candidates}
 use Rattle.nego_core.proofs.lookup_candidates.first_at.Goals as goal
 
 pub returns-then-place-items : goal.returns-then-place-items

@@ -1,5 +1,5 @@
-use Rattle.nego_core.proofs.ChoosingLaws.{open_held, closed}
-use Rattle.nego_core.proofs.LookupCandidatesLaws.{held_text}
+use Rattle.nego_core.proofs.ChoosingLemmas.{open_held, closed}
+use Rattle.nego_core.proofs.LookupCandidatesLemmas.{held_text}
 use Rattle.nego_core.specs.Deciding.{NamedRefuse}
 use Rattle.lang_core.specs.Text.{pieces}
 use Rattle.nego_core.proofs.lookup_candidates.is_open.Goals as goal

@@ -2,7 +2,7 @@ use Rattle.std.proofs.Common.{Some, None}
 use Rattle.lang_core.specs.Text.{pieces}
 use Rattle.nego_core.specs.LookupCandidates.{IsOpen}
 use Rattle.nego_core.specs.declared.lookup_order.OrderKey.{OrderKey}
-use Rattle.nego_core.proofs.LookupCandidatesLaws.{key_found, key_passed, keys_over, looked_up}
+use Rattle.nego_core.proofs.LookupCandidatesLemmas.{key_found, key_passed, keys_over, looked_up}
 use Rattle.nego_core.proofs.lookup_candidates.look_up.Goals as goal
 
 abbrev zero : OrderKey

@@ -1,4 +1,4 @@
-use Rattle.nego_core.proofs.LookupCandidatesLaws.{named_refused}
+use Rattle.nego_core.proofs.LookupCandidatesLemmas.{named_refused}
 use Rattle.nego_core.proofs.lookup_candidates.named_refuse.Goals as goal
 
 pub returns-in-Some : goal.returns-in-Some

@@ -1,5 +1,5 @@
 use Rattle.std.proofs.Common.{sym}
-use Rattle.nego_core.proofs.LookupPlacesLaws.{has_place}
+use Rattle.nego_core.proofs.LookupPlacesLemmas.{has_place}
 use Rattle.nego_core.proofs.lookup_places.held_place.Goals as goal
 
 pub unreachable-requires : goal.unreachable-requires

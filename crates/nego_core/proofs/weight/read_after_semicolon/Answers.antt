@@ -1,4 +1,4 @@
-use Rattle.nego_core.proofs.WeightLaws.{semicolon_of_named}
+use Rattle.nego_core.proofs.WeightLemmas.{semicolon_of_named}
 use Rattle.nego_core.proofs.weight.read_after_semicolon.Goals as goal
 
 pub returns-clause-only : goal.returns-clause-only

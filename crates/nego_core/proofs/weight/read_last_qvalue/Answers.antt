@@ -1,5 +1,5 @@
 use Rattle.std.proofs.Common.{rules}
-use Rattle.nego_core.proofs.WeightLaws.{last_of_qvalue, not_last}
+use Rattle.nego_core.proofs.WeightLemmas.{last_of_qvalue, not_last}
 use Rattle.nego_core.proofs.weight.read_last_qvalue.Goals as goal
 
 pub returns-then-not-all_blanks-clause-only : goal.returns-then-not-all_blanks-clause-only

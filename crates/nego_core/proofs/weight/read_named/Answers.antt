@@ -1,5 +1,5 @@
 use Rattle.std.proofs.Common.{rules, arith}
-use Rattle.nego_core.proofs.WeightLaws.{named_from}
+use Rattle.nego_core.proofs.WeightLemmas.{named_from}
 use Rattle.nego_core.proofs.weight.read_named.Goals as goal
 
 pub returns-in-113-clause-only : goal.returns-in-113-clause-only

@@ -1,5 +1,5 @@
 use Rattle.std.proofs.Common.{rules}
-use Rattle.nego_core.proofs.WeightLaws.{no_weight, other_byte, semicolon}
+use Rattle.nego_core.proofs.WeightLemmas.{no_weight, other_byte, semicolon}
 use Rattle.nego_core.proofs.weight.read_weight.Goals as goal
 
 pub returns-in-empty-clause-only : goal.returns-in-empty-clause-only

@@ -1,6 +1,6 @@
 use Rattle.std.proofs.Common.{sym}
 use Rattle.std.specs.Prelude.{map}
-use Rattle.nego_core.proofs.LookupPlacesLaws.{has_place}
+use Rattle.nego_core.proofs.LookupPlacesLemmas.{has_place}
 use Rattle.nego_core.proofs.widening.listed_place.Goals as goal
 
 pub unreachable-requires : goal.unreachable-requires

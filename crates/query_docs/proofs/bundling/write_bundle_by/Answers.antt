@@ -1,9 +1,9 @@
 use Rattle.std.proofs.Common.{◌∙◌, ap, subst, sym}
 use Rattle.std.specs.Prelude.{List, None, option_map}
 use Rattle.nego_core.specs.Filtering.{texts_of}
-use Rattle.cata_core.specs.LentAnswers.{reply_of}
+use Rattle.cata_core.specs.Reply.{reply_of}
 use Rattle.cata_core.specs.LiveMessages.{LiveMessage}
-use Rattle.cata_core.specs.MessagesLeft.{messages_left}
+use Rattle.cata_core.specs.Messages.{messages_left}
 use Rattle.map_docs.proofs.WritingLemmas.{found_last, some_borrowed}
 use Rattle.query_docs.proofs.BundledLemmas.{AreLive, IsBundling, are_live, bundling_first}
 use Rattle.query_docs.proofs.BundledLemmas.{bundling_found, bundling_last, bundling_passed}

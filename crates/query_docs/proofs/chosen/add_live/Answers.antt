@@ -1,5 +1,5 @@
 use Rattle.std.proofs.Common.{◌∙◌, ◌++◌, [], ◌∷◌, List, ap, append_assoc, cond, subst, sym}
-use Rattle.cata_core.specs.CellsLeft.{cells_left}
+use Rattle.cata_core.specs.Cells.{cells_left}
 use Rattle.cata_core.specs.Entries.{Entries, Entry}
 use Rattle.cata_core.proofs.Basics.{append_nil}
 use Rattle.map_docs.specs.LangMaps.{Labelled}

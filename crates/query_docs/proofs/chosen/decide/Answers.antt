@@ -1,6 +1,6 @@
 use Rattle.std.proofs.Common.{◌∙◌, ap, subst, sym}
 use Rattle.cata_core.proofs.Basics.{tied}
-use Rattle.cata_core.proofs.NestedCatalogues.{text_exact}
+use Rattle.cata_core.proofs.NestedCataloguesLemmas.{text_exact}
 use Rattle.query_docs.specs.Chosen.{IsDecided, is_chosen}
 use Rattle.query_docs.proofs.chosen.decide.Goals as goal
 

@@ -1,6 +1,6 @@
 use Rattle.std.proofs.Common.{◌∙◌, Some, ap, sym}
 use Rattle.cata_core.proofs.Basics.{tied}
-use Rattle.cata_core.proofs.NestedCatalogues.{text_exact}
+use Rattle.cata_core.proofs.NestedCataloguesLemmas.{text_exact}
 use Rattle.query_docs.proofs.draft.with_open.Goals as goal
 
 pub returns-in-Some : goal.returns-in-Some

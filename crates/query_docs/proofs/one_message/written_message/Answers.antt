@@ -1,6 +1,6 @@
 use Rattle.std.proofs.Common.{◌∙◌, ap}
 use Rattle.cata_core.specs.Live.{live}
-use Rattle.cata_core.specs.Sites.{SiteState}
+use Rattle.cata_core.specs.Site.{SiteState}
 use Rattle.query_docs.proofs.OneMessageLemmas.{kept_live}
 use Rattle.query_docs.proofs.one_message.written_message.Goals as goal
 

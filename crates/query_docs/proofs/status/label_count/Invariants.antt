@@ -1,5 +1,5 @@
 use Rattle.std.proofs.Common.{◌≡◌, ◌+◌, count_by}
-use Rattle.cata_core.specs.CellsLeft.{cells_left}
+use Rattle.cata_core.specs.Cells.{cells_left}
 use Rattle.query_docs.specs.Status.{is_labelled}
 use Rattle.query_docs.proofs.status.label_count.Given as goal
 

@@ -1,6 +1,6 @@
 use Rattle.std.proofs.Common.{◌≡◌, [], ◌∷◌, subst}
 use Rattle.std.specs.Prelude.{OnOk, IfErr, IsOk}
-use Rattle.cata_core.specs.CataFaults.{IsRefusal}
+use Rattle.cata_core.specs.CataFault.{IsRefusal}
 use Rattle.cata_core.specs.Entries.{Entry, joined}
 use Rattle.cata_core.specs.Settled.{IsSettledIn}
 use Rattle.cata_core.proofs.catalogue.Catalogue.apply.Goals as goal

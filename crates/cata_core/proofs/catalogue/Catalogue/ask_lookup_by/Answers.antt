@@ -1,7 +1,7 @@
 use Rattle.std.proofs.Common.{subst}
 use Rattle.std.specs.Option.{option_map}
 use Rattle.cata_core.specs.Asking.{IsLookedUpBy}
-use Rattle.cata_core.specs.LentAnswers.{reply_of}
+use Rattle.cata_core.specs.Reply.{reply_of}
 use Rattle.cata_core.specs.Live.{Labelled}
 use Rattle.cata_core.proofs.catalogue.Catalogue.ask_lookup_by.Goals as goal
 

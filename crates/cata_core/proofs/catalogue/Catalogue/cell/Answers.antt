@@ -3,7 +3,7 @@ use Rattle.std.specs.FinMap.Entries.{find}
 use Rattle.std.specs.Cmp.Lexicographic.{nat_list_cmp_total}
 use Rattle.cata_core.specs.Flat.{found_in}
 use Rattle.cata_core.specs.Entries.{EntryKey, text_cmp, key_cmp}
-use Rattle.cata_core.proofs.Flat.{find-flat}
+use Rattle.cata_core.proofs.FlatLemmas.{find-flat}
 use Rattle.cata_core.proofs.catalogue.Catalogue.cell.Goals as goal
 
 pub returns-in-Some : goal.returns-in-Some

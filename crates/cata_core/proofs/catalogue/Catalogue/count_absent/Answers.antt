@@ -1,8 +1,8 @@
 use Rattle.std.proofs.Common.{◌≡◌, ◌+◌, not, cond, length, ◌∙◌, ap, subst, arith}
-use Rattle.cata_core.specs.CellsLeft.{cells_left}
+use Rattle.cata_core.specs.Cells.{cells_left}
 use Rattle.cata_core.specs.Counts.{count_absent}
 use Rattle.cata_core.specs.Entries.{Entry, Entries}
-use Rattle.cata_core.proofs.JoinedCounts.{absent_next}
+use Rattle.cata_core.proofs.JoinedCountsLemmas.{absent_next}
 use Rattle.cata_core.proofs.catalogue.Catalogue.count_absent.Goals as goal
 
 pub loop-id-preserved-then-is_some : goal.loop-id-preserved-then-is_some

@@ -1,5 +1,5 @@
 use Rattle.std.proofs.Common.{◌≡◌, ◌+◌, ◌≤◌, length}
-use Rattle.cata_core.specs.CellsLeft.{cells_left}
+use Rattle.cata_core.specs.Cells.{cells_left}
 use Rattle.cata_core.specs.Counts.{count_absent}
 use Rattle.cata_core.proofs.catalogue.Catalogue.count_absent.Given as goal
 

@@ -2,10 +2,10 @@ use Rattle.std.specs.Prelude.{slice_get}
 use Rattle.std.proofs.Common.{◌-◌, length, sym, ap, ◌∙◌, subst}
 use Rattle.std.specs.Prelude.{◌↔◌, IsTrue, Bool}
 use Rattle.std.specs.Ordering.{is_lt, ordering_then}
-use Rattle.cell_core.specs.Maps.{IsMap}
+use Rattle.cell_core.specs.Keyed.{IsMap}
 use Rattle.cata_core.specs.Entries.{EntryKey, key_cmp, Entries, IsAboveAll}
-use Rattle.cata_core.proofs.LastKeys.{above_last, above_none}
-use Rattle.cata_core.proofs.NestedCatalogues.{IsMap-catalogue}
+use Rattle.cata_core.proofs.LastKeysLemmas.{above_last, above_none}
+use Rattle.cata_core.proofs.NestedCataloguesLemmas.{IsMap-catalogue}
 use Rattle.cata_core.proofs.catalogue.Catalogue.is_above_all.Goals as goal
 
 pub returns-in-Some : goal.returns-in-Some

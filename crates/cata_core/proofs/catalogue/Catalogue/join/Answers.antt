@@ -2,8 +2,8 @@ use Rattle.std.proofs.Common.{◌≡◌, length, sym, ◌∙◌, ap, subst}
 use Rattle.cata_core.specs.Flat.{flat}
 use Rattle.cata_core.specs.Entries.{Agree, joined, Between}
 use Rattle.cata_core.specs.Nested.{IsCatalogue}
-use Rattle.cata_core.proofs.NestedCatalogues.{nested_agree, joined_catalogue, flat-joined}
-use Rattle.cata_core.proofs.NestedCatalogues.{between_catalogue, flat-between}
+use Rattle.cata_core.proofs.NestedCataloguesLemmas.{nested_agree, joined_catalogue, flat-joined}
+use Rattle.cata_core.proofs.NestedCataloguesLemmas.{between_catalogue, flat-between}
 use Rattle.cata_core.proofs.catalogue.Catalogue.join.Goals as goal
 use Rattle.cata_core.proofs.catalogue.Catalogue.join.Goals.{in-Some, in-None}
 

@@ -1,16 +1,16 @@
 use Rattle.std.proofs.Common.{◌≡◌, [], ◌∷◌, length, true, false, sym, ◌∙◌, ap, subst}
 use Rattle.std.specs.FinMap.Entries.{find}
-use Rattle.cell_core.specs.Cells.{joined_cells}
-use Rattle.cell_core.specs.Maps.{IsMap, joined_at}
+use Rattle.cell_core.specs.Cell.{joined_cells}
+use Rattle.cell_core.specs.Keyed.{IsMap, joined_at}
 use Rattle.cell_core.specs.Places.{place_of}
-use Rattle.cata_core.specs.CataFaults.{IsRefusal}
-use Rattle.cata_core.specs.CellRefusals.{IsCellRefusal, at_place}
+use Rattle.cata_core.specs.CataFault.{IsRefusal}
+use Rattle.cata_core.specs.CellRefusal.{IsCellRefusal, at_place}
 use Rattle.cata_core.specs.Entries.{key_cmp, Entry, Agree, joined}
 use Rattle.cata_core.specs.Flat.{flat}
-use Rattle.cata_core.proofs.Apply.{agree_only, joined_only}
+use Rattle.cata_core.proofs.ApplyLemmas.{agree_only, joined_only}
 use Rattle.cata_core.proofs.CellRefusalLemmas.{refused_at}
-use Rattle.cata_core.proofs.NestedCatalogues.{IsMap-catalogue}
-use Rattle.cata_core.proofs.Written.{length_written}
+use Rattle.cata_core.proofs.NestedCataloguesLemmas.{IsMap-catalogue}
+use Rattle.cata_core.proofs.WrittenLemmas.{length_written}
 use Rattle.cata_core.proofs.catalogue.Catalogue.join_cell.Goals as goal
 use Rattle.cata_core.proofs.catalogue.Catalogue.join_cell.Goals.{then-is_new, in-Some, in-None}
 use Rattle.cata_core.proofs.catalogue.Catalogue.join_cell.Goals.{else-is_new}

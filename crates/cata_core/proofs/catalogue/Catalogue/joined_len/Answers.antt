@@ -1,9 +1,9 @@
 use Rattle.std.proofs.Common.{◌+◌, length, sym, ◌∙◌, ap, subst}
-use Rattle.cell_core.specs.Maps.{IsMap}
+use Rattle.cell_core.specs.Keyed.{IsMap}
 use Rattle.cata_core.specs.Counts.{count_absent}
 use Rattle.cata_core.specs.Entries.{key_cmp, joined}
-use Rattle.cata_core.proofs.JoinedCounts.{length_joined, if_some_of}
-use Rattle.cata_core.proofs.NestedCatalogues.{IsMap-catalogue}
+use Rattle.cata_core.proofs.JoinedCountsLemmas.{length_joined, if_some_of}
+use Rattle.cata_core.proofs.NestedCataloguesLemmas.{IsMap-catalogue}
 use Rattle.cata_core.proofs.catalogue.Catalogue.joined_len.Goals as goal
 
 pub returns : goal.returns

@@ -1,7 +1,7 @@
 use Rattle.std.proofs.Common.{◌∙◌, ap}
 use Rattle.cata_core.specs.Flat.{inner_of}
 use Rattle.cata_core.specs.Live.{live_of, live}
-use Rattle.cata_core.proofs.LiveLabels.{live-flat}
+use Rattle.cata_core.proofs.LabelsLemmas.{live-flat}
 use Rattle.cata_core.proofs.catalogue.Catalogue.labels.Goals as goal
 
 pub returns : goal.returns

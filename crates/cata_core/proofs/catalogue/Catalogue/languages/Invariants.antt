@@ -1,4 +1,4 @@
-use Rattle.cata_core.specs.CellsLeft.{cells_left}
+use Rattle.cata_core.specs.Cells.{cells_left}
 use Rattle.cata_core.proofs.LanguageLemmas.{IsGathering}
 use Rattle.cata_core.proofs.catalogue.Catalogue.languages.Given as goal
 

@@ -1,7 +1,7 @@
 use Rattle.std.proofs.Common.{subst}
-use Rattle.cell_core.specs.Maps.{IsMap}
+use Rattle.cell_core.specs.Keyed.{IsMap}
 use Rattle.cata_core.specs.Entries.{key_cmp}
-use Rattle.cata_core.proofs.NestedCatalogues.{IsMap-catalogue}
+use Rattle.cata_core.proofs.NestedCataloguesLemmas.{IsMap-catalogue}
 use Rattle.cata_core.proofs.catalogue.Catalogue.len.Goals as goal
 
 pub returns-clause-sorted : goal.returns-clause-sorted

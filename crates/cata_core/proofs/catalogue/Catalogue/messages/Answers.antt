@@ -1,10 +1,10 @@
 use Rattle.std.proofs.Common.{ℕ, List, sym, subst}
-use Rattle.cell_core.specs.Maps.{IsMap}
+use Rattle.cell_core.specs.Keyed.{IsMap}
 use Rattle.cata_core.specs.Entries.{text_cmp, Entries}
 use Rattle.cata_core.specs.Live.{live}
 use Rattle.cata_core.specs.LiveMessages.{LiveMessage, AreMessages}
-use Rattle.cata_core.specs.MessagesLeft.{live_messages}
-use Rattle.cata_core.proofs.LiveMessages.{are_messages, languages_rise}
+use Rattle.cata_core.specs.Messages.{live_messages}
+use Rattle.cata_core.proofs.MessagesLemmas.{are_messages, languages_rise}
 use Rattle.cata_core.proofs.catalogue.Catalogue.messages.Goals as goal
 
 pub returns-clause-messages : goal.returns-clause-messages

@@ -1,5 +1,5 @@
 use Rattle.std.proofs.Common.{◌+◌, length, ◌∙◌, ap}
-use Rattle.cata_core.proofs.JoinedCounts.{if_some_of}
+use Rattle.cata_core.proofs.JoinedCountsLemmas.{if_some_of}
 use Rattle.cata_core.proofs.catalogue.Catalogue.next_len.Goals as goal
 
 pub returns : goal.returns

@@ -1,7 +1,7 @@
 use Rattle.std.proofs.Common.{◌+◌, [], ◌∷◌, ◌++◌, length, sym, ◌∙◌, ap, subst}
 use Rattle.cata_core.specs.Entries.{EntryKey, Entries, IsAboveAll}
 use Rattle.cata_core.specs.Flat.{flat}
-use Rattle.cata_core.proofs.Behind.{put_behind, length_behind}
+use Rattle.cata_core.proofs.BehindLemmas.{put_behind, length_behind}
 use Rattle.cata_core.proofs.catalogue.Catalogue.push.Goals as goal
 
 -- the old cells and then this one

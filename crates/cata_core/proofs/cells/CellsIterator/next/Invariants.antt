@@ -1,6 +1,6 @@
 use Rattle.std.proofs.Common.{◌≡◌, length}
-use Rattle.cell_core.specs.EntriesLeft.{entries_left}
-use Rattle.cata_core.specs.CellsLeft.{cells_left}
+use Rattle.cell_core.specs.Iter.{entries_left}
+use Rattle.cata_core.specs.Cells.{cells_left}
 use Rattle.cata_core.proofs.cells.CellsIterator.next.Given as goal
 
 abbrev pub invariant-loop-self : goal.invariant-loop-self

@@ -1,7 +1,7 @@
 use Rattle.std.proofs.Common.{◌∙◌, ap, [], ◌∷◌, ◌++◌}
 use Rattle.std.proofs.lemmas.List.{take_all}
 use Rattle.cata_core.specs.LentEntries.{weighed_of}
-use Rattle.cata_core.proofs.LentLists.{weighed_more}
+use Rattle.cata_core.proofs.LentListsLemmas.{weighed_more}
 use Rattle.cata_core.proofs.entries.LentEntries.copy.Goals as goal
 
 pub loop-lang-preserved : goal.loop-lang-preserved

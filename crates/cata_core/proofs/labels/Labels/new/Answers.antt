@@ -1,9 +1,9 @@
 use Rattle.std.proofs.Common.{sym, subst}
-use Rattle.cell_core.specs.Maps.{IsMap}
+use Rattle.cell_core.specs.Keyed.{IsMap}
 use Rattle.cata_core.specs.Entries.{text_cmp}
 use Rattle.cata_core.specs.Live.{live_of}
 use Rattle.cata_core.specs.Nested.{Inner}
-use Rattle.cata_core.proofs.LiveMessages.{live_of-IsMap}
+use Rattle.cata_core.proofs.MessagesLemmas.{live_of-IsMap}
 use Rattle.cata_core.proofs.labels.Labels.new.Goals as goal
 
 pub returns-in-Some-clause-rise : goal.returns-in-Some-clause-rise

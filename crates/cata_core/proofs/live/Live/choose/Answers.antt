@@ -3,7 +3,7 @@ use Rattle.std.specs.Option.{option_map}
 use Rattle.nego_core.specs.declared.widening.Widening.{Widening}
 use Rattle.cata_core.specs.Asking.{IsChosenBy}
 use Rattle.cata_core.specs.LiveIn.{live_in}
-use Rattle.cata_core.proofs.LiveLanguages.{chosen_by, chosen_off}
+use Rattle.cata_core.proofs.LiveLanguagesLemmas.{chosen_by, chosen_off}
 use Rattle.cata_core.proofs.live.Live.choose.Goals as goal
 
 pub returns-in-Off : goal.returns-in-Off

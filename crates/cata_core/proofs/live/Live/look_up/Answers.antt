@@ -1,7 +1,7 @@
 use Rattle.std.specs.Option.{option_map}
-use Rattle.cata_core.specs.LentAnswers.{reply_of}
+use Rattle.cata_core.specs.Reply.{reply_of}
 use Rattle.cata_core.specs.LiveIn.{live_in}
-use Rattle.cata_core.proofs.LiveLanguages.{chosen_there, replied}
+use Rattle.cata_core.proofs.LiveLanguagesLemmas.{chosen_there, replied}
 use Rattle.cata_core.proofs.live.Live.look_up.Goals as goal
 
 pub reply-requires : goal.reply-requires

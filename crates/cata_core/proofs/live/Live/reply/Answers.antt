@@ -1,7 +1,7 @@
 use Rattle.std.proofs.Common.{sym, ◌∙◌}
 use Rattle.cata_core.specs.LiveIn.{live_in}
-use Rattle.cata_core.proofs.LiveLanguages.{among_live}
-use Rattle.cata_core.proofs.Replies.{not_live}
+use Rattle.cata_core.proofs.LiveLanguagesLemmas.{among_live}
+use Rattle.cata_core.proofs.ReplyLemmas.{not_live}
 use Rattle.cata_core.proofs.live.Live.reply.Goals as goal
 
 pub unreachable-requires : goal.unreachable-requires

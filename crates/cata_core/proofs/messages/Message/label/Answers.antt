@@ -2,7 +2,7 @@ use Rattle.std.proofs.Common.{sym, ◌∙◌, ap}
 use Rattle.std.specs.FinMap.Entries.{find}
 use Rattle.cata_core.specs.Entries.{text_cmp}
 use Rattle.cata_core.specs.LiveMessages.{LiveMessage}
-use Rattle.cata_core.proofs.LiveLabels.{label_of, find-live_of}
+use Rattle.cata_core.proofs.LabelsLemmas.{label_of, find-live_of}
 use Rattle.cata_core.proofs.messages.Message.label.Goals as goal
 
 pub returns-in-Some : goal.returns-in-Some

@@ -2,7 +2,7 @@ use Rattle.std.proofs.Common.{subst, ◌∙◌, ap}
 use Rattle.std.specs.Option.{option_map}
 use Rattle.nego_core.specs.Shortlist.{AreAmong}
 use Rattle.cata_core.specs.Asking.{IsLookedUpBy}
-use Rattle.cata_core.specs.LentAnswers.{reply_of}
+use Rattle.cata_core.specs.Reply.{reply_of}
 use Rattle.cata_core.specs.Live.{Labelled, languages}
 use Rattle.cata_core.specs.LiveMessages.{LiveMessage}
 use Rattle.cata_core.proofs.messages.Message.lookup_within.Goals as goal

@@ -1,6 +1,6 @@
 use Rattle.std.proofs.Common.{◌≡◌, length}
-use Rattle.cell_core.specs.EntriesLeft.{entries_left}
-use Rattle.cata_core.specs.MessagesLeft.{messages_left}
+use Rattle.cell_core.specs.Iter.{entries_left}
+use Rattle.cata_core.specs.Messages.{messages_left}
 use Rattle.cata_core.proofs.messages.MessagesIterator.next.Given as goal
 
 abbrev pub invariant-loop-id : goal.invariant-loop-id

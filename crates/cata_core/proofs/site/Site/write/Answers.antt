@@ -1,13 +1,13 @@
 use Rattle.std.proofs.Common.{◌≡◌, [], ◌∷◌, sym, ap, ◌∙◌, subst}
 use Rattle.std.specs.FinMap.Entries.{put}
 use Rattle.std.proofs.lemmas.Result.{err_from_is_err_and}
-use Rattle.cell_core.specs.Stamps.{IsAbove}
+use Rattle.cell_core.specs.Stamp.{IsAbove}
 use Rattle.cata_core.specs.Entries.{EntryKey, key_cmp}
 use Rattle.cata_core.specs.Latest.{latest_of}
-use Rattle.cata_core.specs.Sites.{SiteState}
-use Rattle.cata_core.proofs.CataFaults.{by_memory}
-use Rattle.cata_core.proofs.LatestStamps.{latest_written}
-use Rattle.cata_core.proofs.OwnEdits.{own_agrees, own_joins}
+use Rattle.cata_core.specs.Site.{SiteState}
+use Rattle.cata_core.proofs.CataFaultLemmas.{by_memory}
+use Rattle.cata_core.proofs.LatestLemmas.{latest_written}
+use Rattle.cata_core.proofs.OwnEditsLemmas.{own_agrees, own_joins}
 use Rattle.cata_core.proofs.site.Site.write.Goals as goal
 
 pub returns-in_err-join_cell-clause-fault : goal.returns-in_err-join_cell-clause-fault

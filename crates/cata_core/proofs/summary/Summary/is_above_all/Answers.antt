@@ -4,11 +4,11 @@ use Rattle.std.specs.Ordering.{is_lt}
 use Rattle.std.specs.Option.{option_map}
 use Rattle.std.proofs.lemmas.List.{length-map}
 use Rattle.std.proofs.lemmas.Option.{slice_get-map}
-use Rattle.cell_core.specs.Maps.{IsMap}
-use Rattle.cata_core.specs.Deltas.{Stamps}
+use Rattle.cell_core.specs.Keyed.{IsMap}
+use Rattle.cata_core.specs.Delta.{Stamps}
 use Rattle.cata_core.specs.Entries.{EntryKey, key_cmp, IsAboveAll}
 use Rattle.cata_core.specs.Summary.{SummaryState, stamps_of, entry_of}
-use Rattle.cata_core.proofs.LastKeys.{above_last}
+use Rattle.cata_core.proofs.LastKeysLemmas.{above_last}
 use Rattle.cata_core.proofs.summary.Summary.is_above_all.Goals as goal
 
 pub returns-in-Some : goal.returns-in-Some

@@ -1,10 +1,10 @@
 use Rattle.std.proofs.Common.{◌≡◌, ◌++◌, sym, ◌∙◌, subst}
-use Rattle.cell_core.specs.Maps.{IsMap}
-use Rattle.cata_core.specs.Deltas.{summary_of}
+use Rattle.cell_core.specs.Keyed.{IsMap}
+use Rattle.cata_core.specs.Delta.{summary_of}
 use Rattle.cata_core.specs.Entries.{key_cmp, Entries}
 use Rattle.cata_core.specs.Summary.{stamps_of}
 use Rattle.cata_core.proofs.Basics.{append_nil}
-use Rattle.cata_core.proofs.Summaries.{summary-IsMap}
+use Rattle.cata_core.proofs.SummaryLemmas.{summary-IsMap}
 use Rattle.cata_core.proofs.summary.Summary.of.Goals as goal
 
 pub invariant_of-result : goal.invariant_of-result

@@ -1,9 +1,9 @@
 use Rattle.std.proofs.Common.{sym, ◌∙◌, ap, subst}
-use Rattle.cell_core.specs.Maps.{IsMap}
+use Rattle.cell_core.specs.Keyed.{IsMap}
 use Rattle.cata_core.specs.Entries.{key_cmp, IsAboveAll}
 use Rattle.cata_core.specs.Summary.{SummaryState, stamps_of}
-use Rattle.cata_core.proofs.Behind.{IsMap-behind}
-use Rattle.cata_core.proofs.SummaryLists.{entries_push}
+use Rattle.cata_core.proofs.BehindLemmas.{IsMap-behind}
+use Rattle.cata_core.proofs.SummaryListsLemmas.{entries_push}
 use Rattle.cata_core.proofs.summary.Summary.push.Goals as goal
 
 pub invariant_of-self-2 : goal.invariant_of-self-2

@@ -2,7 +2,7 @@ use Rattle.std.proofs.Common.{◌≡◌, Vec, Global, None, length, arith, sym, 
 use Rattle.std.proofs.Common.{length-set}
 use Rattle.std.specs.Vec.{with_item}
 use Rattle.std.specs.FinMap.Entries.{find, put}
-use Rattle.cell_core.specs.Maps.{IsMap}
+use Rattle.cell_core.specs.Keyed.{IsMap}
 use Rattle.cell_core.specs.Places.{IsPlace}
 use Rattle.cell_core.specs.Chunks.{all_of, IsPlaceIn}
 use Rattle.cell_core.proofs.PlaceLemmas.{set_as_put, find_read, lent_as}

@@ -1,7 +1,7 @@
 use Rattle.std.proofs.Common.{◌≡◌, ◌∙◌, arith, [], sym, ap, subst}
 use Rattle.std.proofs.lemmas.Result.{on_ok_weaker}
 use Rattle.std.proofs.lemmas.Bool.Decides.{nat_tests}
-use Rattle.cell_core.specs.Maps.{IsMap, IsJoinedWith, joined_maps}
+use Rattle.cell_core.specs.Keyed.{IsMap, IsJoinedWith, joined_maps}
 use Rattle.cell_core.specs.Chunks.{all_of}
 use Rattle.cell_core.proofs.RunLemmas.{joined_is, joined_to_none}
 use Rattle.cell_core.proofs.InterleaveLemmas.{empty_of}

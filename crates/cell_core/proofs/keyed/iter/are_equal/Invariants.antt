@@ -1,6 +1,6 @@
 use Rattle.std.proofs.Common.{◌≡◌, ◌&&◌, length}
 use Rattle.std.specs.Cmp.Lexicographic.{pointwise}
-use Rattle.cell_core.specs.EntriesLeft.{entries_left}
+use Rattle.cell_core.specs.Iter.{entries_left}
 use Rattle.cell_core.proofs.keyed.iter.are_equal.Given as goal
 
 abbrev pub invariant-loop-entry : goal.invariant-loop-entry

@@ -1,5 +1,5 @@
 use Rattle.std.proofs.Common.{◌∙◌, subst}
-use Rattle.cell_core.specs.MessageIds.{KeepsId}
+use Rattle.cell_core.specs.MessageId.{KeepsId}
 use Rattle.cell_core.proofs.MessageIdLemmas.{cmp-short_ids}
 use Rattle.cell_core.proofs.message_id.IdText.compare.Goals as goal
 

@@ -1,5 +1,5 @@
 use Rattle.std.proofs.Common.{sym, ◌∙◌, ap, subst}
-use Rattle.cell_core.specs.MessageIds.{KeepsShortId}
+use Rattle.cell_core.specs.MessageId.{KeepsShortId}
 use Rattle.cell_core.specs.ZeroPadded.{zero_padded, before_zeros}
 use Rattle.cell_core.proofs.MessageIdLemmas.{before_zeros-id, KeepsShortId-padded}
 use Rattle.cell_core.proofs.message_id.IdText.short.Goals as goal

@@ -1,6 +1,6 @@
 use Rattle.std.proofs.Common.{sym, ◌∙◌, ap, subst, arith}
 use Rattle.std.proofs.lemmas.Bool.Decides.{nat_tests}
-use Rattle.cell_core.specs.SiteNames.{IsSiteName, KeepsName}
+use Rattle.cell_core.specs.SiteName.{IsSiteName, KeepsName}
 use Rattle.cell_core.specs.ZeroPadded.{zero_padded, before_zeros}
 use Rattle.cell_core.proofs.SiteNameLemmas.{KeepsName-padded, before_zeros-name}
 use Rattle.cell_core.proofs.site_name.SiteName.new.Goals as goal

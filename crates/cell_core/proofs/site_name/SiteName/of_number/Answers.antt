@@ -1,6 +1,6 @@
 use Rattle.std.proofs.Common.{◌≡◌, ◌++◌, drop, sym, ◌∙◌, ap, subst, arith}
 use Rattle.std.proofs.Math.ListN.{length-set}
-use Rattle.cell_core.specs.SiteNames.{KeepsName, padded_name}
+use Rattle.cell_core.specs.SiteName.{KeepsName, padded_name}
 use Rattle.cell_core.specs.ZeroPadded.{zero_padded, before_zeros}
 use Rattle.cell_core.proofs.SiteNameLemmas.{KeepsName-padded, before_zeros-name}
 use Rattle.cell_core.proofs.PaddedNameLemmas.{last_digits, digit_written, padded_name-last_digits}

@@ -1,7 +1,7 @@
 use Rattle.std.proofs.Common.{◌∙◌, ◌+◌, ℕ, List, drop, ap, inl, subst, sym}
-use Rattle.cell_core.specs.Stamps.{IsNext, NoNext}
+use Rattle.cell_core.specs.Stamp.{IsNext, NoNext}
 use Rattle.cata_core.specs.Latest.{latest_of}
-use Rattle.cata_core.specs.Sites.{SiteState}
+use Rattle.cata_core.specs.Site.{SiteState}
 use Rattle.map_docs.specs.LangMaps.{Labelled, labels_of}
 use Rattle.docs_core.specs.Imported.{Imports, SpendsImport}
 use Rattle.map_docs.proofs.LangMapLabelsLemmas.{else_by}

@@ -1,6 +1,6 @@
 use Rattle.std.proofs.Common.{inr}
 use Rattle.std.proofs.lemmas.Result.{err_from_is_err_and}
-use Rattle.cata_core.specs.Sites.{RefusesEdit}
+use Rattle.cata_core.specs.Site.{RefusesEdit}
 use Rattle.map_docs.proofs.LangMapLabelsLemmas.{else_by}
 use Rattle.docs_core.proofs.CallsLemmas.{of_call}
 use Rattle.docs_core.proofs.call.sites.edit_document.Goals as goal

@@ -1,6 +1,6 @@
 use Rattle.std.proofs.Common.{◌<◌, ◌^◌, arith, inl, inr, length, subst, sym}
 use Rattle.std.proofs.lemmas.Result.{err_from_is_err_and}
-use Rattle.cata_core.specs.CataFaults.{IsRefusal}
+use Rattle.cata_core.specs.CataFault.{IsRefusal}
 use Rattle.cata_core.specs.Entries.{Entries}
 use Rattle.docs_core.specs.TimeLimits.{AreInTime, IsTimeAhead}
 use Rattle.map_docs.proofs.LangMapLabelsLemmas.{else_by}

@@ -1,6 +1,6 @@
 use Rattle.std.proofs.Common.{inl, inr}
 use Rattle.std.proofs.lemmas.Result.{err_from_is_err_and}
-use Rattle.cata_core.specs.Sites.{RefusesDelta}
+use Rattle.cata_core.specs.Site.{RefusesDelta}
 use Rattle.map_docs.proofs.LangMapLabelsLemmas.{else_by}
 use Rattle.docs_core.proofs.CallsLemmas.{of_call, site_written}
 use Rattle.docs_core.proofs.call.time_limits.take_document_until.Goals as goal

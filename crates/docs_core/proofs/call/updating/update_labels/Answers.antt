@@ -1,5 +1,5 @@
 use Rattle.std.proofs.Common.{◌∙◌, ℕ, List, subst}
-use Rattle.cell_core.specs.Stamps.{NoNext}
+use Rattle.cell_core.specs.Stamp.{NoNext}
 use Rattle.cata_core.specs.Latest.{latest_of}
 use Rattle.map_docs.specs.LangMaps.{labels_of}
 use Rattle.docs_core.specs.Revised.{IsRevised}

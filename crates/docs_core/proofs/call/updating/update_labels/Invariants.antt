@@ -1,5 +1,5 @@
 use Rattle.std.proofs.Common.{◌≡◌, ◌+◌, length}
-use Rattle.cell_core.specs.Maps.{IsMap}
+use Rattle.cell_core.specs.Keyed.{IsMap}
 use Rattle.cata_core.specs.Entries.{Entries, key_cmp}
 use Rattle.map_docs.specs.LangMaps.{labels_of}
 use Rattle.docs_core.specs.Updated.{SpendsUpdate, Updates}

@@ -1,6 +1,6 @@
 use Rattle.std.proofs.Common.{rules, ◌≡◌, ◌∙◌}
 use Rattle.lang_core.specs.Tag.{IsTag}
-use Rattle.lang_core.proofs.LangLaws.{tag_not_none}
+use Rattle.lang_core.proofs.LangLemmas.{tag_not_none}
 use Rattle.lang_core.proofs.lang.Lang.copy.Goals as goal
 
 pub returns-in_err-copy-in-Tagged-clause-none : goal.returns-in_err-copy-in-Tagged-clause-none

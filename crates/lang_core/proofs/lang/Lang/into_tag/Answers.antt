@@ -1,6 +1,6 @@
 use Rattle.std.proofs.Common.{rules, ◌≡◌, sym}
 use Rattle.lang_core.specs.Tag.{IsTag}
-use Rattle.lang_core.proofs.LangLaws.{tag_of_tag}
+use Rattle.lang_core.proofs.LangLemmas.{tag_of_tag}
 use Rattle.lang_core.proofs.lang.Lang.into_tag.Goals as goal
 
 pub returns-in-Tagged : goal.returns-in-Tagged

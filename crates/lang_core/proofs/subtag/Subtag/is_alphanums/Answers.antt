@@ -1,4 +1,4 @@
-use Rattle.lang_core.proofs.SubtagLaws.{run_alphanum}
+use Rattle.lang_core.proofs.SubtagLemmas.{run_alphanum}
 use Rattle.lang_core.proofs.subtag.Subtag.is_alphanums.Goals as goal
 
 pub returns : goal.returns

@@ -1,6 +1,6 @@
 use Rattle.std.proofs.Common.{◌∙◌}
 use Rattle.lang_core.specs.Grammar.{is_letter}
-use Rattle.lang_core.proofs.SubtagLaws.{run_when, run_unless}
+use Rattle.lang_core.proofs.SubtagLemmas.{run_when, run_unless}
 use Rattle.lang_core.proofs.subtag.Subtag.is_letters.Goals as goal
 
 pub returns-then-has_len : goal.returns-then-has_len

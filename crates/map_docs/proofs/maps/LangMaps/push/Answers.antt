@@ -1,8 +1,8 @@
 use Rattle.std.proofs.Common.{List, sym, ◌∙◌, ap, subst}
-use Rattle.cell_core.specs.Maps.{IsMap}
+use Rattle.cell_core.specs.Keyed.{IsMap}
 use Rattle.cata_core.specs.Entries.{IsAboveAll, key_cmp}
 use Rattle.map_docs.specs.LangMaps.{Labelled, labels_of}
-use Rattle.cata_core.proofs.Behind.{IsMap-behind}
+use Rattle.cata_core.proofs.BehindLemmas.{IsMap-behind}
 use Rattle.map_docs.proofs.LangMapsLemmas.{labels_push}
 use Rattle.map_docs.proofs.maps.LangMaps.push.Goals as goal
 

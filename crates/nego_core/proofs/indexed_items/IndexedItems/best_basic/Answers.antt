@@ -1,4 +1,4 @@
-use Rattle.nego_core.proofs.DecidingLaws.{all_basic}
+use Rattle.nego_core.proofs.DecidingLemmas.{all_basic}
 use Rattle.nego_core.proofs.indexed_items.IndexedItems.best_basic.Goals as goal
 
 pub returns : goal.returns

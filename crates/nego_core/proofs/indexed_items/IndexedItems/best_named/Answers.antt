@@ -1,5 +1,5 @@
 use Rattle.std.proofs.Common.{refl}
-use Rattle.nego_core.proofs.DecidingLaws.{short_more, short_same, all_named}
+use Rattle.nego_core.proofs.DecidingLemmas.{short_more, short_same, all_named}
 use Rattle.nego_core.proofs.indexed_items.IndexedItems.best_named.Goals as goal
 use Rattle.nego_core.proofs.indexed_items.IndexedItems.best_named.Goals.{then-text-at-eq-HYPHEN}
 use Rattle.nego_core.proofs.indexed_items.IndexedItems.best_named.Goals.{else-text-at-eq-HYPHEN}

@@ -1,6 +1,6 @@
 use Rattle.std.proofs.Common.{drop}
 use Rattle.nego_core.specs.Fingerprint.{slot_of}
-use Rattle.nego_core.proofs.LangSetLaws.{IsTableSoFar}
+use Rattle.nego_core.proofs.LangSetLemmas.{IsTableSoFar}
 use Rattle.nego_core.proofs.lang_set.LangSet.new.Given as goal
 
 abbrev pub invariant-loop-lang : goal.invariant-loop-lang

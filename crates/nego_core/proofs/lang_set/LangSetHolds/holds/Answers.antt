@@ -1,6 +1,6 @@
 use Rattle.std.proofs.Common.{ℕ, List, ◌∙◌, ap, subst}
 use Rattle.nego_core.specs.Fingerprint.{slot_of, IsTableOf}
-use Rattle.nego_core.proofs.LangSetLaws.{absent}
+use Rattle.nego_core.proofs.LangSetLemmas.{absent}
 use Rattle.nego_core.proofs.lang_set.LangSetHolds.holds.Goals as goal
 
 pub returns-else-self-slot_of : goal.returns-else-self-slot_of

@@ -1,6 +1,6 @@
 use Rattle.std.proofs.Common.{◌∙◌, ap}
 use Rattle.nego_core.specs.Fingerprint.{head_of}
-use Rattle.nego_core.proofs.OrderedTextLaws.{lower, higher}
+use Rattle.nego_core.proofs.OrderedTextLemmas.{lower, higher}
 use Rattle.nego_core.proofs.ordered_text.OrderedTextOrd.cmp.Goals as goal
 
 pub returns-then-self-other : goal.returns-then-self-other

@@ -1,6 +1,6 @@
 use Rattle.lang_core.specs.Text.{pieces}
 use Rattle.nego_core.specs.Deciding.{Matches}
-use Rattle.nego_core.proofs.DecidingLaws.{decided_by, most_specific}
+use Rattle.nego_core.proofs.DecidingLemmas.{decided_by, most_specific}
 use Rattle.nego_core.proofs.priority_list.PriorityList.decide.Goals as goal
 
 pub returns-in-Some-clause-decides : goal.returns-in-Some-clause-decides

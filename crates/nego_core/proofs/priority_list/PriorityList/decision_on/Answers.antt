@@ -1,4 +1,4 @@
-use Rattle.nego_core.proofs.DecidingLaws.{decision_on_lang}
+use Rattle.nego_core.proofs.DecidingLemmas.{decision_on_lang}
 use Rattle.nego_core.proofs.priority_list.PriorityList.decision_on.Goals as goal
 
 pub returns-in-Some-clause-decides : goal.returns-in-Some-clause-decides

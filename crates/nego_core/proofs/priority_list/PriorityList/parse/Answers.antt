@@ -1,4 +1,4 @@
-use Rattle.nego_core.proofs.FieldLaws.{one_kind, list_read}
+use Rattle.nego_core.proofs.FieldLemmas.{one_kind, list_read}
 use Rattle.nego_core.proofs.WeightBounds.{small_weights}
 use Rattle.nego_core.proofs.priority_list.PriorityList.parse.Goals as goal
 

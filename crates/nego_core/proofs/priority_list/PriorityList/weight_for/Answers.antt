@@ -1,4 +1,4 @@
-use Rattle.nego_core.proofs.DecidingLaws.{no_weight}
+use Rattle.nego_core.proofs.DecidingLemmas.{no_weight}
 use Rattle.nego_core.proofs.priority_list.PriorityList.weight_for.Goals as goal
 
 pub returns-in-None : goal.returns-in-None

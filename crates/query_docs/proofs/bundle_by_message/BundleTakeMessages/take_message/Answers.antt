@@ -1,7 +1,7 @@
 use Rattle.std.proofs.Common.{◌∙◌, ◌++◌, ap, subst, sym}
 use Rattle.cell_core.proofs.AboveLemmas.{on_ok_then}
 use Rattle.cata_core.specs.Entries.{Entries, Entry}
-use Rattle.cata_core.specs.LentAnswers.{reply_of}
+use Rattle.cata_core.specs.Reply.{reply_of}
 use Rattle.cata_core.proofs.Basics.{append_nil}
 use Rattle.query_docs.specs.BundleByMessage.{HasBundled}
 use Rattle.query_docs.specs.Draft.{HasWritten}

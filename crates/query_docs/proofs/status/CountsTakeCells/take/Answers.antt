@@ -1,6 +1,6 @@
 use Rattle.std.proofs.Common.{◌∙◌, Some, ap}
-use Rattle.cell_core.specs.Cells.{joined_stamps}
-use Rattle.cell_core.specs.Maps.{joined_if_both}
+use Rattle.cell_core.specs.Cell.{joined_stamps}
+use Rattle.cell_core.specs.Keyed.{joined_if_both}
 use Rattle.row_docs.specs.EntriesSeen.{entry_by}
 use Rattle.query_docs.proofs.CountedLemmas.{counts_more}
 use Rattle.query_docs.proofs.status.CountsTakeCells.take.Goals as goal

@@ -1,6 +1,6 @@
 use Rattle.std.proofs.Common.{◌≡◌, ◌∙◌, ◌++◌, [], ◌∷◌, append-nil, ap, sym}
 use Rattle.std.proofs.lemmas.List.Elements.{All-nil}
-use Rattle.cata_core.specs.CellsLeft.{cells_left}
+use Rattle.cata_core.specs.Cells.{cells_left}
 use Rattle.cata_core.specs.Entries.{Entries, Entry}
 use Rattle.row_docs.specs.Valid.{IsKeptCell}
 use Rattle.site_docs.proofs.DocumentsLemmas.{cell_more, kept_more}

@@ -1,6 +1,6 @@
 use Rattle.std.proofs.Common.{◌≡◌, ◌++◌}
 use Rattle.std.specs.List.{All}
-use Rattle.cata_core.specs.CellsLeft.{cells_left}
+use Rattle.cata_core.specs.Cells.{cells_left}
 use Rattle.cata_core.specs.Entries.{Entries}
 use Rattle.row_docs.specs.Entries.{cells_values}
 use Rattle.site_docs.specs.Drafts.{HoldsCells}

@@ -1,6 +1,6 @@
 use Rattle.std.proofs.Common.{◌∙◌, ap₂, subst}
 use Rattle.std.proofs.lemmas.Result.{IfOk-weaker}
-use Rattle.cell_core.specs.SiteNames.{IsSiteName}
+use Rattle.cell_core.specs.SiteName.{IsSiteName}
 use Rattle.row_docs.specs.Entries.{cells_values}
 use Rattle.site_docs.specs.Documents.{site_text}
 use Rattle.site_docs.specs.ReadsAs.{ReadsAsSite}

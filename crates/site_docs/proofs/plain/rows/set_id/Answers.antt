@@ -1,7 +1,7 @@
 use Rattle.std.proofs.Common.{◌≡◌, ◌∙◌, rules, subst, sym}
 use Rattle.std.specs.declared.cmp.Ordering.TheVariants.{Equal}
 use Rattle.std.proofs.lemmas.Map.Lookups.{exact_bytes}
-use Rattle.cell_core.specs.MessageIds.{IsMessageId}
+use Rattle.cell_core.specs.MessageId.{IsMessageId}
 use Rattle.site_docs.proofs.plain.rows.set_id.Goals as goal
 
 -- texts that are ordered as equal are the same

@@ -3,11 +3,11 @@ use Rattle.std.proofs.lemmas.Result.{IfErr-weaker}
 use Rattle.std.proofs.lemmas.List.{length-set}
 use Rattle.cata_core.specs.declared.step.Step.TheVariants.{Deliver}
 use Rattle.cata_core.specs.Held.{PostedCells}
-use Rattle.cata_core.specs.Faulty.{IsFaultOf}
-use Rattle.cata_core.specs.Worlds.{held_in, IsClashAt}
+use Rattle.cata_core.specs.PlayFault.{IsFaultOf}
+use Rattle.cata_core.specs.World.{held_in, IsClashAt}
 use Rattle.cata_core.proofs.Basics.{append_nil}
-use Rattle.cata_core.proofs.Worlds.{delivered_sound, delivered_held, delivered_fault, addressed}
-use Rattle.cata_core.proofs.Worlds.{both_hold}
+use Rattle.cata_core.proofs.WorldLemmas.{delivered_sound, delivered_held, delivered_fault, addressed}
+use Rattle.cata_core.proofs.WorldLemmas.{both_hold}
 use Rattle.cata_core.proofs.runs.world.World.deliver.Goals as goal
 
 pub returns-clause-ok : goal.returns-clause-ok

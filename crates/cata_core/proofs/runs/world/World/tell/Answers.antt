@@ -1,11 +1,11 @@
 use Rattle.std.proofs.Common.{◌≡◌, ◌<◌, ◌∙◌, [], ap, sym, subst, refl, length, arith}
 use Rattle.std.specs.Prelude.{All}
-use Rattle.cata_core.specs.Deltas.{summary_of}
+use Rattle.cata_core.specs.Delta.{summary_of}
 use Rattle.cata_core.specs.Summary.{SummaryState}
 use Rattle.cata_core.specs.Held.{ToldStamps}
-use Rattle.cata_core.specs.Worlds.{at_sites}
+use Rattle.cata_core.specs.World.{at_sites}
 use Rattle.cata_core.proofs.Basics.{append_nil}
-use Rattle.cata_core.proofs.Worlds.{told_step, told_addressed, at_site, named_one}
+use Rattle.cata_core.proofs.WorldLemmas.{told_step, told_addressed, at_site, named_one}
 use Rattle.cata_core.proofs.runs.world.World.tell.Goals as goal
 
 pub returns-clause-ok : goal.returns-clause-ok

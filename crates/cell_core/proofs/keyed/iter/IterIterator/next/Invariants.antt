@@ -1,5 +1,5 @@
 use Rattle.std.proofs.Common.{◌≡◌, length}
-use Rattle.cell_core.specs.EntriesLeft.{entries_left}
+use Rattle.cell_core.specs.Iter.{entries_left}
 use Rattle.cell_core.proofs.keyed.iter.IterIterator.next.Given as goal
 
 abbrev pub invariant-loop-chunk : goal.invariant-loop-chunk

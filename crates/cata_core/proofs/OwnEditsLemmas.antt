@@ -1,0 +1,66 @@
+-- An edit with a stamp above all that is held joins its one cell.
+use Rattle.std.proofs.Common.{◌≡◌, List, [], ◌∷◌, ◌++◌, Option, Some, None, refl, sym, ap, ◌∙◌}
+use Rattle.std.proofs.Common.{subst}
+use Rattle.std.specs.declared.cmp.Ordering.TheVariants.{Less}
+use Rattle.std.specs.Ordering.{is_lt}
+use Rattle.std.specs.FinMap.Entries.{find, put}
+use Rattle.cell_core.specs.declared.cell.Cell.{Cell}
+use Rattle.cell_core.specs.Stamp.{stamp_cmp, IsAbove}
+use Rattle.cell_core.specs.Join.{IsBelow}
+use Rattle.cell_core.specs.Keyed.{IsMap}
+use Rattle.cata_core.specs.Entries.{EntryKey, key_cmp, Entry, Entries, Agree, joined, IsBelowCells}
+use Rattle.cata_core.specs.Entries.{catalogue_laws}
+use Rattle.cata_core.specs.Edits.{catalogue_of, IsSettled}
+use Rattle.cata_core.specs.Latest.{latest_of}
+use Rattle.cata_core.proofs.ApplyLemmas.{agree_some, agree_none, joined_new, joined_later}
+use Rattle.cata_core.proofs.CatalogueLemmas.{catalogue_of-IsMap}
+use Rattle.cata_core.proofs.CatalogueJoinsLemmas.{joined_catalogue}
+use Rattle.cata_core.proofs.LatestLemmas.{held_less}
+use Rattle.cata_core.proofs.SettlingLemmas.{settled_if_agree, settled_one, catalogue_of-one}
+use Rattle.cata_core.proofs.StampOrderLemmas.{not_less_self}
+
+module _ (es : Entries) (key : EntryKey) (cell : Cell) (m : IsMap key_cmp es)
+    (above : IsAbove (latest_of es) cell.stamp) where
+  pub own_agrees : Agree es ((key, cell) ∷ [])
+  own_agrees = at (find key_cmp key es) refl
+    where
+      at : (o : Option Cell) → find key_cmp key es ≡ o → Agree es ((key, cell) ∷ [])
+      at None e = agree_none es (key, cell) m e
+      at (Some mine) e = agree_some es (key, cell) mine m (sym e)
+          (λ same. absurd
+          (not_less_self cell.stamp
+          (subst (λ s. stamp_cmp s cell.stamp ≡ Less) same
+          (held_less es key mine cell.stamp above e))))
+
+  pub own_joins : put key_cmp key cell es ≡ joined es ((key, cell) ∷ [])
+  own_joins = at (find key_cmp key es) refl
+    where
+      at : (o : Option Cell) → find key_cmp key es ≡ o
+          → put key_cmp key cell es ≡ joined es ((key, cell) ∷ [])
+      at None e = joined_new es (key, cell) m e
+      at (Some mine) e =
+          joined_later es (key, cell) mine m (sym e)
+          (ap is_lt (held_less es key mine cell.stamp above e))
+
+  pub own_rises : IsBelowCells es (put key_cmp key cell es)
+  own_rises =
+      subst (IsBelow Agree joined es) (sym own_joins)
+      (catalogue_laws.above_first es ((key, cell) ∷ []) own_agrees)
+
+-- the catalogue of settled edits, edited, is that of one edit more
+pub own_taken : (edits : List Entry) (key : EntryKey) (cell : Cell) → IsSettled edits
+    → IsAbove (latest_of (catalogue_of edits)) cell.stamp
+    → IsSettled (edits ++ (key, cell) ∷ [])
+    × (put key_cmp key cell (catalogue_of edits) ≡ catalogue_of (edits ++ (key, cell) ∷ []))
+own_taken edits key cell settled above =
+    let e : Entry = (key, cell) in
+    let cells = catalogue_of edits in
+    let m = catalogue_of-IsMap edits in
+    let one = catalogue_of-one e in
+    let both : IsSettled (edits ++ e ∷ []) =
+    settled_if_agree edits (e ∷ []) settled (settled_one e)
+    (subst (Agree cells) (sym one) (own_agrees cells key cell m above)) in (
+      both,
+      own_joins cells key cell m above ∙ ap (joined cells) (sym one)
+          ∙ sym (joined_catalogue edits (e ∷ []) both),
+    )

@@ -1,0 +1,17 @@
+-- The cells that an iterator has still to give.
+use Rattle.std.specs.Prelude.{[], ◌++◌, Option, Some, None}
+use Rattle.cell_core.specs.Iter.{entries_left}
+use Rattle.cata_core.specs.declared.cells.Cells.{Cells}
+use Rattle.cata_core.specs.declared.cells.MessageCells.{MessageCells}
+use Rattle.cata_core.specs.Entries.{Entries}
+use Rattle.cata_core.specs.Flat.{under, flat}
+
+abbrev pub message_left : MessageCells → Entries
+message_left m = under m.id.now (entries_left m.cells)
+
+abbrev pub in_current : Option MessageCells → Entries
+in_current None = []
+in_current (Some m) = message_left m
+
+abbrev pub cells_left : Cells → Entries
+cells_left c = in_current c.current ++ flat (entries_left c.messages)
