@@ -11,7 +11,7 @@ use Rattle.nego_core.specs.declared.scheme.Scheme.{Scheme}
 use Rattle.nego_core.specs.declared.widening.Widening.{Widening}
 use Rattle.nego_core.specs.declared.widening.Widening.TheVariants.{Off, By}
 use Rattle.nego_core.specs.Filtering.{IsFiltered}
-use Rattle.nego_core.specs.LookupCandidates.{IsLookedUp}
+use Rattle.nego_core.specs.Choosing.{IsLookedUp}
 use Rattle.nego_core.specs.Choosing.{HasOpenDefault}
 use Rattle.nego_core.specs.Widening.{IsLookedUpWidened}
 use Rattle.cata_core.specs.declared.reply.Reply.{Reply}

@@ -12,7 +12,7 @@ use Rattle.nego_core.specs.Choosing.{HasOpenDefault, IsOpenDefault}
 use Rattle.nego_core.specs.LookupPlaces.{least_place}
 use Rattle.nego_core.specs.LangSet.{is_among}
 use Rattle.nego_core.specs.Item.{Item}
-use Rattle.nego_core.specs.LookupCandidates.{IsFirst}
+use Rattle.nego_core.specs.Choosing.{IsFirst}
 use Rattle.nego_core.specs.Widening.{IsFoundBy}
 use Rattle.nego_core.specs.declared.widening.Widening.{Widening}
 use Rattle.nego_core.specs.declared.widening.Widening.TheVariants.{Off, By}

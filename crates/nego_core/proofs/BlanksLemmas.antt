@@ -9,7 +9,7 @@ use Rattle.std.proofs.lemmas.Bool.Decides.{nat_tests}
 use Rattle.std.proofs.lemmas.Option.{cond_some}
 use Rattle.std.proofs.lemmas.List.{take_all, drop_all}
 use Rattle.nego_core.proofs.Basics.{cond_none}
-use Rattle.nego_core.specs.Blanks.{is_blank, AreBlanks, is_stop, is_plain, EndsPlain, IsCut}
+use Rattle.nego_core.specs.Weight.{is_blank, AreBlanks, is_stop, is_plain, EndsPlain, IsCut}
 
 -- A text is cut where the bytes at its front that are neither blank nor semicolon end.
 pub cut_front : (text : List ℕ)

@@ -13,8 +13,8 @@ use Rattle.lang_core.specs.Range.{IsRange}
 use Rattle.lang_core.proofs.RangeText.{is_range_byte, range_bytes, basic_extended}
 use Rattle.nego_core.proofs.BlanksLemmas.{cut_only, blanks_end, blank_stops}
 use Rattle.nego_core.proofs.WeightLemmas.{IsTrimmed, trimmed, skip_all, skip_none}
-use Rattle.nego_core.specs.Blanks.{is_blank, AreBlanks, skip_blanks, is_plain, EndsPlain, IsCut}
-use Rattle.nego_core.specs.Element.{RangeGrammar, WeightGrammar, IsPadded, IsStart, HasStart}
+use Rattle.nego_core.specs.Weight.{is_blank, AreBlanks, skip_blanks, is_plain, EndsPlain, IsCut}
+use Rattle.nego_core.specs.Field.{RangeGrammar, WeightGrammar, IsPadded, IsStart, HasStart}
 use Rattle.nego_core.specs.Weight.{HasWeight, IsTail}
 use Rattle.nego_core.specs.Item.{Item}
 use Rattle.nego_core.specs.declared.scheme.Scheme.{Scheme}

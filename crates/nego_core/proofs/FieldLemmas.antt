@@ -11,8 +11,8 @@ use Rattle.lang_core.specs.Grammar.{BasicRange}
 use Rattle.nego_core.proofs.FieldWalk.{padded_not_blank}
 use Rattle.nego_core.specs.declared.scheme.Scheme.TheVariants.{Basic, Extended}
 use Rattle.nego_core.specs.Item.{Item}
-use Rattle.nego_core.specs.Blanks.{is_blank, AreBlanks}
-use Rattle.nego_core.specs.Element.{IsPadded}
+use Rattle.nego_core.specs.Weight.{is_blank, AreBlanks}
+use Rattle.nego_core.specs.Field.{IsPadded}
 use Rattle.nego_core.specs.Field.{ArePieces, IsField, IsFirstMalformed, IsOfOneKind, HasElement}
 use Rattle.nego_core.specs.Field.{RefusesField}
 use Rattle.nego_core.specs.declared.scheme.Scheme.{Scheme}

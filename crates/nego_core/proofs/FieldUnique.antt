@@ -6,9 +6,9 @@ use Rattle.nego_core.proofs.WeightLemmas.{one_tail}
 use Rattle.nego_core.proofs.ElementLemmas.{start_of_padded, start_is}
 use Rattle.nego_core.proofs.FieldWalk.{none_not_padded}
 use Rattle.nego_core.specs.Item.{Item}
-use Rattle.nego_core.specs.Blanks.{skip_blanks}
+use Rattle.nego_core.specs.Weight.{skip_blanks}
 use Rattle.nego_core.specs.Weight.{IsTail}
-use Rattle.nego_core.specs.Element.{IsPadded, IsStart, WeightGrammar}
+use Rattle.nego_core.specs.Field.{IsPadded, IsStart, WeightGrammar}
 use Rattle.nego_core.specs.Field.{ArePieces, IsField}
 use Rattle.nego_core.specs.declared.scheme.Scheme.{Scheme}
 use Rattle.nego_core.specs.declared.field.Malformed.{Malformed}

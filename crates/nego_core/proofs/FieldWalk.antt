@@ -7,8 +7,8 @@ use Rattle.std.proofs.lemmas.List.Sums.{sum_by-append}
 use Rattle.lang_core.specs.Text.{pieces_by}
 use Rattle.nego_core.proofs.WeightLemmas.{skip_only, trimmed}
 use Rattle.nego_core.proofs.ElementLemmas.{start_of_padded, start_some, padded_of_start}
-use Rattle.nego_core.specs.Blanks.{is_blank, AreBlanks, skip_blanks}
-use Rattle.nego_core.specs.Element.{IsPadded, IsStart, HasStart}
+use Rattle.nego_core.specs.Weight.{is_blank, AreBlanks, skip_blanks}
+use Rattle.nego_core.specs.Field.{IsPadded, IsStart, HasStart}
 use Rattle.nego_core.specs.Field.{GivesNone, ArePieces, IsField, IsReadTo, IsFirstMalformed}
 use Rattle.nego_core.specs.Field.{HasElement}
 use Rattle.nego_core.specs.Item.{Item}

@@ -11,7 +11,7 @@ use Rattle.nego_core.proofs.Basics.{all_passed, contains_first, contains_passed,
 use Rattle.nego_core.proofs.LookupOrderEach.{each_once}
 use Rattle.nego_core.specs.Item.{Item}
 use Rattle.nego_core.specs.LookupOrder.{is_tried, IsOrder}
-use Rattle.nego_core.specs.LookupCandidates.{IsOpen, IsLookedUp, candidates_of, all_candidates}
+use Rattle.nego_core.specs.Choosing.{IsOpen, IsLookedUp, candidates_of, all_candidates}
 
 -- an item of the list that is tried
 abbrev pub IsTriedOf : List Item → Item → Type 0

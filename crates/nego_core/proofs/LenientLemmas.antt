@@ -6,7 +6,7 @@ use Rattle.nego_core.proofs.Basics.{contains_first, contains_later, contains_cas
 use Rattle.nego_core.proofs.FieldWalk.{blank_gives_none, none_not_padded}
 use Rattle.nego_core.proofs.FieldUnique.{one_item}
 use Rattle.nego_core.specs.Item.{Item}
-use Rattle.nego_core.specs.Element.{IsPadded}
+use Rattle.nego_core.specs.Field.{IsPadded}
 use Rattle.nego_core.specs.Field.{ArePieces, IsField}
 use Rattle.nego_core.specs.declared.scheme.Scheme.{Scheme}
 use Rattle.nego_core.specs.declared.field.Malformed.{Malformed}

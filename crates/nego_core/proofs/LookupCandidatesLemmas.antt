@@ -15,8 +15,8 @@ use Rattle.nego_core.proofs.DecidingLemmas.{one_item_weight, most_specific, weig
 use Rattle.nego_core.proofs.LookupOrderLemmas.{one_order_of}
 use Rattle.nego_core.specs.Item.{Item}
 use Rattle.nego_core.specs.Deciding.{IsBest, MatchesNamed, NamedRefuse}
-use Rattle.nego_core.specs.LookupCandidates.{candidates_of, candidates_at, all_candidates, IsOpen}
-use Rattle.nego_core.specs.LookupCandidates.{IsFirst, MatchFirstOf, IsLookedUp}
+use Rattle.nego_core.specs.Choosing.{candidates_of, candidates_at, all_candidates, IsOpen}
+use Rattle.nego_core.specs.Choosing.{IsFirst, MatchFirstOf, IsLookedUp}
 use Rattle.nego_core.specs.LookupOrder.{AreOrderKeys}
 use Rattle.nego_core.specs.declared.deciding.MostSpecific.{MostSpecific}
 use Rattle.nego_core.specs.declared.lookup_order.OrderKey.{OrderKey}

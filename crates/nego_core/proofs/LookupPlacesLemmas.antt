@@ -8,7 +8,7 @@ use Rattle.nego_core.proofs.Basics.{cond_none}
 use Rattle.nego_core.proofs.Prefixes.{joined-pieces}
 use Rattle.nego_core.proofs.LookupCandidatesLemmas.{one_lookup}
 use Rattle.nego_core.specs.Item.{Item}
-use Rattle.nego_core.specs.LookupCandidates.{IsLookedUp}
+use Rattle.nego_core.specs.Choosing.{IsLookedUp}
 use Rattle.nego_core.specs.Choosing.{IsOpenDefault, HasOpenDefault}
 use Rattle.nego_core.specs.LangSet.{is_among}
 use Rattle.nego_core.specs.LookupPlaces.{least_place, IsFound}

@@ -12,8 +12,8 @@ use Rattle.std.proofs.lemmas.List.Quantifiers.{position-Some}
 use Rattle.lang_core.proofs.PiecesLemmas.{pieces_whole, cut_of}
 use Rattle.nego_core.proofs.Basics.{element_at}
 use Rattle.nego_core.proofs.ElementLemmas.{range_is_sized, tail_ends}
-use Rattle.nego_core.specs.Blanks.{is_plain, EndsPlain}
-use Rattle.nego_core.specs.Element.{IsStart, is_inner, BeginsOverlong, EndsInner}
+use Rattle.nego_core.specs.Weight.{is_plain, EndsPlain}
+use Rattle.nego_core.specs.Field.{IsStart, is_inner, BeginsOverlong, EndsInner}
 use Rattle.nego_core.specs.Item.{Item}
 use Rattle.nego_core.specs.Field.{IsFirstPiece}
 use Rattle.nego_core.specs.declared.scheme.Scheme.{Scheme}

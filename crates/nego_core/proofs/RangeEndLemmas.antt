@@ -16,9 +16,9 @@ use Rattle.nego_core.proofs.ElementLemmas.{range_is_sized, tail_ends, no_item_ra
 use Rattle.nego_core.proofs.ElementLemmas.{has_item}
 use Rattle.nego_core.proofs.OverlongLemmas.{ends_early, stop_ends}
 use Rattle.nego_core.proofs.SeparatorLemmas.{cut_piece, first_byte, no_pieces, pieces_at_comma}
-use Rattle.nego_core.specs.Blanks.{is_plain, EndsPlain, IsCut}
-use Rattle.nego_core.specs.Element.{RangeGrammar, WeightGrammar, IsStart, HasStart, is_inner}
-use Rattle.nego_core.specs.Element.{EndsInner, IsBegun, IsRangeEnd, BeginsOverlong}
+use Rattle.nego_core.specs.Weight.{is_plain, EndsPlain, IsCut}
+use Rattle.nego_core.specs.Field.{RangeGrammar, WeightGrammar, IsStart, HasStart, is_inner}
+use Rattle.nego_core.specs.Field.{EndsInner, IsBegun, IsRangeEnd, BeginsOverlong}
 use Rattle.nego_core.specs.Field.{IsFirstPiece}
 use Rattle.nego_core.specs.Item.{Item}
 use Rattle.nego_core.specs.Weight.{IsTail}

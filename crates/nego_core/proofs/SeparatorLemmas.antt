@@ -13,9 +13,9 @@ use Rattle.lang_core.proofs.PiecesLemmas.{size_pieces, size_cons}
 use Rattle.nego_core.proofs.FieldWalk.{IsWalked, walked_start, walked_blank, walked_item}
 use Rattle.nego_core.proofs.FieldWalk.{walked_over, walked_all, stops_malformed, stops_fitting}
 use Rattle.nego_core.proofs.WeightLemmas.{skip_all, skip_only, skip_none}
-use Rattle.nego_core.specs.Blanks.{is_blank, AreBlanks, skip_blanks}
+use Rattle.nego_core.specs.Weight.{is_blank, AreBlanks, skip_blanks}
 use Rattle.nego_core.proofs.OverlongLemmas.{overlong_piece}
-use Rattle.nego_core.specs.Element.{IsStart, HasStart, BeginsOverlong}
+use Rattle.nego_core.specs.Field.{IsStart, HasStart, BeginsOverlong}
 use Rattle.nego_core.specs.Field.{IsField, IsFirstMalformed, HasElement, RefusesField, is_separator}
 use Rattle.nego_core.specs.Field.{skip_separators, IsFirstPiece}
 use Rattle.nego_core.specs.Item.{Item}

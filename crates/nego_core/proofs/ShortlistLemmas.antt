@@ -31,7 +31,7 @@ use Rattle.nego_core.proofs.Rising.{all_above, not_both, rising_tail}
 use Rattle.nego_core.specs.Filtering.{texts_of}
 use Rattle.nego_core.specs.Item.{Item}
 use Rattle.nego_core.specs.LangSet.{is_among}
-use Rattle.nego_core.specs.LookupCandidates.{MatchFirstOf, all_candidates, candidates_of}
+use Rattle.nego_core.specs.Choosing.{MatchFirstOf, all_candidates, candidates_of}
 use Rattle.nego_core.specs.LookupOrder.{AreOrderKeys}
 use Rattle.nego_core.specs.LookupPlaces.{least_place}
 use Rattle.nego_core.specs.Choosing.{HasOpenDefault}

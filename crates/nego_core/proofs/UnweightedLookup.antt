@@ -11,7 +11,7 @@ use Rattle.nego_core.proofs.LookupOrderLemmas.{one_order_of}
 use Rattle.nego_core.proofs.LookupOrderEach.{one_weight_sorted, turns_lack, turns_rise, tried_are}
 use Rattle.nego_core.specs.Item.{Item}
 use Rattle.nego_core.specs.LookupOrder.{is_tried, order_keys_from, IsOrder}
-use Rattle.nego_core.specs.LookupCandidates.{IsOpen, IsLookedUp, MatchFirstOf, all_candidates}
+use Rattle.nego_core.specs.Choosing.{IsOpen, IsLookedUp, MatchFirstOf, all_candidates}
 use Rattle.nego_core.specs.Unweighted.{AllUnweighted, AllPositive, is_other, IsFirstHeld}
 
 positive : (items : List Item) → AllUnweighted items → AllPositive items

@@ -8,7 +8,7 @@ use Rattle.lang_core.specs.Text.{pieces_by}
 use Rattle.lang_core.specs.Grammar.{is_digit}
 use Rattle.nego_core.proofs.FieldLemmas.{all_items}
 use Rattle.nego_core.specs.Weight.{IsQvalue, thousandths}
-use Rattle.nego_core.specs.Element.{WeightGrammar}
+use Rattle.nego_core.specs.Field.{WeightGrammar}
 use Rattle.nego_core.specs.Item.{Item}
 use Rattle.nego_core.specs.Field.{IsField}
 use Rattle.nego_core.specs.declared.scheme.Scheme.{Scheme}

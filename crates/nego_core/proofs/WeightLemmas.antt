@@ -10,10 +10,10 @@ use Rattle.std.proofs.lemmas.Bool.Decides.{nat_tests}
 use Rattle.lang_core.specs.Grammar.{is_digit}
 use Rattle.nego_core.proofs.Basics.{the_one}
 use Rattle.nego_core.proofs.BlanksLemmas.{cut_only, cut_front, blanks_end}
-use Rattle.nego_core.specs.Element.{WeightGrammar}
+use Rattle.nego_core.specs.Field.{WeightGrammar}
 use Rattle.nego_core.specs.declared.scheme.Scheme.{Scheme}
 use Rattle.nego_core.specs.declared.scheme.Scheme.TheVariants.{Basic, Extended}
-use Rattle.nego_core.specs.Blanks.{is_blank, AreBlanks, skip_blanks, is_plain, IsCut}
+use Rattle.nego_core.specs.Weight.{is_blank, AreBlanks, skip_blanks, is_plain, IsCut}
 use Rattle.nego_core.specs.Weight.{IsQvalue, is_zero_digit, HasWeight, IsWeight, IsLastQvalue}
 use Rattle.nego_core.specs.Weight.{FollowsSemicolon, IsNamedQvalue, IsTail}
 use Rattle.nego_core.specs.Basics.{IsTheOne}

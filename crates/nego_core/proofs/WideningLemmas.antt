@@ -40,8 +40,8 @@ use Rattle.nego_core.proofs.Rising.{rising_is, rising_of, rising_tail}
 use Rattle.nego_core.specs.Item.{Item}
 use Rattle.nego_core.specs.Deciding.{Matches, NamedRefuse}
 use Rattle.nego_core.specs.LangSet.{is_among}
-use Rattle.nego_core.specs.LookupCandidates.{candidates_of, all_candidates, IsOpen, IsLookedUp}
-use Rattle.nego_core.specs.LookupCandidates.{MatchFirstOf}
+use Rattle.nego_core.specs.Choosing.{candidates_of, all_candidates, IsOpen, IsLookedUp}
+use Rattle.nego_core.specs.Choosing.{MatchFirstOf}
 use Rattle.nego_core.specs.LookupOrder.{AreOrderKeys, IsOrder, is_tried}
 use Rattle.nego_core.specs.LookupPlaces.{least_place}
 use Rattle.nego_core.specs.WidenedChoice.{Fits, IsFirstWidened, IsFirstWidenedAt, MatchLeast}

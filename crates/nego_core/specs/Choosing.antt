@@ -1,11 +1,55 @@
-use Rattle.std.specs.Prelude.{ℕ, Bool, IsTrue, List, Option, Some, None, IsSomeAnd}
-use Rattle.lang_core.specs.Text.{pieces}
+use Rattle.std.specs.Prelude.{ℕ, ◌≡◌, Bool, IsTrue, List, [], ◌∷◌, ◌++◌, Option, Some, None, All}
+use Rattle.std.specs.List.{flat_map, slice_get}
+use Rattle.lang_core.specs.Text.{pieces, joined}
+use Rattle.lang_core.specs.Matching.{as_basic}
+use Rattle.lang_core.specs.Candidates.{candidates}
 use Rattle.nego_core.specs.Item.{Item}
+use Rattle.nego_core.specs.Deciding.{NamedRefuse}
+use Rattle.nego_core.specs.LookupOrder.{IsOrder}
+use Rattle.std.specs.Prelude.{IsSomeAnd}
 use Rattle.nego_core.specs.Deciding.{RefusesLang}
-use Rattle.nego_core.specs.LookupCandidates.{IsLookedUp}
 use Rattle.nego_core.specs.declared.scheme.Scheme.TheVariants as scheme
 use Rattle.nego_core.specs.declared.choosing.Choice.{Choice}
 use Rattle.nego_core.specs.declared.choosing.Choice.TheVariants.{Matched, Default, Nothing}
+
+-- the candidates of a range, which is taken as a basic one (RFC 4647 sections 3.2 and 3.4)
+abbrev pub candidates_of : Item → List (List (List ℕ))
+candidates_of i = candidates (as_basic (pieces i.range))
+
+abbrev pub all_candidates : List Item → List (List (List ℕ))
+all_candidates items = flat_map candidates_of items
+
+-- the candidates of the item at a place
+abbrev pub candidates_at : List Item → ℕ → List (List (List ℕ))
+candidates_at items place = of_item (slice_get items place) where
+  of_item : Option Item → List (List (List ℕ))
+  of_item None = []
+  of_item (Some i) = candidates_of i
+
+-- a candidate is held, and the items other than "*" do not refuse it
+abbrev pub IsOpen : List Item → (List ℕ → Bool) → List (List ℕ) → Type 0
+IsOpen items held candidate = IsTrue (held (joined candidate)) × ¬ NamedRefuse items candidate
+
+-- where the first of a list stands that passes
+pub record IsFirst {X : Type 0} (Passes : X → Type 0) (list : List X) (x : X) : Type 0 where
+  pub before : List X
+  pub after : List X
+  pub whole : list ≡ before ++ x ∷ after
+  pub none_before : All (λ y. ¬ Passes y) before
+  pub passes : Passes x
+
+-- the first of a list that passes, or none where none does
+abbrev pub MatchFirstOf : {X : Type 0} → (X → Type 0) → List X → Option X → Type 0
+MatchFirstOf Passes list None = All (λ y. ¬ Passes y) list
+MatchFirstOf Passes list (Some x) = IsFirst Passes list x
+
+-- RFC 4647 section 3.4: the first candidate of the items, in their order, that is held and not
+-- refused
+pub record IsLookedUp (items : List Item) (held : List ℕ → Bool)
+    (found : Option (List (List ℕ))) : Type 0 where
+  pub ordered : List Item
+  pub order_ok : IsOrder items ordered
+  pub found_is : MatchFirstOf (IsOpen items held) (all_candidates ordered) found
 
 -- a default may be answered where it is held and the whole list, "*" included, does not refuse it
 -- (project rule)

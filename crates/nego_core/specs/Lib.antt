@@ -2,16 +2,13 @@ pub mod Basics
 pub mod Fault
 pub mod Fingerprint
 pub mod Item
-pub mod Blanks
 pub mod Weight
-pub mod Element
 pub mod Field
 pub mod Deciding
 pub mod Chains
 pub mod HashedRanges
 pub mod Index
 pub mod LookupOrder
-pub mod LookupCandidates
 pub mod LangSet
 pub mod Choosing
 pub mod LookupPlaces

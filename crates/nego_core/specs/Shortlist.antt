@@ -5,8 +5,8 @@ use Rattle.std.specs.List.{slice_get}
 use Rattle.lang_core.specs.Text.{pieces}
 use Rattle.nego_core.specs.Item.{Item}
 use Rattle.nego_core.specs.LangSet.{is_among}
-use Rattle.nego_core.specs.LookupCandidates.{IsLookedUp, IsOpen, MatchFirstOf}
-use Rattle.nego_core.specs.LookupCandidates.{candidates_at}
+use Rattle.nego_core.specs.Choosing.{IsLookedUp, IsOpen, MatchFirstOf}
+use Rattle.nego_core.specs.Choosing.{candidates_at}
 use Rattle.nego_core.specs.Choosing.{IsChosen}
 use Rattle.nego_core.specs.WidenedChoice.{IsChosenWidened, IsFirstWidenedAt}
 use Rattle.nego_core.specs.Widening.{IsLookedUpWidened}

@@ -6,7 +6,7 @@ use Rattle.lang_core.specs.Lang.{tag_of}
 use Rattle.lang_core.specs.Matching.{as_basic, is_lone_star}
 use Rattle.nego_core.specs.Item.{Item}
 use Rattle.nego_core.specs.Deciding.{Matches}
-use Rattle.nego_core.specs.LookupCandidates.{MatchFirstOf, all_candidates}
+use Rattle.nego_core.specs.Choosing.{MatchFirstOf, all_candidates}
 use Rattle.nego_core.specs.declared.scheme.Scheme.{Scheme}
 
 -- What RFC 4647 says where no project rule applies: of lists without a weight 0, and without

@@ -6,7 +6,7 @@ use Rattle.std.specs.Ordering.{nat_cmp, is_lt}
 use Rattle.lang_core.specs.Text.{pieces}
 use Rattle.nego_core.specs.Item.{Item}
 use Rattle.nego_core.specs.Deciding.{NamedRefuse}
-use Rattle.nego_core.specs.LookupCandidates.{IsOpen, MatchFirstOf}
+use Rattle.nego_core.specs.Choosing.{IsOpen, MatchFirstOf}
 use Rattle.nego_core.specs.LangSet.{is_among}
 use Rattle.nego_core.specs.Choosing.{HasOpenDefault}
 use Rattle.nego_core.specs.Widening.{AreMatched, IsBelow, IsLookedUpWidened, MatchesLang, widened}

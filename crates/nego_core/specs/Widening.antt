@@ -10,7 +10,7 @@ use Rattle.lang_core.specs.Lang.{tag_of}
 use Rattle.nego_core.specs.Item.{Item}
 use Rattle.nego_core.specs.Deciding.{Matches}
 use Rattle.nego_core.specs.LookupOrder.{IsOrder}
-use Rattle.nego_core.specs.LookupCandidates.{candidates_of, IsOpen, MatchFirstOf}
+use Rattle.nego_core.specs.Choosing.{candidates_of, IsOpen, MatchFirstOf}
 use Rattle.nego_core.specs.LangSet.{is_among}
 use Rattle.nego_core.specs.LookupPlaces.{least_place, IsFound}
 use Rattle.nego_core.specs.Choosing.{IsOpenDefault, HasOpenDefault}

@@ -1,14 +1,19 @@
-//! Lookup (RFC 4647 section 3.4) over any set of languages, with a default.
+//! Lookup (RFC 4647 section 3.4) over any set of languages, with a default: the ranges in order,
+//! each through its truncations.
 ghost use Rattle.std.specs.Prelude.{◌↔◌, IsTrue, option_map};
 ghost use Rattle.nego_core.specs.Deciding.{RefusesLang};
 ghost use Rattle.nego_core.specs.Choosing.{IsOpenDefault, HasOpenDefault, IsChosen};
 ghost use Rattle.nego_core.specs.declared.scheme.Scheme.TheVariants as scheme;
+ghost use Rattle.lang_core.specs.Text.{pieces};
+ghost use Rattle.lang_core.specs.Matching.{as_basic};
+ghost use Rattle.lang_core.specs.Candidates.{candidates};
+ghost use Rattle.nego_core.specs.Deciding.{NamedRefuse};
+ghost use Rattle.nego_core.specs.Choosing.{IsOpen, MatchFirstOf, IsLookedUp, candidates_at};
 
 use crate::lang_set::Holds;
-use crate::lookup_candidates::look_up;
 use crate::priority_list::PriorityList;
 use crate::scheme::Scheme;
-use lang_core::Lang;
+use lang_core::{Lang, Range};
 
 /// What lookup answers over a set of languages.
 #[derive(Clone, Copy, Debug, PartialEq, Eq)]
@@ -45,6 +50,68 @@ pub fn choose<'a, H: Holds>(list: &'a PriorityList, held: &H, default: Option<&L
     }
 }
 
+/// The first candidate of the items, in their order by weight, that is open (RFC 4647 section 3.4).
+pub(crate) fn look_up<'a, H: Holds>(list: &'a PriorityList, held: &H) -> Option<&'a str>
+    ensures { IsLookedUp list.now (H.held held.now) (option_map (λ text. pieces text.now) result) }
+{
+    let keys = list.order();
+    for key in keys {
+        match first_at(list, key.place, held) {
+            Some(text) => return Some(text),
+            None => {}
+        }
+    }
+    None
+}
+
+/// The first candidate of the item at the place that is open.
+pub(crate) fn first_at<'a, H: Holds>(
+    list: &'a PriorityList,
+    place: usize,
+    held: &H,
+) -> Option<&'a str>
+    ensures { MatchFirstOf (IsOpen list.now (H.held held.now)) (candidates_at list.now place)
+        (option_map (λ text. pieces text.now) result) }
+{
+    let items = list.items();
+    if place >= items.len() {
+        return None;
+    }
+    first_of(list, items[place].range(), held)
+}
+
+/// The first candidate of the range that is open.
+pub(crate) fn first_of<'a, H: Holds>(
+    list: &PriorityList,
+    range: &'a Range,
+    held: &H,
+) -> Option<&'a str>
+    ensures { MatchFirstOf (IsOpen list.now (H.held held.now))
+        (candidates (as_basic (pieces range.now)))
+        (option_map (λ text. pieces text.now) result) }
+{
+    for text in range.truncations() {
+        if is_open(list, held, text) {
+            return Some(text);
+        }
+    }
+    None
+}
+
+/// Whether the items other than "*" refuse the text.
+pub(crate) fn named_refuse(list: &PriorityList, text: &str) -> bool
+    ensures { IsTrue result ↔ NamedRefuse list.now (pieces text.now) }
+{
+    if !list.may_refuse() {
+        return false;
+    }
+    let items = list.items();
+    match list.indexed_items().best_named(text.as_bytes()) {
+        Some(best) => items[best.place].weight() == 0,
+        None => false,
+    }
+}
+
 /// Whether there is a default, and it is open.
 pub(crate) fn has_open_default<H: Holds>(
     list: &PriorityList,
@@ -58,6 +125,13 @@ pub(crate) fn has_open_default<H: Holds>(
         Some(lang) => is_open_default(list, held, lang),
         None => false,
     }
+}
+
+/// Whether the text is in the set and not refused.
+fn is_open<H: Holds>(list: &PriorityList, held: &H, text: &str) -> bool
+    ensures { IsTrue result ↔ IsOpen list.now (H.held held.now) (pieces text.now) }
+{
+    held.holds(text) && !named_refuse(list, text)
 }
 
 /// Whether the default is in the set and the whole list does not refuse it.

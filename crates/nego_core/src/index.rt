@@ -61,18 +61,6 @@ pub(crate) fn sought_place(items: &[Item], places: &[usize], text: &[u8]) -> Opt
     }
 }
 
-/// The place of the first item whose range is the text, by a scan of all items.
-pub(crate) fn first_place(items: &[Item], text: &[u8]) -> Option<usize>
-    ensures { MatchFirst items.now text.now result }
-{
-    for (place, item) in items.iter().enumerate() {
-        if item.is_range(text) {
-            return Some(place);
-        }
-    }
-    None
-}
-
 /// The index of basic ranges: in buckets, or sorted where a bucket would be long.
 fn range_index_of(alloc: Global, items: &[Item]) -> Result<Index, AllocError>
     requires { 0 < length items.now }

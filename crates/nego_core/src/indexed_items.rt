@@ -7,7 +7,7 @@ ghost use Rattle.nego_core.specs.Index.{IsIndex, MatchFirst};
 
 use crate::deciding::{MostSpecific, best_extended, best_of, better_of};
 use crate::hashed_ranges::place_in;
-use crate::index::{Index, first_place, sought_place};
+use crate::index::{Index, sought_place};
 use crate::item::Item;
 use crate::scheme::Scheme;
 use lang_core::Tag;
@@ -116,4 +116,16 @@ impl<'a> IndexedItems<'a> {
             _ => first_place(self.items, text),
         }
     }
+}
+
+/// The place of the first item whose range is the text, by a scan of all items.
+fn first_place(items: &[Item], text: &[u8]) -> Option<usize>
+    ensures { MatchFirst items.now text.now result }
+{
+    for (place, item) in items.iter().enumerate() {
+        if item.is_range(text) {
+            return Some(place);
+        }
+    }
+    None
 }

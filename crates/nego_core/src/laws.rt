@@ -4,11 +4,11 @@ ghost use Rattle.std.specs.Prelude.{None, Bool, IsTrue, All, AllPairs, Contains,
 ghost use Rattle.std.specs.Prelude.{filter, map};
 ghost use Rattle.lang_core.specs.Text.{pieces, pieces_by, joined};
 ghost use Rattle.nego_core.specs.Item.{Item};
-ghost use Rattle.nego_core.specs.Element.{IsPadded};
+ghost use Rattle.nego_core.specs.Field.{IsPadded};
 ghost use Rattle.nego_core.specs.declared.scheme.Scheme.{Scheme};
 ghost use Rattle.nego_core.specs.Filtering.{IsFiltered, IsPicked};
 ghost use Rattle.nego_core.specs.LookupOrder.{is_tried, IsOrder};
-ghost use Rattle.nego_core.specs.LookupCandidates.{IsLookedUp, candidates_of};
+ghost use Rattle.nego_core.specs.Choosing.{IsLookedUp, candidates_of};
 ghost use Rattle.nego_core.specs.LookupPlaces.{IsFound};
 ghost use Rattle.nego_core.specs.LangSet.{is_among};
 ghost use Rattle.nego_core.specs.Widening.{IsLookedUpWidened, MatchesLang};

@@ -28,11 +28,9 @@
 #![tactic(auto)]
 
 mod as_lang;
-mod blanks;
 mod chains;
 mod choosing;
 mod deciding;
-mod element;
 mod fault;
 mod field;
 mod filtering;
@@ -43,7 +41,6 @@ mod indexed_items;
 mod item;
 mod lang_set;
 pub mod laws;
-mod lookup_candidates;
 mod lookup_order;
 mod lookup_places;
 mod ordered_text;

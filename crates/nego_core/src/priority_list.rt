@@ -229,9 +229,9 @@ fn list_of(alloc: Global, scheme: Scheme, items: Vec<Item>) -> Result<PriorityLi
             may_refuse: false,
         });
     }
+    let may_refuse = may_refuse(&items);
     let order = order_of(alloc, &items)?;
     let index = index_of(alloc, scheme, &items)?;
-    let may_refuse = may_refuse(&items);
     Ok(PriorityList {
         items,
         order,

@@ -3,12 +3,11 @@ ghost use Rattle.std.specs.Prelude.{◌≡◌, IfOk, IsTrue, option_map};
 ghost use Rattle.lang_core.specs.Text.{pieces};
 ghost use Rattle.nego_core.specs.Filtering.{texts_of};
 ghost use Rattle.nego_core.specs.LangSet.{is_among};
-ghost use Rattle.nego_core.specs.LookupCandidates.{MatchFirstOf};
+ghost use Rattle.nego_core.specs.Choosing.{MatchFirstOf};
 ghost use Rattle.nego_core.specs.Shortlist.{AreAmong, IsChosenBy, IsFirstAt, IsFoundAt, IsOneOf};
 ghost use Rattle.nego_core.specs.Shortlist.{IsRanking, IsShortlist, IsThere};
 
-use crate::choosing::{Choice, has_open_default};
-use crate::lookup_candidates::first_at;
+use crate::choosing::{Choice, first_at, has_open_default};
 use crate::priority_list::PriorityList;
 use crate::widened_choice::{Languages, Searched, first_widened_at};
 use crate::widening::{Listed, Widening, listed_place};

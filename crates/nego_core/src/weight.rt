@@ -1,4 +1,4 @@
-//! The weight of an element (RFC 9110 section 12.4.2).
+//! The weight of an element (RFC 9110 section 12.4.2), and the blanks beside it (section 5.6.3).
 ghost use Rattle.std.specs.Prelude.{◌≤◌, IfSome, ◌≡◌, IsTrue, slice_index, ◌-◌};
 ghost use Rattle.nego_core.specs.Basics.{IsTheOne};
 ghost use Rattle.nego_core.specs.Weight.{IsWeight, IsNoWeight, FollowsSemicolon, IsNamedQvalue};
@@ -6,8 +6,8 @@ ghost use Rattle.nego_core.specs.Weight.{IsLastQvalue, IsTail, IsQvalue, is_zero
 ghost use Rattle.nego_core.specs.Weight.{thousandths};
 ghost use Rattle.std.specs.List.{list_all};
 ghost use Rattle.lang_core.specs.Grammar.{is_digit};
-
-use crate::blanks::{all_blanks, cut_token, trim_start};
+ghost use Rattle.std.specs.Prelude.{position};
+ghost use Rattle.nego_core.specs.Weight.{is_blank, skip_blanks, is_stop, IsCut};
 
 /// The weight of an element that has none.
 const FULL_WEIGHT: u16 = 1000;
@@ -34,6 +34,20 @@ pub(crate) fn read_no_weight(text: &[u8]) -> Option<u16>
     } else {
         None
     }
+}
+
+/// A space or a tab (RFC 9110 section 5.6.3).
+fn is_blank(byte: u8) -> bool
+    ensures { result ≡ is_blank byte }
+{
+    byte == b' ' || byte == b'\t'
+}
+
+/// A blank or a semicolon.
+fn is_stop(byte: u8) -> bool
+    ensures { result ≡ is_stop byte }
+{
+    is_blank(byte) || byte == b';'
 }
 
 /// The weight after a semicolon.
@@ -116,4 +130,42 @@ fn all_zeros(digits: &[u8]) -> bool
     ensures { result ≡ list_all is_zero_digit digits.now }
 {
     digits.iter().all(|b| *b == b'0')
+}
+
+/// Whether the text is blanks alone.
+fn all_blanks(text: &[u8]) -> bool
+    ensures { result ≡ list_all is_blank text.now }
+{
+    text.iter().all(|b| is_blank(*b))
+}
+
+/// The text without its leading blanks.
+fn trim_start(text: &[u8]) -> &[u8]
+    ensures { result.now ≡ skip_blanks text.now }
+{
+    let mut rest = text;
+    while let [first, others @ ..] = rest {
+        if !is_blank(*first) {
+            return rest;
+        }
+        rest = others;
+    }
+    rest
+}
+
+/// The text up to the first blank or semicolon, and the rest.
+fn cut_token(text: &[u8]) -> (&[u8], &[u8])
+    ensures { IsCut text.now result.0.now result.1.now }
+{
+    match stop_at(text) {
+        Some(at) => (&text[..at], &text[at..]),
+        None => (text, &[]),
+    }
+}
+
+/// The place of the first blank or semicolon.
+fn stop_at(text: &[u8]) -> Option<usize>
+    ensures { result ≡ position is_stop text.now }
+{
+    text.iter().position(|b| is_stop(*b))
 }

@@ -6,11 +6,10 @@ ghost use Rattle.nego_core.specs.WidenedChoice.{IsChosenWidened, IsFirstWidened}
 ghost use Rattle.nego_core.specs.WidenedChoice.{IsFirstWidenedAt, MatchLeast, Passes};
 ghost use Rattle.nego_core.specs.Widening.{IsLookedUpWidened, MatchesLang};
 
-use crate::choosing::{Choice, has_open_default};
+use crate::choosing::{Choice, first_of, has_open_default, named_refuse};
 use crate::fingerprint::first_byte;
 use crate::item::Item;
 use crate::lang_set::Holds;
-use crate::lookup_candidates::{first_of, named_refuse};
 use crate::priority_list::PriorityList;
 use crate::scheme::Scheme;
 use lang_core::Lang;

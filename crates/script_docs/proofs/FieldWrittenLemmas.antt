@@ -18,7 +18,7 @@ use Rattle.lang_core.specs.Text.{pieces, pieces_by}
 use Rattle.lang_core.proofs.LookupLemmas.{lower-range}
 use Rattle.lang_core.proofs.PiecesLemmas.{size_pieces}
 use Rattle.lang_core.proofs.RangeText.{basic_extended, is_range_byte, range_bytes}
-use Rattle.nego_core.specs.Element.{IsElement, IsPadded, RangeGrammar, WeightGrammar}
+use Rattle.nego_core.specs.Field.{IsElement, IsPadded, RangeGrammar, WeightGrammar}
 use Rattle.nego_core.specs.Field.{ArePieces, IsField, RefusesField}
 use Rattle.nego_core.specs.Item.{Item, item_eq, item_equiv}
 use Rattle.nego_core.specs.Weight.{HasWeight, IsQvalue, thousandths}

@@ -1,5 +1,5 @@
 use Rattle.std.proofs.Common.{rules, ◌≡◌, ◌<◌, ◌-◌, ◌++◌, length, take, arith, ap}
-use Rattle.nego_core.specs.Element.{BeginsOverlong}
+use Rattle.nego_core.specs.Field.{BeginsOverlong}
 use Rattle.nego_core.specs.Field.{HasElement, RefusesField, IsFirstPiece}
 use Rattle.nego_core.specs.declared.fault.NegoFault.TheVariants.{FieldMalformed}
 use Rattle.nego_core.proofs.SeparatorLemmas.{BeginsElement, walked_from, begins_element, element_read}

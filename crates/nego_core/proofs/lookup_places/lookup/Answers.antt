@@ -1,7 +1,7 @@
 use Rattle.std.proofs.Common.{ℕ, ◌≡◌, List, true, Some, subst}
 use Rattle.lang_core.specs.Text.{pieces}
 use Rattle.nego_core.specs.LangSet.{is_among}
-use Rattle.nego_core.specs.LookupCandidates.{IsLookedUp}
+use Rattle.nego_core.specs.Choosing.{IsLookedUp}
 use Rattle.nego_core.proofs.LookupCandidatesLemmas.{found_held}
 use Rattle.nego_core.proofs.lookup_places.lookup.Goals as goal
 

@@ -1,7 +1,7 @@
 use Rattle.std.proofs.Common.{ℕ, List, drop}
 use Rattle.std.specs.Prelude.{Option}
 use Rattle.nego_core.specs.Filtering.{texts_of}
-use Rattle.nego_core.specs.LookupCandidates.{MatchFirstOf}
+use Rattle.nego_core.specs.Choosing.{MatchFirstOf}
 use Rattle.nego_core.specs.Shortlist.{IsOneOf}
 use Rattle.nego_core.proofs.shortlist.first_among.Given as goal
 

@@ -1,7 +1,7 @@
 use Rattle.std.specs.Prelude.{Some, None}
 use Rattle.lang_core.specs.Text.{pieces}
 use Rattle.nego_core.specs.LangSet.{is_among}
-use Rattle.nego_core.specs.LookupCandidates.{IsOpen}
+use Rattle.nego_core.specs.Choosing.{IsOpen}
 use Rattle.nego_core.proofs.WideningLemmas.{by_candidate, by_match, by_none, of_range}
 use Rattle.nego_core.proofs.widened_choice.first_widened.Goals as goal
 

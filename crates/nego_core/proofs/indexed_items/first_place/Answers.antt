@@ -1,6 +1,6 @@
 use Rattle.std.proofs.Common.{sym, ◌∙◌}
 use Rattle.nego_core.proofs.IndexLemmas.{found_here, none_here, none_of_all}
-use Rattle.nego_core.proofs.index.first_place.Goals as goal
+use Rattle.nego_core.proofs.indexed_items.first_place.Goals as goal
 
 pub returns-then-is_range : goal.returns-then-is_range
 returns-then-is_range c =

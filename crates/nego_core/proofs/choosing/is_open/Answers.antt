@@ -2,7 +2,7 @@ use Rattle.nego_core.proofs.ChoosingLemmas.{open_held, closed}
 use Rattle.nego_core.proofs.LookupCandidatesLemmas.{held_text}
 use Rattle.nego_core.specs.Deciding.{NamedRefuse}
 use Rattle.lang_core.specs.Text.{pieces}
-use Rattle.nego_core.proofs.lookup_candidates.is_open.Goals as goal
+use Rattle.nego_core.proofs.choosing.is_open.Goals as goal
 
 pub returns-then-holds : goal.returns-then-holds
 returns-then-holds g c =

@@ -1,5 +1,5 @@
 use Rattle.nego_core.proofs.LookupCandidatesLemmas.{named_refused}
-use Rattle.nego_core.proofs.lookup_candidates.named_refuse.Goals as goal
+use Rattle.nego_core.proofs.choosing.named_refuse.Goals as goal
 
 pub returns-in-Some : goal.returns-in-Some
 returns-in-Some c =

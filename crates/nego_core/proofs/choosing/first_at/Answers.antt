@@ -1,6 +1,6 @@
-use Rattle.nego_core.specs.LookupCandidates.{IsOpen}
+use Rattle.nego_core.specs.Choosing.{IsOpen}
 use Rattle.nego_core.proofs.LookupCandidatesLemmas.{no_candidates, item_candidates}
-use Rattle.nego_core.proofs.lookup_candidates.first_at.Goals as goal
+use Rattle.nego_core.proofs.choosing.first_at.Goals as goal
 
 pub returns-then-place-items : goal.returns-then-place-items
 returns-then-place-items g c =

@@ -1,7 +1,7 @@
 use Rattle.std.proofs.Common.{rules, ◌++◌}
-use Rattle.nego_core.specs.Element.{HasStart}
+use Rattle.nego_core.specs.Field.{HasStart}
 use Rattle.nego_core.proofs.RangeEndLemmas.{no_begun_range, no_begun_weight, has_begun_item}
-use Rattle.nego_core.proofs.element.read_item.Goals as goal
+use Rattle.nego_core.proofs.field.read_item.Goals as goal
 
 pub returns-in_default : goal.returns-in_default
 returns-in_default c =

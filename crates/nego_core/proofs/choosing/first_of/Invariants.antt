@@ -4,8 +4,8 @@ use Rattle.lang_core.specs.Text.{pieces}
 use Rattle.lang_core.specs.Matching.{as_basic}
 use Rattle.lang_core.specs.Candidates.{candidates}
 use Rattle.lang_core.specs.Truncations.{truncations_left}
-use Rattle.nego_core.specs.LookupCandidates.{IsOpen, MatchFirstOf}
-use Rattle.nego_core.proofs.lookup_candidates.first_of.Given as goal
+use Rattle.nego_core.specs.Choosing.{IsOpen, MatchFirstOf}
+use Rattle.nego_core.proofs.choosing.first_of.Given as goal
 
 abbrev pub invariant-loop-text : goal.invariant-loop-text
 invariant-loop-text g l =

@@ -1,8 +1,8 @@
 use Rattle.std.specs.Prelude.{Option}
 use Rattle.std.proofs.Common.{ℕ, List}
-use Rattle.nego_core.specs.LookupCandidates.{IsOpen}
+use Rattle.nego_core.specs.Choosing.{IsOpen}
 use Rattle.nego_core.proofs.LookupCandidatesLemmas.{FirstFrom}
-use Rattle.nego_core.proofs.lookup_candidates.look_up.Given as goal
+use Rattle.nego_core.proofs.choosing.look_up.Given as goal
 
 abbrev pub invariant-loop-key : goal.invariant-loop-key
 invariant-loop-key g l =

@@ -1,10 +1,10 @@
 use Rattle.std.proofs.Common.{Some, None, sym, ◌∙◌}
 use Rattle.std.proofs.lemmas.List.Elements.{All-nil}
 use Rattle.lang_core.specs.Text.{pieces}
-use Rattle.nego_core.specs.LookupCandidates.{IsOpen}
+use Rattle.nego_core.specs.Choosing.{IsOpen}
 use Rattle.nego_core.proofs.Basics.{false_true}
 use Rattle.nego_core.proofs.LookupCandidatesLemmas.{first_here, first_later}
-use Rattle.nego_core.proofs.lookup_candidates.first_of.Goals as goal
+use Rattle.nego_core.proofs.choosing.first_of.Goals as goal
 
 pub returns-then-is_open : goal.returns-then-is_open
 returns-then-is_open g c =
