@@ -15,7 +15,8 @@ use Rattle.cata_core.specs.Answer.{AreAnswers}
 use Rattle.cata_core.specs.PlayFault.{AgreesWith, NoneFaulty, IsNoDeliver, NoDelivers, Clashes}
 use Rattle.cata_core.specs.PlayFault.{Unsettles}
 use Rattle.cata_core.proofs.CatalogueJoinsLemmas.{joined_catalogue}
-use Rattle.cata_core.proofs.SettlingLemmas.{settled_if_agree, agree_if_settled, settled_one, settled_none}
+use Rattle.cata_core.proofs.SettlingLemmas.{settled_if_agree, agree_if_settled, settled_one}
+use Rattle.cata_core.proofs.SettlingLemmas.{settled_none}
 use Rattle.cata_core.proofs.SettlingLemmas.{catalogue_of-one}
 use Rattle.cata_core.proofs.MachineLemmas.{AllSound, all_sound, HeldAnswersFrom, TakenAnswersFrom}
 use Rattle.cata_core.proofs.MachineLemmas.{taken_one_more, taken_answers}

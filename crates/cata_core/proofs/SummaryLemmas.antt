@@ -9,14 +9,16 @@ use Rattle.cell_core.specs.declared.cell.Cell.{Cell}
 use Rattle.cell_core.specs.declared.stamp.Stamp.{Stamp}
 use Rattle.cell_core.specs.Stamp.{stamp_cmp}
 use Rattle.cell_core.specs.Cell.{AgreeStamps, joined_stamps, joined_cells}
-use Rattle.cell_core.specs.Keyed.{IsMap, AgreeIfBoth, joined_maps, joined_if_both, joined_maps-IsMap}
+use Rattle.cell_core.specs.Keyed.{IsMap, AgreeIfBoth, joined_maps, joined_if_both}
+use Rattle.cell_core.specs.Keyed.{joined_maps-IsMap}
 use Rattle.cell_core.specs.Keyed.{find-joined_maps, same_maps}
 use Rattle.cata_core.specs.Entries.{EntryKey, key_cmp, key_cmp_total, key_cmp_exact, Entry, Entries}
 use Rattle.cata_core.specs.Entries.{joined, IsBelowCells}
 use Rattle.cata_core.specs.Edits.{catalogue_of}
 use Rattle.cata_core.specs.Delta.{Stamps, summary_of, HasAll, HasAtLeast, IsBelowStamps}
 use Rattle.cata_core.proofs.Basics.{less_of, not_less_of}
-use Rattle.cata_core.proofs.StampOrderLemmas.{not_less_self, not_less_back, not_less_trans, same_stamp}
+use Rattle.cata_core.proofs.StampOrderLemmas.{not_less_self, not_less_back, not_less_trans}
+use Rattle.cata_core.proofs.StampOrderLemmas.{same_stamp}
 use Rattle.cata_core.proofs.MembersLemmas.{In, Contains-from_in}
 use Rattle.cata_core.proofs.BestLemmas.{best_in}
 use Rattle.cata_core.proofs.MappedLemmas.{mapped-IsMap, find-mapped}

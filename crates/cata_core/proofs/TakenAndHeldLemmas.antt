@@ -36,7 +36,8 @@ use Rattle.cata_core.proofs.ClashLemmas.{clash_not_agree}
 use Rattle.cata_core.proofs.DeltaLemmas.{nothing_lost, part_agrees}
 use Rattle.cata_core.proofs.SummaryLemmas.{has_told}
 use Rattle.cata_core.proofs.TakesLemmas.{grows}
-use Rattle.cata_core.proofs.MachineLemmas.{FaultFrom, HeldAnswersFrom, TakenAnswersFrom, taken_answers}
+use Rattle.cata_core.proofs.MachineLemmas.{FaultFrom, HeldAnswersFrom, TakenAnswersFrom}
+use Rattle.cata_core.proofs.MachineLemmas.{taken_answers}
 
 -- the same cells answer the same
 pub same_answered : (of : ℕ → Entries) (with : ℕ → List Entry)

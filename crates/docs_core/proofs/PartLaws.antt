@@ -12,7 +12,8 @@ use Rattle.cata_core.specs.Parts.{part_of}
 use Rattle.cata_core.proofs.Basics.{some_same}
 use Rattle.cata_core.proofs.BestLemmas.{own_key, same_key}
 use Rattle.cata_core.proofs.FilteredLemmas.{filter-IsMap}
-use Rattle.cata_core.proofs.MembersLemmas.{Contains-from_in, In, filter_in, in_filter, in_from_Contains}
+use Rattle.cata_core.proofs.MembersLemmas.{Contains-from_in, In, filter_in, in_filter}
+use Rattle.cata_core.proofs.MembersLemmas.{in_from_Contains}
 use Rattle.cata_core.proofs.PartsLemmas.{find-part, part_looks_up_by}
 use Rattle.cata_core.specs.declared.reply.Reply.TheVariants.{Default, Matched}
 use Rattle.nego_core.specs.Item.{Item}

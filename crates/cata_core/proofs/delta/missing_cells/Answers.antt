@@ -3,7 +3,8 @@ use Rattle.cata_core.specs.Cells.{cells_left}
 use Rattle.cata_core.specs.Delta.{is_missing}
 use Rattle.cata_core.specs.Entries.{EntryKey, Entries, IsAboveAll}
 use Rattle.cata_core.specs.Summary.{stamps_of}
-use Rattle.cata_core.proofs.MissingCellsLemmas.{AreMissingSoFar, sent_above, missing_more, missing_same}
+use Rattle.cata_core.proofs.MissingCellsLemmas.{AreMissingSoFar, sent_above, missing_more}
+use Rattle.cata_core.proofs.MissingCellsLemmas.{missing_same}
 use Rattle.cata_core.proofs.SummaryListsLemmas.{not_greater_self}
 use Rattle.cata_core.proofs.delta.missing_cells.Goals as goal
 

@@ -2,7 +2,8 @@ use Rattle.std.proofs.Common.{◌+◌, sym, ◌∙◌, ap, subst, arith}
 use Rattle.cell_core.specs.Iter.{entries_left}
 use Rattle.cata_core.specs.Entries.{EntryKey, text_cmp}
 use Rattle.cata_core.proofs.KeyPlacesLemmas.{place_of-le}
-use Rattle.cata_core.proofs.NestedPlacesLemmas.{IsInFront, in_front_less, in_front_same, in_front_next}
+use Rattle.cata_core.proofs.NestedPlacesLemmas.{IsInFront, in_front_less, in_front_same}
+use Rattle.cata_core.proofs.NestedPlacesLemmas.{in_front_next}
 use Rattle.cata_core.proofs.NestedPlacesLemmas.{in_front_fits}
 use Rattle.cata_core.proofs.places.place.Goals as goal
 

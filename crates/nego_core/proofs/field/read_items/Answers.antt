@@ -2,7 +2,8 @@ use Rattle.std.proofs.Common.{rules, ◌≡◌, ◌<◌, ◌-◌, ◌++◌, leng
 use Rattle.nego_core.specs.Field.{BeginsOverlong}
 use Rattle.nego_core.specs.Field.{HasElement, RefusesField, IsFirstPiece}
 use Rattle.nego_core.specs.declared.fault.NegoFault.TheVariants.{FieldMalformed}
-use Rattle.nego_core.proofs.SeparatorLemmas.{BeginsElement, walked_from, begins_element, element_read}
+use Rattle.nego_core.proofs.SeparatorLemmas.{BeginsElement, walked_from, begins_element}
+use Rattle.nego_core.proofs.SeparatorLemmas.{element_read}
 use Rattle.nego_core.proofs.SeparatorLemmas.{element_refused, overlong_refused, element_passed}
 use Rattle.nego_core.proofs.SeparatorLemmas.{element_fits, cut_shorter, no_more, rest_fits}
 use Rattle.nego_core.proofs.SeparatorLemmas.{walked_to_end}
