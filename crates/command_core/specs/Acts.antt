@@ -166,12 +166,6 @@ IsReplay input text answered = Replays input text × (answered ≡ 0)
 
 -- ---- any command
 
--- whether one text answers it; `sync` writes two, and `replay` its lines
-abbrev pub HasOneText : TaskWords → Type 0
-HasOneText (task.Sync limit) = ⊥
-HasOneText task.Replay = ⊥
-HasOneText _ = Unit {0}
-
 -- this text with this status answers it; `pick`, `new` and `explain` read nothing
 abbrev pub Answers : {R : Type 0} → TaskWords → Reader R → List ℕ → ℕ → Type 0
 Answers (task.Pick words) reader text answered = IsUnread reader × IsPick words text answered

@@ -8,8 +8,8 @@ ghost use Rattle.command_core.specs.Documents.{RefusesDocuments};
 ghost use Rattle.command_core.specs.Streams.{reads};
 ghost use Rattle.command_core.specs.TaskWords.{Changes, Document};
 
-use crate::answer::Answered;
 use crate::input::two_documents;
+use crate::output::Answered;
 use docs_core::{
     Doc, DocFault, Source, changes_document, delta_document, export_document, import_document,
     read_all, status_document, summary_document, take_document_until, update_document,

@@ -5,7 +5,7 @@ ghost use Rattle.command_core.specs.Streams.{reads};
 ghost use Rattle.command_core.specs.TaskWords.{Edit};
 ghost use Rattle.command_core.specs.Values.{edit_values};
 
-use crate::answer::Answered;
+use crate::output::Answered;
 use crate::parsing::{read_key, read_label};
 use docs_core::{Source, edit_document, read_all};
 use front_core::{Answer, Outcome};

@@ -5,7 +5,7 @@ ghost use Rattle.command_core.specs.Explaining.{explanation};
 ghost use Rattle.command_core.specs.Status.{answer_status};
 ghost use Rattle.command_core.specs.TaskWords.{Explain, explain_task};
 
-use crate::answer::Answered;
+use crate::output::Answered;
 use docs_core::Doc;
 use front_core::{Answer, Outcome, Refusal, explain};
 use std::alloc::{AllocError, Global};

@@ -1,6 +1,5 @@
 //! The line that reports a refusal, and the status that goes with it. The line takes no memory, it
-//! is
-//! one write, and where its writer fails the rest of it is left out.
+//! is one write, and where its writer fails the rest of it is left out.
 ghost use Rattle.std.specs.Prelude.{◌≡◌, ◌+◌, ◌≤◌, ◌++◌, false, length};
 ghost use Rattle.std_io.specs.IoError.{error_kind};
 ghost use Rattle.arrayvec.specs.ArrayString.{array_string_len};

@@ -16,10 +16,8 @@
 //! ```
 #![tactic(auto)]
 
-mod answer;
 mod arguments;
 mod commands;
-mod dispatch;
 mod documents;
 mod edits;
 mod explaining;
@@ -35,6 +33,6 @@ mod sites;
 pub mod status;
 mod task;
 
-pub use dispatch::act;
 pub use fault_line::{refuse, refuse_words};
 pub use program::run;
+pub use task::act;

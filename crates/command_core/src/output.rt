@@ -1,27 +1,35 @@
-//! What a command answers, on its way to the output.
-ghost use Rattle.std.specs.Prelude.{◌≡◌, ◌++◌, false, is_err, IfErr, OnOk};
+//! What a command answers, and how it ends: the answer is written, or the refusal reported.
+ghost use Rattle.std.specs.Prelude.{◌≡◌, ◌++◌, false, is_err, IfErr, MatchResult, OnOk};
 ghost use Rattle.std.specs.Io.KnownBytes.{Appends};
 ghost use Rattle.json_docs.specs.Faults.{of_no_document};
 ghost use Rattle.json_docs.specs.Sinks.{AppendsFront};
 ghost use Rattle.json_docs.specs.declared.fault.DocCause.TheVariants.{WriteFault};
-ghost use Rattle.command_core.specs.Endings.{Writes};
+ghost use Rattle.command_core.specs.Endings.{EndsRefused, Writes};
+ghost use Rattle.command_core.specs.Status.{answer_status};
 ghost use Rattle.command_core.specs.Streams.{writes};
 
 use crate::fault_line::refuse;
 use crate::status;
 use docs_core::{Doc, DocFault, Sink, write_out};
-use front_core::FrontFault;
+use front_core::{Answer, FrontFault, Outcome};
 
-/// Writes the whole text and gives the status, or that of the fault of the output.
-pub(crate) fn print<W: Sink, F: Sink>(text: &Doc, status: u8, writer: &mut W, faults: &mut F) -> u8
+/// What a command answers, or why it is refused.
+pub(crate) type Answered = Result<Answer, FrontFault>;
+
+/// Writes the answer or reports the refusal, and gives the status.
+pub(crate) fn finish<W: Sink, F: Sink>(answered: Answered, writer: &mut W, faults: &mut F) -> u8
     requires { W.failed writer.old ≡ false }
-    ensures written { Writes text.now status
+    ensures ends { MatchResult answered
+        (λ answer. Writes answer.text (answer_status answer.outcome)
         (writes W.contents W.failed writer.old writer.new)
-        (writes F.contents F.failed faults.old faults.new) result }
+        (writes F.contents F.failed faults.old faults.new) result)
+        (λ fault. EndsRefused fault
+        (writes W.contents W.failed writer.old writer.new)
+        (writes F.contents F.failed faults.old faults.new) result) }
 {
-    match write_out(writer, text.bytes()) {
-        Ok(()) => status,
-        Err(fault) => refuse(faults, FrontFault::from(fault)),
+    match answered {
+        Ok(answer) => print(&answer, writer, faults),
+        Err(fault) => refuse(faults, fault),
     }
 }
 
@@ -40,6 +48,29 @@ pub(crate) fn print_both<W: Sink, F: Sink>(
     match write_both(first, second, writer) {
         Ok(()) => status::ANSWERED,
         Err(fault) => refuse(faults, FrontFault::from(fault)),
+    }
+}
+
+/// Writes the whole text and gives the status of its outcome, or that of the fault of the output.
+fn print<W: Sink, F: Sink>(answer: &Answer, writer: &mut W, faults: &mut F) -> u8
+    requires { W.failed writer.old ≡ false }
+    ensures written { Writes answer.now.text (answer_status answer.now.outcome)
+        (writes W.contents W.failed writer.old writer.new)
+        (writes F.contents F.failed faults.old faults.new) result }
+{
+    match write_out(writer, answer.text.bytes()) {
+        Ok(()) => answer_status(answer.outcome),
+        Err(fault) => refuse(faults, FrontFault::from(fault)),
+    }
+}
+
+/// The status of an answer with this outcome.
+fn answer_status(outcome: Outcome) -> u8
+    ensures { result ≡ answer_status outcome }
+{
+    match outcome {
+        Outcome::Found => status::ANSWERED,
+        Outcome::Nothing => status::NOTHING,
     }
 }
 

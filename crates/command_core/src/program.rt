@@ -6,9 +6,9 @@ ghost use Rattle.command_core.specs.Program.{MatchesBy, RunsBy, ReportsBy};
 ghost use Rattle.command_core.specs.Streams.{reads, streams, writes};
 
 use crate::commands::lexicat;
-use crate::dispatch::act;
 use crate::fault_line::refuse_for_memory;
 use crate::status;
+use crate::task::act;
 use clap::error::ErrorKind;
 use clap::{ArgMatches, Error};
 use docs_core::{Sink, Source, write_out};

@@ -9,8 +9,8 @@ ghost use Rattle.command_core.specs.TaskWords.{Bundle, Filter as FilterTask, Loo
 ghost use Rattle.command_core.specs.TaskWords.{Missing, Outdated};
 ghost use Rattle.command_core.specs.Values.{preference_values};
 
-use crate::answer::Answered;
 use crate::matches::PreferenceValues;
+use crate::output::Answered;
 use crate::parsing::{Translation, read_lang, read_translation};
 use cata_core::Site;
 use cell_core::MessageId;

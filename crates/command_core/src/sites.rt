@@ -7,10 +7,9 @@ ghost use Rattle.command_core.specs.Status.{answer_status};
 ghost use Rattle.command_core.specs.Streams.{reads, streams, writes};
 ghost use Rattle.command_core.specs.TaskWords.{Sync};
 
-use crate::answer::Answered;
 use crate::fault_line::refuse;
 use crate::input::two_documents;
-use crate::output::print_both;
+use crate::output::{Answered, print_both};
 use cata_core::Site;
 use cell_core::SiteName;
 use docs_core::{Doc, Sink, Source, read_all, sync_documents_until, write_site};
@@ -29,8 +28,7 @@ pub(crate) fn new_site(alloc: Global, name: &str) -> Answered
 }
 
 /// Prints both sites of the input after their sync, or reports the refusal. A time after the limit
-/// is
-/// refused, where there is one.
+/// is refused, where there is one.
 pub(crate) fn sync<R: Source, W: Sink, F: Sink>(
     alloc: Global,
     not_after: Option<u64>,

@@ -1,8 +1,6 @@
 //! The statuses that the program ends with.
 ghost use Rattle.std.specs.Prelude.{◌≡◌};
-ghost use Rattle.command_core.specs.Status.{answer_status, status_of};
-
-use front_core::Outcome;
+ghost use Rattle.command_core.specs.Status.{status_of};
 
 /// The question is answered.
 pub const ANSWERED: u8 = 0;
@@ -30,15 +28,5 @@ pub fn of_refusal(number: u8) -> u8
         24 | 25 => STREAM_FAULT,
         26 => OUT_OF_MEMORY,
         _ => REFUSED,
-    }
-}
-
-/// The status of an answer with this outcome.
-pub(crate) fn of_outcome(outcome: Outcome) -> u8
-    ensures { result ≡ answer_status outcome }
-{
-    match outcome {
-        Outcome::Found => ANSWERED,
-        Outcome::Nothing => NOTHING,
     }
 }

@@ -1,31 +1,55 @@
-//! The task that the arguments name, and its answer.
+//! What follows clap: the task that the arguments name, and how it is done.
 ghost use Rattle.std.specs.Prelude.{◌≡◌, false, map, option_map};
 ghost use Rattle.clap.specs.Words.{found_of, rows_of, subcommand_rows_of};
-ghost use Rattle.command_core.specs.Acts.{HasOneText, Performs};
+ghost use Rattle.command_core.specs.Acts.{ActsBy, Treats};
 ghost use Rattle.command_core.specs.EditWords.{edit_words};
-ghost use Rattle.command_core.specs.Streams.{reads};
-ghost use Rattle.command_core.specs.TaskWords.{Edit, GivesTask, pick_task, task_words};
+ghost use Rattle.command_core.specs.Streams.{reads, streams, writes};
+ghost use Rattle.command_core.specs.TaskWords.{Edit, GivesTask, Replay, pick_task};
 ghost use Rattle.command_core.specs.Values.{task_values};
 
-use crate::answer::Answered;
 use crate::documents::DocumentTask;
 use crate::edits::EditValues;
 use crate::explaining::{Explained, refusal_of};
+use crate::fault_line::{refuse, refuse_arguments};
 use crate::matches::{
-    Numbers, PreferenceValues, field_of, is_given, numbers_of, preferences_of, text_bytes, text_of,
-    texts_of,
+    PreferenceValues, field_of, is_given, numbers_of, preferences_of, text_bytes, text_of, texts_of,
 };
-use crate::{documents, edits, explaining, questions, sites};
+use crate::output::finish;
+use crate::{documents, edits, explaining, questions, sites, status};
 use clap::ArgMatches;
-use docs_core::Source;
-use front_core::Field;
+use docs_core::{Sink, Source};
 use front_core::words::{filter_answer, pick_answer};
+use front_core::{Field, FrontFault};
 use nego_core::Widening;
 use std::alloc::Global;
 
+/// Does what the matches say, and gives the status. Matches without a command of the program,
+/// without an argument that the command needs, or with two that do not go together, are a usage
+/// fault.
+pub fn act<R: Source, W: Sink, F: Sink>(
+    alloc: Global,
+    matches: &ArgMatches<'_>,
+    reader: &mut R,
+    writer: &mut W,
+    faults: &mut F,
+) -> u8
+    requires reads { R.failed reader.old ≡ false }
+    requires writes { W.failed writer.old ≡ false }
+    requires reports { F.failed faults.old ≡ false }
+    ensures acts { ActsBy (subcommand_rows_of matches.now) (streams
+        (reads R.remaining R.failed reader.old reader.new)
+        (writes W.contents W.failed writer.old writer.new)
+        (writes F.contents F.failed faults.old faults.new)) result }
+{
+    match read(matches) {
+        Some(task) => perform(alloc, task, reader, writer, faults),
+        None => refuse_arguments(faults),
+    }
+}
+
 /// A command of the program, with the values of its arguments.
 #[derive(Clone, Copy)]
-pub(crate) enum Task<'m, 'a> {
+enum Task<'m, 'a> {
     Pick(PreferenceValues<'a>, &'m [&'a str]),
     PickAll(Field<'a>, &'m [&'a str]),
     New(&'a str),
@@ -43,50 +67,20 @@ pub(crate) enum Task<'m, 'a> {
 }
 
 /// The task of clap's matches, where they name a command of the program, no argument is missing,
-/// and
-/// all go together.
-pub(crate) fn read<'m, 'a>(matches: &'m ArgMatches<'a>) -> Option<Task<'m, 'a>>
+/// and all go together.
+fn read<'m, 'a>(matches: &'m ArgMatches<'a>) -> Option<Task<'m, 'a>>
     ensures { GivesTask (subcommand_rows_of matches.now) (option_map task_values result) }
 {
     let (name, arguments) = matches.subcommand()?;
-    task_of(name, numbers_of(arguments), arguments)
+    task_of(name, arguments)
 }
 
-/// What answers a task whose answer is one text, or why it is refused.
-pub(crate) fn answer<R: Source>(alloc: Global, task: Task<'_, '_>, reader: &mut R) -> Answered
-    requires reads { R.failed reader.old ≡ false }
-    requires one { HasOneText (task_values task) }
-    ensures { Performs (task_values task.entry)
-        (reads R.remaining R.failed reader.old reader.new) result }
+/// The task of the command of this name, with these arguments.
+fn task_of<'m, 'a>(name: &str, matches: &'m ArgMatches<'a>) -> Option<Task<'m, 'a>>
+    ensures { GivesTask (Some (name.now, rows_of (found_of matches.now)))
+        (option_map task_values result) }
 {
-    match task {
-        Task::Pick(preferences, tags) => {
-            pick_answer(alloc, preferences.field, preferences.default, tags)
-        }
-        Task::PickAll(field, tags) => filter_answer(alloc, field, tags),
-        Task::New(name) => sites::new_site(alloc, name),
-        Task::Edit(values) => edits::answer_of(alloc, values, reader),
-        Task::Document(task) => documents::answer_of(alloc, task, reader),
-        Task::Missing(word) => questions::missing(alloc, word, reader),
-        Task::Outdated(lang, source) => questions::outdated(alloc, lang, source, reader),
-        Task::Changes => documents::changes(alloc, reader),
-        Task::Filter(id, field) => questions::filter(alloc, id, field, reader),
-        Task::Lookup(id, preferences) => questions::lookup(alloc, id, preferences, reader),
-        Task::Bundle(preferences) => questions::bundle(alloc, preferences, reader),
-        Task::Explain(it) => explaining::answer_of(alloc, it),
-        Task::Sync(_) | Task::Replay => unreachable!(),
-    }
-}
-
-/// The task of the command of this name, with these numbers.
-fn task_of<'m, 'a>(
-    name: &str,
-    numbers: Numbers,
-    matches: &'m ArgMatches<'a>,
-) -> Option<Task<'m, 'a>>
-    ensures { option_map task_values result
-        ≡ task_words name.now numbers (rows_of (found_of matches.now)) }
-{
+    let numbers = numbers_of(matches);
     match name {
         "pick" => pick_of(matches),
         "new" => Some(Task::New(text_of(matches, "site")?)),
@@ -148,4 +142,60 @@ fn edit_of<'m, 'a>(
         lang: text_of(matches, "lang")?,
         texts,
     }))
+}
+
+/// Does the task, and gives the status.
+fn perform<R: Source, W: Sink, F: Sink>(
+    alloc: Global,
+    task: Task<'_, '_>,
+    reader: &mut R,
+    writer: &mut W,
+    faults: &mut F,
+) -> u8
+    requires reads { R.failed reader.old ≡ false }
+    requires writes { W.failed writer.old ≡ false }
+    ensures acts { Treats (task_values task.entry) (streams
+        (reads R.remaining R.failed reader.old reader.new)
+        (writes W.contents W.failed writer.old writer.new)
+        (writes F.contents F.failed faults.old faults.new)) result }
+{
+    let answered = match task {
+        Task::Pick(preferences, tags) => {
+            pick_answer(alloc, preferences.field, preferences.default, tags)
+        }
+        Task::PickAll(field, tags) => filter_answer(alloc, field, tags),
+        Task::New(name) => sites::new_site(alloc, name),
+        Task::Edit(values) => edits::answer_of(alloc, values, reader),
+        Task::Document(task) => documents::answer_of(alloc, task, reader),
+        Task::Missing(word) => questions::missing(alloc, word, reader),
+        Task::Outdated(lang, source) => questions::outdated(alloc, lang, source, reader),
+        Task::Changes => documents::changes(alloc, reader),
+        Task::Filter(id, field) => questions::filter(alloc, id, field, reader),
+        Task::Lookup(id, preferences) => questions::lookup(alloc, id, preferences, reader),
+        Task::Bundle(preferences) => questions::bundle(alloc, preferences, reader),
+        Task::Sync(not_after) => return sites::sync(alloc, not_after, reader, writer, faults),
+        Task::Replay => return replay(alloc, reader, writer, faults),
+        Task::Explain(it) => explaining::answer_of(alloc, it),
+    };
+    finish(answered, writer, faults)
+}
+
+/// Replays the script of the input, or reports the refusal.
+fn replay<R: Source, W: Sink, F: Sink>(
+    alloc: Global,
+    reader: &mut R,
+    writer: &mut W,
+    faults: &mut F,
+) -> u8
+    requires reads { R.failed reader.old ≡ false }
+    requires writes { W.failed writer.old ≡ false }
+    ensures acts { Treats Replay (streams
+        (reads R.remaining R.failed reader.old reader.new)
+        (writes W.contents W.failed writer.old writer.new)
+        (writes F.contents F.failed faults.old faults.new)) result }
+{
+    match docs_core::replay(alloc, reader, writer) {
+        Ok(()) => status::ANSWERED,
+        Err(fault) => refuse(faults, FrontFault::from(fault)),
+    }
 }

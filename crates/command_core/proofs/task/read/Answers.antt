@@ -9,5 +9,5 @@ returns c =
     gives_task (λ b. (out-SubCommand (box_value b)).name.now)
     (λ b. rows_of (found_of (out-SubCommand (box_value b)).matches))
     (out-ArgMatches c.args.matches.now).subcommand
-    c.in_ok-name.name.now (rows_of (found_of c.in_ok-name.arguments.now)) c.numbers_of.result _
-    c.in_ok-name.ensures.name c.in_ok-name.ensures.rows c.numbers_of.ensures c.task_of.ensures
+    c.in_ok-name.name.now (rows_of (found_of c.in_ok-name.arguments.now)) _
+    c.in_ok-name.ensures.name c.in_ok-name.ensures.rows c.task_of.ensures

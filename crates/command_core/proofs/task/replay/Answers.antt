@@ -1,7 +1,7 @@
 use Rattle.std.proofs.Common.{refl}
 use Rattle.command_core.specs.Streams.{reads, streams, writes}
 use Rattle.command_core.proofs.ActsLemmas.{not_replayed, replayed}
-use Rattle.command_core.proofs.dispatch.replay.Goals as goal
+use Rattle.command_core.proofs.task.replay.Goals as goal
 
 pub returns-in-Ok : goal.returns-in-Ok
 returns-in-Ok g c =
