@@ -1,5 +1,5 @@
 -- One label more is put.
-use Rattle.std.proofs.Common.{◌≡◌, ℕ, List, ◌∷◌, refl, subst, inl, inr}
+use Rattle.std.proofs.Common.{◌≡◌, ℕ, List, [], ◌∷◌, append-nil, inl, inr, refl, subst}
 use Rattle.std.specs.Prelude.{◌⊎◌, Some}
 use Rattle.cell_core.specs.Stamp.{IsNext, NoNext}
 use Rattle.cell_core.specs.declared.stamp.Stamp.{Stamp}
@@ -10,7 +10,7 @@ use Rattle.cata_core.specs.declared.cata_fault.CataFault.{CataFault}
 use Rattle.cata_core.specs.declared.cata_fault.CataFault.TheVariants.{ClockSpent, NoMemory}
 use Rattle.cata_core.specs.declared.cata_fault.CataFault.TheVariants.{NotForMe, StampReused}
 use Rattle.map_docs.specs.LangMaps.{Labelled}
-use Rattle.docs_core.specs.Imported.{Imports, SpendsImport}
+use Rattle.docs_core.specs.Imported.{Imports, IsPut, SpendsImport}
 use Rattle.docs_core.specs.Made.{with_change}
 
 module _ (now : ℕ) (name : List ℕ) (e : Labelled) (es : List Labelled) (old mid : Entries)
@@ -32,3 +32,12 @@ not_put site now (StampReused place stamp) h = absurd h
 not_put site now ClockSpent h = inr (refl, h)
 not_put site now (NotForMe addressee) h = absurd h
 not_put site now NoMemory h = inl refl
+
+-- ---- labels that are put as they are read
+
+-- all labels were put
+pub all_put : (now then : ℕ) (first site : SiteState) (labels : List Labelled)
+    → IsPut now first then site labels → Imports now first.name labels first.cells site.cells
+all_put now then first site labels so =
+    subst (λ (es : List Labelled). Imports now first.name es first.cells site.cells)
+    (append-nil labels) (so.put [] site.cells refl)

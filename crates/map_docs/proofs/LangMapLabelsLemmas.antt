@@ -151,7 +151,8 @@ pub found_is_repeated : (before : Keys) (found : Found) (key lang : List ℕ) �
 found_is_repeated before found key lang holds is =
     holds.held lang ∙ same_test before lang (str_to_ascii_lowercase key) is
 
-insert_is_put : {X : Type 0} (es : List (List ℕ × X)) (k : List ℕ) (v : X)
+-- a tree inserts as a map puts
+pub insert_is_put : {X : Type 0} (es : List (List ℕ × X)) (k : List ℕ) (v : X)
     → insert_entry text_cmp es k v ≡ put text_cmp k v es
 insert_is_put [] k v = refl
 insert_is_put (e ∷ es) k v =
@@ -299,10 +300,13 @@ live_IsMap ((k, Some texts) ∷ es) h =
     (below_live k es (first_part (below_all text_cmp k es) (is_sorted text_cmp es) h))
     (live_IsMap es (second_part (below_all text_cmp k es) (is_sorted text_cmp es) h))
 
-lesser_key : (id other x y : List ℕ) → text_cmp id other ≡ Less → key_cmp (id, x) (other, y) ≡ Less
+-- a key of a lesser message is less
+pub lesser_key : (id other x y : List ℕ) → text_cmp id other ≡ Less
+    → key_cmp (id, x) (other, y) ≡ Less
 lesser_key id other x y less = ap (λ o. ordering_then o (text_cmp x y)) less
 
-same_id : (id x y : List ℕ) → key_cmp (id, x) (id, y) ≡ text_cmp x y
+-- keys of one message are as their languages
+pub same_id : (id x y : List ℕ) → key_cmp (id, x) (id, y) ≡ text_cmp x y
 same_id id x y = ap (λ o. ordering_then o (text_cmp x y)) (tied_itself nat_list_cmp_total id)
 
 is_less : (o : Ordering) → o ≡ Less → T (is_lt o)
@@ -375,7 +379,8 @@ above_front (e ∷ es) x ys m =
 
 -- ---- the labels of the rows so far
 
-all_under : (id other : List ℕ) (ls : Languages) → text_cmp id other ≡ Less
+-- the labels of a lesser message are lesser
+pub all_under : (id other : List ℕ) (ls : Languages) → text_cmp id other ≡ Less
     → AreLesser (under id ls) other
 all_under id other [] less = All-nil (λ (e : Labelled). text_cmp e.0.0 other ≡ Less)
 all_under id other (l ∷ ls) less =
@@ -411,7 +416,8 @@ none_lesser {X} (r ∷ left) =
     All-cons (λ (r : String Global × X). AreLesser [] (string_bytes r.0)) r left
     (All-nil (λ (e : Labelled). text_cmp e.0.0 (string_bytes r.0) ≡ Less)) (none_lesser left)
 
-row_unmarked : (r : List ℕ × Option Keys) → is_marked r.0 ≡ false
+-- a row that is not marked gives the labels of its keys
+pub row_unmarked : (r : List ℕ × Option Keys) → is_marked r.0 ≡ false
     → row_labels r ≡ under r.0 (languages_of (unwrap_or r.1 []))
 row_unmarked r h = ap (λ b. unless_marked b (under r.0 (languages_of (unwrap_or r.1 [])))) h
 

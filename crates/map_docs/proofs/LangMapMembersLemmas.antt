@@ -43,7 +43,8 @@ seen_insert f (e ∷ es) k v =
       | Greater ↦ ap (λ t. seen_as f e ∷ t) (seen_insert f es k v)
     ]
 
-members_by-put : {X : Type 0} (of : Data → X) (k : List ℕ) (d : Data) (ms : Members)
+-- a member that is put goes where its name does
+pub members_by-put : {X : Type 0} (of : Data → X) (k : List ℕ) (d : Data) (ms : Members)
     → members_by of (plain.put k d ms) ≡ put text_cmp k (of d) (members_by of ms)
 members_by-put of k d no_members = refl
 members_by-put of k d (member l e ms) =

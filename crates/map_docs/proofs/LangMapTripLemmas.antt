@@ -383,7 +383,8 @@ writable_rest : (id : List ℕ) (ls : Languages) (rest : List Labelled)
 writable_rest id [] rest w = w
 writable_rest id (l ∷ ls) rest w = writable_rest id ls rest w.1
 
-unmarked : (id : List ℕ) → slice_get id 0 ≢ Some 64 → is_marked id ≡ false
+-- an id does not begin with "@"
+pub unmarked : (id : List ℕ) → slice_get id 0 ≢ Some 64 → is_marked id ≡ false
 unmarked [] h = refl
 unmarked (b ∷ id) h =
     elim (b == 64) as (λ t. (b == 64) ≡ t

@@ -5,4 +5,5 @@ pub mod LangMapLawsLemmas
 pub mod LangMapMembersLemmas
 pub mod LangMapTripLemmas
 pub mod LangMapsLemmas
+pub mod RisingLemmas
 pub mod WritingLemmas

@@ -1,9 +1,7 @@
 -- Language maps that are being written, label by label.
 use Rattle.std.proofs.Common.{◌≡◌, ◌∙◌, ◌++◌, ℕ, Bool, true, false, List, [], ◌∷◌, refl, sym, ap}
 use Rattle.std.proofs.Common.{subst}
-use Rattle.std.specs.Borrow.{Bor}
 use Rattle.std.specs.Prelude.{◌||◌, Err, IfOk, IsUtf8, None, Ok, Option, Result, Some, is_some}
-use Rattle.std.specs.Prelude.{option_map}
 use Rattle.cell_core.specs.Keyed.{IsMap}
 use Rattle.cata_core.specs.Entries.{key_cmp}
 use Rattle.json.specs.Token.{begin_object}
@@ -55,12 +53,6 @@ writing_next old new current e left all w adds valid = record {
 pub found_last : (draft : Written) (current : Option (List ℕ)) (all : List Labelled)
     → IsWriting draft current [] all → is_some current ≡ has_label all
 found_last draft current all w = sym (or_false (is_some current)) ∙ w.found
-
--- a borrowed value is there where the value is
-pub some_borrowed : {A : Type 0} (o : Option (Bor A))
-    → is_some o ≡ is_some (option_map (λ x. x.now) o)
-some_borrowed None = refl
-some_borrowed (Some x) = refl
 
 -- a text that was written for labels is theirs
 pub text_of : {E : Type 0} (all : List Labelled) (result : Result (List ℕ) E) → IsMap key_cmp all

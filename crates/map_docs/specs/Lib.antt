@@ -8,3 +8,4 @@ pub mod LangMapTexts
 pub mod LangMaps
 pub mod LangMapsValue
 pub mod LangMapsWritten
+pub mod RisingLabels

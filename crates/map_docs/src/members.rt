@@ -2,6 +2,7 @@
 ghost use Rattle.std.specs.Prelude.{◌≡◌, ◌<◌, ◌∷◌, ◌++◌, [], ℕ, Option, None, Some, true, length};
 ghost use Rattle.std.specs.Prelude.{map, MatchResult, IfOk, IfSome, OnOk, string_bytes};
 ghost use Rattle.std.specs.List.{filter_map};
+ghost use Rattle.json.specs.Lex.{tokens};
 ghost use Rattle.json.specs.Value.{value_view};
 ghost use Rattle.serde_json.specs.Data.{Data, Items, Members};
 ghost use Rattle.serde_json.specs.Find.{as_str};
@@ -23,30 +24,33 @@ use crate::ascending_map::AscendingMap;
 use crate::rows::{Keys, Rows, Strings};
 use json::{Reader, Scratch, Token, Value};
 use json_docs::{
-    DocCause, MOST_DEPTH, begins_object, check_numbers, check_value, is_scalar, items_of,
-    next_name, next_value, text_of,
+    DocCause, MOST_DEPTH, begins_object, check_value, is_scalar, items_of, next_name, next_value,
+    text_of,
 };
 use std::alloc::{AllocError, Global};
 
 /// How deep the value of a key nests at most.
-const KEY_DEPTH: usize = MOST_DEPTH - 2;
+pub(crate) const KEY_DEPTH: usize = MOST_DEPTH - 2;
 
 /// The rows of the document in byte order of their names, or none where it is no object. Of two
 /// members of one name the last counts.
-pub(crate) fn read_rows(alloc: Global, text: &str) -> Result<Option<Rows>, DocCause>
+pub(crate) fn read_rows(
+    alloc: Global,
+    text: &str,
+    scratch: &mut Scratch,
+) -> Result<Option<Rows>, DocCause>
+    requires { are_in_range (tokens text.now) ≡ true }
     ensures read { MatchResult result
         (λ rows. (d : Data) × (read text.now ≡ Some d) × (rows_in_seen rows ≡ message_rows_in d))
         (OrMemory NoMemory (λ e. (e ≡ NotJson) × (read text.now ≡ None))) }
     ensures sorted { IfOk result (λ rows. IfSome rows (λ r. AreSorted r.items)) }
 {
-    let mut scratch = Scratch::new(alloc);
-    check_numbers(text, &mut scratch)?;
-    let mut reader = Reader::new(text, &mut scratch)?;
+    let mut reader = Reader::new(text, scratch)?;
     if begins_object(&mut reader) {
         let rows = read_rest(alloc, &mut reader)?;
         Ok(Some(rows))
     } else {
-        check_value(text, &mut scratch)?;
+        check_value(text, scratch)?;
         Ok(None)
     }
 }
@@ -193,7 +197,7 @@ fn pass_items(reader: &mut Reader<'_>) -> Result<(), DocCause>
 }
 
 /// The strings of a value: a string, null, or an array of strings and nulls.
-fn strings_of(alloc: Global, value: &Value<'_>) -> Result<Strings, AllocError>
+pub(crate) fn strings_of(alloc: Global, value: &Value<'_>) -> Result<Strings, AllocError>
     requires { IsRead (value_view value.now) }
     ensures { IfOk result (λ strings. strings_seen strings ≡ strings_in (seen value.now)) }
 {

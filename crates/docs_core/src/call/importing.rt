@@ -1,14 +1,17 @@
 //! Labels put into a site.
-ghost use Rattle.std.specs.Prelude.{◌≡◌, IfErr, MatchResult, OnOk};
+ghost use Rattle.std.specs.Prelude.{◌≡◌, ℕ, List, IfErr, MatchResult, OnOk};
 ghost use Rattle.cata_core.specs.declared.cata_fault.CataFault.TheVariants.{ClockSpent, NoMemory};
 ghost use Rattle.json_docs.specs.Checks.{OrMemory};
 ghost use Rattle.row_docs.specs.Reading.{no_memory};
+ghost use Rattle.map_docs.specs.LangMapLabels.{AreLangMaps};
 ghost use Rattle.docs_core.specs.Exchange.{IsImported, RefusesImport};
-ghost use Rattle.docs_core.specs.Imported.{Imports, SpendsImport};
+ghost use Rattle.docs_core.specs.Imported.{Imports, IsPut, SpendsImport};
 
 use cata_core::{CataFault, Site};
+use cell_core::{Label, MessageId};
 use json_docs::{Doc, DocFault};
-use map_docs::{LangMaps, langmaps_of_document};
+use lang_core::Lang;
+use map_docs::{LangMaps, TakeLabels, take_langmaps};
 use site_docs::{site_at, write_site};
 use std::alloc::Global;
 
@@ -27,12 +30,20 @@ pub fn import_document(
     ensures { MatchResult result (IsImported site.now now langmaps.now)
         (OrMemory no_memory (RefusesImport site.now now langmaps.now)) }
 {
-    let mut site = site_at(alloc, 1, site)?;
-    let maps = langmaps_of_document(alloc, 2, langmaps)?;
-    put_labels(alloc, &mut site, now, &maps)?;
-    drop(maps);
-    let doc = write_site(alloc, &site)?;
-    Ok(doc)
+    let mut putting = Putting {
+        site: site_at(alloc, 1, site)?,
+        now,
+    };
+    match take_langmaps(alloc, 2, langmaps, &mut putting)? {
+        None => {
+            let doc = write_site(alloc, &putting.site)?;
+            Ok(doc)
+        }
+        Some(maps) => {
+            drop(putting);
+            import_labels(alloc, site, now, maps)
+        }
+    }
 }
 
 /// Puts each label, in rising order of key, at this time: with the next stamp of the site after the
@@ -58,4 +69,37 @@ pub fn put_labels(
         }
     }
     Ok(())
+}
+
+/// A site that labels are put into at this time, as they are read.
+#[derive(Drop)]
+struct Putting {
+    site: Site,
+    now: u64,
+}
+
+/// Puts each label.
+impl TakeLabels for Putting {
+    ghost Holds = { λ first putting taken.
+        IsPut first.now first.site putting.now putting.site taken };
+
+    fn take(&mut self, alloc: Global, id: &MessageId, lang: Lang, label: Label) -> Option<()> {
+        match self.site.put(alloc, self.now, id, &lang, &label) {
+            Ok(_) => Some(()),
+            Err(_) => None,
+        }
+    }
+}
+
+/// The document of the site after each of these labels was put.
+fn import_labels(alloc: Global, site: &[u8], now: u64, maps: LangMaps) -> Result<Doc, DocFault>
+    ensures { (langmaps : List ℕ) → AreLangMaps langmaps maps
+        → MatchResult result (IsImported site.now now langmaps)
+        (OrMemory no_memory (RefusesImport site.now now langmaps)) }
+{
+    let mut site = site_at(alloc, 1, site)?;
+    put_labels(alloc, &mut site, now, &maps)?;
+    drop(maps);
+    let doc = write_site(alloc, &site)?;
+    Ok(doc)
 }

@@ -18,16 +18,16 @@ returns-in_err-rows-clause-read c =
     c.from_residual-in_err-rows.ensures.1 in
     rw (p.1, p.2) (not_json _ _ _ (not_whole c.args.text.now ts first) c.in_err-rows.ensures.read)
 
-pub returns-then-begins_object-clause-read : goal.returns-then-begins_object-clause-read
-returns-then-begins_object-clause-read c =
+pub returns-in_ok-rows-clause-read : goal.returns-in_ok-rows-clause-read
+returns-in_ok-rows-clause-read c =
     let ts = c.begins_object.new.reader in
     let first : tokens c.args.text.now ≡ begin_object ∷ ts =
     sym c.in_ok-reader.ensures.ok ∙ c.if-begins_object.ensures in
     let e = c.in_ok-rows.ensures.read in
     (_, object_whole c.args.text.now ts first e.0 e.1, ap (λ rows. Some rows) e.2)
 
-pub returns-clause-read : goal.returns-clause-read
-returns-clause-read c =
+pub returns-in_ok-check_value-clause-read : goal.returns-in_ok-check_value-clause-read
+returns-in_ok-check_value-clause-read c =
     let e = c.in_ok-check_value.ensures in (
       e.0,
       e.1,

@@ -1,0 +1,34 @@
+use Rattle.std.proofs.Common.{◌≡◌, ◌∷◌, List, ℕ, ap, arith, length, subst, sym}
+use Rattle.json.specs.Token.{begin_object}
+use Rattle.json_docs.proofs.MembersLemmas.{object_read}
+use Rattle.map_docs.specs.LangMapRows.{keys_of}
+use Rattle.map_docs.specs.LangMapRowsSeen.{AreLesser}
+use Rattle.map_docs.specs.RisingLabels.{IsUnder}
+use Rattle.map_docs.proofs.rising.take_message.Goals as goal
+
+-- the id is the name
+pub take_languages-requires-clause-holds : goal.take_languages-requires-clause-holds
+take_languages-requires-clause-holds g c =
+    let holds = c.requires.holds in (
+      holds.0,
+      holds.1,
+      holds.2,
+      subst (AreLesser holds.1) (sym c.in_ok-id.ensures.0) holds.3,
+      holds.4,
+    )
+
+pub returns : goal.returns
+returns g c =
+    let ts = c.begins_object.new.reader in
+    let is : c.args.reader.now ≡ begin_object ∷ ts = c.if-not-begins_object.ensures in
+    let read = c.in_ok-take_languages.ensures in
+    let opened = ap length is in
+    let lesser = read.3 in (
+      read.0,
+      object_read c.args.reader.now ts c.take_languages.new.reader read.0 is read.1,
+      read.2,
+      omega (arith, opened, lesser),
+      c.in_ok-id.ensures.1,
+      subst (λ (id : List ℕ). IsUnder g.T.TakeLabels.Holds c.args.taker.now
+          c.take_languages.new.taker id (keys_of read.0)) c.in_ok-id.ensures.0 read.4,
+    )

@@ -1,0 +1,27 @@
+use Rattle.std.proofs.Common.{◌≡◌, ◌≤◌, ℕ, length, true}
+use denote.Text.{Utf8}
+use denote.Shadow.{shadow}
+use Rattle.json.specs.Json.{members, value}
+use Rattle.serde_json.specs.Data.{Members, no_members}
+use Rattle.serde_json.specs.Read.{converted, of_members}
+use Rattle.json_docs.specs.Numbers.{are_in_range}
+use Rattle.map_docs.specs.LangMapLabels.{rows_labels}
+use Rattle.map_docs.specs.LangMapRows.{message_rows}
+use Rattle.map_docs.proofs.RisingLemmas.{AreRisingRows}
+use Rattle.map_docs.proofs.rising.take_messages.Given as goal
+
+-- the object is the members that were read, and then what is left; their names rise, and their
+-- labels were taken
+abbrev pub invariant-loop-name : goal.invariant-loop-name
+invariant-loop-name g l =
+    shadow (Utf8 l.last)
+    × ((n : ℕ) × (old : Members) × (length l.reader ≤ n)
+    × (converted (λ ms. of_members ms no_members)
+    (members (value 126) (length l.fn.reader) l.fn.reader)
+    ≡ converted (λ ms. of_members ms old) (members (value 126) n l.reader))
+    × (are_in_range l.reader ≡ true)
+    × AreRisingRows l.last (message_rows old)
+    × g.T.TakeLabels.Holds l.fn.taker l.taker (rows_labels (message_rows old)))
+
+abbrev pub decreases-loop-name : goal.decreases-loop-name
+decreases-loop-name g l = length l.reader

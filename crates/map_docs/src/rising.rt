@@ -1,0 +1,221 @@
+//! The labels of a document whose messages and languages rise, given on as they are read.
+ghost use Rattle.std.specs.Prelude.{◌≡◌, ◌<◌, ◌∷◌, [], List, IfSome, IsUtf8, Some, true, length};
+ghost use Rattle.std.specs.Prelude.{option_map};
+ghost use Rattle.std.specs.declared.cmp.Ordering.TheVariants.{Less};
+ghost use Rattle.json.specs.Json.{read_key};
+ghost use Rattle.json.specs.Lex.{tokens};
+ghost use Rattle.json.specs.Value.{value_view};
+ghost use Rattle.serde_json.specs.Data.{Data, Members, object};
+ghost use Rattle.cell_core.specs.Label.{IsLabel};
+ghost use Rattle.cell_core.specs.Keyed.{IsMap};
+ghost use Rattle.cell_core.specs.MessageId.{IsMessageId};
+ghost use Rattle.lang_core.specs.Lang.{SpellsLang};
+ghost use Rattle.cata_core.specs.Entries.{key_cmp, text_cmp};
+ghost use Rattle.json_docs.specs.Checks.{AllPass};
+ghost use Rattle.json_docs.specs.MembersRead.{ReadsMembers};
+ghost use Rattle.json_docs.specs.Numbers.{are_in_range};
+ghost use Rattle.json_docs.specs.Reads.{IsRead, Reads, seen};
+ghost use Rattle.map_docs.specs.LangMapChecks.{members_checks};
+ghost use Rattle.map_docs.specs.LangMapLabels.{AreLangMaps, rows_labels};
+ghost use Rattle.map_docs.specs.LangMapRows.{keys_of, message_rows, strings_in};
+ghost use Rattle.map_docs.specs.LangMapRowsSeen.{AreLesser};
+ghost use Rattle.map_docs.specs.LangMaps.{Labelled};
+ghost use Rattle.map_docs.specs.RisingLabels.{IsUnder};
+
+use crate::members::{KEY_DEPTH, strings_of};
+use crate::taking::TakeLabels;
+use cell_core::{Label, MessageId};
+use json::{Reader, Scratch, Value};
+use json_docs::{begins_object, next_name, next_value, text_of};
+use lang_core::Lang;
+use std::alloc::Global;
+
+/// Gives the labels of a document to the taker, where its names rise, and each value is an object
+/// whose keys rise, are languages in lower case, and have a label each.
+///
+/// `None` says nothing of the document, and the taker may have taken some labels.
+pub(crate) fn take_text<T: TakeLabels>(
+    alloc: Global,
+    text: &str,
+    scratch: &mut Scratch,
+    taker: &mut T,
+) -> Option<()>
+    requires utf8 { IsUtf8 text.now }
+    requires range { are_in_range (tokens text.now) ≡ true }
+    requires holds { T.Holds taker.old taker.old [] }
+    ensures { IfSome result (λ _. (labels : List Labelled) × AreLangMaps text.now labels
+        × T.Holds taker.old taker.new labels) }
+{
+    let Ok(mut reader) = Reader::new(text, scratch) else {
+        return None;
+    };
+    if !begins_object(&mut reader) {
+        return None;
+    }
+    take_messages(alloc, &mut reader, taker)?;
+    match reader.next() {
+        None => Some(()),
+        Some(_) => None,
+    }
+}
+
+/// Gives the labels of the messages of the object whose brace was read to the taker.
+fn take_messages<T: TakeLabels>(alloc: Global, reader: &mut Reader<'_>, taker: &mut T) -> Option<()>
+    requires range { are_in_range reader.old ≡ true }
+    requires holds { T.Holds taker.old taker.old [] }
+    ensures { IfSome result (λ _. (ms : Members) × ReadsMembers 126 reader.old ms reader.new
+        × AllPass (members_checks 0 (message_rows ms))
+        × IsMap key_cmp (rows_labels (message_rows ms))
+        × T.Holds taker.old taker.new (rows_labels (message_rows ms))) }
+{
+    let mut last = "";
+    while let Some(name) = name_after(reader, last)? {
+        take_message(alloc, reader, name, taker)?;
+        last = name;
+    }
+    Some(())
+}
+
+/// Gives the labels of the message of this name, whose value comes next, to the taker.
+fn take_message<T: TakeLabels>(
+    alloc: Global,
+    reader: &mut Reader<'_>,
+    name: &str,
+    taker: &mut T,
+) -> Option<()>
+    requires range { are_in_range reader.old ≡ true }
+    requires holds { (first : T) × (before : List Labelled) × T.Holds first taker.old before
+        × AreLesser before name.now × IsMap key_cmp before }
+    ensures { IfSome result (λ _. (ms : Members) × Reads 126 reader.old (object ms) reader.new
+        × (are_in_range reader.new ≡ true) × (length reader.new < length reader.old)
+        × IsMessageId name.now × IsUnder T.Holds taker.old taker.new name.now (keys_of ms)) }
+{
+    let id = id_of_name(alloc, name)?;
+    if !begins_object(reader) {
+        return None;
+    }
+    take_languages(alloc, reader, &id, taker)?;
+    Some(())
+}
+
+/// Gives the labels of the languages of the object whose brace was read to the taker.
+fn take_languages<T: TakeLabels>(
+    alloc: Global,
+    reader: &mut Reader<'_>,
+    id: &MessageId,
+    taker: &mut T,
+) -> Option<()>
+    requires range { are_in_range reader.old ≡ true }
+    requires holds { (first : T) × (before : List Labelled) × T.Holds first taker.old before
+        × AreLesser before id.now × IsMap key_cmp before }
+    ensures { IfSome result (λ _. (ms : Members) × ReadsMembers 125 reader.old ms reader.new
+        × (are_in_range reader.new ≡ true) × (length reader.new < length reader.old)
+        × IsUnder T.Holds taker.old taker.new id.now (keys_of ms)) }
+{
+    let mut last = "";
+    while let Some(key) = name_after(reader, last)? {
+        let lang = lower_language(alloc, key)?;
+        let label = next_label(alloc, reader)?;
+        taker.take(alloc, id, lang, label)?;
+        last = key;
+    }
+    Some(())
+}
+
+/// The name of the next member, where it is greater than the last one; the inner none is the end of
+/// the object.
+fn name_after<'t>(reader: &mut Reader<'t>, last: &str) -> Option<Option<&'t str>>
+    ensures read { IfSome result
+        (λ name. read_key reader.old ≡ Some (option_map (λ s. s.now) name, reader.new)) }
+    ensures rises { IfSome result
+        (λ name. IfSome name (λ n. text_cmp last.now n.now ≡ Less)) }
+{
+    match next_name(reader) {
+        Ok(Some(name)) => {
+            if last.cmp(name).is_lt() {
+                Some(Some(name))
+            } else {
+                None
+            }
+        }
+        Ok(None) => Some(None),
+        Err(_) => None,
+    }
+}
+
+/// The id that a name is.
+fn id_of_name(alloc: Global, name: &str) -> Option<MessageId>
+    ensures { IfSome result (λ id. (id ≡ name.now) × IsMessageId name.now) }
+{
+    match MessageId::new(alloc, name) {
+        Ok(id) => Some(id),
+        Err(_) => None,
+    }
+}
+
+/// The language that a key in lower case is.
+fn lower_language(alloc: Global, key: &str) -> Option<Lang>
+    ensures { IfSome result (λ lang. (lang ≡ key.now) × SpellsLang key.now lang) }
+{
+    match Lang::parse(alloc, key.as_bytes()) {
+        Ok(lang) => {
+            if lang.as_str() == key {
+                Some(lang)
+            } else {
+                None
+            }
+        }
+        Err(_) => None,
+    }
+}
+
+/// The label that comes next: a string, or an array of strings.
+fn next_label(alloc: Global, reader: &mut Reader<'_>) -> Option<Label>
+    requires { are_in_range reader.old ≡ true }
+    ensures { IfSome result (λ label. (d : Data) × Reads 125 reader.old d reader.new
+        × (strings_in d ≡ Some label) × IsLabel label × (are_in_range reader.new ≡ true)
+        × (length reader.new < length reader.old)) }
+{
+    let Ok(value) = next_value(alloc, reader, KEY_DEPTH) else {
+        return None;
+    };
+    label_of(alloc, &value)
+}
+
+/// The label that a value is.
+fn label_of(alloc: Global, value: &Value<'_>) -> Option<Label>
+    requires { IsRead (value_view value.now) }
+    ensures { IfSome result (λ label. (strings_in (seen value.now) ≡ Some label) × IsLabel label) }
+{
+    match text_of(value) {
+        Some(text) => one_text(alloc, text),
+        None => several_texts(alloc, value),
+    }
+}
+
+/// The label of one text.
+fn one_text(alloc: Global, text: &str) -> Option<Label>
+    ensures { IfSome result (λ label. (label ≡ text.now ∷ []) × IsLabel label) }
+{
+    let Ok(text) = String::from_str(alloc, text) else {
+        return None;
+    };
+    match Label::from_text(text) {
+        Ok(label) => Some(label),
+        Err(_) => None,
+    }
+}
+
+/// The label of the strings of an array.
+fn several_texts(alloc: Global, value: &Value<'_>) -> Option<Label>
+    requires { IsRead (value_view value.now) }
+    ensures { IfSome result (λ label. (strings_in (seen value.now) ≡ Some label) × IsLabel label) }
+{
+    let Ok(Some(texts)) = strings_of(alloc, value) else {
+        return None;
+    };
+    match Label::from_texts(texts) {
+        Ok(label) => Some(label),
+        Err(_) => None,
+    }
+}
