@@ -1,4 +1,4 @@
--- Why labels are not put into a site.
+-- Why an update is refused, and what its document is.
 use Rattle.std.proofs.Common.{◌≡◌, ◌∙◌, ℕ, List, ap, inl, inr}
 use Rattle.cata_core.specs.Site.{SiteState}
 use Rattle.cata_core.specs.declared.cata_fault.CataFault.{CataFault}
@@ -11,33 +11,8 @@ use Rattle.row_docs.specs.Reading.{no_memory}
 use Rattle.site_docs.specs.ReadsAs.{ReadsAsSite}
 use Rattle.map_docs.specs.LangMapLabels.{AreLangMaps}
 use Rattle.map_docs.specs.LangMaps.{Labelled}
-use Rattle.docs_core.specs.Exchange.{RefusesImport}
-use Rattle.docs_core.specs.Imported.{SpendsImport}
 use Rattle.docs_core.specs.Updated.{IsUpdated, RefusesUpdate, SpendsUpdate, Updates}
 use Rattle.docs_core.proofs.CallsLemmas.{site_written}
-
--- why labels are not put is why an import is refused
-pub not_imported : (bytes : List ℕ) (now : ℕ) (maps : List ℕ) (site : SiteState)
-    (labels : List Labelled) (cause : CataFault) (fault : DocFault)
-    → ReadsAsSite bytes site → AreLangMaps maps labels
-    → OrMemory NoMemory (λ c. (c ≡ ClockSpent) × SpendsImport now site.name labels site.cells) cause
-    → fault ≡ of_no_document (of_site cause)
-    → OrMemory no_memory (RefusesImport bytes now maps) fault
-not_imported bytes now maps site labels cause fault reads are why is = elim why [
-  | inl memory ↦ inl (is ∙ ap (λ c. of_no_document (of_site c)) memory)
-  | inr spent ↦ inr
-      (inr
-      (inr (
-        site,
-        labels,
-        reads,
-        are,
-        spent.1,
-        is ∙ ap (λ c. of_no_document (of_site c)) spent.0,
-      )))
-]
-
--- ---- updates
 
 -- the document of a site after an update of its cells is that of the updated document
 pub updated : (bytes : List ℕ) (now : ℕ) (old new : List ℕ) (site : SiteState)

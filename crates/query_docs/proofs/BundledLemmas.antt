@@ -11,7 +11,6 @@ use Rattle.std.specs.Ordering.{eq_by_cmp, is_eq, is_lt, ordering_then}
 use Rattle.std.specs.declared.cmp.Ordering.TheVariants.{Less}
 use Rattle.std.specs.FinMap.Entries.{below_all, find, is_sorted}
 use Rattle.cell_core.specs.Keyed.{IsMap}
-use Rattle.json.specs.Written.{Written}
 use Rattle.nego_core.specs.Item.{Item}
 use Rattle.nego_core.specs.Shortlist.{AreAmong, IsShortlist, Shortlist}
 use Rattle.nego_core.specs.declared.widening.Widening.{Widening}
@@ -22,19 +21,18 @@ use Rattle.cata_core.specs.Live.{languages, live, live_of}
 use Rattle.cata_core.specs.LiveMessages.{AreMessages, LiveMessage, if_any}
 use Rattle.cata_core.specs.declared.reply.Reply.{Reply}
 use Rattle.cata_core.specs.declared.reply.Reply.TheVariants.{Default, Matched, Nothing}
-use Rattle.cata_core.proofs.Basics.{both_parts, first_part, less_than, second_part, some_same, tied}
+use Rattle.cata_core.proofs.Basics.{append_nil, both_parts, first_part, less_than, second_part}
+use Rattle.cata_core.proofs.Basics.{some_same, tied}
 use Rattle.cata_core.proofs.LanguageLemmas.{live_among}
 use Rattle.cata_core.proofs.NestedCataloguesLemmas.{text_exact}
 use Rattle.cata_core.proofs.SearchLemmas.{find_get}
 use Rattle.cata_core.proofs.UniqueAnswersLemmas.{one_lookup_answer_by}
-use Rattle.row_docs.specs.Texts.{Adds}
 use Rattle.map_docs.specs.LangMaps.{Labelled}
-use Rattle.map_docs.specs.LangMapLaws.{IsWritable}
-use Rattle.map_docs.specs.LangMapsWritten.{IsWriting, label_tokens, opening_tokens}
 use Rattle.query_docs.specs.Bundled.{IsAnswer, IsBundleBy}
+use Rattle.query_docs.specs.Draft.{HasWritten}
 use Rattle.query_docs.specs.Exported.{live_labels}
 use Rattle.query_docs.specs.LooksUp.{LooksUp, answered, answered_of}
-use Rattle.map_docs.proofs.WritingLemmas.{writing_next}
+use Rattle.query_docs.specs.declared.draft.Draft.{Draft}
 
 -- ---- members of lists
 
@@ -265,49 +263,40 @@ module _ (widening : Widening) (cells : Entries) (items : List Item) (default : 
 -- language maps that are being written: the labels so far, and those that are answered for the
 -- messages that are left, are those of all
 pub record IsBundling (widening : Widening) (cells : Entries) (items : List Item)
-    (default : Option (List ℕ)) (draft : Written) (current : Option (List ℕ))
-    (left : List LiveMessage) : Type 0 where
+    (default : Option (List ℕ)) (draft : Draft) (left : List LiveMessage) : Type 0 where
   pub messages : List LiveMessage
   pub are : AreMessages cells messages
   pub done : List Labelled
-  pub writing : (more : List Labelled) → IsWriting draft current more (done ++ more)
+  pub written : HasWritten draft done
   pub looks : (rest : List Labelled) → LooksUp widening items default left rest
       → LooksUp widening items default messages (done ++ rest)
 
 module _ (widening : Widening) (cells : Entries) (items : List Item) (default : Option (List ℕ))
   where
-    pub bundling_first : (draft : Written) (messages : List LiveMessage)
-        → AreMessages cells messages
-        → ((labels : List Labelled) → IsWriting draft None labels labels)
-        → IsBundling widening cells items default draft None messages
-    bundling_first draft messages are writing =
-        record {
-          messages = messages;
-          are = are;
-          done = [];
-          writing = writing;
-          looks =
-              λ rest looks. looks;
-        }
+    pub bundling_first : (draft : Draft) (messages : List LiveMessage)
+        → AreMessages cells messages → HasWritten draft []
+        → IsBundling widening cells items default draft messages
+    bundling_first draft messages are written = record {
+      messages = messages;
+      are = are;
+      done = [];
+      written = written;
+      looks = λ rest looks. looks;
+    }
 
-    found_at : (old new : Written) (current : Option (List ℕ)) (m : LiveMessage)
-        (left : List LiveMessage) (reply : Reply) (lang : List ℕ) (label : List (List ℕ))
-        → IsBundling widening cells items default old current (m ∷ left)
+    found_at : (old new : Draft) (m : LiveMessage) (left : List LiveMessage) (reply : Reply)
+        (lang : List ℕ) (label : List (List ℕ))
+        → IsBundling widening cells items default old (m ∷ left)
         → IsLookedUpBy widening m.1 items default reply → Some (lang, label) ≡ answered reply
-        → Adds old new (opening_tokens current m.0 ++ label_tokens ((m.0, lang), label))
-        → IsWritable ((m.0, lang), label)
-        → IsBundling widening cells items default new (Some m.0) left
-    found_at old new current m left reply lang label b is found adds valid =
+        → ((labels : List Labelled) → HasWritten old labels
+        → HasWritten new (labels ++ ((m.0, lang), label) ∷ []))
+        → IsBundling widening cells items default new left
+    found_at old new m left reply lang label b is found adds =
         let e : Labelled = ((m.0, lang), label) in record {
           messages = b.messages;
           are = b.are;
           done = b.done ++ e ∷ [];
-          writing =
-              λ more.
-              subst (λ (all : List Labelled). IsWriting new (Some m.0) more all)
-              (sym (append_assoc b.done (e ∷ []) more))
-              (writing_next old new current e more (b.done ++ e ∷ more) (b.writing (e ∷ more)) adds
-              valid);
+          written = adds b.done b.written;
           looks =
               λ rest looks.
               subst (λ (all : List Labelled). LooksUp widening items default b.messages all)
@@ -316,44 +305,41 @@ module _ (widening : Widening) (cells : Entries) (items : List Item) (default : 
               (reply, rest, is, looks, ap (λ o. answered_of m.0 o ++ rest) found));
         }
 
-    pub bundling_found : (old new : Written) (current : Option (List ℕ)) (m : LiveMessage)
-        (left : List LiveMessage) (reply : Reply) (id lang : List ℕ) (label : List (List ℕ))
-        → id ≡ m.0 → IsBundling widening cells items default old current (m ∷ left)
+    pub bundling_found : (old new : Draft) (m : LiveMessage) (left : List LiveMessage)
+        (reply : Reply) (id lang : List ℕ) (label : List (List ℕ)) → id ≡ m.0
+        → IsBundling widening cells items default old (m ∷ left)
         → IsLookedUpBy widening m.1 items default reply → Some (lang, label) ≡ answered reply
-        → Adds old new (opening_tokens current id ++ label_tokens ((id, lang), label))
-        → IsWritable ((id, lang), label)
-        → IsBundling widening cells items default new (Some id) left
-    bundling_found old new current m left reply id lang label same b is found adds valid =
-        subst (λ (x : List ℕ). IsBundling widening cells items default new (Some x) left) (sym same)
-        (found_at old new current m left reply lang label b is found
-        (subst
-        (λ (x : List ℕ). Adds old new
-        (opening_tokens current x ++ label_tokens ((x, lang), label))) same adds)
-        (subst (λ (x : List ℕ). IsWritable ((x, lang), label)) same valid))
+        → ((labels : List Labelled) → HasWritten old labels
+        → HasWritten new (labels ++ ((id, lang), label) ∷ []))
+        → IsBundling widening cells items default new left
+    bundling_found old new m left reply id lang label same b is found adds =
+        found_at old new m left reply lang label b is found
+        (λ labels has. subst (λ (x : List ℕ). HasWritten new (labels ++ ((x, lang), label) ∷ []))
+        same (adds labels has))
 
     -- a message that is not answered is left out
-    pub bundling_passed : (draft : Written) (current : Option (List ℕ)) (m : LiveMessage)
-        (left : List LiveMessage) (reply : Reply)
-        → IsBundling widening cells items default draft current (m ∷ left)
+    pub bundling_passed : (draft : Draft) (m : LiveMessage) (left : List LiveMessage)
+        (reply : Reply) → IsBundling widening cells items default draft (m ∷ left)
         → IsLookedUpBy widening m.1 items default reply → None ≡ answered reply
-        → IsBundling widening cells items default draft current left
-    bundling_passed draft current m left reply b is none = record {
+        → IsBundling widening cells items default draft left
+    bundling_passed draft m left reply b is none = record {
       messages = b.messages;
       are = b.are;
       done = b.done;
-      writing = b.writing;
+      written = b.written;
       looks = λ rest looks.
           b.looks rest (reply, rest, is, looks, ap (λ o. answered_of m.0 o ++ rest) none);
     }
 
-    pub bundling_last : (draft : Written) (current : Option (List ℕ))
-        → IsBundling widening cells items default draft current []
+    pub bundling_last : (draft : Draft) → IsBundling widening cells items default draft []
         → (labels : List Labelled) × IsBundleBy widening cells items default labels
-        × IsWriting draft current [] labels
-    bundling_last draft current b = (
-      b.done ++ [],
-      bundle_of widening cells items default b.messages (b.done ++ []) b.are (b.looks [] refl),
-      b.writing [],
+        × HasWritten draft labels
+    bundling_last draft b = (
+      b.done,
+      bundle_of widening cells items default b.messages b.done b.are
+          (subst (λ (all : List Labelled). LooksUp widening items default b.messages all)
+          (append_nil b.done) (b.looks [] refl)),
+      b.written,
     )
 
 -- ---- a list that is cut to the languages of the catalogue

@@ -11,11 +11,11 @@ ghost use Rattle.query_docs.specs.Bundled.{IsBundle, IsBundleBy, IsBundled, IsBu
 ghost use Rattle.query_docs.specs.LooksUp.{answered};
 
 use crate::bundle_by_message::written_bundle;
+use crate::draft::Draft;
 use cata_core::{Catalogue, LentReply, list_languages};
-use cell_core::{Label, MessageId};
+use cell_core::Label;
 use json_docs::{Doc, DocFault};
 use lang_core::Lang;
-use map_docs::{close_labels, open_labels, write_label};
 use nego_core::{PriorityList, Shortlist, Widening};
 use site_docs::site_at;
 use std::alloc::{AllocError, Global};
@@ -104,17 +104,13 @@ pub fn write_bundle_by(
     let langs = catalogue.languages(alloc)?;
     let listed = list_languages(alloc, &langs)?;
     let shortlist = Shortlist::new(alloc, list, widening, &listed)?;
-    let mut draft = open_labels(alloc)?;
-    let mut current: Option<&MessageId> = None;
+    let mut draft = Draft::new(alloc)?;
     'messages: for message in catalogue.messages() {
         if let Some((lang, label)) = answered(message.lookup_within(&shortlist, default)) {
-            let id = message.id();
-            write_label(&mut draft, current, id, lang, label)?;
-            current = Some(id);
+            draft.add(alloc, message.id(), lang, label)?;
         }
     }
-    let doc = close_labels(draft, current)?;
-    Ok((doc, current.is_some()))
+    draft.close()
 }
 
 /// The language that was answered, with its label.

@@ -1,6 +1,6 @@
 -- Rows that are written one after another, and documents that read as what they were written for.
 use Rattle.std.proofs.Common.{◌≡◌, ◌∙◌, ◌+◌, ◌<◌, ◌++◌, ℕ, zero, suc, List, [], ◌∷◌, codes, take}
-use Rattle.std.proofs.Common.{length, ap, sym, subst, append_assoc, add-one, arith}
+use Rattle.std.proofs.Common.{length, map, ap, sym, subst, append_assoc, add-one, arith}
 use Rattle.std.proofs.lemmas.List.{map-append}
 use Rattle.std.proofs.lemmas.List.Elements.{All-append, All-cons, All-nil}
 use Rattle.std.specs.List.{All}
@@ -8,11 +8,12 @@ use Rattle.std.specs.Prelude.{IfOk, IsUtf8, None, Ok, Err, Result, Some, slice_g
 use Rattle.json.specs.Token.{begin_object, begin_array, key, string}
 use Rattle.json.specs.Written.{Written}
 use Rattle.serde_json.specs.Data.{Data}
+use Rattle.cata_core.specs.Delta.{summary_of}
 use Rattle.cata_core.specs.Entries.{Entries, Entry, EntryKey}
 use Rattle.cell_core.specs.declared.stamp.Stamp.{Stamp}
 use Rattle.row_docs.specs.Entries.{cells_values, entry_value, stamps_values, stamped_value}
 use Rattle.row_docs.specs.Texts.{Adds, value_tokens}
-use Rattle.site_docs.specs.Drafts.{HoldsCells, HoldsStamps}
+use Rattle.site_docs.specs.Drafts.{HasStamps, HoldsCells, HoldsStamps}
 use Rattle.row_docs.proofs.TextsLemmas.{row_tokens-push}
 
 HoldsCells-adds : (a b : Written) (rows : List Data) (d : Data) → HoldsCells a rows
@@ -58,6 +59,19 @@ pub stamp_more : (a b : Written) (owner : List ℕ) (stamps : List (EntryKey × 
 stamp_more a b owner stamps k t holds adds is =
     rw (add-one, taken stamps k t is, map-append stamped_value (take k stamps) (t ∷ []))
     (HoldsStamps-adds a b owner (stamps_values (take k stamps)) (stamped_value t) holds adds)
+
+-- the stamp of one cell more is written
+pub stamp_added : (first a b : Written) (cells : Entries) (e : Entry)
+    → Adds a b (value_tokens (stamped_value (e.0, e.1.stamp))) → HasStamps first a cells
+    → HasStamps first b (cells ++ e ∷ [])
+stamp_added first a b cells e adds has = λ owner begun.
+    let stamped : Entry → EntryKey × Stamp = λ x. (x.0, x.1.stamp) in
+    rw (
+      map-append stamped cells (e ∷ []),
+      map-append stamped_value (map stamped cells) (stamped e ∷ []),
+    )
+    (HoldsStamps-adds a b owner (stamps_values (summary_of cells)) (stamped_value (stamped e))
+    (has owner begun) adds)
 
 -- there is a stamp at each place
 pub some_at : {A : Type 0} (xs : List A) (k : ℕ) → k < length xs → slice_get xs k ≡ None → ⊥

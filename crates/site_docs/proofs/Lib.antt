@@ -5,6 +5,8 @@ pub mod OneDocument
 pub mod PlainLemmas
 pub mod PlainReads
 pub mod RoundTrip
+pub mod SharedCellsLemmas
 pub mod SiteDocumentsLemmas
+pub mod SpellingLemmas
 pub mod TextsLemmas
 pub mod WrittenDocuments

@@ -4,5 +4,7 @@ pub mod OldDocuments
 pub mod Plain
 pub mod PlainRows
 pub mod ReadsAs
+pub mod SharedCells
 pub mod SiteDocuments
+pub mod Spellings
 pub mod Values

@@ -31,7 +31,7 @@ entry_in front label = (key_in front, record { stamp = stamp_of (row_in front); 
 -- the values are those that the texts of the row spell
 pub record IsSpelled (row : Spelled) : Type 0 where
   pub id : row.id ≡ row.front.id.now
-  pub lang : row.lang ≡ row.front.language.now
+  pub lang : row.languages ≡ row.front.language.now
   pub site : row.site ≡ row.front.site.now
   pub is_id : IsMessageId row.front.id.now
   pub is_lang : IsLang row.front.language.now

@@ -2,5 +2,6 @@
 
 pub(crate) mod envelope;
 pub(crate) mod reading;
+pub(crate) mod shared_cells;
 pub(crate) mod site_documents;
 pub(crate) mod writing;

@@ -1,10 +1,12 @@
 //! The documents of sites, deltas and summaries.
 //!
 //! [`read_site`], [`read_delta`] and [`read_summary`] read a document; [`write_site`],
-//! [`write_delta`] and [`write_summary`] write one. [`site_at`], [`delta_at`] and [`summary_at`]
-//! read one document of several, which a refusal names.
+//! [`write_delta`] and [`write_summary`] write one, and [`write_with_same_cells`] those of two
+//! sites with the same cells. [`site_at`], [`delta_at`] and [`summary_at`] read one document of
+//! several, which a refusal names.
 //! [`take_written_site`] gives the cells of a site to a [`TakeCells`], and builds no catalogue,
-//! where the document is in the form in which it is written.
+//! where the document is in the form in which it is written; [`written_summary`] writes the summary
+//! of such a document as its rows are read.
 //!
 //! Callers find what they need in `docs_core`.
 #![tactic(auto)]
@@ -14,6 +16,8 @@ pub mod laws;
 mod plain;
 
 pub use document::reading::{delta_at, read_delta, read_site, read_summary, site_at, summary_at};
+pub use document::shared_cells::write_with_same_cells;
 pub use document::writing::{write_delta, write_site, write_summary};
 pub use plain::documents::take_written_site;
+pub use plain::summaries::written_summary;
 pub use plain::taking::TakeCells;

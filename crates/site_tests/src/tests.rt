@@ -2,3 +2,4 @@
 
 mod as_written;
 mod readers;
+mod summaries;

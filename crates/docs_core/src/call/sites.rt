@@ -1,5 +1,5 @@
 //! Calls on whole documents, from bytes to bytes.
-ghost use Rattle.std.specs.Prelude.{◌≡◌, option_map, IfErr, IfOk, IfSome, MatchResult};
+ghost use Rattle.std.specs.Prelude.{◌≡◌, option_map, IfErr, IfOk, MatchResult};
 ghost use Rattle.std.specs.FinMap.Entries.{put};
 ghost use Rattle.cell_core.specs.Stamp.{IsNext};
 ghost use Rattle.cata_core.specs.Entries.{key_cmp};
@@ -13,11 +13,11 @@ ghost use Rattle.docs_core.specs.Calls.{IsTaken, RefusesEditing, RefusesDeltaFor
 ghost use Rattle.docs_core.specs.Calls.{RefusesTaking};
 
 use crate::call::time_limits::{sync_documents_until, take_document_until};
-use cata_core::{CataFault, Site, Summary};
-use cell_core::{Label, MessageId, SiteName, Stamp};
+use cata_core::{CataFault, Site};
+use cell_core::{Label, MessageId, Stamp};
 use json_docs::{Doc, DocFault};
 use lang_core::Lang;
-use site_docs::{site_at, summary_at, take_written_site, write_delta, write_site, write_summary};
+use site_docs::{site_at, summary_at, write_delta, write_site, write_summary, written_summary};
 use std::alloc::Global;
 
 /// The document of the site after an edit at the time `now`: a label is put, and none deletes.
@@ -92,18 +92,6 @@ pub fn summary_document(alloc: Global, site: &[u8]) -> Result<Doc, DocFault>
     drop(site);
     let doc = write_summary(alloc, &summary)?;
     Ok(doc)
-}
-
-/// The same where the document is in the form in which it is written.
-fn written_summary(alloc: Global, site: &[u8]) -> Option<Doc>
-    ensures { IfSome result (IsSummarised site.now) }
-{
-    let mut summary = Summary::new(alloc, SiteName::of_number(0));
-    let owner = take_written_site(alloc, site, &mut summary)?;
-    match write_summary(alloc, &summary.with_owner(owner)) {
-        Ok(doc) => Some(doc),
-        Err(_) => None,
-    }
 }
 
 /// The document of the delta of what the summary lacks, for the summary's owner.

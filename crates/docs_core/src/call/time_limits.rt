@@ -6,9 +6,9 @@ ghost use Rattle.docs_core.specs.TimeLimits.{AreInTime, AreSyncedUntil, IsFirstA
 ghost use Rattle.docs_core.specs.TimeLimits.{IsTimeAhead, ReadsInTime, RefusesDeltaUntil};
 ghost use Rattle.docs_core.specs.TimeLimits.{RefusesSyncUntil, RefusesTakingUntil};
 
-use cata_core::{Catalogue, Delta, sync};
+use cata_core::{Catalogue, Delta};
 use json_docs::{Doc, DocCause, DocFault};
-use site_docs::{delta_at, site_at, write_site};
+use site_docs::{delta_at, site_at, write_site, write_with_same_cells};
 use std::alloc::Global;
 
 /// The document of the site after it took the delta, as [`take_document`](crate::take_document)
@@ -54,14 +54,14 @@ pub fn sync_documents_until(
         docs.1) (OrMemory no_memory (RefusesSyncUntil first.now second.now not_after)) }
 {
     let mut first = site_at(alloc, 1, first)?;
-    let mut second = site_at(alloc, 2, second)?;
+    let second = site_at(alloc, 2, second)?;
     check_times(1, first.catalogue(), not_after)?;
     check_times(2, second.catalogue(), not_after)?;
-    sync(alloc, &mut first, &mut second)?;
-    let first_doc = write_site(alloc, &first)?;
-    drop(first);
-    let second_doc = write_site(alloc, &second)?;
-    Ok((first_doc, second_doc))
+    first.merge(alloc, second.catalogue())?;
+    let other = second.name();
+    drop(second);
+    let docs = write_with_same_cells(alloc, first, other)?;
+    Ok(docs)
 }
 
 /// The delta of a document of version 1 or 2, where none of its times is greater than `not_after`.

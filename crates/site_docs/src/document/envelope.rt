@@ -77,7 +77,12 @@ fn close_rows(mut draft: Writer) -> Result<Doc, AllocError>
 }
 
 /// Closes the rows, and adds the kind, a name and the version.
-fn close_named(mut draft: Writer, kind: &str, member: &str, name: &str) -> Result<Doc, AllocError>
+pub(crate) fn close_named(
+    mut draft: Writer,
+    kind: &str,
+    member: &str,
+    name: &str,
+) -> Result<Doc, AllocError>
     ensures text { IfOk result (λ doc. doc ≡ draft.before
         ++ (print (draft.tokens ++ end_array ∷ (name_tokens (codes "kind") kind.now
         ++ (name_tokens member.now name.now ++ version_tokens))) ++ 10 ∷ [])) }

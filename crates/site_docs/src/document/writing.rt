@@ -50,7 +50,7 @@ pub fn write_summary(alloc: Global, summary: &Summary) -> Result<Doc, AllocError
 }
 
 /// A site's or a delta's document with all its cells, not yet closed.
-fn cells_draft(alloc: Global, cells: &Catalogue) -> Result<Writer, AllocError>
+pub(crate) fn cells_draft(alloc: Global, cells: &Catalogue) -> Result<Writer, AllocError>
     ensures rows { IfOk result (λ draft. HoldsCells draft (cells_values cells.now)) }
     ensures kept { IfOk result (λ _. AreKeptCells cells.now) }
 {

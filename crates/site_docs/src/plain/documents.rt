@@ -54,7 +54,7 @@ pub fn take_written_site<T: TakeCells>(
 }
 
 /// Gives the cells of a document of this kind to the taker, and answers its name.
-fn take_plain<T: TakeCells>(
+pub(crate) fn take_plain<T: TakeCells>(
     alloc: Global,
     bytes: &[u8],
     kind: Kind,
@@ -73,7 +73,7 @@ fn take_plain<T: TakeCells>(
 }
 
 /// The name in the members after the rows.
-fn last_name(text: &str, kind: Kind) -> Option<SiteName>
+pub(crate) fn last_name(text: &str, kind: Kind) -> Option<SiteName>
     ensures text { IfSome result (λ name. (end : List ℕ) × IsEnd end
         × (text.now ≡ last_members (kind_text kind) (subject_of kind) name end)) }
     ensures name { IfSome result (λ name. IsSiteName name) }

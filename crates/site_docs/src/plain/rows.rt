@@ -1,12 +1,11 @@
 //! The rows of sites and deltas.
 ghost use Rattle.std.specs.Prelude.{◌≡◌, ◌↔◌, ◌++◌, ◌∷◌, [], List, ℕ, IfSome, IsTrue, Option};
-ghost use Rattle.std.specs.Prelude.{Some};
+ghost use Rattle.std.specs.Prelude.{IfErr, IfOk, OnOk, Some};
 ghost use Rattle.std.specs.Ordering.{ordering_then};
 ghost use Rattle.std.specs.declared.cmp.Ordering.TheVariants.{Less};
 ghost use Rattle.serde_json.specs.Written.{compact_text};
 ghost use Rattle.cell_core.specs.MessageId.{IsMessageId};
 ghost use Rattle.cell_core.specs.SiteName.{IsSiteName};
-ghost use Rattle.lang_core.specs.Lang.{IsLang};
 ghost use Rattle.cata_core.specs.Entries.{Entries, Entry, IsAboveAll, text_cmp};
 ghost use Rattle.row_docs.specs.Entries.{entry_value};
 ghost use Rattle.row_docs.specs.EntriesSeen.{entry_by};
@@ -16,12 +15,14 @@ ghost use Rattle.row_docs.specs.Values.{label_value};
 ghost use Rattle.site_docs.specs.Plain.{rows_text};
 ghost use Rattle.site_docs.specs.PlainRows.{IsLastOf, IsSpelled, entry_in, key_in, row_before};
 ghost use Rattle.site_docs.specs.PlainRows.{row_in};
+ghost use Rattle.site_docs.specs.Spellings.{RefusesSpelling};
 
 use crate::plain::labels::next_label;
+use crate::plain::languages::KnownLanguages;
+use crate::plain::spelling::{Unread, spelled_id, spelled_site};
 use crate::plain::taking::TakeCells;
-use crate::plain::texts::{after, number_before, text_before};
+use crate::plain::texts::{after, after_byte, number_before_comma, text_before, text_before_comma};
 use cell_core::{Cell, Key, Label, MessageId, SiteName, Stamp};
-use lang_core::Lang;
 use row_docs::CellEntry;
 use std::alloc::Global;
 use std::cmp::Ordering;
@@ -48,8 +49,8 @@ struct Spelled<'t> {
     front: Front<'t>,
     /// The message.
     id: MessageId,
-    /// The language.
-    lang: Lang,
+    /// The language, and those of the rows before.
+    languages: KnownLanguages,
     /// The site of the stamp.
     site: SiteName,
 }
@@ -101,7 +102,9 @@ fn first_cell<'t, T: TakeCells>(
         × T.Holds taker.old taker.new (e ∷ [])) }
 {
     let (front, rest) = next_front(text)?;
-    let spelled = Spelled::new(alloc, front)?;
+    let Ok(spelled) = Spelled::new(alloc, front) else {
+        return None;
+    };
     let rest = give_cell(alloc, rest, &spelled, taker)?;
     Some((spelled, rest))
 }
@@ -123,7 +126,9 @@ fn next_cell<'t, T: TakeCells>(
         → IsAboveAll e.0 before → T.Holds first taker.new (before ++ e ∷ []))) }
 {
     let (front, rest) = next_front(text)?;
-    last.follow(alloc, front)?;
+    let Ok(()) = last.follow(alloc, front) else {
+        return None;
+    };
     let rest = give_cell(alloc, rest, last, taker)?;
     Some(rest)
 }
@@ -161,10 +166,11 @@ fn next_front(text: &str) -> Option<(Front<'_>, &str)>
 {
     let rest = after(text, "[\"")?;
     let (id, rest) = text_before(rest, "\",\"")?;
-    let (language, rest) = text_before(rest, "\",")?;
-    let (time, rest) = number_before(rest, ",\"")?;
-    let (site, rest) = text_before(rest, "\",")?;
-    let (count, rest) = number_before(rest, ",")?;
+    let (language, rest) = text_before_comma(rest)?;
+    let (time, rest) = number_before_comma(rest)?;
+    let rest = after_byte(rest, b'"')?;
+    let (site, rest) = text_before_comma(rest)?;
+    let (count, rest) = number_before_comma(rest)?;
     let Ok(count) = u32::try_from(count) else {
         return None;
     };
@@ -180,17 +186,17 @@ fn next_front(text: &str) -> Option<(Front<'_>, &str)>
 
 impl<'t> Spelled<'t> {
     /// What the texts of the row spell, where its language is in lower case.
-    fn new(alloc: Global, front: Front<'t>) -> Option<Spelled<'t>>
-        ensures spelled { IfSome result (λ spelled. IsSpelled spelled) }
-        ensures front { IfSome result (λ spelled. row_in spelled.front ≡ row_in front.entry) }
+    fn new(alloc: Global, front: Front<'t>) -> Result<Spelled<'t>, Unread>
+        ensures spelled { IfOk result (λ spelled. IsSpelled spelled) }
+        ensures front { IfOk result (λ spelled. row_in spelled.front ≡ row_in front.entry) }
     {
         let id = spelled_id(alloc, front.id)?;
-        let lang = spelled_lang(alloc, front.language)?;
+        let languages = KnownLanguages::new(alloc, front.language)?;
         let site = spelled_site(front.site)?;
-        Some(Spelled {
+        Ok(Spelled {
             front,
             id,
-            lang,
+            languages,
             site,
         })
     }
@@ -198,22 +204,22 @@ impl<'t> Spelled<'t> {
     /// Becomes what this row spells, where its key is greater. What the last row spells by the
     /// same text stays as it is.
     #[inline(always)]
-    fn follow(&mut self, alloc: Global, front: Front<'t>) -> Option<()>
+    fn follow(&mut self, alloc: Global, front: Front<'t>) -> Result<(), Unread>
         requires { IsSpelled self.old }
-        ensures spelled { IfSome result (λ _. IsSpelled self.new) }
-        ensures front { IfSome result (λ _. row_in self.new.front ≡ row_in front.entry) }
-        ensures key { IfSome result
-            (λ _. IsAfter (Some (key_in self.old.front)) (key_in self.new.front)) }
+        ensures spelled { OnOk result (IsSpelled self.new) }
+        ensures front { OnOk result (row_in self.new.front ≡ row_in front.entry) }
+        ensures key { OnOk result
+            (IsAfter (Some (key_in self.old.front)) (key_in self.new.front)) }
     {
         let ids = self.front.id.cmp(front.id);
         if !rises(ids, self.front.language, front.language) {
-            return None;
+            return Err(Unread::NotWritten);
         }
         set_id(alloc, &mut self.id, ids, front.id)?;
-        set_lang(alloc, &mut self.lang, self.front.language, front.language)?;
+        self.languages.follow(alloc, ids.is_eq(), front.language)?;
         set_site(&mut self.site, self.front.site, front.site)?;
         self.front = front;
-        Some(())
+        Ok(())
     }
 
     /// The entry of the row with this label.
@@ -227,7 +233,7 @@ impl<'t> Spelled<'t> {
         let Ok(id) = self.id.copy(alloc) else {
             return None;
         };
-        let Ok(lang) = self.lang.copy(alloc) else {
+        let Ok(lang) = self.languages.last().copy(alloc) else {
             return None;
         };
         let stamp = Stamp {
@@ -252,69 +258,26 @@ fn rises(ids: Ordering, last: &str, language: &str) -> bool
 }
 
 /// Makes the id that of the text, to which it is ordered so: an equal one stays.
-fn set_id(alloc: Global, id: &mut MessageId, order: Ordering, text: &str) -> Option<()>
+fn set_id(alloc: Global, id: &mut MessageId, order: Ordering, text: &str) -> Result<(), Unread>
     requires order { order ≡ text_cmp id.old text.now }
     requires id { IsMessageId id.old }
-    ensures { IfSome result (λ _. (id.new ≡ text.now) × IsMessageId text.now) }
+    ensures ok { OnOk result ((id.new ≡ text.now) × IsMessageId text.now) }
+    ensures err { IfErr result (RefusesSpelling (IsMessageId text.now)) }
 {
     if order.is_ne() {
         *id = spelled_id(alloc, text)?;
     }
-    Some(())
-}
-
-/// Makes the language that of the text, which it is where the last text is the same.
-fn set_lang(alloc: Global, lang: &mut Lang, last: &str, text: &str) -> Option<()>
-    requires { (lang.old ≡ last.now) × IsLang last.now }
-    ensures { IfSome result (λ _. (lang.new ≡ text.now) × IsLang text.now) }
-{
-    if last != text {
-        *lang = spelled_lang(alloc, text)?;
-    }
-    Some(())
+    Ok(())
 }
 
 /// Makes the name that of the text, which it is where the last text is the same.
-fn set_site(site: &mut SiteName, last: &str, text: &str) -> Option<()>
+fn set_site(site: &mut SiteName, last: &str, text: &str) -> Result<(), Unread>
     requires { (site.old ≡ last.now) × IsSiteName last.now }
-    ensures { IfSome result (λ _. (site.new ≡ text.now) × IsSiteName text.now) }
+    ensures ok { OnOk result ((site.new ≡ text.now) × IsSiteName text.now) }
+    ensures err { IfErr result (RefusesSpelling (IsSiteName text.now)) }
 {
     if last != text {
         *site = spelled_site(text)?;
     }
-    Some(())
-}
-
-/// The id with this text.
-fn spelled_id(alloc: Global, text: &str) -> Option<MessageId>
-    ensures { IfSome result (λ id. (id ≡ text.now) × IsMessageId text.now) }
-{
-    match MessageId::new(alloc, text) {
-        Ok(id) => Some(id),
-        Err(_) => None,
-    }
-}
-
-/// The language with this text, which is in lower case.
-fn spelled_lang(alloc: Global, text: &str) -> Option<Lang>
-    ensures { IfSome result (λ lang. (lang ≡ text.now) × IsLang text.now) }
-{
-    let Ok(lang) = Lang::parse(alloc, text.as_bytes()) else {
-        return None;
-    };
-    if lang.as_str() == text {
-        Some(lang)
-    } else {
-        None
-    }
-}
-
-/// The name with this text.
-fn spelled_site(text: &str) -> Option<SiteName>
-    ensures { IfSome result (λ site. (site ≡ text.now) × IsSiteName text.now) }
-{
-    match SiteName::new(text) {
-        Ok(site) => Some(site),
-        Err(_) => None,
-    }
+    Ok(())
 }

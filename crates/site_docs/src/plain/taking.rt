@@ -1,10 +1,9 @@
 //! What takes the cells of a document one after another, as they are read.
 ghost use Rattle.std.specs.Prelude.{◌≡◌, ◌++◌, ◌∷◌, [], OnOk};
-ghost use Rattle.cata_core.specs.Delta.{summary_of};
 ghost use Rattle.cata_core.specs.Entries.{Entries, IsAboveAll};
 ghost use Rattle.row_docs.specs.EntriesSeen.{entry_by};
 
-use cata_core::{Catalogue, Summary};
+use cata_core::Catalogue;
 use row_docs::CellEntry;
 use std::alloc::{AllocError, Global};
 
@@ -31,15 +30,5 @@ impl TakeCells for Catalogue {
     fn take(&mut self, alloc: Global, entry: CellEntry) -> Result<(), AllocError> {
         let CellEntry { id, lang, cell } = entry;
         self.push(alloc, id, lang, cell)
-    }
-}
-
-/// Keeps the stamps of all cells; the owner stays.
-impl TakeCells for Summary {
-    ghost Holds = { λ first summary taken. summary.stamps ≡ summary_of taken };
-
-    fn take(&mut self, _alloc: Global, entry: CellEntry) -> Result<(), AllocError> {
-        let CellEntry { id, lang, cell } = entry;
-        self.push(id, lang, cell.stamp())
     }
 }

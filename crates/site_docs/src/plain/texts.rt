@@ -28,6 +28,16 @@ pub(crate) fn after<'t>(text: &'t str, literal: &str) -> Option<&'t str>
     text.strip_prefix(literal)
 }
 
+/// What comes after the byte that the text begins with, where that is ASCII. A literal of one byte
+/// is compared so by fewer instructions.
+#[inline(always)]
+pub(crate) fn after_byte(text: &str, byte: u8) -> Option<&str>
+    ensures { IfSome result (λ rest. text.now ≡ byte ∷ rest.now) }
+{
+    let (first, left) = first_byte(text)?;
+    if first == byte { Some(left) } else { None }
+}
+
 /// What comes after the literal and this string, where it needs no escape.
 pub(crate) fn after_text<'t>(text: &'t str, literal: &str, wanted: &str) -> Option<&'t str>
     ensures { IfSome result (λ rest. text.now ≡ literal.now ++ (quoted wanted.now ++ rest.now)) }
@@ -55,6 +65,17 @@ pub(crate) fn text_before<'t>(text: &'t str, literal: &str) -> Option<(&'t str, 
     Some((front, rest))
 }
 
+/// The same before a quote and a comma.
+#[inline(always)]
+pub(crate) fn text_before_comma(text: &str) -> Option<(&str, &str)>
+    ensures { IfSome result (λ r. text.now ≡ escape r.0.now ++ 34 ∷ 44 ∷ r.1.now) }
+{
+    let (before, quote) = plain_front(text)?;
+    let comma = after_byte(quote, b'"')?;
+    let left = after_byte(comma, b',')?;
+    Some((before, left))
+}
+
 /// The number before the literal, in decimal without leading zeros, and what comes after that.
 #[inline(always)]
 pub(crate) fn number_before<'t>(text: &'t str, literal: &str) -> Option<(u64, &'t str)>
@@ -63,6 +84,16 @@ pub(crate) fn number_before<'t>(text: &'t str, literal: &str) -> Option<(u64, &'
     let (number, rest) = number_front(text)?;
     let rest = after(rest, literal)?;
     Some((number, rest))
+}
+
+/// The same before a comma.
+#[inline(always)]
+pub(crate) fn number_before_comma(text: &str) -> Option<(u64, &str)>
+    ensures { IfSome result (λ r. text.now ≡ decimal r.0 ++ 44 ∷ r.1.now) }
+{
+    let (number, comma) = number_front(text)?;
+    let left = after_byte(comma, b',')?;
+    Some((number, left))
 }
 
 /// A copy of the string after the literal, and what comes after it.

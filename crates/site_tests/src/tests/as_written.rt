@@ -3,7 +3,7 @@
 use cell_core::CellFault;
 use json_docs::{Doc, DocCause, DocFault, FieldFault, Spot};
 use site_docs::{read_delta, read_site, write_delta, write_site};
-use std::alloc::Global;
+use std::alloc::{AllocError, Global};
 use std::process::Abort;
 
 /// A site with the greatest numbers, a deletion, and texts that are written with escapes.
@@ -46,6 +46,19 @@ const EMPTY: &str = "{\"cells\":[],\"kind\":\"site\",\"site\":\"0-z\",\"version\
 
 const DELTA: &str = concat!(
     r#"{"cells":[["m","en",5,"a",0,["x"]]],"kind":"delta","to":"lyon","version":2}"#,
+    "\n"
+);
+
+/// A site whose messages have some languages of the message before, and others before, between and
+/// after them.
+const SOME_LANGUAGES: &str = concat!(
+    r#"{"cells":[["m","de",1,"a",0,null],["m","en",1,"a",0,null],["m","fr",1,"a",0,null],"#,
+    r#"["n","en",1,"a",0,null],["n","fr",1,"a",0,null],"#,
+    r#"["o","fr",1,"a",0,null],"#,
+    r#"["p","@none",1,"a",0,null],["p","de",1,"a",0,null],["p","de-x-aaaaaaaa-bbbbbbbb",1,"a",0,null],"#,
+    r#"["p","fr",1,"a",0,null],["p","zh",1,"a",0,null],"#,
+    r#"["q","de",1,"a",0,null],["q","zh",1,"a",0,null]],"#,
+    r#""kind":"site","site":"paris","version":2}"#,
     "\n"
 );
 
@@ -92,6 +105,51 @@ fn what_is_written_without_escapes_is_read(rt: HostRuntime) {
 #[test]
 fn rows_like_the_row_before_are_read(rt: HostRuntime) {
     assert_written(&rt, rt.alloc(), ALIKE, ALIKE);
+}
+
+#[test]
+fn languages_of_the_message_before_are_read(rt: HostRuntime) {
+    assert_written(&rt, rt.alloc(), SOME_LANGUAGES, SOME_LANGUAGES);
+}
+
+/// A language in upper case is not the one of the message before.
+#[test]
+fn a_language_in_upper_case_is_read(rt: HostRuntime) {
+    let upper = SOME_LANGUAGES.replace(rt.alloc(), r#""n","en""#, r#""n","EN""#);
+    let upper = upper.expect(&rt, "memory");
+    assert_written(&rt, rt.alloc(), &upper, SOME_LANGUAGES);
+}
+
+/// The rows of a message in this many languages, each with a comma before it.
+fn write_message(
+    alloc: Global,
+    text: &mut String,
+    id: &str,
+    languages: u16,
+) -> Result<(), AllocError> {
+    for number in 0..languages {
+        let variant = 1000 + u32::from(number);
+        let row = format!(in alloc; ",[\"{id}\",\"en-{variant}\",1,\"a\",0,null]")?;
+        text.push_str(&row)?;
+    }
+    Ok(())
+}
+
+/// A site with messages in more languages than are kept, and in fewer.
+fn many_languages(alloc: Global) -> Result<String, AllocError> {
+    let mut text = String::from_str(alloc, r#"{"cells":[["l","en",1,"a",0,null]"#)?;
+    write_message(alloc, &mut text, "m", 70)?;
+    write_message(alloc, &mut text, "n", 2)?;
+    write_message(alloc, &mut text, "o", 70)?;
+    write_message(alloc, &mut text, "p", 66)?;
+    text.push_str("],\"kind\":\"site\",\"site\":\"paris\",\"version\":2}\n")?;
+    Ok(text)
+}
+
+#[test]
+fn messages_of_many_languages_are_read(rt: HostRuntime) {
+    let text = many_languages(rt.alloc()).expect(&rt, "memory");
+    assert_written(&rt, rt.alloc(), &text, &text);
 }
 
 /// Each of these ends of a site's text may be after its brace.

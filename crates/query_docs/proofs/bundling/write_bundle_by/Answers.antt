@@ -1,10 +1,10 @@
 use Rattle.std.proofs.Common.{◌∙◌, ap, subst, sym}
-use Rattle.std.specs.Prelude.{List, None, option_map}
+use Rattle.std.specs.Prelude.{List, option_map}
+use Rattle.std.proofs.lemmas.Result.{IfOk-weaker}
 use Rattle.nego_core.specs.Filtering.{texts_of}
 use Rattle.cata_core.specs.Reply.{reply_of}
 use Rattle.cata_core.specs.LiveMessages.{LiveMessage}
 use Rattle.cata_core.specs.Messages.{messages_left}
-use Rattle.map_docs.proofs.WritingLemmas.{found_last, some_borrowed}
 use Rattle.query_docs.proofs.BundledLemmas.{AreLive, IsBundling, are_live, bundling_first}
 use Rattle.query_docs.proofs.BundledLemmas.{bundling_found, bundling_last, bundling_passed}
 use Rattle.query_docs.proofs.BundledLemmas.{shortlisted}
@@ -17,7 +17,7 @@ messages-init c =
     let messages = messages_left c.messages-message-items.result in
     let are = c.messages-message-items.ensures.messages in (
       subst (λ (left : List LiveMessage). IsBundling c.args.widening c.args.catalogue.now
-          c.args.list.now (option_map (λ l. l.now) c.args.default) c.in_ok-draft.draft None left)
+          c.args.list.now (option_map (λ l. l.now) c.args.default) c.in_ok-draft.draft left)
           (sym all)
           (bundling_first c.args.widening c.args.catalogue.now c.args.list.now default
           c.in_ok-draft.draft messages are c.in_ok-draft.ensures),
@@ -27,29 +27,21 @@ messages-init c =
 pub returns : goal.returns
 returns c =
     let default = option_map (λ l. l.now) c.args.default in
-    let current = option_map (λ id. id.now) c.messages.current in
     let b = subst (λ (left : List LiveMessage). IsBundling c.args.widening c.args.catalogue.now
-    c.args.list.now default c.messages.draft current left) c.in-None.ensures.steps.0
+    c.args.list.now default c.messages.draft left) c.in-None.ensures.steps.0
     c.messages.invariant.0 in
     let last = bundling_last c.args.widening c.args.catalogue.now c.args.list.now default
-    c.messages.draft current b in (
-      last.0,
-      last.1,
-      (
-        c.in_ok-doc.ensures last.0 last.1.rising last.2,
-        c.is_some.ensures
-            ∙ some_borrowed c.messages.current ∙ found_last c.messages.draft current last.0 last.2,
-      ),
-    )
+    c.messages.draft b in
+    IfOk-weaker c.close.result _ _
+    (λ _ closed. (last.0, last.1, closed last.0 last.2 last.1.rising)) c.close.ensures
 
-pub messages-preserved-in-Some-answered : goal.messages-preserved-in-Some-answered
-messages-preserved-in-Some-answered c =
+pub messages-preserved-in-Continue-branch-5 : goal.messages-preserved-in-Continue-branch-5
+messages-preserved-in-Continue-branch-5 c =
     let cells = c.args.catalogue.now in
     let default = option_map (λ l. l.now) c.args.default in
-    let current = option_map (λ id. id.now) c.messages.current in
     let left = messages_left c.next.new.self in
     let b = subst (λ (left : List LiveMessage). IsBundling c.args.widening cells
-    c.args.list.now default c.messages.draft current left) c.in-Some.ensures.steps
+    c.args.list.now default c.messages.draft left) c.in-Some.ensures.steps
     c.messages.invariant.0 in
     let live = subst (AreLive cells) c.in-Some.ensures.steps c.messages.invariant.1 in
     let reply = reply_of c.lookup_within.result in
@@ -58,11 +50,10 @@ messages-preserved-in-Some-answered c =
     c.in_ok-shortlist.shortlist c.in-Some.message default reply (texts_of c.deref.result.now)
     c.in_ok-shortlist.ensures texts c.in_ok-langs.ensures live.0 c.lookup_within.ensures in (
       bundling_found c.args.widening cells c.args.list.now default c.messages.draft
-          c.write_label.new.out current c.in-Some.message left reply
-          c.id-id.result.now c.in-Some-answered.lang.now c.in-Some-answered.label.now
-          c.id-id.ensures b
-          found c.in-Some-answered.ensures
-          c.in_ok-write_label.ensures.tokens c.in_ok-write_label.ensures.valid,
+          c.add.new.self c.in-Some.message left reply
+          c.id.result.now c.in-Some-answered.lang.now c.in-Some-answered.label.now
+          c.id.ensures b
+          found c.in-Some-answered.ensures c.in_ok-add.ensures,
       live.1,
     )
 
@@ -70,10 +61,9 @@ pub messages-preserved : goal.messages-preserved
 messages-preserved c =
     let cells = c.args.catalogue.now in
     let default = option_map (λ l. l.now) c.args.default in
-    let current = option_map (λ id. id.now) c.messages.current in
     let left = messages_left c.next.new.self in
     let b = subst (λ (left : List LiveMessage). IsBundling c.args.widening cells
-    c.args.list.now default c.messages.draft current left) c.in-Some.ensures.steps
+    c.args.list.now default c.messages.draft left) c.in-Some.ensures.steps
     c.messages.invariant.0 in
     let live = subst (AreLive cells) c.in-Some.ensures.steps c.messages.invariant.1 in
     let reply = reply_of c.lookup_within.result in
@@ -81,7 +71,7 @@ messages-preserved c =
     let found = shortlisted c.args.widening cells c.args.list.now c.in_ok-langs.langs
     c.in_ok-shortlist.shortlist c.in-Some.message default reply (texts_of c.deref.result.now)
     c.in_ok-shortlist.ensures texts c.in_ok-langs.ensures live.0 c.lookup_within.ensures in (
-      bundling_passed c.args.widening cells c.args.list.now default c.messages.draft current
+      bundling_passed c.args.widening cells c.args.list.now default c.messages.draft
           c.in-Some.message left reply b found c.in_default.ensures,
       live.1,
     )

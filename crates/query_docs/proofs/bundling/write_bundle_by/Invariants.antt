@@ -6,5 +6,5 @@ use Rattle.query_docs.proofs.bundling.write_bundle_by.Given as goal
 abbrev pub invariant-messages : goal.invariant-messages
 invariant-messages l =
     IsBundling l.fn.widening l.catalogue l.list (option_map (λ lang. lang.now) l.default) l.draft
-    (option_map (λ id. id.now) l.current) (messages_left l.message-iterator)
+    (messages_left l.message-iterator)
     × AreLive l.catalogue (messages_left l.message-iterator)

@@ -1,10 +1,13 @@
-use Rattle.std.proofs.Common.{◌<◌, ◌^◌, arith, inl, inr, length, subst, sym}
+use Rattle.std.proofs.Common.{◌≡◌, ◌∙◌, ◌<◌, ◌^◌, List, ap, ap₂, arith, inl, inr, length, subst}
+use Rattle.std.proofs.Common.{sym, ℕ}
 use Rattle.std.proofs.lemmas.Result.{err_from_is_err_and}
 use Rattle.cata_core.specs.CataFault.{IsRefusal}
-use Rattle.cata_core.specs.Entries.{Entries}
+use Rattle.cata_core.specs.Entries.{Agree, Entries, joined}
+use Rattle.cata_core.specs.Site.{SiteState}
 use Rattle.docs_core.specs.TimeLimits.{AreInTime, IsTimeAhead}
+use Rattle.site_docs.specs.ReadsAs.{IsSiteText}
 use Rattle.map_docs.proofs.LangMapLabelsLemmas.{else_by}
-use Rattle.docs_core.proofs.CallsLemmas.{of_call, site_written}
+use Rattle.docs_core.proofs.CallsLemmas.{of_call}
 use Rattle.docs_core.proofs.RowsFit.{site_fits}
 use Rattle.docs_core.proofs.call.time_limits.sync_documents_until.Goals as goal
 
@@ -58,39 +61,56 @@ returns-in_err-check_times-2 c =
       inr (first, ahead),
     )))))
 
+-- the first site after it took the cells of the second
+joined_site : (left first second : SiteState) (cells : Entries)
+    → left ≡ record { name = first.name; cells = joined first.cells cells } → cells ≡ second.cells
+    → left ≡ record { name = first.name; cells = joined first.cells second.cells }
+joined_site left first second cells is same =
+    is ∙ (λ i. record { name = first.name; cells = joined first.cells (same i) })
+
 pub returns : goal.returns
 returns c =
-    let synced = c.in_ok-sync.ensures in
+    let merged = c.in_ok-merge.ensures in
+    let own = c.in_ok-first.first in
+    let other = c.in_ok-second.second in
     let first_in_time = subst (AreInTime c.args.not_after) c.catalogue.ensures
     c.in_ok-check_times.ensures.ok in
     let second_in_time = subst (AreInTime c.args.not_after) c.catalogue-2.ensures
     c.in_ok-check_times-2.ensures.ok in
-    let first = site_written c.in_ok-first_doc.first_doc _ _ synced.first
-    c.in_ok-first_doc.ensures.text c.in_ok-first_doc.ensures.reads in
-    let second = site_written c.in_ok-second_doc.second_doc _ _ synced.second
-    c.in_ok-second_doc.ensures.text c.in_ok-second_doc.ensures.reads in (
-      c.in_ok-first.first,
-      c.in_ok-second.second,
+    let state = joined_site c.merge.new.self own other c.catalogue-3.result.now merged.ok
+    c.catalogue-3.ensures in
+    let docs = c.in_ok-docs.docs in
+    let first = subst (λ (site : SiteState). IsSiteText site docs.0) state
+    c.in_ok-docs.ensures.site in
+    let cells = ap (λ (site : SiteState). site.cells) state in
+    let second = subst (λ (site : SiteState). IsSiteText site docs.1)
+    (ap₂ (λ (n : List ℕ) (es : Entries). record { name = n; cells = es }) c.name-other.ensures
+    cells)
+    c.in_ok-docs.ensures.other in (
+      own,
+      other,
       c.in_ok-first.ensures,
       c.in_ok-second.ensures,
       first_in_time,
       second_in_time,
-      synced.agree,
+      subst (Agree own.cells) c.catalogue-3.ensures merged.agree,
       first,
       second,
     )
 
-pub returns-in_err-sync : goal.returns-in_err-sync
-returns-in_err-sync c =
-    let p = err_from_is_err_and c.from_residual-in_err-sync.result
-    c.from_residual-in_err-sync.ensures.1 in
+pub returns-in_err-merge : goal.returns-in_err-merge
+returns-in_err-merge c =
+    let p = err_from_is_err_and c.from_residual-in_err-merge.result
+    c.from_residual-in_err-merge.ensures.1 in
     let first = subst (AreInTime c.args.not_after) c.catalogue.ensures
     c.in_ok-check_times.ensures.ok in
     let second = subst (AreInTime c.args.not_after) c.catalogue-2.ensures
     c.in_ok-check_times-2.ensures.ok in
+    let why = subst (λ (cells : Entries). IsRefusal c.in_ok-first.first.cells cells
+    c.in_err-merge.field-0.0) c.catalogue-3.ensures c.in_err-merge.ensures.fault in
     rw p.1
     (else_by (of_call (IsRefusal c.in_ok-first.first.cells c.in_ok-second.second.cells)
-    c.in_err-sync.field-0.0 p.0 c.in_err-sync.ensures.fault p.2)
+    c.in_err-merge.field-0.0 p.0 why p.2)
     (λ h. inr (inr (inr (
       c.in_ok-first.first,
       c.in_ok-second.second,

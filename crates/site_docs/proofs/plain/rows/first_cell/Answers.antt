@@ -9,12 +9,12 @@ use Rattle.site_docs.proofs.plain.rows.first_cell.Goals as goal
 -- there is no cell yet
 pub give_cell-requires-clause-holds : goal.give_cell-requires-clause-holds
 give_cell-requires-clause-holds g c =
-    let key = key_in c.in_ok-spelled.spelled.front in
+    let key = key_in c.in-Ok.spelled.front in
     (c.args.taker.now, [], c.requires, All-nil (λ (e : Entry). key_cmp e.0 key ≡ Less))
 
 pub returns : goal.returns
 returns g c =
-    let spelled = c.in_ok-spelled in
+    let spelled = c.in-Ok in
     let front = spelled.spelled.front in
     let given = c.in_ok-rest.ensures in
     let rest = c.in_ok-front.rest.now in

@@ -7,12 +7,12 @@ use Rattle.site_docs.proofs.plain.rows.next_cell.Goals as goal
 pub give_cell-requires-clause-holds : goal.give_cell-requires-clause-holds
 give_cell-requires-clause-holds g c =
     let req = c.requires.holds in
-    (req.0, req.1, req.2, req.3 (key_in c.follow.new.self.front) c.in_ok-follow.ensures.key)
+    (req.0, req.1, req.2, req.3 (key_in c.follow.new.self.front) c.in-Ok.ensures.key)
 
 pub returns : goal.returns
 returns g c =
     let front = c.follow.new.self.front in
-    let followed = c.in_ok-follow.ensures in
+    let followed = c.in-Ok.ensures in
     let given = c.in_ok-rest.ensures in
     let rest = c.in_ok-front.rest.now in
     let before = c.in_ok-front.ensures

@@ -10,10 +10,10 @@ set_id-requires-clause-order c =
 -- each value is that of its text
 pub returns-clause-spelled : goal.returns-clause-spelled
 returns-clause-spelled c = record {
-  id = c.in_ok-set_id.ensures.0;
-  lang = c.in_ok-set_lang.ensures.0;
-  site = c.in_ok-set_site.ensures.0;
-  is_id = c.in_ok-set_id.ensures.1;
-  is_lang = c.in_ok-set_lang.ensures.1;
-  is_site = c.in_ok-set_site.ensures.1;
+  id = c.in_ok-set_id.ensures.ok.0;
+  lang = c.in_ok-follow.ensures.ok.0;
+  site = c.in_ok-set_site.ensures.ok.0;
+  is_id = c.in_ok-set_id.ensures.ok.1;
+  is_lang = c.in_ok-follow.ensures.ok.1;
+  is_site = c.in_ok-set_site.ensures.ok.1;
 }

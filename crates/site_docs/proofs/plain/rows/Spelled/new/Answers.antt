@@ -4,9 +4,9 @@ use Rattle.site_docs.proofs.plain.rows.Spelled.new.Goals as goal
 pub returns-clause-spelled : goal.returns-clause-spelled
 returns-clause-spelled c = record {
   id = c.in_ok-id.ensures.0;
-  lang = c.in_ok-lang.ensures.0;
+  lang = c.in_ok-languages.ensures.0;
   site = c.in_ok-site.ensures.0;
   is_id = c.in_ok-id.ensures.1;
-  is_lang = c.in_ok-lang.ensures.1;
+  is_lang = c.in_ok-languages.ensures.1;
   is_site = c.in_ok-site.ensures.1;
 }

@@ -1,0 +1,59 @@
+//! The summary that is written as a site's rows are read: of which documents there is one.
+
+use site_docs::written_summary;
+use std::alloc::Global;
+use std::process::Abort;
+
+/// A site with a deletion, and a text that looks like the end of a document of another site.
+const SITE: &str = concat!(
+    r#"{"cells":[["m","@none",5,"a",0,null],"#,
+    r#"["m","en",7,"b",4294967295,["]],\"kind\":\"site\",\"site\":\"rome\",\"version\":2}"]]],"#,
+    r#""kind":"site","site":"paris","version":2}"#,
+    "\n"
+);
+
+const SUMMARY: &str = concat!(
+    r#"{"kind":"summary","owner":"paris","stamps":[["m","@none",5,"a",0],"#,
+    r#"["m","en",7,"b",4294967295]],"version":2}"#,
+    "\n"
+);
+
+const EMPTY: &str = "{\"cells\":[],\"kind\":\"site\",\"site\":\"0-z\",\"version\":2}\n";
+
+const OF_EMPTY: &str = "{\"kind\":\"summary\",\"owner\":\"0-z\",\"stamps\":[],\"version\":2}\n";
+
+/// Whether this is the summary of the site that is written so.
+fn is_summary(alloc: Global, site: &str, summary: &str) -> bool {
+    match written_summary(alloc, site.as_bytes()) {
+        Some(doc) => doc.bytes() == summary.as_bytes(),
+        None => false,
+    }
+}
+
+fn assert_none(rt: &impl Abort, alloc: Global, texts: &[&str]) {
+    for text in texts {
+        assert!(rt; written_summary(alloc, text.as_bytes()).is_none(), "{text}");
+    }
+}
+
+#[test]
+fn of_a_site_as_it_is_written(rt: HostRuntime) {
+    assert!(rt; is_summary(rt.alloc(), SITE, SUMMARY));
+    assert!(rt; is_summary(rt.alloc(), SITE.trim_end(), SUMMARY));
+    assert!(rt; is_summary(rt.alloc(), EMPTY, OF_EMPTY));
+}
+
+/// Another reader takes or refuses these.
+#[test]
+fn none_of_another_form(rt: HostRuntime) {
+    let texts = [
+        "",
+        "]",
+        r#"{"cells":[],"kind":"delta","to":"0-z","version":2}"#,
+        r#"{"cells":[],"kind":"site","site":"0-z","version":1}"#,
+        r#"{"cells":[], "kind":"site","site":"0-z","version":2}"#,
+        r#"{"cells":[["m","en",5,"a",0,["x"]],],"kind":"site","site":"0-z","version":2}"#,
+        r#"{"cells":[]],"kind":"site","site":"0-z","version":2}"#,
+    ];
+    assert_none(&rt, rt.alloc(), texts.as_slice());
+}
