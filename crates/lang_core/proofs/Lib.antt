@@ -24,4 +24,3 @@ pub mod LookupLemmas
 pub mod TruncationSteps
 pub mod LangLemmas
 pub mod LowerTextLemmas
-pub mod ShortTextLemmas

@@ -17,5 +17,4 @@ pub mod Choice
 pub mod LookupText
 pub mod Fronts
 pub mod LowerText
-pub mod ShortText
 pub mod Kept

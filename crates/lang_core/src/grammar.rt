@@ -10,9 +10,9 @@ use crate::irregular::is_irregular;
 use crate::pieces::{HYPHEN, Pieces};
 use crate::stage::Stage;
 use crate::subtag::Subtag;
-use crate::tag_table::is_staged;
 
-/// Why the text, of a tag's length, is no tag (RFC 5646 section 2.1):
+/// Why the text, of a tag's length, is no tag (RFC 5646 section 2.1), by a walk from subtag to
+/// subtag, which finds where:
 ///
 /// ```text
 /// Language-Tag = langtag / privateuse / grandfathered
@@ -26,20 +26,7 @@ use crate::tag_table::is_staged;
 /// extension    = singleton 1*("-" (2*8alphanum))
 /// privateuse   = "x" 1*("-" (1*8alphanum))
 /// ```
-pub(crate) fn tag_fault(text: &[u8]) -> Option<LangFault>
-    requires { (0 < length text.now) × (length text.now ≤ 255) }
-    ensures { let lower = str_to_ascii_lowercase text.now in
-        MatchOption result (IsTag lower) (RefusesTagFirst lower) }
-{
-    if is_staged(text) {
-        None
-    } else {
-        fault_by_subtags(text)
-    }
-}
-
-/// The same, by a walk from subtag to subtag, which finds where a text is no tag.
-fn fault_by_subtags(text: &[u8]) -> Option<LangFault>
+pub(crate) fn fault_by_subtags(text: &[u8]) -> Option<LangFault>
     requires { (0 < length text.now) × (length text.now ≤ 255) }
     ensures { let lower = str_to_ascii_lowercase text.now in
         MatchOption result (IsTag lower) (RefusesTagFirst lower) }

@@ -31,7 +31,6 @@ mod matching;
 mod pieces;
 mod range;
 mod range_syntax;
-mod short_text;
 mod stage;
 mod subtag;
 mod subtags;

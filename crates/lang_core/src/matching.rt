@@ -7,7 +7,6 @@ ghost use Rattle.lang_core.specs.Fronts.{ends_at, ends_subtag};
 ghost use Rattle.lang_core.specs.Pieces.{pieces_left};
 ghost use Rattle.lang_core.specs.Grammar.{is_star};
 ghost use Rattle.lang_core.specs.Matching.{Basic, IsFront, Extended, greedy, without_stars};
-ghost use Rattle.lang_core.specs.Matching.{specificity};
 
 use crate::pieces::{HYPHEN, Pieces};
 use crate::range_syntax::is_star;
@@ -37,17 +36,6 @@ pub(crate) fn matches_extended(range: &[u8], tag: &[u8]) -> bool
         (Some(first), Some(first_given)) if begins(first, first_given) => pairs(wanted, given),
         _ => false,
     }
-}
-
-/// The number of subtags other than "*".
-#[tactic(auto, unfolding(crate::specs::Matching::specificity))]
-pub(crate) fn specificity(range: &[u8]) -> usize
-    requires { length range.now ≤ 255 }
-    ensures { result ≡ specificity (pieces range.now) }
-{
-    Pieces::new(range, HYPHEN)
-        .filter(|piece| !is_star(piece))
-        .count()
 }
 
 /// Whether the text's first subtags are those of the front.

@@ -1,5 +1,6 @@
 //! Language ranges (RFC 4647 section 2).
-ghost use Rattle.std.specs.Prelude.{◌≡◌, List, ℕ, IsTrue, MatchResult, IfOk, IsErr, ◌↔◌, Some};
+ghost use Rattle.std.specs.Prelude.{◌≡◌, ◌≤◌, List, ℕ, IsTrue, MatchResult, IfOk, IsErr, ◌↔◌, Some};
+ghost use Rattle.std.specs.Prelude.{length};
 ghost use Rattle.std.specs.Str.{bytes_eq, str_to_ascii_lowercase};
 ghost use Rattle.std.specs.Cmp.Rules.{comparing};
 ghost use Rattle.std.specs.Fmt.{padded};
@@ -16,8 +17,9 @@ ghost use borrow.Author.Rules.{rules};
 use crate::fault::LangFault;
 use crate::lookup_text::LookupText;
 use crate::lower_text::{LowerText, MAX_LEN};
-use crate::matching::{matches_basic, matches_basic_text, matches_extended, specificity};
-use crate::range_syntax::{basic_fault, extended_fault};
+use crate::matching::{matches_basic, matches_basic_text, matches_extended};
+use crate::pieces::{HYPHEN, Pieces};
+use crate::range_syntax::{basic_fault, extended_fault, is_star};
 use crate::subtags::Subtags;
 use crate::tag::Tag;
 use crate::truncations::Truncations;
@@ -219,4 +221,15 @@ impl PartialEq for Range {
 
 impl Eq for Range {
     ghost laws = { Prim.search (comparing, rules) };
+}
+
+/// The number of subtags other than "*".
+#[tactic(auto, unfolding(crate::specs::Matching::specificity))]
+fn specificity(range: &[u8]) -> usize
+    requires { length range.now ≤ 255 }
+    ensures { result ≡ specificity (pieces range.now) }
+{
+    Pieces::new(range, HYPHEN)
+        .filter(|piece| !is_star(piece))
+        .count()
 }

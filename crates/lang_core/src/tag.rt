@@ -1,21 +1,23 @@
 //! Tags (RFC 5646 section 2.1).
-ghost use Rattle.std.specs.Prelude.{◌≡◌, List, ℕ, MatchResult, IfOk, IsErr, Some, Option};
+ghost use Rattle.std.specs.Prelude.{◌≡◌, ◌<◌, ◌≤◌, List, ℕ, MatchResult, IfOk, IsErr, Some, Option};
+ghost use Rattle.std.specs.Prelude.{MatchOption, length};
 ghost use Rattle.std.specs.Str.{bytes_eq, str_to_ascii_lowercase};
 ghost use Rattle.std.specs.Ordering.{nat_cmp};
 ghost use Rattle.std.specs.Cmp.Lexicographic.{slice_cmp};
 ghost use Rattle.std.specs.Cmp.Rules.{comparing, hashing};
 ghost use Rattle.std.specs.Fmt.{padded};
 ghost use Rattle.std.specs.Hash as fed;
-ghost use Rattle.lang_core.specs.Tag.{IsTag, RefusesTag};
+ghost use Rattle.lang_core.specs.Tag.{IsTag, RefusesTag, RefusesTagFirst};
 ghost use Rattle.lang_core.specs.LowerText.{TakesMemory};
 ghost use Rattle.lang_core.specs.Subtags.{subtags_left};
 ghost use Rattle.lang_core.specs.Text.{pieces};
 ghost use borrow.Author.Rules.{rules};
 
 use crate::fault::LangFault;
-use crate::grammar::tag_fault;
+use crate::grammar::fault_by_subtags;
 use crate::lower_text::{LowerText, MAX_LEN};
 use crate::subtags::Subtags;
+use crate::tag_table::is_staged;
 use std::alloc::{AllocError, Global};
 use std::cmp::Ordering;
 use std::fmt;
@@ -151,5 +153,18 @@ impl Hash for Tag {
 
     fn hash<H: Hasher>(&self, state: &mut H) {
         self.as_str().hash(state);
+    }
+}
+
+/// Why the text, of a tag's length, is no tag. The table tells fast that it is one.
+fn tag_fault(text: &[u8]) -> Option<LangFault>
+    requires { (0 < length text.now) × (length text.now ≤ 255) }
+    ensures { let lower = str_to_ascii_lowercase text.now in
+        MatchOption result (IsTag lower) (RefusesTagFirst lower) }
+{
+    if is_staged(text) {
+        None
+    } else {
+        fault_by_subtags(text)
     }
 }

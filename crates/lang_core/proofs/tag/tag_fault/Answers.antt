@@ -2,7 +2,7 @@ use Rattle.std.proofs.Common.{◌≡◌, true, sym, ◌∙◌}
 use Rattle.lang_core.specs.Text.{subtags}
 use Rattle.lang_core.specs.TagTable.{is_staged}
 use Rattle.lang_core.proofs.GrammarLemmas.{staged_is_tag}
-use Rattle.lang_core.proofs.grammar.tag_fault.Goals as goal
+use Rattle.lang_core.proofs.tag.tag_fault.Goals as goal
 
 pub returns-then-is_staged : goal.returns-then-is_staged
 returns-then-is_staged c =

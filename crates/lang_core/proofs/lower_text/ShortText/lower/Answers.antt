@@ -2,8 +2,8 @@ use Rattle.std.proofs.Common.{◌≡◌, length, arith}
 use Rattle.std.specs.Char.{to_ascii_lowercase}
 use Rattle.std.specs.Str.{str_to_ascii_lowercase}
 use Rattle.std.proofs.lemmas.List.{length-map}
-use Rattle.lang_core.proofs.ShortTextLemmas.{KeepsShort-lower, take-lower}
-use Rattle.lang_core.proofs.short_text.ShortText.lower.Goals as goal
+use Rattle.lang_core.proofs.LowerTextLemmas.{KeepsShort-lower, take-lower}
+use Rattle.lang_core.proofs.lower_text.ShortText.lower.Goals as goal
 
 pub fill-bytes-requires : goal.fill-bytes-requires
 fill-bytes-requires c =

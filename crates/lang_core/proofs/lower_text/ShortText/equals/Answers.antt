@@ -1,5 +1,5 @@
-use Rattle.lang_core.proofs.ShortTextLemmas.{eq-numbers}
-use Rattle.lang_core.proofs.short_text.ShortText.equals.Goals as goal
+use Rattle.lang_core.proofs.LowerTextLemmas.{eq-numbers}
+use Rattle.lang_core.proofs.lower_text.ShortText.equals.Goals as goal
 
 pub returns : goal.returns
 returns c =

@@ -1,6 +1,6 @@
 use Rattle.std.proofs.Common.{◌≤◌, length, take, sym, ap, ◌∙◌, arith}
 use Rattle.std.specs.Int.{from_be_bytes, w128}
-use Rattle.lang_core.proofs.short_text.ShortText.number.Goals as goal
+use Rattle.lang_core.proofs.lower_text.ShortText.number.Goals as goal
 
 pub returns-clause-value : goal.returns-clause-value
 returns-clause-value c =

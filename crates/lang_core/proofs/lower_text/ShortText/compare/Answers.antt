@@ -1,7 +1,7 @@
 use Rattle.std.proofs.Common.{◌^◌, ◌∙◌, arith}
 use Rattle.std.specs.Ordering.{nat_cmp}
-use Rattle.lang_core.proofs.ShortTextLemmas.{cmp-numbers, cmp-fronts}
-use Rattle.lang_core.proofs.short_text.ShortText.compare.Goals as goal
+use Rattle.lang_core.proofs.LowerTextLemmas.{cmp-numbers, cmp-fronts}
+use Rattle.lang_core.proofs.lower_text.ShortText.compare.Goals as goal
 
 pub returns-then-front-other_front : goal.returns-then-front-other_front
 returns-then-front-other_front c =

@@ -2,7 +2,7 @@ use Rattle.std.proofs.Common.{arith, inl, ◌≡◌, ◌≤◌, ◌+◌, length,
 use Rattle.lang_core.specs.Text.{pieces}
 use Rattle.lang_core.specs.Pieces.{pieces_left}
 use Rattle.lang_core.proofs.PiecesLemmas.{few_pieces}
-use Rattle.lang_core.proofs.matching.specificity.Goals as goal
+use Rattle.lang_core.proofs.range.specificity.Goals as goal
 
 pub count-requires-clause-fits : goal.count-requires-clause-fits
 count-requires-clause-fits c =
