@@ -15,7 +15,7 @@ pub mod MostSpecificLemmas
 pub mod OrderedTextLemmas
 pub mod IndexLemmas
 pub mod HashedRangesLemmas
-pub mod FirstByteLemmas
+pub mod ItemLemmas
 pub mod DecidingLemmas
 pub mod ChainsLemmas
 pub mod MatchedLemmas

@@ -3,12 +3,6 @@ use Rattle.std.specs.Prelude.{ℕ, List, [], ◌∷◌, ◌+◌, ◌*◌, nat_lt
 use Rattle.std.specs.Prelude.{slice_index, ◌≡◌, Bool, true, false, length, Contains, fold}
 use Rattle.std.specs.Prelude.{slice_index_or}
 
--- the first byte of the first subtag, or 0 where that is empty
-abbrev pub first_byte : List (List ℕ) → ℕ
-first_byte [] = 0
-first_byte ([] ∷ more) = 0
-first_byte ((b ∷ s) ∷ more) = b
-
 -- what a byte counts before k others
 abbrev pub worth : ℕ → ℕ
 worth zero = 1

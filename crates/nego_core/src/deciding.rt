@@ -8,8 +8,7 @@ ghost use Rattle.nego_core.specs.Chains.{AreChains, AreLinked, StandsIn};
 ghost use Rattle.nego_core.specs.declared.chains.TheConstants.{CHAIN_COUNT};
 
 use crate::chains::{Chains, LAST_CHAIN, chains_of_tag};
-use crate::fingerprint::first_byte;
-use crate::item::Item;
+use crate::item::{Item, first_byte};
 use crate::scheme::Scheme;
 use lang_core::Tag;
 

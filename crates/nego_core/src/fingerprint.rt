@@ -1,15 +1,6 @@
 //! Hashes of texts: where two of them differ, so do the texts.
 ghost use Rattle.std.specs.Prelude.{◌≡◌, ◌<◌, slice_index};
-ghost use Rattle.lang_core.specs.Text.{pieces};
-ghost use Rattle.nego_core.specs.Fingerprint.{first_byte, head_of, slot_of, fingerprint_of};
-
-/// The first byte of a text's first subtag, or 0 where that is empty.
-pub(crate) fn first_byte(text: &str) -> u8
-    ensures { result ≡ first_byte (pieces text.now) }
-{
-    let first = byte_at(text.as_bytes(), 0);
-    if first == b'-' { 0 } else { first }
-}
+ghost use Rattle.nego_core.specs.Fingerprint.{head_of, slot_of, fingerprint_of};
 
 /// The first eight bytes as a number, with zeros past the end.
 pub(crate) fn head_of(text: &str) -> u64

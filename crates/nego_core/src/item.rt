@@ -5,10 +5,8 @@ ghost use Rattle.nego_core.specs.Deciding.{Matches};
 ghost use Rattle.lang_core.specs.Text.{pieces};
 ghost use Rattle.lang_core.specs.Matching.{specificity};
 ghost use Rattle.std.specs.Cmp as laws_of;
-ghost use Rattle.nego_core.specs.Fingerprint.{first_byte};
-ghost use Rattle.nego_core.specs.Item.{item_eq, item_equiv};
+ghost use Rattle.nego_core.specs.Item.{first_byte, item_eq, item_equiv};
 
-use crate::fingerprint::first_byte;
 use crate::scheme::Scheme;
 use lang_core::{Range, Tag};
 use std::fmt;
@@ -29,8 +27,7 @@ impl Model for Item {
     ghost use Rattle.std.specs.Prelude.{◌≡◌, ◌≤◌};
     ghost use Rattle.lang_core.specs.Text.{pieces};
     ghost use Rattle.lang_core.specs.Matching.{specificity as specificity_of};
-    ghost use Rattle.nego_core.specs.Fingerprint.{first_byte};
-    ghost use Rattle.nego_core.specs.Item.{Item};
+    ghost use Rattle.nego_core.specs.Item.{Item, first_byte};
 
     ghost Value = { Item };
 
@@ -47,8 +44,8 @@ impl Item {
         ensures range { result.range ≡ range }
         ensures weight { result.weight ≡ weight }
     {
-        let specificity = range.specificity();
         let first = first_byte(range.as_str());
+        let specificity = range.specificity();
         Item {
             range,
             weight,
@@ -122,5 +119,15 @@ impl fmt::Debug for Item {
             .field("range", &self.range.as_str())
             .field("weight", &self.weight)
             .finish()
+    }
+}
+
+/// The first byte of a text's first subtag, or 0 where that is empty.
+pub(crate) fn first_byte(text: &str) -> u8
+    ensures { result ≡ first_byte (pieces text.now) }
+{
+    match text.as_bytes() {
+        [first, ..] if *first != b'-' => *first,
+        _ => 0,
     }
 }

@@ -7,8 +7,7 @@ ghost use Rattle.nego_core.specs.WidenedChoice.{IsFirstWidenedAt, MatchLeast, Pa
 ghost use Rattle.nego_core.specs.Widening.{IsLookedUpWidened, MatchesLang};
 
 use crate::choosing::{Choice, first_of, has_open_default, named_refuse};
-use crate::fingerprint::first_byte;
-use crate::item::Item;
+use crate::item::{Item, first_byte};
 use crate::lang_set::Holds;
 use crate::priority_list::PriorityList;
 use crate::scheme::Scheme;

@@ -1,8 +1,8 @@
 use Rattle.std.proofs.Common.{◌∙◌, ap}
 use Rattle.lang_core.specs.Text.{pieces}
-use Rattle.nego_core.specs.Fingerprint.{first_byte}
+use Rattle.nego_core.specs.Item.{first_byte}
 use Rattle.nego_core.specs.Item.{Item}
-use Rattle.nego_core.proofs.FirstByteLemmas.{other_first}
+use Rattle.nego_core.proofs.ItemLemmas.{other_first}
 use Rattle.nego_core.proofs.item.Item.matches.Goals as goal
 
 pub returns-then-self-ne42 : goal.returns-then-self-ne42

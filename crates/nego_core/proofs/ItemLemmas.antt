@@ -9,7 +9,7 @@ use Rattle.std.proofs.lemmas.List.Splits.{length-slice_split}
 use Rattle.lang_core.specs.Text.{pieces, pieces_by}
 use Rattle.lang_core.specs.Grammar.{is_star}
 use Rattle.nego_core.specs.Deciding.{Matches}
-use Rattle.nego_core.specs.Fingerprint.{first_byte}
+use Rattle.nego_core.specs.Item.{first_byte}
 use Rattle.nego_core.specs.declared.scheme.Scheme.{Scheme}
 use Rattle.nego_core.specs.declared.scheme.Scheme.TheVariants as scheme
 
@@ -42,6 +42,11 @@ pub first_is_hyphen : (text : List ℕ) (first : ℕ) → first ≡ slice_index 
     → 0 ≡ first_byte (pieces text)
 first_is_hyphen [] first e h = absurd (omega arith)
 first_is_hyphen (b ∷ text) first e h = sym (first_of_hyphen b text (sym e ∙ h))
+
+-- An empty text has an empty first subtag, whose first byte counts as 0.
+pub first_is_none : (text : List ℕ) → length text < 1 → 0 ≡ first_byte (pieces text)
+first_is_none [] h = sym first_of_empty
+first_is_none (b ∷ text) h = absurd (omega (arith, h))
 
 -- The first byte of a text is that of its first subtag, unless it is a hyphen.
 pub first_is_other : (text : List ℕ) (first : ℕ) → first ≡ slice_index text 0 → (first ≡ 45 → ⊥)
