@@ -8,11 +8,11 @@ ghost use Rattle.cell_core.specs.Keyed.{IsMap, AgreeIfBoth, BetweenAtKeys, IsJoi
 ghost use Rattle.cell_core.specs.Chunks.{all_of, entries_of, IsChunked, IsKept, IsRunFor};
 ghost use Rattle.cell_core.specs.Places.{place_of};
 
-use crate::chunks::{Chunks, chunk_for, cut_if_full};
+use crate::chunks::{Chunks, bisect, chunk_for, cut_if_full};
 use crate::interleave::join_pairs;
 use crate::join::Join;
 use crate::key::Key;
-use crate::pairs::{agree_pairs, bisect};
+use crate::pairs::agree_pairs;
 use std::alloc::{AllocError, Global};
 
 /// Whether the values of common keys agree.

@@ -9,13 +9,12 @@ ghost use Rattle.std.specs.FinMap.Entries.{find, put};
 ghost use Rattle.std.specs.Vec.{vec_len, vec_capacity};
 ghost use Rattle.cell_core.specs.Above.{IsAboveAll};
 ghost use Rattle.cell_core.specs.Keyed.{IsMap};
-ghost use Rattle.cell_core.specs.Places.{IsGap};
+ghost use Rattle.cell_core.specs.Places.{IsPlace, IsGap};
 ghost use Rattle.cell_core.specs.Chunks.{all_of, entries_of, AllFilled, IsChunked, IsChunkFor};
 ghost use Rattle.cell_core.specs.Chunks.{IsKept, IsPlaceIn};
 
 use crate::join::Join;
 use crate::key::{Key, Query};
-use crate::pairs::bisect;
 use std::alloc::{AllocError, Global};
 use std::cmp::Ordering;
 
@@ -46,6 +45,25 @@ pub(crate) fn chunk_for<K: Key, J, Q: Query<K>>(chunks: &[Vec<(K, J)>], query: Q
         }
     }
     low
+}
+
+/// The place of the key that is sought in a chunk, or the place where it would go.
+pub(crate) fn bisect<K: Key, J, Q: Query<K>>(pairs: &[(K, J)], query: Q) -> Result<usize, usize>
+    requires { IsMap K.cmp pairs.now }
+    ensures found { IfOk result (IsPlace K.cmp (Q.sought query) pairs.now) }
+    ensures absent { IfErr result (IsGap K.cmp (Q.sought query) pairs.now) }
+{
+    let mut low = 0;
+    let mut high = pairs.len();
+    while low < high {
+        let middle = low + (high - low) / 2;
+        match query.compare(&pairs[middle].0) {
+            Ordering::Less => high = middle,
+            Ordering::Equal => return Ok(middle),
+            Ordering::Greater => low = middle + 1,
+        }
+    }
+    Err(low)
 }
 
 /// The chunk that has the key, and the key's place in it. The greatest key, and one above it, are

@@ -15,13 +15,12 @@ pub(crate) mod iter;
 
 use crate::chunk_joins::{agree_chunks, join_chunks};
 use crate::chunks::{
-    Chunks, append, chunk_for, copy_chunks, is_above_all, last_pair, nth_pair, place_from_last,
-    put_pair,
+    Chunks, append, bisect, chunk_for, copy_chunks, is_above_all, last_pair, nth_pair,
+    place_from_last, put_pair,
 };
 use crate::join::Join;
 use crate::key::{Key, Query};
 use crate::keyed::iter::{Iter, are_equal};
-use crate::pairs::bisect;
 use std::alloc::{AllocError, Global};
 use std::fmt;
 use std::marker::Model;

@@ -1,5 +1,5 @@
-//! Entries in rising order of their keys, side by side in memory: the search, the comparison and
-//! the join of two runs.
+//! Entries in rising order of their keys, side by side in memory: the comparison and the join of
+//! two runs.
 
 ghost use Rattle.std.specs.Prelude.{◌≡◌, ◌≤◌, ◌↔◌, ◌∷◌, ◌++◌, [], IfOk, IfErr, OnOk, OnErr, IsTrue};
 ghost use Rattle.std.specs.FinMap.Entries.{find};
@@ -8,28 +8,9 @@ ghost use Rattle.cell_core.specs.Places.{place_of, IsPlace, IsGap};
 ghost use Rattle.cell_core.specs.Missing.{IsCommonJoined};
 
 use crate::join::Join;
-use crate::key::{Key, Query};
+use crate::key::Key;
 use std::alloc::{AllocError, Global};
 use std::cmp::Ordering;
-
-/// The place of the key that is sought, or the place where it would go.
-pub(crate) fn bisect<K: Key, J, Q: Query<K>>(pairs: &[(K, J)], query: Q) -> Result<usize, usize>
-    requires { IsMap K.cmp pairs.now }
-    ensures found { IfOk result (IsPlace K.cmp (Q.sought query) pairs.now) }
-    ensures absent { IfErr result (IsGap K.cmp (Q.sought query) pairs.now) }
-{
-    let mut low = 0;
-    let mut high = pairs.len();
-    while low < high {
-        let middle = low + (high - low) / 2;
-        match query.compare(&pairs[middle].0) {
-            Ordering::Less => high = middle,
-            Ordering::Equal => return Ok(middle),
-            Ordering::Greater => low = middle + 1,
-        }
-    }
-    Err(low)
-}
 
 /// Whether the values of common keys agree, by one walk over the first run.
 pub(crate) fn agree_pairs<K: Key, J: Join>(mine: &[(K, J)], theirs: &[(K, J)]) -> bool

@@ -3,7 +3,7 @@ use Rattle.std.specs.Ordering.{is_gt}
 use Rattle.std.proofs.lemmas.List.{get_or_default}
 use Rattle.cell_core.proofs.PlaceLemmas.{place_of-le}
 use Rattle.cell_core.proofs.WalkLemmas.{place_upto, place_after, place_found_in_map, gap_found}
-use Rattle.cell_core.proofs.pairs.bisect.Goals as goal
+use Rattle.cell_core.proofs.chunks.bisect.Goals as goal
 
 pub loop-low-init : goal.loop-low-init
 loop-low-init g c = record {
