@@ -7,6 +7,6 @@ pub mod PlainReads
 pub mod RoundTrip
 pub mod SharedCellsLemmas
 pub mod SiteDocumentsLemmas
-pub mod SpellingLemmas
+pub mod LanguagesLemmas
 pub mod TextsLemmas
 pub mod WrittenDocuments

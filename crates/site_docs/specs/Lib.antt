@@ -6,5 +6,5 @@ pub mod PlainRows
 pub mod ReadsAs
 pub mod SharedCells
 pub mod SiteDocuments
-pub mod Spellings
+pub mod Unread
 pub mod Values

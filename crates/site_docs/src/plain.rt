@@ -5,7 +5,7 @@ pub(crate) mod documents;
 pub(crate) mod labels;
 pub(crate) mod languages;
 pub(crate) mod rows;
-pub(crate) mod spelling;
 pub(crate) mod summaries;
 pub(crate) mod taking;
 pub(crate) mod texts;
+pub(crate) mod unread;

@@ -1,6 +1,5 @@
 //! Whole documents of sites and deltas.
-ghost use Rattle.std.specs.Prelude.{◌≡◌, ◌++◌, ◌∷◌, [], List, ℕ, IfSome, IsTrue, decimal};
-ghost use Rattle.json.specs.Print.{quoted};
+ghost use Rattle.std.specs.Prelude.{◌≡◌, ◌++◌, [], List, ℕ, IfSome, IsTrue, decimal};
 ghost use Rattle.cell_core.specs.Keyed.{IsMap};
 ghost use Rattle.cell_core.specs.SiteName.{IsSiteName};
 ghost use Rattle.cata_core.specs.Entries.{Entries, key_cmp};
@@ -10,7 +9,7 @@ ghost use Rattle.site_docs.specs.ReadsAs.{ReadsAsSite};
 
 use crate::plain::rows::next_cells;
 use crate::plain::taking::TakeCells;
-use crate::plain::texts::{after, after_text, number_before, text_after};
+use crate::plain::texts::{after, after_text, member_after, text_after};
 use cata_core::Catalogue;
 use cell_core::SiteName;
 use json_docs::text_in;
@@ -96,9 +95,9 @@ pub(crate) fn last_name(text: &str, kind: Kind) -> Option<SiteName>
 fn is_version(text: &str) -> bool
     ensures { IsTrue result → (end : List ℕ) × IsEnd end × (text.now ≡ decimal 2 ++ end) }
 {
-    match number_before(text, "") {
-        Some((2, rest)) => is_end(rest),
-        _ => false,
+    match after(text, "2") {
+        Some(rest) => is_end(rest),
+        None => false,
     }
 }
 
@@ -107,12 +106,4 @@ fn is_end(text: &str) -> bool
     ensures { IsTrue result → IsEnd text.now }
 {
     text == "}\n" || text == "}"
-}
-
-/// What comes after the literal and the name of this member with its colon.
-fn member_after<'t>(text: &'t str, literal: &str, name: &str) -> Option<&'t str>
-    ensures { IfSome result (λ rest. text.now ≡ literal.now ++ (quoted name.now ++ 58 ∷ rest.now)) }
-{
-    let rest = after_text(text, literal, name)?;
-    after(rest, ":")
 }

@@ -6,7 +6,7 @@ ghost use Rattle.cell_core.specs.Label.{IsLabel};
 ghost use Rattle.row_docs.specs.Fields.{IsLabelText};
 ghost use Rattle.row_docs.specs.Values.{label_value, texts_value};
 
-use crate::plain::texts::{after, copy_of, string_after, text_before};
+use crate::plain::texts::{after, escaped_text, text_after, text_before};
 use cell_core::Label;
 use std::alloc::Global;
 
@@ -97,6 +97,33 @@ fn several_texts(alloc: Global, first: String, text: &str) -> Option<(Label, &st
     let rest = after(rest, "]")?;
     match Label::from_texts(texts) {
         Ok(label) => Some((label, rest)),
+        Err(_) => None,
+    }
+}
+
+/// A copy of the string after the literal, and what comes after it.
+fn string_after<'t>(alloc: Global, text: &'t str, literal: &str) -> Option<(String, &'t str)>
+    ensures { IfSome result
+        (λ r. text.now ≡ literal.now ++ (quoted (string_bytes r.0) ++ r.1.now)) }
+{
+    match text_after(text, literal) {
+        Some((plain, rest)) => {
+            let copy = copy_of(alloc, plain)?;
+            Some((copy, rest))
+        }
+        None => {
+            let rest = after(text, literal)?;
+            escaped_text(alloc, rest)
+        }
+    }
+}
+
+/// A copy of the text, where there is memory for it.
+fn copy_of(alloc: Global, text: &str) -> Option<String>
+    ensures { IfSome result (λ copy. string_bytes copy ≡ text.now) }
+{
+    match String::from_str(alloc, text) {
+        Ok(copy) => Some(copy),
         Err(_) => None,
     }
 }

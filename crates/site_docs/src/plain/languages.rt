@@ -1,12 +1,12 @@
 //! The languages of a message, kept for the message after it.
 ghost use Rattle.std.specs.Prelude.{◌≡◌, ◌<◌, ◌≤◌, ◌+◌, [], IfErr, IsTrue, MatchResult, OnOk};
-ghost use Rattle.std.specs.Prelude.{get_or, length, max};
-ghost use Rattle.lang_core.specs.Lang.{IsLang};
-ghost use Rattle.site_docs.specs.Spellings.{RefusesSpelling};
-ghost use Rattle.site_docs.specs.declared.plain.spelling.Unread.TheVariants.{NoMemory};
+ghost use Rattle.std.specs.Prelude.{List, ℕ, get_or, length, max};
+ghost use Rattle.lang_core.specs.Lang.{IsLang, RefusesLang, SpellsLang};
+ghost use Rattle.site_docs.specs.Unread.{RefusesSpelling};
+ghost use Rattle.site_docs.specs.declared.plain.unread.Unread.TheVariants.{NoMemory};
 
-use crate::plain::spelling::{Unread, spelled_lang};
-use lang_core::Lang;
+use crate::plain::unread::Unread;
+use lang_core::{Lang, LangFault};
 use std::alloc::Global;
 use std::marker::Model;
 
@@ -127,6 +127,40 @@ fn parse_at(
 {
     let lang = spelled_lang(alloc, text)?;
     put(languages, place, lang)
+}
+
+/// The language with this text, which is in lower case.
+fn spelled_lang(alloc: Global, text: &str) -> Result<Lang, Unread>
+    ensures { MatchResult result (λ lang. (lang ≡ text.now) × IsLang text.now)
+        (RefusesSpelling (IsLang text.now)) }
+{
+    match Lang::parse(alloc, text.as_bytes()) {
+        Ok(lang) => in_lower_case(lang, text),
+        Err(fault) => Err(of_lang(fault)),
+    }
+}
+
+/// Why a text that is refused so as a language is not read.
+fn of_lang(fault: LangFault) -> Unread
+    ensures { (text : List ℕ) → RefusesLang text fault → RefusesSpelling (IsLang text) result }
+{
+    match fault {
+        LangFault::NoMemory => Unread::NoMemory,
+        _ => Unread::NotWritten,
+    }
+}
+
+/// The language that the text spells, where the text is in lower case.
+fn in_lower_case(lang: Lang, text: &str) -> Result<Lang, Unread>
+    requires { SpellsLang text.now lang }
+    ensures { MatchResult result (λ lang. (lang ≡ text.now) × IsLang text.now)
+        (RefusesSpelling (IsLang text.now)) }
+{
+    if lang.as_str() == text {
+        Ok(lang)
+    } else {
+        Err(Unread::NotWritten)
+    }
 }
 
 /// Whether the language at the place is that of the text.

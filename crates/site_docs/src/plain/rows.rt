@@ -1,6 +1,6 @@
 //! The rows of sites and deltas.
 ghost use Rattle.std.specs.Prelude.{◌≡◌, ◌↔◌, ◌++◌, ◌∷◌, [], List, ℕ, IfSome, IsTrue, Option};
-ghost use Rattle.std.specs.Prelude.{IfErr, IfOk, OnOk, Some};
+ghost use Rattle.std.specs.Prelude.{IfErr, IfOk, MatchResult, OnOk, Some};
 ghost use Rattle.std.specs.Ordering.{ordering_then};
 ghost use Rattle.std.specs.declared.cmp.Ordering.TheVariants.{Less};
 ghost use Rattle.serde_json.specs.Written.{compact_text};
@@ -15,14 +15,14 @@ ghost use Rattle.row_docs.specs.Values.{label_value};
 ghost use Rattle.site_docs.specs.Plain.{rows_text};
 ghost use Rattle.site_docs.specs.PlainRows.{IsLastOf, IsSpelled, entry_in, key_in, row_before};
 ghost use Rattle.site_docs.specs.PlainRows.{row_in};
-ghost use Rattle.site_docs.specs.Spellings.{RefusesSpelling};
+ghost use Rattle.site_docs.specs.Unread.{RefusesSpelling};
 
 use crate::plain::labels::next_label;
 use crate::plain::languages::KnownLanguages;
-use crate::plain::spelling::{Unread, spelled_id, spelled_site};
 use crate::plain::taking::TakeCells;
 use crate::plain::texts::{after, after_byte, number_before_comma, text_before, text_before_comma};
-use cell_core::{Cell, Key, Label, MessageId, SiteName, Stamp};
+use crate::plain::unread::Unread;
+use cell_core::{Cell, CellFault, Key, Label, MessageId, SiteName, Stamp};
 use row_docs::CellEntry;
 use std::alloc::Global;
 use std::cmp::Ordering;
@@ -280,4 +280,27 @@ fn set_site(site: &mut SiteName, last: &str, text: &str) -> Result<(), Unread>
         *site = spelled_site(text)?;
     }
     Ok(())
+}
+
+/// The id with this text.
+fn spelled_id(alloc: Global, text: &str) -> Result<MessageId, Unread>
+    ensures { MatchResult result (λ id. (id ≡ text.now) × IsMessageId text.now)
+        (RefusesSpelling (IsMessageId text.now)) }
+{
+    match MessageId::new(alloc, text) {
+        Ok(id) => Ok(id),
+        Err(CellFault::IdRefused) => Err(Unread::NotWritten),
+        Err(_) => Err(Unread::NoMemory),
+    }
+}
+
+/// The name with this text.
+fn spelled_site(text: &str) -> Result<SiteName, Unread>
+    ensures { MatchResult result (λ site. (site ≡ text.now) × IsSiteName text.now)
+        (RefusesSpelling (IsSiteName text.now)) }
+{
+    match SiteName::new(text) {
+        Ok(site) => Ok(site),
+        Err(_) => Err(Unread::NotWritten),
+    }
 }

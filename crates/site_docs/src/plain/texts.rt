@@ -46,6 +46,14 @@ pub(crate) fn after_text<'t>(text: &'t str, literal: &str, wanted: &str) -> Opti
     if found == wanted { Some(rest) } else { None }
 }
 
+/// What comes after the literal and the name of this member with its colon.
+pub(crate) fn member_after<'t>(text: &'t str, literal: &str, name: &str) -> Option<&'t str>
+    ensures { IfSome result (λ rest. text.now ≡ literal.now ++ (quoted name.now ++ 58 ∷ rest.now)) }
+{
+    let rest = after_text(text, literal, name)?;
+    after(rest, ":")
+}
+
 /// The string after the literal, where it has no escape, and what comes after it.
 pub(crate) fn text_after<'t>(text: &'t str, literal: &str) -> Option<(&'t str, &'t str)>
     ensures { IfSome result (λ r. text.now ≡ literal.now ++ (quoted r.0.now ++ r.1.now)) }
@@ -76,17 +84,7 @@ pub(crate) fn text_before_comma(text: &str) -> Option<(&str, &str)>
     Some((before, left))
 }
 
-/// The number before the literal, in decimal without leading zeros, and what comes after that.
-#[inline(always)]
-pub(crate) fn number_before<'t>(text: &'t str, literal: &str) -> Option<(u64, &'t str)>
-    ensures { IfSome result (λ r. text.now ≡ decimal r.0 ++ (literal.now ++ r.1.now)) }
-{
-    let (number, rest) = number_front(text)?;
-    let rest = after(rest, literal)?;
-    Some((number, rest))
-}
-
-/// The same before a comma.
+/// The number before a comma, in decimal without leading zeros, and what comes after the comma.
 #[inline(always)]
 pub(crate) fn number_before_comma(text: &str) -> Option<(u64, &str)>
     ensures { IfSome result (λ r. text.now ≡ decimal r.0 ++ 44 ∷ r.1.now) }
@@ -96,35 +94,20 @@ pub(crate) fn number_before_comma(text: &str) -> Option<(u64, &str)>
     Some((number, left))
 }
 
-/// A copy of the string after the literal, and what comes after it.
-pub(crate) fn string_after<'t>(
-    alloc: Global,
-    text: &'t str,
-    literal: &str,
-) -> Option<(String, &'t str)>
-    ensures { IfSome result
-        (λ r. text.now ≡ literal.now ++ (quoted (string_bytes r.0) ++ r.1.now)) }
+/// The string that the text begins with, where it may have escapes.
+pub(crate) fn escaped_text(alloc: Global, text: &str) -> Option<(String, &str)>
+    ensures { IfSome result (λ r. text.now ≡ quoted (string_bytes r.0) ++ r.1.now) }
 {
-    match text_after(text, literal) {
-        Some((plain, rest)) => {
-            let copy = copy_of(alloc, plain)?;
-            Some((copy, rest))
-        }
-        None => {
-            let rest = after(text, literal)?;
-            escaped_text(alloc, rest)
-        }
+    let mut rest = after(text, "\"")?;
+    let mut content = String::new(alloc);
+    while !rest.starts_with("\"") {
+        let Some(left) = take_piece(&mut content, rest) else {
+            return None;
+        };
+        rest = left;
     }
-}
-
-/// A copy of the text, where there is memory for it.
-pub(crate) fn copy_of(alloc: Global, text: &str) -> Option<String>
-    ensures { IfSome result (λ copy. string_bytes copy ≡ text.now) }
-{
-    match String::from_str(alloc, text) {
-        Ok(copy) => Some(copy),
-        Err(_) => None,
-    }
+    let rest = after(rest, "\"")?;
+    Some((content, rest))
 }
 
 /// The string that the text begins with.
@@ -223,22 +206,6 @@ fn digit_at(bytes: &[u8], place: usize) -> Option<u64>
     } else {
         None
     }
-}
-
-/// The string that the text begins with, where it may have escapes.
-fn escaped_text(alloc: Global, text: &str) -> Option<(String, &str)>
-    ensures { IfSome result (λ r. text.now ≡ quoted (string_bytes r.0) ++ r.1.now) }
-{
-    let mut rest = after(text, "\"")?;
-    let mut content = String::new(alloc);
-    while !rest.starts_with("\"") {
-        let Some(left) = take_piece(&mut content, rest) else {
-            return None;
-        };
-        rest = left;
-    }
-    let rest = after(rest, "\"")?;
-    Some((content, rest))
 }
 
 /// Appends the byte whose escape the text begins with, or else what comes before the first stop.

@@ -1,6 +1,6 @@
 use Rattle.std.proofs.Common.{◌≡◌, ◌≢◌, ◌∙◌, rules}
-use Rattle.site_docs.proofs.SpellingLemmas.{spelled_otherwise}
-use Rattle.site_docs.proofs.plain.spelling.in_lower_case.Goals as goal
+use Rattle.site_docs.proofs.LanguagesLemmas.{spelled_otherwise}
+use Rattle.site_docs.proofs.plain.languages.in_lower_case.Goals as goal
 
 -- a language in lower case is spelled by its own text
 pub returns-else-eq : goal.returns-else-eq

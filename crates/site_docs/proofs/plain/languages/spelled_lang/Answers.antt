@@ -1,6 +1,6 @@
 use Rattle.std.proofs.Common.{subst}
 use Rattle.lang_core.specs.Lang.{RefusesLang}
-use Rattle.site_docs.proofs.plain.spelling.spelled_lang.Goals as goal
+use Rattle.site_docs.proofs.plain.languages.spelled_lang.Goals as goal
 
 -- a text that is refused is no language, or memory ran out
 pub returns-in-Err : goal.returns-in-Err
