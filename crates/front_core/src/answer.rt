@@ -1,6 +1,7 @@
 //! Answers.
 ghost use Rattle.std.specs.Prelude.{◌≡◌};
 
+use cata_core::LentReply;
 use docs_core::Doc;
 
 /// Whether an answer has found anything.
@@ -12,6 +13,8 @@ pub enum Outcome {
 }
 
 impl Outcome {
+    ghost use Rattle.cata_core.specs.Reply.{reply_of};
+    ghost use Rattle.query_docs.specs.Asks.{is_found as is_reply};
     ghost use Rattle.front_core.specs.Questions.{is_found};
 
     /// `Found` if `found`, else `Nothing`.
@@ -23,6 +26,13 @@ impl Outcome {
         } else {
             Outcome::Nothing
         }
+    }
+
+    /// Whether the answer of a lookup has a label.
+    pub(crate) fn of_reply(reply: &LentReply<'_>) -> Outcome
+        ensures { is_found result ≡ is_reply (reply_of reply.now) }
+    {
+        Outcome::of(!matches!(reply, LentReply::Nothing))
     }
 }
 

@@ -1,8 +1,6 @@
 //! Lookups in a site.
 ghost use Rattle.std.specs.Prelude.{◌≡◌, option_map, slice_get};
-ghost use Rattle.cata_core.specs.Reply.{reply_of};
-ghost use Rattle.query_docs.specs.Asks.{is_found as is_reply};
-ghost use Rattle.front_core.specs.Questions.{IsTextAt, is_found, texts_of};
+ghost use Rattle.front_core.specs.Questions.{IsTextAt, texts_of};
 
 use crate::answer::{Answer, LabelText, Outcome};
 use crate::fault::FrontFault;
@@ -56,7 +54,7 @@ impl Lookup {
     {
         let reply = self.reply(site);
         let text = reply_line(alloc, &reply)?;
-        Ok(Answer::new(text, outcome_of(&reply)))
+        Ok(Answer::new(text, Outcome::of_reply(&reply)))
     }
 
     /// The text at a place, counted from 0, of the label that is found. It takes no memory.
@@ -84,13 +82,6 @@ impl Lookup {
         site.catalogue()
             .ask_lookup_by(&self.id, list, *widening, default.as_ref())
     }
-}
-
-/// Whether the answer has a label.
-fn outcome_of(reply: &LentReply<'_>) -> Outcome
-    ensures { is_found result ≡ is_reply (reply_of reply.now) }
-{
-    Outcome::of(!matches!(reply, LentReply::Nothing))
 }
 
 /// The text at a place of the label.
