@@ -1,8 +1,8 @@
-//! The arguments of the commands, each with its rule.
+//! What commands are made of: what the help says of them, and their arguments, each with its rule.
 ghost use Rattle.std.specs.Prelude.{◌≡◌, false, codes, IfOk};
-ghost use Rattle.clap.specs.Words.{app_of};
+ghost use Rattle.clap.specs.Words.{app_of, new_app};
 ghost use Rattle.clap.specs.declared.builder.command.Command.TheViews.{out-Command};
-ghost use Rattle.command_core.specs.Words.{IsArgument, IsCommand, default_rule, edit_app};
+ghost use Rattle.command_core.specs.Words.{IsArgument, IsCommand, Joins, default_rule, edit_app};
 ghost use Rattle.command_core.specs.Words.{field_rule, flag_rule, id_rule, lang_rule};
 ghost use Rattle.command_core.specs.Words.{not_after_rule, now_rule, number_rule, preferences_app};
 ghost use Rattle.command_core.specs.Words.{required_rule, scheme_rule, site_rule, source_rule};
@@ -10,6 +10,31 @@ ghost use Rattle.command_core.specs.Words.{words_rule};
 
 use clap::{Arg, ArgAction, Command, value_parser};
 use std::alloc::{AllocError, Global};
+
+/// The program with one more command under it, where there was memory for both.
+pub(crate) fn with_command<'a>(
+    program: Result<Command<'a>, AllocError>,
+    command: Result<Command<'a>, AllocError>,
+) -> Result<Command<'a>, AllocError>
+    ensures { IfOk result (Joins program.entry command.entry) }
+{
+    program?.subcommand(command?)
+}
+
+/// A command of this name without arguments: what the program's help says of it, and what its own
+/// help ends with.
+pub(crate) fn described<'a>(
+    alloc: Global,
+    name: &'a str,
+    about: &'a str,
+    after_help: &'a str,
+) -> Command<'a>
+    ensures { IsCommand (new_app name.entry.now) result }
+{
+    Command::new(alloc, name)
+        .about(about)
+        .after_help(after_help)
+}
 
 /// `--scheme`, the name of one of the schemes.
 pub(crate) fn scheme<'a>(alloc: Global, schemes: &'a [&'a str]) -> Arg<'a>

@@ -9,7 +9,6 @@ ghost use Rattle.command_core.specs.Values.{preference_values};
 
 use clap::ArgMatches;
 use front_core::Field;
-use front_core::words::bytes_of;
 use nego_core::{Malformed, Scheme, Widening};
 
 /// The first text of an argument.
@@ -88,7 +87,10 @@ pub(crate) fn preferences_of<'a>(matches: &ArgMatches<'a>, id: &str) -> Option<P
 pub(crate) fn text_bytes<'a>(matches: &ArgMatches<'a>, id: &str) -> Option<&'a [u8]>
     ensures { option_map (λ s. s.now) result ≡ first_of id.now (rows_of (found_of matches.now)) }
 {
-    bytes_of(text_of(matches, id))
+    match text_of(matches, id) {
+        None => None,
+        Some(text) => Some(text.as_bytes()),
+    }
 }
 
 /// Whether an option without a value is given.

@@ -58,8 +58,9 @@ fn print<W: Sink, F: Sink>(answer: &Answer, writer: &mut W, faults: &mut F) -> u
         (writes W.contents W.failed writer.old writer.new)
         (writes F.contents F.failed faults.old faults.new) result }
 {
+    let status = answer_status(answer.outcome);
     match write_out(writer, answer.text.bytes()) {
-        Ok(()) => answer_status(answer.outcome),
+        Ok(()) => status,
         Err(fault) => refuse(faults, FrontFault::from(fault)),
     }
 }

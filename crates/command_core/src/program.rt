@@ -1,18 +1,24 @@
 //! The whole program, over any streams.
 ghost use Rattle.std.specs.Prelude.{◌≡◌, false, codes, map, string_bytes, IfOk, IfSome};
-ghost use Rattle.clap.specs.Words.{kind_of, fault_of, subcommand_of, subcommand_rows_of, FailsBy};
+ghost use Rattle.clap.specs.Words.{app_of, kind_of, fault_of, subcommand_of, subcommand_rows_of};
+ghost use Rattle.clap.specs.Words.{FailsBy};
 ghost use Rattle.command_core.specs.Help.{words_meant};
 ghost use Rattle.command_core.specs.Program.{MatchesBy, RunsBy, ReportsBy};
 ghost use Rattle.command_core.specs.Streams.{reads, streams, writes};
+ghost use Rattle.command_core.specs.Words.{bare_app, lexicat_app};
 
-use crate::commands::lexicat;
+use crate::commands::exchange::with_exchange;
+use crate::commands::labels::with_labels;
+use crate::commands::questions::with_questions;
+use crate::commands::sites::with_sites;
 use crate::fault_line::refuse_for_memory;
 use crate::status;
 use crate::task::act;
 use clap::error::ErrorKind;
-use clap::{ArgMatches, Error};
+use clap::{ArgMatches, Command, Error};
 use docs_core::{Sink, Source, write_out};
-use std::alloc::Global;
+use front_core::VERSION;
+use std::alloc::{AllocError, Global};
 use std::convert::AsStr;
 
 /// The names of the schemes that `--scheme` takes.
@@ -79,6 +85,42 @@ fn matches_of<S: AsStr>(alloc: Global, words: &[S]) -> Result<ArgMatches<'_>, Er
     ensures { MatchesBy (map S.text words.now) result }
 {
     lexicat(alloc, SCHEMES.as_slice(), NUMBERS.as_slice())?.try_get_matches_from(words)
+}
+
+/// The program and all its commands, in the order in which the help shows them.
+fn lexicat<'a>(
+    alloc: Global,
+    schemes: &'a [&'a str],
+    numbers: &'a [&'a str],
+) -> Result<Command<'a>, AllocError>
+    ensures { IfOk result (λ c. app_of c ≡ lexicat_app schemes.entry numbers.entry) }
+{
+    let sites = with_sites(alloc, bare(alloc)?, schemes)?;
+    let labels = with_labels(alloc, sites)?;
+    let questions = with_questions(alloc, labels, schemes)?;
+    with_exchange(alloc, questions, numbers)
+}
+
+/// The program without its commands.
+fn bare<'a>(alloc: Global) -> Result<Command<'a>, AllocError>
+    ensures { IfOk result (λ c. app_of c ≡ bare_app) }
+{
+    Command::new(alloc, "lexicat")
+        .about(
+            "Keeps labels in many languages at several sites, and picks the one that a reader \
+                wants",
+        )
+        .after_help(
+            "It reads standard input and writes standard output. 'lexicat help COMMAND' has an \
+                example of each command; they run one after another, in the order above.\n\
+                Of a line 'refused N: TEXT', 'lexicat explain N' says what causes it and what to \
+                do.",
+        )
+        .version(VERSION)
+        .no_binary_name(true)
+        .subcommand_required(true)
+        .disable_help_subcommand(true)
+        .bin_name("lexicat")
 }
 
 /// Writes the help, the version or the usage.

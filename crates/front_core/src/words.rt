@@ -129,16 +129,6 @@ pub fn filter_answer<S: AsStr>(
     Ok(taken(alloc, &picks, &names)?)
 }
 
-/// The bytes of an argument, where there is one.
-pub fn bytes_of(word: Option<&str>) -> Option<&[u8]>
-    ensures { option_map (λ s. s.now) result ≡ option_map (λ s. s.now) word.entry }
-{
-    match word {
-        None => None,
-        Some(word) => Some(word.as_bytes()),
-    }
-}
-
 /// What a pick finds.
 #[derive(Drop)]
 pub(crate) enum Finding {
@@ -213,5 +203,15 @@ fn outcome_of(found: &Finding) -> Outcome
     match found {
         Finding::Matched(_) | Finding::Default(_) => Outcome::Found,
         Finding::Nothing => Outcome::Nothing,
+    }
+}
+
+/// The bytes of an argument, where there is one.
+fn bytes_of(word: Option<&str>) -> Option<&[u8]>
+    ensures { option_map (λ s. s.now) result ≡ option_map (λ s. s.now) word.entry }
+{
+    match word {
+        None => None,
+        Some(word) => Some(word.as_bytes()),
     }
 }

@@ -5,8 +5,7 @@ ghost use Rattle.clap.specs.Words.{app_of};
 ghost use Rattle.command_core.specs.Words.{IsCommand, exchange_app, explain_app, sync_app};
 ghost use Rattle.command_core.specs.Words.{take_app};
 
-use crate::arguments;
-use crate::commands::{described, with_command};
+use crate::arguments::{self, described, with_command};
 use clap::Command;
 use std::alloc::{AllocError, Global};
 

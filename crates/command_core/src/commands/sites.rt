@@ -4,8 +4,7 @@ ghost use Rattle.clap.specs.Words.{app_of};
 ghost use Rattle.command_core.specs.Words.{IsCommand, delete_app, new_site_app, pick_app, put_app};
 ghost use Rattle.command_core.specs.Words.{sites_app};
 
-use crate::arguments;
-use crate::commands::{described, with_command};
+use crate::arguments::{self, described, with_command};
 use clap::Command;
 use std::alloc::{AllocError, Global};
 

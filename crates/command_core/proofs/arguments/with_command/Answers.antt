@@ -1,5 +1,5 @@
 use Rattle.std.proofs.lemmas.Result.{IfOk-weaker}
-use Rattle.command_core.proofs.commands.with_command.Goals as goal
+use Rattle.command_core.proofs.arguments.with_command.Goals as goal
 
 pub returns : goal.returns
 returns c =
