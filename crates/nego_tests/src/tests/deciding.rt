@@ -1,29 +1,54 @@
 //! The item that decides a tag.
-use crate::tests::reading::{columns, list_of, tag};
+use crate::tests::reading::{list_of, tag};
 use nego_core::{PriorityList, Scheme};
 use std::process::Abort;
 use std::test::Fail;
 
+/// The place of the item that decides a tag, and its weight.
+fn decision(
+    rt: &(impl Abort + AllocGlobal),
+    list: &PriorityList,
+    scheme: Scheme,
+    text: &str,
+) -> Result<(Option<usize>, Option<u16>), Fail> {
+    let tag = tag(rt, text)?;
+    Ok((list.item_for(scheme, &tag), list.weight_for(scheme, &tag)))
+}
+
+fn shown(
+    rt: &(impl Abort + AllocGlobal),
+    decision: (Option<usize>, Option<u16>),
+) -> Result<String, Fail> {
+    match decision {
+        (Some(place), Some(weight)) => Ok(format!(in rt.alloc(); "{place} {weight}")?),
+        (None, None) => Ok(String::new(rt.alloc())),
+        _ => Ok("one of two".to_string(rt.alloc())?),
+    }
+}
+
 /// Checks rows of `TAG|PLACE WEIGHT`, where nothing after the bar says that no item decides.
-pub fn decides(
+fn decides(
     rt: &(impl Abort + AllocGlobal),
     list: &PriorityList,
     scheme: Scheme,
     rows: &str,
 ) -> Result<(), Fail> {
     for row in rows.lines() {
-        let (text, expected, _, _) = columns(row);
-        let tag = tag(rt, text)?;
-        let mut shown = String::new(rt.alloc());
-        if let Some(place) = list.item_for(scheme, &tag) {
-            shown = format!(in rt.alloc(); "{place}")?;
-        }
-        if let Some(weight) = list.weight_for(scheme, &tag) {
-            shown = format!(in rt.alloc(); "{shown} {weight}")?;
-        }
-        assert!(rt; shown.as_str() == expected, "{row}: {shown}");
+        let (text, expected) = row.split_once("|").unwrap_or((row, ""));
+        let shown = shown(rt, decision(rt, list, scheme, text)?)?;
+        assert!(rt; shown.as_str() == expected, "{row}");
     }
     Ok(())
+}
+
+/// The same of the list of a field.
+pub fn field_decides(
+    rt: &(impl Abort + AllocGlobal),
+    field: &str,
+    scheme: Scheme,
+    rows: &str,
+) -> Result<(), Fail> {
+    decides(rt, &list_of(rt, field)?, scheme, rows)
 }
 
 /// Rows of `FIELD|TAG|PLACE WEIGHT`, of both schemes.
@@ -54,7 +79,7 @@ const BY_BASIC: &str = "en, *;q=0.1, de-de|de-Latn-DE|1 100\nranges: de-*-DE, de
 fn rows(rt: &(impl Abort + AllocGlobal), scheme: Scheme, rows: &str) -> Result<(), Fail> {
     for row in rows.lines() {
         let (field, rest) = row.split_once("|").unwrap_or((row, ""));
-        decides(rt, &list_of(rt, field)?, scheme, rest)?;
+        field_decides(rt, field, scheme, rest)?;
     }
     Ok(())
 }

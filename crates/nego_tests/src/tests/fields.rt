@@ -1,5 +1,5 @@
 //! Fields of basic ranges (RFC 9110 sections 5.6.1, 12.4.2 and 12.5.4) and of extended ones.
-use crate::tests::reading::{accept, columns, has_items, list_of};
+use crate::tests::reading::{accept, columns, reads};
 use nego_core::{NegoFault, PriorityList};
 use std::process::Abort;
 use std::test::Fail;
@@ -18,7 +18,7 @@ ranges: |";
 fn read(rt: HostRuntime) -> Result<(), Fail> {
     for row in READ.lines() {
         let (field, items, _, _) = columns(row);
-        has_items(&rt, &list_of(&rt, field)?, items)?;
+        reads(&rt, field, items)?;
     }
     Ok(())
 }
@@ -105,20 +105,17 @@ fn is_too_long(rt: &(impl Abort + AllocGlobal), field: &[u8]) -> bool {
 
 #[test]
 fn lengths(rt: HostRuntime) -> Result<(), Fail> {
-    let mut commas = [b','; 65536];
-    has_items(
-        &rt,
-        &PriorityList::from_accept(rt.alloc(), &commas[1..])?,
-        "",
-    )?;
-    has_items(
-        &rt,
-        &PriorityList::from_ranges(rt.alloc(), &commas[1..])?,
-        "",
-    )?;
-    assert!(rt; is_too_long(&rt, &commas));
-    commas[0] = b'!';
-    assert!(rt; is_too_long(&rt, &commas));
+    let commas = ",".repeat(rt.alloc(), 65535)?;
+    reads(&rt, commas.as_str(), "")?;
+    let ranges = format!(in rt.alloc(); "ranges: {commas}")?;
+    reads(&rt, ranges.as_str(), "")
+}
+
+/// A field that is too long is that, whatever else is wrong with it.
+#[test]
+fn long_fields(rt: HostRuntime) -> Result<(), Fail> {
+    assert!(rt; is_too_long(&rt, ",".repeat(rt.alloc(), 65536)?.as_bytes()));
+    assert!(rt; is_too_long(&rt, "!".repeat(rt.alloc(), 65536)?.as_bytes()));
     Ok(())
 }
 
@@ -132,14 +129,18 @@ fn longest(rt: &(impl Abort + AllocGlobal)) -> Result<String, Fail> {
     Ok(text)
 }
 
+/// The range is read with a weight.
+fn reads_weighted(rt: &(impl Abort + AllocGlobal), range: &str) -> Result<(), Fail> {
+    let field = format!(in rt.alloc(); "{range} ; q=0.2")?;
+    let items = format!(in rt.alloc(); "{range};200")?;
+    reads(rt, field.as_str(), items.as_str())
+}
+
 #[test]
 fn long_ranges(rt: HostRuntime) -> Result<(), Fail> {
     let range = longest(&rt)?;
-    let field = format!(in rt.alloc(); "{range} ; q=0.2")?;
-    let items = format!(in rt.alloc(); "{range};200")?;
-    has_items(&rt, &accept(&rt, field.as_str())?, items.as_str())?;
+    reads_weighted(&rt, range.as_str())?;
     let field = format!(in rt.alloc(); "{range}a;q=0.2")?;
-    let list = PriorityList::from_accept(rt.alloc(), field.as_bytes());
-    assert!(rt; is_refused_at(list, "0"));
+    assert!(rt; is_malformed_at(&rt, field.as_bytes(), "0"));
     Ok(())
 }

@@ -1,6 +1,6 @@
 //! Accept-Language fields as browsers send them: Firefox, Chrome, Safari, Edge and Opera.
-use crate::tests::looking_up::finds;
-use crate::tests::reading::{accept, columns, has_items};
+use crate::tests::looking_up::field_finds;
+use crate::tests::reading::{columns, reads};
 use std::test::Fail;
 
 /// Rows of `FIELD|RANGE;WEIGHT ..|FOUND`.
@@ -14,9 +14,8 @@ fr-CH, fr;q=0.9, en;q=0.8, de;q=0.7, *;q=0.5|fr-ch;1000 fr;900 en;800 de;700 *;5
 fn of_browsers(rt: HostRuntime) -> Result<(), Fail> {
     for row in FIELDS.lines() {
         let (field, items, found, _) = columns(row);
-        let list = accept(&rt, field)?;
-        has_items(&rt, &list, items)?;
-        finds(&rt, &list, "en de fr zh-Hant pt", "", found)?;
+        reads(&rt, field, items)?;
+        field_finds(&rt, field, "en de fr zh-Hant pt", "", found)?;
     }
     Ok(())
 }

@@ -13,11 +13,21 @@ fn lenient(
     PriorityList::parse(rt.alloc(), scheme, Malformed::PassedOver, field)
 }
 
+/// Checks what is read of a field.
+fn reads(
+    rt: &(impl Abort + AllocGlobal),
+    scheme: Scheme,
+    field: &[u8],
+    items: &str,
+) -> Result<(), Fail> {
+    has_items(rt, &lenient(rt, scheme, field)?, items)
+}
+
 /// Checks rows of `FIELD|RANGE;WEIGHT ..`.
 fn all_read(rt: &(impl Abort + AllocGlobal), scheme: Scheme, rows: &str) -> Result<(), Fail> {
     for row in rows.lines() {
         let (field, items, _, _) = columns(row);
-        has_items(rt, &lenient(rt, scheme, field.as_bytes())?, items)?;
+        reads(rt, scheme, field.as_bytes(), items)?;
     }
     Ok(())
 }
@@ -51,16 +61,8 @@ fn read(rt: HostRuntime) -> Result<(), Fail> {
 /// Line ends and bytes beyond ASCII are no blanks.
 #[test]
 fn other_bytes(rt: HostRuntime) -> Result<(), Fail> {
-    has_items(
-        &rt,
-        &lenient(&rt, Scheme::Basic, b"en,\r\n fr,ja")?,
-        "en;1000 ja;1000",
-    )?;
-    has_items(
-        &rt,
-        &lenient(&rt, Scheme::Basic, b"\xff\xfe,en")?,
-        "en;1000",
-    )
+    reads(&rt, Scheme::Basic, b"en,\r\n fr,ja", "en;1000 ja;1000")?;
+    reads(&rt, Scheme::Basic, b"\xff\xfe,en", "en;1000")
 }
 
 fn is_too_long(rt: &(impl Abort + AllocGlobal), field: &[u8]) -> bool {
@@ -70,43 +72,51 @@ fn is_too_long(rt: &(impl Abort + AllocGlobal), field: &[u8]) -> bool {
 
 #[test]
 fn lengths(rt: HostRuntime) -> Result<(), Fail> {
-    let mut commas = [b','; 65536];
-    has_items(&rt, &lenient(&rt, Scheme::Basic, &commas[1..])?, "")?;
-    assert!(rt; is_too_long(&rt, &commas));
-    commas[0] = b'!';
-    assert!(rt; is_too_long(&rt, &commas));
-    has_items(&rt, &lenient(&rt, Scheme::Basic, &commas[..65535])?, "")
+    let commas = ",".repeat(rt.alloc(), 65535)?;
+    reads(&rt, Scheme::Basic, commas.as_bytes(), "")?;
+    let malformed = "!".repeat(rt.alloc(), 65535)?;
+    reads(&rt, Scheme::Basic, malformed.as_bytes(), "")
 }
 
-/// Many commas, and what is longer than any range.
+#[test]
+fn long_fields(rt: HostRuntime) -> Result<(), Fail> {
+    assert!(rt; is_too_long(&rt, ",".repeat(rt.alloc(), 65536)?.as_bytes()));
+    assert!(rt; is_too_long(&rt, "!".repeat(rt.alloc(), 65536)?.as_bytes()));
+    Ok(())
+}
+
+/// Many commas, and what is longer than any range, before a last element.
+fn long_pieces_before(rt: &(impl Abort + AllocGlobal), last: &str) -> Result<String, Fail> {
+    let commas = ",".repeat(rt.alloc(), 40)?;
+    let long = "abcdefgh".repeat(rt.alloc(), 40)?;
+    Ok(format!(in rt.alloc(); "da{commas}{long}{last}")?)
+}
+
+fn strict_fault(rt: &(impl Abort + AllocGlobal), scheme: Scheme, field: &str) -> Option<NegoFault> {
+    PriorityList::parse(rt.alloc(), scheme, Malformed::Refused, field.as_bytes()).err()
+}
+
 #[test]
 fn long_pieces(rt: HostRuntime) -> Result<(), Fail> {
-    let mut field = String::from_str(rt.alloc(), "da")?;
-    for _ in 0..40 {
-        field.push_str(",")?;
-    }
-    for _ in 0..40 {
-        field.push_str("abcdefgh")?;
-    }
-    let strict = PriorityList::from_accept(rt.alloc(), field.as_bytes());
-    assert!(rt; strict.err() == Some(NegoFault::FieldMalformed { offset: 42 }));
-    field.push_str(", fr")?;
-    has_items(
-        &rt,
-        &lenient(&rt, Scheme::Basic, field.as_bytes())?,
-        "da;1000 fr;1000",
-    )
+    let field = long_pieces_before(&rt, ", fr")?;
+    let fault = strict_fault(&rt, Scheme::Basic, field.as_str());
+    assert!(rt; fault == Some(NegoFault::FieldMalformed { offset: 42 }));
+    reads(&rt, Scheme::Basic, field.as_bytes(), "da;1000 fr;1000")
 }
 
-/// What is read strictly is read alike, and what is malformed is refused.
+/// What is malformed is refused.
 #[test]
-fn strict(rt: HostRuntime) -> Result<(), Fail> {
-    let field = b"da, en_US, fr";
-    let basic = PriorityList::parse(rt.alloc(), Scheme::Basic, Malformed::Refused, field);
-    assert!(rt; basic.err() == Some(NegoFault::FieldMalformed { offset: 4 }));
+fn strict(rt: HostRuntime) {
+    let basic = strict_fault(&rt, Scheme::Basic, "da, en_US, fr");
+    assert!(rt; basic == Some(NegoFault::FieldMalformed { offset: 4 }));
+    let extended = strict_fault(&rt, Scheme::Extended, "de, fr;q=0.5");
+    assert!(rt; extended == Some(NegoFault::FieldMalformed { offset: 4 }));
+}
+
+/// What is well-formed is read alike.
+#[test]
+fn strict_and_well_formed(rt: HostRuntime) -> Result<(), Fail> {
     let field = b"de, fr;q=0.5";
-    let extended = PriorityList::parse(rt.alloc(), Scheme::Extended, Malformed::Refused, field);
-    assert!(rt; extended.err() == Some(NegoFault::FieldMalformed { offset: 4 }));
-    let basic = PriorityList::parse(rt.alloc(), Scheme::Basic, Malformed::Refused, field)?;
-    has_items(&rt, &basic, "de;1000 fr;500")
+    let list = PriorityList::parse(rt.alloc(), Scheme::Basic, Malformed::Refused, field)?;
+    has_items(&rt, &list, "de;1000 fr;500")
 }

@@ -1,9 +1,9 @@
 //! Lists of more than 16 items, which are asked by an index. What is expected follows from the
 //! definitions, as for short lists.
-use crate::tests::deciding::decides;
+use crate::tests::deciding::field_decides;
 use crate::tests::filtering::picks;
-use crate::tests::looking_up::finds;
-use crate::tests::reading::{accept, columns, ranges};
+use crate::tests::looking_up::field_finds;
+use crate::tests::reading::columns;
 use nego_core::Scheme;
 use std::test::Fail;
 
@@ -13,7 +13,7 @@ const FIELD: &str =
 
 /// 19 items: doubles at 1 and 18; "*" at 10.
 const RANGES: &str =
-    "de-*-CH, de-*-DE, *-Latn, sr-*, zh-*-CN, fr-*-FR, en-GB, en-*-x-*-a, *-419, es, *, pt-*, ja, ko, ru, it, sv, *-CH, de-*-DE";
+    "ranges: de-*-CH, de-*-DE, *-Latn, sr-*, zh-*-CN, fr-*-FR, en-GB, en-*-x-*-a, *-419, es, *, pt-*, ja, ko, ru, it, sv, *-CH, de-*-DE";
 
 /// Tags of the field and what decides them under both schemes.
 const DECIDED: &str =
@@ -27,11 +27,10 @@ const REPEATED: &str =
 
 #[test]
 fn decided_by_basic(rt: HostRuntime) -> Result<(), Fail> {
-    let list = accept(&rt, FIELD)?;
-    decides(&rt, &list, Scheme::Basic, DECIDED)?;
-    decides(
+    field_decides(&rt, FIELD, Scheme::Basic, DECIDED)?;
+    field_decides(
         &rt,
-        &list,
+        FIELD,
         Scheme::Basic,
         "de-Latn-CH|0 1000\nen-Latn-GB|4 800",
     )
@@ -39,10 +38,9 @@ fn decided_by_basic(rt: HostRuntime) -> Result<(), Fail> {
 
 #[test]
 fn decided_where_one_range_is_repeated(rt: HostRuntime) -> Result<(), Fail> {
-    let list = accept(&rt, REPEATED)?;
-    decides(
+    field_decides(
         &rt,
-        &list,
+        REPEATED,
         Scheme::Basic,
         "de|1 0\nde-AT|1 0\nde-CH-1996|21 500\nfr-FR|0 1000\nden|22 100",
     )
@@ -50,11 +48,10 @@ fn decided_where_one_range_is_repeated(rt: HostRuntime) -> Result<(), Fail> {
 
 #[test]
 fn decided_by_extended(rt: HostRuntime) -> Result<(), Fail> {
-    let list = accept(&rt, FIELD)?;
-    decides(&rt, &list, Scheme::Extended, DECIDED)?;
-    decides(
+    field_decides(&rt, FIELD, Scheme::Extended, DECIDED)?;
+    field_decides(
         &rt,
-        &list,
+        FIELD,
         Scheme::Extended,
         "de-Latn-CH|1 1000\nen-Latn-GB|3 0",
     )
@@ -62,18 +59,17 @@ fn decided_by_extended(rt: HostRuntime) -> Result<(), Fail> {
 
 #[test]
 fn decided_among_ranges(rt: HostRuntime) -> Result<(), Fail> {
-    let list = ranges(&rt, RANGES)?;
-    decides(
+    field_decides(
         &rt,
-        &list,
+        RANGES,
         Scheme::Extended,
         "de-Latn-DE|1 1000\nsr-Latn-RS|2 1000\nsr-Cyrl|3 1000\nde-CH|0 1000\nfr-CH|17 1000
 es-419|8 1000\nzh-Hans-CN|4 1000\nnl|10 1000\nen-GB-x-a|7 1000\nen-a-bbb-x-a|10 1000
 fr-Latn-FR-1990|5 1000",
     )?;
-    decides(
+    field_decides(
         &rt,
-        &list,
+        RANGES,
         Scheme::Basic,
         "de-DE|10 1000\nes-419|9 1000\nen-GB|6 1000\nja-JP|12 1000\nsr|10 1000",
     )
@@ -81,33 +77,32 @@ fr-Latn-FR-1990|5 1000",
 
 /// 20 items, most of which end alike: doubles at 0 and 17; "*" at 18.
 const ALIKE: &str =
-    "aa-*-zz, bb-*-zz, cc-*-zz, dd-*-zz, ee-*-zz, ff-*-zz, gg-*-zz, hh-*-zz, ii-*-zz, jj-*-zz, kk-*-zz, ll-*-zz, mm-*-zz, nn-*-zz, oo-*-zz, pp-*-zz, *-Latn-zz, aa-*-zz, *, *-*";
+    "ranges: aa-*-zz, bb-*-zz, cc-*-zz, dd-*-zz, ee-*-zz, ff-*-zz, gg-*-zz, hh-*-zz, ii-*-zz, jj-*-zz, kk-*-zz, ll-*-zz, mm-*-zz, nn-*-zz, oo-*-zz, pp-*-zz, *-Latn-zz, aa-*-zz, *, *-*";
 
 #[test]
 fn decided_among_ranges_that_end_alike(rt: HostRuntime) -> Result<(), Fail> {
-    let list = ranges(&rt, ALIKE)?;
-    decides(
+    field_decides(
         &rt,
-        &list,
+        ALIKE,
         Scheme::Extended,
         "cc-ZZ|2 1000\ncc-Latn-ZZ|2 1000\nqq-Latn-ZZ|16 1000\nqq-ZZ|18 1000\naa-Cyrl-ZZ|0 1000
 aa-x-zz|18 1000\ncc-Latn-AQ|18 1000",
     )?;
-    decides(&rt, &list, Scheme::Basic, "cc-ZZ|18 1000")
+    field_decides(&rt, ALIKE, Scheme::Basic, "cc-ZZ|18 1000")
 }
 
 #[test]
 fn filtered(rt: HostRuntime) -> Result<(), Fail> {
     picks(
         &rt,
-        &accept(&rt, FIELD)?,
+        FIELD,
         Scheme::Basic,
         "de-AT en-GB en-US @none sv zh-Hant-TW de-CH it es-419 es",
         "0;1000 6;1000 2;800 8;500 9;500 5;300 4;100",
     )?;
     picks(
         &rt,
-        &ranges(&rt, RANGES)?,
+        RANGES,
         Scheme::Extended,
         "es-419 sr-Latn de-DE nl",
         "2;1000 1;1000 0;1000 3;1000",
@@ -121,10 +116,9 @@ nl sv|sv|Default(1)\nnl||Nothing\nit|it|Nothing\nsv||Nothing";
 
 #[test]
 fn looked_up(rt: HostRuntime) -> Result<(), Fail> {
-    let list = accept(&rt, FIELD)?;
     for row in FOUND.lines() {
         let (texts, default, expected, _) = columns(row);
-        finds(&rt, &list, texts, default, expected)?;
+        field_finds(&rt, FIELD, texts, default, expected)?;
     }
-    finds(&rt, &ranges(&rt, RANGES)?, "nl fr en", "", "Matched(1)")
+    field_finds(&rt, RANGES, "nl fr en", "", "Matched(1)")
 }

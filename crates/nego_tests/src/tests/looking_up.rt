@@ -1,5 +1,5 @@
 //! Lookup (RFC 4647 section 3.4) over languages that are handed in, and by `choose` over a set.
-use crate::tests::reading::{columns, lang, langs, list_of};
+use crate::tests::reading::{columns, default_of, langs, list_of};
 use crate::tests::shortlists::agrees_cut;
 use lang_core::Lang;
 use nego_core::{Choice, Found, PriorityList, Widening, choose, lookup};
@@ -63,43 +63,59 @@ pub fn agrees(choice: Choice, found: Found, langs: &[Lang]) -> bool {
     }
 }
 
-/// Checks what `lookup` and `choose` answer, and a list cut to these languages and others.
-pub fn finds(
+/// What `lookup` and `choose` find among languages.
+fn found_by_both(
+    rt: &impl Abort,
+    list: &PriorityList,
+    langs: &[Lang],
+    default: Option<&Lang>,
+) -> Found {
+    let found = lookup(list, langs, default);
+    assert!(rt; agrees(choose(list, &langs, default), found, langs));
+    found
+}
+
+/// What they find, and a list cut to these languages and others, which has to be the same.
+fn found_by_each(
     rt: &(impl Abort + AllocGlobal),
     list: &PriorityList,
+    texts: &str,
+    default: Option<&Lang>,
+) -> Result<Found, Fail> {
+    let found = found_by_both(rt, list, &langs(rt, texts)?, default);
+    agrees_cut(rt, list, Widening::Off, texts, default, found)?;
+    Ok(found)
+}
+
+fn found_of_field(
+    rt: &(impl Abort + AllocGlobal),
+    field: &str,
+    texts: &str,
+    default: &str,
+) -> Result<Found, Fail> {
+    let list = list_of(rt, field)?;
+    found_by_each(rt, &list, texts, default_of(rt, default)?.as_ref())
+}
+
+/// Checks what the list of a field finds.
+pub fn field_finds(
+    rt: &(impl Abort + AllocGlobal),
+    field: &str,
     texts: &str,
     default: &str,
     expected: &str,
 ) -> Result<(), Fail> {
-    let langs = langs(rt, texts)?;
-    let default = default_of(rt, default)?;
-    let found = lookup(list, &langs, default.as_ref());
+    let found = found_of_field(rt, field, texts, default)?;
     let shown = format!(in rt.alloc(); "{found:?}")?;
     assert!(rt; shown.as_str() == expected, "{shown} in {texts}");
-    assert!(rt;
-        agrees(
-            choose(list, &langs.as_slice(), default.as_ref()),
-            found,
-            &langs
-        ),
-        "{texts}"
-    );
-    agrees_cut(rt, list, Widening::Off, texts, default.as_ref(), found)
-}
-
-/// The language of a text, or none of the empty one.
-fn default_of(rt: &(impl Abort + AllocGlobal), text: &str) -> Result<Option<Lang>, Fail> {
-    if text.is_empty() {
-        return Ok(None);
-    }
-    Ok(Some(lang(rt, text)?))
+    Ok(())
 }
 
 #[test]
 fn found(rt: HostRuntime) -> Result<(), Fail> {
     for row in ROWS.lines() {
         let (field, texts, default, expected) = columns(row);
-        finds(&rt, &list_of(&rt, field)?, texts, default, expected)?;
+        field_finds(&rt, field, texts, default, expected)?;
     }
     Ok(())
 }

@@ -20,6 +20,14 @@ pub fn lang(rt: &(impl Abort + AllocGlobal), text: &str) -> Result<Lang, Fail> {
     Ok(Lang::parse(rt.alloc(), text.as_bytes())?)
 }
 
+/// The language of a text, or none of the empty one.
+pub fn default_of(rt: &(impl Abort + AllocGlobal), text: &str) -> Result<Option<Lang>, Fail> {
+    if text.is_empty() {
+        return Ok(None);
+    }
+    Ok(Some(lang(rt, text)?))
+}
+
 /// The languages of a text, between blanks.
 pub fn langs(rt: &(impl Abort + AllocGlobal), texts: &str) -> Result<Vec<Lang>, Fail> {
     let mut all = Vec::new(rt.alloc());
@@ -63,6 +71,11 @@ pub fn has_items(
     let shown = shown(rt, list)?;
     assert!(rt; shown.as_str().trim() == items, "{shown}");
     Ok(())
+}
+
+/// Checks the ranges and weights of the list of a field.
+pub fn reads(rt: &(impl Abort + AllocGlobal), field: &str, items: &str) -> Result<(), Fail> {
+    has_items(rt, &list_of(rt, field)?, items)
 }
 
 /// Each range of the list with its weight.

@@ -1,10 +1,32 @@
 //! Lists cut to some languages. The rows of lookup and of widened lookup ask them too.
 use crate::tests::looking_up::agrees;
-use crate::tests::reading::{accept, lang, langs, lent};
+use crate::tests::reading::{accept, default_of, langs, lent};
 use lang_core::Lang;
-use nego_core::{Choice, Found, PriorityList, Shortlist, Widening};
+use nego_core::{Found, PriorityList, Shortlist, Widening};
 use std::process::Abort;
 use std::test::Fail;
+
+/// Languages that the text does not name, and those that it names.
+fn more_langs(rt: &(impl Abort + AllocGlobal), texts: &str) -> Result<Vec<Lang>, Fail> {
+    let more = format!(in rt.alloc(); "ja fr-ca @none en-gb zh-hant de {texts} de-at")?;
+    langs(rt, more.as_str())
+}
+
+/// Whether a list cut to all these languages finds this among some of them.
+fn is_found<'a>(
+    rt: &(impl Abort + AllocGlobal),
+    list: &'a PriorityList,
+    widening: Widening,
+    all: &'a [Lang],
+    asked: &[Lang],
+    default: Option<&Lang>,
+    found: Found,
+) -> Result<bool, Fail> {
+    let site = lent(rt, all)?;
+    let shortlist = Shortlist::new(rt.alloc(), list, widening, &site)?;
+    let choice = shortlist.choose(&asked, default);
+    Ok(shortlist.tried() <= site.len() && agrees(choice, found, asked))
+}
 
 /// Checks that a list cut to these languages and others finds the same among these.
 pub fn agrees_cut(
@@ -15,14 +37,10 @@ pub fn agrees_cut(
     default: Option<&Lang>,
     found: Found,
 ) -> Result<(), Fail> {
+    let all = more_langs(rt, texts)?;
     let asked = langs(rt, texts)?;
-    let more = format!(in rt.alloc(); "ja fr-ca @none en-gb zh-hant de {texts} de-at")?;
-    let all = langs(rt, more.as_str())?;
-    let site = lent(rt, &all)?;
-    let shortlist = Shortlist::new(rt.alloc(), list, widening, &site)?;
-    assert!(rt; shortlist.tried() <= site.len(), "{texts}");
     assert!(rt;
-        agrees(shortlist.choose(&asked.as_slice(), default), found, &asked),
+        is_found(rt, list, widening, &all, &asked, default, found)?,
         "{texts}"
     );
     Ok(())
@@ -39,28 +57,64 @@ fn many_ranges(rt: &(impl Abort + AllocGlobal)) -> Result<String, Fail> {
     Ok(field)
 }
 
+/// How many languages a list cut to these tries.
+fn tried(rt: &(impl Abort + AllocGlobal), list: &PriorityList, texts: &str) -> Result<usize, Fail> {
+    let all = langs(rt, texts)?;
+    tried_of(rt, list, &lent(rt, &all)?)
+}
+
+fn tried_of<'a>(
+    rt: &(impl Abort + AllocGlobal),
+    list: &'a PriorityList,
+    site: &'a [&'a Lang],
+) -> Result<usize, Fail> {
+    Ok(Shortlist::new(rt.alloc(), list, Widening::Off, site)?.tried())
+}
+
+/// Whether a list cut to German, English and French finds this among some of them.
+fn is_found_among(
+    rt: &(impl Abort + AllocGlobal),
+    list: &PriorityList,
+    asked: &[Lang],
+    default: Option<&Lang>,
+    found: Found,
+) -> Result<bool, Fail> {
+    let all = langs(rt, "de en fr")?;
+    is_found(rt, list, Widening::Off, &all, asked, default, found)
+}
+
+fn finds(
+    rt: &(impl Abort + AllocGlobal),
+    list: &PriorityList,
+    texts: &str,
+    default: &str,
+    found: Found,
+) -> Result<bool, Fail> {
+    let default = default_of(rt, default)?;
+    is_found_among(rt, list, &langs(rt, texts)?, default.as_ref(), found)
+}
+
+/// Languages, a default, and what is found.
+const FEW: &[(&str, &str, Found)] = &[
+    ("de en", "", Found::Matched(1)),
+    ("de", "", Found::Matched(0)),
+    ("fr", "", Found::Nothing),
+    ("fr", "fr", Found::Default(0)),
+];
+
 #[test]
 fn few_of_many_ranges(rt: HostRuntime) -> Result<(), Fail> {
     let list = accept(&rt, many_ranges(&rt)?.as_str())?;
-    let all = langs(&rt, "de en fr")?;
-    let site = lent(&rt, &all)?;
-    let shortlist = Shortlist::new(rt.alloc(), &list, Widening::Off, &site)?;
-    assert!(rt; shortlist.tried() <= 3);
-    let both = langs(&rt, "de en")?;
-    assert!(rt; shortlist.choose(&both.as_slice(), None) == Choice::Matched("en"));
-    let german = langs(&rt, "de")?;
-    assert!(rt; shortlist.choose(&german.as_slice(), None) == Choice::Matched("de"));
-    let french = langs(&rt, "fr")?;
-    assert!(rt; shortlist.choose(&french.as_slice(), None) == Choice::Nothing);
-    let default = lang(&rt, "fr")?;
-    assert!(rt; shortlist.choose(&french.as_slice(), Some(&default)) == Choice::Default);
+    assert!(rt; tried(&rt, &list, "de en fr")? <= 3);
+    for (texts, default, found) in FEW {
+        assert!(rt; finds(&rt, &list, texts, default, *found)?);
+    }
     Ok(())
 }
 
 #[test]
 fn no_languages(rt: HostRuntime) -> Result<(), Fail> {
     let list = accept(&rt, "de, en")?;
-    let shortlist = Shortlist::new(rt.alloc(), &list, Widening::Off, &[])?;
-    assert!(rt; shortlist.tried() == 0);
+    assert!(rt; tried(&rt, &list, "")? == 0);
     Ok(())
 }

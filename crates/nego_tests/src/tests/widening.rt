@@ -1,6 +1,7 @@
 //! Widened lookup: a range finds the languages that it matches too.
-use crate::tests::reading::{columns, lang, langs, lent, list_of};
+use crate::tests::reading::{columns, default_of, langs, lent, list_of};
 use crate::tests::shortlists::agrees_cut;
+use lang_core::Lang;
 use nego_core::{
     Found, PriorityList, Scheme, Widening, lookup_by, lookup_widened, lookup_widened_lent,
 };
@@ -16,36 +17,43 @@ fn scheme_of(field: &str) -> Scheme {
     }
 }
 
-/// What the three calls find, and a list cut to these languages and others, which has to be the
-/// same.
+/// What the three calls find among languages, which has to be the same.
+fn found_by_three(
+    rt: &(impl Abort + AllocGlobal),
+    list: &PriorityList,
+    scheme: Scheme,
+    langs: &[Lang],
+    default: Option<&Lang>,
+) -> Result<Found, Fail> {
+    let found = lookup_widened(list, scheme, langs, default);
+    assert!(rt; lookup_by(list, Widening::By(scheme), langs, default) == found);
+    let lent = lent(rt, langs)?;
+    assert!(rt; lookup_widened_lent(list, scheme, &lent, default) == found);
+    Ok(found)
+}
+
+/// What they find, and a list cut to these languages and others, which has to be the same.
 fn found_by_each(
     rt: &(impl Abort + AllocGlobal),
     list: &PriorityList,
     scheme: Scheme,
     texts: &str,
+    default: Option<&Lang>,
+) -> Result<Found, Fail> {
+    let found = found_by_three(rt, list, scheme, &langs(rt, texts)?, default)?;
+    agrees_cut(rt, list, Widening::By(scheme), texts, default, found)?;
+    Ok(found)
+}
+
+fn found_of_field(
+    rt: &(impl Abort + AllocGlobal),
+    field: &str,
+    scheme: Scheme,
+    texts: &str,
     default: &str,
 ) -> Result<Found, Fail> {
-    let langs = langs(rt, texts)?;
-    let lent = lent(rt, &langs)?;
-    let named;
-    let default = if default.is_empty() {
-        None
-    } else {
-        named = lang(rt, default)?;
-        Some(&named)
-    };
-    let found = lookup_widened(list, scheme, &langs, default);
-    assert!(rt;
-        lookup_widened_lent(list, scheme, &lent, default) == found,
-        "{texts}"
-    );
-    let widening = Widening::By(scheme);
-    assert!(rt;
-        lookup_by(list, widening, &langs, default) == found,
-        "{texts}"
-    );
-    agrees_cut(rt, list, widening, texts, default, found)?;
-    Ok(found)
+    let list = list_of(rt, field)?;
+    found_by_each(rt, &list, scheme, texts, default_of(rt, default)?.as_ref())
 }
 
 /// Rows of `FIELD|LANGUAGES|DEFAULT|ANSWER`.
@@ -75,10 +83,9 @@ en;q=0|en-US||Nothing
 fn widened(rt: HostRuntime) -> Result<(), Fail> {
     for row in ROWS.lines() {
         let (field, texts, default, expected) = columns(row);
-        let list = list_of(&rt, field)?;
-        let found = found_by_each(&rt, &list, scheme_of(field), texts, default)?;
+        let found = found_of_field(&rt, field, scheme_of(field), texts, default)?;
         let shown = format!(in rt.alloc(); "{found:?}")?;
-        assert!(rt; shown.as_str() == expected, "{shown}: {row}");
+        assert!(rt; shown.as_str() == expected, "{row}: {shown}");
     }
     Ok(())
 }
@@ -87,22 +94,28 @@ fn widened(rt: HostRuntime) -> Result<(), Fail> {
 /// subtags.
 #[test]
 fn by_the_scheme(rt: HostRuntime) -> Result<(), Fail> {
-    let list = list_of(&rt, "ranges: de-*-DE")?;
-    assert!(rt; found_by_each(&rt, &list, Scheme::Basic, "de-Latn-DE", "")? == Found::Nothing);
-    let list = list_of(&rt, "de-DE")?;
-    assert!(rt; found_by_each(&rt, &list, Scheme::Basic, "de-Latn-DE", "")? == Found::Nothing);
-    assert!(rt;
-        found_by_each(&rt, &list, Scheme::Extended, "de-Latn-DE", "")? == Found::Matched(0)
-    );
+    let found = found_of_field(&rt, "ranges: de-*-DE", Scheme::Basic, "de-Latn-DE", "")?;
+    assert!(rt; found == Found::Nothing);
+    let found = found_of_field(&rt, "de-DE", Scheme::Basic, "de-Latn-DE", "")?;
+    assert!(rt; found == Found::Nothing);
+    let found = found_of_field(&rt, "de-DE", Scheme::Extended, "de-Latn-DE", "")?;
+    assert!(rt; found == Found::Matched(0));
     Ok(())
+}
+
+fn found_unwidened(
+    rt: &(impl Abort + AllocGlobal),
+    field: &str,
+    texts: &str,
+) -> Result<Found, Fail> {
+    let list = list_of(rt, field)?;
+    Ok(lookup_by(&list, Widening::Off, &langs(rt, texts)?, None))
 }
 
 #[test]
 fn not_widened(rt: HostRuntime) -> Result<(), Fail> {
-    let list = list_of(&rt, "en-GB, fr;q=0.5")?;
-    let regions = langs(&rt, "en-us fr-ca")?;
-    assert!(rt; lookup_by(&list, Widening::Off, &regions, None) == Found::Nothing);
-    let plain = langs(&rt, "en-us en")?;
-    assert!(rt; lookup_by(&list, Widening::Off, &plain, None) == Found::Matched(1));
+    let field = "en-GB, fr;q=0.5";
+    assert!(rt; found_unwidened(&rt, field, "en-us fr-ca")? == Found::Nothing);
+    assert!(rt; found_unwidened(&rt, field, "en-us en")? == Found::Matched(1));
     Ok(())
 }
