@@ -1,6 +1,7 @@
 //! Which range matches which tag.
 use super::columns;
-use lang_core::{Range, Tag};
+use lang_core::{LangFault, Range, Tag};
+use std::alloc::Global;
 use std::test::Fail;
 
 /// Rows of `RANGE|TAGS|ANSWER` under extended filtering. RFC 4647 section 3.3.2 has those of
@@ -19,17 +20,19 @@ de-*|de de-DE|true
 *-de|de-de sr-Latn-DE|true
 en-bbb|en-a-bbb|false";
 
+fn is_extended_match(alloc: Global, range: &str, tag: &str) -> Result<bool, LangFault> {
+    let range = Range::parse_extended(alloc, range.as_bytes())?;
+    let tag = Tag::parse(alloc, tag.as_bytes())?;
+    Ok(range.matches_extended(&tag))
+}
+
 #[test]
 fn extended(rt: HostRuntime) -> Result<(), Fail> {
     for row in EXTENDED.lines() {
         let (range, tags, expected, _) = columns(row);
-        let range = Range::parse_extended(rt.alloc(), range.as_bytes())?;
-        for text in tags.split_whitespace() {
-            let tag = Tag::parse(rt.alloc(), text.as_bytes())?;
-            assert!(rt;
-                range.matches_extended(&tag) == (expected == "true"),
-                "{row}: {text}"
-            );
+        for tag in tags.split_whitespace() {
+            let is_match = is_extended_match(rt.alloc(), range, tag)?;
+            assert_eq!(rt; is_match, expected == "true", "{row}: {tag}");
         }
     }
     Ok(())
@@ -43,21 +46,21 @@ de-*-de|de zh-Hant-CN x-a i-klingon de-de|false
 de|de DE-at|true
 de|deu en-de|false";
 
+/// Whether the range, read as an extended one, matches the tag, and the tag's text.
+fn are_basic_matches(alloc: Global, range: &str, text: &str) -> Result<(bool, bool), LangFault> {
+    let range = Range::parse_extended(alloc, range.as_bytes())?;
+    let tag = Tag::parse(alloc, text.as_bytes())?;
+    Ok((range.matches_basic(&tag), range.matches_basic_text(text)))
+}
+
 #[test]
 fn basic(rt: HostRuntime) -> Result<(), Fail> {
     for row in BASIC.lines() {
         let (range, tags, expected, _) = columns(row);
-        let range = Range::parse_extended(rt.alloc(), range.as_bytes())?;
-        for text in tags.split_whitespace() {
-            let tag = Tag::parse(rt.alloc(), text.as_bytes())?;
-            assert!(rt;
-                range.matches_basic(&tag) == (expected == "true"),
-                "{row}: {text}"
-            );
-            assert!(rt;
-                range.matches_basic_text(text) == (expected == "true"),
-                "{row}: {text}"
-            );
+        let wanted = expected == "true";
+        for tag in tags.split_whitespace() {
+            let are_matches = are_basic_matches(rt.alloc(), range, tag)?;
+            assert_eq!(rt; are_matches, (wanted, wanted), "{row}: {tag}");
         }
     }
     Ok(())

@@ -1,59 +1,97 @@
-//! Languages and tags as values.
-use lang_core::{Lang, Range, Tag};
+//! Languages, tags and ranges as values.
+use super::columns;
+use lang_core::{Lang, LangFault, Range, Subtags, Tag};
+use std::alloc::{AllocError, Global};
 use std::hash::{DefaultHasher, Hash, Hasher};
 use std::test::Fail;
 
-/// Languages in their order.
-const ORDERED: &str = "@none de de-at de-ch deu en";
+fn tag(alloc: Global, text: &str) -> Result<Tag, LangFault> {
+    Tag::parse(alloc, text.as_bytes())
+}
+
+fn lang(alloc: Global, text: &str) -> Result<Lang, LangFault> {
+    Lang::parse(alloc, text.as_bytes())
+}
+
+fn basic(alloc: Global, text: &str) -> Result<Range, LangFault> {
+    Range::parse_basic(alloc, text.as_bytes())
+}
+
+fn extended(alloc: Global, text: &str) -> Result<Range, LangFault> {
+    Range::parse_extended(alloc, text.as_bytes())
+}
+
+/// Whether one language is less than another, and not equal to it.
+fn is_below(alloc: Global, low: &str, high: &str) -> Result<bool, LangFault> {
+    let (low, high) = (lang(alloc, low)?, lang(alloc, high)?);
+    Ok(low.cmp(&high).is_lt() && low != high)
+}
+
+/// Rows of `LOW|HIGH`.
+const ORDERED: &str = "@none|de\nde|de-at\nde-at|de-ch\nde-ch|deu\ndeu|en";
 
 #[test]
 fn order(rt: HostRuntime) -> Result<(), Fail> {
-    let mut last = Lang::none();
-    for text in ORDERED.split_whitespace() {
-        let lang = Lang::parse(rt.alloc(), text.as_bytes())?;
-        assert!(rt; last.cmp(&lang).is_lt() != (last == lang), "{text}");
-        last = lang;
+    for row in ORDERED.lines() {
+        let (low, high, _, _) = columns(row);
+        assert!(rt; is_below(rt.alloc(), low, high)?, "{row}");
     }
     Ok(())
 }
 
-#[test]
-fn tag_copies(rt: HostRuntime) -> Result<(), Fail> {
-    let tag = Tag::parse(rt.alloc(), b"en")?;
-    assert!(rt; tag.copy(rt.alloc())? == tag);
-    Ok(())
+fn is_copied_tag(alloc: Global, tag: &Tag) -> Result<bool, AllocError> {
+    Ok(tag.copy(alloc)? == *tag)
+}
+
+fn is_copied_lang(alloc: Global, lang: &Lang) -> Result<bool, AllocError> {
+    Ok(lang.copy(alloc)? == *lang)
+}
+
+fn is_copied_range(alloc: Global, range: &Range) -> Result<bool, AllocError> {
+    let copy = range.copy(alloc)?;
+    Ok(copy == *range && copy.lookup_text() == range.lookup_text())
 }
 
 #[test]
-fn language_copies(rt: HostRuntime) -> Result<(), Fail> {
-    let lang = Lang::parse(rt.alloc(), b"en")?;
-    assert!(rt; lang.copy(rt.alloc())? == lang);
-    assert!(rt; Lang::none().copy(rt.alloc())? == Lang::none());
+fn copies(rt: HostRuntime) -> Result<(), Fail> {
+    let alloc = rt.alloc();
+    assert!(rt; is_copied_tag(alloc, &tag(alloc, "en")?)?);
+    assert!(rt; is_copied_lang(alloc, &lang(alloc, "en")?)?);
+    assert!(rt; is_copied_lang(alloc, &Lang::none())?);
+    assert!(rt; is_copied_range(alloc, &basic(alloc, "en-GB")?)?);
+    assert!(rt; is_copied_range(alloc, &extended(alloc, "en-*-GB")?)?);
     Ok(())
 }
 
-#[test]
-fn basic_range_copies(rt: HostRuntime) -> Result<(), Fail> {
-    let basic = Range::parse_basic(rt.alloc(), b"en-GB")?;
-    assert!(rt; basic.copy(rt.alloc())? == basic);
-    Ok(())
+fn has_lookup_text(alloc: Global, range: &str, text: &str) -> Result<bool, LangFault> {
+    Ok(extended(alloc, range)?.lookup_text() == text)
+}
+
+fn is_basic_range(alloc: Global, range: &str, text: &str) -> Result<bool, LangFault> {
+    Ok(extended(alloc, range)? == basic(alloc, text)?)
 }
 
 #[test]
-fn extended_range_copies(rt: HostRuntime) -> Result<(), Fail> {
-    let extended = Range::parse_extended(rt.alloc(), b"en-*-GB")?;
-    let copy = extended.copy(rt.alloc())?;
-    assert!(rt; copy == extended);
-    assert!(rt; copy.lookup_text() == "en-gb");
-    assert!(rt; copy != Range::parse_basic(rt.alloc(), b"en-GB")?);
+fn ranges_of_one_lookup_text(rt: HostRuntime) -> Result<(), Fail> {
+    assert!(rt; has_lookup_text(rt.alloc(), "en-*-GB", "en-gb")?);
+    assert!(rt; !is_basic_range(rt.alloc(), "en-*-GB", "en-GB")?);
     Ok(())
+}
+
+/// Whether the language that is made of a tag is that of the tag's text.
+fn is_of_tag(alloc: Global, text: &str) -> Result<bool, LangFault> {
+    Ok(Lang::from(tag(alloc, text)?) == lang(alloc, text)?)
+}
+
+/// Whether the tag of the language is that of the language's text.
+fn gives_tag(alloc: Global, text: &str) -> Result<bool, LangFault> {
+    Ok(lang(alloc, text)?.into_tag() == Some(tag(alloc, text)?))
 }
 
 #[test]
 fn tags_and_languages(rt: HostRuntime) -> Result<(), Fail> {
-    let lang = Lang::from(Tag::parse(rt.alloc(), b"de-AT")?);
-    assert!(rt; lang == Lang::parse(rt.alloc(), b"de-AT")?);
-    assert!(rt; lang.into_tag() == Some(Tag::parse(rt.alloc(), b"de-AT")?));
+    assert!(rt; is_of_tag(rt.alloc(), "de-AT")?);
+    assert!(rt; gives_tag(rt.alloc(), "de-AT")?);
     assert!(rt; Lang::none().into_tag().is_none());
     Ok(())
 }
@@ -65,59 +103,84 @@ fn hash_of<T: Hash>(value: &T) -> u64 {
     hasher.finish()
 }
 
+fn hash_of_tag(alloc: Global, text: &str) -> Result<u64, LangFault> {
+    Ok(hash_of(&tag(alloc, text)?))
+}
+
+fn hash_of_lang(alloc: Global, text: &str) -> Result<u64, LangFault> {
+    Ok(hash_of(&lang(alloc, text)?))
+}
+
 #[test]
 fn hashes(rt: HostRuntime) -> Result<(), Fail> {
-    let tag = Tag::parse(rt.alloc(), b"de-AT")?;
-    assert!(rt; hash_of(&tag) == hash_of(&"de-at"));
-    let lang = Lang::from(tag);
-    assert!(rt; hash_of(&lang) == hash_of(&"de-at"));
-    assert!(rt; hash_of(&Lang::none()) == hash_of(&"@none"));
-    assert!(rt; hash_of(&lang) != hash_of(&Lang::none()));
+    let alloc = rt.alloc();
+    let (of_tag, of_none) = (hash_of(&"de-at"), hash_of(&"@none"));
+    assert!(rt; of_tag != of_none);
+    assert!(rt; hash_of_tag(alloc, "de-AT")? == of_tag);
+    assert!(rt; hash_of_lang(alloc, "de-AT")? == of_tag);
+    assert!(rt; hash_of_lang(alloc, "@none")? == of_none);
     Ok(())
 }
 
-#[test]
-fn subtags(rt: HostRuntime) -> Result<(), Fail> {
-    let tag = Tag::parse(rt.alloc(), b"zh-Hant-CN")?;
+/// The subtags, each before a blank.
+fn listed(alloc: Global, subtags: Subtags<'_>) -> Result<String, AllocError> {
+    let mut list = String::new(alloc);
+    for subtag in subtags {
+        list.push_str(subtag)?;
+        list.push_str(" ")?;
+    }
+    Ok(list)
+}
+
+/// The subtags of a tag after the first, and then of their clone after the first.
+fn rests(alloc: Global, tag: &Tag) -> Result<String, Fail> {
     let mut subtags = tag.subtags();
-    assert!(rt; subtags.next() == Some("zh"));
+    let _ = subtags.next();
     let mut again = subtags.clone()?;
-    assert!(rt; subtags.next() == Some("hant"));
-    assert!(rt; subtags.next() == Some("cn"));
-    assert!(rt; subtags.next().is_none());
-    assert!(rt; again.next() == Some("hant"));
-    let text = format!(in rt.alloc(); "{again:?}")?;
-    assert!(rt; text.as_str() == r#"Subtags { rest: Some("cn") }"#);
+    let _ = again.next();
+    Ok(format!(in alloc; "{subtags:?} {again:?}")?)
+}
+
+#[test]
+fn subtags_of_tags(rt: HostRuntime) -> Result<(), Fail> {
+    let alloc = rt.alloc();
+    let tag = tag(alloc, "zh-Hant-CN")?;
+    assert!(rt; listed(alloc, tag.subtags())?.as_str() == "zh hant cn ");
+    let expected = r#"Subtags { rest: Some("hant-cn") } Subtags { rest: Some("cn") }"#;
+    assert!(rt; rests(alloc, &tag)?.as_str() == expected);
     Ok(())
 }
 
 #[test]
-fn truncations(rt: HostRuntime) -> Result<(), Fail> {
-    let range = Range::parse_basic(rt.alloc(), b"zh-Hant")?;
-    let mut truncations = range.truncations();
-    assert!(rt; truncations.next() == Some("zh-hant"));
-    let mut again = truncations.clone()?;
-    assert!(rt; truncations.next() == Some("zh"));
-    assert!(rt; truncations.next().is_none());
-    assert!(rt; again.next() == Some("zh"));
+fn subtags_of_ranges(rt: HostRuntime) -> Result<(), Fail> {
+    let alloc = rt.alloc();
+    let range = extended(alloc, "zh-*-Hant")?;
+    assert!(rt; listed(alloc, range.subtags())?.as_str() == "zh * hant ");
     Ok(())
 }
 
+fn shown_tag(alloc: Global, text: &str) -> Result<String, LangFault> {
+    let tag = tag(alloc, text)?;
+    Ok(format!(in alloc; "{tag}|{tag:>8}|{tag:.2}")?)
+}
+
+fn shown_lang(alloc: Global, text: &str) -> Result<String, LangFault> {
+    let lang = lang(alloc, text)?;
+    Ok(format!(in alloc; "{lang}|{lang:8}|")?)
+}
+
+fn shown_range(alloc: Global, text: &str) -> Result<String, LangFault> {
+    let range = extended(alloc, text)?;
+    Ok(format!(in alloc; "{range}|{range:*^10}")?)
+}
+
+/// As they are, and in columns.
 #[test]
 fn shown(rt: HostRuntime) -> Result<(), Fail> {
-    let lang = Lang::parse(rt.alloc(), b"DE-at")?;
-    let range = Range::parse_extended(rt.alloc(), b"zh-*-Hant")?;
-    let text = format!(in rt.alloc(); "{lang} {range}")?;
-    assert!(rt; text.as_str() == "de-at zh-*-hant");
-    Ok(())
-}
-
-#[test]
-fn shown_in_columns(rt: HostRuntime) -> Result<(), Fail> {
-    let tag = Tag::parse(rt.alloc(), b"de-AT")?;
-    let none = Lang::none();
-    let range = Range::parse_extended(rt.alloc(), b"de-*")?;
-    let text = format!(in rt.alloc(); "{tag:>8}|{none:8}|{range:*^10}|{tag:.2}")?;
-    assert!(rt; text.as_str() == "   de-at|@none   |***de-****|de");
+    let alloc = rt.alloc();
+    assert!(rt; shown_tag(alloc, "de-AT")?.as_str() == "de-at|   de-at|de");
+    assert!(rt; shown_lang(alloc, "@none")?.as_str() == "@none|@none   |");
+    assert!(rt; shown_lang(alloc, "DE-at")?.as_str() == "de-at|de-at   |");
+    assert!(rt; shown_range(alloc, "de-*")?.as_str() == "de-*|***de-****");
     Ok(())
 }
