@@ -1,23 +1,20 @@
 //! Priority lists over the live labels of a message.
 
-use super::makers::{catalogue, default, id, list};
+use super::makers::{catalogue, default, id, list, scheme};
 use super::shown;
 use super::words::{gives, gives_in};
-use cata_core::{Catalogue, Entries, Labels, LentEntries, Reply, list_languages};
+use cata_core::{Catalogue, Entries, Labels, LentEntries, Message, list_languages};
+use cell_core::MessageId;
+use lang_core::Lang;
 use nego_core::{PriorityList, Scheme, Shortlist, Widening};
-use std::alloc::Global;
+use std::alloc::{AllocError, Global};
 use std::test::Fail;
 
 /// A message with a label without language, one in English, one in French, and none left in German.
-fn greetings(alloc: Global) -> Result<Catalogue, Fail> {
-    catalogue(
-        alloc,
-        "m fr 1 1 2 Bonjour; m en 1 1 1 Hello; m @none 1 1 0 x; m de 1 1 3 -",
-    )
-}
+const GREETINGS: &str = "m fr 1 1 2 Bonjour; m en 1 1 1 Hello; m @none 1 1 0 x; m de 1 1 3 -";
 
-/// The labels that are left, between blanks.
-fn listed(alloc: Global, labels: Labels) -> Result<String, Fail> {
+/// The labels that are left, each before a semicolon.
+fn listed(alloc: Global, labels: Labels) -> Result<String, AllocError> {
     let mut text = String::new(alloc);
     for (lang, label) in labels {
         let shown = format!(in alloc; "{} {};", lang.as_str(), shown::text_of(label))?;
@@ -26,206 +23,202 @@ fn listed(alloc: Global, labels: Labels) -> Result<String, Fail> {
     Ok(text)
 }
 
-#[test]
-fn live_labels_are_in_order(rt: HostRuntime) -> Result<(), Fail> {
-    let alloc = rt.alloc();
-    let catalogue = greetings(alloc)?;
-    gives(
-        listed(alloc, catalogue.labels(&id(alloc, "m")?)),
-        "@none x;en Hello;fr Bonjour;",
-    )
-}
-
-#[test]
-fn an_unknown_message_has_no_labels(rt: HostRuntime) -> Result<(), Fail> {
-    let alloc = rt.alloc();
-    let catalogue = greetings(alloc)?;
-    gives(listed(alloc, catalogue.labels(&id(alloc, "z")?)), "")
+fn labels_of(alloc: Global, message: &str) -> Result<String, Fail> {
+    let id = id(alloc, message)?;
+    let held = catalogue(alloc, GREETINGS)?;
+    Ok(listed(alloc, held.labels(&id))?)
 }
 
 /// What a list takes of a message, copied.
 fn taken(
     alloc: Global,
     message: &str,
-    scheme: Scheme,
     list: &PriorityList,
+    scheme: Scheme,
 ) -> Result<Entries, Fail> {
-    let (held, id) = (greetings(alloc)?, id(alloc, message)?);
-    let lent = held.ask_filter(alloc, &id, list, scheme)?;
-    Ok(lent.copy(alloc)?)
+    let id = id(alloc, message)?;
+    let held = catalogue(alloc, GREETINGS)?;
+    Ok(held.ask_filter(alloc, &id, list, scheme)?.copy(alloc)?)
 }
 
 fn filtered(alloc: Global, message: &str, scheme: Scheme, field: &str) -> Result<String, Fail> {
-    let entries = taken(alloc, message, scheme, &list(alloc, scheme, field)?)?;
+    let entries = taken(alloc, message, &list(alloc, scheme, field)?, scheme)?;
     Ok(shown::entries(alloc, &entries)?)
 }
 
-#[test]
-fn a_filter_answers_by_weight(rt: HostRuntime) -> Result<(), Fail> {
-    gives(
-        filtered(rt.alloc(), "m", Scheme::Basic, "fr;q=0.5, en"),
+/// A case, a message, a scheme, a field, and what is taken.
+const FILTERS: &[(&str, &str, &str, &str, &str)] = &[
+    (
+        "a filter answers by weight",
+        "m",
+        "basic",
+        "fr;q=0.5, en",
         "filter; en Hello 1000; fr Bonjour 500",
-    )
-}
-
-#[test]
-fn a_filter_of_an_unknown_message_is_empty(rt: HostRuntime) -> Result<(), Fail> {
-    gives(
-        filtered(rt.alloc(), "z", Scheme::Basic, "fr;q=0.5, en"),
+    ),
+    (
+        "a filter of an unknown message is empty",
+        "z",
+        "basic",
+        "fr;q=0.5, en",
         "filter",
-    )
-}
-
-#[test]
-fn a_filter_by_extended_ranges(rt: HostRuntime) -> Result<(), Fail> {
-    gives(
-        filtered(rt.alloc(), "m", Scheme::Extended, "fr-*, en"),
+    ),
+    (
+        "a filter by extended ranges",
+        "m",
+        "extended",
+        "fr-*, en",
         "filter; fr Bonjour 1000; en Hello 1000",
-    )
-}
-
-/// The language and weight at a place of what a list takes of a message, as it is lent.
-fn lent_at(alloc: Global, list: &PriorityList, place: usize) -> Result<String, Fail> {
-    let (held, id) = (greetings(alloc)?, id(alloc, "m")?);
-    let lent = held.ask_filter(alloc, &id, list, Scheme::Basic)?;
-    entry_at(alloc, &lent, place)
-}
-
-fn entry_at(alloc: Global, lent: &LentEntries, place: usize) -> Result<String, Fail> {
-    match lent.nth(place) {
-        Some((lang, _, weight)) => {
-            Ok(format!(in alloc; "{} {weight} of {}", lang.as_str(), lent.len())?)
-        }
-        None => Ok("none".to_string(alloc)?),
-    }
-}
-
-#[test]
-fn lent_entries_are_counted_from_0(rt: HostRuntime) -> Result<(), Fail> {
-    let list = list(rt.alloc(), Scheme::Basic, "fr;q=0.5, en")?;
-    gives(lent_at(rt.alloc(), &list, 1), "fr 500 of 2")
-}
-
-/// What a list looks up in a message, copied.
-fn found(alloc: Global, held: &Catalogue, field: &str, tag: &str) -> Result<String, Fail> {
-    let list = list(alloc, Scheme::Basic, field)?;
-    let reply = reply_of(alloc, held, &list, tag)?;
-    Ok(shown::reply(alloc, &reply)?)
-}
-
-fn reply_of(
-    alloc: Global,
-    held: &Catalogue,
-    list: &PriorityList,
-    tag: &str,
-) -> Result<Reply, Fail> {
-    let (id, default) = (id(alloc, "m")?, default(alloc, tag)?);
-    Ok(held.ask_lookup(&id, list, default.as_ref()).copy(alloc)?)
-}
-
-fn looked_up(alloc: Global, field: &str, tag: &str) -> Result<String, Fail> {
-    let held = greetings(alloc)?;
-    found(alloc, &held, field, tag)
-}
-
-/// A case, a field, a default, and what is looked up.
-const LOOKUPS: &[(&str, &str, &str, &str)] = &[
-    (
-        "a lookup answers the default",
-        "de",
-        "fr",
-        "default fr Bonjour",
     ),
-    (
-        "a lookup finds a label",
-        "de, en;q=0.5",
-        "fr",
-        "matched en Hello",
-    ),
-    ("a lookup refuses all", "de, *;q=0", "fr", "nothing"),
-    ("a deleted default is nothing", "de", "de", "nothing"),
-    ("a lookup without default is nothing", "de", "-", "nothing"),
 ];
 
 #[test]
-fn lookups(rt: HostRuntime) -> Result<(), Fail> {
-    for (case, field, tag, wanted) in LOOKUPS {
-        gives_in(case, looked_up(rt.alloc(), field, tag), wanted)?;
+fn filters(rt: HostRuntime) -> Result<(), Fail> {
+    for (case, message, word, field, wanted) in FILTERS {
+        let found = filtered(rt.alloc(), message, scheme(word), field);
+        gives_in(case, found, wanted)?;
     }
     Ok(())
 }
 
-#[test]
-fn a_message_without_live_labels_answers_nothing(rt: HostRuntime) -> Result<(), Fail> {
-    let alloc = rt.alloc();
-    let held = catalogue(alloc, "m en 1 1 0 -")?;
-    gives(found(alloc, &held, "en", "en"), "nothing")
+/// The language and weight at a place of what a list takes of a message, as it is lent.
+fn lent_at(alloc: Global, field: &str, place: usize) -> Result<String, Fail> {
+    let held = catalogue(alloc, GREETINGS)?;
+    let list = list(alloc, Scheme::Basic, field)?;
+    let lent = held.ask_filter(alloc, &id(alloc, "m")?, &list, Scheme::Basic)?;
+    Ok(entry_at(alloc, &lent, place)?)
 }
 
-/// Checks what the messages answer by a list that is cut to the languages of the catalogue.
-fn answer_within(
+fn entry_at(alloc: Global, lent: &LentEntries, place: usize) -> Result<String, AllocError> {
+    match lent.nth(place) {
+        Some((lang, _, weight)) => {
+            format!(in alloc; "{} {weight} of {}", lang.as_str(), lent.len())
+        }
+        None => "none".to_string(alloc),
+    }
+}
+
+/// What a message answers.
+fn found(
+    alloc: Global,
+    held: &Catalogue,
+    id: &MessageId,
+    list: &PriorityList,
+    default: Option<&Lang>,
+) -> Result<String, AllocError> {
+    let reply = held.ask_lookup(id, list, default).copy(alloc)?;
+    shown::reply(alloc, &reply)
+}
+
+/// The same by a list that may be widened.
+fn found_by(
+    alloc: Global,
+    held: &Catalogue,
+    id: &MessageId,
+    list: &PriorityList,
+    widening: Widening,
+    default: Option<&Lang>,
+) -> Result<String, AllocError> {
+    let reply = held.ask_lookup_by(id, list, widening, default);
+    shown::reply(alloc, &reply.copy(alloc)?)
+}
+
+/// The same, asked of the message itself.
+fn found_in(
+    alloc: Global,
+    message: &Message,
+    list: &PriorityList,
+    widening: Widening,
+    default: Option<&Lang>,
+) -> Result<String, AllocError> {
+    let reply = message.lookup_by(list, widening, default);
+    shown::reply(alloc, &reply.copy(alloc)?)
+}
+
+/// The same by a list that is cut.
+fn found_within(
+    alloc: Global,
+    message: &Message,
+    shortlist: &Shortlist,
+    default: Option<&Lang>,
+) -> Result<String, AllocError> {
+    let reply = message.lookup_within(shortlist, default);
+    shown::reply(alloc, &reply.copy(alloc)?)
+}
+
+/// Checks what the messages answer, each by the list and by the list that is cut.
+fn messages_answer(
     alloc: Global,
     held: &Catalogue,
     list: &PriorityList,
     widening: Widening,
-    tag: &str,
+    shortlist: &Shortlist,
+    default: Option<&Lang>,
     answer: &str,
 ) -> Result<(), Fail> {
-    let default = default(alloc, tag)?;
+    for message in held.messages() {
+        let own = found_in(alloc, &message, list, widening, default)?;
+        gives(Ok(own), answer)?;
+        let own = found_within(alloc, &message, shortlist, default)?;
+        gives(Ok(own), answer)?;
+    }
+    Ok(())
+}
+
+/// Checks what they answer where the list is cut to these languages.
+fn answer_within<'a>(
+    alloc: Global,
+    held: &Catalogue,
+    list: &'a PriorityList,
+    widening: Widening,
+    langs: &'a [&'a Lang],
+    default: Option<&Lang>,
+    answer: &str,
+) -> Result<(), Fail> {
+    let shortlist = Shortlist::new(alloc, list, widening, langs)?;
+    messages_answer(alloc, held, list, widening, &shortlist, default, answer)
+}
+
+/// Checks what they answer where the list is cut to the languages of the catalogue.
+fn answer_cut(
+    alloc: Global,
+    held: &Catalogue,
+    list: &PriorityList,
+    widening: Widening,
+    default: Option<&Lang>,
+    answer: &str,
+) -> Result<(), Fail> {
     let langs = held.languages(alloc)?;
     let listed = list_languages(alloc, &langs)?;
-    let shortlist = Shortlist::new(alloc, list, widening, &listed)?;
-    for message in held.messages() {
-        let own = message.lookup_within(&shortlist, default.as_ref());
-        gives(Ok(shown::reply(alloc, &own.copy(alloc)?)?), answer)?;
-    }
-    Ok(())
+    answer_within(alloc, held, list, widening, &listed, default, answer)
 }
 
-#[test]
-fn lookups_by_a_list_that_is_cut(rt: HostRuntime) -> Result<(), Fail> {
-    let alloc = rt.alloc();
-    let held = greetings(alloc)?;
-    for (_case, field, tag, wanted) in LOOKUPS {
-        let list = list(alloc, Scheme::Basic, field)?;
-        answer_within(alloc, &held, &list, Widening::Off, tag, wanted)?;
-    }
-    Ok(())
-}
-
-#[test]
-fn languages_of_live_labels(rt: HostRuntime) -> Result<(), Fail> {
-    let alloc = rt.alloc();
-    let held = catalogue(
-        alloc,
-        "m en 1 1 0 a; m de 1 1 1 -; n @none 1 1 2 b; n en 1 1 3 c; o fr-ca 1 1 4 d",
-    )?;
-    let langs = held.languages(alloc)?;
-    let mut text = String::new(alloc);
-    for lang in list_languages(alloc, &langs)? {
-        let shown = format!(in alloc; "{} ", lang.as_str())?;
-        text.push_str(&shown)?;
-    }
-    gives(Ok(text), "@none en fr-ca ")
-}
-
-/// What a message answers to a list that is widened, which is what its catalogue answers.
-fn widened(alloc: Global, held: &Catalogue, field: &str, tag: &str) -> Result<String, Fail> {
-    let list = list(alloc, Scheme::Basic, field)?;
-    let (id, default) = (id(alloc, "m")?, default(alloc, tag)?);
-    let widening = Widening::By(Scheme::Basic);
-    let whole = held.ask_lookup_by(&id, &list, widening, default.as_ref());
-    let answer = shown::reply(alloc, &whole.copy(alloc)?)?;
-    for message in held.messages() {
-        let own = message.lookup_by(&list, widening, default.as_ref());
-        gives(Ok(shown::reply(alloc, &own.copy(alloc)?)?), answer.as_str())?;
-    }
-    answer_within(alloc, held, &list, widening, tag, answer.as_str())?;
+/// What the catalogue answers, which is what its message answers.
+fn looked_up(
+    alloc: Global,
+    held: &Catalogue,
+    list: &PriorityList,
+    widening: Widening,
+    default: Option<&Lang>,
+) -> Result<String, Fail> {
+    let answer = found_by(alloc, held, &id(alloc, "m")?, list, widening, default)?;
+    answer_cut(alloc, held, list, widening, default, answer.as_str())?;
     Ok(answer)
 }
 
-/// A catalogue's cells, a field, a default, and what is looked up.
-const WIDENED: &[(&str, &str, &str, &str)] = &[
+/// Cells, a field, a default, and what is looked up in "m".
+type Lookup = (&'static str, &'static str, &'static str, &'static str);
+
+const LOOKUPS: &[Lookup] = &[
+    (GREETINGS, "de", "fr", "default fr Bonjour"),
+    (GREETINGS, "de, en;q=0.5", "fr", "matched en Hello"),
+    (GREETINGS, "de, *;q=0", "fr", "nothing"),
+    // A deleted default is nothing.
+    (GREETINGS, "de", "de", "nothing"),
+    (GREETINGS, "de", "-", "nothing"),
+    ("m en 1 1 0 -", "en", "en", "nothing"),
+];
+
+const WIDENED: &[Lookup] = &[
     (
         "m en-us 1 1 0 a; m fr 1 1 1 b",
         "en",
@@ -255,11 +248,87 @@ const WIDENED: &[(&str, &str, &str, &str)] = &[
     ("m en-us 1 1 0 -", "en", "en-us", "nothing"),
 ];
 
-#[test]
-fn widened_lookups(rt: HostRuntime) -> Result<(), Fail> {
-    for (cells, field, tag, wanted) in WIDENED {
-        let held = catalogue(rt.alloc(), cells)?;
-        gives_in(cells, widened(rt.alloc(), &held, field, tag), wanted)?;
+/// What is looked up in the cells.
+fn answered(
+    alloc: Global,
+    cells: &str,
+    list: &PriorityList,
+    widening: Widening,
+    tag: &str,
+) -> Result<String, Fail> {
+    let default = default(alloc, tag)?;
+    let held = catalogue(alloc, cells)?;
+    looked_up(alloc, &held, list, widening, default.as_ref())
+}
+
+fn all_answer(alloc: Global, lookups: &[Lookup], widening: Widening) -> Result<(), Fail> {
+    for (cells, field, tag, wanted) in lookups {
+        let list = list(alloc, Scheme::Basic, field)?;
+        gives_in(field, answered(alloc, cells, &list, widening, tag), wanted)?;
     }
     Ok(())
+}
+
+#[test]
+fn lookups(rt: HostRuntime) -> Result<(), Fail> {
+    all_answer(rt.alloc(), LOOKUPS, Widening::Off)
+}
+
+#[test]
+fn widened_lookups(rt: HostRuntime) -> Result<(), Fail> {
+    all_answer(rt.alloc(), WIDENED, Widening::By(Scheme::Basic))
+}
+
+fn found_by_field(alloc: Global, held: &Catalogue, field: &str) -> Result<String, Fail> {
+    let list = list(alloc, Scheme::Basic, field)?;
+    Ok(found(alloc, held, &id(alloc, "m")?, &list, None)?)
+}
+
+fn plain_lookup(alloc: Global, field: &str) -> Result<String, Fail> {
+    found_by_field(alloc, &catalogue(alloc, GREETINGS)?, field)
+}
+
+/// The languages, each before a blank.
+fn tags(alloc: Global, langs: &[&Lang]) -> Result<String, AllocError> {
+    let mut text = String::new(alloc);
+    for lang in langs {
+        text.push_str(lang.as_str())?;
+        text.push_str(" ")?;
+    }
+    Ok(text)
+}
+
+fn languages_of(alloc: Global, edits: &str) -> Result<String, Fail> {
+    let held = catalogue(alloc, edits)?;
+    let langs = held.languages(alloc)?;
+    Ok(tags(alloc, &list_languages(alloc, &langs)?)?)
+}
+
+#[test]
+fn single_cases(rt: HostRuntime) -> Result<(), Fail> {
+    let alloc = rt.alloc();
+    gives_in(
+        "live labels are in order",
+        labels_of(alloc, "m"),
+        "@none x;en Hello;fr Bonjour;",
+    )?;
+    gives_in("an unknown message", labels_of(alloc, "z"), "")?;
+    gives_in(
+        "lent entries are counted from 0",
+        lent_at(alloc, "fr;q=0.5, en", 1),
+        "fr 500 of 2",
+    )?;
+    gives_in(
+        "a lookup by the call that never widens",
+        plain_lookup(alloc, "de, en;q=0.5"),
+        "matched en Hello",
+    )?;
+    gives_in(
+        "languages of live labels",
+        languages_of(
+            alloc,
+            "m en 1 1 0 a; m de 1 1 1 -; n @none 1 1 2 b; n en 1 1 3 c; o fr-ca 1 1 4 d",
+        ),
+        "@none en fr-ca ",
+    )
 }

@@ -13,28 +13,6 @@ fn applied(alloc: Global, edits: &str) -> Result<String, Fail> {
     Ok(shown::cells(alloc, &catalogue(alloc, edits)?)?)
 }
 
-/// A case, edits, and what then stands in the catalogue.
-const APPLIED: &[(&str, &str, &str)] = &[
-    (
-        "a later deletion stays",
-        "m en 9 1 0 -; m en 5 2 0 x",
-        "m en 9 0000000001 0 -",
-    ),
-    (
-        "keys rise by id then language",
-        "n en 1 1 0 a; m fr 1 1 0 b; m @none 1 1 0 c; m de 1 1 0 -; M en 1 1 0 d",
-        "M en 1 0000000001 0 d; m @none 1 0000000001 0 c; m de 1 0000000001 0 -; m fr 1 0000000001 0 b; n en 1 0000000001 0 a",
-    ),
-];
-
-#[test]
-fn edits_are_applied(rt: HostRuntime) -> Result<(), Fail> {
-    for (case, edits, wanted) in APPLIED {
-        gives_in(case, applied(rt.alloc(), edits), wanted)?;
-    }
-    Ok(())
-}
-
 /// How one more edit ends, and what then stands there.
 fn applying(alloc: Global, held: &str, coming: &str) -> Result<String, Fail> {
     let mut own = catalogue(alloc, held)?;
@@ -42,32 +20,8 @@ fn applying(alloc: Global, held: &str, coming: &str) -> Result<String, Fail> {
     shown_end(alloc, own.apply(alloc, &coming), &own)
 }
 
-/// A case, what is held, one more edit, and how that ends.
-const APPLYING: &[(&str, &str, &str, &str)] = &[
-    (
-        "an equal cell is no clash",
-        "m en 4 1 0 x",
-        "m en 4 1 0 x",
-        "done: m en 4 0000000001 0 x",
-    ),
-    (
-        "a deletion clashes with a label",
-        "a en 1 1 0 x; b en 4 1 0 x",
-        "b en 4 1 0 -",
-        "13 stamp 4 0000000001 0 used twice, cell 1: a en 1 0000000001 0 x; b en 4 0000000001 0 x",
-    ),
-];
-
-#[test]
-fn one_more_edit(rt: HostRuntime) -> Result<(), Fail> {
-    for (case, held, coming, wanted) in APPLYING {
-        gives_in(case, applying(rt.alloc(), held, coming), wanted)?;
-    }
-    Ok(())
-}
-
 /// How a merge ends, and what then stands in the first.
-fn merged(alloc: Global, own: &str, other: &str) -> Result<String, Fail> {
+fn merging(alloc: Global, own: &str, other: &str) -> Result<String, Fail> {
     let mut own = catalogue(alloc, own)?;
     let other = catalogue(alloc, other)?;
     shown_end(alloc, own.merge(alloc, &other), &own)
@@ -122,7 +76,8 @@ fn lengths_count_cells_and_messages(rt: HostRuntime) -> Result<(), Fail> {
 
 /// The cell of a message in a language.
 fn cell_at(alloc: Global, held: &Catalogue, message: &str, tag: &str) -> Result<String, Fail> {
-    let (id, lang) = (id(alloc, message)?, lang(alloc, tag)?);
+    let id = id(alloc, message)?;
+    let lang = lang(alloc, tag)?;
     shown_cell(alloc, held.cell(&id, &lang))
 }
 
@@ -151,114 +106,135 @@ const CELLS: &[(&str, &str, &str, &str, &str)] = &[
     ),
 ];
 
+fn cell_in(alloc: Global, held: &str, message: &str, tag: &str) -> Result<String, Fail> {
+    cell_at(alloc, &catalogue(alloc, held)?, message, tag)
+}
+
 #[test]
 fn cells_by_message_and_language(rt: HostRuntime) -> Result<(), Fail> {
     for (case, held, message, tag, wanted) in CELLS {
-        let held = catalogue(rt.alloc(), held)?;
-        gives_in(case, cell_at(rt.alloc(), &held, message, tag), wanted)?;
+        gives_in(case, cell_in(rt.alloc(), held, message, tag), wanted)?;
     }
     Ok(())
 }
 
-#[test]
-fn the_least_clash_is_told(rt: HostRuntime) -> Result<(), Fail> {
-    let other = "b en 4 1 0 y; b de 3 1 0 y; c en 1 1 0 y";
-    let merged = merged(
-        rt.alloc(),
-        "a en 1 1 0 x; b de 3 1 0 x; b en 4 1 0 x",
-        other,
-    );
-    gives(
-        merged,
-        "13 stamp 3 0000000001 0 used twice, cell 1: a en 1 0000000001 0 x; b de 3 0000000001 0 x; b en 4 0000000001 0 x",
-    )
-}
-
-/// A catalogue of one edit that is put behind all others.
-fn pushed(alloc: Global) -> Result<Catalogue, Fail> {
-    let (id, lang) = (id(alloc, "m")?, lang(alloc, "en")?);
+/// What a catalogue holds after a cell is put behind all others.
+fn pushed(alloc: Global) -> Result<String, Fail> {
     let cell = cell(alloc, &mut Words::new("5 1 0 a"))?;
+    let (id, lang) = (id(alloc, "m")?, lang(alloc, "en")?);
     let mut catalogue = Catalogue::new(alloc);
     catalogue.push(alloc, id, lang, cell)?;
-    Ok(catalogue)
+    Ok(shown::cells(alloc, &catalogue)?)
 }
 
 #[test]
 fn a_pushed_cell_is_held(rt: HostRuntime) -> Result<(), Fail> {
-    let alloc = rt.alloc();
-    let catalogue = pushed(alloc)?;
-    gives(
-        Ok(shown::cells(alloc, &catalogue)?),
-        "m en 5 0000000001 0 a",
-    )
-}
-
-#[test]
-fn merging_keeps_both(rt: HostRuntime) -> Result<(), Fail> {
-    gives(
-        merged(
-            rt.alloc(),
-            "m en 1 1 0 a; m fr 1 1 1 b",
-            "m en 2 1 0 -; z en 3 1 0 c",
-        ),
-        "done: m en 2 0000000001 0 -; m fr 1 0000000001 1 b; z en 3 0000000001 0 c",
-    )
-}
-
-/// The catalogue of these edits, or the empty one.
-fn holding(alloc: Global, edits: &str) -> Result<Catalogue, Fail> {
-    if edits.is_empty() {
-        return Ok(Catalogue::new(alloc));
-    }
-    catalogue(alloc, edits)
+    gives(pushed(rt.alloc()), "m en 5 0000000001 0 a")
 }
 
 /// What changed between two catalogues.
 fn changed(alloc: Global, before: &str, after: &str) -> Result<String, Fail> {
-    let before = holding(alloc, before)?;
-    let after = holding(alloc, after)?;
+    let (before, after) = (catalogue(alloc, before)?, catalogue(alloc, after)?);
     Ok(shown::changes(alloc, before.changes(&after))?)
 }
 
-/// A case, the cells before and after, and what changed.
-const CHANGED: &[(&str, &str, &str, &str)] = &[
+/// What is asked of one text, and another.
+fn asked(alloc: Global, kind: &str, one: &str, other: &str) -> Result<String, Fail> {
+    match kind {
+        "edits" => applied(alloc, one),
+        "edit" => applying(alloc, one, other),
+        "merge" => merging(alloc, one, other),
+        _ => changed(alloc, one, other),
+    }
+}
+
+/// A case, what is asked, of which texts, and what it gives: how it ends, and what then stands
+/// there, or what changed.
+const ROWS: &[(&str, &str, &str, &str, &str)] = &[
+    (
+        "a later deletion stays",
+        "edits",
+        "m en 9 1 0 -; m en 5 2 0 x",
+        "",
+        "m en 9 0000000001 0 -",
+    ),
+    (
+        "keys rise by id then language",
+        "edits",
+        "n en 1 1 0 a; m fr 1 1 0 b; m @none 1 1 0 c; m de 1 1 0 -; M en 1 1 0 d",
+        "",
+        "M en 1 0000000001 0 d; m @none 1 0000000001 0 c; m de 1 0000000001 0 -; m fr 1 0000000001 0 b; n en 1 0000000001 0 a",
+    ),
+    (
+        "an equal cell is no clash",
+        "edit",
+        "m en 4 1 0 x",
+        "m en 4 1 0 x",
+        "done: m en 4 0000000001 0 x",
+    ),
+    (
+        "a deletion clashes with a label",
+        "edit",
+        "a en 1 1 0 x; b en 4 1 0 x",
+        "b en 4 1 0 -",
+        "13 stamp 4 0000000001 0 used twice, cell 1: a en 1 0000000001 0 x; b en 4 0000000001 0 x",
+    ),
+    (
+        "the least clash is told",
+        "merge",
+        "a en 1 1 0 x; b de 3 1 0 x; b en 4 1 0 x",
+        "b en 4 1 0 y; b de 3 1 0 y; c en 1 1 0 y",
+        "13 stamp 3 0000000001 0 used twice, cell 1: a en 1 0000000001 0 x; b de 3 0000000001 0 x; b en 4 0000000001 0 x",
+    ),
+    (
+        "both are kept",
+        "merge",
+        "m en 1 1 0 a; m fr 1 1 1 b",
+        "m en 2 1 0 -; z en 3 1 0 c",
+        "done: m en 2 0000000001 0 -; m fr 1 0000000001 1 b; z en 3 0000000001 0 c",
+    ),
     (
         "an equal cell is left out",
+        "changes",
         "m en 5 paris 0 Hello; m fr 5 paris 1 Salut",
         "m en 5 paris 0 Hello; m fr 9 tokyo 0 -; n de 7 tokyo 0 a",
         "m fr: 5 paris 1 Salut, 9 tokyo 0 -; n de: none, 7 tokyo 0 a",
     ),
     (
         "nothing changed",
+        "changes",
         "m en 5 paris 0 x",
         "m en 5 paris 0 x",
         "",
     ),
     (
         "one stamp with two labels is a change",
+        "changes",
         "m en 5 paris 0 x",
         "m en 5 paris 0 y",
         "m en: 5 paris 0 x, 5 paris 0 y",
     ),
     (
         "what was there alone is left out of neither end",
+        "changes",
         "a en 1 paris 0 x; m de 2 paris 0 y; z fr 3 paris 0 -",
         "m de 2 paris 0 y",
         "a en: 1 paris 0 x, none; z fr: 3 paris 0 -, none",
     ),
     (
         "from nothing",
+        "changes",
         "",
         "m de 2 paris 0 y; m en 3 paris 0 z",
         "m de: none, 2 paris 0 y; m en: none, 3 paris 0 z",
     ),
-    ("of two empty ones", "", "", ""),
+    ("of two empty ones", "changes", "", "", ""),
 ];
 
 #[test]
-fn changes(rt: HostRuntime) -> Result<(), Fail> {
-    for (case, before, after, wanted) in CHANGED {
-        gives_in(case, changed(rt.alloc(), before, after), wanted)?;
+fn rows(rt: HostRuntime) -> Result<(), Fail> {
+    for (case, kind, one, other, wanted) in ROWS {
+        gives_in(case, asked(rt.alloc(), kind, one, other), wanted)?;
     }
     Ok(())
 }

@@ -59,9 +59,12 @@ pub fn edit(alloc: Global, text: &str) -> Result<Edit, Fail> {
     edit_of(alloc, &mut Words::new(text))
 }
 
-/// Applies edits, between semicolons.
+/// Applies edits, between semicolons. The empty text has none.
 pub fn catalogue(alloc: Global, text: &str) -> Result<Catalogue, Fail> {
     let mut catalogue = Catalogue::new(alloc);
+    if text.is_empty() {
+        return Ok(catalogue);
+    }
     for edit_text in text.split("; ") {
         apply(alloc, &mut catalogue, edit_text)?;
     }

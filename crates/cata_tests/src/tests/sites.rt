@@ -2,158 +2,135 @@
 
 use super::makers::{empty_site, id, lang, put, site};
 use super::shown;
-use super::words::{gives, gives_in};
-use cata_core::{CataFault, Delta, Site, sync};
+use super::words::{Words, gives_in};
+use cata_core::{CataFault, Delta, Site};
 use cell_core::Stamp;
-use std::alloc::Global;
+use std::alloc::{AllocError, Global};
 use std::test::Fail;
 
 /// How a put of a text ends, and what the site then holds.
 fn putting(alloc: Global, site: &mut Site, now: u64, text: &str) -> Result<String, Fail> {
     let ended = put(alloc, site, now, text)?;
-    told(alloc, site, &ended)
+    Ok(told(alloc, site, &ended)?)
 }
 
 /// How a deletion of `m` in English ends, and what the site then holds.
 fn deleting(alloc: Global, site: &mut Site, now: u64) -> Result<String, Fail> {
     let (id, lang) = (id(alloc, "m")?, lang(alloc, "en")?);
     let ended = site.delete(alloc, now, &id, &lang);
-    told(alloc, site, &ended)
+    Ok(told(alloc, site, &ended)?)
 }
 
 /// The last stamp, and what the site holds.
-fn held(alloc: Global, site: &Site) -> Result<String, Fail> {
+fn held(alloc: Global, site: &Site) -> Result<String, AllocError> {
     let last = shown::last(alloc, site.last())?;
     let cells = shown::cells(alloc, site.catalogue())?;
-    Ok(format!(in alloc; "last {last}: {cells}")?)
+    format!(in alloc; "last {last}: {cells}")
 }
 
 /// How it ended, the last stamp, and what the site holds.
-fn told(alloc: Global, site: &Site, ended: &Result<Stamp, CataFault>) -> Result<String, Fail> {
+fn told(
+    alloc: Global,
+    site: &Site,
+    ended: &Result<Stamp, CataFault>,
+) -> Result<String, AllocError> {
     let outcome = shown::stamped(alloc, ended)?;
     let held = held(alloc, site)?;
-    Ok(format!(in alloc; "{outcome}, {held}")?)
+    format!(in alloc; "{outcome}, {held}")
 }
 
-fn last(alloc: Global, site: &Site) -> Result<String, Fail> {
-    let last = shown::last(alloc, site.last())?;
-    Ok(format!(in alloc; "{}: {last}", site.name().as_str())?)
+/// A put, with its time and text, or a deletion, with its time.
+fn stamping(alloc: Global, site: &mut Site, mut words: Words) -> Result<String, Fail> {
+    match words.word() {
+        "put" => putting(alloc, site, words.number()?, words.word()),
+        _ => deleting(alloc, site, words.number()?),
+    }
 }
 
-#[test]
-fn an_empty_site_has_no_last_stamp(rt: HostRuntime) -> Result<(), Fail> {
-    let site = empty_site(rt.alloc(), "1")?;
-    gives(last(rt.alloc(), &site), "0000000001: none")
+fn stamped(alloc: Global, name: &str, edits: &str, act: &str) -> Result<String, Fail> {
+    stamping(alloc, &mut site(alloc, name, edits)?, Words::new(act))
 }
 
-#[test]
-fn a_put_is_stamped_by_the_clock(rt: HostRuntime) -> Result<(), Fail> {
-    let alloc = rt.alloc();
-    let mut site = empty_site(alloc, "1")?;
-    gives(
-        putting(alloc, &mut site, 5, "a"),
+/// A case, a site's name, what it holds, what is done, and how that ends.
+const STAMPED: &[(&str, &str, &str, &str, &str)] = &[
+    (
+        "a put is stamped by the clock",
+        "1",
+        "",
+        "put 5 a",
         "5 0000000001 0, last 5 0000000001 0: m en 5 0000000001 0 a",
-    )
-}
-
-#[test]
-fn a_deletion_is_stamped_above_the_put(rt: HostRuntime) -> Result<(), Fail> {
-    let alloc = rt.alloc();
-    let mut site = site(alloc, "1", "m en 5 1 0 a")?;
-    gives(
-        deleting(alloc, &mut site, 3),
+    ),
+    (
+        "a deletion is stamped above the put",
+        "1",
+        "m en 5 1 0 a",
+        "delete 3",
         "5 0000000001 1, last 5 0000000001 1: m en 5 0000000001 1 -",
-    )
-}
+    ),
+    (
+        "a spent clock refuses a put",
+        "6",
+        "m en 18446744073709551615 7 0 x",
+        "put 3 y",
+        "14 clock is spent, last 18446744073709551615 0000000007 0: m en 18446744073709551615 0000000007 0 x",
+    ),
+    (
+        "a spent clock refuses a deletion",
+        "6",
+        "m en 18446744073709551615 7 0 x",
+        "delete 3",
+        "14 clock is spent, last 18446744073709551615 0000000007 0: m en 18446744073709551615 0000000007 0 x",
+    ),
+];
 
 #[test]
-fn a_spent_clock_refuses_a_put(rt: HostRuntime) -> Result<(), Fail> {
-    let alloc = rt.alloc();
-    let mut site = site(alloc, "6", "m en 18446744073709551615 7 0 x")?;
-    gives(
-        putting(alloc, &mut site, 3, "y"),
-        "14 clock is spent, last 18446744073709551615 0000000007 0: m en 18446744073709551615 0000000007 0 x",
-    )
+fn stamps(rt: HostRuntime) -> Result<(), Fail> {
+    for (case, name, edits, act, wanted) in STAMPED {
+        gives_in(case, stamped(rt.alloc(), name, edits, act), wanted)?;
+    }
+    Ok(())
 }
 
-#[test]
-fn a_spent_clock_refuses_a_deletion(rt: HostRuntime) -> Result<(), Fail> {
-    let alloc = rt.alloc();
-    let mut site = site(alloc, "6", "m en 18446744073709551615 7 0 x")?;
-    gives(
-        deleting(alloc, &mut site, 3),
-        "14 clock is spent, last 18446744073709551615 0000000007 0: m en 18446744073709551615 0000000007 0 x",
-    )
+fn last(alloc: Global, site: &Site) -> Result<String, AllocError> {
+    let last = shown::last(alloc, site.last())?;
+    format!(in alloc; "{}: {last}", site.name().as_str())
+}
+
+fn last_of_empty(alloc: Global, name: &str) -> Result<String, Fail> {
+    Ok(last(alloc, &empty_site(alloc, name)?)?)
 }
 
 /// The delta of a site for another.
-fn delta(alloc: Global, sender: &Site, taker: &Site) -> Result<Delta, Fail> {
+fn delta(alloc: Global, sender: &Site, taker: &Site) -> Result<Delta, AllocError> {
     let summary = taker.summary(alloc)?;
-    Ok(sender.delta_for(alloc, &summary)?)
-}
-
-/// How a take ends, and what the site then holds.
-fn taken(alloc: Global, taker: &mut Site, delta: &Delta) -> Result<String, Fail> {
-    let result = taker.take(alloc, delta);
-    let outcome = shown::outcome(alloc, &result)?;
-    let cells = shown::cells(alloc, taker.catalogue())?;
-    Ok(format!(in alloc; "{outcome}: {cells}")?)
-}
-
-fn shown_delta(alloc: Global, delta: &Delta) -> Result<String, Fail> {
-    let cells = shown::cells(alloc, delta.cells())?;
-    Ok(format!(in alloc; "for {}: {cells}", delta.addressee().as_str())?)
+    sender.delta_for(alloc, &summary)
 }
 
 /// The delta of a site of these edits, for a site of this name that holds nothing.
 fn delta_for(alloc: Global, edits: &str, addressee: &str) -> Result<Delta, Fail> {
     let sender = site(alloc, "1", edits)?;
-    let taker = empty_site(alloc, addressee)?;
-    delta(alloc, &sender, &taker)
+    Ok(delta(alloc, &sender, &empty_site(alloc, addressee)?)?)
 }
 
-#[test]
-fn a_delta_has_the_cells_that_are_lacked(rt: HostRuntime) -> Result<(), Fail> {
-    let delta = delta_for(rt.alloc(), "m en 5 1 0 a", "2")?;
-    gives(
-        shown_delta(rt.alloc(), &delta),
-        "for 0000000002: m en 5 0000000001 0 a",
-    )
+fn shown_delta(alloc: Global, delta: &Delta) -> Result<String, AllocError> {
+    let cells = shown::cells(alloc, delta.cells())?;
+    format!(in alloc; "for {}: {cells}", delta.addressee().as_str())
 }
 
-/// A site, once a later deletion came to it.
-fn later(alloc: Global) -> Result<Site, Fail> {
-    let mut second = empty_site(alloc, "2")?;
-    let mut third = site(alloc, "3", "m en 7 3 0 -")?;
-    sync(alloc, &mut second, &mut third)?;
-    Ok(second)
+fn shown_delta_for(alloc: Global, edits: &str, addressee: &str) -> Result<String, Fail> {
+    Ok(shown_delta(alloc, &delta_for(alloc, edits, addressee)?)?)
 }
 
-#[test]
-fn a_late_delta_does_no_harm(rt: HostRuntime) -> Result<(), Fail> {
-    let delta = delta_for(rt.alloc(), "m en 5 1 0 a", "2")?;
-    let mut site = later(rt.alloc())?;
-    for _ in 0..2 {
-        gives(
-            taken(rt.alloc(), &mut site, &delta),
-            "done: m en 7 0000000003 0 -",
-        )?;
-    }
-    Ok(())
+/// How a take ends, and what the site then holds.
+fn taken(alloc: Global, taker: &mut Site, delta: &Delta) -> Result<String, AllocError> {
+    let result = taker.take(alloc, delta);
+    let outcome = shown::outcome(alloc, &result)?;
+    let cells = shown::cells(alloc, taker.catalogue())?;
+    format!(in alloc; "{outcome}: {cells}")
 }
 
-/// How a site takes the delta of these edits for a site of this name, and what it then holds.
-fn delivered(
-    alloc: Global,
-    edits: &str,
-    addressee: &str,
-    taker: &mut Site,
-) -> Result<String, Fail> {
-    let delta = delta_for(alloc, edits, addressee)?;
-    taken(alloc, taker, &delta)
-}
-
-struct Refused {
+/// A site takes the delta of these edits for a site of this name that holds nothing.
+struct Delivery {
     case: &'static str,
     edits: &'static str,
     addressee: &'static str,
@@ -162,8 +139,16 @@ struct Refused {
     gives: &'static str,
 }
 
-const REFUSED: &[Refused] = &[
-    Refused {
+const DELIVERIES: &[Delivery] = &[
+    Delivery {
+        case: "a late delta does no harm",
+        edits: "m en 5 1 0 a",
+        addressee: "2",
+        taker: "2",
+        held: "m en 7 3 0 -",
+        gives: "done: m en 7 0000000003 0 -",
+    },
+    Delivery {
         case: "a delta for another site",
         edits: "m en 5 1 0 a",
         addressee: "2",
@@ -171,7 +156,7 @@ const REFUSED: &[Refused] = &[
         held: "m en 7 3 0 -",
         gives: "15 delta is for site 0000000002: m en 7 0000000003 0 -",
     },
-    Refused {
+    Delivery {
         case: "the addressee is looked at before a clash",
         edits: "m en 5 berlin 0 a",
         addressee: "paris-2",
@@ -179,7 +164,7 @@ const REFUSED: &[Refused] = &[
         held: "m en 5 berlin 0 b",
         gives: "15 delta is for site paris-2: m en 5 berlin 0 b",
     },
-    Refused {
+    Delivery {
         case: "a clash is told at its place in the site",
         edits: "m en 5 berlin 0 a",
         addressee: "paris-2",
@@ -189,23 +174,44 @@ const REFUSED: &[Refused] = &[
     },
 ];
 
+/// How the taker takes it, and what it then holds.
+fn delivered(alloc: Global, row: &Delivery) -> Result<String, Fail> {
+    let delta = delta_for(alloc, row.edits, row.addressee)?;
+    let mut taker = site(alloc, row.taker, row.held)?;
+    Ok(taken(alloc, &mut taker, &delta)?)
+}
+
 #[test]
-fn refused_deltas(rt: HostRuntime) -> Result<(), Fail> {
-    for row in REFUSED {
-        let mut taker = site(rt.alloc(), row.taker, row.held)?;
-        let ended = delivered(rt.alloc(), row.edits, row.addressee, &mut taker);
-        gives_in(row.case, ended, row.gives)?;
+fn deliveries(rt: HostRuntime) -> Result<(), Fail> {
+    for row in DELIVERIES {
+        gives_in(row.case, delivered(rt.alloc(), row), row.gives)?;
     }
     Ok(())
 }
 
-#[test]
-fn a_site_takes_a_delta_for_itself(rt: HostRuntime) -> Result<(), Fail> {
-    let alloc = rt.alloc();
-    let mut site = site(alloc, "paris-2", "m en 5 1 0 a")?;
+/// How a site takes its own delta, and what it then holds.
+fn taken_by_itself(alloc: Global, name: &str, edits: &str) -> Result<String, Fail> {
+    let mut site = site(alloc, name, edits)?;
     let delta = delta(alloc, &site, &site)?;
-    gives(
-        taken(alloc, &mut site, &delta),
+    Ok(taken(alloc, &mut site, &delta)?)
+}
+
+#[test]
+fn single_cases(rt: HostRuntime) -> Result<(), Fail> {
+    let (alloc, edits) = (rt.alloc(), "m en 5 1 0 a");
+    gives_in(
+        "an empty site",
+        last_of_empty(alloc, "1"),
+        "0000000001: none",
+    )?;
+    gives_in(
+        "a delta has the cells that are lacked",
+        shown_delta_for(alloc, edits, "2"),
+        "for 0000000002: m en 5 0000000001 0 a",
+    )?;
+    gives_in(
+        "a site takes a delta for itself",
+        taken_by_itself(alloc, "paris-2", edits),
         "done: m en 5 0000000001 0 a",
     )
 }

@@ -2,112 +2,101 @@
 
 use super::makers::{empty_site, put, site};
 use super::shown;
-use super::words::gives;
-use cata_core::{Catalogue, Site, sync};
-use std::alloc::Global;
+use super::words::gives_in;
+use cata_core::{Site, sync};
+use std::alloc::{AllocError, Global};
 use std::test::Fail;
 
 /// What stands at the two.
-fn both(alloc: Global, first: &Site, second: &Site) -> Result<String, Fail> {
+fn both(alloc: Global, first: &Site, second: &Site) -> Result<String, AllocError> {
     let own = shown::cells(alloc, first.catalogue())?;
     let other = shown::cells(alloc, second.catalogue())?;
-    Ok(format!(in alloc; "{own} | {other}")?)
+    format!(in alloc; "{own} | {other}")
 }
 
 /// How a sync ends, and what then stands at the two.
-fn synced(alloc: Global, first: &mut Site, second: &mut Site) -> Result<String, Fail> {
+fn synced(alloc: Global, first: &mut Site, second: &mut Site) -> Result<String, AllocError> {
     let outcome = shown::outcome(alloc, &sync(alloc, first, second))?;
     let both = both(alloc, first, second)?;
-    Ok(format!(in alloc; "{outcome}: {both}")?)
+    format!(in alloc; "{outcome}: {both}")
 }
 
-/// What stands at a site, and its last stamp.
-fn held(alloc: Global, site: &Site) -> Result<String, Fail> {
-    let cells = shown::cells(alloc, site.catalogue())?;
-    let last = shown::last(alloc, site.last())?;
-    Ok(format!(in alloc; "{cells}, last {last}")?)
+/// Two sites, each its name and what it holds, and how their sync ends.
+struct Pair {
+    case: &'static str,
+    first: (&'static str, &'static str),
+    second: (&'static str, &'static str),
+    gives: &'static str,
+}
+
+const PAIRS: &[Pair] = &[
+    Pair {
+        case: "a clash leaves both",
+        first: ("1", "m en 5 1 0 one"),
+        second: ("2", "m en 5 1 0 two"),
+        gives: "13 stamp 5 0000000001 0 used twice, cell 0: m en 5 0000000001 0 one | m en 5 0000000001 0 two",
+    },
+    Pair {
+        case: "a deletion beats an older put",
+        first: ("1", "m en 5 1 0 a"),
+        second: ("2", "m en 7 3 0 -"),
+        gives: "done: m en 7 0000000003 0 - | m en 7 0000000003 0 -",
+    },
+    Pair {
+        case: "the place is that in the first",
+        first: ("a", "k en 1 1 0 x; m en 5 1 0 one"),
+        second: ("b", "m en 5 1 0 two"),
+        gives: "13 stamp 5 0000000001 0 used twice, cell 1: k en 1 0000000001 0 x; m en 5 0000000001 0 one | m en 5 0000000001 0 two",
+    },
+    Pair {
+        case: "sites of one name",
+        first: ("a", "m en 1 a 0 x"),
+        second: ("a", "m fr 1 a 0 y"),
+        gives: "done: m en 1 a 0 x; m fr 1 a 0 y | m en 1 a 0 x; m fr 1 a 0 y",
+    },
+];
+
+fn synced_pair(alloc: Global, pair: &Pair) -> Result<String, Fail> {
+    let mut first = site(alloc, pair.first.0, pair.first.1)?;
+    let mut second = site(alloc, pair.second.0, pair.second.1)?;
+    Ok(synced(alloc, &mut first, &mut second)?)
 }
 
 #[test]
-fn a_clash_leaves_both(rt: HostRuntime) -> Result<(), Fail> {
-    let alloc = rt.alloc();
-    let mut first = site(alloc, "1", "m en 5 1 0 one")?;
-    let mut second = site(alloc, "2", "m en 5 1 0 two")?;
-    gives(
-        synced(alloc, &mut first, &mut second),
-        "13 stamp 5 0000000001 0 used twice, cell 0: m en 5 0000000001 0 one | m en 5 0000000001 0 two",
-    )
+fn pairs(rt: HostRuntime) -> Result<(), Fail> {
+    for pair in PAIRS {
+        gives_in(pair.case, synced_pair(rt.alloc(), pair), pair.gives)?;
+    }
+    Ok(())
 }
 
-/// Sites that clashed, after a later put at the first.
-fn resolved(alloc: Global) -> Result<(Site, Site), Fail> {
+/// How sites sync that clashed, after a later put at the first.
+fn resolved(alloc: Global) -> Result<String, Fail> {
     let mut first = site(alloc, "1", "m en 5 1 0 one")?;
     let mut second = site(alloc, "2", "m en 5 1 0 two")?;
     let _ = sync(alloc, &mut first, &mut second);
-    put(alloc, &mut first, 6, "three")??;
-    Ok((first, second))
+    let _ = put(alloc, &mut first, 6, "three")?;
+    Ok(synced(alloc, &mut first, &mut second)?)
 }
 
-/// The catalogue of both sites.
-fn merged(alloc: Global, first: &Site, second: &Site) -> Result<String, Fail> {
-    let mut both = Catalogue::new(alloc);
-    both.merge(alloc, first.catalogue())?;
-    both.merge(alloc, second.catalogue())?;
-    Ok(shown::cells(alloc, &both)?)
-}
-
-#[test]
-fn a_later_put_resolves_a_clash(rt: HostRuntime) -> Result<(), Fail> {
-    let alloc = rt.alloc();
-    let (mut first, mut second) = resolved(alloc)?;
-    gives(merged(alloc, &first, &second), "m en 6 0000000001 0 three")?;
-    gives(
-        synced(alloc, &mut first, &mut second),
-        "done: m en 6 0000000001 0 three | m en 6 0000000001 0 three",
-    )
-}
-
-#[test]
-fn a_site_with_a_spent_clock_syncs(rt: HostRuntime) -> Result<(), Fail> {
-    let alloc = rt.alloc();
+/// The last stamp of an empty site after a sync with one whose clock is spent.
+fn last_after(alloc: Global, edits: &str) -> Result<String, Fail> {
+    let mut second = site(alloc, "6", edits)?;
     let mut first = empty_site(alloc, "1")?;
-    let mut second = site(alloc, "6", "m en 18446744073709551615 7 0 x")?;
-    synced(alloc, &mut first, &mut second)?;
-    gives(
-        held(alloc, &first),
-        "m en 18446744073709551615 0000000007 0 x, last 18446744073709551615 0000000007 0",
-    )
+    sync(alloc, &mut first, &mut second)?;
+    Ok(shown::last(alloc, first.last())?)
 }
 
 #[test]
-fn a_deletion_beats_an_older_put(rt: HostRuntime) -> Result<(), Fail> {
-    let alloc = rt.alloc();
-    let mut first = site(alloc, "1", "m en 5 1 0 a")?;
-    let mut second = site(alloc, "2", "m en 7 3 0 -")?;
-    gives(
-        synced(alloc, &mut first, &mut second),
-        "done: m en 7 0000000003 0 - | m en 7 0000000003 0 -",
-    )
-}
-
-#[test]
-fn the_place_is_that_in_the_first(rt: HostRuntime) -> Result<(), Fail> {
-    let alloc = rt.alloc();
-    let mut first = site(alloc, "a", "k en 1 1 0 x; m en 5 1 0 one")?;
-    let mut second = site(alloc, "b", "m en 5 1 0 two")?;
-    gives(
-        synced(alloc, &mut first, &mut second),
-        "13 stamp 5 0000000001 0 used twice, cell 1: k en 1 0000000001 0 x; m en 5 0000000001 0 one | m en 5 0000000001 0 two",
-    )
-}
-
-#[test]
-fn sites_of_one_name_sync(rt: HostRuntime) -> Result<(), Fail> {
-    let alloc = rt.alloc();
-    let mut first = site(alloc, "a", "m en 1 a 0 x")?;
-    let mut second = site(alloc, "a", "m fr 1 a 0 y")?;
-    gives(
-        synced(alloc, &mut first, &mut second),
-        "done: m en 1 a 0 x; m fr 1 a 0 y | m en 1 a 0 x; m fr 1 a 0 y",
+fn single_cases(rt: HostRuntime) -> Result<(), Fail> {
+    gives_in(
+        "a later put resolves a clash",
+        resolved(rt.alloc()),
+        "done: m en 6 0000000001 0 three | m en 6 0000000001 0 three",
+    )?;
+    gives_in(
+        "a site with a spent clock syncs",
+        last_after(rt.alloc(), "m en 18446744073709551615 7 0 x"),
+        "18446744073709551615 0000000007 0",
     )
 }
