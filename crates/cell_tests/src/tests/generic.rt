@@ -29,44 +29,49 @@ fn join_with_later(rt: &impl Abort, alloc: Global, message: &str, tag: &str) -> 
 }
 
 /// The time of the cell of a message in a language.
-fn time_of(map: &Catalogue, message: &MessageId, tag: &Lang) -> Option<u64> {
-    let cells = map.get(message)?;
-    cells.get(tag).map(|cell| cell.stamp().time)
+fn time_of(map: &Catalogue, message: &MessageId, tag: &str) -> Option<u64> {
+    let (_, cell) = map.get(message)?.get_by(tag)?;
+    Some(cell.stamp().time)
 }
 
-fn assert_time(rt: &impl Abort, alloc: Global, map: &Catalogue, name: &str, tag: &str, time: u64) {
-    let found = time_of(map, &id(rt, alloc, name), &lang(rt, alloc, tag));
-    assert_eq!(rt; found, Some(time));
+/// The times of the cells of a message in English and in French.
+fn times(map: &Catalogue, message: &MessageId) -> (Option<u64>, Option<u64>) {
+    (time_of(map, message, "en"), time_of(map, message, "fr"))
+}
+
+fn has_times(
+    rt: &impl Abort,
+    alloc: Global,
+    map: &Catalogue,
+    message: &str,
+    wanted: (Option<u64>, Option<u64>),
+) -> bool {
+    times(map, &id(rt, alloc, message)) == wanted
 }
 
 #[test]
 fn joins_languages_of_a_message(rt: HostRuntime) {
-    let alloc = rt.alloc();
-    let map = join_with_later(&rt, alloc, "m", "fr");
-    assert_eq!(rt; map.len(), 1);
-    assert_time(&rt, alloc, &map, "m", "en", 5);
-    assert_time(&rt, alloc, &map, "m", "fr", 6);
+    let map = join_with_later(&rt, rt.alloc(), "m", "fr");
+    assert!(rt; has_times(&rt, rt.alloc(), &map, "m", (Some(5), Some(6))));
 }
 
 #[test]
 fn joins_cells_two_deep(rt: HostRuntime) {
-    let alloc = rt.alloc();
-    let map = join_with_later(&rt, alloc, "m", "en");
-    assert_time(&rt, alloc, &map, "m", "en", 6);
+    let map = join_with_later(&rt, rt.alloc(), "m", "en");
+    assert!(rt; has_times(&rt, rt.alloc(), &map, "m", (Some(6), None)));
 }
 
 #[test]
 fn joins_messages(rt: HostRuntime) {
-    let alloc = rt.alloc();
-    let map = join_with_later(&rt, alloc, "n", "en");
-    assert_time(&rt, alloc, &map, "m", "en", 5);
-    assert_time(&rt, alloc, &map, "n", "en", 6);
+    let map = join_with_later(&rt, rt.alloc(), "n", "fr");
+    assert!(rt; has_times(&rt, rt.alloc(), &map, "m", (Some(5), None)));
+    assert!(rt; has_times(&rt, rt.alloc(), &map, "n", (None, Some(6))));
 }
 
 /// Whether the catalogue of the early cell agrees with that of another at the same place.
 fn early_agrees(rt: &impl Abort, alloc: Global, other: Cell) -> bool {
-    let map = one(rt, alloc, "m", "en", early(rt, alloc));
-    map.agrees(&one(rt, alloc, "m", "en", other))
+    let other = one(rt, alloc, "m", "en", other);
+    one(rt, alloc, "m", "en", early(rt, alloc)).agrees(&other)
 }
 
 #[test]
@@ -76,25 +81,28 @@ fn clashes_two_deep(rt: HostRuntime) {
     assert!(rt; early_agrees(&rt, rt.alloc(), later(&rt)));
 }
 
+/// A copy of the catalogue of the later cell.
+fn copied(rt: &impl Abort, alloc: Global) -> Catalogue {
+    copy(rt, alloc, &one(rt, alloc, "m", "en", later(rt)))
+}
+
 #[test]
 fn copies_two_deep(rt: HostRuntime) {
-    let map = one(&rt, rt.alloc(), "m", "en", later(&rt));
-    assert_time(&rt, rt.alloc(), &copy(&rt, rt.alloc(), &map), "m", "en", 6);
+    let map = copied(&rt, rt.alloc());
+    assert!(rt; has_times(&rt, rt.alloc(), &map, "m", (Some(6), None)));
 }
 
 fn stamped(rt: &impl Abort, alloc: Global, time: u64) -> Keyed<MessageId, Stamp> {
     only(rt, alloc, id(rt, alloc, "m"), stamp(rt, time, "a", 0))
 }
 
-/// The stamp of the message "m".
-fn stamp_of(rt: &impl Abort, alloc: Global, map: &Keyed<MessageId, Stamp>) -> Option<Stamp> {
-    map.get(&id(rt, alloc, "m")).copied()
+fn first_stamp(map: &Keyed<MessageId, Stamp>) -> Option<Stamp> {
+    map.nth(0).map(|entry| *entry.1)
 }
 
 #[test]
 fn joins_stamps_by_message(rt: HostRuntime) {
-    let alloc = rt.alloc();
-    let map = joined(&rt, alloc, stamped(&rt, alloc, 6), &stamped(&rt, alloc, 5));
-    let found = stamp_of(&rt, alloc, &map);
-    assert_eq!(rt; found, Some(stamp(&rt, 6, "a", 0)));
+    let early = stamped(&rt, rt.alloc(), 5);
+    let map = joined(&rt, rt.alloc(), stamped(&rt, rt.alloc(), 6), &early);
+    assert!(rt; first_stamp(&map) == Some(stamp(&rt, 6, "a", 0)));
 }

@@ -5,82 +5,52 @@ use cell_core::{Cell, Join, Stamp, agree_all};
 use std::alloc::Global;
 use std::process::Abort;
 
-/// The first of three cells.
-fn early(rt: &impl Abort, alloc: Global) -> Cell {
-    labelled(rt, alloc, stamp(rt, 5, "0000000001", 0), "a")
+/// The cell of a name. Of "early", "middle" and "latest" each is later than the one before, and
+/// "clash" has the stamp of "early".
+fn named(rt: &impl Abort, alloc: Global, name: &str) -> Cell {
+    match name {
+        "early" => labelled(rt, alloc, stamp(rt, 5, "0000000001", 0), "a"),
+        "middle" => labelled(rt, alloc, stamp(rt, 6, "0000000002", 0), "b"),
+        "clash" => labelled(rt, alloc, stamp(rt, 5, "0000000001", 0), "b"),
+        _ => latest(rt),
+    }
 }
 
-/// The latest of three cells, a deletion.
 fn latest(rt: &impl Abort) -> Cell {
     deleted(stamp(rt, 7, "0000000001", 0))
 }
 
-/// The second of three cells, at another site.
-fn middle(rt: &impl Abort, alloc: Global) -> Cell {
-    labelled(rt, alloc, stamp(rt, 6, "0000000002", 0), "b")
+/// The cells of these names, between blanks.
+fn cells(rt: &impl Abort, alloc: Global, names: &str) -> Vec<Cell> {
+    let mut cells = Vec::new(alloc);
+    for name in names.split_whitespace() {
+        cells.push(named(rt, alloc, name)).expect(rt, "memory");
+    }
+    cells
 }
 
-fn assert_latest(rt: &impl Abort, alloc: Global, first: Cell, second: Cell, third: Cell) {
-    let join = join_of(rt, alloc, &[first, second, third]);
-    assert!(rt; join == Some(latest(rt)));
+fn join_of_names(rt: &impl Abort, alloc: Global, names: &str) -> Option<Cell> {
+    join_of(rt, alloc, &cells(rt, alloc, names))
 }
 
-#[test]
-fn joins_three_cells(rt: HostRuntime) {
-    let alloc = rt.alloc();
-    assert_latest(
-        &rt,
-        alloc,
-        early(&rt, alloc),
-        latest(&rt),
-        middle(&rt, alloc),
-    );
-    assert_latest(
-        &rt,
-        alloc,
-        early(&rt, alloc),
-        middle(&rt, alloc),
-        latest(&rt),
-    );
-    assert_latest(
-        &rt,
-        alloc,
-        latest(&rt),
-        early(&rt, alloc),
-        middle(&rt, alloc),
-    );
-}
+const ORDERS: &str = "early latest middle
+early middle latest
+latest early middle
+middle latest early
+latest middle early
+middle early latest";
 
 #[test]
-fn joins_three_cells_the_other_way_round(rt: HostRuntime) {
-    let alloc = rt.alloc();
-    assert_latest(
-        &rt,
-        alloc,
-        middle(&rt, alloc),
-        latest(&rt),
-        early(&rt, alloc),
-    );
-    assert_latest(
-        &rt,
-        alloc,
-        latest(&rt),
-        middle(&rt, alloc),
-        early(&rt, alloc),
-    );
-    assert_latest(
-        &rt,
-        alloc,
-        middle(&rt, alloc),
-        early(&rt, alloc),
-        latest(&rt),
-    );
+fn joins_three_cells_in_any_order(rt: HostRuntime) {
+    for order in ORDERS.lines() {
+        let join = join_of_names(&rt, rt.alloc(), order);
+        assert!(rt; join == Some(latest(&rt)), "{order}");
+    }
 }
 
 #[test]
 fn joins_no_items(rt: HostRuntime) {
-    let none: [Stamp; 0] = [];
-    assert!(rt; join_of(&rt, rt.alloc(), &none).is_none());
+    assert!(rt; join_of_names(&rt, rt.alloc(), "").is_none());
 }
 
 fn nine_stamp(rt: &impl Abort) -> Stamp {
@@ -102,24 +72,18 @@ fn ten(rt: &impl Abort, alloc: Global) -> Cell {
     labelled(rt, alloc, stamp(rt, 5, "0000000010", 0), "y")
 }
 
-/// The cell is that of the greater name.
-fn assert_ten(rt: &impl Abort, alloc: Global, cell: &Cell) {
-    assert!(rt; *cell == ten(rt, alloc));
-    assert!(rt; *cell != nine(rt, alloc));
+/// Whether the cell is that of the greater name.
+fn is_ten(rt: &impl Abort, alloc: Global, cell: &Cell) -> bool {
+    *cell == ten(rt, alloc) && *cell != nine(rt, alloc)
 }
 
 #[test]
 fn keeps_the_later_cell(rt: HostRuntime) {
     let alloc = rt.alloc();
     let join = joined(&rt, alloc, nine(&rt, alloc), &ten(&rt, alloc));
-    assert_ten(&rt, alloc, &join);
-}
-
-#[test]
-fn keeps_its_own_later_cell(rt: HostRuntime) {
-    let alloc = rt.alloc();
+    assert!(rt; is_ten(&rt, alloc, &join));
     let join = joined(&rt, alloc, ten(&rt, alloc), &nine(&rt, alloc));
-    assert_ten(&rt, alloc, &join);
+    assert!(rt; is_ten(&rt, alloc, &join));
 }
 
 #[test]
@@ -128,37 +92,26 @@ fn copies_are_equal(rt: HostRuntime) {
     assert!(rt; copy(&rt, rt.alloc(), &cell) == cell);
 }
 
-fn assert_parts(rt: &impl Abort, cell: &Cell, has_label: bool) {
-    assert_eq!(rt; cell.stamp(), nine_stamp(rt));
-    assert_eq!(rt; cell.label().is_some(), has_label);
+fn has_parts(cell: &Cell, stamp: Stamp, has_label: bool) -> bool {
+    cell.stamp() == stamp && cell.label().is_some() == has_label
 }
 
 #[test]
 fn shows_its_parts(rt: HostRuntime) {
-    assert_parts(&rt, &nine(&rt, rt.alloc()), true);
-    assert_parts(&rt, &deleted_nine(&rt), false);
+    assert!(rt; has_parts(&nine(&rt, rt.alloc()), nine_stamp(&rt), true));
+    assert!(rt; has_parts(&deleted_nine(&rt), nine_stamp(&rt), false));
 }
 
-/// Three cells of which only the first and the last clash.
-fn clashing(rt: &impl Abort, alloc: Global) -> Vec<Cell> {
-    let first = labelled(rt, alloc, stamp(rt, 5, "a", 0), "a");
-    let second = labelled(rt, alloc, stamp(rt, 6, "a", 0), "a");
-    let third = labelled(rt, alloc, stamp(rt, 5, "a", 0), "b");
-    Vec::from_array(alloc, [first, second, third]).expect(rt, "memory for the cells")
-}
-
-/// Of the three cells only the first and the last clash.
-fn assert_ends_clash(rt: &impl Abort, cells: &[Cell]) {
-    assert!(rt; !agree_all(cells));
-    assert_eq!(rt; cells.len(), 3);
-    assert!(rt; agree_all(&cells[..2]));
-    assert!(rt; agree_all(&cells[1..]));
-    assert!(rt; agree_all(&cells[..1]));
+fn agree(rt: &impl Abort, alloc: Global, names: &str) -> bool {
+    agree_all(&cells(rt, alloc, names))
 }
 
 #[test]
 fn agrees_pair_by_pair(rt: HostRuntime) {
-    assert_ends_clash(&rt, &clashing(&rt, rt.alloc()));
+    assert!(rt; !agree(&rt, rt.alloc(), "early middle clash"));
+    assert!(rt; agree(&rt, rt.alloc(), "early middle"));
+    assert!(rt; agree(&rt, rt.alloc(), "middle clash"));
+    assert!(rt; agree(&rt, rt.alloc(), "early"));
 }
 
 #[test]

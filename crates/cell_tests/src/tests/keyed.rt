@@ -21,24 +21,9 @@ fn two(rt: &impl Abort, alloc: Global) -> Keyed<Lang, Cell> {
     map
 }
 
-/// The walk meets as many entries as the map counts.
-fn assert_counted(rt: &impl Abort, map: &Keyed<Lang, Cell>) {
-    assert_eq!(rt; map.len(), map.iter().count());
-}
-
-fn assert_same_entry(rt: &impl Abort, mine: (&Lang, &Cell), theirs: (&Lang, &Cell)) {
-    assert!(rt; mine.0 == theirs.0);
-    assert!(rt; mine.1 == theirs.1);
-}
-
-/// The two have the same languages with the same cells.
-fn assert_same(rt: &impl Abort, a: &Keyed<Lang, Cell>, b: &Keyed<Lang, Cell>) {
-    assert_eq!(rt; a.len(), b.len());
-    assert_counted(rt, a);
-    assert_counted(rt, b);
-    for (mine, theirs) in a.iter().zip(b.iter()) {
-        assert_same_entry(rt, mine, theirs);
-    }
+/// The two have the same languages with the same cells, and each walk meets what the map counts.
+fn are_same(one: &Keyed<Lang, Cell>, other: &Keyed<Lang, Cell>) -> bool {
+    one == other && one.len() == one.iter().count() && other.len() == other.iter().count()
 }
 
 /// A deletion at 7.
@@ -51,60 +36,61 @@ fn is_pushed(map: &mut Keyed<Lang, Cell>, key: Lang, cell: Cell) -> bool {
     map.is_above_all(&key) && map.push(key, cell).is_ok()
 }
 
+/// Whether the deletion is appended for this language.
+fn is_appended(rt: &impl Abort, alloc: Global, map: &mut Keyed<Lang, Cell>, tag: &str) -> bool {
+    is_pushed(map, lang(rt, alloc, tag), deletion(rt))
+}
+
 #[test]
 fn appends_a_key_above_all(rt: HostRuntime) {
     let mut map = one(&rt, rt.alloc(), "en", "a");
-    assert!(rt; is_pushed(&mut map, lang(&rt, rt.alloc(), "fr"), deletion(&rt)));
-    assert_same(
-        &rt,
-        &map,
-        &joined(&rt, rt.alloc(), one(&rt, rt.alloc(), "en", "a"), &map),
-    );
-    assert_eq!(rt; map.len(), 2);
+    assert!(rt; is_appended(&rt, rt.alloc(), &mut map, "fr"));
+    assert!(rt; map.len() == 2);
+    let join = joined(&rt, rt.alloc(), one(&rt, rt.alloc(), "en", "a"), &map);
+    assert!(rt; are_same(&map, &join));
 }
 
 #[test]
 fn appends_no_key_below_or_at_another(rt: HostRuntime) {
     let mut map = one(&rt, rt.alloc(), "en", "a");
-    assert!(rt; !is_pushed(&mut map, lang(&rt, rt.alloc(), "de"), deletion(&rt)));
-    assert!(rt; !is_pushed(&mut map, lang(&rt, rt.alloc(), "en"), deletion(&rt)));
-    assert_same(&rt, &map, &one(&rt, rt.alloc(), "en", "a"));
+    assert!(rt; !is_appended(&rt, rt.alloc(), &mut map, "de"));
+    assert!(rt; !is_appended(&rt, rt.alloc(), &mut map, "en"));
+    assert!(rt; are_same(&map, &one(&rt, rt.alloc(), "en", "a")));
 }
 
 #[test]
 fn joins_key_by_key(rt: HostRuntime) {
     let later = two(&rt, rt.alloc());
     let join = joined(&rt, rt.alloc(), one(&rt, rt.alloc(), "en", "a"), &later);
-    assert_same(&rt, &join, &later);
+    assert!(rt; are_same(&join, &later));
 }
 
 #[test]
 fn joins_the_other_way_round(rt: HostRuntime) {
     let early = one(&rt, rt.alloc(), "en", "a");
     let join = joined(&rt, rt.alloc(), two(&rt, rt.alloc()), &early);
-    assert_same(&rt, &join, &two(&rt, rt.alloc()));
+    assert!(rt; are_same(&join, &two(&rt, rt.alloc())));
 }
 
-/// A copy of the map is equal to it.
-fn assert_copied(rt: &impl Abort, alloc: Global, map: &Keyed<Lang, Cell>) {
-    assert_same(rt, &copy(rt, alloc, map), map);
+/// Whether a copy of the map is equal to it.
+fn is_copied(rt: &impl Abort, alloc: Global, map: &Keyed<Lang, Cell>) -> bool {
+    are_same(&copy(rt, alloc, map), map)
 }
 
 #[test]
 fn copies_are_equal(rt: HostRuntime) {
-    assert_copied(&rt, rt.alloc(), &one(&rt, rt.alloc(), "en", "a"));
-    assert_copied(&rt, rt.alloc(), &two(&rt, rt.alloc()));
+    assert!(rt; is_copied(&rt, rt.alloc(), &two(&rt, rt.alloc())));
 }
 
-/// A copy of the language is equal to it.
-fn assert_key_copied(rt: &impl Abort, alloc: Global, key: &Lang) {
-    assert!(rt; key_copy(rt, alloc, key) == *key);
+/// Whether a copy of the language is equal to it.
+fn is_key_copied(rt: &impl Abort, alloc: Global, key: &Lang) -> bool {
+    key_copy(rt, alloc, key) == *key
 }
 
 #[test]
 fn copies_languages(rt: HostRuntime) {
-    assert_key_copied(&rt, rt.alloc(), &lang(&rt, rt.alloc(), "en"));
-    assert_key_copied(&rt, rt.alloc(), &Lang::none());
+    assert!(rt; is_key_copied(&rt, rt.alloc(), &lang(&rt, rt.alloc(), "en")));
+    assert!(rt; is_key_copied(&rt, rt.alloc(), &Lang::none()));
 }
 
 /// Whether the maps of these languages and texts agree.
@@ -126,18 +112,18 @@ fn found_by<'a>(map: &'a Keyed<Lang, Cell>, text: &str) -> Option<&'a str> {
     map.get_by(text).map(|(key, _)| key.as_str())
 }
 
-fn assert_found(rt: &impl Abort, map: &Keyed<Lang, Cell>, text: &str, found: Option<&str>) {
-    assert_eq!(rt; found_by(map, text), found, "{text}");
-}
-
 #[test]
 fn finds_languages_by_text(rt: HostRuntime) {
     let map = two(&rt, rt.alloc());
-    assert_found(&rt, &map, "en", Some("en"));
-    assert_found(&rt, &map, "fr", Some("fr"));
-    assert_found(&rt, &map, "EN", None);
-    assert_found(&rt, &map, "e n", None);
-    assert_found(&rt, &Keyed::new(rt.alloc()), "en", None);
+    assert!(rt; found_by(&map, "en") == Some("en"));
+    assert!(rt; found_by(&map, "fr") == Some("fr"));
+    assert!(rt; found_by(&map, "EN").is_none());
+    assert!(rt; found_by(&map, "e n").is_none());
+}
+
+#[test]
+fn finds_nothing_in_the_empty_map(rt: HostRuntime) {
+    assert!(rt; found_by(&Keyed::new(rt.alloc()), "en").is_none());
 }
 
 /// The language and the time of the cell that are found by this key.
@@ -150,26 +136,25 @@ fn entry_of<'a>(map: &'a Keyed<Lang, Cell>, key: &Lang) -> Option<(&'a str, u64)
 fn finds_entries_by_key(rt: HostRuntime) {
     let map = two(&rt, rt.alloc());
     let found = entry_of(&map, &lang(&rt, rt.alloc(), "en"));
-    assert_eq!(rt; found, Some(("en", 7)));
+    assert!(rt; found == Some(("en", 7)));
 }
 
-/// The time of the language's cell.
-fn time_of(map: &Keyed<Lang, Cell>, key: &Lang) -> Option<u64> {
-    map.get(key).map(|cell| cell.stamp().time)
+/// The time of the cell of the language of this text.
+fn time_of(map: &Keyed<Lang, Cell>, text: &str) -> Option<u64> {
+    map.get_by(text).map(|(_, cell)| cell.stamp().time)
 }
 
-fn assert_time(rt: &impl Abort, map: &Keyed<Lang, Cell>, key: &Lang, time: Option<u64>) {
-    assert_eq!(rt; time_of(map, key), time);
+fn put_late(rt: &impl Abort, alloc: Global, map: &mut Keyed<Lang, Cell>, tag: &str) {
+    put(rt, map, lang(rt, alloc, tag), deleted(stamp(rt, 9, "a", 0)));
 }
 
 #[test]
 fn puts_a_held_key(rt: HostRuntime) {
     let mut map = two(&rt, rt.alloc());
-    let late = deleted(stamp(&rt, 9, "a", 0));
-    put(&rt, &mut map, lang(&rt, rt.alloc(), "en"), late);
-    assert_time(&rt, &map, &lang(&rt, rt.alloc(), "en"), Some(9));
-    assert_time(&rt, &map, &lang(&rt, rt.alloc(), "fr"), Some(6));
-    assert_eq!(rt; map.len(), 2);
+    put_late(&rt, rt.alloc(), &mut map, "en");
+    assert!(rt; time_of(&map, "en") == Some(9));
+    assert!(rt; time_of(&map, "fr") == Some(6));
+    assert!(rt; map.len() == 2);
 }
 
 /// Gives the language a deletion of this time, where it is held.
@@ -183,74 +168,54 @@ fn delete(rt: &impl Abort, map: &mut Keyed<Lang, Cell>, key: &Lang, time: u64) -
     }
 }
 
-/// A deletion at time 9 reaches the language's cell, or there is none.
-fn assert_deleted(rt: &impl Abort, map: &mut Keyed<Lang, Cell>, key: &Lang, is_held: bool) {
-    assert_eq!(rt; delete(rt, map, key, 9), is_held);
-    assert_time(rt, map, key, if is_held { Some(9) } else { None });
-}
-
 #[test]
 fn changes_in_place(rt: HostRuntime) {
     let mut map = two(&rt, rt.alloc());
-    assert_deleted(&rt, &mut map, &lang(&rt, rt.alloc(), "fr"), true);
-    assert_deleted(&rt, &mut map, &Lang::none(), false);
+    assert!(rt; delete(&rt, &mut map, &lang(&rt, rt.alloc(), "fr"), 9));
+    assert!(rt; !delete(&rt, &mut map, &Lang::none(), 9));
+    assert!(rt; time_of(&map, "fr") == Some(9));
+    assert!(rt; time_of(&map, "@none").is_none());
 }
 
 fn tag_at(map: &Keyed<Lang, Cell>, place: usize) -> Option<&str> {
     map.nth(place).map(|entry| entry.0.as_str())
 }
 
-fn assert_tag_at(rt: &impl Abort, map: &Keyed<Lang, Cell>, place: usize, tag: Option<&str>) {
-    assert_eq!(rt; tag_at(map, place), tag, "place {place}");
-}
-
 #[test]
 fn stands_in_order_of_keys(rt: HostRuntime) {
     let mut map = two(&rt, rt.alloc());
     put(&rt, &mut map, Lang::none(), deleted(stamp(&rt, 1, "a", 0)));
-    assert_tag_at(&rt, &map, 0, Some("@none"));
-    assert_tag_at(&rt, &map, 1, Some("en"));
-    assert_tag_at(&rt, &map, 2, Some("fr"));
-    assert_tag_at(&rt, &map, 3, None);
+    assert!(rt; tag_at(&map, 0) == Some("@none"));
+    assert!(rt; tag_at(&map, 1) == Some("en"));
+    assert!(rt; tag_at(&map, 2) == Some("fr"));
+    assert!(rt; tag_at(&map, 3).is_none());
 }
 
 fn last_tag(map: &Keyed<Lang, Cell>) -> Option<&str> {
     map.last().map(|entry| entry.0.as_str())
 }
 
-fn assert_last(rt: &impl Abort, map: &Keyed<Lang, Cell>, tag: Option<&str>) {
-    assert_eq!(rt; last_tag(map), tag);
-}
-
 #[test]
 fn the_last_has_the_greatest_key(rt: HostRuntime) {
     let mut map = two(&rt, rt.alloc());
-    assert_last(&rt, &map, Some("fr"));
-    let cell = deleted(stamp(&rt, 1, "a", 0));
-    put(&rt, &mut map, lang(&rt, rt.alloc(), "sr-Latn"), cell);
-    assert_last(&rt, &map, Some("sr-latn"));
+    assert!(rt; last_tag(&map) == Some("fr"));
+    put_late(&rt, rt.alloc(), &mut map, "sr-Latn");
+    assert!(rt; last_tag(&map) == Some("sr-latn"));
 }
 
 #[test]
 fn an_empty_map_has_no_last(rt: HostRuntime) {
-    assert_last(&rt, &Keyed::new(rt.alloc()), None);
+    assert!(rt; last_tag(&Keyed::new(rt.alloc())).is_none());
 }
 
-#[test]
-fn maps_of_equal_entries_are_equal(rt: HostRuntime) {
-    let map = two(&rt, rt.alloc());
-    let join = joined(&rt, rt.alloc(), one(&rt, rt.alloc(), "en", "a"), &map);
-    assert!(rt; join == map);
-}
-
-/// The map differs from that of the label "a" in English.
-fn assert_other(rt: &impl Abort, alloc: Global, map: &Keyed<Lang, Cell>) {
-    assert!(rt; *map != one(rt, alloc, "en", "a"));
+/// Whether the map is that of the label "a" in English.
+fn is_english_a(rt: &impl Abort, alloc: Global, map: &Keyed<Lang, Cell>) -> bool {
+    *map == one(rt, alloc, "en", "a")
 }
 
 #[test]
 fn maps_of_other_entries_differ(rt: HostRuntime) {
-    assert_other(&rt, rt.alloc(), &two(&rt, rt.alloc()));
-    assert_other(&rt, rt.alloc(), &one(&rt, rt.alloc(), "en", "b"));
-    assert_other(&rt, rt.alloc(), &one(&rt, rt.alloc(), "fr", "a"));
+    assert!(rt; !is_english_a(&rt, rt.alloc(), &two(&rt, rt.alloc())));
+    assert!(rt; !is_english_a(&rt, rt.alloc(), &one(&rt, rt.alloc(), "en", "b")));
+    assert!(rt; !is_english_a(&rt, rt.alloc(), &one(&rt, rt.alloc(), "fr", "a")));
 }

@@ -20,20 +20,19 @@ fn assert_refused(rt: &impl Abort, alloc: Global, text: &str) {
 }
 
 fn assert_equal(rt: &impl Abort, id: &MessageId, other: &MessageId) {
-    assert_eq!(rt; id, other);
+    assert!(rt; id == other);
 }
 
 fn assert_read(rt: &impl Abort, alloc: Global, text: &str) {
     let read = id(rt, alloc, text);
-    assert_eq!(rt; read.as_str(), text);
+    assert!(rt; read.as_str() == text);
     assert_equal(rt, &key_copy(rt, alloc, &read), &read);
     let from_own_text = from_own_text(rt, alloc, text);
     assert_equal(rt, &from_own_text.expect(rt, "a message id"), &read);
 }
 
-fn assert_below(rt: &impl Abort, alloc: Global, low: &str, high: &str) {
-    let (low, high) = (id(rt, alloc, low), id(rt, alloc, high));
-    assert!(rt; low < high, "{low} {high}");
+fn is_below(rt: &impl Abort, alloc: Global, low: &str, high: &str) -> bool {
+    id(rt, alloc, low) < id(rt, alloc, high)
 }
 
 fn repeated(rt: &impl Abort, alloc: Global, text: &str, times: usize) -> String {
@@ -58,42 +57,52 @@ fn reads_ids(rt: HostRuntime) {
     assert_read(&rt, alloc, "\u{80}");
 }
 
+fn assert_read_times(rt: &impl Abort, alloc: Global, text: &str, times: usize) {
+    let text = repeated(rt, alloc, text, times);
+    assert_read(rt, alloc, text.as_str());
+}
+
+fn assert_refused_times(rt: &impl Abort, alloc: Global, text: &str, times: usize) {
+    let text = repeated(rt, alloc, text, times);
+    assert_refused(rt, alloc, text.as_str());
+}
+
 #[test]
 fn counts_bytes(rt: HostRuntime) {
     let alloc = rt.alloc();
-    assert_read(&rt, alloc, repeated(&rt, alloc, "a", 128).as_str());
-    assert_refused(&rt, alloc, repeated(&rt, alloc, "a", 129).as_str());
-    assert_read(&rt, alloc, repeated(&rt, alloc, "\u{e4}", 64).as_str());
-    assert_refused(&rt, alloc, repeated(&rt, alloc, "\u{e4}", 65).as_str());
+    assert_read_times(&rt, alloc, "a", 128);
+    assert_refused_times(&rt, alloc, "a", 129);
+    assert_read_times(&rt, alloc, "\u{e4}", 64);
+    assert_refused_times(&rt, alloc, "\u{e4}", 65);
 }
 
 #[test]
 fn reads_ids_in_place_and_outside(rt: HostRuntime) {
     let alloc = rt.alloc();
-    assert_read(&rt, alloc, repeated(&rt, alloc, "a", 32).as_str());
-    assert_read(&rt, alloc, repeated(&rt, alloc, "a", 33).as_str());
-    assert_read(&rt, alloc, repeated(&rt, alloc, "\u{e4}", 16).as_str());
-    assert_read(&rt, alloc, repeated(&rt, alloc, "\u{e4}", 17).as_str());
+    assert_read_times(&rt, alloc, "a", 32);
+    assert_read_times(&rt, alloc, "a", 33);
+    assert_read_times(&rt, alloc, "\u{e4}", 16);
+    assert_read_times(&rt, alloc, "\u{e4}", 17);
 }
 
 #[test]
 fn orders_ids_in_place_and_outside(rt: HostRuntime) {
     let alloc = rt.alloc();
     let (most_short, least_long) = (repeated(&rt, alloc, "a", 32), repeated(&rt, alloc, "a", 33));
-    assert_below(&rt, alloc, "a", most_short.as_str());
-    assert_below(&rt, alloc, most_short.as_str(), least_long.as_str());
-    assert_below(&rt, alloc, least_long.as_str(), "b");
+    assert!(rt; is_below(&rt, alloc, "a", most_short.as_str()));
+    assert!(rt; is_below(&rt, alloc, most_short.as_str(), least_long.as_str()));
+    assert!(rt; is_below(&rt, alloc, least_long.as_str(), "b"));
 }
 
 #[test]
 fn orders_by_bytes(rt: HostRuntime) {
     let alloc = rt.alloc();
-    assert_below(&rt, alloc, "a", "aa");
-    assert_below(&rt, alloc, "Z", "a");
+    assert!(rt; is_below(&rt, alloc, "a", "aa"));
+    assert!(rt; is_below(&rt, alloc, "Z", "a"));
 }
 
 #[test]
 fn shows_the_text(rt: HostRuntime) {
     let shown = shown(&rt, rt.alloc(), &id(&rt, rt.alloc(), "m"));
-    assert_eq!(rt; shown.as_str(), "m");
+    assert!(rt; shown.as_str() == "m");
 }
