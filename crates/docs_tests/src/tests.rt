@@ -1,5 +1,7 @@
 //! What no contract says: texts, and streams of every kind in action.
 
+mod answers;
+mod asking;
 mod bundle;
 mod by_message;
 mod changes;

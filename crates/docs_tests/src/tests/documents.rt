@@ -1,16 +1,14 @@
 //! Calls over documents, each with what it answers.
 
-use cata_core::CataFault;
-use cell_core::{Label, MessageId, SiteName};
+use super::answers::{is_line, is_pair};
+use cell_core::{Label, MessageId};
 use docs_core::{
-    Doc, DocCause, DocFault, delta_document, edit_document, read_delta, read_site, read_summary,
+    Doc, DocFault, delta_document, edit_document, read_delta, read_site, read_summary,
     status_document, summary_document, sync_documents, take_document, write_delta, write_site,
     write_summary,
 };
 use lang_core::Lang;
 use std::alloc::Global;
-use std::fmt::InlineText;
-use std::process::Abort;
 
 const EMPTY: &str = "{\"cells\":[],\"kind\":\"site\",\"site\":\"0000000001\",\"version\":2}\n";
 
@@ -172,24 +170,7 @@ fn answer(alloc: Global, call: Call) -> Result<Doc, DocFault> {
     }
 }
 
-fn is_line(fault: DocFault, line: &str) -> bool {
-    InlineText::<80>::of(&fault).as_str() == line
-}
-
-fn answers(alloc: Global, call: Call, wanted: &str) -> bool {
-    match answer(alloc, call) {
-        Ok(doc) => doc.bytes() == wanted.as_bytes(),
-        Err(fault) => is_line(fault, wanted),
-    }
-}
-
-fn assert_answers(rt: &impl Abort, alloc: Global, cases: &[Case]) {
-    for (name, call, wanted) in cases {
-        assert!(rt; answers(alloc, *call, wanted), "{name}");
-    }
-}
-
-const WRITTEN: &[Case] = &[
+const CASES: &[Case] = &[
     ("a site of three labels", Call::Site(IMPORTED), IMPORTED),
     ("a site of a deletion", Call::Site(DELETED), DELETED),
     ("a site of version 1", Call::Site(IMPORTED_AS_1), IMPORTED),
@@ -211,14 +192,6 @@ const WRITTEN: &[Case] = &[
         SUMMARY,
     ),
     ("a summary", Call::Summary(SUMMARY), SUMMARY),
-];
-
-#[test]
-fn what_is_read_is_written(rt: HostRuntime) {
-    assert_answers(&rt, rt.alloc(), WRITTEN);
-}
-
-const EDITS: &[Case] = &[
     ("a put", Call::Put(EMPTY, 5, "a"), EDITED),
     ("a deletion", Call::Delete(EDITED, 3), DELETED),
     ("a put of version 1", Call::Put(EMPTY_AS_1, 5, "a"), EDITED),
@@ -232,14 +205,6 @@ const EDITS: &[Case] = &[
         Call::Put(SPENT, 0, "a"),
         "refused 14: clock is spent",
     ),
-];
-
-#[test]
-fn edits(rt: HostRuntime) {
-    assert_answers(&rt, rt.alloc(), EDITS);
-}
-
-const STATUS_LINES: &[Case] = &[
     (
         "no cell",
         Call::Status(EMPTY),
@@ -255,14 +220,6 @@ const STATUS_LINES: &[Case] = &[
         Call::Status(DELETED_AS_1),
         "site 0000000001 cells 1 labels 0 last 5 0000000001 1\n",
     ),
-];
-
-#[test]
-fn status_lines(rt: HostRuntime) {
-    assert_answers(&rt, rt.alloc(), STATUS_LINES);
-}
-
-const EXCHANGES: &[Case] = &[
     ("a summary of a site", Call::SummaryOf(OTHER), TOLD),
     ("a delta for it", Call::DeltaFor(EDITED, TOLD), DELTA),
     (
@@ -313,48 +270,21 @@ const EXCHANGES: &[Case] = &[
         Call::Take(DELTA, "{"),
         "refused 20: shape of document 1",
     ),
+    (
+        "a delta for the second site and not for the third",
+        Call::Take(THIRD, DELTA),
+        "refused 15: delta is for site 0000000002",
+    ),
 ];
 
 #[test]
-fn exchanges(rt: HostRuntime) {
-    assert_answers(&rt, rt.alloc(), EXCHANGES);
-}
-
-#[test]
-fn a_delta_for_the_second_site_and_not_for_the_third(rt: HostRuntime) {
-    let addressee = SiteName::of_number(2);
-    let refused = DocFault {
-        document: 0,
-        cause: DocCause::Site(CataFault::NotForMe { addressee }),
-    };
-    assert_eq!(rt;
-        take_document(rt.alloc(), THIRD.as_bytes(), DELTA.as_bytes()).err(),
-        Some(refused)
-    );
-}
-
-fn synced(alloc: Global, first: &str, second: &str) -> Result<(Doc, Doc), DocFault> {
-    sync_documents(alloc, first.as_bytes(), second.as_bytes())
-}
-
-fn is_pair(answer: Result<(Doc, Doc), DocFault>, first: &str, second: &str) -> bool {
-    match answer {
-        Ok((x, y)) => x.bytes() == first.as_bytes() && y.bytes() == second.as_bytes(),
-        Err(_) => false,
+fn answers(rt: HostRuntime) {
+    for (name, call, wanted) in CASES {
+        assert!(rt;
+            is_line(answer(rt.alloc(), *call), wanted.trim_end()),
+            "{name}"
+        );
     }
-}
-
-fn is_refused(refused: Option<DocFault>, line: &str) -> bool {
-    match refused {
-        Some(fault) => InlineText::<80>::of(&fault).as_str() == line,
-        None => false,
-    }
-}
-
-#[test]
-fn a_clash_of_documents(rt: HostRuntime) {
-    let line = "refused 13: stamp 5 0000000001 0 used twice, cell 0";
-    assert!(rt; is_refused(synced(rt.alloc(), ONE, TWO).err(), line));
 }
 
 /// The sync of two sites that clashed, after a later put at the first.
@@ -363,20 +293,18 @@ fn mended(alloc: Global) -> Result<(Doc, Doc), DocFault> {
     sync_documents(alloc, first.bytes(), TWO.as_bytes())
 }
 
+const MENDED: [&str; 2] = [
+    r#"{"cells":[["m","en",6,"0000000001",0,["three"]]],"kind":"site","site":"0000000001","version":2}"#,
+    r#"{"cells":[["m","en",6,"0000000001",0,["three"]]],"kind":"site","site":"0000000002","version":2}"#,
+];
+
 #[test]
 fn a_clash_mended(rt: HostRuntime) {
-    assert!(rt;
-        is_pair(
-            mended(rt.alloc()),
-            "{\"cells\":[[\"m\",\"en\",6,\"0000000001\",0,[\"three\"]]],\
-                \"kind\":\"site\",\"site\":\"0000000001\",\"version\":2}\n",
-            "{\"cells\":[[\"m\",\"en\",6,\"0000000001\",0,[\"three\"]]],\
-                \"kind\":\"site\",\"site\":\"0000000002\",\"version\":2}\n"
-        )
-    );
+    let [first, second] = MENDED;
+    assert!(rt; is_pair(mended(rt.alloc()), first, second));
 }
 
-/// A case: its name, two sites, and what becomes of each.
+/// A case: its name, two sites, and what becomes of each, or why they are refused.
 type Sync = (&'static str, [&'static str; 2], [&'static str; 2]);
 
 const SYNCS: &[Sync] = &[
@@ -397,16 +325,20 @@ const SYNCS: &[Sync] = &[
         [EDITED_AS_1, HELD_AS_1],
         [FIRST_HELD, HELD],
     ),
+    (
+        "a clash",
+        [ONE, TWO],
+        ["refused 13: stamp 5 0000000001 0 used twice, cell 0", ""],
+    ),
 ];
-
-fn assert_syncs(rt: &impl Abort, alloc: Global, cases: &[Sync]) {
-    for (name, [own, other], [first, second]) in cases {
-        let answer = synced(alloc, own, other);
-        assert!(rt; is_pair(answer, first, second), "{name}");
-    }
-}
 
 #[test]
 fn syncs(rt: HostRuntime) {
-    assert_syncs(&rt, rt.alloc(), SYNCS);
+    for (name, [own, other], [first, second]) in SYNCS {
+        let synced = sync_documents(rt.alloc(), own.as_bytes(), other.as_bytes());
+        assert!(rt;
+            is_pair(synced, first.trim_end(), second.trim_end()),
+            "{name}"
+        );
+    }
 }

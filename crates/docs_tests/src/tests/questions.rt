@@ -1,8 +1,8 @@
 //! The status and the summary of a site in each form of its document: the form in which it is
 //! written, and those that another reader takes.
 
-use docs_core::{status_document, summary_document};
-use std::alloc::Global;
+use super::asking::all_told;
+use std::test::Fail;
 
 /// The form in which a site is written.
 const WRITTEN: &str = concat!(
@@ -35,48 +35,22 @@ const OF_VERSION_1: &str = concat!(
 
 const FORMS: [&str; 4] = [WRITTEN, WITH_BLANKS, IN_ANOTHER_ORDER, OF_VERSION_1];
 
-const STATUS: &str = "site 0000000001 cells 5 labels 4 last 2 0000000001 0\n";
-
-const SUMMARY: &str = concat!(
-    r#"{"kind":"summary","owner":"0000000001","stamps":[["m","@none",1,"0000000001",0],"#,
+const ROWS: &str = concat!(
+    "status|||site 0000000001 cells 5 labels 4 last 2 0000000001 0\n",
+    r#"summary|||{"kind":"summary","owner":"0000000001","stamps":[["m","@none",1,"0000000001",0],"#,
     r#"["m","en",2,"0000000001",0],["m","fr",1,"0000000001",1],["n","de",1,"0000000001",2],"#,
-    r#"["o","en",1,"0000000001",3]],"version":2}"#,
-    "\n"
+    r#"["o","en",1,"0000000001",3]],"version":2}"#
 );
 
-/// Whether this is the status line of the site.
-fn has_status(alloc: Global, site: &str, line: &str) -> bool {
-    match status_document(alloc, site.as_bytes()) {
-        Ok(doc) => doc.bytes() == line.as_bytes(),
-        Err(_) => false,
-    }
-}
-
-/// Whether this is the summary of the site.
-fn has_summary(alloc: Global, site: &str, text: &str) -> bool {
-    match summary_document(alloc, site.as_bytes()) {
-        Ok(doc) => doc.bytes() == text.as_bytes(),
-        Err(_) => false,
-    }
-}
-
 #[test]
-fn the_status_in_each_form(rt: HostRuntime) {
+fn the_status_and_the_summary_in_each_form(rt: HostRuntime) -> Result<(), Fail> {
     for form in FORMS {
-        assert!(rt; has_status(rt.alloc(), form, STATUS), "{form}");
+        all_told(&rt, form.as_bytes(), ROWS)?;
     }
+    Ok(())
 }
 
 #[test]
-fn the_summary_in_each_form(rt: HostRuntime) {
-    for form in FORMS {
-        assert!(rt; has_summary(rt.alloc(), form, SUMMARY), "{form}");
-    }
-}
-
-#[test]
-fn a_last_line_feed_may_be_missing(rt: HostRuntime) {
-    let site = WRITTEN.trim_end();
-    assert!(rt; has_status(rt.alloc(), site, STATUS));
-    assert!(rt; has_summary(rt.alloc(), site, SUMMARY));
+fn a_last_line_feed_may_be_missing(rt: HostRuntime) -> Result<(), Fail> {
+    all_told(&rt, WRITTEN.trim_end().as_bytes(), ROWS)
 }

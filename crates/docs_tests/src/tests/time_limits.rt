@@ -1,12 +1,11 @@
 //! Deltas and sites with times after a limit.
 
+use super::answers::{is_line, is_pair, is_refusal};
+use cata_core::Catalogue;
 use docs_core::{
-    Doc, DocFault, first_row_ahead, read_delta, read_delta_until, sync_documents,
-    sync_documents_until, take_document, take_document_until,
+    first_row_ahead, read_delta, read_delta_until, sync_documents, sync_documents_until,
+    take_document, take_document_until,
 };
-use std::alloc::Global;
-use std::fmt::InlineText;
-use std::process::Abort;
 use std::test::Fail;
 
 const SITE: &str =
@@ -39,110 +38,95 @@ const CLASHING: &str =
     "{\"cells\":[[\"m\",\"en\",101,\"c\",0,[\"z\"]]],\"kind\":\"site\",\"site\":\"b\",\
         \"version\":2}\n";
 
-fn is_refused<T: Drop>(answer: Result<T, DocFault>, line: &str) -> bool {
-    match answer.err() {
-        Some(fault) => InlineText::<80>::of(&fault).as_str() == line,
-        None => false,
+/// A site, a delta, a limit, and what is taken or why it is refused: for a time ahead, before
+/// another addressee, also of version 1; a time at the limit is taken, and own times are let alone.
+/// A cell that is there already counts.
+const TAKES: [(&str, &str, Option<u64>, &str); 7] = [
+    (SITE, DELTA, Some(100), AHEAD_IN_ROW_1),
+    (OTHER, DELTA, Some(100), AHEAD_IN_ROW_1),
+    (OTHER, DELTA, Some(102), "refused 15: delta is for site a"),
+    (SITE, DELTA_AS_1, Some(100), AHEAD_IN_ROW_1),
+    (TAKEN, DELTA, Some(100), AHEAD_IN_ROW_1),
+    (SITE, DELTA, Some(102), TAKEN),
+    (SITE, DELTA, None, TAKEN),
+];
+
+const AHEAD_IN_ROW_1: &str = "refused 29: time is ahead in row 1 of document 2";
+
+#[test]
+fn deltas_are_taken_or_refused(rt: HostRuntime) {
+    for (site, delta, limit, line) in TAKES {
+        let taken = take_document_until(rt.alloc(), site.as_bytes(), delta.as_bytes(), limit);
+        assert!(rt; is_line(taken, line.trim_end()), "{line}");
     }
-}
-
-fn is_document(answer: Result<Doc, DocFault>, text: &str) -> bool {
-    match answer {
-        Ok(doc) => doc.bytes() == text.as_bytes(),
-        Err(_) => false,
-    }
-}
-
-fn take(alloc: Global, site: &str, delta: &str, limit: u64) -> Result<Doc, DocFault> {
-    take_document_until(alloc, site.as_bytes(), delta.as_bytes(), Some(limit))
-}
-
-fn sync(alloc: Global, first: &str, second: &str, limit: u64) -> Result<(Doc, Doc), DocFault> {
-    sync_documents_until(alloc, first.as_bytes(), second.as_bytes(), Some(limit))
-}
-
-#[test]
-fn a_delta_with_a_time_ahead(rt: HostRuntime) {
-    let line = "refused 29: time is ahead in row 1 of document 2";
-    assert!(rt; is_refused(take(rt.alloc(), SITE, DELTA, 100), line));
-}
-
-#[test]
-fn a_time_ahead_comes_before_another_addressee(rt: HostRuntime) {
-    let line = "refused 29: time is ahead in row 1 of document 2";
-    assert!(rt; is_refused(take(rt.alloc(), OTHER, DELTA, 100), line));
-    let line = "refused 15: delta is for site a";
-    assert!(rt; is_refused(take(rt.alloc(), OTHER, DELTA, 102), line));
-}
-
-#[test]
-fn a_delta_of_version_1_with_a_time_ahead(rt: HostRuntime) {
-    let line = "refused 29: time is ahead in row 1 of document 2";
-    assert!(rt; is_refused(take(rt.alloc(), SITE, DELTA_AS_1, 100), line));
-}
-
-#[test]
-fn a_time_at_the_limit_is_taken_and_own_times_are_let_alone(rt: HostRuntime) {
-    assert!(rt; is_document(take(rt.alloc(), SITE, DELTA, 102), TAKEN));
-}
-
-#[test]
-fn without_a_limit_it_is_taken(rt: HostRuntime) {
-    let taken = take_document_until(rt.alloc(), SITE.as_bytes(), DELTA.as_bytes(), None);
-    assert!(rt; is_document(taken, TAKEN));
     let taken = take_document(rt.alloc(), SITE.as_bytes(), DELTA.as_bytes());
-    assert!(rt; is_document(taken, TAKEN));
+    assert!(rt; is_line(taken, TAKEN.trim_end()));
 }
 
-#[test]
-fn a_cell_that_is_there_already_counts(rt: HostRuntime) {
-    let line = "refused 29: time is ahead in row 1 of document 2";
-    assert!(rt; is_refused(take(rt.alloc(), TAKEN, DELTA, 100), line));
-}
+/// Two sites, a limit, and why they are refused: both documents are read first, and a clash in the
+/// limit is refused as ever.
+const SYNCS: [(&str, &str, u64, &str); 5] = [
+    (AHEAD, OTHER, 100, AHEAD_IN_DOCUMENT_1),
+    (AHEAD, CLASHING, 100, AHEAD_IN_DOCUMENT_1),
+    (
+        OTHER,
+        AHEAD,
+        100,
+        "refused 29: time is ahead in row 0 of document 2",
+    ),
+    (
+        AHEAD,
+        CLASHING,
+        101,
+        "refused 13: stamp 101 c 0 used twice, cell 0",
+    ),
+    (AHEAD, "{", 100, "refused 19: not JSON of document 2"),
+];
+
+const AHEAD_IN_DOCUMENT_1: &str = "refused 29: time is ahead in row 0 of document 1";
 
 #[test]
-fn a_site_with_a_time_ahead(rt: HostRuntime) {
-    let line = "refused 29: time is ahead in row 0 of document 1";
-    assert!(rt; is_refused(sync(rt.alloc(), AHEAD, OTHER, 100), line));
-    assert!(rt; is_refused(sync(rt.alloc(), AHEAD, CLASHING, 100), line));
-    let line = "refused 29: time is ahead in row 0 of document 2";
-    assert!(rt; is_refused(sync(rt.alloc(), OTHER, AHEAD, 100), line));
+fn syncs_are_refused(rt: HostRuntime) {
+    for (first, second, limit, line) in SYNCS {
+        let (first, second) = (first.as_bytes(), second.as_bytes());
+        let synced = sync_documents_until(rt.alloc(), first, second, Some(limit));
+        assert!(rt; is_pair(synced, line, ""), "{line}");
+    }
 }
 
-#[test]
-fn a_clash_in_the_limit_is_refused_as_ever(rt: HostRuntime) {
-    let line = "refused 13: stamp 101 c 0 used twice, cell 0";
-    assert!(rt; is_refused(sync(rt.alloc(), AHEAD, CLASHING, 101), line));
-}
+/// [`OTHER`] once it has the cell of [`AHEAD`].
+const SYNCED: &str =
+    r#"{"cells":[["m","en",101,"c",0,["x"]]],"kind":"site","site":"b","version":2}"#;
 
 #[test]
-fn both_documents_are_read_first(rt: HostRuntime) {
-    let line = "refused 19: not JSON of document 2";
-    assert!(rt; is_refused(sync(rt.alloc(), AHEAD, "{", 100), line));
-}
-
-#[test]
-fn sites_in_the_limit_are_synced(rt: HostRuntime) -> Result<(), Fail> {
-    let (first, second) = sync(rt.alloc(), AHEAD, OTHER, 101)?;
-    let (one, two) = sync_documents(rt.alloc(), AHEAD.as_bytes(), OTHER.as_bytes())?;
-    assert!(rt; first.bytes() == AHEAD.as_bytes());
-    assert!(rt; first == one);
-    assert!(rt; second == two);
-    Ok(())
+fn sites_in_the_limit_are_synced(rt: HostRuntime) {
+    let (first, second) = (AHEAD.as_bytes(), OTHER.as_bytes());
+    let synced = sync_documents_until(rt.alloc(), first, second, Some(101));
+    assert!(rt; is_pair(synced, AHEAD.trim_end(), SYNCED));
+    let synced = sync_documents(rt.alloc(), first, second);
+    assert!(rt; is_pair(synced, AHEAD.trim_end(), SYNCED));
 }
 
 #[test]
 fn a_delta_that_is_read_alone_is_document_1(rt: HostRuntime) {
-    let line = "refused 29: time is ahead in row 1 of document 1";
-    let refused = read_delta_until(rt.alloc(), DELTA.as_bytes(), Some(100));
-    assert!(rt; is_refused(refused, line));
+    let refused = read_delta_until(rt.alloc(), DELTA.as_bytes(), Some(100)).err();
+    let is_told = match refused {
+        Some(fault) => is_refusal(fault, "refused 29: time is ahead in row 1 of document 1"),
+        None => false,
+    };
+    assert!(rt; is_told);
+}
+
+/// Whether the rows of [`DELTA`] are ahead of these limits.
+fn are_ahead(cells: &Catalogue) -> bool {
+    first_row_ahead(cells, 99) == Some(0)
+        && first_row_ahead(cells, 101) == Some(2)
+        && first_row_ahead(cells, 102).is_none()
 }
 
 #[test]
 fn the_first_row_ahead(rt: HostRuntime) -> Result<(), Fail> {
     let delta = read_delta(rt.alloc(), DELTA.as_bytes())?;
-    assert_eq!(rt; first_row_ahead(delta.cells(), 99), Some(0));
-    assert_eq!(rt; first_row_ahead(delta.cells(), 101), Some(2));
-    assert_eq!(rt; first_row_ahead(delta.cells(), 102), None);
+    assert!(rt; are_ahead(delta.cells()));
     Ok(())
 }
