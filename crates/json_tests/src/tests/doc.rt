@@ -3,15 +3,19 @@
 use json_docs::Doc;
 use std::test::Fail;
 
+fn is_made(doc: &Doc) -> bool {
+    doc.len() == 3
+        && !doc.is_empty()
+        && doc.nth(1) == Some(0)
+        && doc.nth(3).is_none()
+        && doc.bytes() == b"a\0b".as_slice()
+}
+
 #[test]
 fn a_document_is_its_bytes(rt: HostRuntime) -> Result<(), Fail> {
     let alloc = rt.alloc();
     let doc = Doc::from(vec![in alloc; b'a', 0, b'b']?);
-    assert_eq!(rt; doc.len(), 3);
-    assert!(rt; !doc.is_empty());
-    assert_eq!(rt; doc.nth(1), Some(0));
-    assert_eq!(rt; doc.nth(3), None);
-    assert!(rt; doc.bytes() == b"a\0b".as_slice());
+    assert!(rt; is_made(&doc));
     Ok(())
 }
 

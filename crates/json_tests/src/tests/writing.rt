@@ -1,9 +1,9 @@
 //! Writing out, to sinks that fail or take little.
 
 use json_docs::{DocCause, DocFault, Output, Sink, write_out};
+use std::alloc::Global;
 use std::io;
 use std::io::Write;
-use std::test::Fail;
 
 const LINES: &[u8] = b"cells 1\n[\"m\",\"en\",5,\"0000000002\",0,[\"two\"]]\n";
 
@@ -37,61 +37,51 @@ impl Write for Narrow {
     }
 }
 
-#[test]
-fn a_vector_takes_all(rt: HostRuntime) {
-    let mut taken: Vec<u8> = Vec::new(rt.alloc());
-    let mut sink = Output::new(&mut taken);
-    assert!(rt; !sink.failed());
-    assert_eq!(rt; write_out(&mut sink, LINES), Ok(()));
-    assert!(rt; !sink.failed());
-    assert!(rt; taken.as_slice() == LINES);
+/// Whether a sink of this room takes of these bytes what it has room for, and fails where they are
+/// more.
+fn is_cut(alloc: Global, bytes: &[u8], room: usize, step: usize, stalls: bool) -> bool {
+    let mut narrow = Narrow {
+        taken: Vec::new(alloc),
+        room,
+        step,
+        stalls,
+    };
+    let mut sink = Output::new(&mut narrow);
+    let failed_before = sink.failed();
+    let ended = write_out(&mut sink, bytes);
+    let has_failed = sink.failed();
+    let left = room.min(bytes.len());
+    let wanted = if left < bytes.len() {
+        Err(WRITE_FAULT)
+    } else {
+        Ok(())
+    };
+    let is_end = !failed_before && ended == wanted && has_failed == wanted.is_err();
+    is_taken(&narrow, &bytes[..left], is_end)
 }
 
-#[test]
-fn three_bytes_and_a_fault(rt: HostRuntime) {
-    for stalls in [false, true] {
-        let mut narrow = Narrow {
-            taken: Vec::new(rt.alloc()),
-            room: 3,
-            step: 3,
-            stalls,
-        };
-        let mut sink = Output::new(&mut narrow);
-        assert!(rt; !sink.failed());
-        assert_eq!(rt; write_out(&mut sink, LINES), Err(WRITE_FAULT));
-        assert!(rt; sink.failed());
-        assert!(rt; narrow.taken.as_slice() == b"cel".as_slice());
-    }
+/// Whether just these bytes were taken, where the rest is so.
+fn is_taken(narrow: &Narrow, bytes: &[u8], is_so: bool) -> bool {
+    is_so && narrow.taken.as_slice() == bytes
 }
 
 #[test]
 fn every_room_and_step(rt: HostRuntime) {
     for room in 0..LINES.len() + 1 {
-        for step in [1, 5, 64] {
-            let mut narrow = Narrow {
-                taken: Vec::new(rt.alloc()),
-                room,
-                step,
-                stalls: false,
-            };
-            let mut sink = Output::new(&mut narrow);
-            let wanted = if room < LINES.len() {
-                Err(WRITE_FAULT)
-            } else {
-                Ok(())
-            };
-            assert_eq!(rt; write_out(&mut sink, LINES), wanted);
-            assert_eq!(rt; sink.failed(), wanted.is_err());
-            assert!(rt; LINES.starts_with(narrow.taken.as_slice()));
-            assert_eq!(rt; narrow.taken.len(), room);
-        }
+        assert!(rt; is_cut(rt.alloc(), LINES, room, 1, false), "{room}");
+        assert!(rt; is_cut(rt.alloc(), LINES, room, 5, false), "{room}");
+        assert!(rt; is_cut(rt.alloc(), LINES, room, 64, false), "{room}");
     }
+}
+
+/// A sink that takes no more bytes has failed, as one that says so.
+#[test]
+fn three_bytes_and_no_more(rt: HostRuntime) {
+    assert!(rt; is_cut(rt.alloc(), LINES, 3, 3, true));
 }
 
 #[test]
 fn nothing_needs_no_room(rt: HostRuntime) {
-    let mut none: [u8; 0] = [];
-    let mut sink = Output::new(none.as_mut_slice());
-    assert_eq!(rt; write_out(&mut sink, b""), Ok(()));
-    assert_eq!(rt; write_out(&mut sink, b"a"), Err(WRITE_FAULT));
+    assert!(rt; is_cut(rt.alloc(), b"", 0, 1, false));
+    assert!(rt; is_cut(rt.alloc(), b"a", 0, 1, false));
 }
