@@ -3,11 +3,9 @@
 use cata_core::Step;
 use cell_core::MessageId;
 use json_docs::{Doc, DocCause, DocFault, Spot};
-use lang_core::Lang;
 use nego_core::{Malformed, PriorityList, Scheme};
 use script_docs::{Script, read_script, write_script};
 use std::alloc::Global;
-use std::process::Abort;
 use std::test::Fail;
 
 /// Each kind of step.
@@ -56,44 +54,29 @@ fn is_line(answer: Result<Doc, DocFault>, text: &str) -> bool {
     }
 }
 
-/// What is read of this text is written so.
-fn assert_rewritten(rt: &impl Abort, alloc: Global, text: &str, wanted: &str) {
-    assert!(rt; is_line(rewritten(alloc, text), wanted), "{text}");
-}
+const NO_STEP: &str = r#"{"kind":"script","sites":1024,"steps":[],"version":2}"#;
+
+/// Texts, and what is written of what is read of them: of each kind of step, without zeros at the
+/// end of a weight, of version 1, and of no step.
+const REWRITTEN: [(&str, &str); 5] = [
+    (STEPS, STEPS),
+    (WEIGHTS, WEIGHTS_AGAIN),
+    (WEIGHTS_AGAIN, WEIGHTS_AGAIN),
+    (TWO_SITES, TWO_SITES_AGAIN),
+    (NO_STEP, NO_STEP),
+];
 
 #[test]
-fn each_kind_of_step(rt: HostRuntime) {
-    assert_rewritten(&rt, rt.alloc(), STEPS, STEPS);
-}
-
-#[test]
-fn weights_without_zeros_at_their_end(rt: HostRuntime) {
-    assert_rewritten(&rt, rt.alloc(), WEIGHTS, WEIGHTS_AGAIN);
-    assert_rewritten(&rt, rt.alloc(), WEIGHTS_AGAIN, WEIGHTS_AGAIN);
-}
-
-#[test]
-fn a_script_of_version_1(rt: HostRuntime) {
-    assert_rewritten(&rt, rt.alloc(), TWO_SITES, TWO_SITES_AGAIN);
-}
-
-#[test]
-fn no_step(rt: HostRuntime) {
-    let none = r#"{"kind":"script","sites":1024,"steps":[],"version":2}"#;
-    assert_rewritten(&rt, rt.alloc(), none, none);
-}
-
-/// Why a step after another is refused.
-fn refusal(alloc: Global, step: Step) -> Option<DocFault> {
-    let steps = Vec::from_array(alloc, [Step::Tell { site: 0 }, step]).ok()?;
-    write_script(alloc, &Script::new(1, steps)).err()
-}
-
-fn is_written(alloc: Global, step: Step) -> bool {
-    match Vec::from_array(alloc, [Step::Tell { site: 0 }, step]) {
-        Ok(steps) => write_script(alloc, &Script::new(1, steps)).is_ok(),
-        Err(_) => false,
+fn what_is_read_is_written(rt: HostRuntime) {
+    for (text, wanted) in REWRITTEN {
+        assert!(rt; is_line(rewritten(rt.alloc(), text), wanted), "{text}");
     }
+}
+
+/// Writes a script of this step after another.
+fn write(alloc: Global, step: Step) -> Result<Doc, DocFault> {
+    let steps = Vec::from_array(alloc, [Step::Tell { site: 0 }, step])?;
+    write_script(alloc, &Script::new(1, steps))
 }
 
 const SECOND_ROW: DocFault = DocFault {
@@ -101,8 +84,9 @@ const SECOND_ROW: DocFault = DocFault {
     cause: DocCause::Shape { spot: Spot::Row(1) },
 };
 
-fn assert_refused(rt: &impl Abort, alloc: Global, step: Step) {
-    assert_eq!(rt; refusal(alloc, step), Some(SECOND_ROW));
+/// Whether no document can have this step.
+fn is_refused(alloc: Global, step: Step) -> bool {
+    write(alloc, step).err() == Some(SECOND_ROW)
 }
 
 const OVER: usize = 4_294_967_296;
@@ -110,27 +94,30 @@ const OVER: usize = 4_294_967_296;
 #[test]
 fn the_greatest_number(rt: HostRuntime) {
     let most = 4_294_967_295;
-    assert!(rt; is_written(rt.alloc(), Step::AskCells { site: most }));
+    assert!(rt; write(rt.alloc(), Step::AskCells { site: most }).is_ok());
 }
 
 #[test]
 fn numbers_over_32_bits(rt: HostRuntime) {
     let alloc = rt.alloc();
-    assert_refused(&rt, alloc, Step::AskCells { site: OVER });
-    assert_refused(&rt, alloc, Step::Tell { site: OVER });
-    assert_refused(&rt, alloc, Step::Deliver { post: OVER });
+    assert!(rt; is_refused(alloc, Step::AskCells { site: OVER }));
+    assert!(rt; is_refused(alloc, Step::Tell { site: OVER }));
+    assert!(rt; is_refused(alloc, Step::Deliver { post: OVER }));
     let (into, source) = (0, OVER);
-    assert_refused(&rt, alloc, Step::Merge { into, source });
+    assert!(rt; is_refused(alloc, Step::Merge { into, source }));
     let (site, told) = (OVER, 0);
-    assert_refused(&rt, alloc, Step::Post { site, told });
+    assert!(rt; is_refused(alloc, Step::Post { site, told }));
 }
 
+/// A filter by a list that was read under one scheme, and is asked under another.
 fn filter(alloc: Global, read: Scheme, asked: Scheme, field: &str) -> Result<Step, Fail> {
+    let id = MessageId::new(alloc, "m")?;
+    let list = PriorityList::parse(alloc, read, Malformed::Refused, field.as_bytes())?;
     Ok(Step::AskFilter {
         site: 0,
-        id: MessageId::new(alloc, "m")?,
+        id,
         scheme: asked,
-        list: PriorityList::parse(alloc, read, Malformed::Refused, field.as_bytes())?,
+        list,
     })
 }
 
@@ -139,9 +126,9 @@ fn filter(alloc: Global, read: Scheme, asked: Scheme, field: &str) -> Result<Ste
 fn lists_of_the_other_scheme(rt: HostRuntime) -> Result<(), Fail> {
     let alloc = rt.alloc();
     let step = filter(alloc, Scheme::Basic, Scheme::Extended, "de,en")?;
-    assert!(rt; is_written(alloc, step));
+    assert!(rt; write(alloc, step).is_ok());
     let step = filter(alloc, Scheme::Extended, Scheme::Basic, "de,en")?;
-    assert!(rt; is_written(alloc, step));
+    assert!(rt; write(alloc, step).is_ok());
     Ok(())
 }
 
@@ -149,36 +136,26 @@ fn lists_of_the_other_scheme(rt: HostRuntime) -> Result<(), Fail> {
 fn lists_that_the_other_scheme_cannot_say(rt: HostRuntime) -> Result<(), Fail> {
     let alloc = rt.alloc();
     let step = filter(alloc, Scheme::Basic, Scheme::Extended, "de;q=0.5")?;
-    assert_refused(&rt, alloc, step);
+    assert!(rt; is_refused(alloc, step));
     let step = filter(alloc, Scheme::Extended, Scheme::Basic, "de-*")?;
-    assert_refused(&rt, alloc, step);
+    assert!(rt; is_refused(alloc, step));
     Ok(())
 }
 
 fn lookup(alloc: Global) -> Result<Step, Fail> {
+    let id = MessageId::new(alloc, "m")?;
+    let list = PriorityList::from_ranges(alloc, b"*-de")?;
     Ok(Step::AskLookup {
         site: 0,
-        id: MessageId::new(alloc, "m")?,
-        list: PriorityList::from_ranges(alloc, b"*-de")?,
-        default: Some(Lang::parse(alloc, b"de")?),
+        id,
+        list,
+        default: None,
     })
 }
 
 #[test]
 fn a_lookup_by_an_extended_range(rt: HostRuntime) -> Result<(), Fail> {
     let step = lookup(rt.alloc())?;
-    assert_refused(&rt, rt.alloc(), step);
-    Ok(())
-}
-
-/// The first step that no document can have is meant.
-#[test]
-fn the_first_of_two(rt: HostRuntime) -> Result<(), Fail> {
-    let first = Step::Tell { site: 0 };
-    let second = Step::Tell { site: OVER };
-    let third = Step::Deliver { post: OVER };
-    let steps = Vec::from_array(rt.alloc(), [first, second, third])?;
-    let refused = write_script(rt.alloc(), &Script::new(1, steps)).err();
-    assert_eq!(rt; refused, Some(SECOND_ROW));
+    assert!(rt; is_refused(rt.alloc(), step));
     Ok(())
 }
