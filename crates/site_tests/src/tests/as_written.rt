@@ -1,10 +1,8 @@
 //! Documents as they are written, and other spellings of them.
 
-use cell_core::CellFault;
-use json_docs::{Doc, DocCause, DocFault, FieldFault, Spot};
-use site_docs::{read_delta, read_site, write_delta, write_site};
+use super::answers::{is_answer, rewritten, rewritten_delta};
 use std::alloc::{AllocError, Global};
-use std::process::Abort;
+use std::test::Fail;
 
 /// A site with the greatest numbers, a deletion, and texts that are written with escapes.
 const SITE: &str = concat!(
@@ -62,62 +60,65 @@ const SOME_LANGUAGES: &str = concat!(
     "\n"
 );
 
-fn rewritten(alloc: Global, text: &str) -> Result<Doc, DocFault> {
-    let site = read_site(alloc, text.as_bytes())?;
-    Ok(write_site(alloc, &site)?)
-}
+/// The escapes of [`ESCAPED`], written otherwise.
+const OTHER_ESCAPES: &str = concat!(
+    r#"{"cells":[["m","en",5,"a",0,["\u0022\u005c\u0008\u000C\u000a\u000d\u0009","#,
+    r#""\u0000\u000B\u001F\u007f \u00e9\/","\u0078\u005C"]]],"#,
+    r#""kind":"site","site":"paris","version":2}"#
+);
 
-fn rewritten_delta(alloc: Global, text: &str) -> Result<Doc, DocFault> {
-    let delta = read_delta(alloc, text.as_bytes())?;
-    Ok(write_delta(alloc, &delta)?)
-}
+/// Blanks and escapes are free, and so is the case of a language.
+const OTHER_SPELLING: &str = concat!(
+    " { \"cells\" : [ [\"\\u006d\",\"@none\",5,\"a\",0,null] ,\n",
+    "[\"m\",\"EN\",18446744073709551615,\"b\",4294967295,[\"\\u000a\\u0001\\u0022\",\"\",\"x\"]],",
+    "[\"n\",\"de\",7,\"a\",1,[\"y\"]]],\"k\\u0069nd\":\"site\",\t\"site\":\"paris\",\"version\":2}"
+);
 
-fn is_document(made: Result<Doc, DocFault>, wanted: &str) -> bool {
-    match made {
-        Ok(doc) => doc.bytes() == wanted.as_bytes(),
-        Err(_) => false,
+/// Texts, and what is written of what is read of them.
+const TEXTS: [(&str, &str); 13] = [
+    (SITE, SITE),
+    (EMPTY, EMPTY),
+    (PLAIN, PLAIN),
+    (ALIKE, ALIKE),
+    (SOME_LANGUAGES, SOME_LANGUAGES),
+    (ESCAPED, ESCAPED),
+    (OTHER_ESCAPES, ESCAPED),
+    (OTHER_SPELLING, SITE),
+    (
+        r#"{"kind":"site","cells":[],"site":"0-z","version":2}"#,
+        EMPTY,
+    ),
+    (
+        r#"{"cells":[],"kind":"site","version":2,"site":"0-z"}"#,
+        EMPTY,
+    ),
+    (
+        r#"{"cells":[],"cells":[],"kind":"site","site":"0-z","version":2}"#,
+        EMPTY,
+    ),
+    (
+        r#"{"cells":[],"kind":"site","site":"a","site":"0-z","version":2}"#,
+        EMPTY,
+    ),
+    (
+        r#"{"cells":[["m","en",5,"a",0,["x"]]],"kind":"site","site":"0-z","version":2,"cells":[]}"#,
+        EMPTY,
+    ),
+];
+
+#[test]
+fn what_is_read_is_written(rt: HostRuntime) {
+    for (text, written) in TEXTS {
+        assert!(rt; is_answer(rewritten(rt.alloc(), text), written), "{text}");
     }
-}
-
-fn assert_written(rt: &impl Abort, alloc: Global, text: &str, written: &str) {
-    assert!(rt; is_document(rewritten(alloc, text), written), "{text}");
-}
-
-fn assert_all_written(rt: &impl Abort, alloc: Global, texts: &[&str], written: &str) {
-    for text in texts {
-        assert_written(rt, alloc, text, written);
-    }
-}
-
-#[test]
-fn what_is_written_is_read(rt: HostRuntime) {
-    assert_written(&rt, rt.alloc(), SITE, SITE);
-    assert_written(&rt, rt.alloc(), SITE.trim_end(), SITE);
-    assert_written(&rt, rt.alloc(), EMPTY, EMPTY);
-    assert!(rt; is_document(rewritten_delta(rt.alloc(), DELTA), DELTA));
-}
-
-#[test]
-fn what_is_written_without_escapes_is_read(rt: HostRuntime) {
-    assert_written(&rt, rt.alloc(), PLAIN, PLAIN);
-}
-
-#[test]
-fn rows_like_the_row_before_are_read(rt: HostRuntime) {
-    assert_written(&rt, rt.alloc(), ALIKE, ALIKE);
-}
-
-#[test]
-fn languages_of_the_message_before_are_read(rt: HostRuntime) {
-    assert_written(&rt, rt.alloc(), SOME_LANGUAGES, SOME_LANGUAGES);
 }
 
 /// A language in upper case is not the one of the message before.
 #[test]
-fn a_language_in_upper_case_is_read(rt: HostRuntime) {
-    let upper = SOME_LANGUAGES.replace(rt.alloc(), r#""n","en""#, r#""n","EN""#);
-    let upper = upper.expect(&rt, "memory");
-    assert_written(&rt, rt.alloc(), &upper, SOME_LANGUAGES);
+fn a_language_in_upper_case_is_read(rt: HostRuntime) -> Result<(), Fail> {
+    let upper = SOME_LANGUAGES.replace(rt.alloc(), r#""n","en""#, r#""n","EN""#)?;
+    assert!(rt; is_answer(rewritten(rt.alloc(), &upper), SOME_LANGUAGES));
+    Ok(())
 }
 
 /// The rows of a message in this many languages, each with a comma before it.
@@ -138,200 +139,104 @@ fn write_message(
 /// A site with messages in more languages than are kept, and in fewer.
 fn many_languages(alloc: Global) -> Result<String, AllocError> {
     let mut text = String::from_str(alloc, r#"{"cells":[["l","en",1,"a",0,null]"#)?;
-    write_message(alloc, &mut text, "m", 70)?;
-    write_message(alloc, &mut text, "n", 2)?;
-    write_message(alloc, &mut text, "o", 70)?;
-    write_message(alloc, &mut text, "p", 66)?;
+    for (id, languages) in [("m", 70), ("n", 2), ("o", 70), ("p", 66)] {
+        write_message(alloc, &mut text, id, languages)?;
+    }
     text.push_str("],\"kind\":\"site\",\"site\":\"paris\",\"version\":2}\n")?;
     Ok(text)
 }
 
 #[test]
-fn messages_of_many_languages_are_read(rt: HostRuntime) {
-    let text = many_languages(rt.alloc()).expect(&rt, "memory");
-    assert_written(&rt, rt.alloc(), &text, &text);
+fn messages_of_many_languages_are_read(rt: HostRuntime) -> Result<(), Fail> {
+    let text = many_languages(rt.alloc())?;
+    assert!(rt; is_answer(rewritten(rt.alloc(), &text), &text));
+    Ok(())
 }
 
-/// Each of these ends of a site's text may be after its brace.
-fn assert_ends(rt: &impl Abort, alloc: Global, site: &str, ends: &[&str]) {
-    for end in ends {
-        let text = format!(in alloc; "{site}{end}").expect(rt, "memory");
-        assert_written(rt, alloc, &text, PLAIN);
-    }
+/// Whether this end of a site's text may be after its brace.
+fn may_end(alloc: Global, end: &str) -> Result<bool, Fail> {
+    let text = PLAIN.trim_end();
+    let text = format!(in alloc; "{text}{end}")?;
+    Ok(is_answer(rewritten(alloc, &text), PLAIN))
 }
 
 /// Of two documents in one input, the first is cut off before its line feed.
 #[test]
-fn the_line_feed_at_the_end_is_free(rt: HostRuntime) {
-    let ends = ["", "\n", "\n\n", "\r\n", " "];
-    assert_ends(&rt, rt.alloc(), PLAIN.trim_end(), ends.as_slice());
-    assert!(rt; is_document(rewritten_delta(rt.alloc(), DELTA.trim_end()), DELTA));
-}
-
-#[test]
-fn escapes_as_they_are_written(rt: HostRuntime) {
-    assert_written(&rt, rt.alloc(), ESCAPED, ESCAPED);
-}
-
-#[test]
-fn other_escapes_are_read(rt: HostRuntime) {
-    let text = concat!(
-        r#"{"cells":[["m","en",5,"a",0,["\u0022\u005c\u0008\u000C\u000a\u000d\u0009","#,
-        r#""\u0000\u000B\u001F\u007f \u00e9\/","\u0078\u005C"]]],"#,
-        r#""kind":"site","site":"paris","version":2}"#
-    );
-    assert_written(&rt, rt.alloc(), text, ESCAPED);
-}
-
-/// Blanks and escapes are free, and so is the case of a language.
-#[test]
-fn other_spellings_are_read(rt: HostRuntime) {
-    let text = concat!(
-        " { \"cells\" : [ [\"\\u006d\",\"@none\",5,\"a\",0,null] ,\n",
-        "[\"m\",\"EN\",18446744073709551615,\"b\",4294967295,[\"\\u000a\\u0001\\u0022\",\"\",\"x\"]],",
-        "[\"n\",\"de\",7,\"a\",1,[\"y\"]]],\"k\\u0069nd\":\"site\",\t\"site\":\"paris\",\"version\":2}"
-    );
-    assert_written(&rt, rt.alloc(), text, SITE);
-}
-
-#[test]
-fn members_in_another_order_are_read(rt: HostRuntime) {
-    let texts = [
-        r#"{"kind":"site","cells":[],"site":"0-z","version":2}"#,
-        r#"{"cells":[],"kind":"site","version":2,"site":"0-z"}"#,
-        r#"{"cells":[],"cells":[],"kind":"site","site":"0-z","version":2}"#,
-        r#"{"cells":[],"kind":"site","site":"a","site":"0-z","version":2}"#,
-        r#"{"cells":[["m","en",5,"a",0,["x"]]],"kind":"site","site":"0-z","version":2,"cells":[]}"#,
-    ];
-    assert_all_written(&rt, rt.alloc(), texts.as_slice(), EMPTY);
-}
-
-const REST: &str = r#","kind":"site","site":"paris","version":2}"#;
-
-const ROW: &str = r#"["m","en",5,"a",0,["x"]]"#;
-
-fn read(alloc: Global, rows: &str, rest: &str) -> Result<(), DocFault> {
-    let text = format!(in alloc; "{{\"cells\":[{rows}]{rest}")?;
-    read_site(alloc, text.as_bytes())?;
+fn the_line_feed_at_the_end_is_free(rt: HostRuntime) -> Result<(), Fail> {
+    for end in ["", "\n", "\n\n", "\r\n", " "] {
+        assert!(rt; may_end(rt.alloc(), end)?, "{end}");
+    }
     Ok(())
 }
 
-/// A site with these rows, and this after them, is refused.
-fn assert_refused(rt: &impl Abort, alloc: Global, rows: &str, rest: &str, cause: DocCause) {
-    let fault = DocFault { document: 1, cause };
-    assert_eq!(rt; read(alloc, rows, rest), Err(fault), "{rows}{rest}");
+#[test]
+fn a_delta_is_written_as_it_is_read(rt: HostRuntime) {
+    assert!(rt; is_answer(rewritten_delta(rt.alloc(), DELTA.as_bytes()), DELTA));
+    let cut = DELTA.trim_end();
+    assert!(rt; is_answer(rewritten_delta(rt.alloc(), cut.as_bytes()), DELTA));
 }
 
-const SHAPE: DocCause = DocCause::Shape {
-    spot: Spot::Document,
-};
+/// Rows of `CELLS|REST|LINE`: what follows the first cell and the cells of a site, and why that is
+/// refused; where there is no rest it is that of paris. What comes after rows that pass is tested
+/// as ever, rows rise, and a row that does not pass is refused for its first test.
+const REFUSED: &str =
+    r#"|,"kind":"site","site":"paris","version":3}|refused 28: version unknown of document 1
+|,"kind":"site","site":"paris","version":1}|refused 20: shape of document 1
+|,"kind":"site","site":"paris","version":2.0}|refused 20: shape of document 1
+|,"kind":"site","site":"paris","version":2,"x":0}|refused 20: shape of document 1
+|,"kind":"site","site":"paris"}|refused 20: shape of document 1
+|,"kind":"delta","to":"paris","version":2}|refused 20: shape of document 1
+|,"kind":"site","site":"Paris","version":2}|refused 27: site name of document 1
+|,"kind":"site","site":"paris","version":2}}|refused 19: not JSON of document 1
+|,"kind":"site","site":"paris","version":2|refused 19: not JSON of document 1
+|,"kind":"site","site":"paris","version":2} 0|refused 19: not JSON of document 1
+,["m","en",5,"a",0,["x"]]||refused 21: cell order in row 1 of document 1
+,["m","EN",6,"a",0,["x"]]||refused 21: cell order in row 1 of document 1
+,["m","de",6,"a",0,["x"]]||refused 21: cell order in row 1 of document 1
+,["n","en",5,"a",0,["x"],0]||refused 20: shape in row 1 of document 1
+,["n","en",5,"a",0]||refused 20: shape in row 1 of document 1
+,["n","en",-5,"a",0,["x"]]||refused 20: shape in row 1 of document 1
+,["n","en",18446744073709551616,"a",0,["x"]]||refused 20: shape in row 1 of document 1
+,["n","en",5,"a",4294967296,["x"]]||refused 20: shape in row 1 of document 1
+,["n","en",5,7,0,["x"]]||refused 20: shape in row 1 of document 1
+,["n","en",5,"a",0,["x",null]]||refused 20: shape in row 1 of document 1
+,["n","en",5,"a",0,"x"]||refused 20: shape in row 1 of document 1
+,["n","en",5,"a",0,["\x"]]||refused 19: not JSON of document 1
+,["n","en",5,"a",0,["\u001g"]]||refused 19: not JSON of document 1
+,["n","en",5,"a",0,["\u00"]]||refused 19: not JSON of document 1
+,["n","en",5,"a",0,["\u"]]||refused 19: not JSON of document 1
+,["n","en",5,"a",0,["\"]]||refused 19: not JSON of document 1
+,["n","en",5,"a",0,[]]||refused 12: label has 0 texts in row 1 of document 1
+,["","en",5,"a",0,[]]||refused 10: message id in row 1 of document 1
+,["n","en",5,"A",0,[]]||refused 27: site name in row 1 of document 1"#;
 
-fn assert_rests_refused(rt: &impl Abort, alloc: Global, cases: &[(&str, DocCause)]) {
-    for (rest, cause) in cases {
-        assert_refused(rt, alloc, ROW, rest, *cause);
+const REST: &str = r#","kind":"site","site":"paris","version":2}"#;
+
+/// Whether this line is of a site of one cell and these, with what follows them.
+fn is_of_cells(alloc: Global, cells: &str, rest: &str, line: &str) -> Result<bool, Fail> {
+    let rest = if rest.is_empty() { REST } else { rest };
+    let text = format!(in alloc; "{{\"cells\":[[\"m\",\"en\",5,\"a\",0,[\"x\"]]{cells}]{rest}")?;
+    Ok(is_answer(rewritten(alloc, &text), line))
+}
+
+fn is_row(alloc: Global, row: &str) -> Result<bool, Fail> {
+    let (cells, rest) = row.split_once("|").unwrap_or((row, ""));
+    let (rest, line) = rest.split_once("|").unwrap_or((rest, ""));
+    is_of_cells(alloc, cells, rest, line)
+}
+
+#[test]
+fn cells_and_what_follows_them(rt: HostRuntime) -> Result<(), Fail> {
+    for row in REFUSED.lines() {
+        assert!(rt; is_row(rt.alloc(), row)?, "{row}");
     }
-}
-
-/// What comes after rows that pass is tested as ever.
-#[test]
-fn what_follows_the_rows(rt: HostRuntime) {
-    let cases = [
-        (
-            r#","kind":"site","site":"paris","version":3}"#,
-            DocCause::VersionUnknown,
-        ),
-        (r#","kind":"site","site":"paris","version":1}"#, SHAPE),
-        (r#","kind":"site","site":"paris","version":2.0}"#, SHAPE),
-        (r#","kind":"site","site":"paris","version":2,"x":0}"#, SHAPE),
-        (r#","kind":"site","site":"paris"}"#, SHAPE),
-        (r#","kind":"delta","to":"paris","version":2}"#, SHAPE),
-        (
-            r#","kind":"site","site":"Paris","version":2}"#,
-            DocCause::SiteName,
-        ),
-        (
-            r#","kind":"site","site":"paris","version":2}}"#,
-            DocCause::NotJson,
-        ),
-        (
-            r#","kind":"site","site":"paris","version":2"#,
-            DocCause::NotJson,
-        ),
-        (
-            r#","kind":"site","site":"paris","version":2} 0"#,
-            DocCause::NotJson,
-        ),
-    ];
-    assert_rests_refused(&rt, rt.alloc(), cases.as_slice());
-}
-
-const CELL_ORDER: DocCause = DocCause::CellOrder { row: 1 };
-
-const SHAPE_OF_ROW_1: DocCause = DocCause::Shape { spot: Spot::Row(1) };
-
-fn cell(fault: CellFault) -> DocCause {
-    let fault = FieldFault::Cell(fault);
-    DocCause::Field { row: 1, fault }
-}
-
-/// This row after another is refused.
-fn assert_row_refused(rt: &impl Abort, alloc: Global, row: &str, cause: DocCause) {
-    let rows = format!(in alloc; "{ROW},{row}").expect(rt, "memory");
-    assert_refused(rt, alloc, &rows, REST, cause);
-}
-
-fn assert_rows_refused(rt: &impl Abort, alloc: Global, rows: &[&str], cause: &DocCause) {
-    for row in rows {
-        assert_row_refused(rt, alloc, row, *cause);
-    }
+    Ok(())
 }
 
 #[test]
-fn rows_that_do_not_rise(rt: HostRuntime) {
-    let rows = [
-        r#"["m","en",5,"a",0,["x"]]"#,
-        r#"["m","EN",6,"a",0,["x"]]"#,
-        r#"["m","de",6,"a",0,["x"]]"#,
-    ];
-    assert_rows_refused(&rt, rt.alloc(), rows.as_slice(), &CELL_ORDER);
-}
-
-#[test]
-fn rows_of_another_shape(rt: HostRuntime) {
-    let rows = [
-        r#"["n","en",5,"a",0,["x"],0]"#,
-        r#"["n","en",5,"a",0]"#,
-        r#"["n","en",-5,"a",0,["x"]]"#,
-        r#"["n","en",18446744073709551616,"a",0,["x"]]"#,
-        r#"["n","en",5,"a",4294967296,["x"]]"#,
-        r#"["n","en",5,7,0,["x"]]"#,
-        r#"["n","en",5,"a",0,["x",null]]"#,
-        r#"["n","en",5,"a",0,"x"]"#,
-    ];
-    assert_rows_refused(&rt, rt.alloc(), rows.as_slice(), &SHAPE_OF_ROW_1);
-}
-
-#[test]
-fn strings_that_are_no_json(rt: HostRuntime) {
-    let rows = [
-        r#"["n","en",5,"a",0,["\x"]]"#,
-        r#"["n","en",5,"a",0,["\u001g"]]"#,
-        r#"["n","en",5,"a",0,["\u00"]]"#,
-        r#"["n","en",5,"a",0,["\u"]]"#,
-        r#"["n","en",5,"a",0,["\"]]"#,
-        "[\"n\",\"en\",5,\"a\",0,[\"\n\"]]",
-    ];
-    assert_rows_refused(&rt, rt.alloc(), rows.as_slice(), &DocCause::NotJson);
-}
-
-/// A row that does not pass is refused for its first test.
-#[test]
-fn rows_with_a_refused_field(rt: HostRuntime) {
-    let alloc = rt.alloc();
-    let no_texts = cell(CellFault::LabelCount { count: 0 });
-    assert_row_refused(&rt, alloc, r#"["n","en",5,"a",0,[]]"#, no_texts);
-    let no_id = cell(CellFault::IdRefused);
-    assert_row_refused(&rt, alloc, r#"["","en",5,"a",0,[]]"#, no_id);
-    let no_name = cell(CellFault::SiteName);
-    assert_row_refused(&rt, alloc, r#"["n","en",5,"A",0,[]]"#, no_name);
+fn a_line_feed_in_a_string_is_no_json(rt: HostRuntime) -> Result<(), Fail> {
+    let cell = ",[\"n\",\"en\",5,\"a\",0,[\"\n\"]]";
+    let line = "refused 19: not JSON of document 1";
+    assert!(rt; is_of_cells(rt.alloc(), cell, "", line)?);
+    Ok(())
 }

@@ -2,7 +2,6 @@
 
 use site_docs::written_summary;
 use std::alloc::Global;
-use std::process::Abort;
 
 /// A site with a deletion, and a text that looks like the end of a document of another site.
 const SITE: &str = concat!(
@@ -30,12 +29,6 @@ fn is_summary(alloc: Global, site: &str, summary: &str) -> bool {
     }
 }
 
-fn assert_none(rt: &impl Abort, alloc: Global, texts: &[&str]) {
-    for text in texts {
-        assert!(rt; written_summary(alloc, text.as_bytes()).is_none(), "{text}");
-    }
-}
-
 #[test]
 fn of_a_site_as_it_is_written(rt: HostRuntime) {
     assert!(rt; is_summary(rt.alloc(), SITE, SUMMARY));
@@ -43,17 +36,21 @@ fn of_a_site_as_it_is_written(rt: HostRuntime) {
     assert!(rt; is_summary(rt.alloc(), EMPTY, OF_EMPTY));
 }
 
-/// Another reader takes or refuses these.
+/// Lines that another reader takes or refuses.
+const OTHER_FORMS: &str = r#"
+]
+{"cells":[],"kind":"delta","to":"0-z","version":2}
+{"cells":[],"kind":"site","site":"0-z","version":1}
+{"cells":[], "kind":"site","site":"0-z","version":2}
+{"cells":[["m","en",5,"a",0,["x"]],],"kind":"site","site":"0-z","version":2}
+{"cells":[]],"kind":"site","site":"0-z","version":2}"#;
+
 #[test]
 fn none_of_another_form(rt: HostRuntime) {
-    let texts = [
-        "",
-        "]",
-        r#"{"cells":[],"kind":"delta","to":"0-z","version":2}"#,
-        r#"{"cells":[],"kind":"site","site":"0-z","version":1}"#,
-        r#"{"cells":[], "kind":"site","site":"0-z","version":2}"#,
-        r#"{"cells":[["m","en",5,"a",0,["x"]],],"kind":"site","site":"0-z","version":2}"#,
-        r#"{"cells":[]],"kind":"site","site":"0-z","version":2}"#,
-    ];
-    assert_none(&rt, rt.alloc(), texts.as_slice());
+    for text in OTHER_FORMS.lines() {
+        assert!(rt;
+            written_summary(rt.alloc(), text.as_bytes()).is_none(),
+            "{text}"
+        );
+    }
 }
