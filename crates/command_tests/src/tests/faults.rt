@@ -9,15 +9,18 @@ use lang_core::LangFault;
 use nego_core::NegoFault;
 use std::alloc::Global;
 use std::io;
-use std::process::Abort;
 use std::test::Fail;
 
-/// The refusal is this line, in one write, and gives this status.
-fn assert_told(rt: &impl Abort, alloc: Global, fault: FrontFault, status: u8, line: &str) {
+/// Whether the refusal is this line, in one write, and gives this status.
+fn is_told(alloc: Global, fault: FrontFault, status: u8, line: &str) -> bool {
     let mut page = Page::new(alloc);
-    assert_eq!(rt; refuse(&mut Output::new(&mut page), fault), status);
-    assert!(rt; page.bytes.as_slice() == line.as_bytes(), "{line}");
-    assert_eq!(rt; page.writes, 1, "{line}");
+    let found = refuse(&mut Output::new(&mut page), fault);
+    is_page(&page, line, found == status)
+}
+
+/// Whether the page has just this line, in one write, where the rest is so.
+fn is_page(page: &Page, line: &str, is_so: bool) -> bool {
+    is_so && page.bytes.as_slice() == line.as_bytes() && page.writes == 1
 }
 
 #[test]
@@ -71,9 +74,9 @@ fn question_faults(rt: HostRuntime) {
         (FrontFault::NoMemory, 26, "refused 26: out of memory\n"),
     ];
     for (fault, number, line) in rows {
-        assert_eq!(rt; fault.number(), number);
         let status = if number == 26 { 5 } else { 3 };
-        assert_told(&rt, rt.alloc(), fault, status, line);
+        assert!(rt; fault.number() == number, "{line}");
+        assert!(rt; is_told(rt.alloc(), fault, status, line), "{line}");
     }
 }
 
@@ -90,13 +93,9 @@ fn the_longest_line(rt: HostRuntime) -> Result<(), Fail> {
         place: u128::MAX,
         stamp,
     }));
-    assert_told(
-        &rt,
-        rt.alloc(),
-        fault,
-        3,
-        "refused 13: stamp 18446744073709551615 0123456789abcdef 4294967295 used twice, cell 340282366920938463463374607431768211455, step 18446744073709551615\n",
-    );
+    let line =
+        "refused 13: stamp 18446744073709551615 0123456789abcdef 4294967295 used twice, cell 340282366920938463463374607431768211455, step 18446744073709551615\n";
+    assert!(rt; is_told(rt.alloc(), fault, 3, line));
     Ok(())
 }
 
@@ -122,7 +121,7 @@ fn document_faults(rt: HostRuntime) {
     ];
     for (document, cause, status, line) in rows {
         let fault = FrontFault::from(DocFault { document, cause });
-        assert_told(&rt, rt.alloc(), fault, status, line);
+        assert!(rt; is_told(rt.alloc(), fault, status, line), "{line}");
     }
 }
 
@@ -188,7 +187,7 @@ fn document_and_row(rt: HostRuntime) {
     ];
     for (document, cause, line) in rows {
         let fault = FrontFault::from(DocFault { document, cause });
-        assert_told(&rt, rt.alloc(), fault, 3, line);
+        assert!(rt; is_told(rt.alloc(), fault, 3, line), "{line}");
     }
 }
 
@@ -233,26 +232,23 @@ fn sites_and_scripts(rt: HostRuntime) -> Result<(), Fail> {
     ];
     for (cause, line) in rows {
         let fault = FrontFault::from(DocFault { document: 0, cause });
-        assert_told(&rt, rt.alloc(), fault, 3, line);
+        assert!(rt; is_told(rt.alloc(), fault, 3, line), "{line}");
     }
     Ok(())
+}
+
+/// Whether a process without words ends so.
+fn ends(alloc: Global, kind: io::ErrorKind, status: u8, line: &str) -> bool {
+    let mut page = Page::new(alloc);
+    let found = refuse_words(&mut Output::new(&mut page), &io::Error::from(kind));
+    is_page(&page, line, found == status)
 }
 
 /// Why a process has no words: one is not UTF-8, or memory ran out.
 #[test]
 fn words_of_the_process(rt: HostRuntime) {
-    let rows = [
-        (
-            io::ErrorKind::InvalidData,
-            2,
-            "error: a word is not UTF-8\n",
-        ),
-        (io::ErrorKind::OutOfMemory, 5, "refused 26: out of memory\n"),
-    ];
-    for (kind, status, line) in rows {
-        let mut page = Page::new(rt.alloc());
-        let error = io::Error::from(kind);
-        assert_eq!(rt; refuse_words(&mut Output::new(&mut page), &error), status);
-        assert!(rt; page.bytes.as_slice() == line.as_bytes(), "{line}");
-    }
+    let line = "error: a word is not UTF-8\n";
+    assert!(rt; ends(rt.alloc(), io::ErrorKind::InvalidData, 2, line));
+    let line = "refused 26: out of memory\n";
+    assert!(rt; ends(rt.alloc(), io::ErrorKind::OutOfMemory, 5, line));
 }

@@ -20,10 +20,6 @@ impl Page {
         Page::with_room(alloc, usize::MAX)
     }
 
-    pub fn full(alloc: Global) -> Page {
-        Page::with_room(alloc, 0)
-    }
-
     /// It takes so many bytes, and then fails.
     pub fn with_room(alloc: Global, room: usize) -> Page {
         Page {
@@ -133,27 +129,45 @@ pub struct Ran {
     pub is_read: bool,
 }
 
-/// The words in memory of their own, as the process has them.
-pub fn words_of(alloc: Global, words: &[&str]) -> Result<Vec<String>, AllocError> {
-    let mut all = Vec::new(alloc);
-    for word in words {
-        all.push(String::from_str(alloc, word)?)?;
+/// The words of a line: those in single quotes as they are, and the others between blanks.
+fn words_of(alloc: Global, line: &str) -> Result<Vec<String>, AllocError> {
+    let mut words = Vec::new(alloc);
+    let mut is_quoted = false;
+    for part in line.split("'") {
+        push_words(alloc, &mut words, part, is_quoted)?;
+        is_quoted = !is_quoted;
     }
-    Ok(all)
+    Ok(words)
 }
 
-/// A run over these streams.
+fn push_words(
+    alloc: Global,
+    words: &mut Vec<String>,
+    part: &str,
+    is_quoted: bool,
+) -> Result<(), AllocError> {
+    if is_quoted {
+        words.push(String::from_str(alloc, part)?)?;
+        return Ok(());
+    }
+    for word in part.split_whitespace() {
+        words.push(String::from_str(alloc, word)?)?;
+    }
+    Ok(())
+}
+
+/// A run of a line over an input, with an output of this room, and faults of that.
 pub fn run_over(
     alloc: Global,
-    words: &[&str],
-    reader: Tape<'_>,
-    writer: Page,
-    faults: Page,
+    line: &str,
+    input: Tape<'_>,
+    room: usize,
+    told_room: usize,
 ) -> Result<Ran, AllocError> {
-    let words = words_of(alloc, words)?;
-    let mut reader = reader;
-    let mut writer = writer;
-    let mut faults = faults;
+    let words = words_of(alloc, line)?;
+    let mut reader = input;
+    let mut writer = Page::with_room(alloc, room);
+    let mut faults = Page::with_room(alloc, told_room);
     let status = run(
         alloc,
         &words,
@@ -169,32 +183,6 @@ pub fn run_over(
     })
 }
 
-/// A run over these writers, and a reader whose every read fails.
-pub fn run_into(
-    alloc: Global,
-    words: &[&str],
-    writer: Page,
-    faults: Page,
-) -> Result<Ran, AllocError> {
-    run_over(alloc, words, Tape::failing("", 0, 0), writer, faults)
-}
-
-/// A run over an input, and writers that take everything.
-pub fn run_on(alloc: Global, words: &[&str], input: &str) -> Result<Ran, AllocError> {
-    run_over(
-        alloc,
-        words,
-        Tape::of(input),
-        Page::new(alloc),
-        Page::new(alloc),
-    )
-}
-
-/// A run over writers that take everything.
-pub fn run_words(alloc: Global, words: &[&str]) -> Result<Ran, AllocError> {
-    run_into(alloc, words, Page::new(alloc), Page::new(alloc))
-}
-
 /// Whether the text stands somewhere in the bytes.
 pub fn has_text(bytes: &[u8], text: &str) -> bool {
     match std::str::from_utf8(bytes) {
@@ -203,31 +191,95 @@ pub fn has_text(bytes: &[u8], text: &str) -> bool {
     }
 }
 
-/// Whether a run ended so, having written just this output, and told nothing.
-pub fn is_answered(ran: &Ran, status: u8, output: &str) -> bool {
-    ran.status == status && ran.output.as_slice() == output.as_bytes() && ran.told.is_empty()
+/// Whether the bytes are just these lines, which stand between slashes.
+pub fn is_lines(bytes: &[u8], lines: &str) -> bool {
+    if lines.is_empty() {
+        return bytes.is_empty();
+    }
+    let mut left = bytes;
+    for line in lines.split(" / ") {
+        match left.strip_prefix(line.as_bytes()) {
+            Some([b'\n', rest @ ..]) => left = rest,
+            _ => return false,
+        }
+    }
+    left.is_empty()
 }
 
-/// Whether a run was refused with just this line, having written no output.
-pub fn is_refused(ran: &Ran, status: u8, line: &str) -> bool {
-    ran.status == status && ran.told.as_slice() == line.as_bytes() && ran.output.is_empty()
+/// Whether a run ended so: with these lines, or where they begin with `~` with this part, of the
+/// output where it was answered, and told where it was not; the other is empty.
+pub fn is_ended(ran: &Ran, status: u8, lines: &str) -> bool {
+    let (text, other) = if status < 2 {
+        (ran.output.as_slice(), ran.told.as_slice())
+    } else {
+        (ran.told.as_slice(), ran.output.as_slice())
+    };
+    let is_text = match lines.strip_prefix("~") {
+        Some(part) => has_text(text, part),
+        None => is_lines(text, lines),
+    };
+    is_text && ran.status == status && other.is_empty()
 }
 
-/// These words are refused with just this line, before anything is read.
-pub fn assert_refused(
-    rt: &(impl Abort + AllocGlobal),
-    words: &[&str],
+/// Whether just this was written and told, with this status.
+pub fn has_left(ran: &Ran, status: u8, output: &[u8], told: &[u8]) -> bool {
+    ran.status == status && ran.output.as_slice() == output && ran.told.as_slice() == told
+}
+
+/// Whether a line ends so, where each read fails, and none is made where the status is not 4.
+pub fn ends_so(alloc: Global, line: &str, status: u8, lines: &str) -> Result<bool, AllocError> {
+    let input = Tape::failing("", 0, 0);
+    let ran = run_over(alloc, line, input, usize::MAX, usize::MAX)?;
+    Ok(is_ended_by(&ran, status, lines))
+}
+
+/// Whether a run ended so, and read where its status is 4.
+fn is_ended_by(ran: &Ran, status: u8, lines: &str) -> bool {
+    is_ended(ran, status, lines) && ran.is_read == (status == 4)
+}
+
+/// Whether a line ends so on this input.
+fn ends_on(
+    alloc: Global,
     line: &str,
-) -> Result<(), Fail> {
-    let ran = run_words(rt.alloc(), words)?;
-    assert!(rt; is_refused(&ran, 3, line) && !ran.is_read, "{words:?}");
-    Ok(())
+    input: &str,
+    status: u8,
+    lines: &str,
+) -> Result<bool, AllocError> {
+    let text = input.replace(alloc, " / ", "\n")?;
+    let ran = run_over(alloc, line, Tape::of(&text), usize::MAX, usize::MAX)?;
+    Ok(is_ended(&ran, status, lines))
 }
 
-/// The words of each row are refused with its line, before anything is read.
-pub fn all_refused(rt: &(impl Abort + AllocGlobal), rows: &[(&[&str], &str)]) -> Result<(), Fail> {
-    for (words, line) in rows {
-        assert_refused(rt, words, line)?;
+/// Whether the line of a row ends as it says, on its own input, or else on this one, or on both
+/// where its own begins with `+`.
+pub fn is_row(alloc: Global, input: &str, row: &str) -> Result<bool, AllocError> {
+    let (status, rest) = row.split_once("|").unwrap_or((row, ""));
+    let (line, rest) = rest.split_once("|").unwrap_or((rest, ""));
+    let (own, lines) = rest.split_once("|").unwrap_or((rest, ""));
+    let status = status.parse::<u8>().unwrap_or(99);
+    match own.strip_prefix("+ ") {
+        Some(more) => {
+            let both = format!(in alloc; "{input} / {more}")?;
+            ends_on(alloc, line, &both, status, lines)
+        }
+        None => {
+            let input = if own.is_empty() { input } else { own };
+            if input == "-" {
+                ends_so(alloc, line, status, lines)
+            } else {
+                ends_on(alloc, line, input, status, lines)
+            }
+        }
+    }
+}
+
+/// Each row of `STATUS|WORDS|INPUT|LINES` ends as it says. The documents of an input and the lines
+/// of an answer stand between slashes; of the input `-` each read fails, and a row without an input
+/// has this one.
+pub fn all_end(rt: &(impl Abort + AllocGlobal), input: &str, rows: &str) -> Result<(), Fail> {
+    for row in rows.lines() {
+        assert!(rt; is_row(rt.alloc(), input, row)?, "{row}");
     }
     Ok(())
 }

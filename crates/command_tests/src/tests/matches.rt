@@ -66,7 +66,7 @@ const WORDS: &[(&[&str], Option<&str>)] = &[
 #[test]
 fn usage(rt: HostRuntime) -> Result<(), Fail> {
     for (words, id) in WORDS {
-        assert_eq!(rt; status_on(rt.alloc(), words, *id)?, 2, "{words:?}");
+        assert!(rt; status_on(rt.alloc(), words, *id)? == 2);
     }
     Ok(())
 }

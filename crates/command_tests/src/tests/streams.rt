@@ -1,60 +1,55 @@
 //! Writers that fail.
-use super::harness::{Page, Tape, run_into, run_over};
+use super::harness::{Tape, has_left, run_over};
 use super::texts::EMPTY_ONE;
+use std::alloc::{AllocError, Global};
 use std::test::Fail;
 
-const PICKS: &[&[&str]] = &[&["pick", "en", "en"], &["pick", "en", "fr"]];
+/// Picks, and questions that the empty site has no answer to.
+const WORDS: [&str; 7] = [
+    "pick en en",
+    "pick en fr",
+    "filter --id m en",
+    "lookup --id m en",
+    "bundle en",
+    "missing --lang en",
+    "outdated --lang en --source de",
+];
 
+/// Whether a run whose output takes nothing ends with a write fault, which is told where there is
+/// room.
+fn is_write_fault(alloc: Global, words: &str, room: usize) -> Result<bool, AllocError> {
+    let ran = run_over(alloc, words, Tape::of(EMPTY_ONE), 0, room)?;
+    let told = if room == 0 {
+        ""
+    } else {
+        "refused 25: write fault\n"
+    };
+    Ok(has_left(&ran, 4, b"", told.as_bytes()))
+}
+
+/// Where an answer is not written, also the line that says that there is none, that is the fault,
+/// and not status 1.
 #[test]
 fn failing_output(rt: HostRuntime) -> Result<(), Fail> {
-    let alloc = rt.alloc();
-    for words in PICKS {
-        let ran = run_into(alloc, words, Page::full(alloc), Page::new(alloc))?;
-        assert_eq!(rt; ran.status, 4);
-        assert!(rt; ran.told.as_slice() == b"refused 25: write fault\n".as_slice());
-        let ran = run_into(alloc, words, Page::full(alloc), Page::full(alloc))?;
-        assert_eq!(rt; ran.status, 4);
+    for words in WORDS {
+        assert!(rt; is_write_fault(rt.alloc(), words, usize::MAX)?, "{words}");
+        assert!(rt; is_write_fault(rt.alloc(), words, 0)?, "{words}");
     }
     Ok(())
 }
 
-/// Questions that the empty site has no answer to.
-const UNANSWERED: &[&[&str]] = &[
-    &["filter", "--id", "m", "en"],
-    &["lookup", "--id", "m", "en"],
-    &["bundle", "en"],
-    &["missing", "--lang", "en"],
-    &["outdated", "--lang", "en", "--source", "de"],
-];
-
-/// Where the line that says so is not written, that is the fault, and not status 1.
-#[test]
-fn failing_output_of_no_answer(rt: HostRuntime) -> Result<(), Fail> {
-    let alloc = rt.alloc();
-    for words in UNANSWERED {
-        let site = Tape::of(EMPTY_ONE);
-        let ran = run_over(alloc, words, site, Page::full(alloc), Page::new(alloc))?;
-        assert_eq!(rt; ran.status, 4, "{words:?}");
-        assert!(rt; ran.told.as_slice() == b"refused 25: write fault\n".as_slice());
-    }
-    Ok(())
+/// Whether a run whose faults are not taken ends with this status and output.
+fn is_left(alloc: Global, words: &str, status: u8, output: &str) -> Result<bool, AllocError> {
+    let ran = run_over(alloc, words, Tape::of(""), usize::MAX, 0)?;
+    Ok(has_left(&ran, status, output.as_bytes(), b""))
 }
-
-const ANSWERS: &[(&[&str], u8, &str)] = &[
-    (&["pick", "en", "en"], 0, "matched en\n"),
-    (&["pick", "en", "fr"], 1, "nothing\n"),
-    (&["pick", "en", "e"], 3, ""),
-    (&["pick", "en"], 2, ""),
-];
 
 /// A faults writer that fails leaves the status, and the output, as they are.
 #[test]
 fn failing_faults(rt: HostRuntime) -> Result<(), Fail> {
-    let alloc = rt.alloc();
-    for (words, status, output) in ANSWERS {
-        let ran = run_into(alloc, words, Page::new(alloc), Page::full(alloc))?;
-        assert_eq!(rt; ran.status, *status);
-        assert!(rt; ran.output.as_slice() == output.as_bytes());
-    }
+    assert!(rt; is_left(rt.alloc(), "pick en en", 0, "matched en\n")?);
+    assert!(rt; is_left(rt.alloc(), "pick en fr", 1, "nothing\n")?);
+    assert!(rt; is_left(rt.alloc(), "pick en e", 3, "")?);
+    assert!(rt; is_left(rt.alloc(), "pick en", 2, "")?);
     Ok(())
 }
