@@ -13,7 +13,7 @@ SOURCES := crates.txt $(shell find crates \
 	\( -name out -o -name '*_tests' -o -name 'example_*' -o -name bench \) -prune \
 	-o -type f \( -name '*.rt' -o -name '*.antt' \) -print)
 
-.PHONY: all help try try-session library browser demo test test-alone check-docs \
+.PHONY: all help try try-session library browser demo test test-edits test-alone check-docs \
 	bench bench-documents bench-front install install-command install-library uninstall dist clean
 
 .DEFAULT_GOAL := all
@@ -64,9 +64,15 @@ build/browser/silkwaram.wasm: $(SOURCES) include/silkwaram.h scripts/browser scr
 #: make test          the whole gate: one to two and a half hours on four processors
 # The program that the compiler has to refuse; every proof, from nothing where this machine has not
 # passed the same crate before, the tests and the programs; the edits that the prover has to refuse,
-# one of each function and many in one check; then what the docs show. The last line counts them all.
+# one of each public function and many in one check; then what the docs show. The last line counts
+# them all.
 test:
 	RT='$(RT)' scripts/gate
+
+#: make test-edits    tries every edit that the prover has to refuse, those of inner functions too,
+#:                    over what `make` kept: an hour or so
+test-edits: build/lexicat
+	RT='$(RT)' scripts/edits
 
 #: make test-alone    the same by `rt ci` alone, with each edit tried alone: some hours
 test-alone:
