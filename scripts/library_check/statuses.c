@@ -1,6 +1,6 @@
 /* What each call answers to questions that the command cannot be asked, and what it leaves: unknown flags, handles that
  * are not open, bytes that are no text, room that is too small, a site that is shared or read anew. */
-#include "questions.h"
+#include "rows.h"
 
 #define PARIS                                                                                               \
   "{\"cells\":[[\"m\",\"en\",5,\"paris\",0,[\"Hello\",\"Hi\"]],[\"m\",\"fr\",5,\"paris\",1,[\"Bonjour\"]]," \
@@ -10,50 +10,6 @@
 #define UNSORTED                                                                                              \
   "{\"cells\":[[\"n\",\"en\",5,\"paris\",0,[\"a\"]],[\"m\",\"en\",5,\"paris\",1,[\"b\"]]],\"kind\":\"site\"," \
   "\"site\":\"paris\",\"version\":2}\n"
-
-enum { ROOM = 256 };
-
-/* What a call has to answer. */
-typedef struct {
-  int32_t status;
-  sw_told told;
-  const char *answer;
-} wanted;
-
-static unsigned rows, faults;
-static uint8_t out[ROOM];
-static sw_told told;
-
-static wanted answers(int32_t status, size_t count, const char *answer) {
-  return (wanted){status, {.len = strlen(answer), .count = count}, answer};
-}
-
-static wanted refused(uint32_t number, size_t offset, size_t row) {
-  return (wanted){SW_REFUSED, {.number = number, .offset = offset, .row = row}, ""};
-}
-
-static wanted nothing_told(int32_t status) { return (wanted){status, {0}, ""}; }
-
-static void holds_at(int line, int is_well) {
-  rows++;
-  if (is_well) return;
-  faults++;
-  fprintf(stderr, "statuses.c:%d: status or answer; len %zu offset %zu row %zu count %zu number %u\n", line, told.len,
-          told.offset, told.row, told.count, told.number);
-}
-
-/* Makes a buffer and a `told` that no call has written to. */
-static void begin(void) {
-  memset(out, UNTOUCHED, sizeof out);
-  memset(&told, UNTOUCHED, sizeof told);
-}
-
-/* An answer with more bytes than there was room for is not in the buffer. */
-static void compare(int line, int32_t status, size_t room, wanted it) {
-  size_t written = it.told.len <= room ? it.told.len : 0;
-  holds_at(line, status == it.status && same_told(&told, &it.told) && !memcmp(out, it.answer, written) &&
-                     is_untouched(out + written, sizeof out - written));
-}
 
 static void pick_at(int line, uint32_t flags, text field, text tags, text dflt, wanted it) {
   begin();
@@ -85,8 +41,6 @@ static void bundle_at(int line, sw_site *site, uint32_t flags, text field, text 
   compare(line, sw_site_bundle(site, flags, BYTES(field), BYTES(dflt), out, ROOM, &told), ROOM, it);
 }
 
-/* (a row that is wrong is told by its line) */
-#define HOLDS(condition) holds_at(__LINE__, condition)
 #define PICK(...) pick_at(__LINE__, __VA_ARGS__)
 #define OPEN(...) open_at(__LINE__, __VA_ARGS__)
 #define LOOKUP(...) lookup_at(__LINE__, __VA_ARGS__)
@@ -106,6 +60,12 @@ static void picks(void) {
   PICK(0, T("en"), NO_TEXT, T("en"), nothing_told(SW_NOTHING));
   PICK(SW_EXTENDED, T("de-*-DE"), T("de\nde-DE"), NO_TEXT, answers(SW_FOUND, 0, "de-DE"));
   PICK(SW_LENIENT, T("en_US, fr;q=0.5"), T("en\nfr"), NO_TEXT, answers(SW_FOUND, 0, "fr"));
+  PICK(0, T("de-*-DE"), T("de"), NO_TEXT, refused(9, 0, 0));
+  PICK(SW_EXTENDED, T("de-*-DE"), T("de"), NO_TEXT, answers(SW_FOUND, 0, "de"));
+  PICK(SW_LENIENT, T("en_US, de-DE;q=0.5, en;q=0.1"), T("en\nde"), NO_TEXT, answers(SW_FOUND, 0, "de"));
+  PICK(SW_EXTENDED | SW_LENIENT, T("en_US, de-DE;q=0.5, en;q=0.1"), T("en\nde"), NO_TEXT, nothing_told(SW_NOTHING));
+  PICK(0, T("en"), T("en-US"), NO_TEXT, nothing_told(SW_NOTHING));
+  PICK(SW_WIDEN, T("en"), T("en-US"), NO_TEXT, answers(SW_FOUND, 0, "en-US"));
   PICK(SW_EXTENDED | SW_LENIENT, T("de;q=0.5, fr"), T("de\nfr"), NO_TEXT, answers(SW_FOUND, 0, "fr"));
 
   PICK(0, T("en"), T("\n"), NO_TEXT, refused(1, 0, 0));
@@ -184,11 +144,13 @@ static void questions(sw_site *site) {
          answers(SW_FOUND, 0, "filter 2\nen 1000 [\"Hello\",\"Hi\"]\nfr 500 [\"Bonjour\"]\n"));
   FILTER(site, 0, T("m"), T("ja"), answers(SW_NOTHING, 0, "filter 0\n"));
   FILTER(site, 0, T("@"), T("e n"), refused(10, 0, 0));
+  FILTER(site, 0, T("m"), T("fr, en_US"), refused(9, 4, 0));
 
   BUNDLE(site, 0, T("fr, de;q=0.5"), NO_TEXT,
          answers(SW_FOUND, 0, "{\"m\":{\"fr\":\"Bonjour\"},\"n\":{\"de\":\"\"}}\n"));
   BUNDLE(site, 0, T("ja"), NO_TEXT, answers(SW_NOTHING, 0, "{}\n"));
   BUNDLE(site, 0, T("e n"), T("a"), refused(4, 0, 0));
+  BUNDLE(site, 0, T("fr, en_US"), NO_TEXT, refused(9, 4, 0));
 }
 
 static void rooms(sw_site *site) {
@@ -198,6 +160,13 @@ static void rooms(sw_site *site) {
     int32_t status = sw_site_lookup(site, 0, BYTES(T("m")), BYTES(T("fr")), NULL, 0, room ? out : NULL, room, &told);
     compare(__LINE__, status, room, answers(SW_FOUND, 0, line));
   }
+  text m = T("m"), ja = T("ja"), tag = T("de-CH");
+  for (size_t room = 0; room <= tag.len; room++)
+    ROW(room, sw_pick(0, BYTES(tag), BYTES(tag), NULL, 0, out, room, &told), answers(SW_FOUND, 0, "de-CH"));
+  ROW(7, sw_site_lookup(site, 0, BYTES(m), BYTES(ja), NULL, 0, out, 7, &told), answers(SW_NOTHING, 0, "nothing\n"));
+  ROW(4, sw_site_text(site, 0, BYTES(m), BYTES(T("en")), NULL, 0, 0, out, 4, &told), answers(SW_FOUND, 2, "Hello"));
+  ROW(8, sw_site_filter(site, 0, BYTES(m), BYTES(ja), out, 8, &told), answers(SW_NOTHING, 0, "filter 0\n"));
+  ROW(2, sw_site_bundle(site, 0, BYTES(ja), NULL, 0, out, 2, &told), answers(SW_NOTHING, 0, "{}\n"));
 }
 
 static void reads_anew(sw_site *site) {

@@ -41,8 +41,6 @@ mod handles;
 mod question;
 mod status;
 mod telling;
-#[cfg(test)]
-mod tests;
 mod told;
 
 use crate::answers::{

@@ -1,0 +1,193 @@
+/* What each call answers that makes, edits and exchanges a site, what it leaves, and what an editor asks: each status,
+ * each refusal and each answer once, by hand. The command's answers to edits are compared by edits.py. */
+#include "rows.h"
+
+#define SITE_A "{\"cells\":[[\"m\",\"en\",5,\"a\",0,[\"Hello\"]]],\"kind\":\"site\",\"site\":\"a\",\"version\":2}\n"
+#define SUMMARY_OF_A \
+  "{\"kind\":\"summary\",\"owner\":\"a\",\"stamps\":[[\"m\",\"en\",5,\"a\",0]],\"version\":2}\n"
+#define DELTA_OF_B \
+  "{\"cells\":[[\"m\",\"fr\",7,\"b\",0,[\"Bonjour\"]]],\"kind\":\"delta\",\"to\":\"a\",\"version\":2}\n"
+#define CLASH "{\"cells\":[[\"m\",\"en\",5,\"a\",0,[\"Hi\"]]],\"kind\":\"delta\",\"to\":\"a\",\"version\":2}\n"
+#define ENGLISH "{\"m\":{\"en\":\"Hello\"}}\n"
+#define BOTH "{\"m\":{\"en\":\"Hello\",\"fr\":\"Bonjour\"}}\n"
+
+static const wanted done = {SW_FOUND, {0}, ""}, usage = {SW_USAGE, {0}, ""};
+
+/* A call that has no buffer, and what it has to answer. */
+#define DONE(call, ...) ROW(0, call, __VA_ARGS__)
+/* The labels of a site, as language maps. */
+#define HAS(site, maps) ROW(ROOM, sw_site_export(site, out, ROOM, &told), answers(SW_FOUND, 0, maps))
+
+/* A site `a` whose one label was put at the time 5. */
+static sw_site site_a(void) {
+  sw_site site = {0};
+  DONE(sw_site_open(BYTES(T(SITE_A)), &site, &told), done);
+  return site;
+}
+
+static void made_and_edited(void) {
+  sw_site site = {0};
+  text m = T("m"), en = T("en");
+  DONE(sw_site_new(BYTES(T("A")), &site, &told), refused(27, 0, 0));
+  HOLDS(!site.held);
+  DONE(sw_site_new(BYTES(T("a")), &site, &told), done);
+  DONE(sw_site_put(&site, 5, BYTES(m), BYTES(en), BYTES(T("Hello")), &told), done);
+  HAS(&site, ENGLISH);
+  DONE(sw_site_put(&site, 6, BYTES(T("@")), BYTES(T("e n")), BYTES(T("\xff")), &told), refused(10, 0, 0));
+  DONE(sw_site_put(&site, 6, BYTES(m), BYTES(T("e n")), BYTES(T("\xff")), &told), refused(3, 0, 0));
+  DONE(sw_site_put(&site, 6, BYTES(m), BYTES(en), BYTES(T("a\xff")), &told), refused(18, 1, 0));
+  DONE(sw_site_delete(&site, 6, BYTES(T("@")), BYTES(T("e n")), &told), refused(10, 0, 0));
+  DONE(sw_site_delete(&site, 6, BYTES(m), BYTES(T("e n")), &told), refused(3, 0, 0));
+  HAS(&site, ENGLISH);
+  DONE(sw_site_delete(&site, 6, BYTES(m), BYTES(en), &told), done);
+  ROW(ROOM, sw_site_status(&site, out, ROOM, &told), answers(SW_FOUND, 0, "site a cells 1 labels 0 last 6 a 0\n"));
+  sw_site_free(&site);
+}
+
+static void long_texts(void) {
+  sw_site site = site_a();
+  size_t most = 65535;
+  uint8_t *label = block(most + 1);
+  memset(label, 'x', most + 1);
+  DONE(sw_site_put(&site, 6, BYTES(T("n")), BYTES(T("en")), label, most + 1, &told), refused(11, 0, 0));
+  HAS(&site, ENGLISH);
+  DONE(sw_site_put(&site, 6, BYTES(T("n")), BYTES(T("en")), label, most, &told), done);
+  ROW(0, sw_site_text(&site, 0, BYTES(T("n")), BYTES(T("en")), NULL, 0, 0, NULL, 0, &told),
+      (wanted){SW_FOUND, {.len = most, .count = 1}, ""});
+  free(label);
+  sw_site_free(&site);
+}
+
+static void language_maps(void) {
+  sw_site site = site_a();
+  text english = T(ENGLISH), both = T(BOTH);
+  DONE(sw_site_import(&site, 6, BYTES(T("{\"m\":{\"fr\":[\"Bonjour\"]}}")), &told), done);
+  HAS(&site, BOTH);
+  DONE(sw_site_import(&site, 6, BYTES(T("[]")), &told), refused(20, 0, 0));
+  DONE(sw_site_update(&site, 6, BYTES(T("[]")), BYTES(T("{")), &told), refused(20, 0, 0));
+  DONE(sw_site_update(&site, 6, BYTES(both), BYTES(T("{")), &told), refused(19, 0, 0));
+  HAS(&site, BOTH);
+  DONE(sw_site_update(&site, 6, BYTES(both), BYTES(english), &told), done);
+  HAS(&site, ENGLISH);
+  sw_site_free(&site);
+}
+
+static void deltas(void) {
+  sw_site site = site_a();
+  text delta = T(DELTA_OF_B), other = T("{\"cells\":[],\"kind\":\"delta\",\"to\":\"b\",\"version\":2}");
+  DONE(sw_site_take(&site, BYTES(delta), 6, &told), refused(29, 0, 0));
+  DONE(sw_site_take(&site, BYTES(other), 0, &told), refused(15, 0, 0));
+  DONE(sw_site_take(&site, BYTES(T(CLASH)), 0, &told), refused(13, 0, 0));
+  DONE(sw_site_take(&site, BYTES(T("{")), 0, &told), refused(19, 0, 0));
+  HAS(&site, ENGLISH);
+  DONE(sw_site_take(&site, BYTES(delta), 7, &told), done);
+  HAS(&site, BOTH);
+  DONE(sw_site_take(&site, BYTES(delta), 0, &told), done);
+  HAS(&site, BOTH);
+  sw_site_free(&site);
+}
+
+static void shares(void) {
+  sw_site site = site_a(), share = {0};
+  HOLDS(sw_site_share(&site, &share) == SW_FOUND);
+  DONE(sw_site_take(&site, BYTES(T(DELTA_OF_B)), 0, &told), done);
+  HAS(&site, BOTH);
+  HAS(&share, ENGLISH);
+  ROW(ROOM, sw_site_changes(&share, &site, out, ROOM, &told),
+      answers(SW_FOUND, 0, "changes 1\n[\"m\",\"fr\",null,[7,\"b\",0,[\"Bonjour\"]]]\n"));
+  DONE(sw_site_merge(&share, &site, &told), done);
+  HAS(&share, BOTH);
+  ROW(ROOM, sw_site_changes(&share, &site, out, ROOM, &told), answers(SW_NOTHING, 0, "changes 0\n"));
+  sw_site_free(&site);
+  sw_site_free(&share);
+}
+
+static void clashes(void) {
+  sw_site site = site_a(), other = {0};
+  DONE(sw_site_new(BYTES(T("a")), &other, &told), done);
+  DONE(sw_site_put(&other, 5, BYTES(T("m")), BYTES(T("en")), BYTES(T("Hi")), &told), done);
+  DONE(sw_site_merge(&site, &other, &told), refused(13, 0, 0));
+  HAS(&site, ENGLISH);
+  sw_site_free(&site);
+  sw_site_free(&other);
+}
+
+static void documents(void) {
+  sw_site site = site_a();
+  text summary = T(SUMMARY_OF_A);
+  ROW(ROOM, sw_site_write(&site, out, ROOM, &told), answers(SW_FOUND, 0, SITE_A));
+  ROW(ROOM, sw_site_summary(&site, out, ROOM, &told), answers(SW_FOUND, 0, SUMMARY_OF_A));
+  ROW(ROOM, sw_site_delta(&site, BYTES(summary), out, ROOM, &told),
+      answers(SW_FOUND, 0, "{\"cells\":[],\"kind\":\"delta\",\"to\":\"a\",\"version\":2}\n"));
+  ROW(ROOM, sw_site_delta(&site, BYTES(T(SITE_A)), out, ROOM, &told), refused(20, 0, 0));
+  for (size_t room = 0; room <= summary.len; room++)
+    ROW(room, sw_site_summary(&site, room ? out : NULL, room, &told), answers(SW_FOUND, 0, SUMMARY_OF_A));
+  sw_site_free(&site);
+}
+
+static void questions(void) {
+  sw_site site = site_a();
+  ROW(ROOM, sw_site_missing(&site, BYTES(T("fr")), out, ROOM, &told), answers(SW_FOUND, 0, ENGLISH));
+  ROW(ROOM, sw_site_missing(&site, BYTES(T("en")), out, ROOM, &told), answers(SW_NOTHING, 0, "{}\n"));
+  ROW(ROOM, sw_site_missing(&site, BYTES(T("e n")), out, ROOM, &told), refused(3, 0, 0));
+  ROW(ROOM, sw_site_outdated(&site, BYTES(T("en")), BYTES(T("fr")), out, ROOM, &told), answers(SW_NOTHING, 0, "{}\n"));
+  DONE(sw_site_take(&site, BYTES(T(DELTA_OF_B)), 0, &told), done);
+  ROW(ROOM, sw_site_outdated(&site, BYTES(T("en")), BYTES(T("fr")), out, ROOM, &told), answers(SW_FOUND, 0, BOTH));
+  ROW(ROOM, sw_site_outdated(&site, BYTES(T("e n")), BYTES(T("a")), out, ROOM, &told), refused(3, 0, 0));
+  ROW(ROOM, sw_site_outdated(&site, BYTES(T("en")), BYTES(T("a")), out, ROOM, &told), refused(4, 0, 0));
+  sw_site_free(&site);
+}
+
+/* Each call to a handle that is not open, alone or beside one that is. */
+static void closed_handles(void) {
+  sw_site site = site_a(), none = {0};
+  text m = T("m"), en = T("en"), maps = T(ENGLISH);
+  DONE(sw_site_put(&none, 6, BYTES(m), BYTES(en), BYTES(m), &told), usage);
+  DONE(sw_site_delete(&none, 6, BYTES(m), BYTES(en), &told), usage);
+  DONE(sw_site_merge(&none, &site, &told), usage);
+  DONE(sw_site_merge(&site, &none, &told), usage);
+  DONE(sw_site_take(&none, BYTES(T(DELTA_OF_B)), 0, &told), usage);
+  DONE(sw_site_import(&none, 6, BYTES(maps), &told), usage);
+  DONE(sw_site_update(&none, 6, BYTES(maps), BYTES(maps), &told), usage);
+  ROW(ROOM, sw_site_write(&none, out, ROOM, &told), usage);
+  ROW(ROOM, sw_site_summary(&none, out, ROOM, &told), usage);
+  ROW(ROOM, sw_site_status(&none, out, ROOM, &told), usage);
+  ROW(ROOM, sw_site_delta(&none, BYTES(T(SUMMARY_OF_A)), out, ROOM, &told), usage);
+  ROW(ROOM, sw_site_export(&none, out, ROOM, &told), usage);
+  ROW(ROOM, sw_site_missing(&none, BYTES(en), out, ROOM, &told), usage);
+  ROW(ROOM, sw_site_outdated(&none, BYTES(en), BYTES(en), out, ROOM, &told), usage);
+  ROW(ROOM, sw_site_changes(&none, &site, out, ROOM, &told), usage);
+  ROW(ROOM, sw_site_changes(&site, &none, out, ROOM, &told), usage);
+  HOLDS(!none.held);
+  HAS(&site, ENGLISH);
+  sw_site_free(&site);
+}
+
+static void without_a_site(void) {
+  text en = T("en"), tags = T("EN\nde"), sentence = T("a site name has 1 to 16 bytes of a to z, 0 to 9 and -");
+  ROW(ROOM, sw_filter(0, BYTES(en), BYTES(tags), out, ROOM, &told), answers(SW_FOUND, 0, "filter 1\nEN 1000\n"));
+  ROW(ROOM, sw_filter(0, BYTES(T("ja")), BYTES(tags), out, ROOM, &told), answers(SW_NOTHING, 0, "filter 0\n"));
+  ROW(ROOM, sw_filter(0, BYTES(T("fr, e n")), BYTES(T("e n")), out, ROOM, &told), refused(9, 4, 0));
+  ROW(ROOM, sw_filter(0, BYTES(en), BYTES(T("en\n\n")), out, ROOM, &told), refused(1, 0, 0));
+  ROW(ROOM, sw_filter(SW_WIDEN, BYTES(en), BYTES(tags), out, ROOM, &told), usage);
+  ROW(ROOM, sw_refusal(27, out, ROOM, &told), answers(SW_FOUND, 0, (const char *)sentence.bytes));
+  ROW(sentence.len - 1, sw_refusal(27, out, sentence.len - 1, &told),
+      answers(SW_FOUND, 0, (const char *)sentence.bytes));
+  ROW(ROOM, sw_refusal(30, out, ROOM, &told), nothing_told(SW_NOTHING));
+  ROW(ROOM, sw_refusal(0, out, ROOM, &told), nothing_told(SW_NOTHING));
+}
+
+int main(void) {
+  made_and_edited();
+  long_texts();
+  language_maps();
+  deltas();
+  shares();
+  clashes();
+  documents();
+  questions();
+  closed_handles();
+  without_a_site();
+  printf("edits: %u rows, %u wrong\n", rows, faults);
+  return faults != 0;
+}
