@@ -12,7 +12,7 @@ use std::io;
 use std::test::Fail;
 
 /// Whether the refusal is this line, in one write, and gives this status.
-fn is_told(alloc: Global, fault: FrontFault, status: u8, line: &str) -> bool {
+fn is_reported(alloc: Global, fault: FrontFault, status: u8, line: &str) -> bool {
     let mut page = Page::new(alloc);
     let found = refuse(&mut Output::new(&mut page), fault);
     is_page(&page, line, found == status)
@@ -76,7 +76,7 @@ fn question_faults(rt: HostRuntime) {
     for (fault, number, line) in rows {
         let status = if number == 26 { 5 } else { 3 };
         assert!(rt; fault.number() == number, "{line}");
-        assert!(rt; is_told(rt.alloc(), fault, status, line), "{line}");
+        assert!(rt; is_reported(rt.alloc(), fault, status, line), "{line}");
     }
 }
 
@@ -95,11 +95,11 @@ fn the_longest_line(rt: HostRuntime) -> Result<(), Fail> {
     }));
     let line =
         "refused 13: stamp 18446744073709551615 0123456789abcdef 4294967295 used twice, cell 340282366920938463463374607431768211455, step 18446744073709551615\n";
-    assert!(rt; is_told(rt.alloc(), fault, 3, line));
+    assert!(rt; is_reported(rt.alloc(), fault, 3, line));
     Ok(())
 }
 
-/// A refusal of a document is told as the fault itself says it, with LF.
+/// A refusal of a document is printed as the fault itself says it, with LF.
 #[test]
 fn document_faults(rt: HostRuntime) {
     let rows = [
@@ -121,7 +121,7 @@ fn document_faults(rt: HostRuntime) {
     ];
     for (document, cause, status, line) in rows {
         let fault = FrontFault::from(DocFault { document, cause });
-        assert!(rt; is_told(rt.alloc(), fault, status, line), "{line}");
+        assert!(rt; is_reported(rt.alloc(), fault, status, line), "{line}");
     }
 }
 
@@ -187,7 +187,7 @@ fn document_and_row(rt: HostRuntime) {
     ];
     for (document, cause, line) in rows {
         let fault = FrontFault::from(DocFault { document, cause });
-        assert!(rt; is_told(rt.alloc(), fault, 3, line), "{line}");
+        assert!(rt; is_reported(rt.alloc(), fault, 3, line), "{line}");
     }
 }
 
@@ -232,7 +232,7 @@ fn sites_and_scripts(rt: HostRuntime) -> Result<(), Fail> {
     ];
     for (cause, line) in rows {
         let fault = FrontFault::from(DocFault { document: 0, cause });
-        assert!(rt; is_told(rt.alloc(), fault, 3, line), "{line}");
+        assert!(rt; is_reported(rt.alloc(), fault, 3, line), "{line}");
     }
     Ok(())
 }

@@ -125,7 +125,7 @@ impl Read for Tape<'_> {
 pub struct Ran {
     pub status: u8,
     pub output: Vec<u8>,
-    pub told: Vec<u8>,
+    pub faults: Vec<u8>,
     pub is_read: bool,
 }
 
@@ -162,12 +162,12 @@ pub fn run_over(
     line: &str,
     input: Tape<'_>,
     room: usize,
-    told_room: usize,
+    fault_room: usize,
 ) -> Result<Ran, AllocError> {
     let words = words_of(alloc, line)?;
     let mut reader = input;
     let mut writer = Page::with_room(alloc, room);
-    let mut faults = Page::with_room(alloc, told_room);
+    let mut faults = Page::with_room(alloc, fault_room);
     let status = run(
         alloc,
         &words,
@@ -178,7 +178,7 @@ pub fn run_over(
     Ok(Ran {
         status,
         output: writer.bytes,
-        told: faults.bytes,
+        faults: faults.bytes,
         is_read: reader.reads > 0,
     })
 }
@@ -207,12 +207,12 @@ pub fn is_lines(bytes: &[u8], lines: &str) -> bool {
 }
 
 /// Whether a run ended so: with these lines, or where they begin with `~` with this part, of the
-/// output where it was answered, and told where it was not; the other is empty.
+/// output where it was answered, and of the faults where it was not; the other is empty.
 pub fn is_ended(ran: &Ran, status: u8, lines: &str) -> bool {
     let (text, other) = if status < 2 {
-        (ran.output.as_slice(), ran.told.as_slice())
+        (ran.output.as_slice(), ran.faults.as_slice())
     } else {
-        (ran.told.as_slice(), ran.output.as_slice())
+        (ran.faults.as_slice(), ran.output.as_slice())
     };
     let is_text = match lines.strip_prefix("~") {
         Some(part) => has_text(text, part),
@@ -221,9 +221,9 @@ pub fn is_ended(ran: &Ran, status: u8, lines: &str) -> bool {
     is_text && ran.status == status && other.is_empty()
 }
 
-/// Whether just this was written and told, with this status.
-pub fn has_left(ran: &Ran, status: u8, output: &[u8], told: &[u8]) -> bool {
-    ran.status == status && ran.output.as_slice() == output && ran.told.as_slice() == told
+/// Whether just this was written to the output and to the faults, with this status.
+pub fn has_left(ran: &Ran, status: u8, output: &[u8], faults: &[u8]) -> bool {
+    ran.status == status && ran.output.as_slice() == output && ran.faults.as_slice() == faults
 }
 
 /// Whether a line ends so, where each read fails, and none is made where the status is not 4.

@@ -24,7 +24,7 @@ fn program<'a>(alloc: Global, id: Option<&'a str>) -> Result<Command<'a>, Fail> 
 const USAGE: &str =
     "error: no command takes these arguments together\n\nFor more information, try '--help'.\n";
 
-/// The status of these matches, or 98 where the output has something, or another line was told.
+/// The status of these matches, or 98 where the output has something, or another line was printed.
 fn status_of(alloc: Global, matches: &ArgMatches<'_>) -> u8 {
     let mut reader = Tape::failing("", 0, 0);
     let mut writer = Page::new(alloc);
@@ -62,7 +62,7 @@ const WORDS: &[(&[&str], Option<&str>)] = &[
     (&["pick"], None),
 ];
 
-/// A usage fault, which is told, and nothing is written to the output.
+/// A usage fault, which is printed, and nothing is written to the output.
 #[test]
 fn usage(rt: HostRuntime) -> Result<(), Fail> {
     for (words, id) in WORDS {

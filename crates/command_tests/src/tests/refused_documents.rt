@@ -83,7 +83,7 @@ fn pieces_of_a_script(rt: HostRuntime) -> Result<(), Fail> {
 }
 
 /// Whether a line is refused with as much of its fault line as there is room for.
-fn is_told_in(alloc: Global, words: &str, line: &[u8], room: usize) -> Result<bool, AllocError> {
+fn is_refused_in(alloc: Global, words: &str, line: &[u8], room: usize) -> Result<bool, AllocError> {
     let ran = run_over(alloc, words, Tape::of(""), usize::MAX, room)?;
     Ok(has_left(&ran, 3, b"", line))
 }
@@ -96,7 +96,7 @@ fn faults_that_fail_at_every_byte(rt: HostRuntime) -> Result<(), Fail> {
         ("status", "refused 19: not JSON of document 1\n"),
     ] {
         for room in 0..line.len() {
-            let is = is_told_in(rt.alloc(), words, &line.as_bytes()[..room], room)?;
+            let is = is_refused_in(rt.alloc(), words, &line.as_bytes()[..room], room)?;
             assert!(rt; is, "{line} {room}");
         }
     }

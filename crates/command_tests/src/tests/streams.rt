@@ -15,16 +15,16 @@ const WORDS: [&str; 7] = [
     "outdated --lang en --source de",
 ];
 
-/// Whether a run whose output takes nothing ends with a write fault, which is told where there is
-/// room.
+/// Whether a run whose output takes nothing ends with a write fault, which is printed where
+/// there is room.
 fn is_write_fault(alloc: Global, words: &str, room: usize) -> Result<bool, AllocError> {
     let ran = run_over(alloc, words, Tape::of(EMPTY_ONE), 0, room)?;
-    let told = if room == 0 {
+    let line = if room == 0 {
         ""
     } else {
         "refused 25: write fault\n"
     };
-    Ok(has_left(&ran, 4, b"", told.as_bytes()))
+    Ok(has_left(&ran, 4, b"", line.as_bytes()))
 }
 
 /// Where an answer is not written, also the line that says that there is none, that is the fault,
