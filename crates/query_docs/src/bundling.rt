@@ -105,7 +105,7 @@ pub fn write_bundle_by(
     let listed = list_languages(alloc, &langs)?;
     let shortlist = Shortlist::new(alloc, list, widening, &listed)?;
     let mut draft = Draft::new(alloc)?;
-    'messages: for message in catalogue.messages() {
+    for message in catalogue.messages() {
         if let Some((lang, label)) = answered(message.lookup_within(&shortlist, default)) {
             draft.add(alloc, message.id(), lang, label)?;
         }

@@ -10,8 +10,8 @@ use Rattle.query_docs.proofs.BundledLemmas.{bundling_found, bundling_last, bundl
 use Rattle.query_docs.proofs.BundledLemmas.{shortlisted}
 use Rattle.query_docs.proofs.bundling.write_bundle_by.Goals as goal
 
-pub messages-init : goal.messages-init
-messages-init c =
+pub loop-message-init : goal.loop-message-init
+loop-message-init c =
     let default = option_map (λ l. l.now) c.args.default in
     let all = ap messages_left c.into_iter-message-iterator.ensures.into_iter_gives in
     let messages = messages_left c.messages-message-items.result in
@@ -28,28 +28,28 @@ pub returns : goal.returns
 returns c =
     let default = option_map (λ l. l.now) c.args.default in
     let b = subst (λ (left : List LiveMessage). IsBundling c.args.widening c.args.catalogue.now
-    c.args.list.now default c.messages.draft left) c.in-None.ensures.steps.0
-    c.messages.invariant.0 in
+    c.args.list.now default c.loop-message.draft left) c.in-None.ensures.steps.0
+    c.loop-message.invariant.0 in
     let last = bundling_last c.args.widening c.args.catalogue.now c.args.list.now default
-    c.messages.draft b in
+    c.loop-message.draft b in
     IfOk-weaker c.close.result _ _
     (λ _ closed. (last.0, last.1, closed last.0 last.2 last.1.rising)) c.close.ensures
 
-pub messages-preserved-in-Continue-branch-5 : goal.messages-preserved-in-Continue-branch-5
-messages-preserved-in-Continue-branch-5 c =
+pub loop-message-preserved-in-Continue-branch-5 : goal.loop-message-preserved-in-Continue-branch-5
+loop-message-preserved-in-Continue-branch-5 c =
     let cells = c.args.catalogue.now in
     let default = option_map (λ l. l.now) c.args.default in
     let left = messages_left c.next.new.self in
     let b = subst (λ (left : List LiveMessage). IsBundling c.args.widening cells
-    c.args.list.now default c.messages.draft left) c.in-Some.ensures.steps
-    c.messages.invariant.0 in
-    let live = subst (AreLive cells) c.in-Some.ensures.steps c.messages.invariant.1 in
+    c.args.list.now default c.loop-message.draft left) c.in-Some.ensures.steps
+    c.loop-message.invariant.0 in
+    let live = subst (AreLive cells) c.in-Some.ensures.steps c.loop-message.invariant.1 in
     let reply = reply_of c.lookup_within.result in
     let texts = ap texts_of c.deref.ensures.value ∙ c.in_ok-listed.ensures in
     let found = shortlisted c.args.widening cells c.args.list.now c.in_ok-langs.langs
     c.in_ok-shortlist.shortlist c.in-Some.message default reply (texts_of c.deref.result.now)
     c.in_ok-shortlist.ensures texts c.in_ok-langs.ensures live.0 c.lookup_within.ensures in (
-      bundling_found c.args.widening cells c.args.list.now default c.messages.draft
+      bundling_found c.args.widening cells c.args.list.now default c.loop-message.draft
           c.add.new.self c.in-Some.message left reply
           c.id.result.now c.in-Some-answered.lang.now c.in-Some-answered.label.now
           c.id.ensures b
@@ -57,21 +57,21 @@ messages-preserved-in-Continue-branch-5 c =
       live.1,
     )
 
-pub messages-preserved : goal.messages-preserved
-messages-preserved c =
+pub loop-message-preserved : goal.loop-message-preserved
+loop-message-preserved c =
     let cells = c.args.catalogue.now in
     let default = option_map (λ l. l.now) c.args.default in
     let left = messages_left c.next.new.self in
     let b = subst (λ (left : List LiveMessage). IsBundling c.args.widening cells
-    c.args.list.now default c.messages.draft left) c.in-Some.ensures.steps
-    c.messages.invariant.0 in
-    let live = subst (AreLive cells) c.in-Some.ensures.steps c.messages.invariant.1 in
+    c.args.list.now default c.loop-message.draft left) c.in-Some.ensures.steps
+    c.loop-message.invariant.0 in
+    let live = subst (AreLive cells) c.in-Some.ensures.steps c.loop-message.invariant.1 in
     let reply = reply_of c.lookup_within.result in
     let texts = ap texts_of c.deref.ensures.value ∙ c.in_ok-listed.ensures in
     let found = shortlisted c.args.widening cells c.args.list.now c.in_ok-langs.langs
     c.in_ok-shortlist.shortlist c.in-Some.message default reply (texts_of c.deref.result.now)
     c.in_ok-shortlist.ensures texts c.in_ok-langs.ensures live.0 c.lookup_within.ensures in (
-      bundling_passed c.args.widening cells c.args.list.now default c.messages.draft
+      bundling_passed c.args.widening cells c.args.list.now default c.loop-message.draft
           c.in-Some.message left reply b found c.in_default.ensures,
       live.1,
     )

@@ -3,8 +3,8 @@ use Rattle.cata_core.specs.Messages.{messages_left}
 use Rattle.query_docs.proofs.BundledLemmas.{AreLive, IsBundling}
 use Rattle.query_docs.proofs.bundling.write_bundle_by.Given as goal
 
-abbrev pub invariant-messages : goal.invariant-messages
-invariant-messages l =
+abbrev pub invariant-loop-message : goal.invariant-loop-message
+invariant-loop-message l =
     IsBundling l.fn.widening l.catalogue l.list (option_map (λ lang. lang.now) l.default) l.draft
     (messages_left l.message-iterator)
     × AreLive l.catalogue (messages_left l.message-iterator)
