@@ -1,5 +1,5 @@
 /* Rows of what a call has to answer: its status, its report, and its bytes in a buffer that is otherwise untouched. A
- * row that is wrong is told by its line. */
+ * row that is wrong is reported by its line. */
 #ifndef ROWS_H
 #define ROWS_H
 
