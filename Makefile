@@ -153,7 +153,9 @@ uninstall:
 	rm -f "$(LIB)/libsilkwaram.a" "$(LIB)"/libsilkwaram.so*
 
 #: make dist          tarballs, one of them for browsers, Debian packages and a wheel for Python, for
-#:                    those who have no Rattle kit, in build/dist: some minutes more than the library
+#:                    those who have no Rattle kit, in build/dist: some minutes more than the library.
+#:                    What `make` proved serves it, and what `make test` proved does not.
+#:                    MAINTAINER='NAME <ADDRESS>' names the distributor, SIGN_KEY=FILE signs checksums
 dist:
 	RT='$(RT)' scripts/dist
 

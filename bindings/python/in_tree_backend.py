@@ -52,18 +52,17 @@ def metadata():
     project = read("pyproject.toml").decode()
     value = lambda name: re.search(rf'^{name} = "(.*?)"', project, re.M)[1]
     classifiers = re.search(r"^classifiers = \[(.*?)\]", project, re.M | re.S)[1]
-    address = re.search(r'^maintainers = .* email = "(.*?)"', project, re.M)[1]
+    maintainer = re.search(r'^maintainers = .* name = "(.*?)"', project, re.M)[1]
     head = [
         "Metadata-Version: 2.4",
         f"Name: {NAME}",
         f"Version: {version()}",
         f"Summary: {value('description')}",
-        f"Maintainer-email: {address}",
+        f"Maintainer: {maintainer}",
         f"License-Expression: {value('license')}",
         *[f"License-File: {it}" for it in licences()],
         *[f"Classifier: {it}" for it in re.findall(r'"(.*?)"', classifiers)],
         f"Requires-Python: {value('requires-python')}",
-        f"Project-URL: Homepage, {value('Homepage')}",
         "Description-Content-Type: text/markdown",
     ]
     return ("\n".join(head) + "\n\n").encode() + read("README.md")
