@@ -127,7 +127,10 @@ export class Refused extends Error {
   readonly number: number;
   /** The place in the refused text, in bytes of UTF-8 from 0: of 3, 9 and 18. */
   readonly offset: number | null;
-  /** The row of the document, from 0, where a document is refused for one of its rows. */
+  /**
+   * The row of the document, from 0, where a document is refused for one of its rows. 20 and 27 may concern the
+   * document itself, so of these row 0 is null too.
+   */
   readonly row: number | null;
 }
 

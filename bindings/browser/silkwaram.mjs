@@ -14,10 +14,54 @@ const NOTHING = 1;
 const USAGE = 2;
 
 const OUT_OF_MEMORY = 26;
+const SHAPE = 20;
+// Written by scripts/refusal-tables, from docs/REFUSALS.md.
+const TEXTS = {
+  1: 'tag is empty',
+  2: 'tag is over 255 bytes',
+  3: 'subtag at OFFSET',
+  4: 'tag is not well-formed',
+  8: 'field is over 65535 bytes',
+  9: 'field element at OFFSET',
+  10: 'message id',
+  11: 'a text of a label is over 65535 bytes',
+  12: 'a label has no or too many texts',
+  13: 'one stamp is used for two different edits',
+  14: 'clock is spent',
+  15: 'the delta is for another site',
+  18: 'not UTF-8 at OFFSET',
+  19: 'not JSON',
+  20: 'shape',
+  21: 'cell order',
+  22: 'language repeated',
+  26: 'out of memory',
+  27: 'site name',
+  28: 'version unknown',
+  29: 'time is ahead',
+};
+const WANTED = {
+  3: 'each subtag is 1 to 8 letters or digits, with a hyphen between two',
+  4: 'a language comes first, then script, region, variants, extensions, private use',
+  9: 'each element of a field is a range, with or without a weight',
+  10: 'a message id has 1 to 128 bytes, no control character, and no @ first',
+  12: 'a label has 1 to 64 texts',
+  21: 'rows ascend by id and then by language, in byte order',
+  27: 'a site name has 1 to 16 bytes of a to z, 0 to 9 and -',
+  28: 'the version of a document is 1 or 2',
+};
 const WITH_OFFSET = [3, 9, 18];
-// The refusals that may be of a row of a document, and the calls that read one.
-const IN_ROWS = [1, 2, 3, 4, 10, 11, 12, 13, 20, 21, 27, 29];
-const READERS = ['open', 'import', 'update', 'take', 'merge', 'delta'].map((it) => `sw_site_${it}`);
+const IN_ROWS = [1, 2, 3, 4, 10, 11, 12, 20, 21, 22, 27, 29];
+// The end of what scripts/refusal-tables writes.
+// Of these the library also reports row 0 where they are of the document as a whole.
+const OF_WHOLE_TOO = [20, 27];
+// The calls that read a document, and which one is wanted.
+const DOCUMENTS = {
+  sw_site_open: 'a site document is wanted',
+  sw_site_import: 'language maps are wanted',
+  sw_site_update: 'language maps are wanted',
+  sw_site_take: 'a delta document is wanted',
+  sw_site_delta: 'a summary document is wanted',
+};
 
 // Bytes of `sw_told` and of a handle, and of the room that is kept for the texts and the answer of a call.
 const TOLD = 40;
@@ -29,10 +73,10 @@ const NEEDED = 'WebAssembly with SIMD and bulk memory, and BigInt at its border'
 
 /** What is thrown where something is refused. */
 export class Refused extends Error {
-  constructor(number, offset, row, meaning) {
-    const at = offset === null ? '' : ` at byte ${offset}`;
+  constructor(number, offset, row, wanted) {
+    const text = (TEXTS[number] ?? 'unknown').replace('OFFSET', offset);
     const of = row === null ? '' : ` in row ${row}`;
-    super(`refused ${number}${meaning ? `: ${meaning}` : ''}${at}${of}`);
+    super(`refused ${number}: ${text}${of}${wanted === undefined ? '' : ` (${wanted})`}`);
     this.name = 'Refused';
     this.number = number;
     this.offset = offset;
@@ -325,11 +369,13 @@ class Calls {
   }
 
   #refused({ name, number, offset, row }) {
+    const isOfWhole = row === 0 && OF_WHOLE_TOO.includes(number);
+    const isOfRow = Object.hasOwn(DOCUMENTS, name) && IN_ROWS.includes(number) && !isOfWhole;
     return new Refused(
       number,
       WITH_OFFSET.includes(number) ? offset : null,
-      READERS.includes(name) && IN_ROWS.includes(number) ? row : null,
-      this.meaning(number),
+      isOfRow ? row : null,
+      number === SHAPE ? DOCUMENTS[name] : WANTED[number],
     );
   }
 
@@ -525,7 +571,8 @@ async function bytesOf(source) {
   if (source instanceof ArrayBuffer || ArrayBuffer.isView(source)) return source;
   const url = new URL(source, globalThis.location?.href ?? import.meta.url);
   if (url.protocol === 'file:') {
-    const { readFile } = await import('node:fs/promises');
+    const files = 'node:fs/promises';    // (a name, so that bundlers for pages pass it over)
+    const { readFile } = await import(/* webpackIgnore: true */ /* @vite-ignore */ files);
     return readFile(url);
   }
   const response = await fetch(url);
@@ -537,10 +584,12 @@ async function instanceOf(source) {
   if (typeof WebAssembly !== 'object' || typeof BigInt !== 'function') {
     throw new Error(`this engine cannot run silkwaram.wasm, which needs ${NEEDED}`);
   }
-  const module = source instanceof WebAssembly.Module ? source : null;
-  const bytes = module ?? (await bytesOf(source));
+  const isCompiled = source instanceof WebAssembly.Module;
+  const given = isCompiled ? source : await bytesOf(source);
   try {
-    return new WebAssembly.Instance(module ?? (await WebAssembly.compile(bytes)), {});
+    // (never `new WebAssembly.Instance`, which a page may not do with a module of this size)
+    const made = await WebAssembly.instantiate(given, {});
+    return isCompiled ? made : made.instance;
   } catch (cause) {
     if (!(cause instanceof WebAssembly.CompileError)) throw cause;
     throw new Error(`this engine cannot run silkwaram.wasm, which needs ${NEEDED}`, { cause });

@@ -75,8 +75,8 @@ export interface Refused extends Error {
   /** The place in the refused text, in bytes of UTF-8 from 0: of 3, 9 and 18. */
   offset: number | null;
   /**
-   * The row of the document, from 0, where a document is refused for one of its rows. Of 20 and
-   * 27, which may concern the document itself, row 0 may also mean none.
+   * The row of the document, from 0, where a document is refused for one of its rows. 20 and 27 may
+   * concern the document itself, so of these row 0 is null too.
    */
   row: number | null;
 }

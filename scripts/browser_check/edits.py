@@ -9,6 +9,7 @@ import concurrent.futures
 import json
 import os
 import random
+import re
 import subprocess
 import sys
 
@@ -24,6 +25,12 @@ BAD_MAPS = ["", "[]", "{", '{"m":{"en":1}}', '{"m":{"e_n":"x"}}', '{"@m":{"en":"
 MOMENTS = [0, 3, 5, 7, 7, 9, 20, 1764000000000, 2**53 + 1, 2**64 - 1]
 
 
+def row_in(number, line):
+    """The row that the command's line names. (Of 20 and 27 the library cannot tell row 0 from none.)"""
+    row = re.search(r" in row (\d+)", line)
+    return int(row[1]) if row and not (number in (20, 27) and row[1] == "0") else None
+
+
 class Command:
     def __init__(self, program):
         self.program = program
@@ -34,11 +41,10 @@ class Command:
         ran = subprocess.run([self.program, *words], input=given, capture_output=True)
         if ran.returncode in (0, 1):
             return ran.stdout
-        answer = OF.refused(ran.returncode, ran.stderr.decode())
-        is_of_row = words[0] in ("import", "update", "take", "sync", "delta")
-        rows = (1, 2, 3, 4, 10, 11, 12, 13, 20, 21, 27, 29)
+        line = ran.stderr.decode()
+        answer = OF.refused(ran.returncode, line)
         return {"number": answer.number, "offset": answer.offset if answer.number in (3, 9, 18) else None,
-                "row": answer.row if is_of_row and answer.number in rows else None}
+                "row": row_in(answer.number, line)}
 
 
 def line(text):

@@ -43,9 +43,11 @@ def choices(lines):
 def answer_in_javascript(asked, known):
     """What silkwaram.mjs has to answer where the library answers `known`."""
     if known.status > 2:
-        has_row = asked.call == "open" and known.number in (1, 2, 3, 4, 10, 11, 12, 20, 21, 27)
+        # (what is refused of a document is of a row, but for its text, its version and its own form)
+        has_row = asked.call == "open" and known.number not in (18, 19, 28)
+        is_of_whole = known.number in (20, 27) and known.row == 0
         return {"number": known.number, "offset": known.offset if known.number in (3, 9, 18) else None,
-                "row": known.row if has_row else None}
+                "row": known.row if has_row and not is_of_whole else None}
     if asked.call == "open":
         return None
     if asked.call == "filter":

@@ -48,7 +48,8 @@ test('extended ranges', () => {
 test('malformed elements are refused, or skipped', () => {
   assert.throws(() => pick('fr;q=0.4,en;q=1.001', ['en']), {
     name: 'Error',
-    message: 'refused 9: field element at 9',
+    message:
+      'refused 9: field element at 9 (each element of a field is a range, with or without a weight)',
     number: 9,
     offset: 9,
     row: null,
@@ -66,7 +67,7 @@ test('a field has at most 65,535 bytes', () => {
 test('tags are refused by their number', () => {
   assert.throws(() => pick('en', ['']), { message: 'refused 1: tag is empty' });
   assert.throws(() => pick('en', ['fr', 'a'.repeat(256)]), { number: 2 });
-  assert.throws(() => pick('en', ['en_US']), { message: 'refused 3: subtag at 0', offset: 0 });
+  assert.throws(() => pick('en', ['en_US']), { message: /^refused 3: subtag at 0 \(/, offset: 0 });
   assert.throws(() => pick('en', ['en-']), { number: 3, offset: 3 });
   assert.throws(() => pick('en', ['en-a']), { number: 4 });
   assert.throws(() => pick('e_', ['e_'], { default: '' }), { number: 9 });

@@ -102,7 +102,7 @@ test('documents are refused by number, offset and row', () => {
   refuses(document(cell, cell), 21, null, 1);
   refuses(JSON.stringify({ cells: [], kind: 'site', site: 'paris', version: 3 }), 28, null, null);
   assert.throws(() => Site.open('site.json'), {
-    message: 'refused 19: not JSON (wanted: the document itself, not its name)',
+    message: 'refused 19: not JSON (the document itself is wanted, not its name)',
   });
 });
 

@@ -195,6 +195,7 @@ class Edits(unittest.TestCase):
             (lambda: site.import_maps(["m"]), f"maps {wanted} list"),
             (lambda: site.update({}, 5), f"new {wanted} int"),
             (lambda: site.take(5), f"delta {wanted} int"),
+            (lambda: site.merge(5), "other must be Site, not int"),
             (lambda: site.take("", not_after="1"), "not_after must be int, not str"),
             (lambda: site.delta_for(None), f"summary {wanted} NoneType"),
             (lambda: site.missing(None), f"lang {wanted} NoneType"),
@@ -348,7 +349,8 @@ class Exchanges(unittest.TestCase):
         self.assertEqual((fault.number, fault.row), (29, 0))
         self.assertEqual(str(fault), "refused 29: time is ahead in row 0")
         self.assertEqual(refusal(lambda: self.tokyo.take(delta, not_after=100)).number, 29)
-        self.assertEqual(refusal(lambda: self.tokyo.take(delta)).number, 15)
+        fault = refusal(lambda: self.tokyo.take(delta))
+        self.assertEqual(str(fault), "refused 15: the delta is for another site")
         self.assertEqual(self.paris.to_bytes(), before)
         self.paris.take(delta, not_after=101)
         self.assertEqual(self.paris.text("m", "ja"), "x")
@@ -357,11 +359,27 @@ class Exchanges(unittest.TestCase):
         other = PARIS.replace("Salut", "Bonjour")
         with Site.open(other) as site:
             before = self.paris.to_bytes()
-            self.assertEqual(refusal(lambda: self.paris.merge(site)).number, 13)
+            fault = refusal(lambda: self.paris.merge(site))
+            self.assertEqual((fault.number, fault.row), (13, None))
+            self.assertEqual(str(fault), "refused 13: one stamp is used for two different edits")
             self.assertEqual(self.paris.to_bytes(), before)
 
-    def test_a_summary_that_is_refused(self):
-        self.assertEqual(refusal(lambda: self.paris.delta_for(PARIS)).number, 20)
+    def test_documents_of_another_kind(self):
+        for call, wanted in (
+            (lambda: self.paris.delta_for(PARIS), "a summary document is wanted"),
+            (lambda: self.paris.take(PARIS), "a delta document is wanted"),
+            (lambda: self.paris.import_maps("[]"), "language maps are wanted"),
+            (lambda: self.paris.update({}, "[]"), "language maps are wanted"),
+            (lambda: self.paris.reload(self.paris.summary()), "a site document is wanted"),
+        ):
+            fault = refusal(call)
+            self.assertEqual((fault.number, fault.row), (20, None))
+            self.assertEqual(str(fault), f"refused 20: shape ({wanted})")
+
+    def test_a_language_that_is_repeated(self):
+        maps = {"a": {"en": "x"}, "b": {"en": "x"}, "c": {"en": "x", "EN": "y"}}
+        fault = refusal(lambda: self.paris.import_maps(maps))
+        self.assertEqual((fault.number, fault.row), (22, 2))
 
 
 class Files(unittest.TestCase):

@@ -12,6 +12,8 @@ from ._arguments import place as counted_place
 from ._library import FIRST_ROOM, NOTHING, USAGE, Answer, Handle, Told, answered, library
 from ._refusals import NOT_JSON, Refused, checked
 
+LANGUAGE_MAPS = "language maps"
+
 # Language maps: their JSON text, or what `json.dumps` makes it of.
 Maps = Union[Text, Mapping[str, Any]]
 MAX_NAME = 255
@@ -94,8 +96,8 @@ class Site:
         with self._reading:
             status = library.sw_site_open(*texts, handle, told)
             if told.number == NOT_JSON and _may_be_name(document):
-                raise Refused(NOT_JSON, wanted="the document itself, not its name")
-            checked(Answer(status, told, b""), of_document=True)
+                raise Refused(NOT_JSON, wanted="the document itself is wanted, not its name")
+            checked(Answer(status, told, b""), "a site document")
             with self._lock:
                 # (the old site is let go after that, with `handle`)
                 handle, self._handle = self._handle, handle
@@ -252,7 +254,7 @@ class Site:
         Refused: 18 to 20 and 22 for the text, 1 to 4 and 10 to 12 for a label of it; 14.
         """
         texts = words(maps=_json_text(maps))
-        self._edit(library.sw_site_import, moment(now), *texts, of_document=True)
+        self._edit(library.sw_site_import, moment(now), *texts, document=LANGUAGE_MAPS)
 
     def update(self, old: Maps, new: Maps, now: Optional[int] = None) -> None:
         """Makes the edits by which language maps as they were became what they are now, all or none.
@@ -263,7 +265,7 @@ class Site:
         Refused: as by `import_maps`, the old ones before the new ones.
         """
         texts = words(old=_json_text(old), new=_json_text(new))
-        self._edit(library.sw_site_update, moment(now), *texts, of_document=True)
+        self._edit(library.sw_site_update, moment(now), *texts, document=LANGUAGE_MAPS)
 
     # Exchange.
 
@@ -276,26 +278,32 @@ class Site:
 
         Refused: 18 to 21, 27 and 28 for the summary, 1 to 4 and 10 for a field of a row.
         """
-        return self._ask(library.sw_site_delta, *words(summary=summary), of_document=True).text
+        given = words(summary=summary)
+        return self._ask(library.sw_site_delta, *given, document="a summary document").text
 
     def take(self, delta: Text, not_after: Optional[int] = None) -> None:
         """Joins the cells of a delta that was made for this site. It may come twice, or late.
 
-        `not_after` is the latest time that is taken: a clock that is wrong somewhere, or a
-        stranger, else ends all editing by a time far ahead. None is no limit.
+        `not_after` is the latest time that is taken, such as the clock and a day. A time far ahead
+        moves every site that takes it ahead, and the greatest there is ends edits. None is no
+        limit.
 
         Refused: 18 to 21, 27 and 28 for the delta, 1 to 4 and 10 to 12 for a field of a row; 29
         where a cell is after the limit; 15 where the delta is for another site; 13 where one stamp
         has two labels.
         """
         texts = words(delta=delta)
-        self._edit(library.sw_site_take, *texts, limit(not_after), of_document=True)
+        self._edit(library.sw_site_take, *texts, limit(not_after), document="a delta document")
 
     def merge(self, other: "Site") -> None:
-        """Joins the cells of another site, which stays as it is: all of them or none.
+        """Joins the cells of another site, which stays as it is.
 
-        Refused: 13 where one stamp has two labels.
+        A MemoryError may leave it partly joined, and the same call again makes the rest.
+
+        Refused: 13 where one stamp has two labels; then no cell is joined.
         """
+        if not isinstance(other, Site):
+            raise TypeError(f"other must be Site, not {type(other).__name__}")
         if other is self:
             return
         with other.share() as taken:
@@ -312,7 +320,7 @@ class Site:
         return text
 
     def _ask(
-        self, call: Any, *given: Any, of_document: bool = False, room: int = FIRST_ROOM
+        self, call: Any, *given: Any, document: str = "", room: int = FIRST_ROOM
     ) -> Answer:
         def asked(out: "ctypes.Array[ctypes.c_char]", room: int, told: Told) -> int:
             status: int = call(self._handle, *given, out, room, told)
@@ -320,18 +328,18 @@ class Site:
 
         with self._lock:
             answer = answered(asked, room)
-        return self._checked(answer, of_document)
+        return self._checked(answer, document)
 
-    def _edit(self, call: Any, *given: Any, of_document: bool = False) -> None:
+    def _edit(self, call: Any, *given: Any, document: str = "") -> None:
         told = Told()
         with self._lock:
             status = call(self._handle, *given, told)
-        self._checked(Answer(status, told, b""), of_document)
+        self._checked(Answer(status, told, b""), document)
 
-    def _checked(self, answer: Answer, of_document: bool = False) -> Answer:
+    def _checked(self, answer: Answer, document: str = "") -> Answer:
         if answer.status == USAGE:
             raise ValueError("the site is closed")
-        return checked(answer, of_document)
+        return checked(answer, document)
 
     def __copy__(self) -> "Site":
         return self.share()
