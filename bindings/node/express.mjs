@@ -1,3 +1,4 @@
 import express from './express.js';
 
 export const { languages } = express;
+export default express;

@@ -169,3 +169,9 @@ test('all tags that fit, best first', () => {
   assert.throws(() => filter('e n', ['e_n']), { number: 9, offset: 0 });
   assert.throws(() => filter('en', ['en', 'e_n']), { number: 3, offset: 0 });
 });
+
+test('both forms of import', async () => {
+  const { default: whole, pick: one } = await import('../index.mjs');
+  assert.equal(whole.pick, pick);
+  assert.equal(one, pick);
+});
