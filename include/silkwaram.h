@@ -10,15 +10,17 @@
  * if there is none, nothing is written to `out`. So `told->len > out_len` means that the answer did not fit, and
  * `told->len` is the size that it needs; the status is the same as with room: call again.
  *
- * No call prints, waits, ends the process, or keeps a pointer that it was passed. The code of each call is proved to do
- * what is said here, but for time, stack and memory, which are measured: that sw_site_share copies no site, and that
- * the last handle of a site frees its memory, is tried by counting and under valgrind, not proved.
+ * No call prints, waits, ends the process, or keeps a pointer that it was passed. Each call is proved to answer, to
+ * write and to leave what is said here. Not proved: time, stack and memory, which are measured; which sentence
+ * sw_refusal answers; that an edit through the only handle of a site makes no copy; that sw_site_share makes none, and
+ * that the last handle of a site frees its memory, which are tried by counting and under valgrind.
  *
  * What the caller owes, which nothing checks:
  *
  * - A text can be read, and `out`, `told` and a handle can be read and written, for their whole length.
  * - What a call writes to (`out`, `told`, a handle that is opened, shared into or freed) overlaps nothing else that is
- *   passed to the call, and no other thread touches it during the call.
+ *   passed to the call, and no other thread touches it during the call. Of two handles of one call neither is the
+ *   other, whatever the call: take a share.
  * - A handle is used by one call at a time, whatever the call; threads that work at once take a handle each, by
  *   sw_site_share. A handle passes from one thread to another by a lock, or by a thread's start or end. It is not
  *   copied: two copies count as one handle, and only one of them may be used from then on.
@@ -49,7 +51,8 @@ extern "C" {
 #define SW_LENIENT 2u
 /* With SW_WIDEN, which is of sw_pick, sw_site_lookup, sw_site_text and sw_site_bundle alone, a range also finds the
  * languages that it matches, as `en` finds en-us, before the next range is tried; the default is not widened. This is
- * the project's own, and no part of RFC 4647. */
+ * the project's own, and no part of RFC 4647. A hostile field costs the ranges times the languages, times the ranges
+ * again: bound fields of strangers (bench/README.md, "Costs of the command"). */
 #define SW_WIDEN 4u
 
 /* The statuses, which are those of the command `lexicat`. */
@@ -92,7 +95,8 @@ int32_t sw_pick(uint32_t flags, const uint8_t *field, size_t field_len, const ui
 
 /* Reads a site document into a handle. If the handle is open, its old site is let go once the new one is read, and
  * stays if the document is refused: so a running server takes up a new state. The text is not needed after the call.
- * The document may be of any length (the command reads no more than 64 MiB). Memory: some 400 bytes a cell.
+ * The document may be of any length (the command reads no more than 64 MiB). Memory: some 250 bytes a cell where a
+ * message has ten languages, and 450 where it has one.
  *   SW_FOUND     the site is read
  *   SW_REFUSED   the document (18 to 21, 27, 28), or an id, a language or a label in a row of it (10; 1 to 4; 11, 12).
  *                told->row is that row, if it is of a row, told->offset the place in the document (18) or in the
