@@ -2,8 +2,8 @@
 //!
 //! - [`Catalogue`] maps messages and languages to cells, and keeps of each key the edit with the
 //!   greatest stamp. [`Catalogue::ask_lookup`] and [`Catalogue::ask_filter`] answer a reader, and
-//!   [`Catalogue::messages`] gives each [`Message`] that has a live label. A list that is cut to
-//!   [`Catalogue::languages`] answers all of them at the cost of few ranges
+//!   [`Catalogue::messages`] gives each [`Message`] that has a live label. A list by which
+//!   [`Catalogue::languages`] are ranked once answers all of them, each by a few languages
 //!   ([`Message::lookup_within`]).
 //! - [`Site`] is a catalogue with a name: it puts and deletes labels under stamps of its own.
 //! - Sites exchange cells whole by [`sync`], or by a [`Summary`] of what one has and the [`Delta`]

@@ -92,11 +92,11 @@ impl<'a> Message<'a> {
         Live::new(Some(self.cells)).look_up(list, widening, default)
     }
 
-    /// What [`Message::lookup_by`] answers by the whole list, where the list is cut to languages
-    /// among which are all of its own. For all messages of a catalogue these are its
+    /// What [`Message::lookup_by`] answers by the whole list, where it ranks languages among which
+    /// are all of its own. For all messages of a catalogue these are its
     /// [`languages`](crate::Catalogue::languages).
     ///
-    /// It takes no memory, and tries no more ranges than there are such languages.
+    /// It takes no memory, and tries no more languages than are ranked.
     pub fn lookup_within(&self, shortlist: &Shortlist<'_>, default: Option<&Lang>) -> LentReply<'a>
         ensures { AreAmong (languages self.now.1) shortlist.now.langs
             → IsLookedUpBy shortlist.now.widening self.now.1 shortlist.now.items

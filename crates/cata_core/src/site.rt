@@ -112,8 +112,8 @@ impl Site {
     /// The latest stamp of its cells, deletions among them; none where it has no cell.
     ///
     /// A key keeps its latest stamp, so this is the latest stamp that the site ever took in. It
-    /// walks over the cells where the site was made from a catalogue and not edited since, or a
-    /// merge was refused.
+    /// walks over the cells where the site was made from a catalogue, or a merge was refused, until
+    /// the site's next own edit.
     pub fn last(&self) -> Option<Stamp>
         ensures value { result ≡ latest_of self.now.cells }
         ensures latest { IsLatest self.now.cells result }

@@ -36,6 +36,20 @@ pub(crate) fn described<'a>(
         .after_help(after_help)
 }
 
+/// The same of a command that reads documents, with a usage line that shows them. (Of its own clap
+/// would leave out standard input.)
+pub(crate) fn reading<'a>(
+    alloc: Global,
+    name: &'a str,
+    usage: &'a str,
+    about: &'a str,
+    after_help: &'a str,
+) -> Command<'a>
+    ensures { IsCommand (new_app name.entry.now) result }
+{
+    described(alloc, name, about, after_help).override_usage(usage)
+}
+
 /// `--scheme`, the name of one of the schemes.
 pub(crate) fn scheme<'a>(alloc: Global, schemes: &'a [&'a str]) -> Arg<'a>
     ensures { IsArgument (scheme_rule schemes.entry) result }

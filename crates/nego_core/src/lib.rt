@@ -10,8 +10,8 @@
 //! - [`lookup_widened`] also lets a range find the languages that it matches, as `en` finds en-us.
 //!   [`lookup_by`] does either, as its [`Widening`] says; [`choose_widened`] does so over any
 //!   [`Languages`] that can be searched.
-//! - [`Shortlist`] is a list cut to the items that matter for some languages, so that many lookups
-//!   over these cost the length of a long list once.
+//! - [`Shortlist`] ranks some languages by a list, so that many lookups over these cost the length
+//!   of a long list once.
 //! - [`NegoFault`] says why a field is refused, and where.
 //!
 //! Of several ranges that match a tag the one with the most subtags other than "*" decides, and

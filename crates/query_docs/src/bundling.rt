@@ -86,8 +86,8 @@ pub fn write_bundle(
 /// The same by a lookup that may be widened: what [`bundle_document_by`] gives for the document of
 /// a catalogue in memory.
 ///
-/// The list is cut once to the languages of the catalogue, so a message costs no more ranges than
-/// there are languages, however long the list is.
+/// The languages of the catalogue are ranked once by the list, so a message tries no more languages
+/// than there are, however long the list is.
 ///
 /// Out of memory is the only refusal (26).
 pub fn write_bundle_by(

@@ -5,7 +5,7 @@ ghost use Rattle.clap.specs.Words.{app_of};
 ghost use Rattle.command_core.specs.Words.{IsCommand, exchange_app, explain_app, sync_app};
 ghost use Rattle.command_core.specs.Words.{take_app};
 
-use crate::arguments::{self, described, with_command};
+use crate::arguments::{self, described, reading, with_command};
 use clap::Command;
 use std::alloc::{AllocError, Global};
 
@@ -17,17 +17,19 @@ pub(crate) fn with_exchange<'a>(
 ) -> Result<Command<'a>, AllocError>
     ensures { IfOk result (λ c. app_of c ≡ exchange_app (app_of program.entry) numbers.entry) }
 {
-    let summary = described(
+    let summary = reading(
         alloc,
         "summary",
+        "lexicat summary < SITE",
         "Prints the stamps of a site's cells, by which another site finds what this one lacks",
         "Reads a site document.\n\
             Example: lexicat new --site tokyo | lexicat summary > summary.json",
     );
     let program = with_command(Ok(program), Ok(summary));
-    let delta = described(
+    let delta = reading(
         alloc,
         "delta",
+        "cat SITE SUMMARY | lexicat delta",
         "Prints the cells of a site that the owner of a summary lacks",
         "Reads a site document, then a summary.\n\
             Document 1 of the input ends at the first LF, and all after it is document 2.\n\
@@ -36,9 +38,10 @@ pub(crate) fn with_exchange<'a>(
     let program = with_command(program, Ok(delta));
     let program = with_command(program, take(alloc));
     let program = with_command(program, sync(alloc));
-    let replay = described(
+    let replay = reading(
         alloc,
         "replay",
+        "lexicat replay < SCRIPT",
         "Runs a script of sites from their beginning, and prints the answers",
         "Reads a script document.\n\
             Example: echo \
@@ -53,9 +56,10 @@ pub(crate) fn with_exchange<'a>(
 fn take<'a>(alloc: Global) -> Result<Command<'a>, AllocError>
     ensures { IfOk result (IsCommand take_app) }
 {
-    described(
+    reading(
         alloc,
         "take",
+        "cat SITE DELTA | lexicat take [OPTIONS]",
         "Joins a delta into the site that it is for",
         "Reads a site document, then a delta. With --not-after a delta with a later time is \
             refused as a whole; the site's own times do not count.\n\
@@ -69,9 +73,10 @@ fn take<'a>(alloc: Global) -> Result<Command<'a>, AllocError>
 fn sync<'a>(alloc: Global) -> Result<Command<'a>, AllocError>
     ensures { IfOk result (IsCommand sync_app) }
 {
-    described(
+    reading(
         alloc,
         "sync",
+        "cat SITE OTHER | lexicat sync [OPTIONS]",
         "Merges two sites with one another, so that both have the same cells",
         "Reads two site documents and prints both, one line each, in the order read. With \
             --not-after a later time in either of them refuses the whole.\n\

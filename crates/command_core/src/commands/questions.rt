@@ -4,7 +4,7 @@ ghost use Rattle.clap.specs.Words.{app_of};
 ghost use Rattle.command_core.specs.Words.{IsCommand, bundle_app, filter_app, lookup_app};
 ghost use Rattle.command_core.specs.Words.{questions_app};
 
-use crate::arguments::{self, described, with_command};
+use crate::arguments::{self, reading, with_command};
 use clap::Command;
 use std::alloc::{AllocError, Global};
 
@@ -25,9 +25,10 @@ pub(crate) fn with_questions<'a>(
 fn filter<'a>(alloc: Global, schemes: &'a [&'a str]) -> Result<Command<'a>, AllocError>
     ensures { IfOk result (IsCommand (filter_app schemes.entry)) }
 {
-    described(
+    reading(
         alloc,
         "filter",
+        "lexicat filter [OPTIONS] --id <ID> <FIELD> < SITE",
         "Prints the labels of a message whose languages fit, best first",
         "Reads a site document.\n\
             Example: lexicat filter --id greeting \"fr;q=0.5, en\" < three.json",
@@ -42,9 +43,10 @@ fn filter<'a>(alloc: Global, schemes: &'a [&'a str]) -> Result<Command<'a>, Allo
 fn lookup<'a>(alloc: Global, schemes: &'a [&'a str]) -> Result<Command<'a>, AllocError>
     ensures { IfOk result (IsCommand (lookup_app schemes.entry)) }
 {
-    let command = described(
+    let command = reading(
         alloc,
         "lookup",
+        "lexicat lookup [OPTIONS] --id <ID> <FIELD> < SITE",
         "Prints the one label of a message that fits best, or the default's, or nothing",
         "Reads a site document.\n\
             Example: lexicat lookup --id greeting --default en \"da, fr;q=0.5\" < three.json",
@@ -57,9 +59,10 @@ fn lookup<'a>(alloc: Global, schemes: &'a [&'a str]) -> Result<Command<'a>, Allo
 fn bundle<'a>(alloc: Global, schemes: &'a [&'a str]) -> Result<Command<'a>, AllocError>
     ensures { IfOk result (IsCommand (bundle_app schemes.entry)) }
 {
-    let command = described(
+    let command = reading(
         alloc,
         "bundle",
+        "lexicat bundle [OPTIONS] <FIELD> < SITE",
         "Prints for each message the one label that a reader gets, as language maps",
         "Reads a site document. Of each message it is the label that lookup answers; a message \
             for which lookup answers nothing is left out.\n\

@@ -4,7 +4,7 @@ ghost use Rattle.clap.specs.Words.{app_of};
 ghost use Rattle.command_core.specs.Words.{IsCommand, delete_app, new_site_app, pick_app, put_app};
 ghost use Rattle.command_core.specs.Words.{sites_app};
 
-use crate::arguments::{self, described, with_command};
+use crate::arguments::{self, described, reading, with_command};
 use clap::Command;
 use std::alloc::{AllocError, Global};
 
@@ -20,9 +20,10 @@ pub(crate) fn with_sites<'a>(
     let program = with_command(program, new(alloc));
     let program = with_command(program, put(alloc));
     let program = with_command(program, delete(alloc));
-    let status = described(
+    let status = reading(
         alloc,
         "status",
+        "lexicat status < SITE",
         "Prints how many cells and labels a site has, and its last stamp",
         "Reads a site document.\nExample: lexicat status < two.json",
     );
@@ -62,9 +63,10 @@ fn new<'a>(alloc: Global) -> Result<Command<'a>, AllocError>
 fn put<'a>(alloc: Global) -> Result<Command<'a>, AllocError>
     ensures { IfOk result (IsCommand put_app) }
 {
-    let command = described(
+    let command = reading(
         alloc,
         "put",
+        "lexicat put --now <N> --id <ID> --lang <LANG> <TEXT>... < SITE",
         "Puts a label into a site, with a new stamp",
         "Reads a site document and prints the new one. Write -- before a TEXT that begins with \
             \"-\".\n\
@@ -82,9 +84,10 @@ fn put<'a>(alloc: Global) -> Result<Command<'a>, AllocError>
 fn delete<'a>(alloc: Global) -> Result<Command<'a>, AllocError>
     ensures { IfOk result (IsCommand delete_app) }
 {
-    let command = described(
+    let command = reading(
         alloc,
         "delete",
+        "lexicat delete --now <N> --id <ID> --lang <LANG> < SITE",
         "Deletes a label of a site, with a new stamp",
         "Reads a site document and prints the new one. The deletion is kept, so that no older \
             label comes back.\n\

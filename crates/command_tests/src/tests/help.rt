@@ -3,8 +3,8 @@ use super::harness::{Tape, all_end, ends_so, run_over};
 use std::alloc::{AllocError, Global};
 use std::test::Fail;
 
-/// Rows of `STATUS|WORDS||~PART`: every form of help, each command's with an example of it, what
-/// help warns of, and the version.
+/// Rows of `STATUS|WORDS||~PART`: every form of help, each command's with an example of it and with
+/// the documents that it reads, what help warns of, and the version.
 const ROWS: &str = r#"0|--help||~Usage: lexicat <COMMAND>
 0|help||~Usage: lexicat <COMMAND>
 0|help pick||~Usage: lexicat pick [OPTIONS] <RANGES> <TAG>...
@@ -35,6 +35,23 @@ const ROWS: &str = r#"0|--help||~Usage: lexicat <COMMAND>
 0|take --help||~| lexicat take 
 0|sync --help||~| lexicat sync 
 0|replay --help||~| lexicat replay
+0|status --help||~Usage: lexicat status < SITE
+0|put --help||~Usage: lexicat put --now <N> --id <ID> --lang <LANG> <TEXT>... < SITE
+0|delete --help||~Usage: lexicat delete --now <N> --id <ID> --lang <LANG> < SITE
+0|import --help||~Usage: cat SITE MAPS | lexicat import --now <N>
+0|update --help||~Usage: cat SITE OLD NEW | lexicat update --now <N>
+0|export --help||~Usage: lexicat export < SITE
+0|missing --help||~Usage: lexicat missing --lang <LANG> < SITE
+0|outdated --help||~Usage: lexicat outdated --lang <LANG> --source <LANG> < SITE
+0|changes --help||~Usage: cat SITE LATER | lexicat changes
+0|filter --help||~Usage: lexicat filter [OPTIONS] --id <ID> <FIELD> < SITE
+0|lookup --help||~Usage: lexicat lookup [OPTIONS] --id <ID> <FIELD> < SITE
+0|bundle --help||~Usage: lexicat bundle [OPTIONS] <FIELD> < SITE
+0|summary --help||~Usage: lexicat summary < SITE
+0|delta --help||~Usage: cat SITE SUMMARY | lexicat delta
+0|take --help||~Usage: cat SITE DELTA | lexicat take [OPTIONS]
+0|sync --help||~Usage: cat SITE OTHER | lexicat sync [OPTIONS]
+0|replay --help||~Usage: lexicat replay < SCRIPT
 0|import --help||~Document 1 of the input ends at the first LF
 0|delta --help||~Document 1 of the input ends at the first LF
 0|take --help||~Document 1 of the input ends at the first LF

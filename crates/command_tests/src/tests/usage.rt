@@ -70,21 +70,21 @@ const WORDS_OF_DOCUMENTS: &str = r#"2|new||~--help
 2|lookup --id m --lenient= en||~--help
 2|filter --id m --lenient --lenient en||~--help
 2|put --lenient --now 5 --id m --lang en a||~--help
-2|status a||~--help
+2|status a||~Usage: lexicat status < SITE
 2|bundle||~--help
 2|bundle --lenient=x en||~--help
 2|bundle --id m en||~--help
 2|bundle en fr||~--help
 2|missing||~--help
 2|missing en||~--help
-2|update||~--help
+2|update||~Usage: cat SITE OLD NEW | lexicat update --now <N>
 2|update --now six||~--help
 2|filter --id m --widen en||~--help
 2|filter --id m --all en||~--help
 2|outdated --lang en||~--help
 2|outdated --source en||~--help
 2|outdated --lang en --source de fr||~--help
-2|changes a||~--help
+2|changes a||~Usage: cat SITE LATER | lexicat changes
 2|changes --now 5||~--help
 2|take --not-after||~--help
 2|take --not-after -1||~--help

@@ -4,11 +4,11 @@ use Rattle.command_core.proofs.commands.exchange.with_exchange.Goals as goal
 
 pub returns : goal.returns
 returns c =
-    let with_summary = with_command _ _ (Ok c.args.program) (Ok c.described-summary.result)
-    c.with_command-program.result refl c.described-summary.ensures
+    let with_summary = with_command _ _ (Ok c.args.program) (Ok c.reading-summary.result)
+    c.with_command-program.result refl c.reading-summary.ensures
     c.with_command-program.ensures in
-    let with_delta = with_command _ _ c.with_command-program.result (Ok c.described-delta.result)
-    c.with_command-program-2.result with_summary c.described-delta.ensures
+    let with_delta = with_command _ _ c.with_command-program.result (Ok c.reading-delta.result)
+    c.with_command-program-2.result with_summary c.reading-delta.ensures
     c.with_command-program-2.ensures in
     let with_take = with_command _ _ c.with_command-program-2.result c.take.result
     c.with_command-program-3.result with_delta c.take.ensures
@@ -17,8 +17,8 @@ returns c =
     c.with_command-program-4.result with_take c.sync.ensures
     c.with_command-program-4.ensures in
     let with_replay =
-    with_command _ _ c.with_command-program-4.result (Ok c.described-replay.result)
-    c.with_command-program-5.result with_sync c.described-replay.ensures
+    with_command _ _ c.with_command-program-4.result (Ok c.reading-replay.result)
+    c.with_command-program-5.result with_sync c.reading-replay.ensures
     c.with_command-program-5.ensures in
     with_command _ _ c.with_command-program-5.result c.explain.result c.with_command.result
     with_replay c.explain.ensures c.with_command.ensures

@@ -11,8 +11,8 @@ returns c =
     c.with_command-program-2.result with_import c.update.ensures
     c.with_command-program-2.ensures in
     let with_export =
-    with_command _ _ c.with_command-program-2.result (Ok c.described-export.result)
-    c.with_command-program-3.result with_update c.described-export.ensures
+    with_command _ _ c.with_command-program-2.result (Ok c.reading-export.result)
+    c.with_command-program-3.result with_update c.reading-export.ensures
     c.with_command-program-3.ensures in
     let with_missing = with_command _ _ c.with_command-program-3.result c.missing.result
     c.with_command-program-4.result with_export c.missing.ensures
@@ -20,5 +20,5 @@ returns c =
     let with_outdated = with_command _ _ c.with_command-program-4.result c.outdated.result
     c.with_command-program-5.result with_missing c.outdated.ensures
     c.with_command-program-5.ensures in
-    with_command _ _ c.with_command-program-5.result (Ok c.described-changes.result)
-    c.with_command.result with_outdated c.described-changes.ensures c.with_command.ensures
+    with_command _ _ c.with_command-program-5.result (Ok c.reading-changes.result)
+    c.with_command.result with_outdated c.reading-changes.ensures c.with_command.ensures

@@ -17,5 +17,5 @@ returns c =
     with_command _ _ c.with_command-program-3.result c.delete.result
     c.with_command-program-4.result with_put c.delete.ensures
     c.with_command-program-4.ensures in
-    with_command _ _ c.with_command-program-4.result (Ok c.described-status.result)
-    c.with_command.result with_delete c.described-status.ensures c.with_command.ensures
+    with_command _ _ c.with_command-program-4.result (Ok c.reading-status.result)
+    c.with_command.result with_delete c.reading-status.ensures c.with_command.ensures
