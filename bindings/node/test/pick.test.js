@@ -141,7 +141,8 @@ test('the package gives the same to import and to require', async () => {
   const module = await import('../index.mjs');
   assert.equal(module.pick, pick);
   assert.equal(module.Site, require('..').Site);
-  assert.deepEqual(Object.keys(module).sort(), ['Site', 'filter', 'pick']);
+  assert.equal(module.default, require('..'));
+  assert.deepEqual(Object.keys(module).sort(), ['Site', 'default', 'filter', 'pick']);
 });
 
 test('a language finds its regions where that is asked for', () => {
@@ -168,10 +169,4 @@ test('all tags that fit, best first', () => {
   ]);
   assert.throws(() => filter('e n', ['e_n']), { number: 9, offset: 0 });
   assert.throws(() => filter('en', ['en', 'e_n']), { number: 3, offset: 0 });
-});
-
-test('both forms of import', async () => {
-  const { default: whole, pick: one } = await import('../index.mjs');
-  assert.equal(whole.pick, pick);
-  assert.equal(one, pick);
 });
