@@ -1,9 +1,40 @@
 # Completion of lexicat-file for bash: source this file, or install it into bash-completion's folder,
 # beside that of lexicat, which completes the arguments of a command.
 
+# The arguments of a command of lexicat-file: files, its own options, and those of lexicat.
+_lexicat_file_arguments() {
+    local own=''
+    if [[ $word == '=' || ${COMP_WORDS[COMP_CWORD-1]} == '=' ]]; then
+        [[ $1 != @(import|update|take|sync|merge|confirm|undo) ]] || return
+    elif [[ $word != -* && $1 == @(import|update|take|sync|merge|undo|delta|changes) ]]; then
+        compopt -o default 2> /dev/null
+        return
+    fi
+    case $1 in
+        delete) own='--force' ;;
+        take | sync) own='--no-limit' ;;
+        merge) own='--not-after --no-limit --help -h' ;;
+        confirm) own='--lang --source --now --help -h' ;;
+        undo) own='--now --help -h' ;;
+    esac
+    case $1 in
+        merge | confirm | undo) ;;
+        *)
+            for file in "$folder/lexicat" "$folder/lexicat.bash"; do
+                declare -F _lexicat > /dev/null || [ ! -f "$file" ] || . "$file"
+            done
+            declare -F _lexicat > /dev/null || return
+            COMP_WORDS=(lexicat "${COMP_WORDS[@]:site+1}")
+            ((COMP_CWORD -= site))
+            _lexicat
+            ;;
+    esac
+    [[ $word != -* ]] || COMPREPLY+=($(compgen -W "$own" -- "$word"))
+}
+
 _lexicat_file() {
     local word=${COMP_WORDS[COMP_CWORD]} site=1 folder=${BASH_SOURCE[0]%/*} file
-    local commands='new put delete status import update export missing outdated changes filter lookup bundle summary delta take sync'
+    local commands='new put delete status import update export missing outdated changes filter lookup bundle summary delta take sync merge confirm undo'
     COMPREPLY=()
     # After a redirection comes a file.
     case ${COMP_WORDS[COMP_CWORD-1]} in
@@ -28,16 +59,8 @@ _lexicat_file() {
         esac
     elif ((site + 1 == COMP_CWORD)); then
         COMPREPLY=($(compgen -W "$commands" -- "$word"))
-    elif [[ ${COMP_WORDS[site+1]} == sync && $word != -* ]]; then
-        compopt -o default 2> /dev/null
     else
-        for file in "$folder/lexicat" "$folder/lexicat.bash"; do
-            declare -F _lexicat > /dev/null || [ ! -f "$file" ] || . "$file"
-        done
-        declare -F _lexicat > /dev/null || return
-        COMP_WORDS=(lexicat "${COMP_WORDS[@]:site+1}")
-        ((COMP_CWORD -= site))
-        _lexicat
+        _lexicat_file_arguments "${COMP_WORDS[site+1]}"
     fi
 }
 complete -F _lexicat_file lexicat-file

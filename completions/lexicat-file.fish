@@ -16,10 +16,10 @@ function __lexicat_file_has
     test (count (__lexicat_file_given)) $argv
 end
 
-# Whether the command is sync.
-function __lexicat_file_syncs
+# Whether the command is one of these.
+function __lexicat_file_runs
     set -l given (__lexicat_file_given)
-    test "$given[2]" = sync
+    contains -- "$given[2]" $argv
 end
 
 # What lexicat offers after its command.
@@ -49,5 +49,14 @@ complete -c lexicat-file -n '__lexicat_file_has -eq 1' -a summary -d 'The summar
 complete -c lexicat-file -n '__lexicat_file_has -eq 1' -a delta -d 'The cells that the owner of a summary lacks'
 complete -c lexicat-file -n '__lexicat_file_has -eq 1' -a take -d 'Join a delta into the site'
 complete -c lexicat-file -n '__lexicat_file_has -eq 1' -a sync -d 'Merge the site with that of another file'
-complete -c lexicat-file -n '__lexicat_file_has -ge 2; and __lexicat_file_syncs' -F
-complete -c lexicat-file -n '__lexicat_file_has -ge 2; and not __lexicat_file_syncs' -a '(__lexicat_file_arguments)'
+complete -c lexicat-file -n '__lexicat_file_has -eq 1' -a merge -d 'Join the sites of other files into the site'
+complete -c lexicat-file -n '__lexicat_file_has -eq 1' -a confirm -d 'Give a new time to labels that are still right'
+complete -c lexicat-file -n '__lexicat_file_has -eq 1' -a undo -d 'Take back what was edited since a former state'
+complete -c lexicat-file -n '__lexicat_file_has -ge 2; and __lexicat_file_runs import update take sync merge undo delta changes' -F
+complete -c lexicat-file -n '__lexicat_file_has -ge 2; and not __lexicat_file_runs merge confirm undo' -a '(__lexicat_file_arguments)'
+complete -c lexicat-file -n '__lexicat_file_runs delete' -l force -d 'Delete what is not there, too'
+complete -c lexicat-file -n '__lexicat_file_runs take sync merge' -l no-limit -d 'Accept every time'
+complete -c lexicat-file -n '__lexicat_file_runs merge' -x -l not-after -d 'Refuse a time after this'
+complete -c lexicat-file -n '__lexicat_file_runs confirm' -x -l lang -d 'The language of the labels'
+complete -c lexicat-file -n '__lexicat_file_runs confirm' -x -l source -d 'The language that was translated from'
+complete -c lexicat-file -n '__lexicat_file_runs confirm undo' -x -l now -d 'The time of the edit'
