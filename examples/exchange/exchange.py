@@ -12,12 +12,14 @@ import queue
 import random
 import sys
 import threading
+import time
 
 from silkwaram import Site
 
 LANGUAGES = ["en", "fr", "de", "ja", "ar"]
 MESSAGES = ["greeting", "title", "imprint", "news"]
 SECONDS = 60
+DAY = 86_400_000  # milliseconds
 
 
 class Carrier:
@@ -50,12 +52,12 @@ def work(site, inbox, outbox, edits, seed):
 
 
 def exchange(site, inbox, outbox):
-    """Answers what has come."""
+    """Answers what has come. A time far ahead of the clock is refused."""
     for kind, text in inbox.receive():
         if kind == "summary":
             outbox.send("delta", site.delta_for(text))
         else:
-            site.take(text)
+            site.take(text, not_after=time.time_ns() // 1_000_000 + DAY)
 
 
 def main():

@@ -3,6 +3,7 @@
     SILKWARAM_LIBRARY=build/lib/libsilkwaram.so PYTHONPATH=bindings/python/src \
         python3 -m unittest discover -s bindings/python/tests
 """
+import errno
 import fcntl
 import json
 import multiprocessing
@@ -459,6 +460,112 @@ class Files(unittest.TestCase):
             with self.assertRaises(TimeoutError), edit(self.path, wait=0.05):
                 pass
         with edit(self.path, wait=0.05):
+            pass
+
+    def test_a_lock_for_all_who_may_write_the_site(self):
+        for mode in 0o664, 0o640:
+            os.chmod(self.path, mode)
+            mask = os.umask(0o077)
+            try:
+                with edit(self.path, wait=5):
+                    pass
+            finally:
+                os.umask(mask)
+            self.assertEqual(stat.S_IMODE(os.stat(self.path + ".lock").st_mode), mode)
+
+    def test_what_is_no_lock(self):
+        lock = self.path + ".lock"
+        other = os.path.join(self.folder, "other")
+        for make in (
+            lambda: os.mkfifo(lock),
+            lambda: os.mkdir(lock),
+            lambda: os.symlink(other, lock),
+        ):
+            make()
+            with self.assertRaises(OSError), edit(self.path, wait=5):
+                pass
+            os.rmdir(lock) if os.path.isdir(lock) else os.unlink(lock)
+        self.assertEqual(self.names(), ["paris.json"])
+
+    def test_a_file_that_is_not_there_leaves_no_lock(self):
+        for path, create in [
+            (os.path.join(self.folder, "tokyo.json"), None),
+            (os.path.join(self.folder, "nowhere", "tokyo.json"), None),
+            (os.path.join(self.folder, "nowhere", "tokyo.json"), "tokyo"),
+        ]:
+            with self.subTest(path=path, create=create):
+                with self.assertRaises(FileNotFoundError) as raised, edit(path, create=create):
+                    pass
+                self.assertEqual(raised.exception.filename, os.path.realpath(path))
+        with self.assertRaises(Refused), edit(os.path.join(self.folder, "x.json"), create="Tokyo"):
+            pass
+        self.assertEqual(self.names(), ["paris.json"])
+
+    def test_a_file_that_goes_while_its_lock_is_waited_for(self):
+        with open(self.path + ".lock", "ab") as lock:
+            fcntl.flock(lock, fcntl.LOCK_EX)
+            removed = threading.Timer(0.2, lambda: (os.unlink(self.path), lock.close()))
+            removed.start()
+            with self.assertRaises(FileNotFoundError) as raised, edit(self.path, wait=20):
+                pass
+            removed.join()
+        self.assertEqual(raised.exception.filename, os.path.realpath(self.path))
+
+    def test_what_killed_programs_left(self):
+        kept = ["next", "next.abcde", "next.a-cdef"]
+        for end in [*kept, "next.aB3xyz", "next.abcd_123"]:
+            open(f"{self.path}.{end}", "wb").close()
+        with edit(self.path):
+            pass
+        names = [f"paris.json.{end}" for end in ["lock", *kept]]
+        self.assertEqual(self.names(), sorted(["paris.json", *names]))
+
+    def test_a_document_that_no_command_reads(self):
+        texts = {f"m{at}": {"en": "x" * 65535} for at in range(1025)}
+        with self.assertRaisesRegex(OSError, "over the limit of 67108864: ") as raised:
+            with edit(self.path) as site:
+                site.import_maps(texts)
+        self.assertEqual(raised.exception.errno, errno.EFBIG)
+        with open(self.path, encoding="utf-8") as it:
+            self.assertEqual(it.read(), PARIS)
+        self.assertEqual(self.names(), ["paris.json", "paris.json.lock"])
+        with edit(self.path, limit=None) as site:
+            site.import_maps(texts)
+        size = os.stat(self.path).st_size
+        self.assertGreater(size, 67108864)
+        # The limit itself is written.
+        with edit(self.path, limit=size) as site:
+            site.put("m0", "en", "y" * 65535)
+        with self.assertRaises(OSError), edit(self.path, limit=size - 1) as site:
+            site.put("m0", "en", "z" * 65535)
+
+    def test_an_edit_inside_itself(self):
+        link = os.path.join(self.folder, "link.json")
+        os.symlink(self.path, link)
+        with edit(self.path) as site:
+            for path in self.path, link:
+                with self.assertRaisesRegex(RuntimeError, "inside itself"), edit(path, wait=5):
+                    pass
+            site.put("m", "fr", "Bonjour")
+            # Another file is another edit, and another thread waits.
+            with edit(os.path.join(self.folder, "tokyo.json"), create="tokyo"):
+                pass
+            other = threading.Thread(target=write, args=(self.path, 0))
+            other.start()
+            other.join(0.2)
+            self.assertTrue(other.is_alive())
+        other.join(60)
+        self.assertEqual(len(self.labels()), 21)
+        self.assertEqual(self.labels()["m"]["fr"], "Bonjour")
+
+    def test_hard_links(self):
+        other = os.path.join(self.folder, "other.json")
+        os.link(self.path, other)
+        for path in self.path, other:
+            with self.assertRaisesRegex(OSError, "hard links"), edit(path):
+                pass
+        os.unlink(other)
+        with edit(self.path):
             pass
 
     def test_writers_in_several_processes(self):
