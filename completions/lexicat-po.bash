@@ -11,18 +11,19 @@ _lexicat_po() {
     fi
     case $before in
         --lang | --source | --plural-forms) return ;;
-        --sent | '<' | '>' | '>>' | '<>' | '>|' | '2>' | '2>>' | '&>' | '&>>')
+        --sent | --like | '<' | '>' | '>>' | '<>' | '>|' | '2>' | '2>>' | '&>' | '&>>')
             compopt -o default 2> /dev/null
             return
             ;;
     esac
     if [[ $word == -* ]]; then
-        offered=$(compgen -W '--lang --source --sent --plural-forms --help -h' -- "$word")
+        offered=$(compgen -W '--lang --source --sent --like --plural-forms --help -h' -- "$word")
         [[ ${COMP_WORDS[1]} == in ]] || offered=${offered/--sent/}
+        [[ ${COMP_WORDS[1]} == @(in|out) ]] || offered=${offered/--like/}
         COMPREPLY=($offered)
     elif ((COMP_CWORD == 1)); then
         COMPREPLY=($(compgen -W 'out in confirmed' -- "$word"))
-    elif [[ ${COMP_WORDS[1]} != out ]]; then
+    else
         compopt -o default 2> /dev/null
     fi
 }

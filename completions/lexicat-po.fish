@@ -18,6 +18,7 @@ complete -c lexicat-po -n __lexicat_po_has_none -a in -d 'Print what a translato
 complete -c lexicat-po -n __lexicat_po_has_none -a confirmed -d 'Print what a translator confirmed, for import'
 complete -c lexicat-po -n 'not __lexicat_po_has_none' -x -l lang -d 'The language of the translations'
 complete -c lexicat-po -n 'not __lexicat_po_has_none' -x -l source -d 'The language that is translated'
-complete -c lexicat-po -n 'not __lexicat_po_has_none' -x -l plural-forms -d 'The plural rule'
+complete -c lexicat-po -n '__lexicat_po_is out in confirmed' -x -l plural-forms -d 'The plural rule'
+complete -c lexicat-po -n '__lexicat_po_is out in' -r -F -l like -d 'A PO file with the plural rule and the header'
 complete -c lexicat-po -n '__lexicat_po_is in' -r -F -l sent -d 'The PO file as it was sent'
-complete -c lexicat-po -n '__lexicat_po_is in confirmed' -F
+complete -c lexicat-po -n 'not __lexicat_po_has_none' -F

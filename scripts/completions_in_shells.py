@@ -53,6 +53,8 @@ LINES = [
     ("lexicat-po in --sent zz", "args:in --sent zz_file.json input:"),
     ("lexicat-po in --lang de --source en zz", "args:in --lang de --source en zz_file.json input:"),
     ("lexicat-po out --plu", "args:out --plural-forms=? input:"),
+    ("lexicat-po out --like zz", "args:out --like zz_file.json input:"),
+    ("lexicat-po out --lang de zz", "args:out --lang de zz_file.json input:"),
     ("lexicat-po out --lang de < zz", "args:out --lang de input:held"),
 ]
 
