@@ -55,6 +55,8 @@ LINES = [
     ("lexicat-po out --plu", "args:out --plural-forms=? input:"),
     ("lexicat-po out --like zz", "args:out --like zz_file.json input:"),
     ("lexicat-po out --lang de zz", "args:out --lang de zz_file.json input:"),
+    ("lexicat-po maps --dom", "args:maps --domain=? input:"),
+    ("lexicat-po maps --source en zz", "args:maps --source en zz_file.json input:"),
     ("lexicat-po out --lang de < zz", "args:out --lang de input:held"),
 ]
 
