@@ -5,14 +5,19 @@
 """
 import asyncio
 import json
+import os
 import subprocess
 import sys
+import tempfile
 import threading
+import time
 import unittest
+from unittest import mock
 from wsgiref.util import setup_testing_defaults
 from wsgiref.validate import validator
 
-from silkwaram import Refused, Site
+from silkwaram import Refused, Site, _site_file
+from silkwaram._site_file import SiteFile
 from silkwaram.web import LABEL, LANGUAGE, ASGILanguageMiddleware, WSGILanguageMiddleware
 
 TAGS = ["en", "fr", "zh-CN"]
@@ -29,7 +34,18 @@ READERS = [
     (["\xe9, fr;q=0.5"], "fr", "en"),
     (["\xe9" * 40000 + ", fr"], "fr", "en"),
     (["fr"] + ["," * 30000] * 3, "en", "en"),
-    (["ja, *;q=0"], None, None),
+    (["ja, *;q=0"], "en", "en"),
+    (["*;q=0"], "en", "en"),
+    (["fr;q=0, en;q=0, zh-CN;q=0"], "en", "en"),
+]
+# Those who refuse the default too, and what they get with `strict`.
+STRICT_READERS = [
+    (["*;q=0"], None),
+    (["ja, *;q=0"], None),
+    (["ja", "en;q=0"], None),
+    (["fr, *;q=0"], "fr"),
+    (["ja"], "en"),
+    ([], "en"),
 ]
 # The Vary lines of an application, and what the response has.
 VARIES = [
@@ -152,6 +168,52 @@ class Both(unittest.TestCase):
                         self.assertEqual(values(headers, "content-language"), said)
                         self.assertEqual(values(headers, "vary"), ["Accept-Language"])
 
+    def test_strict_readers(self):
+        def first_text(given):
+            label = given[LABEL]("greeting")
+            return str(label and label.texts[0])
+
+        texts = {None: "None", "en": "Hello", "fr": "Bonjour"}
+        with Site.open(document("Hello")) as site:
+            for name, middleware, app, ask in WAYS:
+                of_tags = middleware(app(), tags=TAGS, default="en", strict=True)
+                words = {"site": site, "message": "greeting", "default": "en"}
+                of_site = middleware(app(text=first_text), **words, strict=True)
+                by_default = middleware(app(text=first_text), **words)
+                for lines, language in STRICT_READERS:
+                    with self.subTest(name=name, lines=lines):
+                        said = [] if language is None else [language]
+                        for asked, body in (of_tags, str(language)), (of_site, texts[language]):
+                            status, headers, got = ask(asked, lines)
+                            self.assertEqual((status, got.decode()), (200, body))
+                            self.assertEqual(values(headers, "content-language"), said)
+                        _, headers, got = ask(by_default, lines)
+                        self.assertEqual(got.decode(), texts[language or "en"])
+                        self.assertEqual(values(headers, "content-language"), [language or "en"])
+
+    def test_widened_readers(self):
+        def first_text(given):
+            return given[LABEL]("greeting").texts[0]
+
+        cells = [["greeting", "en", 5, "paris", 0, ["Hello"]]]
+        cells.append(["greeting", "pt-br", 5, "paris", 1, ["Oi"]])
+        held = {"cells": cells, "kind": "site", "site": "paris", "version": 2}
+        with Site.open(json.dumps(held)) as site:
+            for name, middleware, app, ask in WAYS:
+                for widen, tag, text in (False, "en", "Hello"), (True, "pt-BR", "Oi"):
+                    with self.subTest(name=name, widen=widen):
+                        words = {"default": "en", "widen": widen}
+                        of_tags = middleware(app(), tags=["en", "pt-BR"], **words)
+                        self.assertEqual(ask(of_tags, ["pt"])[2].decode(), tag)
+                        of_site = middleware(app(text=first_text), site=site, **words)
+                        self.assertEqual(ask(of_site, ["pt"])[2].decode(), text)
+
+    def test_a_text_that_is_no_header(self):
+        for name, middleware, app, ask in WAYS[:1]:
+            asked = middleware(app(), tags=TAGS, default="en")
+            body = asked({"HTTP_ACCEPT_LANGUAGE": "\u65e5\u672c, fr"}, lambda *_: None)
+            self.assertEqual(body, [b"fr"])
+
     def test_without_a_default(self):
         for name, middleware, app, ask in WAYS:
             with self.subTest(name=name):
@@ -193,9 +255,9 @@ class Both(unittest.TestCase):
                 self.assertEqual(values(headers, "x-name"), ["\xe9"])
 
     def test_labels_of_a_site(self):
-        def text(told):
-            label, other = told[LABEL]("greeting"), told[LABEL]("title")
-            return f"{told[LANGUAGE]} {label.texts[0]} {other.language} {told[LABEL]('none')}"
+        def text(given):
+            label, other = given[LABEL]("greeting"), given[LABEL]("title")
+            return f"{given[LANGUAGE]} {label.texts[0]} {other.language} {given[LABEL]('none')}"
 
         with Site.open(document("Hello")) as site:
             for name, middleware, app, ask in WAYS:
@@ -212,8 +274,8 @@ class Both(unittest.TestCase):
                         self.assertEqual(values(headers, "content-language"), [language])
 
     def test_a_field_that_is_refused_where_no_message_is_named(self):
-        def text(told):
-            return told[LABEL]("greeting").texts[0]
+        def text(given):
+            return given[LABEL]("greeting").texts[0]
 
         with Site.open(document("Hello")) as site:
             for name, middleware, app, ask in WAYS:
@@ -239,18 +301,18 @@ class Both(unittest.TestCase):
         for name, middleware, app, ask in WAYS:
             with self.subTest(name=name), Site.open(document("old")) as site:
 
-                def text(told):
-                    before = told[LABEL]("greeting").texts[0]
+                def text(given):
+                    before = given[LABEL]("greeting").texts[0]
                     site.reload(document("new"))
-                    return f"{before} {told[LABEL]('greeting').texts[0]}"
+                    return f"{before} {given[LABEL]('greeting').texts[0]}"
 
                 asked = middleware(app(text=text), site=site, default="en")
                 self.assertEqual(ask(asked)[2], b"old old")
                 self.assertEqual(ask(asked)[2], b"new new")
 
     def test_reloads_beside_requests(self):
-        def text(told):
-            return " ".join(told[LABEL]("greeting").texts[0] for _ in range(20))
+        def text(given):
+            return " ".join(given[LABEL]("greeting").texts[0] for _ in range(20))
 
         for name, middleware, app, ask in WAYS:
             site, wrong = Site.open(document("0")), []
@@ -278,6 +340,10 @@ class Both(unittest.TestCase):
             for fault, words in [
                 (TypeError, {}),
                 (TypeError, {"tags": TAGS, "site": site}),
+                (TypeError, {"tags": TAGS, "path": "site.json"}),
+                (TypeError, {"site": site, "path": "site.json"}),
+                (FileNotFoundError, {"path": "/there/is/none.json"}),
+                (Refused, {"path": __file__}),
                 (TypeError, {"tags": TAGS, "message": "title"}),
                 (TypeError, {"tags": "en"}),
                 (ValueError, {"tags": ["fr"]}),
@@ -421,6 +487,186 @@ class OfASGI(unittest.TestCase):
 
         with self.assertRaisesRegex(KeyError, "of the application"):
             ask_asgi(ASGILanguageMiddleware(app, tags=TAGS, default="en"))
+
+
+def waits_for(is_so, seconds=20):
+    """Whether it is so within these seconds."""
+    until = time.monotonic() + seconds
+    while not is_so():
+        if time.monotonic() > until:
+            return False
+        time.sleep(0.01)
+    return True
+
+
+class Files(unittest.TestCase):
+    """A site whose file is replaced while it is asked."""
+
+    def setUp(self):
+        folder = tempfile.TemporaryDirectory()
+        self.addCleanup(folder.cleanup)
+        self.path = os.path.join(folder.name, "site.json")
+        self.replace(document("old"))
+        often = mock.patch.object(_site_file, "LOOK_EVERY", 0.02)
+        often.start()
+        self.addCleanup(often.stop)
+
+    def write(self, content):
+        with open(self.path, "wb") as file:
+            file.write(content)
+
+    def replace(self, content):
+        with open(self.path + ".next", "wb") as file:
+            file.write(content)
+        os.replace(self.path + ".next", self.path)
+
+    def replace_by_link(self, target):
+        os.symlink(target, self.path + ".next")
+        os.replace(self.path + ".next", self.path)
+
+    def text(self, file):
+        return file.share().text("greeting", "en")
+
+    def test_the_middleware(self):
+        def first_text(given):
+            return given[LABEL]("greeting").texts[0]
+
+        for name, middleware, app, ask in WAYS:
+            self.replace(document("old"))
+            asked = middleware(app(text=first_text), path=self.path, default="en")
+            with self.subTest(name=name):
+                self.assertEqual(ask(asked)[2], b"old")
+                self.replace(document("new"))
+                self.assertTrue(waits_for(lambda: ask(asked)[2] == b"new"))
+
+    def test_each_way_to_replace_it(self):
+        file = SiteFile(self.path)
+        for state, change in enumerate([self.replace, self.write, self.replace]):
+            change(document(f"state {state}"))
+            self.assertTrue(waits_for(lambda: self.text(file) == f"state {state}"), change)
+
+    def test_a_file_of_the_same_size_and_time(self):
+        file = SiteFile(self.path)
+        held = os.stat(self.path)
+        self.write(document("new"))
+        os.utime(self.path, ns=(held.st_atime_ns, held.st_mtime_ns))
+        self.assertTrue(waits_for(lambda: self.text(file) == "new"))
+
+    def test_a_file_that_is_older(self):
+        file = SiteFile(self.path)
+        self.replace(document("new"))
+        os.utime(self.path, (1, 1))
+        self.assertTrue(waits_for(lambda: self.text(file) == "new"))
+
+    def test_what_is_no_site_leaves_the_state_and_is_tried_again(self):
+        file = SiteFile(self.path)
+        faults = [
+            lambda: self.write(b""),
+            lambda: self.write(document("cut")[:-9]),
+            lambda: os.unlink(self.path),
+            lambda: self.replace_by_link("none"),
+            lambda: self.replace_by_link("."),
+        ]
+        for make in faults:
+            self.replace(document("old"))
+            self.assertTrue(waits_for(lambda: self.text(file) == "old" and not file._fault))
+            with self.assertLogs("silkwaram", "WARNING") as logged:
+                make()
+                self.assertTrue(waits_for(lambda: self.text(file) == "old" and logged.records))
+                until = time.monotonic() + 0.3
+                while time.monotonic() < until:
+                    self.assertEqual(self.text(file), "old")
+                    time.sleep(0.01)
+            self.assertEqual(len(logged.records), 1, logged.output)
+            self.assertIn(self.path, logged.output[0])
+        self.replace(document("new"))
+        self.assertTrue(waits_for(lambda: self.text(file) == "new"))
+        with self.assertLogs("silkwaram", "WARNING"):
+            os.unlink(self.path)
+            self.assertTrue(waits_for(lambda: self.text(file) == "new" and file._fault))
+
+    def test_a_fault_that_passes_while_the_file_stays(self):
+        file = SiteFile(self.path)
+        opens = mock.Mock(side_effect=[MemoryError(), Site.open(document("new"))])
+        with mock.patch.object(_site_file, "Site", mock.Mock(open=opens)):
+            self.replace(document("new"))
+            with self.assertLogs("silkwaram", "WARNING"):
+                self.assertTrue(waits_for(lambda: self.text(file) == "new"))
+
+    def test_nobody_waits_for_the_reading(self):
+        file, goes_on = SiteFile(self.path), threading.Event()
+        self.addCleanup(goes_on.set)
+        opens = mock.Mock(side_effect=lambda it: goes_on.wait(20) and Site.open(it))
+        with mock.patch.object(_site_file, "Site", mock.Mock(open=opens)):
+            self.replace(document("new"))
+            self.assertTrue(waits_for(lambda: self.text(file) and opens.called))
+            began = time.monotonic()
+            self.assertEqual([self.text(file) for _ in range(100)], ["old"] * 100)
+            self.assertLess(time.monotonic() - began, 5)
+            self.assertEqual(opens.call_count, 1)
+            goes_on.set()
+            self.assertTrue(waits_for(lambda: self.text(file) == "new"))
+
+    def test_it_is_looked_at_once_in_a_while(self):
+        with mock.patch.object(_site_file, "LOOK_EVERY", 0.3):
+            file = SiteFile(self.path)
+            with mock.patch.object(file, "_read", wraps=file._read) as reads:
+                until = time.monotonic() + 1
+                while time.monotonic() < until:
+                    self.text(file)
+                self.assertIn(reads.call_count, (1, 2, 3))
+
+    def test_a_file_that_takes_long_is_looked_at_less_often(self):
+        file = SiteFile(self.path)
+        with mock.patch.object(file, "_read", side_effect=lambda: time.sleep(0.2)) as reads:
+            until = time.monotonic() + 1.5
+            while time.monotonic() < until:
+                self.text(file)
+            self.assertEqual(reads.call_count, 1)
+
+    def test_where_no_thread_can_be_had(self):
+        file = SiteFile(self.path)
+        self.replace(document("new"))
+        none = mock.Mock(side_effect=RuntimeError("can't start new thread"))
+        with mock.patch.object(threading, "Thread", none):
+            self.assertTrue(waits_for(lambda: self.text(file) == "new"))
+            self.replace(document("newer"))
+            self.assertTrue(waits_for(lambda: self.text(file) == "newer"))
+
+    @unittest.skipUnless(hasattr(os, "fork"), "there is no fork")
+    def test_a_child(self):
+        file = SiteFile(self.path)
+        file._lock.acquire()
+        child = os.fork()
+        if child == 0:
+            self.replace(document("new"))
+            os._exit(0 if waits_for(lambda: self.text(file) == "new") else 1)
+        self.assertEqual(os.waitpid(child, 0)[1], 0)
+
+    def test_states_are_whole(self):
+        file, wrong, ends = SiteFile(self.path), [], threading.Event()
+
+        def ask():
+            while not ends.is_set():
+                site = file.share()
+                texts = {site.text("greeting", "en") for _ in range(20)}
+                if len(texts) != 1:
+                    wrong.append(texts)
+
+        threads = [threading.Thread(target=ask) for _ in range(3)]
+        quiet = mock.patch.object(_site_file, "_log")
+        quiet.start()
+        self.addCleanup(quiet.stop)
+        for it in threads:
+            it.start()
+        for state in range(50):
+            (self.replace if state % 2 else self.write)(document(str(state)))
+            time.sleep(0.01)
+        ends.set()
+        for it in threads:
+            it.join()
+        self.assertEqual(wrong, [])
+        self.assertTrue(waits_for(lambda: self.text(file) == "49"))
 
 
 class Imports(unittest.TestCase):

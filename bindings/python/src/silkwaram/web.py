@@ -1,15 +1,22 @@
-"""Middleware for WSGI and ASGI that tells an application its reader's language.
+"""Middleware for WSGI and ASGI that gives an application its reader's language.
 
     app = WSGILanguageMiddleware(app, tags=["en", "fr"], default="en")
-    app = ASGILanguageMiddleware(app, site=site, message="title", default="en")
+    app = ASGILanguageMiddleware(app, path="site.json", message="title", default="en")
 
 The application finds in its environ or scope, under the names that this module has for them:
 
-- `LANGUAGE`: with `tags` the one that the reader gets by `pick`, with `site` the language of the
-  label of `message` that the reader gets. It is None where the reader gets none, as one who refuses
-  the default does, and where no `message` is named;
-- `LABEL`, with `site` alone: a function that returns the `Label` of a message id that the reader
+- `LANGUAGE`: with `tags` the one that the reader gets by `pick`, with a site the language of the
+  label of `message` that the reader gets. It is None where the reader gets none, and where a site
+  has no such label or no `message` is named;
+- `LABEL`, with a site alone: a function that returns the `Label` of a message id that the reader
   gets, or None. All labels of a request are of one state of the site, also when it is reloaded.
+
+The site is an open `site`, or that of the file at `path`, which is read anew when the file was
+replaced: it is looked at once a second at most, and by a thread of its own. A file that is missing
+or broken leaves the site as it was; a warning is logged, and the file is tried again.
+
+A reader who refuses the default too gets it nevertheless, as RFC 9110 section 12.5.4 allows; with
+`strict` such a reader gets None. `widen` lets a language find its regions, as `en` finds `en-US`.
 
 Each response gets `Vary: Accept-Language` beside what the application varies by; a `Vary` of `*`
 stays. It gets `Content-Language`, unless the application sets one, the language is None or `@none`,
@@ -30,9 +37,11 @@ from typing import (
     NamedTuple,
     Optional,
     Tuple,
+    TypeVar,
 )
 
 from . import Label, Refused, Site, pick
+from ._site_file import Path, SiteFile
 
 __all__ = ["ASGILanguageMiddleware", "LABEL", "LANGUAGE", "WSGILanguageMiddleware"]
 
@@ -48,35 +57,42 @@ Scope = MutableMapping[str, Any]
 Receive = Callable[[], Awaitable[MutableMapping[str, Any]]]
 Send = Callable[[MutableMapping[str, Any]], Awaitable[None]]
 ASGIApp = Callable[[Scope, Receive, Send], Awaitable[None]]
+Found = TypeVar("Found")
 
 
 class _Reader(NamedTuple):
     """What an application gets of its reader, under its names, and the language alone."""
 
-    told: Dict[str, Any]
+    given: Dict[str, Any]
     language: Optional[str]
 
 
 class _Languages:
-    """What there is for readers: tags, or a site."""
+    """What there is for readers: tags, or a site, or the site of a file."""
 
     def __init__(
         self,
+        *,
         tags: Optional[Iterable[str]],
         site: Optional[Site],
+        path: Optional[Path],
         message: Optional[str],
         default: Optional[str],
         lenient: bool,
+        widen: bool,
+        strict: bool,
     ) -> None:
-        if (tags is None) == (site is None):
-            raise TypeError("either tags or site must be given")
-        if message is not None and site is None:
+        if [tags, site, path].count(None) != 2:
+            raise TypeError("one of tags, site and path must be given")
+        if message is not None and tags is not None:
             raise TypeError("message is of a site")
-        self._site, self._message = site, message
-        self._rules: Dict[str, Any] = {"default": default, "lenient": lenient}
+        self._message, self._strict = message, strict
+        self._rules: Dict[str, Any] = {"default": default, "lenient": lenient, "widen": widen}
+        self._site = site if path is None else SiteFile(path)
         # (what the application gives is refused here, and never in a request)
-        if site is not None:
-            site.lookup("-" if message is None else message, None, default=default)
+        if self._site is not None:
+            shared = self._site.share()
+            shared.lookup("-" if message is None else message, None, **self._rules)
         elif tags is not None:
             self._tags = tags if isinstance(tags, (str, bytes)) else list(tags)
             if pick(None, self._tags, default=default) is None and default is not None:
@@ -91,7 +107,7 @@ class _Languages:
 
     def _reader(self, field: Optional[bytes]) -> _Reader:
         if self._site is None:
-            language = pick(field, self._tags, **self._rules)
+            language = self._tag(field)
             return _Reader({LANGUAGE: language}, language)
         # (so that a field is refused here, and not where the application asks for a label)
         pick(field, [], lenient=self._rules["lenient"])
@@ -100,13 +116,23 @@ class _Languages:
         language = None if first is None else first.language
         return _Reader({LANGUAGE: language, LABEL: label}, language)
 
+    def _tag(self, field: Optional[bytes]) -> Optional[str]:
+        return self._answer(lambda it: pick(it, self._tags, **self._rules), field)
+
     def _labels(self, site: Site, field: Optional[bytes]) -> Callable[[str], Optional[Label]]:
         """The labels that a reader gets of a site, which is let go with the function."""
 
         def label(id: str) -> Optional[Label]:
-            return site.lookup(id, field, **self._rules)
+            return self._answer(lambda it: site.lookup(id, it, **self._rules), field)
 
         return label
+
+    def _answer(
+        self, ask: Callable[[Optional[bytes]], Optional[Found]], field: Optional[bytes]
+    ) -> Optional[Found]:
+        """What is found by a field; without `strict` the default where that finds nothing."""
+        found = ask(field)
+        return ask(None) if found is None and not self._strict else found
 
 
 def _varied(values: List[str]) -> Optional[str]:
@@ -129,7 +155,7 @@ def _with_language(headers: Headers, status: int, language: Optional[str]) -> He
 
 
 class WSGILanguageMiddleware:
-    """A WSGI application that tells another one the language of its reader; see the module."""
+    """A WSGI application that gives another one the language of its reader; see the module."""
 
     def __init__(
         self,
@@ -137,36 +163,49 @@ class WSGILanguageMiddleware:
         *,
         tags: Optional[Iterable[str]] = None,
         site: Optional[Site] = None,
+        path: Optional[Path] = None,
         message: Optional[str] = None,
         default: Optional[str],
         lenient: bool = True,
+        widen: bool = False,
+        strict: bool = False,
     ) -> None:
-        """Takes `tags` or a `site`. Their first language is a good `default`, which may be None.
+        """Takes `tags`, a `site`, or the `path` of one. `default` may be None.
 
-        Refused: the default and the tags (1 to 4), the message (10).
+        Refused: the default and the tags (1 to 4), the message (10), the file as by `Site.open`. A
+        file that cannot be read is an OSError.
         """
         self.app = app
-        self._languages = _Languages(tags, site, message, default, lenient)
+        self._languages = _Languages(
+            tags=tags,
+            site=site,
+            path=path,
+            message=message,
+            default=default,
+            lenient=lenient,
+            widen=widen,
+            strict=strict,
+        )
 
     def __call__(
         self, environ: Dict[str, Any], start_response: Callable[..., Any]
     ) -> Iterable[bytes]:
         """Answers with what the application returns, as it is."""
         field = environ.get("HTTP_ACCEPT_LANGUAGE")
-        reader = self._languages.reader(None if field is None else field.encode("latin-1"))
+        reader = self._languages.reader(None if field is None else field.encode("latin-1", "replace"))
 
         def start(status: str, headers: Headers, *exc_info: Any) -> Any:
             changed = _with_language(headers, int(status[:3]), reader.language)
             return start_response(status, changed, *exc_info)
 
-        environ.update(reader.told)
+        environ.update(reader.given)
         return self.app(environ, start)
 
 
 class ASGILanguageMiddleware:
-    """An ASGI application that tells another one the language of its reader; see the module.
+    """An ASGI application that gives another one the language of its reader; see the module.
 
-    A websocket is told in its scope alone: there is no header to add, unless it is answered by an
+    A websocket has it in its scope alone: there is no header to add, unless it is answered by an
     HTTP response. Any other scope, as lifespan, passes as it is.
     """
 
@@ -176,16 +215,29 @@ class ASGILanguageMiddleware:
         *,
         tags: Optional[Iterable[str]] = None,
         site: Optional[Site] = None,
+        path: Optional[Path] = None,
         message: Optional[str] = None,
         default: Optional[str],
         lenient: bool = True,
+        widen: bool = False,
+        strict: bool = False,
     ) -> None:
-        """Takes `tags` or a `site`. Their first language is a good `default`, which may be None.
+        """Takes `tags`, a `site`, or the `path` of one. `default` may be None.
 
-        Refused: the default and the tags (1 to 4), the message (10).
+        Refused: the default and the tags (1 to 4), the message (10), the file as by `Site.open`. A
+        file that cannot be read is an OSError.
         """
         self.app = app
-        self._languages = _Languages(tags, site, message, default, lenient)
+        self._languages = _Languages(
+            tags=tags,
+            site=site,
+            path=path,
+            message=message,
+            default=default,
+            lenient=lenient,
+            widen=widen,
+            strict=strict,
+        )
 
     async def __call__(self, scope: Scope, receive: Receive, send: Send) -> None:
         """Passes the request on, and what the application sends."""
@@ -209,4 +261,4 @@ class ASGILanguageMiddleware:
                 event = {**event, "headers": added}
             await send(event)
 
-        await self.app({**scope, **reader.told}, receive, send_on)
+        await self.app({**scope, **reader.given}, receive, send_on)
