@@ -70,7 +70,12 @@ def metadata():
 
 def modules():
     folder = os.path.join(HERE, "src", NAME)
-    return sorted(it for it in os.listdir(folder) if it.endswith((".py", ".typed")))
+    return sorted(
+        os.path.relpath(os.path.join(path, it), folder)
+        for path, _, files in os.walk(folder)
+        for it in files
+        if it.endswith((".py", ".typed"))
+    )
 
 
 def library_tag(path):

@@ -8,7 +8,11 @@ import http.client
 import os
 import subprocess
 import sys
+import tempfile
+import time
 import urllib.parse
+
+from serve import document
 
 SERVE = os.path.join(os.path.dirname(os.path.realpath(__file__)), "serve.py")
 MOST_SECONDS = 20
@@ -26,9 +30,16 @@ READERS = [
     (["\xe9, fr;q=0.5"], "fr"),
     (["ja"], "en"),
 ]
-# What only Django is asked. It has pt-br and zh-hans too, which no shorter range finds.
-OF_DJANGO = [(["pt"], "en"), (["pt-BR"], "pt-br"), (["zh-CN, fr;q=0.5"], "fr")]
-REFUSES_ALL = "ja, *;q=0"
+# What only Django is asked. It has pt-br and zh-hans too, which its fallbacks find.
+OF_DJANGO = [
+    (["pt"], "pt-br"),
+    (["pt-PT"], "pt-br"),
+    (["pt-BR"], "pt-br"),
+    (["zh-CN, fr;q=0.5"], "zh-hans"),
+    (["zh-TW, fr;q=0.5"], "zh-hans"),
+    (["zh-Hant-HK"], "zh-hans"),
+]
+REFUSES_ALL = ["*;q=0", "ja, *;q=0", "ja, en;q=0"]
 
 Answer = collections.namedtuple("Answer", "status headers body")
 
@@ -87,40 +98,92 @@ def faults_of_exceptions(server, kind):
     yield from differs("after a fault", server.ask("de"), 200, "de", "de")
 
 
-def faults_of_middleware(server):
-    """A reader who refuses the default too is told so."""
-    yield from differs(REFUSES_ALL, server.ask(REFUSES_ALL), 200, "None", None)
+def faults_of_refusals(server):
+    """A reader who refuses the default too gets it nevertheless."""
+    for field in REFUSES_ALL:
+        yield from differs(field, server.ask(field), 200, "en", "en")
+        yield from differs(field, server.ask(field, path="/label"), 200, "Hello", "en")
+
+
+def faults_of_files(server, path):
+    """A file that is replaced is read anew, and what is no site leaves the state as it was."""
+
+    def replace(text):
+        with open(path + ".next", "w", encoding="utf-8") as file:
+            file.write(text)
+        os.replace(path + ".next", path)
+
+    def answers(text):
+        return server.ask("fr", path="/label").body == text
+
+    replace(document({**GREETINGS, "fr": "Salut"}))
+    until = time.monotonic() + MOST_SECONDS
+    while not answers("Salut"):
+        if time.monotonic() > until:
+            yield "a file that is replaced is not read anew"
+            return
+        time.sleep(0.05)
+    for make in lambda: replace(document(GREETINGS)[:-9]), lambda: os.unlink(path):
+        make()
+        until = time.monotonic() + 1.5
+        while time.monotonic() < until:
+            if not answers("Salut"):
+                yield "what is no site does not leave the state as it was"
+                return
+    replace(document(GREETINGS))
+    while not answers("Bonjour"):
+        if time.monotonic() > until + MOST_SECONDS:
+            yield "after a fault the file is not tried again"
+            return
+        time.sleep(0.05)
 
 
 def faults_of_django(server):
-    yield from differs(REFUSES_ALL, server.ask(REFUSES_ALL), 200, "en", "en")
     for fields, language in OF_DJANGO:
         yield from differs(fields, server.ask(*fields), 200, language, language)
     got = server.ask("fr", cookie="django_language=de")
-    yield from differs("a cookie", got, 200, "fr", "fr")
-    yield from differs("a prefix", server.ask("fr", path="/de/"), 404, None, "fr")
-    got = server.ask("fr", path="/label").headers["X-After"]
-    if got != "en-us":
-        yield f"after the response the language is {got}, not that of LANGUAGE_CODE"
+    yield from differs("a cookie", got, 200, "de", "de")
+    got = server.ask("fr", path="/de/news/")
+    if (got.status, got.body, got.headers["Content-Language"]) != (200, "de", "de"):
+        yield f"a prefix: {got}"
+    got = server.ask("fr", path="/news/")
+    if (got.status, got.headers["Location"]) != (302, "/fr/news/"):
+        yield f"without a prefix: {got}"
+    yield from differs("no language", server.ask("fr", path="/xx/news/"), 404, None, "fr")
 
 
-def faults_of(server, kind):
+def faults_of(server, kind, path):
     yield from faults_of_pages(server)
     yield from faults_of_exceptions(server, kind)
-    yield from (faults_of_django if kind.startswith("django") else faults_of_middleware)(server)
+    yield from faults_of_refusals(server)
+    if kind.startswith("django"):
+        yield from faults_of_django(server)
+    yield from faults_of_files(server, path)
 
 
-def main(kind):
-    words = [sys.executable, SERVE, kind]
+def served(kind, path):
+    """The faults of a server, and what it says in its standard error."""
+    with open(path, "w", encoding="utf-8") as file:
+        file.write(document(GREETINGS))
     with subprocess.Popen(
-        words, stdout=subprocess.PIPE, stderr=subprocess.PIPE, text=True
+        [sys.executable, SERVE, kind, path],
+        stdout=subprocess.PIPE,
+        stderr=subprocess.PIPE,
+        text=True,
     ) as started:
         try:
             address = started.stdout.readline().strip()
-            faults = list(faults_of(Server(address), kind)) if address else ["does not start"]
+            server = Server(address)
+            faults = list(faults_of(server, kind, path)) if address else ["does not start"]
         finally:
             started.terminate()
             said = started.communicate()[1]
+    return faults, said
+
+
+def main(kind):
+    with tempfile.TemporaryDirectory() as folder:
+        faults, said = served(kind, os.path.join(folder, "site.json"))
     for fault in faults:
         print(f"{kind}: {fault[:500]}")
     if faults:

@@ -1,11 +1,11 @@
 #!/usr/bin/env python3
 """Serves an application with the middleware of the Python package, over loopback.
 
-usage: serve.py KIND
+usage: serve.py KIND SITE.json
 
 It prints its address, and serves until it is ended. `/` answers with the language that the
-application is told, `/label` with its labels, `/stream` in parts, `/vary` with a Vary of its own,
-`/fault` by an exception; any other path is 404.
+application gets, `/label` with its labels, `/stream` in parts, `/vary` with a Vary of its own,
+`/fault` by an exception; any other path is 404. Django has `/news/` too, below a language.
 """
 import json
 import logging
@@ -15,29 +15,28 @@ from wsgiref.simple_server import WSGIRequestHandler, make_server
 from wsgiref.validate import validator
 
 TAGS = ["en", "fr", "de"]
-GREETINGS = {"de": "Hallo", "en": "Hello", "fr": "Bonjour"}
-DOCUMENT = json.dumps(
-    {
-        "cells": [
-            ["greeting", language, 5, "paris", at, [text]]
-            for at, (language, text) in enumerate(sorted(GREETINGS.items()))
-        ],
-        "kind": "site",
-        "site": "paris",
-        "version": 2,
-    }
-)
 SETTINGS = {
     "ALLOWED_HOSTS": ["localhost", "127.0.0.1"],
     "DEBUG": False,
+    "INSTALLED_APPS": ["silkwaram"],
     "LANGUAGES": [(it, it) for it in [*TAGS, "pt-br", "zh-hans"]],
     "LANGUAGE_CODE": "en-us",
     "LOGGING_CONFIG": None,
-    "MIDDLEWARE": ["__main__.AfterResponse", "silkwaram.django.LocaleMiddleware"],
+    "MIDDLEWARE": ["silkwaram.django.LocaleMiddleware"],
     "ROOT_URLCONF": "__main__",
     "SECRET_KEY": "of a check",
+    "TEMPLATES": [{"BACKEND": "django.template.backends.django.DjangoTemplates"}],
     "USE_I18N": True,
 }
+
+
+def document(greetings):
+    """The document of a site with a greeting in some languages."""
+    cells = [
+        ["greeting", language, 5, "paris", at, [text]]
+        for at, (language, text) in enumerate(sorted(greetings.items()))
+    ]
+    return json.dumps({"cells": cells, "kind": "site", "site": "paris", "version": 2})
 
 
 class Handler(WSGIRequestHandler):
@@ -61,9 +60,7 @@ def serve_asgi(app, lifespan):
 
 
 def rules():
-    from silkwaram import Site
-
-    return {"site": Site.open(DOCUMENT), "message": "greeting", "default": "en"}
+    return {"path": sys.argv[2], "message": "greeting", "default": "en"}
 
 
 def wsgiref():
@@ -184,25 +181,22 @@ def starlette():
 
 
 def with_django():
-    """Views, as Django finds them in this module, and a middleware outside of that of the check."""
-    global AfterResponse, urlpatterns
+    """Views, as Django finds them in this module."""
+    global urlpatterns
     import django
     from django.conf import settings
+    from django.conf.urls.i18n import i18n_patterns
     from django.http import HttpResponse, StreamingHttpResponse
+    from django.template import engines
     from django.urls import path
     from django.utils import translation
-    from django.utils.deprecation import MiddlewareMixin
-
-    class AfterResponse(MiddlewareMixin):
-        def process_response(self, request, response):
-            response["X-After"] = translation.get_language()
-            return response
 
     async def language(request):
         return HttpResponse(request.LANGUAGE_CODE)
 
     def label(request):
-        return HttpResponse(GREETINGS[translation.get_language()])
+        template = engines["django"].from_string('{% load silkwaram %}{% label "greeting" %}')
+        return HttpResponse(template.render({}, request))
 
     def stream(request):
         return StreamingHttpResponse(
@@ -218,8 +212,9 @@ def with_django():
     pages = [language, label, stream, vary, fault]
     urlpatterns = [path("" if it is language else it.__name__, it) for it in pages]
     logging.disable()
-    settings.configure(**SETTINGS)
+    settings.configure(**SETTINGS, SILKWARAM_SITE=sys.argv[2])
     django.setup()
+    urlpatterns += i18n_patterns(path("news/", language))
 
 
 def django_wsgi():

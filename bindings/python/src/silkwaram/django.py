@@ -1,62 +1,126 @@
-"""Middleware for Django that takes the language from Accept-Language alone.
+"""Middleware for Django, in place of its `LocaleMiddleware`, and the labels of a site.
 
     MIDDLEWARE = [.., "silkwaram.django.LocaleMiddleware", ..]
+    SILKWARAM_SITE = BASE_DIR / "site.json"
 
-It takes the place of `django.middleware.locale.LocaleMiddleware`. Like that one it
-activates one of `settings.LANGUAGES`, sets `request.LANGUAGE_CODE`, and adds `Content-Language`,
-unless the view sets it, and `Vary: Accept-Language`. It runs under WSGI and ASGI.
+The middleware is Django's own, with its URL prefixes (`i18n_patterns`), cookie, redirects, headers
+and default. What differs is how the header is read: by `silkwaram.pick`, so that what is malformed
+of a field is skipped, and a language of weight 0 is refused. A language finds what Django's
+fallbacks name, as `zh-CN` finds `zh-hans`, and its regions, as `pt` finds `pt-br`; where
+`SILKWARAM_WIDEN` is False it finds neither, as RFC 4647's lookup has it.
 
-What differs: the language is that of `silkwaram.pick`, with `LANGUAGE_CODE` as default. So `pt`
-does not find `pt-br`, nor `zh-cn` `zh-hans`: list what browsers send in `LANGUAGES`. What is
-malformed of a field is skipped, a field that is refused counts as no header, and a reader who
-refuses the default too gets it nevertheless. After the response the language is no longer active,
-but for a streaming response, whose body is made later.
-
-What it does not do: it reads neither the prefix of a URL (`i18n_patterns`) nor the cookie that
-`set_language` sets, and redirects to no other URL. Where you need these, take Django's.
+`label` gives views the labels of the file that `SILKWARAM_SITE` names, and the template tag of the
+app `silkwaram` gives them to templates.
 """
-from typing import Any, Callable
+import contextlib
+import functools
+from typing import Any, Dict, Optional
 
 from django.conf import settings
-from django.utils import translation
-from django.utils.cache import patch_vary_headers
-from django.utils.deprecation import MiddlewareMixin
+from django.conf.locale import LANG_INFO
+from django.core.exceptions import ImproperlyConfigured
+from django.core.signals import setting_changed
+from django.dispatch import receiver
+from django.middleware import locale
+from django.utils.translation import get_language, get_supported_language_variant
 
-from . import Refused, pick
+from . import Label, Refused, Site, filter_tags, pick
+from ._site_file import SiteFile
 
-__all__ = ["LocaleMiddleware"]
+__all__ = ["LocaleMiddleware", "label"]
+
+HEADER = "HTTP_ACCEPT_LANGUAGE"
 
 
-class LocaleMiddleware(MiddlewareMixin):  # type: ignore[misc]
+class LocaleMiddleware(locale.LocaleMiddleware):  # type: ignore[misc]
     """Activates the language of the reader for a request; see the module."""
 
-    def __init__(self, get_response: Callable[..., Any]) -> None:
-        """Refused: the codes of LANGUAGES, and LANGUAGE_CODE (1 to 4)."""
+    def __init__(self, get_response: Any) -> None:
+        """Refused: the codes of LANGUAGES (1 to 4)."""
         super().__init__(get_response)
-        self.codes = [code for code, _ in settings.LANGUAGES]
-        # (LANGUAGE_CODE is "en-us" where LANGUAGES may have "en" alone)
-        self.default = pick(settings.LANGUAGE_CODE, self.codes) or settings.LANGUAGE_CODE
-
-    def language(self, request: Any) -> str:
-        """Returns the code of the language that the reader of a request gets."""
-        field = request.META.get("HTTP_ACCEPT_LANGUAGE")
-        try:
-            code = pick(field, self.codes, default=self.default, lenient=True)
-        except Refused:
-            code = None
-        return self.default if code is None else code
+        pick(None, _codes())
 
     def process_request(self, request: Any) -> None:
-        """Activates the language."""
-        translation.activate(self.language(request))
-        request.LANGUAGE_CODE = translation.get_language()
+        """Activates the language. Django's middleware reads a header that has one code alone."""
+        meta = request.META
+        request.META = {**meta, HEADER: _code(meta.get(HEADER))}
+        try:
+            super().process_request(request)
+        finally:
+            request.META = meta
 
-    def process_response(self, request: Any, response: Any) -> Any:
-        """Adds the headers, and ends what `process_request` began."""
-        patch_vary_headers(response, ["Accept-Language"])
-        language = translation.get_language()
-        if language is not None:
-            response.setdefault("Content-Language", language)
-        if not response.streaming:
-            translation.deactivate()
-        return response
+
+def label(request: Any, id: str) -> Optional[Label]:
+    """Returns the label of a message in the active language, or else in LANGUAGE_CODE, or None.
+
+    All labels of a request are of one state of the site. The request may be None.
+
+    Refused: the id (10), the file as by `Site.open`. A file that cannot be read is an OSError.
+    """
+    field = f"{get_language() or settings.LANGUAGE_CODE}, {settings.LANGUAGE_CODE}"
+    return _site(request).lookup(id, field, lenient=True, widen=_widens())
+
+
+def _site(request: Any) -> Site:
+    """A share of the site, which a request keeps."""
+    path = getattr(settings, "SILKWARAM_SITE", None)
+    if path is None:
+        raise ImproperlyConfigured("SILKWARAM_SITE names no file")
+    site: Optional[Site] = getattr(request, "_silkwaram_site", None)
+    if site is None:
+        site = _site_file(path).share()
+        if request is not None:
+            request._silkwaram_site = site
+    return site
+
+
+@functools.lru_cache(maxsize=None)
+def _site_file(path: Any) -> SiteFile:
+    return SiteFile(path)
+
+
+def _widens() -> bool:
+    return bool(getattr(settings, "SILKWARAM_WIDEN", True))
+
+
+@functools.lru_cache(maxsize=None)
+def _codes() -> Dict[str, str]:
+    """The tags that a header may ask for, each with the code that Django has for it."""
+    # (no header has a code such as sr@latin, which is no tag)
+    tags = [code for code, _ in settings.LANGUAGES if "@" not in code]
+    if _widens():
+        tags += [code for code, info in LANG_INFO.items() if "fallback" in info]
+    codes = {}
+    for tag in tags:
+        with contextlib.suppress(LookupError):
+            codes[tag] = get_supported_language_variant(tag, strict=True)
+    return codes
+
+
+@receiver(setting_changed)  # type: ignore[misc]
+def _forget_codes(*, setting: str, **_: Any) -> None:
+    """Has the codes made anew where a test changes a setting."""
+    if setting in ("LANGUAGES", "LANGUAGE_CODE", "SILKWARAM_WIDEN", "USE_I18N"):
+        _codes.cache_clear()
+
+
+def _code(field: Optional[str]) -> str:
+    """The code of LANGUAGES that a field asks for, or an empty text."""
+    sent = (field or "").encode("latin-1", "replace")
+    try:
+        codes = _not_refused(_codes(), sent)
+        if _widens():
+            # (as by Django, a language that is not there is the first of its regions)
+            for code in list(codes.values()):
+                codes.setdefault(code.split("-")[0], code)
+        tag = pick(sent, codes, lenient=True)
+    except Refused:
+        return ""
+    return "" if tag is None else codes[tag]
+
+
+def _not_refused(codes: Dict[str, str], field: bytes) -> Dict[str, str]:
+    """Those of the codes to which a field gives no weight of 0."""
+    # ("*" before the rest of the field gives a weight to each code that the rest does not name)
+    fitting = {it.tag for it in filter_tags(b"*, " + field, codes.values(), lenient=True)}
+    return {tag: code for tag, code in codes.items() if code in fitting}

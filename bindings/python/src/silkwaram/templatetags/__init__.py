@@ -1,0 +1,1 @@
+"""The template tags of the app `silkwaram` of Django."""
