@@ -95,15 +95,20 @@ class Field:
                 self.is_malformed = True
             else:
                 self.items.append((it[1].lower(), float(it[2] or 1)))
-        self.items.sort(key=lambda it: -it[1])
         # (a field may have 65,535 bytes, of which the middleware puts three before it)
         if len(self.text) > 65532:
             self.items = []
 
-    def refuses(self, code):
-        fitting = [it for it in self.items if it[0] == code or code.startswith(it[0] + "-")]
+    def refuses(self, tag):
+        """Whether the weight of the longest range that fits, of these the first one, is 0."""
+        fitting = [it for it in self.items if it[0] == tag or tag.startswith(it[0] + "-")]
         fitting.sort(key=lambda it: -it[0].count("-"))
         return bool(fitting) and fitting[0][1] == 0
+
+    def ranges(self):
+        """The ranges that are wanted, best first."""
+        wanted = [it for it in self.items if it[0] != "*" and it[1] > 0]
+        return [range_ for range_, _ in sorted(wanted, key=lambda it: -it[1])]
 
     def kinds(self):
         ranges = [it for it, _ in self.items]
@@ -128,24 +133,32 @@ def truncations(range_):
     return ["-".join(subtags[:count]) for count in range(len(subtags), 0, -1)]
 
 
-def variant(code):
+def variant(tag):
+    """What Django has for a tag of LANGUAGES or of its table."""
+    if tag not in dict(settings.LANGUAGES) and "fallback" not in LANG_INFO.get(tag, {}):
+        return None
     try:
-        return get_supported_language_variant(code, strict=True)
+        return get_supported_language_variant(tag, strict=True)
     except LookupError:
         return None
 
 
+def found_by(range_):
+    """What a range may find, best first: tags, and the codes that Django has for them."""
+    first = range_.split("-")[0]
+    codes = [code for code, _ in settings.LANGUAGES]
+    found = [(tag, variant(tag)) for tag in truncations(range_)]
+    found += [(first, code) for code in codes if code.startswith(first + "-")]
+    return [(tag, code) for tag, code in found if code is not None]
+
+
 def language_of(field):
     """The language of a field, by Django's own fallbacks."""
-    for range_, weight in field.items:
-        if range_ == "*" or weight == 0 or len(range_.split("-")[0]) == 1:
-            continue
-        first = range_.split("-")[0]
-        regions = [code for code, _ in settings.LANGUAGES if code.startswith(first + "-")]
-        for code in [variant(it) for it in truncations(range_)] + regions:
-            if code is not None and not field.refuses(code):
+    for range_ in field.ranges():
+        for tag, code in found_by(range_):
+            if not field.refuses(tag) and not field.refuses(code):
                 return code
-    return variant(settings.LANGUAGE_CODE) or settings.LANGUAGE_CODE
+    return get_supported_language_variant(settings.LANGUAGE_CODE)
 
 
 def answer(middleware, text):
@@ -270,6 +283,8 @@ def faults_of_settings():
     words = {"LANGUAGES": codes, "LANGUAGE_CODE": "en"}
     narrow = language(**words, SILKWARAM_WIDEN=False)
     without_catalogue = language(LANGUAGES=[*codes, ("xx", "")])
+    header = ours.LocaleMiddleware(lambda it: HttpResponse(it.headers["Accept-Language"]))
+    request = RequestFactory().get("/", HTTP_ACCEPT_LANGUAGE="pt, zh-CN;q=0.5")
     rows = [
         ("without SILKWARAM_WIDEN", narrow("pt, zh-CN"), "en"),
         ("without SILKWARAM_WIDEN", narrow("pt, zh-Hans-CN"), "zh-hans"),
@@ -277,6 +292,7 @@ def faults_of_settings():
         ("by default", language(**words)("zh-CN, pt"), "zh-hans"),
         ("a code that is no tag", language(LANGUAGES=[*codes, ("sr@latin", "")])("pt"), "pt-br"),
         ("a language without a catalogue", without_catalogue("xx, pt"), "pt-br"),
+        ("the header in a view", header(request).content, b"pt, zh-CN;q=0.5"),
         ("a text that is no header", language(**words)("\u65e5\u672c, pt"), "pt-br"),
     ]
     for what, got, wanted in rows:
