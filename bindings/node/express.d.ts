@@ -17,11 +17,23 @@ export interface LanguagesOptions {
    * @default true
    */
   lenient?: boolean;
+  /**
+   * Lets a language find its regions, as `en` finds `en-US`, among the tags and the labels.
+   *
+   * @default false
+   */
+  widen?: boolean;
+  /**
+   * Gives null to readers who refuse the default too, in place of the default.
+   *
+   * @default false
+   */
+  strict?: boolean;
 }
 
-/** What the middleware adds to a request. */
+/** What the middleware adds to a request, and so to that of express. */
 export interface ReaderLanguage {
-  /** The tag that the reader gets, or null where they refuse all of them. */
+  /** The tag that the reader gets; with `strict` null where they refuse all of them. */
   language: string | null;
   /** Returns the label of a message in that language, or else in the default, or null. */
   label(id: string): Label | null;
@@ -44,3 +56,9 @@ export function languages(
   res: ResponseWithHeaders,
   next: () => void,
 ) => void;
+
+declare global {
+  namespace Express {
+    interface Request extends ReaderLanguage {}
+  }
+}

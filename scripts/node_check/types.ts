@@ -35,7 +35,15 @@ const use = languages({ site, tags: ['en'] });
 const req: Parameters<typeof use>[0] = { headers: {} };
 use(req, { getHeader: () => undefined, setHeader: () => 0 }, () => {});
 const language: string | null | undefined = req.language;
+languages({ site, tags: ['en'], widen: true, strict: true });
 // @ts-expect-error
 languages({ tags: ['en'] });
+// @ts-expect-error
+languages({ site, tags: ['en'], strict: 'yes' });
 
-export { bundle, choices, label, language, number, tag, tags, text, texts };
+// (the types of express take their requests from here)
+const greet = (it: Express.Request): string => it.label(it.language ?? 'none')?.texts[0] ?? '';
+// @ts-expect-error
+const unknown = (it: Express.Request) => it.languages;
+
+export { bundle, choices, greet, label, language, number, tag, tags, text, texts };

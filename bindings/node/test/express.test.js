@@ -6,7 +6,7 @@ const { once } = require('node:events');
 const test = require('node:test');
 const { Site } = require('..');
 const { languages } = require('../express.js');
-const { GREETINGS } = require('./documents.js');
+const { GREETINGS, siteDocument } = require('./documents.js');
 
 const TAGS = ['en', 'fr', 'de-CH'];
 
@@ -60,7 +60,8 @@ async function asksAll(port) {
   assert.deepEqual(await get(port, ''), answer('en Hello', 'en'));
   assert.deepEqual(await get(port, 'en_US, fr'), answer('fr Bonjour', 'fr'));
   assert.deepEqual(await get(port, ['ja', 'fr']), answer('fr Bonjour', 'fr'));
-  assert.deepEqual(await get(port, '*;q=0'), answer('none', undefined));
+  assert.deepEqual(await get(port, '*;q=0'), answer('en Hello', 'en'));
+  assert.deepEqual(await get(port, 'fr;q=0, *;q=0'), answer('en Hello', 'en'));
 }
 
 test('a server of node:http answers in the language of each reader', async (t) => {
@@ -85,6 +86,34 @@ test('a field that is refused counts as none', async (t) => {
   const req = { headers: { 'accept-language': 'en' + ' '.repeat(70_000) } };
   middleware(req, new http.ServerResponse(req), () => {});
   assert.equal(req.language, 'fr');
+});
+
+test('a reader who refuses the default too gets null where that is asked for', async (t) => {
+  const site = Site.open(GREETINGS);
+  const port = await serve(t, respond(languages({ site, tags: TAGS, strict: true })));
+  assert.deepEqual(await get(port, '*;q=0'), answer('none', undefined));
+  assert.deepEqual(await get(port, 'ja, en;q=0'), answer('none', undefined));
+  assert.deepEqual(await get(port, 'fr, *;q=0'), answer('fr Bonjour', 'fr'));
+  assert.deepEqual(await get(port), answer('en Hello', 'en'));
+});
+
+test('a language finds its regions where that is asked for', async (t) => {
+  const site = Site.open(GREETINGS);
+  const port = await serve(t, respond(languages({ site, tags: TAGS, widen: true })));
+  assert.deepEqual(await get(port, 'de, fr;q=0.5'), answer('de-ch Grüezi', 'de-CH'));
+  const narrow = await serve(t, respond(languages({ site, tags: TAGS })));
+  assert.deepEqual(await get(narrow, 'de, fr;q=0.5'), answer('fr Bonjour', 'fr'));
+});
+
+test('a label of a region is found for its language where that is asked for', () => {
+  const site = Site.open(siteDocument({ greeting: { 'de-ch': ['Grüezi'] } }));
+  const label = (options) => {
+    const req = { headers: { 'accept-language': 'de' } };
+    languages({ site, tags: ['de'], ...options })(req, new http.ServerResponse(req), () => {});
+    return req.label('greeting');
+  };
+  assert.equal(label({ widen: true }).language, 'de-ch');
+  assert.equal(label({}), null);
 });
 
 test('Vary keeps what it has', async (t) => {
@@ -114,4 +143,6 @@ test('arguments that can serve no reader are refused at once', () => {
   assert.throws(() => languages({ site, tags: 'en' }), TypeError);
   assert.throws(() => languages({ site }), TypeError);
   assert.throws(() => languages({ tags: ['en'] }), TypeError);
+  assert.throws(() => languages({ site, tags: ['en'], widen: 'yes' }), TypeError);
+  assert.throws(() => languages({ site, tags: ['en'], strict: 1 }), TypeError);
 });
