@@ -19,9 +19,20 @@
 #define NGX_HTTP_SILKWARAM_FIELD_LEN  128
 
 
+typedef struct ngx_http_silkwaram_dflt_s  ngx_http_silkwaram_dflt_t;
+
+struct ngx_http_silkwaram_dflt_s {
+    ngx_http_silkwaram_dflt_t      *outer;   /* that of a level above */
+    u_char                         *file;
+    ngx_uint_t                      line;
+    ngx_uint_t                      has_use; /* it is empty, or has tags */
+};
+
+
 typedef struct {
     ngx_str_t                       tags;    /* each with an LF after it */
     ngx_str_t                       dflt;
+    ngx_http_silkwaram_dflt_t      *dflt_directive;
     ngx_flag_t                      lenient;
     ngx_flag_t                      widen;
     ngx_uint_t                      checked; /* whether dflt is in tags */
@@ -43,6 +54,7 @@ typedef struct {
 
 typedef struct {
     ngx_http_silkwaram_kept_t       kept[NGX_HTTP_SILKWARAM_KEPT];
+    ngx_array_t                     dflts;   /* of pointers to directives */
 } ngx_http_silkwaram_main_conf_t;
 
 
@@ -63,6 +75,9 @@ static ngx_table_elt_t *ngx_http_silkwaram_next_line(ngx_list_part_t **part,
     ngx_uint_t *i);
 
 static ngx_int_t ngx_http_silkwaram_add_variable(ngx_conf_t *cf);
+static ngx_int_t ngx_http_silkwaram_init(ngx_conf_t *cf);
+static void ngx_http_silkwaram_use_default(
+    ngx_http_silkwaram_loc_conf_t *conf);
 static void *ngx_http_silkwaram_create_main_conf(ngx_conf_t *cf);
 static void *ngx_http_silkwaram_create_loc_conf(ngx_conf_t *cf);
 static char *ngx_http_silkwaram_merge_loc_conf(ngx_conf_t *cf, void *parent,
@@ -113,7 +128,7 @@ static ngx_command_t  ngx_http_silkwaram_commands[] = {
 
 static ngx_http_module_t  ngx_http_silkwaram_module_ctx = {
     ngx_http_silkwaram_add_variable,       /* preconfiguration */
-    NULL,                                  /* postconfiguration */
+    ngx_http_silkwaram_init,               /* postconfiguration */
 
     ngx_http_silkwaram_create_main_conf,   /* create main configuration */
     NULL,                                  /* init main configuration */
@@ -444,10 +459,71 @@ ngx_http_silkwaram_add_variable(ngx_conf_t *cf)
 }
 
 
+/* each silkwaram_default has tags, at its level or at one below */
+
+static ngx_int_t
+ngx_http_silkwaram_init(ngx_conf_t *cf)
+{
+    ngx_uint_t                        i;
+    ngx_http_silkwaram_dflt_t       **dflts;
+    ngx_http_silkwaram_loc_conf_t    *slcf;
+    ngx_http_silkwaram_main_conf_t   *smcf;
+
+    /* (that of http itself is merged with nothing above it) */
+
+    slcf = ngx_http_conf_get_module_loc_conf(cf, ngx_http_silkwaram_module);
+
+    ngx_http_silkwaram_use_default(slcf);
+
+    smcf = ngx_http_conf_get_module_main_conf(cf, ngx_http_silkwaram_module);
+    dflts = smcf->dflts.elts;
+
+    for (i = 0; i < smcf->dflts.nelts; i++) {
+        if (!dflts[i]->has_use) {
+            ngx_log_error(NGX_LOG_EMERG, cf->log, 0,
+                          "\"silkwaram_default\" has no \"silkwaram_tags\" "
+                          "in %s:%ui", dflts[i]->file, dflts[i]->line);
+            return NGX_ERROR;
+        }
+    }
+
+    return NGX_OK;
+}
+
+
+static void
+ngx_http_silkwaram_use_default(ngx_http_silkwaram_loc_conf_t *conf)
+{
+    ngx_http_silkwaram_dflt_t  *dflt;
+
+    if (conf->tags.len == 0) {
+        return;
+    }
+
+    for (dflt = conf->dflt_directive; dflt != NULL; dflt = dflt->outer) {
+        dflt->has_use = 1;
+    }
+}
+
+
 static void *
 ngx_http_silkwaram_create_main_conf(ngx_conf_t *cf)
 {
-    return ngx_pcalloc(cf->pool, sizeof(ngx_http_silkwaram_main_conf_t));
+    ngx_http_silkwaram_main_conf_t  *smcf;
+
+    smcf = ngx_pcalloc(cf->pool, sizeof(ngx_http_silkwaram_main_conf_t));
+    if (smcf == NULL) {
+        return NULL;
+    }
+
+    if (ngx_array_init(&smcf->dflts, cf->pool, 4,
+                       sizeof(ngx_http_silkwaram_dflt_t *))
+        != NGX_OK)
+    {
+        return NULL;
+    }
+
+    return smcf;
 }
 
 
@@ -466,6 +542,7 @@ ngx_http_silkwaram_create_loc_conf(ngx_conf_t *cf)
      *
      *     conf->tags = { 0, NULL };
      *     conf->dflt = { 0, NULL };
+     *     conf->dflt_directive = NULL;
      *     conf->checked = 0;
      */
 
@@ -486,10 +563,19 @@ ngx_http_silkwaram_merge_loc_conf(ngx_conf_t *cf, void *parent, void *child)
 
     inherits = conf->tags.data == NULL && conf->dflt.data == NULL;
 
+    if (conf->dflt.data == NULL) {
+        conf->dflt_directive = prev->dflt_directive;
+
+    } else {
+        conf->dflt_directive->outer = prev->dflt_directive;
+    }
+
     ngx_conf_merge_str_value(conf->tags, prev->tags, "");
     ngx_conf_merge_str_value(conf->dflt, prev->dflt, "");
     ngx_conf_merge_value(conf->lenient, prev->lenient, 0);
     ngx_conf_merge_value(conf->widen, prev->widen, 0);
+
+    ngx_http_silkwaram_use_default(conf);
 
     /* once, however many locations inherit the two */
 
@@ -589,7 +675,9 @@ ngx_http_silkwaram_default(ngx_conf_t *cf, ngx_command_t *cmd, void *conf)
 {
     ngx_http_silkwaram_loc_conf_t *slcf = conf;
 
-    ngx_str_t  *value;
+    ngx_str_t                        *value;
+    ngx_http_silkwaram_dflt_t        *dflt, **added;
+    ngx_http_silkwaram_main_conf_t   *smcf;
 
     if (slcf->dflt.data != NULL) {
         return "is duplicate";
@@ -605,7 +693,26 @@ ngx_http_silkwaram_default(ngx_conf_t *cf, ngx_command_t *cmd, void *conf)
         return NGX_CONF_ERROR;
     }
 
+    dflt = ngx_palloc(cf->pool, sizeof(ngx_http_silkwaram_dflt_t));
+    if (dflt == NULL) {
+        return NGX_CONF_ERROR;
+    }
+
+    dflt->outer = NULL;
+    dflt->file = cf->conf_file->file.name.data;
+    dflt->line = cf->conf_file->line;
+    dflt->has_use = (value[1].len == 0);
+
+    smcf = ngx_http_conf_get_module_main_conf(cf, ngx_http_silkwaram_module);
+
+    added = ngx_array_push(&smcf->dflts);
+    if (added == NULL) {
+        return NGX_CONF_ERROR;
+    }
+
+    *added = dflt;
     slcf->dflt = value[1];
+    slcf->dflt_directive = dflt;
 
     return NGX_CONF_OK;
 }
