@@ -30,6 +30,9 @@ from ._site_file import SiteFile
 __all__ = ["LocaleMiddleware", "label"]
 
 HEADER = "HTTP_ACCEPT_LANGUAGE"
+# Fields whose codes are kept, since readers send few different ones, and the length of the longest.
+KEPT_FIELDS = 1000
+KEPT_LENGTH = 500
 
 
 class LocaleMiddleware(locale.LocaleMiddleware):  # type: ignore[misc]
@@ -43,7 +46,7 @@ class LocaleMiddleware(locale.LocaleMiddleware):  # type: ignore[misc]
     def process_request(self, request: Any) -> None:
         """Activates the language. Django's middleware reads a header that has one code alone."""
         meta = request.META
-        request.META = {**meta, HEADER: _code(meta.get(HEADER))}
+        request.META = {**meta, HEADER: _code(meta.get(HEADER, ""))}
         try:
             super().process_request(request)
         finally:
@@ -102,11 +105,21 @@ def _forget_codes(*, setting: str, **_: Any) -> None:
     """Has the codes made anew where a test changes a setting."""
     if setting in ("LANGUAGES", "LANGUAGE_CODE", "SILKWARAM_WIDEN", "USE_I18N"):
         _codes.cache_clear()
+        _kept_code.cache_clear()
 
 
-def _code(field: Optional[str]) -> str:
+def _code(field: str) -> str:
     """The code of LANGUAGES that a field asks for, or an empty text."""
-    sent = (field or "").encode("latin-1", "replace")
+    return _kept_code(field) if len(field) <= KEPT_LENGTH else _found_code(field)
+
+
+@functools.lru_cache(maxsize=KEPT_FIELDS)
+def _kept_code(field: str) -> str:
+    return _found_code(field)
+
+
+def _found_code(field: str) -> str:
+    sent = field.encode("latin-1", "replace")
     try:
         codes = _not_refused(_codes(), sent)
         if _widens():
