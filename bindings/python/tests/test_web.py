@@ -593,6 +593,14 @@ class Files(unittest.TestCase):
             with self.assertLogs("silkwaram", "WARNING"):
                 self.assertTrue(waits_for(lambda: self.text(file) == "new"))
 
+    def test_the_first_to_ask_has_the_new_state(self):
+        with mock.patch.object(_site_file, "LONGEST_WAIT", 20):
+            file = SiteFile(self.path)
+            for state in range(5):
+                self.replace(document(f"state {state}"))
+                time.sleep(0.1)
+                self.assertEqual(self.text(file), f"state {state}")
+
     def test_nobody_waits_for_the_reading(self):
         file, goes_on = SiteFile(self.path), threading.Event()
         self.addCleanup(goes_on.set)
@@ -627,8 +635,8 @@ class Files(unittest.TestCase):
     def test_where_no_thread_can_be_had(self):
         file = SiteFile(self.path)
         self.replace(document("new"))
-        none = mock.Mock(side_effect=RuntimeError("can't start new thread"))
-        with mock.patch.object(threading, "Thread", none):
+        none = RuntimeError("can't start new thread")
+        with mock.patch.object(threading.Thread, "start", side_effect=none):
             self.assertTrue(waits_for(lambda: self.text(file) == "new"))
             self.replace(document("newer"))
             self.assertTrue(waits_for(lambda: self.text(file) == "newer"))

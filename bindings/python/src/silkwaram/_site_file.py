@@ -12,6 +12,8 @@ from ._site import Site
 # time, so that reading takes this part of a thread's time at most.
 LOOK_EVERY = 1
 GREATEST_LOAD = 0.1
+# Seconds that the one who asks waits for the new state, and has the old one then.
+LONGEST_WAIT = 0.05
 
 _log = logging.getLogger("silkwaram")
 
@@ -24,7 +26,7 @@ class SiteFile:
     """The site of a file, which is read anew when the file was replaced.
 
     The file is looked at once a second at most, when a share is asked for, and by a thread of its
-    own, so that nobody waits for the reading. A file that is missing or broken leaves the site as
+    own, so that nobody waits long for the reading of a large file. A file that is missing or broken leaves the site as
     it was; a warning is logged once for each fault, and the file is tried again.
     """
 
@@ -49,10 +51,13 @@ class SiteFile:
             self._begin_in_child()
         lock = self._lock
         if time.monotonic() >= self._next_look and lock.acquire(blocking=False):
+            look = threading.Thread(target=self._look, args=(lock,), daemon=True)
             try:
-                threading.Thread(target=self._look, args=(lock,), daemon=True).start()
+                look.start()
             except RuntimeError:  # there is no thread to be had
                 self._look(lock)
+            else:
+                look.join(LONGEST_WAIT)
         return self._site.share()
 
     def _begin_in_child(self) -> None:
