@@ -26,8 +26,8 @@ class SiteFile:
     """The site of a file, which is read anew when the file was replaced.
 
     The file is looked at once a second at most, when a share is asked for, and by a thread of its
-    own, so that nobody waits long for the reading of a large file. A file that is missing or broken leaves the site as
-    it was; a warning is logged once for each fault, and the file is tried again.
+    own, so that nobody waits long for the reading of a large file. A file that is missing or broken
+    leaves the site as it was; a warning is logged once for each fault, and the file is tried again.
     """
 
     def __init__(self, path: Path) -> None:
