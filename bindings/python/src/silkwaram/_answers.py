@@ -1,6 +1,6 @@
 """What questions to the library and to a site answer."""
 import json
-from typing import Dict, List, NamedTuple, Optional, Union
+from typing import Any, Dict, List, NamedTuple, Optional, Union
 
 # Labels by message and language: a label of one text is that text, one of several a list.
 LanguageMaps = Dict[str, Dict[str, Union[str, List[str]]]]
@@ -83,7 +83,7 @@ def tag_choices(lines: str) -> List[TagChoice]:
     return [TagChoice(tag, int(weight)) for tag, weight in rows]
 
 
-def _cell(value: Optional[list]) -> Optional[Cell]:
+def _cell(value: Optional[List[Any]]) -> Optional[Cell]:
     if value is None:
         return None
     time, site, count, texts = value

@@ -196,10 +196,13 @@ def edit(
     with _edited_once(file), _locked(file, wait):
         _remove_leftovers(file)
         old = None
-        if _is_there(file) or create is None:
+        if create is None or _is_there(file):
             with open(file, "rb") as read:
                 old = read.read()
-        with Site.new(create) if old is None else Site.open(old) as site:
+            opened = Site.open(old)
+        else:
+            opened = Site.new(create)
+        with opened as site:
             yield site
             new = site.to_bytes()
         if new == old:
