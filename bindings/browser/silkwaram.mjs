@@ -51,9 +51,8 @@ const WANTED = {
 };
 const WITH_OFFSET = [3, 9, 18];
 const IN_ROWS = [1, 2, 3, 4, 10, 11, 12, 20, 21, 22, 27, 29];
-// The end of what scripts/refusal-tables writes.
-// Of these the library also reports row 0 where they are of the document as a whole.
 const OF_WHOLE_TOO = [20, 27];
+// The end of what scripts/refusal-tables writes.
 // The calls that read a document, and which one is wanted.
 const DOCUMENTS = {
   sw_site_open: 'a site document is wanted',

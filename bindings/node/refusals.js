@@ -36,11 +36,10 @@ const WANTED = {
 };
 const WITH_OFFSET = [3, 9, 18];
 const IN_ROWS = [1, 2, 3, 4, 10, 11, 12, 20, 21, 22, 27, 29];
+const OF_WHOLE_TOO = [20, 27];
 // The end of what scripts/refusal-tables writes.
 const NOT_JSON = 19;
 const SHAPE = 20;
-// Of these the library also reports row 0 where they are of the document as a whole.
-const OF_WHOLE_TOO = [20, 27];
 
 function textOf(number, offset) {
   return (TEXTS[number] ?? 'unknown').replace('OFFSET', offset);

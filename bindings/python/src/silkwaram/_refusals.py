@@ -39,11 +39,10 @@ WANTED = {
 }
 WITH_OFFSET = (3, 9, 18)
 IN_ROWS = (1, 2, 3, 4, 10, 11, 12, 20, 21, 22, 27, 29)
+OF_WHOLE_TOO = (20, 27)
 # The end of what scripts/refusal-tables writes.
 NOT_JSON = 19
 SHAPE = 20
-# Of these the library also reports row 0 where they are of the document as a whole.
-OF_WHOLE_TOO = (20, 27)
 
 
 def _text(number: int, offset: Optional[int]) -> str:
