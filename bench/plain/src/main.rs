@@ -1,9 +1,9 @@
-//! The works of `crates/bench` in plain Rust with std alone, as fast as it may be: `bench/run`
+//! The works of `bench/proved` in plain Rust with std alone, as fast as it may be: `bench/run`
 //! compares the two.
 //!
 //! `plain load WORK` writes the load of a work; `plain WORK TURNS` reads it from standard input and
 //! prints a checksum of what so many turns found. A file here does what the file of this name does
-//! in `crates/bench/src`, and `lang_core` to `cata_core` stand for the crates of these names.
+//! in `bench/proved`, and `lang_core` to `cata_core` stand for the crates of these names.
 
 mod asking;
 mod cata_core;
