@@ -25,6 +25,7 @@ joined_stamps = later_by (λ s. s) stamp_cmp
 abbrev pub AgreeBy : {X S L : Type 0} → (X → S) → (X → L) → X → X → Type 0
 AgreeBy stamp label a b = stamp a ≡ stamp b → label a ≡ label b
 
+-- cells agree where their stamps differ or their labels are equal
 abbrev pub AgreeCells : Cell → Cell → Type 0
 AgreeCells = AgreeBy (λ c. c.stamp) (λ c. c.label)
 
@@ -34,6 +35,7 @@ joined_cells = later_by (λ c. c.stamp) stamp_cmp
 
 -- ---- the laws
 
+-- the order of stamps is total
 pub stamp_cmp_total : IsTotalOrder stamp_cmp
 stamp_cmp_total =
     then_total (on_total (λ s. s.time) nat_cmp_total)
@@ -48,11 +50,13 @@ stamp_cmp_exact a b h =
     (a.time, (a.site, a.count)) (b.time, (b.site, b.count)) h in
     λ i. record { time = (fields i).0; site = (fields i).1.0; count = (fields i).1.1 }
 
+-- stamps keep the laws of the join
 pub stamp_laws : JoinLaws AgreeStamps joined_stamps (IsEitherOf joined_stamps)
 stamp_laws =
     later_laws (λ s. s) stamp_cmp stamp_cmp_total stamp_cmp_exact AgreeStamps (λ a b _ e. e)
     (λ a b _. tt)
 
+-- cells keep the laws of the join
 pub cell_laws : JoinLaws AgreeCells joined_cells (IsEitherOf joined_cells)
 cell_laws =
     later_laws (λ c. c.stamp) stamp_cmp stamp_cmp_total stamp_cmp_exact AgreeCells

@@ -34,9 +34,11 @@ module _ {X S : Type 0} (mark : X → S) (cmp : S → S → Ordering) (total : I
     (exact : (s t : S) → cmp s t ≡ Equal → s ≡ t)
     (agree : X → X → Type 0) (means : (a b : X) → agree a b → mark a ≡ mark b → a ≡ b)
     (from : (a b : X) → (mark a ≡ mark b → a ≡ b) → agree a b) where
+  -- the mark of the first is below that of the second
   abbrev lt : X → X → Bool
   lt a b = is_lt (cmp (mark a) (mark b))
 
+  -- the one with the later mark, the first where neither is later
   abbrev joined : X → X → X
   joined = later_by mark cmp
 
@@ -103,6 +105,7 @@ module _ {X S : Type 0} (mark : X → S) (cmp : S → S → Ordering) (total : I
   join_again : (a b : X) → joined (joined a b) b ≡ joined a b
   join_again a b = join_assoc a b b ∙ ap (joined a) (join_idem b)
 
+  -- the later of two keeps the laws of the join
   pub later_laws : JoinLaws agree joined (IsEitherOf joined)
   later_laws = join_laws (record {
     agree_refl = alike;

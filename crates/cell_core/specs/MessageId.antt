@@ -34,6 +34,7 @@ pub record KeepsShortId (bytes : List ℕ) : Type 0 where
   pub zeros : zero_padded 32 (before_zeros bytes) ≡ bytes
   pub utf8 : IsUtf8 (before_zeros bytes)
 
+-- the bytes are an id of over 32 bytes
 pub record KeepsLongId (bytes : List ℕ) : Type 0 where
   pub id : IsMessageId bytes
   pub long : IdTakesMemory bytes

@@ -31,15 +31,19 @@ pub record OldCell : Type 0 where
   pub stamp : OldStamp
   pub label : Option (List (List ℕ))
 
+-- old stamps always agree
 abbrev pub AgreeOldStamps : OldStamp → OldStamp → Type 0
 AgreeOldStamps a b = Unit {0}
 
+-- the greater old stamp
 abbrev pub joined_old_stamps : OldStamp → OldStamp → OldStamp
 joined_old_stamps = later_by (λ s. s) old_stamp_cmp
 
+-- old cells agree where their stamps differ or their labels are equal
 abbrev pub AgreeOldCells : OldCell → OldCell → Type 0
 AgreeOldCells = AgreeBy (λ c. c.stamp) (λ c. c.label)
 
+-- the old cell with the greater stamp
 abbrev pub joined_old_cells : OldCell → OldCell → OldCell
 joined_old_cells = later_by (λ c. c.stamp) old_stamp_cmp
 
@@ -47,6 +51,7 @@ joined_old_cells = later_by (λ c. c.stamp) old_stamp_cmp
 abbrev pub migrated_stamp : OldStamp → Stamp
 migrated_stamp s = record { time = s.time; site = padded_name s.site; count = s.count }
 
+-- the same cell with its stamp so
 abbrev pub migrated_cell : OldCell → Cell
 migrated_cell c = record { stamp = migrated_stamp c.stamp; label = c.label }
 

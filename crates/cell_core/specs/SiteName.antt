@@ -9,6 +9,7 @@ use Rattle.cell_core.specs.ZeroPadded.{zero_padded, before_zeros}
 unfoldable pub is_site_byte : ℕ → Bool
 is_site_byte b = (nat_le 97 b && nat_le b 122) || ((nat_le 48 b && nat_le b 57) || (b == 45))
 
+-- 1 to 16 such bytes
 pub record IsSiteName (text : List ℕ) : Type 0 where
   pub some : 0 < length text
   pub most : length text ≤ 16

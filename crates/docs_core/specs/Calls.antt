@@ -1,4 +1,4 @@
--- What the calls on whole documents answer, and which refusals. Own rules.
+-- What the calls on whole documents answer, and which refusals. Project rules.
 use Rattle.std.specs.Prelude.{◌≡◌, ◌≢◌, ◌⊎◌, ℕ, List, Option}
 use Rattle.std.specs.FinMap.Entries.{put}
 use Rattle.cell_core.specs.Stamp.{IsNext}

@@ -1,5 +1,5 @@
 -- Data of version 1 whose numbers fit and whose keys rise: times of 64 bits, sites and counts of
--- 32. Own rule.
+-- 32. Project rule.
 use Rattle.std.specs.Prelude.{◌≡◌, ℕ, ◌<◌, ◌^◌, All, Some, ⊤}
 use Rattle.std.specs.FinMap.Entries.{find}
 use Rattle.cell_core.specs.Keyed.{IsMap}

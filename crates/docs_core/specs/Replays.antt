@@ -1,4 +1,4 @@
--- A script from bytes to bytes. Own rule.
+-- A script from bytes to bytes. Project rule.
 use Rattle.std.specs.Prelude.{◌≡◌, ◌≢◌, ◌⊎◌, List, ℕ}
 use Rattle.cata_core.specs.Answer.{AreAnswers, AreHeldAnswers}
 use Rattle.cata_core.specs.Edits.{IsConsistent}

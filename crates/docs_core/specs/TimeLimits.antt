@@ -1,4 +1,4 @@
--- A limit on the times of what comes in, and what the calls answer under it. Own rule.
+-- A limit on the times of what comes in, and what the calls answer under it. Project rule.
 use Rattle.std.specs.Prelude.{◌≡◌, ◌⊎◌, ◌++◌, ◌∷◌, ◌<◌, ◌≤◌, ℕ, All, List, None, Option, Some, ⊤}
 use Rattle.std.specs.Prelude.{length}
 use Rattle.cata_core.specs.CataFault.{IsRefusal}

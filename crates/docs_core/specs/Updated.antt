@@ -1,4 +1,4 @@
--- What an editor changed in language maps, and the site after it. Own rule.
+-- What an editor changed in language maps, and the site after it. Project rule.
 use Rattle.std.specs.Prelude.{◌≡◌, ◌≢◌, ◌⊎◌, ℕ, List, Option, None, Some}
 use Rattle.std.specs.FinMap.Entries.{find}
 use Rattle.cell_core.specs.Keyed.{IsMap}

@@ -1,4 +1,4 @@
--- Tests in a stated order, and the first that fails. Own rule.
+-- Tests in a stated order, and the first that fails. Project rule.
 use Rattle.std.specs.Prelude.{◌≡◌, ◌⊎◌, ℕ, List, [], ◌∷◌, ◌++◌, None, Some, IsUtf8}
 use Rattle.std.specs.Str.Lossy.{utf8_valid_len}
 use Rattle.serde_json.specs.Data.{Data}

@@ -1,4 +1,4 @@
--- The numbers of the refusals. Own rule: one numbering over the whole product.
+-- The numbers of the refusals. Project rule: one numbering over the whole product.
 use Rattle.std.specs.Prelude.{ℕ, Option, None, Some}
 use Rattle.lang_core.specs.Fault.{number_of as lang_number}
 use Rattle.cell_core.specs.Fault.{number_of as cell_number}

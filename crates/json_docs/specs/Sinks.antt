@@ -1,4 +1,4 @@
--- What a write of a whole text does to the bytes that a sink has taken. Own rule.
+-- What a write of a whole text does to the bytes that a sink has taken. Project rule.
 use Rattle.std.specs.Prelude.{◌≡◌, ◌==◌, ◌&&◌, ℕ, Bool, true, not, List, ◌++◌, length, Option}
 use Rattle.std.specs.Prelude.{Result, Ok, Err}
 use Rattle.std.specs.Io.KnownBytes.{Appends}

@@ -1,4 +1,4 @@
--- What a read of a whole document does to the bytes that a source has left. Own rule.
+-- What a read of a whole document does to the bytes that a source has left. Project rule.
 use Rattle.std.specs.Prelude.{◌≡◌, ◌≤◌, ℕ, Bool, true, false, List, length, Option}
 use Rattle.std.specs.Io.KnownBytes.{Consumes, IsAtEnd}
 use Rattle.json_docs.specs.Faults.{of_no_document}

@@ -276,6 +276,8 @@ unfoldable pub stops : (m n : ℕ) (l d f x : Bool) → Bool
 stops m n l d f x =
     same (nat_le 37 (state_of m n l d f x)) (not (n == 0) && complete (next_at m n l d f x))
 
+-- what the table has to say of each way on: a letter, an "x", a digit, a hyphen, another byte, the
+-- end
 unfoldable pub fits : List ℕ → (m n : ℕ) (l d f x : Bool) → Bool
 fits table m n l d f x =
     if usual n l d f x then grows table m n l d f x true false 0
@@ -291,6 +293,7 @@ every (suc n) test = test n && every n test
 abbrev either : (Bool → Bool) → Bool
 either test = test true && test false
 
+-- it says so for each stage and all that a subtag can be
 unfoldable pub all_fit : List ℕ → Bool
 all_fit table =
     every 12 (λ m. every 9

@@ -18,7 +18,7 @@ abbrev pub is_single : List ℕ → Bool
 is_single s = is_run is_alphanum 1 1 s
 
 -- The last subtag is one letter or digit, or the only subtag is one letter, digit or "*".
--- Own rule: what would leave a single character alone leaves nothing.
+-- Project rule: what would leave a single character alone leaves nothing.
 unfoldable pub is_cut : List (List ℕ) → Bool
 is_cut [] = true
 is_cut (s ∷ []) = is_single s || is_star s

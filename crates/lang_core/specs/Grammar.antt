@@ -12,9 +12,11 @@ use Rattle.std.specs.Char.{is_ascii_lowercase, is_ascii_digit}
 abbrev pub is_letter : ℕ → Bool
 is_letter = is_ascii_lowercase
 
+-- DIGIT: "0" to "9"
 abbrev pub is_digit : ℕ → Bool
 is_digit = is_ascii_digit
 
+-- alphanum: a letter or a digit
 abbrev pub is_alphanum : ℕ → Bool
 is_alphanum b = is_letter b || is_digit b
 
@@ -26,32 +28,41 @@ is_run kind low high s = (nat_le low (length s) && nat_le (length s) high) && li
 unfoldable pub is_short_language : List ℕ → Bool
 is_short_language s = is_run is_letter 2 3 s
 
+-- a language of 4 letters, which is reserved, or of 5 to 8: 4ALPHA / 5*8ALPHA
 unfoldable pub is_long_language : List ℕ → Bool
 is_long_language s = is_run is_letter 4 8 s
 
+-- one subtag of an extlang: 3ALPHA
 unfoldable pub is_extlang : List ℕ → Bool
 is_extlang s = is_run is_letter 3 3 s
 
+-- script = 4ALPHA
 unfoldable pub is_script : List ℕ → Bool
 is_script s = is_run is_letter 4 4 s
 
+-- region = 2ALPHA / 3DIGIT
 unfoldable pub is_region : List ℕ → Bool
 is_region s = is_run is_letter 2 2 s || is_run is_digit 3 3 s
 
+-- variant = 5*8alphanum / (DIGIT 3alphanum)
 unfoldable pub is_variant : List ℕ → Bool
 is_variant s =
     is_run is_alphanum 5 8 s || (is_run is_alphanum 4 4 s && list_any is_digit (take 1 s))
 
+-- the subtag "x" (120), with which private use begins
 unfoldable pub is_x : List ℕ → Bool
 is_x (b ∷ []) = b == 120
 is_x _ = false
 
+-- singleton: one letter or digit other than "x"
 unfoldable pub is_singleton : List ℕ → Bool
 is_singleton s = is_run is_alphanum 1 1 s && not (is_x s)
 
+-- what follows a singleton: 2*8alphanum
 unfoldable pub is_extension_piece : List ℕ → Bool
 is_extension_piece s = is_run is_alphanum 2 8 s
 
+-- what follows the "x" of private use: 1*8alphanum
 unfoldable pub is_private_piece : List ℕ → Bool
 is_private_piece s = is_run is_alphanum 1 8 s
 
@@ -120,6 +131,7 @@ irregular =
     ∷ codes "i-tay" ∷ codes "i-tsu"
     ∷ codes "sgn-be-fr" ∷ codes "sgn-be-nl" ∷ codes "sgn-ch-de" ∷ []
 
+-- whether a text in lower case is one of the irregular tags
 unfoldable pub is_irregular : List ℕ → Bool
 is_irregular text = list_any (λ tag. bytes_eq tag text) irregular
 
@@ -154,6 +166,7 @@ abbrev pub basic_piece : ℕ → List ℕ → Bool
 basic_piece zero s = is_run is_letter 1 8 s
 basic_piece (suc place) s = is_private_piece s
 
+-- the subtag "*" (42), the wildcard of RFC 4647 section 2.2
 unfoldable pub is_star : List ℕ → Bool
 is_star (b ∷ []) = b == 42
 is_star _ = false

@@ -4,7 +4,7 @@ use Rattle.std.specs.Prelude.{replicate, take}
 use Rattle.std.specs.List.{list_all}
 use Rattle.std.specs.Int.{from_be_bytes, w128}
 
--- own rule: a text of at most 16 bytes takes no memory
+-- project rule: a text of at most 16 bytes takes no memory
 abbrev pub TakesMemory : List ℕ → Type 0
 TakesMemory text = 16 < length text
 

@@ -28,6 +28,7 @@ Embeds (w ∷ wanted) [] = ⊥
 Embeds (w ∷ wanted) (g ∷ given) =
     ((w ≡ g) × Embeds wanted given) ⊎ ((1 < length g) × Embeds (w ∷ wanted) given)
 
+-- the subtags of a range other than "*"
 abbrev pub without_stars : List (List ℕ) → List (List ℕ)
 without_stars list = filter (λ s. not (is_star s)) list
 
@@ -52,6 +53,7 @@ is_front [] tag = true
 is_front (r ∷ range) [] = false
 is_front (r ∷ range) (t ∷ tag) = if bytes_eq r t then is_front range tag else false
 
+-- whether a range is the one subtag "*", which matches each tag (RFC 4647 section 3.3.1)
 abbrev pub is_lone_star : List (List ℕ) → Bool
 is_lone_star [] = false
 is_lone_star (r ∷ []) = is_star r

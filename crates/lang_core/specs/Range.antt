@@ -11,8 +11,8 @@ use Rattle.lang_core.specs.declared.fault.LangFault.TheVariants.{RangeSubtag, No
 abbrev pub IsRange : (List (List ℕ) → Type 0) → List ℕ → Type 0
 IsRange Grammar text = IsSized text × Grammar (pieces text)
 
--- own rule: a range takes memory for its text, and for a lookup text that is neither that text nor
--- "*"
+-- project rule: a range takes memory for its text, and for a lookup text that is neither that text
+-- nor "*"
 abbrev pub RangeTakesMemory : List ℕ → Type 0
 RangeTakesMemory range = TakesMemory range ⊎ HasOtherText range
 

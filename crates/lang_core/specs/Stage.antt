@@ -8,25 +8,33 @@ use Rattle.lang_core.specs.declared.stage.Stage.TheVariants.{Start, Language, Sc
 use Rattle.lang_core.specs.declared.stage.Stage.TheVariants.{Singleton, Extension, PrivateStart}
 use Rattle.lang_core.specs.declared.stage.Stage.TheVariants.{Private}
 
+-- the stage after a subtag that comes where private use alone may begin, or none
 abbrev pub private_stage : List ℕ → Option Stage
 private_stage s = if is_x s then Some PrivateStart else None
 
+-- the same where an extension may begin too
 abbrev pub extension_stage : List ℕ → Option Stage
 extension_stage s = if is_singleton s then Some Singleton else private_stage s
 
+-- the same where a variant may come too
 abbrev pub variant_stage : List ℕ → Option Stage
 variant_stage s = if is_variant s then Some Variants else extension_stage s
 
+-- the same where a region may come too
 abbrev pub region_stage : List ℕ → Option Stage
 region_stage s = if is_region s then Some Variants else variant_stage s
 
+-- the same where a script may come too
 abbrev pub script_stage : List ℕ → Option Stage
 script_stage s = if is_script s then Some Script else region_stage s
 
+-- the same after a language, where so many extlangs may come too
 abbrev pub language_stage : ℕ → List ℕ → Option Stage
 language_stage left s = if nat_lt 0 left && is_extlang s then
     Some (Language (left - 1)) else script_stage s
 
+-- the same of the first subtag: a language, of 2 or 3 letters with up to 3 extlangs, or the "x" of
+-- private use
 abbrev pub start_stage : List ℕ → Option Stage
 start_stage s = if is_short_language s then
     Some (Language 3) else (if is_long_language s then Some (Language 0) else private_stage s)

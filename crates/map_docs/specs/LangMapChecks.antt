@@ -1,4 +1,4 @@
--- The tests of a language-map document, in their order. Own rule.
+-- The tests of a language-map document, in their order. Project rule.
 use Rattle.std.specs.Prelude.{◌≡◌, ◌==◌, ℕ, ◌+◌, Bool, true, false, List, [], ◌∷◌, ◌++◌, Option}
 use Rattle.std.specs.Prelude.{Some, is_some, unwrap_or}
 use Rattle.std.specs.List.{list_any}

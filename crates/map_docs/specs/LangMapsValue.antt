@@ -1,5 +1,5 @@
--- Language maps as JSON (JSON-LD 1.1, section 9.8). Own rules: the outer object goes from message
--- ids to language maps, one text is a string, and a message without a label is left out.
+-- Language maps as JSON (JSON-LD 1.1, section 9.8). Project rules: the outer object goes from
+-- message ids to language maps, one text is a string, and a message without a label is left out.
 use Rattle.std.specs.Prelude.{ℕ, List, [], ◌∷◌, if◌then◌else◌}
 use Rattle.std.specs.Str.{bytes_eq}
 use Rattle.serde_json.specs.Data.{Data, string, object, Members, no_members, member}

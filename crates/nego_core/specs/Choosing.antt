@@ -16,6 +16,7 @@ use Rattle.nego_core.specs.declared.choosing.Choice.TheVariants.{Matched, Defaul
 abbrev pub candidates_of : Item → List (List (List ℕ))
 candidates_of i = candidates (as_basic (pieces i.range))
 
+-- the candidates of all items, item by item in their order
 abbrev pub all_candidates : List Item → List (List (List ℕ))
 all_candidates items = flat_map candidates_of items
 
@@ -56,6 +57,7 @@ pub record IsLookedUp (items : List Item) (held : List ℕ → Bool)
 abbrev pub IsOpenDefault : List Item → (List ℕ → Bool) → List ℕ → Type 0
 IsOpenDefault items held lang = IsTrue (held lang) × ¬ RefusesLang scheme.Basic items lang
 
+-- there is a default, and it may be answered (project rule)
 abbrev pub HasOpenDefault : List Item → (List ℕ → Bool) → Option (List ℕ) → Type 0
 HasOpenDefault items held default = IsSomeAnd default (IsOpenDefault items held)
 

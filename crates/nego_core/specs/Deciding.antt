@@ -36,6 +36,7 @@ abbrev pub IsDecidedBy : Scheme → List Item → List (List ℕ) → ℕ → �
 IsDecidedBy scheme items tag place weight =
     (d : IsDeciding scheme items tag place) × (d.item.weight ≡ weight)
 
+-- the weight of the item that decides a tag, at whatever place
 abbrev pub IsDecidingWeight : Scheme → List Item → List (List ℕ) → ℕ → Type 0
 IsDecidingWeight scheme items tag weight = (place : ℕ) × IsDecidedBy scheme items tag place weight
 
@@ -52,6 +53,7 @@ RefusesLang scheme items lang = (place : ℕ) × DecidesLang scheme items lang p
 abbrev pub IsAny : Item → Type 0
 IsAny i = i.range ≡ 42 ∷ []
 
+-- whether the range is another than "*" alone
 abbrev pub is_named : Item → Bool
 is_named i = not (bytes_eq i.range (42 ∷ []))
 
@@ -79,6 +81,7 @@ is_worse best other =
     nat_lt best.specificity other.specificity ||
     ((best.specificity == other.specificity) && nat_lt other.place best.place)
 
+-- the better of two that may be absent; the first where neither is
 abbrev pub better_of : Option MostSpecific → Option MostSpecific → Option MostSpecific
 better_of None other = other
 better_of (Some best) None = Some best
@@ -101,8 +104,10 @@ pub record IsBestOf (Fits : ℕ → Item → Type 0) (items : List Item) (best :
     pub first : (k : ℕ) (other : Item) → k < best.place → slice_get items k ≡ Some other
         → Fits k other → specificity (pieces other.range) < best.specificity
 
+-- no item fits at its place
 abbrev pub NoneFits : (ℕ → Item → Type 0) → List Item → Type 0
 NoneFits Fits items = (k : ℕ) (other : Item) → slice_get items k ≡ Some other → ¬ Fits k other
 
+-- the best of the items that fit, or none where none does
 abbrev pub IsBest : (ℕ → Item → Type 0) → List Item → Option MostSpecific → Type 0
 IsBest Fits items best = MatchOption best (NoneFits Fits items) (IsBestOf Fits items)

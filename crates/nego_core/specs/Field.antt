@@ -29,6 +29,8 @@ abbrev pub RangeGrammar : Scheme → List (List ℕ) → Type 0
 RangeGrammar Basic = BasicRange
 RangeGrammar Extended = ExtendedRange
 
+-- after a basic range a weight or none (RFC 9110 section 12.4.2), after an extended one none
+-- (project rule)
 abbrev pub WeightGrammar : Scheme → List ℕ → ℕ → Type 0
 WeightGrammar Basic = IsWeight
 WeightGrammar Extended = IsNoWeight
@@ -63,6 +65,7 @@ pub record IsStart (scheme : Scheme) (text : List ℕ) (item : Item) : Type 0 wh
   pub range_is : item.range ≡ str_to_ascii_lowercase range
   pub rest_ok : IsTail (WeightGrammar scheme) rest item.weight
 
+-- a text begins with a range, after which is what may follow one
 abbrev pub HasStart : Scheme → List ℕ → Type 0
 HasStart scheme text = (item : Item) × IsStart scheme text item
 

@@ -33,10 +33,12 @@ filter_key_cmp =
     (then_cmp (on (λ r. r.item) nat_cmp)
     (then_cmp (on (λ r. r.lang) (slice_cmp nat_cmp)) (on (λ r. r.place) nat_cmp)))
 
+-- the key that is sorted, as the definitions have it
 abbrev pub key_of : FilterKey → Key
 key_of r =
     record { missing_weight = r.missing_weight; item = r.item; lang = r.lang; place = r.place }
 
+-- what is answered for a key: the language's place, and the weight that is not missing
 abbrev pub pick_of : Key → Pick
 pick_of k = record { place = k.place; weight = 1000 - k.missing_weight }
 
@@ -50,6 +52,7 @@ pub record IsKey (scheme : Scheme) (items : List Item) (lang : List ℕ) (place 
   pub lang_is : key.lang ≡ lang
   pub place_is : key.place ≡ place
 
+-- no item of positive weight decides the language
 abbrev pub HasNoKey : Scheme → List Item → List ℕ → ℕ → Type 0
 HasNoKey scheme items lang place = (key : Key) → ¬ IsKey scheme items lang place key
 
@@ -95,6 +98,7 @@ texts_of langs = map (λ l. l.now) langs
 abbrev pub pick_eq : Pick → Pick → Bool
 pick_eq = eq_of_both (on (λ p. p.place) nat_eq) (on (λ p. p.weight) nat_eq)
 
+-- that equality is an equivalence
 pub pick_equiv : IsEquivalence pick_eq
 pick_equiv =
     and_equiv (on_equiv (λ (p : Pick). p.place) nat_eq_equiv)

@@ -29,6 +29,7 @@ slot_of text =
 abbrev pub fingerprint_step : ℕ → ℕ → ℕ
 fingerprint_step fingerprint byte = (fingerprint * 31 % 65536 + byte) % 65536
 
+-- the number of a whole subtag, byte after byte
 unfoldable pub fingerprint_of : List ℕ → ℕ
 fingerprint_of subtag = fold fingerprint_step 0 subtag
 

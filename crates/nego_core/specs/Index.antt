@@ -37,6 +37,7 @@ pub record AreRangeKeys (items : List Item) (n : ℕ) (keys : List RangeKey) : T
   pub place_is : (k : ℕ) (d : RangeKey) → k < n → (slice_index_or keys k d).place ≡ k
   pub text_is : (k : ℕ) (d : RangeKey) → k < n → (slice_index_or keys k d).text ≡ text_at items k
 
+-- the order of the keys: by the bytes of the ranges, then by place
 abbrev pub range_key_cmp : RangeKey → RangeKey → Ordering
 range_key_cmp = then_cmp (on (λ e. e.text) (slice_cmp nat_cmp)) (on (λ e. e.place) nat_cmp)
 

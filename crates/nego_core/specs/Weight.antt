@@ -9,6 +9,7 @@ use Rattle.lang_core.specs.Grammar.{is_digit}
 abbrev pub is_blank : ℕ → Bool
 is_blank b = (b == 32) || (b == 9)
 
+-- blanks alone, or nothing: OWS
 abbrev pub AreBlanks : List ℕ → Type 0
 AreBlanks text = IsTrue (list_all is_blank text)
 
@@ -21,9 +22,11 @@ skip_blanks (b ∷ text) = if is_blank b then skip_blanks text else b ∷ text
 abbrev pub is_stop : ℕ → Bool
 is_stop b = is_blank b || (b == 59)
 
+-- what ends neither a range nor a qvalue
 abbrev pub is_plain : ℕ → Bool
 is_plain b = not (is_stop b)
 
+-- a text begins with a stop, or is empty
 abbrev pub EndsPlain : List ℕ → Type 0
 EndsPlain [] = Unit {0}
 EndsPlain (b ∷ text) = is_plain b ≡ false
@@ -40,6 +43,7 @@ thousandths digits =
     100 * (slice_index digits 0 - 48) + 10 * (slice_index digits 1 - 48)
     + (slice_index digits 2 - 48)
 
+-- the digit "0" (48), which alone may follow "1." in a qvalue
 abbrev pub is_zero_digit : ℕ → Bool
 is_zero_digit b = b == 48
 

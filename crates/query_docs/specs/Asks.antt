@@ -1,4 +1,4 @@
--- Questions to a document of a site. Own rule.
+-- Questions to a document of a site. Project rule.
 use Rattle.std.specs.Prelude.{◌≡◌, ◌==◌, List, ℕ, Bool, true, false, not, length}
 use Rattle.cata_core.specs.Asking.{IsFilterAnswer, IsLookupAnswer, Weighed}
 use Rattle.cata_core.specs.Entries.{Entries}

@@ -1,4 +1,5 @@
--- The labels that one reader gets: by RFC 4647 section 3.4, or widened under a scheme. Own rule.
+-- The labels that one reader gets: by RFC 4647 section 3.4, or widened under a scheme.
+-- Project rule.
 use Rattle.std.specs.Prelude.{◌⊎◌, ◌↔◌, ℕ, Bool, List, Contains, Option}
 use Rattle.cell_core.specs.Keyed.{IsMap}
 use Rattle.nego_core.specs.Item.{Item}

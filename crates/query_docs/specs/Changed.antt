@@ -1,4 +1,4 @@
--- What changed between two states of a site, as lines. Own rule.
+-- What changed between two states of a site, as lines. Project rule.
 use Rattle.std.specs.Prelude.{◌≡◌, ◌⊎◌, ℕ, Bool, List, [], ◌∷◌, None, Option, Some, codes, false}
 use Rattle.std.specs.Prelude.{true}
 use Rattle.serde_json.specs.Data.{Data, array, item, no_items, null, number, string, unsigned}

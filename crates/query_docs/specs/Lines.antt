@@ -1,4 +1,4 @@
--- The lines of answers. Own rule: a line ends with one line feed, and a label is its compact
+-- The lines of answers. Project rule: a line ends with one line feed, and a label is its compact
 -- JSON array.
 use Rattle.std.specs.Prelude.{ℕ, List, ◌∷◌, [], ◌++◌, codes, decimal, length, flat_map}
 use Rattle.serde_json.specs.Written.{compact_text}

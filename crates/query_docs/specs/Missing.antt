@@ -1,4 +1,4 @@
--- Work for a translator: the messages that lack a language. Own rule.
+-- Work for a translator: the messages that lack a language. Project rule.
 use Rattle.std.specs.Prelude.{ℕ, Bool, List, filter}
 use Rattle.std.specs.Option.{is_none}
 use Rattle.cata_core.specs.Entries.{Entries}

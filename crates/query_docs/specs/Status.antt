@@ -1,4 +1,4 @@
--- The line of a site's status. Own rule.
+-- The line of a site's status. Project rule.
 use Rattle.std.specs.Prelude.{◌≡◌, ◌∷◌, ◌++◌, ℕ, Bool, List, None, Option, Some, codes, count_by}
 use Rattle.std.specs.Prelude.{decimal, is_some, length}
 use Rattle.cell_core.specs.declared.stamp.Stamp.{Stamp}

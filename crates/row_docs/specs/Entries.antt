@@ -1,4 +1,4 @@
--- The entries of a catalogue and of a summary as rows of documents of version 2. Own rule.
+-- The entries of a catalogue and of a summary as rows of documents of version 2. Project rule.
 use Rattle.std.specs.Prelude.{List, map}
 use Rattle.serde_json.specs.Data.{Data}
 use Rattle.cell_core.specs.declared.stamp.Stamp.{Stamp}

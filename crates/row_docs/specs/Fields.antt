@@ -1,4 +1,4 @@
--- The tests of the fields of a row, in their order, and what the fields make. Own rule.
+-- The tests of the fields of a row, in their order, and what the fields make. Project rule.
 use Rattle.std.specs.Prelude.{◌≡◌, ◌≢◌, ℕ, List, [], ◌∷◌, ◌++◌, Option, None, Some}
 use Rattle.std.specs.Str.{str_to_ascii_lowercase}
 use Rattle.std.specs.declared.cmp.Ordering.TheVariants.{Less}

@@ -1,4 +1,4 @@
--- The tests of a document before its rows, in their order. Own rule.
+-- The tests of a document before its rows, in their order. Project rule.
 use Rattle.std.specs.Prelude.{◌≡◌, ◌⊎◌, ◌==◌, ℕ, List, [], ◌∷◌, true, codes, Option, None, Some}
 use Rattle.std.specs.Prelude.{is_some, if◌then◌else◌, unwrap_or, option_and_then}
 use Rattle.cell_core.specs.SiteName.{IsSiteName}

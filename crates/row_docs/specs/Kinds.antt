@@ -1,4 +1,4 @@
--- The documents that have a kind, and the names of their members. Own rule.
+-- The documents that have a kind, and the names of their members. Project rule.
 use Rattle.std.specs.Prelude.{ℕ, List, [], ◌∷◌, Bool, codes, if◌then◌else◌}
 use Rattle.std.specs.List.{list_any}
 use Rattle.std.specs.Str.{bytes_eq}

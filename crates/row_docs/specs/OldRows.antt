@@ -1,4 +1,4 @@
--- Rows of version 1, with sites by their numbers. Own rule.
+-- Rows of version 1, with sites by their numbers. Project rule.
 use Rattle.std.specs.Prelude.{ℕ, List, [], ◌∷◌, Option, None, option_map}
 use Rattle.std.specs.Prelude.{option_and_then}
 use Rattle.std.specs.Str.{str_to_ascii_lowercase}

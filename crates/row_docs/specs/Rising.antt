@@ -1,4 +1,4 @@
--- Rows that are entries in rising order of key: their tests, and what they make. Own rule.
+-- Rows that are entries in rising order of key: their tests, and what they make. Project rule.
 use Rattle.std.specs.Prelude.{◌≡◌, ℕ, true, List, [], ◌∷◌, ◌++◌, ◌-◌, length, map, slice_get}
 use Rattle.std.specs.Prelude.{Option, None, Some, is_some, unwrap_or, option_map, option_and_then}
 use Rattle.serde_json.specs.Data.{Data}

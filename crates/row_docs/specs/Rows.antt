@@ -1,4 +1,4 @@
--- The shapes of rows as JSON data, in both versions. Own rule.
+-- The shapes of rows as JSON data, in both versions. Project rule.
 use Rattle.std.specs.Prelude.{ℕ, List, [], ◌∷◌, Option, None, Some, option_map, option_and_then}
 use Rattle.cell_core.specs.SiteName.{padded_name}
 use Rattle.serde_json.specs.Data.{Data, null, boolean, number, string, array, object}

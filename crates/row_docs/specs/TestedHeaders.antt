@@ -1,4 +1,4 @@
--- What was read of a document, and why it is refused before its rows. Own rule.
+-- What was read of a document, and why it is refused before its rows. Project rule.
 use Rattle.std.specs.Prelude.{◌≡◌, ◌⊎◌, ℕ, List, [], None, Some}
 use Rattle.serde_json.specs.Data.{Data}
 use Rattle.serde_json.specs.Read.{read}

@@ -6,7 +6,7 @@ use Rattle.json.specs.Written.{Written}
 use Rattle.serde_json.specs.Data.{Data}
 use Rattle.serde_json.specs.Written.{compact_text, outline}
 
--- Own rule: the compact text of the value, and a line feed.
+-- Project rule: the compact text of the value, and a line feed.
 abbrev pub text : Data → List ℕ
 text d = compact_text d ++ 10 ∷ []
 

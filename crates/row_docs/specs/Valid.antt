@@ -1,5 +1,5 @@
 -- What every catalogue and summary in memory keeps: its ids, languages, names and labels are some,
--- and its numbers fit. Own rule.
+-- and its numbers fit. Project rule.
 use Rattle.std.specs.Prelude.{◌<◌, ◌^◌, All}
 use Rattle.cell_core.specs.Keyed.{IsMap}
 use Rattle.cell_core.specs.MessageId.{IsMessageId}

@@ -1,4 +1,4 @@
--- The JSON values of rows, version 2. Own rule.
+-- The JSON values of rows, version 2. Project rule.
 use Rattle.std.specs.Prelude.{ℕ, List, map, Option, None, Some}
 use Rattle.serde_json.specs.Data.{Data, null, array, number, unsigned, string, no_items, item}
 use Rattle.serde_json.specs.View.{items_of}

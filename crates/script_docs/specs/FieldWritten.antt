@@ -1,5 +1,5 @@
 -- The field of a priority list, written: the ranges in their order, each with its weight unless
--- that is 1 (RFC 9110 section 12.5.4). Own rule.
+-- that is 1 (RFC 9110 section 12.5.4). Project rule.
 use Rattle.std.specs.Prelude.{ℕ, ◌+◌, ◌/◌, ◌%◌, ◌==◌, List, [], ◌∷◌, ◌++◌, codes, if◌then◌else◌}
 use Rattle.std.specs.List.{join_by}
 use Rattle.nego_core.specs.Item.{Item}

@@ -1,4 +1,4 @@
--- Scripts of version 1, with sites by their numbers. Own rule.
+-- Scripts of version 1, with sites by their numbers. Project rule.
 use Rattle.std.specs.Prelude.{◌≡◌, ℕ, List, [], ◌∷◌, codes, Option, Some, option_map}
 use Rattle.std.specs.Str.{str_to_ascii_lowercase}
 use Rattle.nego_core.specs.declared.scheme.Scheme.TheVariants.{Basic}

@@ -1,4 +1,4 @@
--- Documents of scripts: their tests in order, and what they read as. Own rule.
+-- Documents of scripts: their tests in order, and what they read as. Project rule.
 use Rattle.std.specs.Prelude.{◌≡◌, ℕ, List, [], ◌∷◌, ◌++◌, true, Option, None, Some, is_some}
 use Rattle.std.specs.Prelude.{◌&&◌, if◌then◌else◌, nat_le, option_and_then}
 use Rattle.serde_json.specs.Data.{Data}

@@ -1,4 +1,4 @@
--- Documents of scripts, written. Own rule: the members of an object are in byte order of their
+-- Documents of scripts, written. Project rule: the members of an object are in byte order of their
 -- names.
 use Rattle.std.specs.Prelude.{◌≡◌, ℕ, List, [], ◌∷◌, codes, decimal, map, take, All, Some}
 use Rattle.std.specs.Prelude.{slice_get}

@@ -1,4 +1,4 @@
--- Scripts. Own rule.
+-- Scripts. Project rule.
 use Rattle.std.specs.Prelude.{◌≤◌, ℕ, List}
 use Rattle.cata_core.specs.declared.step.Step.{Step}
 

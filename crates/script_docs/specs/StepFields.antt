@@ -1,4 +1,4 @@
--- The tests of a step, in their order, and the step that its fields make. Own rule.
+-- The tests of a step, in their order, and the step that its fields make. Project rule.
 use Rattle.std.specs.Prelude.{◌≡◌, ◌≢◌, ◌≤◌, ℕ, true, List, [], ◌∷◌, length, Option, None, Some}
 use Rattle.std.specs.Prelude.{is_some, option_map}
 use Rattle.std.specs.Str.{str_to_ascii_lowercase}

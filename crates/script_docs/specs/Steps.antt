@@ -1,4 +1,4 @@
--- The steps of a script as JSON data, in both versions. Own rule.
+-- The steps of a script as JSON data, in both versions. Project rule.
 use Rattle.std.specs.Prelude.{ℕ, List, [], ◌∷◌, codes, Option, None, Some, if◌then◌else◌}
 use Rattle.std.specs.Prelude.{option_map, option_and_then}
 use Rattle.std.specs.Str.{bytes_eq}

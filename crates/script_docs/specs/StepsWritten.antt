@@ -1,4 +1,4 @@
--- Which steps a document can have, and their JSON values, version 2. Own rule.
+-- Which steps a document can have, and their JSON values, version 2. Project rule.
 use Rattle.std.specs.Prelude.{◌≡◌, ◌<◌, ◌^◌, ℕ, List, codes, Option, None, Some}
 use Rattle.cata_core.specs.declared.step.Step.{Step}
 use Rattle.cata_core.specs.declared.step.Step.TheVariants.{Edit, Merge, AskFilter, AskLookup}

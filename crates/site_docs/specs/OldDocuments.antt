@@ -1,4 +1,4 @@
--- Documents of version 1 that name a site, with sites by their numbers. Own rule.
+-- Documents of version 1 that name a site, with sites by their numbers. Project rule.
 use Rattle.std.specs.Prelude.{◌≡◌, Some, map}
 use Rattle.cata_core.specs.Migration.{OldDelta, OldSite, OldSummary}
 use Rattle.serde_json.specs.Data.{Data}

@@ -1,4 +1,4 @@
--- The documents that name a site: their tests in order, and what they read as. Own rule.
+-- The documents that name a site: their tests in order, and what they read as. Project rule.
 use Rattle.std.specs.Prelude.{◌≡◌, true, ℕ, List, [], ◌∷◌, ◌++◌, Option, Some, is_some, unwrap_or}
 use Rattle.cell_core.specs.SiteName.{IsSiteName}
 use Rattle.serde_json.specs.Data.{Data}

@@ -1,4 +1,4 @@
--- The JSON values of the documents, version 2. Own rule: the members of an object are in byte
+-- The JSON values of the documents, version 2. Project rule: the members of an object are in byte
 -- order of their names.
 use Rattle.std.specs.Prelude.{ℕ, List, codes}
 use Rattle.serde_json.specs.Data.{Data, object, array, number, unsigned, string, no_members, member}

@@ -29,6 +29,8 @@ overflow_add-offset-in-loop-piece c =
     (rw (c.in-Some.ensures.steps) at c.loop-piece.invariant.0.1) in
     omega arith
 
+-- The subtags left, from the stage reached, are accepted as the whole text is from the start: the
+-- one that was read moves the stage as the grammar does, and the walk has one good piece more.
 pub loop-piece-preserved : goal.loop-piece-preserved
 loop-piece-preserved c =
     let walked =

@@ -7,6 +7,8 @@ use Rattle.lang_core.proofs.matching.pairs.Goals as goal
 use Rattle.lang_core.proofs.matching.pairs.Goals.{else-not-is_star-via-then-not-is_star+else-not-finds}
 use Rattle.lang_core.proofs.matching.pairs.Goals.{else-not-is_star-via-else-not-is_star}
 
+-- What is left has the answer of the whole: a "*" pairs with nothing, and any other wanted piece
+-- with the first equal one that is given, which is just what was found.
 pub loop-piece-preserved : goal.loop-piece-preserved
 loop-piece-preserved c =
     let rest : List (List ℕ) = pieces_left c.next.new.self in

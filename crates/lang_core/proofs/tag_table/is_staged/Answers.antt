@@ -13,6 +13,8 @@ checked : is_table NEXT ≡ true
 unfolding is_table all_fit fits stops ends grows state_of usual
 checked = refl
 
+-- The state is that of the bytes read, since one more byte moves it by the table's row and the
+-- byte's class; and each state has a row, so the next place lies in the table too.
 pub loop-byte-preserved : goal.loop-byte-preserved
 loop-byte-preserved c =
     let read : List ℕ = take c.loop-byte.byte-index c.args.text.now in

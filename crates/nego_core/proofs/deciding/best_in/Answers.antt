@@ -9,6 +9,8 @@ use Rattle.nego_core.proofs.deciding.best_in.Goals.{else-is_above}
 use Rattle.nego_core.proofs.deciding.best_in.Goals.{else-is_above-via-then-is_above+else-matches_extended}
 use Rattle.nego_core.proofs.deciding.best_in.Goals.{else-is_above-via-else-is_above}
 
+-- The best is that of the items asked so far: this one takes its place where it has more subtags
+-- and matches, and changes nothing where it has no more or does not match.
 pub loop-place-preserved : goal.loop-place-preserved
 loop-place-preserved c = λ numbers h.
     let stands =

@@ -17,6 +17,8 @@ returns-in_err-push-in-Some g c =
     c.index-langs-place.result (key_of c.in-Some.key) c.loop-place-test.true
     c.index-langs-place.is (rw c.as_lang.ensures at c.in-Some.ensures))
 
+-- The keys are those of the languages before the place: the next language has a key, which is
+-- pushed last, or it has none.
 pub loop-place-preserved : goal.loop-place-preserved
 loop-place-preserved g c =
     let text = g.L.AsLang.text in

@@ -10,6 +10,8 @@ use Rattle.nego_core.proofs.widening.least_that_passes.Goals.{else-is_below}
 use Rattle.nego_core.proofs.widening.least_that_passes.Goals.{else-is_below-via-then-is_below+else-passes}
 use Rattle.nego_core.proofs.widening.least_that_passes.Goals.{else-is_below-via-else-is_below}
 
+-- It is the least of the languages seen that pass: one that is below it and passes takes its place,
+-- and one that does not pass, or is not below it, changes nothing.
 pub loop-lang-preserved : goal.loop-lang-preserved
 loop-lang-preserved g c =
     let text = g.L.AsLang.text in
