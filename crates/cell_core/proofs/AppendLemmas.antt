@@ -55,6 +55,7 @@ module _ {X Z : Type 0} where
       ∙ ap (λ (ds : List (Vec X Z)). f ++ (c.items ++ all_of ds))
       (drop_all (suc i) cs (omega (arith, last))) ∙ ap (λ xs. f ++ xs) (append-nil c.items)
 
+  -- an item pushed to the last chunk comes after all entries
   pub pushed_last : (cs : List (Vec X Z)) (i : ℕ) (c x : Vec X Z) (item : X) → i + 1 ≡ length cs
       → c ≡ get_or cs i c → x.items ≡ c.items ++ item ∷ []
       → all_of (set cs i x) ≡ all_of cs ++ item ∷ []
@@ -67,11 +68,13 @@ module _ {X Z : Type 0} where
       ∙ sym (append_assoc f c.items (item ∷ []))
       ∙ ap (λ xs. xs ++ item ∷ []) (sym (all_of_last cs i c last is))
 
+  -- so does one in a new chunk at the end
   pub pushed_chunk : (cs : List (Vec X Z)) (x : Vec X Z) (item : X) → x.items ≡ item ∷ []
       → all_of (cs ++ x ∷ []) ≡ all_of cs ++ item ∷ []
   pushed_chunk cs x item is =
       all_of-append cs (x ∷ []) ∙ ap (λ xs. all_of cs ++ xs) (append-nil x.items ∙ is)
 
+  -- with a chunk at the end that is not empty still none is empty
   pub filled_push : (cs : List (Vec X Z)) (x : Vec X Z) → AllFilled cs → 0 < length x.items
       → AllFilled (cs ++ x ∷ [])
   filled_push [] x h some = (some, tt)

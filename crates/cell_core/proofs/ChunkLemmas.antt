@@ -18,6 +18,7 @@ use Rattle.cell_core.proofs.PlaceLemmas.{below-trans, find-below}
 use Rattle.cell_core.proofs.WalkLemmas.{above_above, above}
 
 module _ {X Z : Type 0} where
+  -- the entries are those in front of a chunk, its own, and those after it
   pub all_of-split : (cs : List (Vec X Z)) (i : ℕ) (d : Vec X Z) → i < length cs
       → (let c = get_or cs i d in
       all_of cs ≡ all_of (take i cs) ++ (c.items ++ all_of (drop (suc i) cs)))
@@ -28,12 +29,14 @@ module _ {X Z : Type 0} where
       ap (λ xs. c.items ++ xs) (all_of-split cs i d (omega (arith, lt)))
       ∙ sym (append_assoc c.items (all_of (take i cs)) (e.items ++ all_of (drop (suc i) cs)))
 
+  -- the entries from a chunk on are its own and those after it
   pub all_of-drop : (cs : List (Vec X Z)) (i : ℕ) (d : Vec X Z) → i < length cs
       → (let c = get_or cs i d in all_of (drop i cs) ≡ c.items ++ all_of (drop (suc i) cs))
   all_of-drop [] i d lt = absurd (omega (arith, lt))
   all_of-drop (c ∷ cs) zero d lt = refl
   all_of-drop (c ∷ cs) (suc i) d lt = all_of-drop cs i d (omega (arith, lt))
 
+  -- a chunk at a place is not empty
   pub filled_at : (cs : List (Vec X Z)) (i : ℕ) (d : Vec X Z) → AllFilled cs → i < length cs
       → (let c = get_or cs i d in 0 < length c.items)
   filled_at [] i d filled lt = absurd (omega (arith, lt))
@@ -58,6 +61,7 @@ module _ {K J : Type 0} (cmp : K → K → Ordering) where
       (first_part (is_lt (cmp q x.0)) (below_all cmp q (xs ++ ys)) h)
       (below_front q xs ys (second_part (is_lt (cmp q x.0)) (below_all cmp q (xs ++ ys)) h))
 
+  -- the front of a map is a map
   pub map_front : (xs ys : List (K × J)) → IsMap cmp (xs ++ ys) → IsMap cmp xs
   map_front [] ys h = tt
   map_front (x ∷ xs) ys h =
@@ -67,6 +71,7 @@ module _ {K J : Type 0} (cmp : K → K → Ordering) where
       (map_front xs ys
       (second_part (below_all cmp x.0 (xs ++ ys)) (is_sorted cmp (xs ++ ys)) h))
 
+  -- the rest of a map is a map
   pub map_back : (xs ys : List (K × J)) → IsMap cmp (xs ++ ys) → IsMap cmp ys
   map_back [] ys h = h
   map_back (x ∷ xs) ys h =
@@ -128,12 +133,14 @@ module _ {K J : Type 0} (cmp : K → K → Ordering) where
     front_of q xs [] ys d some map p = absurd (omega (arith, some))
     front_of q xs (m ∷ ms) ys d some map p = front_lesser q xs m (ms ++ ys) map p
 
+    -- a key below the first of a map's rest is below all of that rest
     pub back_of : (q : K) (ms ys : List (K × J)) (d : K × J) → 0 < length ms → IsMap cmp (ms ++ ys)
         → (let e = get_or ms 0 d in is_lt (cmp q e.0) ≡ true) → T (below_all cmp q (ms ++ ys))
     back_of q [] ys d some map p = absurd (omega (arith, some))
     back_of q (m ∷ ms) ys d some map p = back_greater q m (ms ++ ys) map p
 
     module _ {Z : Type 0} (cs : List (Vec (K × J) Z)) (h : IsChunked cmp cs) where
+      -- the entries of one chunk are a map
       pub chunk_map : (i : ℕ) (d : Vec (K × J) Z) → i < length cs
           → (let c = get_or cs i d in IsMap cmp c.items)
       chunk_map i d lt =
@@ -142,6 +149,7 @@ module _ {K J : Type 0} (cmp : K → K → Ordering) where
           (map_back (all_of (take i cs)) (c.items ++ all_of (drop (suc i) cs))
           (subst (IsMap cmp) (all_of-split cs i d lt) h.map))
 
+      -- a key that is not below the first of a chunk has its place after the chunks in front
       pub chunk_front : (q : K) (i : ℕ) (d : Vec (K × J) Z) (e : K × J) → i < length cs
           → (let c = get_or cs i d in let f = get_or c.items 0 e in is_lt (cmp q f.0) ≡ false)
           → place_of cmp q (all_of (take i cs)) ≡ length (all_of (take i cs))
@@ -150,6 +158,7 @@ module _ {K J : Type 0} (cmp : K → K → Ordering) where
           front_of q (all_of (take i cs)) c.items (all_of (drop (suc i) cs)) e
           (filled_at cs i d h.filled lt) (subst (IsMap cmp) (all_of-split cs i d lt) h.map) p
 
+      -- a key below the first of a chunk is below all entries from that chunk on
       pub chunk_back : (q : K) (i : ℕ) (d : Vec (K × J) Z) (e : K × J) → i < length cs
           → (let c = get_or cs i d in let f = get_or c.items 0 e in is_lt (cmp q f.0) ≡ true)
           → T (below_all cmp q (all_of (drop i cs)))
@@ -160,6 +169,7 @@ module _ {K J : Type 0} (cmp : K → K → Ordering) where
           (map_back (all_of (take i cs)) (c.items ++ all_of (drop (suc i) cs))
           (subst (IsMap cmp) (all_of-split cs i d lt) h.map)) p)
 
+      -- `chunk_front`, of a chunk and an entry that were read
       pub front_read : (q : K) (i : ℕ) (c : Vec (K × J) Z) (e : K × J) → i < length cs
           → c ≡ get_or cs i c → e ≡ get_or c.items 0 e → is_lt (cmp q e.0) ≡ false
           → place_of cmp q (all_of (take i cs)) ≡ length (all_of (take i cs))
@@ -168,6 +178,7 @@ module _ {K J : Type 0} (cmp : K → K → Ordering) where
           (ap (λ (f : K × J). is_lt (cmp q f.0))
           (sym (first ∙ ap (λ (x : Vec (K × J) Z). get_or x.items 0 e) is)) ∙ p)
 
+      -- `chunk_back`, of a chunk and an entry that were read
       pub back_read : (q : K) (i : ℕ) (c : Vec (K × J) Z) (e : K × J) → i < length cs
           → c ≡ get_or cs i c → e ≡ get_or c.items 0 e → is_lt (cmp q e.0) ≡ true
           → T (below_all cmp q (all_of (drop i cs)))
@@ -176,6 +187,7 @@ module _ {K J : Type 0} (cmp : K → K → Ordering) where
           (ap (λ (f : K × J). is_lt (cmp q f.0))
           (sym (first ∙ ap (λ (x : Vec (K × J) Z). get_or x.items 0 e) is)) ∙ p)
 
+      -- a search of all chunks finds what a search of the key's chunk finds
       pub find-chunk : (q : K) (i : ℕ) (d : Vec (K × J) Z) → IsChunkFor cmp q cs i
           → (let c = get_or cs i d in find cmp q (all_of cs) ≡ find cmp q c.items)
       find-chunk q i d p =
@@ -186,6 +198,7 @@ module _ {K J : Type 0} (cmp : K → K → Ordering) where
 
 -- cutting a chunk leaves all entries
 module _ {X Z : Type 0} where
+  -- a chunk cut in two has the same entries
   pub all_of-cut : (cs : List (Vec X Z)) (i : ℕ) (d x y : Vec X Z) → i < length cs
       → (let c = get_or cs i d in x.items ++ y.items ≡ c.items)
       → all_of (insert (set cs i x) (suc i) y) ≡ all_of cs
@@ -195,6 +208,7 @@ module _ {X Z : Type 0} where
   all_of-cut (c ∷ cs) (suc i) d x y =
       λ lt e. ap (λ zs. c.items ++ zs) (all_of-cut cs i d x y (omega (arith, lt)) e)
 
+  -- where both parts of a chunk that is cut have entries, still none is empty
   pub filled-cut : (cs : List (Vec X Z)) (i : ℕ) (x y : Vec X Z) → i < length cs
       → 0 < length x.items → 0 < length y.items → AllFilled cs
       → AllFilled (insert (set cs i x) (suc i) y)
@@ -202,6 +216,7 @@ module _ {X Z : Type 0} where
   filled-cut (c ∷ cs) zero x y lt p q h = (p, (q, h.1))
   filled-cut (c ∷ cs) (suc i) x y lt p q h = (h.0, filled-cut cs i x y (omega (arith, lt)) p q h.1)
 
+  -- with another chunk at a place the entries before and after it are the same
   pub all_of-set : (cs : List (Vec X Z)) (i : ℕ) (x : Vec X Z) → i < length cs
       → all_of (set cs i x) ≡ all_of (take i cs) ++ (x.items ++ all_of (drop (suc i) cs))
   all_of-set [] i x lt = absurd (omega (arith, lt))
@@ -210,6 +225,7 @@ module _ {X Z : Type 0} where
       ap (λ zs. c.items ++ zs) (all_of-set cs i x (omega (arith, lt)))
       ∙ sym (append_assoc c.items (all_of (take i cs)) (x.items ++ all_of (drop (suc i) cs)))
 
+  -- with another chunk at a place, not empty, still none is empty
   pub filled-set : (cs : List (Vec X Z)) (i : ℕ) (x : Vec X Z) → 0 < length x.items → AllFilled cs
       → AllFilled (set cs i x)
   filled-set [] i x p h = tt
@@ -256,6 +272,7 @@ module _ {K J : Type 0} (cmp : K → K → Ordering) (k : K) (v : J) where
         | Greater ↦ ap (λ zs. x ∷ zs) (put-back xs ys h)
       ]
 
+  -- where an entry was put there is one
   pub some-put : (es : List (K × J)) → 0 < length (put cmp k v es)
   some-put [] = omega arith
   some-put (e ∷ es) =

@@ -19,6 +19,7 @@ use Rattle.cell_core.proofs.PlaceLemmas.{place_of-le, find_at_place, put_at_plac
 use Rattle.cell_core.proofs.PlaceLemmas.{find-take_more, find-before, find_entry}
 
 module _ {J : Type 0} (joined : J → J → J) where
+  -- what may be absent, joined to none, stays
   pub kept_with_none : (a : Option J) → kept_joined joined a None ≡ a
   kept_with_none None = refl
   kept_with_none (Some x) = refl
@@ -87,6 +88,7 @@ module _ {K J : Type 0} {cmp : K → K → Ordering} (total : IsTotalOrder cmp) 
             (kept_between laws (find cmp q old) (find cmp q other) (agrees q))
       ])
 
+  -- where the walk stops, the map is on the way from the old one to the join
   pub stopped_between : (now : List (K × J)) (i : ℕ) (missing : List (ℕ × (K × J)))
       → IsCommonJoined cmp joined old (take i other) now missing
       → BetweenAtKeys cmp between old now other
@@ -119,6 +121,7 @@ module _ {K J : Type 0} {cmp : K → K → Ordering} (total : IsTotalOrder cmp) 
       had : (let e = get_or now at d in find cmp k old ≡ Some e.1)
       had = sym untouched ∙ find_at_place k now at d p
 
+      -- the value at the key's place, where others were joined before, agrees with the other map's
       pub may_join : (let e = get_or now at d in agree e.1 v)
       may_join =
           subst (λ o. AgreeIfBoth agree o (Some v)) had

@@ -171,6 +171,7 @@ module _ {K J : Type 0} {cmp : K → K → Ordering} (total : IsTotalOrder cmp) 
       (λ x t. ap (λ o. not (is_some o)) (find_tied cmp total q x t old)) other)
       ∙ parts_joined joined (find cmp q old) (find cmp q other)
 
+  -- the missing entries are a map, as part of one
   pub missing_sorted : (joined : J → J → J) (old other now : List (K × J))
       (missing : List (ℕ × (K × J))) → IsMap cmp other
       → IsCommonJoined cmp joined old other now missing → IsMap cmp (pairs_of missing)
@@ -195,6 +196,7 @@ module _ {K J : Type 0} {cmp : K → K → Ordering} (total : IsTotalOrder cmp) 
         gaps_same es fs up ms same none gaps.1,
       )
 
+  -- in the map with the common values joined the missing ones go to the same places
   pub gaps_after : (joined : J → J → J) (old other now : List (K × J))
       (missing : List (ℕ × (K × J))) → IsCommonJoined cmp joined old other now missing
       → AllGaps cmp now 0 missing

@@ -24,6 +24,7 @@ module _ {J : Type 0} {agree : J → J → Type 0} {joined : J → J → J} {bet
   pub below_both : (a b : J) → IsBelow agree joined a b → IsBelow agree joined b a → a ≡ b
   below_both a b p q = sym q.1 ∙ laws.comm b a q.0 ∙ p.1
 
+  -- one value is its own join
   pub join_of_one : (x : J) → IsJoinOf agree joined (x ∷ []) x
   join_of_one x = record {
     some = omega arith;

@@ -24,6 +24,7 @@ pub later_not_eq : {K : Type 0} {cmp : K → K → Ordering} → IsTotalOrder cm
 later_not_eq total x y p = ap is_eq (total.antisymm y x ∙ ap ordering_reverse p)
 
 module _ {K J : Type 0} (cmp : K → K → Ordering) where
+  -- the place of a key is at most the number of entries
   pub place_of-le : (key : K) (es : List (K × J)) → place_of cmp key es ≤ length es
   place_of-le key [] = omega arith
   place_of-le key (e ∷ es) =
@@ -92,6 +93,7 @@ module _ {K J : Type 0} (cmp : K → K → Ordering) where
       (less_than (cmp q e.0) (first_part (is_lt (cmp q e.0)) (below_all cmp q es) h))
       ∙ find-below q es (second_part (is_lt (cmp q e.0)) (below_all cmp q es) h)
 
+  -- a key below all is below the one at each place
   pub below-at : (q : K) (es : List (K × J)) (i : ℕ) (d : K × J) → T (below_all cmp q es)
       → i < length es → (let e = get_or es i d in cmp q e.0 ≡ Less)
   below-at q [] i d h lt = absurd (omega (arith, lt))
@@ -114,6 +116,7 @@ module _ {K J : Type 0} (cmp : K → K → Ordering) where
       ]
 
   module _ (total : IsTotalOrder cmp) where
+    -- what is below a key that is below all is below all
     pub below-trans : (x y : K) (es : List (K × J)) → cmp x y ≡ Less → T (below_all cmp y es)
         → T (below_all cmp x es)
     below-trans x y [] p h = tt
@@ -178,6 +181,7 @@ module _ {K J : Type 0} (cmp : K → K → Ordering) where
         ∙ find-at es i d (second_part (below_all cmp e.0 es) (is_sorted cmp es) sorted) rest
 
 module _ {K J : Type 0} {cmp : K → K → Ordering} where
+  -- at the place of a key is what a search finds
   pub find_at_place : (key : K) (es : List (K × J)) (at : ℕ) (d : K × J) → IsPlace cmp key es at
       → (let e = get_or es at d in find cmp key es ≡ Some e.1)
   find_at_place key es at d p =
@@ -185,6 +189,7 @@ module _ {K J : Type 0} {cmp : K → K → Ordering} where
       (find-place cmp key es d (subst (λ n. n < length es) p.is p.in_range)
       (subst (λ n. let e = get_or es n d in cmp key e.0 ≡ Equal) p.is (p.tied d)))
 
+  -- the entry there is the key with what a search finds
   pub entry_at_place : ((x y : K) → cmp x y ≡ Equal → x ≡ y)
       → (key : K) (es : List (K × J)) (at : ℕ) (d : K × J) → IsPlace cmp key es at
       → (let e = get_or es at d in with_key e.0 (Some e.1) ≡ with_key key (find cmp key es))
@@ -193,6 +198,7 @@ module _ {K J : Type 0} {cmp : K → K → Ordering} where
       ap (λ k. with_key k (Some e.1)) (sym (exact key e.0 (p.tied d)))
       ∙ ap (with_key key) (sym (find_at_place key es at d p))
 
+  -- to put at a key that is there sets the value at its place
   pub put_at_place : (key : K) (v : J) (es : List (K × J)) (at : ℕ) (d : K × J)
       → IsPlace cmp key es at → (let e = get_or es at d in put cmp key v es ≡ set es at (e.0, v))
   put_at_place key v es at d p =
@@ -200,11 +206,13 @@ module _ {K J : Type 0} {cmp : K → K → Ordering} where
       (put-place cmp key v es d (subst (λ n. n < length es) p.is p.in_range)
       (subst (λ n. let e = get_or es n d in cmp key e.0 ≡ Equal) p.is (p.tied d)))
 
+  -- to put at a key that is not there inserts an entry at its place
   pub put_at_gap : (key : K) (v : J) (es : List (K × J)) (at : ℕ) → IsGap cmp key es at
       → put cmp key v es ≡ insert es at (key, v)
   put_at_gap key v es at gap =
       put-gap cmp key v es gap.absent ∙ ap (λ n. insert es n (key, v)) (sym gap.is)
 
+  -- where the key's place has another key, or none, the key is not there
   pub gap_at : IsTotalOrder cmp → (key : K) (es : List (K × J)) (at : ℕ) → at ≡ place_of cmp key es
       → IsMap cmp es
       → ((d : K × J) → at < length es → (let e = get_or es at d in is_eq (cmp key e.0) ≡ false))

@@ -104,16 +104,19 @@ length_with {X} {Z} cs i c x lt is =
     omega (arith, new, old)
 
 module _ {K J : Type 0} (cmp : K → K → Ordering) where
+  -- the rest of a map from a place on is a map
   pub map_of_rest : (n : ℕ) (es : List (K × J)) → IsMap cmp es
       → IsMap cmp (take (length es - n) (drop n es))
   map_of_rest n es map =
       subst (IsMap cmp) (sym (take_rest es n))
       (map_back cmp (take n es) (drop n es) (subst (IsMap cmp) (sym (take-append-drop n es)) map))
 
+  -- the first entries of a map are a map
   pub map_of_take : (n : ℕ) (es : List (K × J)) → IsMap cmp es → IsMap cmp (take n es)
   map_of_take n es map =
       map_front cmp (take n es) (drop n es) (subst (IsMap cmp) (sym (take-append-drop n es)) map)
 
+  -- a search of two parts finds what the first has, or else what the second has
   pub find-parts : (q : K) (xs ys : List (K × J))
       → find cmp q (xs ++ ys) ≡ or_other (find cmp q xs) (find cmp q ys)
   find-parts q [] ys = refl
@@ -175,6 +178,7 @@ module _ {K J : Type 0} (cmp : K → K → Ordering) where
         (first_part (is_lt (cmp y e.0)) (below_all cmp y es) h))
         (below_tied x y es p (second_part (is_lt (cmp y e.0)) (below_all cmp y es) h))
 
+    -- each key of a list is above one that is below all
     pub key_above : (k : K) (es : List (K × J)) (q : K) (v : J) → T (below_all cmp k es)
         → find cmp q es ≡ Some v → cmp k q ≡ Less
     key_above k [] q v h is = absurd (some_not_none v (sym is))
@@ -210,6 +214,7 @@ module _ {K J : Type 0} (cmp : K → K → Ordering) where
               ] refl is
         ] refl all
 
+    -- the place of a key above all is after all
     pub place_behind : (q : K) (xs : List (K × J))
         → ((p : K) (v : J) → find cmp p xs ≡ Some v → cmp p q ≡ Less)
         → place_of cmp q xs ≡ length xs
@@ -326,11 +331,13 @@ module _ {K J : Type 0} (cmp : K → K → Ordering) where
       at_parts q m = find-parts q f (m ++ b) ∙ ap (or_other (find cmp q f)) (find-parts q m b)
 
       module _ (joined : J → J → J) (done : IsJoinedWith cmp joined c.items run x.items) where
+        -- with a run joined to its chunk the chunks are filled and in order
         pub run_chunked : IsChunked cmp (set cs i x)
         run_chunked = chunked_with (map_swapped f c.items x.items b ordered done.map
             (λ q v there. joined_from {P = Fits q} joined (find cmp q c.items) (find cmp q run)
             (find cmp q x.items) v (done.at q) there (in_chunk q) (in_run q)))
 
+        -- a run joined to its chunk is joined to all entries
         pub run_joined : IsJoinedWith cmp joined (all_of cs) run (all_of (set cs i x))
         run_joined = record {
           map = let new = run_chunked in new.map;
@@ -343,11 +350,13 @@ module _ {K J : Type 0} (cmp : K → K → Ordering) where
 
       module _ (between : J → J → J → Type 0) (part : BetweenAtKeys cmp between c.items x.items run)
         where
+          -- where the join of a run stopped, the chunks are filled and in order
           pub stopped_chunked : IsChunked cmp (set cs i x)
           stopped_chunked = chunked_with (map_swapped f c.items x.items b ordered part.middle
               (λ q v there. between_from {P = Fits q} between (find cmp q c.items) (find cmp q run)
               (find cmp q x.items) v (part.at q) there (in_chunk q) (in_run q)))
 
+          -- and all entries are on the way to their join with the run
           pub run_stopped : BetweenAtKeys cmp between (all_of cs) (all_of (set cs i x)) run
           run_stopped = record {
             first = h.map;
@@ -372,12 +381,14 @@ module _ {K J : Type 0} (cmp : K → K → Ordering) where
 
     module _ {Z : Type 0} (cs : List (Vec (K × J) Z)) (h : IsChunked cmp cs) (run : List (K × J))
         (i : ℕ) (fits : IsRunFor cmp run cs i) (c : Vec (K × J) Z) (is : c ≡ get_or cs i c) where
+      -- a key of the run has in all entries what it has in the chunk
       pub same_in_chunk : (q : K) (v : J) → find cmp q run ≡ Some v
           → find cmp q (all_of cs) ≡ find cmp q c.items
       same_in_chunk q v there =
           find-chunk cmp total cs h q i c (fits.fits q v there)
           ∙ ap (λ (y : Vec (K × J) Z). find cmp q y.items) (sym is)
 
+      -- a run that agrees with all entries agrees with its chunk
       pub chunk_agrees : (agree : J → J → Type 0)
           → ((q : K) → AgreeIfBoth agree (find cmp q (all_of cs)) (find cmp q run)) → (q : K)
           → AgreeIfBoth agree (find cmp q c.items) (find cmp q run)
@@ -391,6 +402,7 @@ module _ {K J : Type 0} (cmp : K → K → Ordering) where
         → find cmp q done ≡ Some v → find cmp q rest ≡ None
     apart done rest map q v is = find-below cmp q rest (before done rest map q v is)
 
+    -- what is joined to one part and then to the next is joined to both
     pub joined_further : (joined : J → J → J) (old done now run new : List (K × J))
         → IsMap cmp (done ++ run) → IsJoinedWith cmp joined old done now
         → IsJoinedWith cmp joined now run new → IsJoinedWith cmp joined old (done ++ run) new
@@ -402,6 +414,7 @@ module _ {K J : Type 0} (cmp : K → K → Ordering) where
           ∙ ap (joined_if_both joined (find cmp q old)) (sym (find-parts q done run));
     }
 
+    -- a map joined to nothing is itself
     pub joined_none_yet : (joined : J → J → J) (old : List (K × J)) → IsMap cmp old
         → IsJoinedWith cmp joined old [] old
     joined_none_yet joined old map =
@@ -416,6 +429,7 @@ module _ {K J : Type 0} (cmp : K → K → Ordering) where
         (joined_maps-IsMap cmp total joined xs ys first second)
         (λ q. s.at q ∙ sym (find-joined_maps cmp total joined xs ys first second q))
 
+    -- an empty map joined to another is the other
     pub joined_to_none : ((x y : K) → cmp x y ≡ Equal → x ≡ y)
         → (joined : J → J → J) (ys : List (K × J)) → IsMap cmp ys
         → ys ≡ joined_maps cmp joined [] ys
@@ -446,12 +460,14 @@ module _ {K J : Type 0} (cmp : K → K → Ordering) where
           (or_other (find cmp q done) (or_other (find cmp q run) (find cmp q rest)))
       agree_all_at q = subst (AgreeIfBoth agree (find cmp q old)) (at_all q) (agrees q)
 
+      -- after the parts before it were joined, the run still agrees
       pub agree_further : (q : K) → AgreeIfBoth agree (find cmp q now) (find cmp q run)
       agree_further q =
           subst (λ o. AgreeIfBoth agree o (find cmp q run)) (sym (s.at q))
           (further_agree laws (find cmp q old) (find cmp q done) (find cmp q run) (find cmp q rest)
           (apart_all q) (agree_all_at q))
 
+      -- where a run stopped, the entries are on the way from the first ones to the whole join
       pub stopped_further : (new : List (K × J)) → IsMap cmp old
           → BetweenAtKeys cmp between now new run → BetweenAtKeys cmp between old new other
       stopped_further new old_map part = record {

@@ -191,6 +191,7 @@ module _ (last : Stamp) (now : ℕ) (site : List ℕ) where
     ]
   ]
 
+  -- where the last one's time is full, the next one is the site's first at the time after it
   pub next_later : now ≤ last.time → last.time + 1 < 2 ^ 64 → IsFull
       → IsNext (Some last) now site (first_at (last.time + 1) site)
   next_later le fits full =

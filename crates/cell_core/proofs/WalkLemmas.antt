@@ -13,9 +13,11 @@ use Rattle.cell_core.proofs.Basics.{first_part, second_part}
 use Rattle.cell_core.proofs.PlaceLemmas.{below-at, place_of-le, gap_at}
 
 module _ {K : Type 0} (cmp : K → K → Ordering) (total : IsTotalOrder cmp) where
+  -- what is less, seen from the other, is greater
   pub above : (x y : K) → cmp x y ≡ Less → cmp y x ≡ Greater
   above x y p = total.antisymm y x ∙ ap ordering_reverse p
 
+  -- what is greater, seen from the other, is less
   pub below : (x y : K) → cmp x y ≡ Greater → cmp y x ≡ Less
   below x y p = total.antisymm y x ∙ ap ordering_reverse p
 
@@ -144,6 +146,7 @@ module _ {K J : Type 0} (cmp : K → K → Ordering) where
               (second_part (below_all cmp e.0 es) (is_sorted cmp es) map) p rest,
         ))
 
+    -- in a map a key that ties with the one at a place has its place there
     pub place_found_in_map : (key : K) (es : List (K × J)) (at : ℕ) (d : K × J) → IsMap cmp es
         → at < length es → (let e = get_or es at d in cmp key e.0 ≡ Equal) → IsPlace cmp key es at
     place_found_in_map key es at d map lt tie =
@@ -178,6 +181,7 @@ module _ {K J : Type 0} (cmp : K → K → Ordering) where
     on_after_place es other i at k v d map other_map is p lt = let f = get_or es (i + 1) d in
         next_after_place k f.0 other at d other_map p (next_above es i k v d map is lt)
 
+    -- where a walk goes on in the other map, after a key that is not there
     pub on_after_gap : (es other : List (K × J)) (i at : ℕ) (k : K) (v : J) (d : K × J)
         → IsMap cmp es → (k, v) ≡ get_or es i (k, v) → IsGap cmp k other at → i + 1 < length es
         → (let f = get_or es (i + 1) d in at ≤ place_of cmp f.0 other)

@@ -198,6 +198,7 @@ module _ {K J : Type 0} (cmp : K → K → Ordering) where
     pub last : IsMap ys
     pub at : (q : K) → BetweenIfBoth between (find cmp q xs) (find cmp q zs) (find cmp q ys)
 
+  -- the same; a list that is no map may only stay as it is
   abbrev pub BetweenMaps : (J → J → J → Type 0) → List (K × J) → List (K × J) → List (K × J)
       → Type 0
   BetweenMaps between xs zs ys = (zs ≡ xs) ⊎ BetweenAtKeys between xs zs ys
@@ -222,6 +223,7 @@ module _ {K J : Type 0} (cmp : K → K → Ordering) where
           | false ↦ λ t. find-joined_entries joined xs ys q
         ] refl
 
+    -- the joined entries of a map are a map
     pub joined_entries-IsMap : (joined : J → J → J) (xs ys : List (K × J)) → IsMap xs
         → IsMap (joined_entries joined xs ys)
     joined_entries-IsMap joined xs [] h = h
@@ -229,6 +231,7 @@ module _ {K J : Type 0} (cmp : K → K → Ordering) where
         is_sorted-put cmp total e.0 (joined_at joined (find cmp e.0 xs) e.1)
         (joined_entries joined xs ys) (joined_entries-IsMap joined xs ys h)
 
+    -- of two maps the joined maps are the joined entries
     pub joined_of_maps : (joined : J → J → J) (xs ys : List (K × J)) → IsMap xs → IsMap ys
         → joined_maps joined xs ys ≡ joined_entries joined xs ys
     joined_of_maps joined xs ys h k =
@@ -243,6 +246,7 @@ module _ {K J : Type 0} (cmp : K → K → Ordering) where
     find-joined_maps joined xs ys h k q =
         ap (find cmp q) (joined_of_maps joined xs ys h k) ∙ find-joined_entries joined xs ys q
 
+    -- two maps joined are a map
     pub joined_maps-IsMap : (joined : J → J → J) (xs ys : List (K × J)) → IsMap xs → IsMap ys
         → IsMap (joined_maps joined xs ys)
     joined_maps-IsMap joined xs ys h k =
@@ -256,15 +260,19 @@ module _ {K J : Type 0} (cmp : K → K → Ordering) where
 
       module _ {agree : J → J → Type 0} {joined : J → J → J} {between : J → J → J → Type 0}
           (laws : JoinLaws agree joined between) where
+        -- the laws of values that may be absent, at these values
         abbrev o : JoinLaws (AgreeIfBoth agree) (joined_if_both joined) (BetweenIfBoth between)
         o = if_both_laws laws
 
+        -- whether two maps of these values agree
         abbrev Agree : List (K × J) → List (K × J) → Type 0
         Agree = AgreeMaps agree
 
+        -- two maps of these values, joined
         abbrev join : List (K × J) → List (K × J) → List (K × J)
         join = joined_maps joined
 
+        -- maps that agree do so at each key
         pub at_of : (a b : List (K × J)) → Agree a b → (q : K)
             → AgreeIfBoth agree (find cmp q a) (find cmp q b)
         at_of a b h q = elim h as (λ _. AgreeIfBoth agree (find cmp q a) (find cmp q b)) [
@@ -274,6 +282,7 @@ module _ {K J : Type 0} (cmp : K → K → Ordering) where
           | inr r ↦ r.at q
         ]
 
+        -- what agrees with a map is a map
         pub also_map : (a b : List (K × J)) → Agree a b → IsMap a → IsMap b
         also_map a b h k = elim h as (λ _. IsMap b) [ inl e ↦ subst IsMap e k | inr r ↦ r.second ]
 

@@ -28,6 +28,8 @@ agree_pairs-requires-clause-theirs g c =
     (chunk_map g.K.Ord.cmp g.met.K.Ord.total c.args.theirs.now c.requires.theirs
     c.first_run-at.result.0 c.index-theirs-at.result c.first_run-at.ensures.fits.in_range)
 
+-- The run does not agree with its chunk, so its entries and theirs do not agree: a key of the run
+-- has in all chunks what it has in this one.
 pub returns-then-not-agree_pairs : goal.returns-then-not-agree_pairs
 returns-then-not-agree_pairs g c =
     let cmp = g.K.Ord.cmp in
@@ -54,6 +56,8 @@ returns-then-not-agree_pairs g c =
           (whole q))) ∙ c.if-not-agree_pairs.true)),
     )
 
+-- The entries before `from` agree with theirs: the run agrees with its chunk, where all its keys
+-- are, so the entries before the end of the run agree too.
 pub loop-from-preserved : goal.loop-from-preserved
 loop-from-preserved g c =
     let cmp = g.K.Ord.cmp in

@@ -44,6 +44,8 @@ returns-in_err-from-clause-err g c =
     (all_of c.join_first_run.new.chunks.list.items) c.requires.kept.chunked.map
     c.in_err-from.ensures.err)
 
+-- The entries before `from` are joined: the first run of the rest was joined to what they had
+-- become, and no key is in both parts, so those before its end are joined.
 pub loop-from-preserved : goal.loop-from-preserved
 loop-from-preserved g c =
     let cmp = g.K.Ord.cmp in

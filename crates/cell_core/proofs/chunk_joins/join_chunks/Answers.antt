@@ -38,6 +38,8 @@ join_all_of-requires-clause-agree g c =
     c.deref.result.now rest (all_of c.loop-pairs.chunks.list.items) split
     c.requires.theirs.map c.requires.agree c.loop-pairs.invariant.joined
 
+-- Memory ended within one of their chunks: the entries are on the way to the whole join, since the
+-- chunks before it were joined and this one is on its way.
 pub returns-in_err-join_all_of-clause-err : goal.returns-in_err-join_all_of-clause-err
 returns-in_err-join_all_of-clause-err g c =
     let theirs = c.args.theirs.now in
@@ -55,6 +57,8 @@ returns-in_err-join_all_of-clause-err g c =
     (all_of c.join_all_of.new.chunks.list.items) c.requires.kept.chunked.map
     c.in_err-join_all_of.ensures.err)
 
+-- The chunks before this one are joined: this one was joined to what they had become, and no key is
+-- in both parts, so the chunks up to it are joined.
 pub loop-pairs-preserved : goal.loop-pairs-preserved
 loop-pairs-preserved g c =
     let cmp = g.K.Ord.cmp in

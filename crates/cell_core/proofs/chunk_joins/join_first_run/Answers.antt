@@ -26,6 +26,8 @@ pub join_pairs-requires-clause-run : goal.join_pairs-requires-clause-run
 join_pairs-requires-clause-run g c =
     map_of_take g.K.Ord.cmp c.first_run-at.result.1 c.args.pairs.now c.requires.pairs
 
+-- The run agrees with its chunk: it is a part of what agrees with all entries, and what has one of
+-- its keys is in that chunk.
 pub join_pairs-requires-clause-agree : goal.join_pairs-requires-clause-agree
 join_pairs-requires-clause-agree g c =
     let cmp = g.K.Ord.cmp in
@@ -44,6 +46,8 @@ join_pairs-requires-clause-agree g c =
     c.requires.agree
     (joined_none_yet cmp total g.J.Join.joined (all_of cs) c.requires.kept.chunked.map))
 
+-- Memory ended within the run: the keys still rise, since each new one goes to this chunk, and the
+-- count is right, since it grew as the chunk did.
 pub returns-in_err-join_pairs-clause-kept : goal.returns-in_err-join_pairs-clause-kept
 returns-in_err-join_pairs-clause-kept g c =
     let cmp = g.K.Ord.cmp in
@@ -79,6 +83,8 @@ returns-in_err-join_pairs-clause-kept g c =
           );
     }
 
+-- Memory ended within the run: the chunk is on its way to the join with it, so all entries are on
+-- their way to the join with the run, and with what follows it.
 pub returns-in_err-join_pairs-clause-err : goal.returns-in_err-join_pairs-clause-err
 returns-in_err-join_pairs-clause-err g c =
     let cmp = g.K.Ord.cmp in
@@ -101,6 +107,7 @@ returns-in_err-join_pairs-clause-err g c =
     (run_stopped cmp total cs c.requires.kept.chunked run at fits c.index_mut.result.now x
     c.index_mut.ensures.value grows g.J.Join.between c.in_err-join_pairs.ensures.err))
 
+-- With the run joined to its chunk the keys still rise, since each goes there; so it may be cut.
 pub cut_if_full-requires-clause-chunked : goal.cut_if_full-requires-clause-chunked
 cut_if_full-requires-clause-chunked g c =
     let cmp = g.K.Ord.cmp in
@@ -120,6 +127,7 @@ cut_if_full-requires-clause-chunked g c =
     c.join_pairs.new.pairs c.index_mut.ensures.value grows g.J.Join.joined
     c.in_ok-join_pairs.ensures.ok
 
+-- The count is right: it grew by as many entries as the chunk did, and a cut changes none.
 pub returns-clause-kept : goal.returns-clause-kept
 returns-clause-kept g c =
     let cs = c.args.chunks.now.list.items in
@@ -145,6 +153,8 @@ returns-clause-kept g c =
           ));
     }
 
+-- The run is joined to all entries: it is joined to its chunk, other chunks have none of its keys,
+-- and a cut changes no entry.
 pub returns-clause-ok : goal.returns-clause-ok
 returns-clause-ok g c =
     let cmp = g.K.Ord.cmp in

@@ -6,6 +6,8 @@ use Rattle.cell_core.proofs.RunLemmas.{all_of-append, all_of_more}
 use Rattle.cell_core.proofs.AppendLemmas.{filled_push}
 use Rattle.cell_core.proofs.chunks.copy_chunks.Goals as goal
 
+-- The copies have the entries of the chunks before this one, and none is empty: the copy of this
+-- one, which has its entries, was pushed last.
 pub loop-chunk-preserved : goal.loop-chunk-preserved
 loop-chunk-preserved g c =
     let cs = c.args.chunks.now in

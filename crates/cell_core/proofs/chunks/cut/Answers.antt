@@ -8,6 +8,8 @@ use Rattle.cell_core.proofs.ChunkLemmas.{all_of-cut, filled-cut}
 use Rattle.cell_core.proofs.chunks.cut.Goals as goal
 use Rattle.cell_core.proofs.chunks.cut.Goals.{in-Ok, in-Err}
 
+-- The entries are the same: the two parts are the front and the tail of the chunk, and there was
+-- room for one chunk more, so the insertion did not fail.
 pub returns-clause-same : goal.returns-clause-same
 returns-clause-same g c =
     let at = c.args.at in
@@ -33,6 +35,8 @@ returns-clause-same g c =
           absurd (omega (arith, full, c.in_ok-reserve.ensures.ok))
     ]
 
+-- The entries are the same, so their keys rise; and neither part is empty, since a chunk of at
+-- least two entries was cut in the middle.
 pub returns-clause-chunked : goal.returns-clause-chunked
 returns-clause-chunked g c =
     let at = c.args.at in

@@ -20,6 +20,8 @@ returns-then-left-len g c =
     sym (nth_here chunk.items rest c.loop-chunk.left c.index.result.now lt c.index.ensures)
     ∙ ap (λ xs. slice_get xs c.loop-chunk.left) (sym split) ∙ c.loop-chunk.invariant
 
+-- What is sought is at place `left` of the entries from this chunk on: it is none of this chunk's,
+-- so it is as many places lower in what follows.
 pub loop-chunk-preserved : goal.loop-chunk-preserved
 loop-chunk-preserved g c =
     let cs = c.args.chunks.now in

@@ -16,6 +16,7 @@ bisect-requires g c =
     (chunk_map cmp g.met.K.Ord.total c.args.chunks.now c.requires.chunked c.chunk_for-at.result
     chunk c.chunk_for-at.ensures.in_range)
 
+-- The key is at this place of the chunk that it goes to, which was searched.
 pub returns-in-Ok : goal.returns-in-Ok
 returns-in-Ok g c =
     let cmp = g.K.Ord.cmp in

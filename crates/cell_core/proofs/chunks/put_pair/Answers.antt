@@ -31,6 +31,8 @@ cut_if_full-requires-clause-chunked g c =
     fits c.index_mut.ensures.value c.in-Ok.ensures.ok in
     new.0
 
+-- The keys rise and none is empty, since the entry was put into the chunk where its key goes; the
+-- count grew as the chunk did, and a cut changes no entry.
 pub returns-after-added-clause-kept : goal.returns-after-added-clause-kept
 returns-after-added-clause-kept g c =
     let cs = c.args.chunks.now.list.items in
@@ -76,6 +78,7 @@ returns-after-added-clause-kept g c =
           ];
     }
 
+-- To put the entry into the chunk where its key goes is to put it into all; a cut changes no entry.
 pub returns-after-added-clause-ok : goal.returns-after-added-clause-ok
 returns-after-added-clause-ok g c =
     let cs = c.args.chunks.now.list.items in
@@ -94,6 +97,7 @@ returns-after-added-clause-ok g c =
       | else-added w ↦ rw w.chunks-is new.1
     ]
 
+-- No memory: the chunk has the entries that it had, so all is as it was, and so is the count.
 pub returns-in-Err-clause-kept : goal.returns-in-Err-clause-kept
 returns-in-Err-clause-kept g c =
     let at = c.chunk_for-at.result in

@@ -7,6 +7,8 @@ use Rattle.cell_core.proofs.InterleaveLemmas.{IsInterleaved, interleaved_one_mor
 use Rattle.cell_core.proofs.InterleaveLemmas.{or_none}
 use Rattle.cell_core.proofs.interleave.interleave.Goals as goal
 
+-- One new entry more is in order: those of the tail that go before it were moved, it follows them,
+-- and each place of the new ones left is one higher.
 pub loop-place-preserved : goal.loop-place-preserved
 loop-place-preserved g c =
     let cmp = g.K.Ord.cmp in
@@ -43,6 +45,8 @@ loop-place-preserved g c =
 pub returns-clause-len : goal.returns-clause-len
 returns-clause-len g c = omega (arith, c.in_default.ensures.cases)
 
+-- Nothing is left of the new entries or of the tail, so what is in order has at each key what the
+-- old entries and the new ones have.
 pub returns-clause-at : goal.returns-clause-at
 returns-clause-at g c = λ q.
     let cmp = g.K.Ord.cmp in

@@ -23,6 +23,8 @@ add_missing-requires-clause-gaps g c =
     (gaps_after g.met.K.Ord.total g.J.Join.joined c.deref_mut.result.now c.args.run.now mine
     c.in_ok-missing.missing.items c.in_ok-missing.ensures.ok)
 
+-- No memory for the missing entries: the common ones are joined and nothing else is changed, which
+-- is on the way to the join.
 pub returns-in_err-add_missing-clause-err : goal.returns-in_err-add_missing-clause-err
 returns-in_err-add_missing-clause-err g c =
     let cmp = g.K.Ord.cmp in
@@ -45,6 +47,8 @@ returns-in_err-add_missing-clause-err g c =
     (stopped_between g.met.K.Ord.total g.met.J.Join.laws old other c.requires.pairs c.requires.run
     c.requires.agree mine (length other) ms common))
 
+-- The entries are the join: the common ones were joined at their places, and those that were
+-- missing were added.
 pub returns-clause-ok : goal.returns-clause-ok
 returns-clause-ok g c =
     let cmp = g.K.Ord.cmp in

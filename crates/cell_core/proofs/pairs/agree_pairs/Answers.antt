@@ -7,6 +7,7 @@ use Rattle.cell_core.proofs.WalkLemmas.{on_after_place, on_after_gap}
 use Rattle.cell_core.proofs.pairs.agree_pairs.Goals as goal
 use Rattle.cell_core.proofs.pairs.agree_pairs.Goals.{in-Ok+else-not-agrees, in-Err}
 
+-- The values at one key of both do not agree, so the maps do not.
 pub returns-then-not-agrees : goal.returns-then-not-agrees
 returns-then-not-agrees g c =
     let cmp = g.K.Ord.cmp in
@@ -26,6 +27,8 @@ returns-then-not-agrees g c =
           (subst (AgreeIfBoth agree (find cmp k mine)) there (h k)))) ∙ c.if-not-agrees.true)),
     )
 
+-- The entries before this one agree with theirs: this key's values agree, or they have not the key.
+-- The place reached there is not after that of the next key.
 pub loop-key-preserved : goal.loop-key-preserved
 loop-key-preserved g c =
     let cmp = g.K.Ord.cmp in

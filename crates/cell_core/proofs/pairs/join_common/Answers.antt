@@ -49,6 +49,8 @@ returns-in_err-push_in_room-in-Err-clause-err g c =
     c.requires.mine c.requires.theirs c.requires.agree c.loop-key.mine c.loop-key.key-index
     c.loop-key.missing.items c.loop-key.invariant.common)
 
+-- The values of the common keys read are joined, and the missing ones noted: this key's is joined
+-- at its place or noted. The place reached is not after that of the next key.
 pub loop-key-preserved : goal.loop-key-preserved
 loop-key-preserved g c =
     let cmp = g.K.Ord.cmp in

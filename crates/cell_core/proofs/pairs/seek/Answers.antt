@@ -14,6 +14,7 @@ loop-low-init g c = record {
   apart = λ d lt. absurd (omega (arith, lt));
 }
 
+-- The key is below the one in the middle, so its place is at the middle or before it.
 pub loop-low-preserved-in-Less : goal.loop-low-preserved-in-Less
 loop-low-preserved-in-Less g c =
     let cmp = g.K.Ord.cmp in
@@ -40,6 +41,7 @@ returns-in-Equal-clause-found g c =
     (c.loop-low.low + c.min.result) _ c.requires.map (omega arith)
     (sym c.cmp.ensures ∙ c.in-Equal.is)
 
+-- The key is above the one in the middle, so its place is after it.
 pub loop-low-preserved : goal.loop-low-preserved
 loop-low-preserved g c =
     let cmp = g.K.Ord.cmp in

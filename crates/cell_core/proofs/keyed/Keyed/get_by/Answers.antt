@@ -21,6 +21,8 @@ bisect-requires g c =
     (sym c.index-chunk.ensures) ∙ sym c.deref-2.ensures.value)
     (chunk_map cmp g.met.K.Ord.total cs c.self.invariant.chunked at chunk place.in_range)
 
+-- The entry at the place found is what the map has at the key: all other chunks have only other
+-- keys.
 pub returns-in-Ok : goal.returns-in-Ok
 returns-in-Ok g c =
     let cmp = g.K.Ord.cmp in
@@ -47,6 +49,7 @@ returns-in-Ok g c =
       map = subst (IsMap cmp) c.self.view_is c.self.invariant.chunked.map;
     }
 
+-- The map has not the key: its chunk has not, and all other chunks have only other keys.
 pub returns-in-Err : goal.returns-in-Err
 returns-in-Err g c =
     let cmp = g.K.Ord.cmp in

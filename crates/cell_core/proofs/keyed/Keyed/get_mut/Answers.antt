@@ -10,6 +10,8 @@ use Rattle.cell_core.proofs.ChunkLemmas.{chunked_put, find-chunk}
 use Rattle.cell_core.proofs.RunLemmas.{length_with}
 use Rattle.cell_core.proofs.keyed.Keyed.get_mut.Goals as goal
 
+-- Whatever is written there, the map stays in order and its count right: the value of a key that is
+-- there is set, and the chunk keeps its keys.
 pub invariant_of-self-lent : goal.invariant_of-self-lent
 invariant_of-self-lent g c = λ w.
     let cmp = g.K.Ord.cmp in
@@ -38,6 +40,8 @@ invariant_of-self-lent g c = λ w.
       counted = omega (arith, sum, size, c.self.invariant.counted);
     }
 
+-- What is lent is the map's value at the key, and to write there is to put that value at the key,
+-- since the place is the key's in its chunk.
 pub returns-in-Some : goal.returns-in-Some
 returns-in-Some g c =
     let cmp = g.K.Ord.cmp in
