@@ -23,6 +23,7 @@ module _ {J : Type 0} where
       ∙ ap (λ xs. e ∷ xs)
       (put_behind es k v (all_rest (λ (x : EntryKey × J). key_cmp x.0 k ≡ Less) e es above))
 
+  -- a map with an entry after all, whose key is above all, is a map
   pub IsMap-behind : (es : List (EntryKey × J)) (k : EntryKey) (v : J) → IsMap key_cmp es
       → IsAboveAll k es → IsMap key_cmp (es ++ (k, v) ∷ [])
   IsMap-behind es k v m above =

@@ -150,6 +150,7 @@ module _ (xs ys : List Entry) (k : EntryKey) where
         ];
   }
 
+  -- best in the second, and not exceeded in the first
   pub best_of_second : (c : Cell) → IsBest ys k c
       → ((d : Cell) → In xs (k, d) → stamp_cmp c.stamp d.stamp ≢ Less) → IsBest (xs ++ ys) k c
   best_of_second c best above = record {
@@ -174,6 +175,7 @@ module _ (xs ys : List Entry) (k : EntryKey) where
         (in_append_left xs ys (k, d) (in_from_Contains xs (k, d) has)));
   }
 
+  -- the same of the second
   pub best_in_second : (c : Cell) → IsBest (xs ++ ys) k c → In ys (k, c) → IsBest ys k c
   best_in_second c best h = record {
     member = Contains-from_in ys (k, c) h;

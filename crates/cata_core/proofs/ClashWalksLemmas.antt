@@ -107,6 +107,7 @@ module _ {K : Type 0} (cmp : K → K → Ordering) (own other : List (K × Cell)
     ];
   }
 
+  -- one more that agrees
   pub agreed_one : (k : K) (c : Cell) (left : List (K × Cell)) (n : ℕ)
       → IsAgreed cmp own other ((k, c) ∷ left) n
       → ((d : Cell) → find cmp k other ≡ Some d → AgreeCells c d)
@@ -145,6 +146,7 @@ module _ {K : Type 0} (cmp : K → K → Ordering) (own other : List (K × Cell)
     stamp_there = has;
   }
 
+  -- where the next one does not agree, it is the first clash
   pub clash_one : (k : K) (c d : Cell) (left : List (K × Cell)) (n : ℕ) (stamp : Stamp)
       → IsAgreed cmp own other ((k, c) ∷ left) n → find cmp k other ≡ Some d → ¬ (AgreeCells c d)
       → stamp ≡ c.stamp → IsFirstClash cmp own other n stamp
@@ -154,6 +156,7 @@ module _ {K : Type 0} (cmp : K → K → Ordering) (own other : List (K × Cell)
       (clash_in ((k, c) ∷ []) left n 0 k c d stamp h (omega arith)
       (λ j lt. absurd (omega (arith, lt))) refl found differ (sym has))
 
+  -- where none is left, all agree
   pub agreed_all : (n : ℕ) → IsAgreed cmp own other [] n → (j : ℕ) → j < length own
       → AgreesAt cmp own other j
   agreed_all n h j lt = h.agrees j (omega (arith, lt, drop_none own n h.rest))
@@ -223,6 +226,7 @@ module _ (own other : Nested) (id : List ℕ) (cells : Inner) (left : Nested) (n
       (λ j lt l x y at found. let no : Some y ≡ None = sym found ∙ ap (found_in text_cmp l) none in
       absurd (cc))
 
+  -- a message that both have, whose cells agree
   pub agreed_with : (others : Inner) → find text_cmp id other ≡ Some others
       → ((j : ℕ) → j < length cells → AgreesAt text_cmp cells others j)
       → IsAgreed key_cmp (flat own) (flat other) (flat left) (n + length cells)
@@ -246,6 +250,7 @@ module _ (own other : Nested) (id : List ℕ) (cells : Inner) (left : Nested) (n
       (find-flat text_cmp text_cmp nat_list_cmp_total other sorted (id, clash.key)
       ∙ ap (found_in text_cmp clash.key) there ∙ clash.other_has) clash.differ clash.stamp_there
 
+  -- the places of a message's cells fit where all cells are countable
   pub front_fits : IsCountable own → n + length cells < 340282366920938463463374607431768211456
   front_fits fits =
       omega (

@@ -36,6 +36,7 @@ kept_if p None = None
 kept_if p (Some x) = cond (p x) (Some x) None
 
 module _ {K J : Type 0} (cmp : K → K → Ordering) (p : K × J → Bool) where
+  -- a key below all is below all that pass a test
   pub below_all-filter : (x : K) (es : List (K × J)) → T (below_all cmp x es)
       → T (below_all cmp x (filter p es))
   below_all-filter x [] h = tt
@@ -48,6 +49,7 @@ module _ {K J : Type 0} (cmp : K → K → Ordering) (p : K × J → Bool) where
         | false ↦ rest
       ]
 
+  -- the entries of a map that pass a test are a map
   pub filter-IsMap : (es : List (K × J)) → IsMap cmp es → IsMap cmp (filter p es)
   filter-IsMap [] h = tt
   filter-IsMap (e ∷ es) h =

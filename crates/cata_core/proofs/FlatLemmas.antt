@@ -137,6 +137,7 @@ module _ {K L J : Type 0} (P : K → K → Ordering) (Q : L → L → Ordering) 
         (below_append x fs gs
         (second_part (is_lt (pair_cmp P Q x a.0)) (below_all (pair_cmp P Q) x fs) h) k)
 
+    -- a key whose first part is below all outer keys is below all keys of the flat list
     pub below_flat : (x : K × L) (es : List (K × List (L × J))) → T (below_all P x.0 es)
         → T (below_all (pair_cmp P Q) x (flat es))
     below_flat x [] h = tt
@@ -194,6 +195,7 @@ module _ {K L J : Type 0} (P : K → K → Ordering) (Q : L → L → Ordering) 
               }) k xs is
         ]
 
+    -- a map whose values are all maps with an entry is a map of maps
     pub nested_of_found : (es : List (K × List (L × J))) → IsMap P es
         → ((k : K) (xs : List (L × J)) → find P k es ≡ Some xs → IsInner Q xs) → IsNested P Q es
     nested_of_found es m h = record {
@@ -249,6 +251,7 @@ module _ {K L J : Type 0} (P : K → K → Ordering) (Q : L → L → Ordering) 
         | false ↦ λ e. found_inner P Q tp es n q ys e
       ] (sym (find-put P tp q k xs es) ∙ is))
 
+  -- a map of cells with one put in is a map with an entry
   pub inner_put : (es : List (K × List (L × J))) → IsNested P Q es → (k : K) (l : L) (v : J)
       → IsInner Q (put Q l v (inner_of (find P k es)))
   inner_put es n k l v =
@@ -258,6 +261,7 @@ module _ {K L J : Type 0} (P : K → K → Ordering) (Q : L → L → Ordering) 
             put_some Q l v (inner_of (find P k es));
       }
 
+  -- a map of maps with a cell put in is one
   pub nested_put_in : (es : List (K × List (L × J))) → IsNested P Q es → (k : K) (l : L) (v : J)
       → IsNested P Q (put_in k l v es)
   nested_put_in es n k l v =
@@ -430,6 +434,7 @@ module _ {K L J : Type 0} (P : K → K → Ordering) (Q : L → L → Ordering) 
                     (find_both k l));
               })
 
+      -- where maps of maps agree, so do their flat lists
       pub agree_to_flat : (xs ys : List (K × List (L × J))) → IsNested P Q xs → IsNested P Q ys
           → AgreeMaps P (AgreeMaps Q agree) xs ys
           → AgreeMaps (pair_cmp P Q) agree (flat xs) (flat ys)

@@ -28,6 +28,7 @@ module _ {K J : Type 0} (R : K → K → Ordering) (total : IsTotalOrder R) wher
       (less_than (R y e.0) (first_part (is_lt (R y e.0)) (below_all R y es) h)))) tt)
       (below_lesser x y es p (second_part (is_lt (R y e.0)) (below_all R y es) h))
 
+  -- a key that ties with one below all is below all
   pub below_tied_all : (x y : K) (es : List (K × J)) → R x y ≡ Equal → T (below_all R y es)
       → T (below_all R x es)
   below_tied_all x y [] p h = tt

@@ -93,6 +93,7 @@ module _ (own sender : Entries) (m : IsMap key_cmp own) (agree : Agree own sende
           absurd (not_own (find key_cmp k own) c is.new (sym (alone (find key_cmp k own)) ∙ j))
       at k c is (Some d) e j = let same : Some d ≡ Some c = sym (p.of k d e) ∙ is.theirs in e ∙ same
 
+  -- a delta is empty just where the receiver is above the sender
   pub delta_empty : (delta_of sender (summary_of own) ≡ []) ↔ IsBelowCells sender own
   delta_empty = (
     λ none. (

@@ -28,6 +28,7 @@ module _ {K J L : Type 0} (cmp : K → K → Ordering) (f : J → L) where
   same_sorted [] = refl
   same_sorted (e ∷ es) = λ i. same_below e.0 es i && same_sorted es i
 
+  -- a map with its values replaced is a map
   pub mapped-IsMap : (es : List (K × J)) → IsMap cmp es → IsMap cmp (mapped es)
   mapped-IsMap es h = subst T (sym (same_sorted es)) h
 

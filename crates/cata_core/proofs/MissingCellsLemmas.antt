@@ -57,6 +57,7 @@ module _ (all left missing : Entries) (summary rest more : Stamps) (k : EntryKey
       (subst (IsMap key_cmp) (sym cells)
       (filter-IsMap key_cmp (λ e. is_missing (find key_cmp e.0 summary) e.1.stamp) all h.map))
 
+  -- a cell that the summary lacks is added after those found
   pub missing_more : is_missing (find key_cmp k summary) c.stamp ≡ true
       → AreMissingSoFar all left (missing ++ (k, c) ∷ []) summary more
   missing_more sent = record {

@@ -65,6 +65,7 @@ module _ {K L J : Type 0} (P : K → K → Ordering) (Q : L → L → Ordering) 
         (place_of-below (pair_cmp P Q) q (flat es)
         (below_flat P Q tp q es (below_lesser P tp q.0 k es p below)))
 
+    -- a key of the first message has its place among that message's cells
     pub place_of-same : P q.0 k ≡ Equal
         → place_of (pair_cmp P Q) q (flat ((k, cells) ∷ es)) ≡ place_of Q q.1 cells
     place_of-same p =
@@ -72,6 +73,7 @@ module _ {K L J : Type 0} (P : K → K → Ordering) (Q : L → L → Ordering) 
         (place_of-below (pair_cmp P Q) q (flat es)
         (below_flat P Q tp q es (below_tied_all P tp q.0 k es p below)))
 
+    -- a key of a later message has its place after the first message's cells
     pub place_of-greater : P q.0 k ≡ Greater
         → place_of (pair_cmp P Q) q (flat ((k, cells) ∷ es))
         ≡ length cells + place_of (pair_cmp P Q) q (flat es)
@@ -111,6 +113,7 @@ module _ {K L J : Type 0} where
       (subst (λ n. at < n) (sym (length-under k cells)) lt)
       ∙ slice_get-map (with_outer k) cells at
 
+  -- a place past the first message's cells is one in what follows, lower by their number
   pub place_behind : (k : K) (cells : List (L × J)) (es : List (K × List (L × J))) (at left : ℕ)
       → length cells + left ≡ at
       → slice_get (flat ((k, cells) ∷ es)) at ≡ slice_get (flat es) left
@@ -122,6 +125,7 @@ module _ {K L J : Type 0} where
 
 module _ (m left : Nested) (key : EntryKey) (id : List ℕ) (cells : Inner) (total : ℕ)
     (h : IsInFront m ((id, cells) ∷ left) key total) where
+  -- where the next message is above the key's, the place is what was counted
   pub in_front_less : text_cmp key.0 id ≡ Less → total ≡ place_of key_cmp key (flat m)
   in_front_less p =
       omega (
@@ -131,6 +135,7 @@ module _ (m left : Nested) (key : EntryKey) (id : List ℕ) (cells : Inner) (tot
             key p,
       )
 
+  -- where it is the key's, the place in its cells is added
   pub in_front_same : text_cmp key.0 id ≡ Equal
       → total + place_of text_cmp key.1 cells ≡ place_of key_cmp key (flat m)
   in_front_same p =
@@ -141,6 +146,7 @@ module _ (m left : Nested) (key : EntryKey) (id : List ℕ) (cells : Inner) (tot
             key p,
       )
 
+  -- where it is below the key's, its cells are counted too
   pub in_front_next : text_cmp key.0 id ≡ Greater → IsInFront m left key (total + length cells)
   in_front_next p = record {
     map = second_part (below_all text_cmp id left) (is_sorted text_cmp left) h.map;
@@ -154,5 +160,6 @@ module _ (m left : Nested) (key : EntryKey) (id : List ℕ) (cells : Inner) (tot
         );
   }
 
+  -- the count with one message more fits where all cells are countable
   pub in_front_fits : IsCountable m → total + length cells < 340282366920938463463374607431768211456
   in_front_fits fits = omega (arith, fits, h.cells, length-flat-cons id cells left)

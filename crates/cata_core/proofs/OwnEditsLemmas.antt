@@ -21,6 +21,7 @@ use Rattle.cata_core.proofs.StampOrderLemmas.{not_less_self}
 
 module _ (es : Entries) (key : EntryKey) (cell : Cell) (m : IsMap key_cmp es)
     (above : IsAbove (latest_of es) cell.stamp) where
+  -- an edit with a stamp above all agrees with the catalogue
   pub own_agrees : Agree es ((key, cell) ∷ [])
   own_agrees = at (find key_cmp key es) refl
     where
@@ -32,6 +33,7 @@ module _ (es : Entries) (key : EntryKey) (cell : Cell) (m : IsMap key_cmp es)
           (subst (λ s. stamp_cmp s cell.stamp ≡ Less) same
           (held_less es key mine cell.stamp above e))))
 
+  -- to put it at its key is to join it
   pub own_joins : put key_cmp key cell es ≡ joined es ((key, cell) ∷ [])
   own_joins = at (find key_cmp key es) refl
     where
@@ -42,6 +44,7 @@ module _ (es : Entries) (key : EntryKey) (cell : Cell) (m : IsMap key_cmp es)
           joined_later es (key, cell) mine m (sym e)
           (ap is_lt (held_less es key mine cell.stamp above e))
 
+  -- and the catalogue with it is above the one before
   pub own_rises : IsBelowCells es (put key_cmp key cell es)
   own_rises =
       subst (IsBelow Agree joined es) (sym own_joins)

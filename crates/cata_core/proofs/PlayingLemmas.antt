@@ -90,15 +90,19 @@ module _ (sites : ℕ) (steps : List Step) (n : ℕ) (world : World)
       (played.answered []
       (subst (λ xs. HeldAnswersFrom (held_in world) xs []) (sym (drop_all n steps all)) refl))
 
+  -- where all steps were played none is faulty
   pub none_is_faulty : NoneFaulty sites steps
   none_is_faulty = none_faulty sites steps all_sound
 
+  -- the answers are over what the sites hold
   pub answers_held : AreHeldAnswers steps world.answers.items
   answers_held = held_answers steps world.answers.items answered
 
+  -- where no two edits clash, they are over the edits that the sites took
   pub answers_consistent : IsConsistent (edits_of steps) → AreAnswers steps world.answers.items
   answers_consistent consistent = consistent_answers steps consistent world.answers.items answered
 
+  -- so they are where nothing was delivered
   pub answers_undelivered : NoDelivers steps → AreAnswers steps world.answers.items
   answers_undelivered none =
       undelivered_answers sites steps none all_sound world.answers.items answered

@@ -11,6 +11,7 @@ use Rattle.cell_core.specs.Keyed.{IsMap}
 use Rattle.cata_core.proofs.Basics.{first_part, second_part, less_than}
 
 module _ {K J : Type 0} (R : K → K → Ordering) (total : IsTotalOrder R) where
+  -- a key below all is below the one at each place
   pub below_get : (q : K) (es : List (K × J)) (i : ℕ) (k : K) (c : J) → T (below_all R q es)
       → slice_get es i ≡ Some (k, c) → R q k ≡ Less
   below_get q [] i k c h = λ is. absurd (cc)
@@ -20,6 +21,7 @@ module _ {K J : Type 0} (R : K → K → Ordering) (total : IsTotalOrder R) wher
   below_get q (e ∷ es) (suc i) k c h =
       λ is. below_get q es i k c (second_part (is_lt (R q e.0)) (below_all R q es) h) is
 
+  -- a key of a map is below those at later places
   pub sorted_get : (es : List (K × J)) (i j : ℕ) (k l : K) (c d : J) → IsMap R es → i < j
       → slice_get es i ≡ Some (k, c) → slice_get es j ≡ Some (l, d) → R k l ≡ Less
   sorted_get [] i j k l c d m lt = λ a b. absurd (cc)

@@ -41,6 +41,7 @@ module _ (xs ys : List Entry) where
       agree k)) in
       same_cell c d stamps (cells stamps)
 
+  -- where the catalogues of settled edits agree, all the edits together are settled
   pub settled_if_agree : IsSettled xs → IsSettled ys → Agree (catalogue_of xs) (catalogue_of ys)
       → IsSettled (xs ++ ys)
   settled_if_agree s t agree k c d a b =
@@ -55,6 +56,7 @@ module _ (xs ys : List Entry) where
         ]
       ]
 
+  -- where all the edits together are settled, the catalogues of both parts agree
   pub agree_if_settled : IsSettled (xs ++ ys) → Agree (catalogue_of xs) (catalogue_of ys)
   agree_if_settled settled = inr (record {
     first = catalogue_of-IsMap xs;

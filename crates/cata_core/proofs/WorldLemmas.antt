@@ -163,6 +163,7 @@ module _ (sites : List Entries) (told : List ToldStamps) (posts : List PostedCel
   abbrev world : Held
   world = record { of_site = at_sites sites; told = told; posts = posts }
 
+  -- a delivery of cells that agree is a sound step
   pub delivered_sound : (n : ℕ) → Agree own p.cells → IsSound n world step
   delivered_sound n agree = subst (IsSound n world) (sym is) (record {
     sites_there = All-nil (λ site. site < n);
@@ -172,6 +173,7 @@ module _ (sites : List Entries) (told : List ToldStamps) (posts : List PostedCel
         (subst (λ x. Agree x p.cells) (at_site sites p.addressee own site_there here) agree);
   })
 
+  -- the addressee joins the cells, and all else is as it was
   pub delivered_held : (new : Entries) → new ≡ joined own p.cells
       → record { of_site = at_sites (slice_set sites p.addressee new); told = told; posts = posts }
       ≡ held_step world step
@@ -180,6 +182,7 @@ module _ (sites : List Entries) (told : List ToldStamps) (posts : List PostedCel
       (e ∙ ap (λ x. joined x p.cells) (at_site sites p.addressee own site_there here))
       ∙ ap (held_step world) (sym is)
 
+  -- where the cells clash, the fault is the step's
   pub delivered_fault : (n at : ℕ) (fault : PlayFault) → IsClashAt at own p.cells fault
       → IsFaultOf n world at step fault
   delivered_fault n at fault h = subst (λ s. IsFaultOf n world at s fault) (sym is) (of fault h)

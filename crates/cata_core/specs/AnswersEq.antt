@@ -14,5 +14,6 @@ answer_eq = (answer_impl.ghosts).eq
 abbrev pub answers_eq : List Answer → List Answer → Bool
 answers_eq = pointwise answer_eq
 
+-- that equality is an equivalence
 pub answers_equiv : IsEquivalence answers_eq
 answers_equiv = lists_equiv answer_laws.laws-law

@@ -72,10 +72,13 @@ IsLookedUpOf = IsLookedUpBy Off
 abbrev pub IsFilterAnswer : Entries → List ℕ → Scheme → List Item → Weighed → Type 0
 IsFilterAnswer cells id scheme items answer = IsFilteredOf (live cells id) scheme items answer
 
+-- what lookup answers of a message: by RFC 4647 section 3.4, or widened under a scheme (project
+-- rule)
 abbrev pub IsLookupAnswerBy : Widening → Entries → List ℕ → List Item → Option (List ℕ) → Reply
     → Type 0
 IsLookupAnswerBy widening cells id items default reply =
     IsLookedUpBy widening (live cells id) items default reply
 
+-- what lookup answers of a message by RFC 4647 section 3.4
 abbrev pub IsLookupAnswer : Entries → List ℕ → List Item → Option (List ℕ) → Reply → Type 0
 IsLookupAnswer = IsLookupAnswerBy Off

@@ -54,11 +54,14 @@ abbrev pub ahead_of : Option (Bor (List ℕ) × Bor (List ℕ) × Bor Cell) → 
 ahead_of None rest = []
 ahead_of (Some e) rest = seen e ∷ rest
 
+-- the entry that was looked at ahead, then those left
 abbrev pub ahead_left : Ahead → Entries
 ahead_left a = ahead_of a.first (cells_left a.rest)
 
+-- the keys left of both, with what each has there
 abbrev pub sides_left : BothSides → Changed
 sides_left s = side_by_side (ahead_left s.before) (ahead_left s.after)
 
+-- those left that differ
 abbrev pub changes_left : Changes → Changed
 changes_left c = differing (sides_left c.sides)

@@ -29,6 +29,7 @@ pair_cmp P Q x y = ordering_then (P x.0 y.0) (Q x.1 y.1)
 abbrev pub key_cmp : EntryKey → EntryKey → Ordering
 key_cmp = pair_cmp text_cmp text_cmp
 
+-- the order of keys is total
 pub key_cmp_total : IsTotalOrder key_cmp
 key_cmp_total =
     then_total (on_total (λ (k : EntryKey). k.0) nat_list_cmp_total)
@@ -66,5 +67,6 @@ Between = BetweenMaps key_cmp (IsEitherOf joined_cells)
 abbrev pub IsBelowCells : Entries → Entries → Type 0
 IsBelowCells = IsBelow Agree joined
 
+-- catalogues keep the laws of the join
 pub catalogue_laws : JoinLaws Agree joined Between
 catalogue_laws = map_laws key_cmp key_cmp_total key_cmp_exact cell_laws

@@ -12,6 +12,7 @@ item_eq =
     (eq_of_both (on (λ x. x.0) (pointwise nat_eq)) (on (λ x. x.1) (pointwise (pointwise nat_eq))))
     (on (λ x. x.2) nat_eq)
 
+-- equality of items is an equivalence
 pub item_equiv : IsEquivalence item_eq
 item_equiv =
     and_equiv
@@ -23,5 +24,6 @@ item_equiv =
 abbrev pub weighed_eq : Weighed → Weighed → Bool
 weighed_eq = pointwise item_eq
 
+-- equality of answers of filters is an equivalence
 pub weighed_equiv : IsEquivalence weighed_eq
 weighed_equiv = lists_equiv item_equiv

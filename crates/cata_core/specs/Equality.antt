@@ -18,6 +18,7 @@ cell_eq = (cell_impl.ghosts).eq
 abbrev pub entry_eq : Entry → Entry → Bool
 entry_eq = eq_of_both (on (λ e. e.0) (eq_by_cmp key_cmp)) (on (λ e. e.1) cell_eq)
 
+-- equality of entries is an equivalence
 pub entry_equiv : IsEquivalence entry_eq
 entry_equiv =
     and_equiv (on_equiv (λ (e : Entry). e.0) (eq_by_cmp_equiv key_cmp_total))
@@ -31,6 +32,7 @@ seen e = ((e.0.now, e.1.now), e.2.now)
 abbrev pub entries_eq : Entries → Entries → Bool
 entries_eq = pointwise entry_eq
 
+-- equality of catalogues is an equivalence
 pub entries_equiv : IsEquivalence entries_eq
 entries_equiv = lists_equiv entry_equiv
 
@@ -38,6 +40,7 @@ entries_equiv = lists_equiv entry_equiv
 abbrev pub site_eq : SiteState → SiteState → Bool
 site_eq = eq_of_both (on (λ s. s.name) (pointwise nat_eq)) (on (λ s. s.cells) entries_eq)
 
+-- equality of sites is an equivalence
 pub site_equiv : IsEquivalence site_eq
 site_equiv =
     and_equiv (on_texts_equal (λ (s : SiteState). s.name))

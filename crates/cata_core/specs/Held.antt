@@ -22,6 +22,7 @@ pub record Held : Type 0 where
   pub told : List ToldStamps
   pub posts : List PostedCells
 
+-- the cells of a post, and to which site they go; none where it was not posted
 abbrev pub cells_delivered : Option PostedCells → Option (ℕ × Entries)
 cells_delivered None = None
 cells_delivered (Some post) = Some (post.addressee, post.cells)
@@ -54,6 +55,7 @@ abbrev pub cells_posted : Held → Step → List PostedCells
 cells_posted w (Post site told) = delta_to (w.of_site site) (slice_get w.told told)
 cells_posted w _ = []
 
+-- what the sites hold, and what was told and posted, after one step more
 abbrev pub held_step : Held → Step → Held
 held_step w step =
     record {
@@ -67,6 +69,7 @@ held_step w step =
 abbrev pub nothing_held : Held
 nothing_held = record { of_site = λ _. []; told = []; posts = [] }
 
+-- the same after some steps more
 abbrev pub held_after : Held → List Step → Held
 held_after w [] = w
 held_after w (step ∷ steps) = held_after (held_step w step) steps

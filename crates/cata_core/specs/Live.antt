@@ -19,6 +19,7 @@ of_message id es = map (λ e. (e.0.1, e.1)) (filter (λ e. is_eq (text_cmp id e.
 abbrev pub labelled : List ℕ × Cell → Option (List ℕ × List (List ℕ))
 labelled e = option_map (λ label. (e.0, label)) e.1.label
 
+-- the languages whose cell has a label, each with it: a deletion is not live
 abbrev pub live_of : List (List ℕ × Cell) → Labelled
 live_of es = filter_map labelled es
 

@@ -16,5 +16,6 @@ with_live e = option_map (λ labels. (e.0, labels)) (if_any (live_of e.1))
 abbrev pub live_messages : Nested → List LiveMessage
 live_messages es = filter_map with_live es
 
+-- the messages with live labels among those left
 abbrev pub messages_left : Messages → List LiveMessage
 messages_left m = live_messages (entries_left m.messages)

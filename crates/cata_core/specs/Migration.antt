@@ -16,6 +16,7 @@ use Rattle.cata_core.specs.Summary.{SummaryState}
 abbrev pub OldEntry : Type 0
 OldEntry = EntryKey × OldCell
 
+-- a catalogue whose stamps name their sites by numbers
 abbrev pub OldEntries : Type 0
 OldEntries = List OldEntry
 
@@ -24,12 +25,15 @@ pub record IsOldMap (es : OldEntries) : Type 0 where
   pub map : IsMap key_cmp es
   pub stamps : (k : EntryKey) (c : OldCell) → find key_cmp k es ≡ Some c → IsOldStamp c.stamp
 
+-- two such catalogues whose cells agree at each common key
 abbrev pub AgreeOld : OldEntries → OldEntries → Type 0
 AgreeOld = AgreeMaps key_cmp AgreeOldCells
 
+-- at each key of either the cell with the greater stamp
 abbrev pub joined_old : OldEntries → OldEntries → OldEntries
 joined_old = joined_maps key_cmp joined_old_cells
 
+-- the same entry with its cell migrated
 abbrev pub migrated_entry : OldEntry → Entry
 migrated_entry e = (e.0, migrated_cell e.1)
 
@@ -41,6 +45,7 @@ migrated_entries es = map migrated_entry es
 abbrev pub OldStamps : Type 0
 OldStamps = List (EntryKey × OldStamp)
 
+-- the same stamps with the padded names of their sites
 abbrev pub migrated_stamps : OldStamps → Stamps
 migrated_stamps stamps = map (λ s. (s.0, migrated_stamp s.1)) stamps
 
@@ -61,11 +66,14 @@ pub record OldSummary : Type 0 where
   pub owner : ℕ
   pub stamps : OldStamps
 
+-- the site with its padded name and its map migrated
 abbrev pub migrated_site : OldSite → SiteState
 migrated_site s = record { name = padded_name s.number; cells = migrated_entries s.cells }
 
+-- the delta, for the site's padded name, with its map migrated
 abbrev pub migrated_delta : OldDelta → Delta
 migrated_delta d = record { addressee = padded_name d.addressee; cells = migrated_entries d.cells }
 
+-- the summary, of the site's padded name, with its stamps migrated
 abbrev pub migrated_summary : OldSummary → SummaryState
 migrated_summary s = record { owner = padded_name s.owner; stamps = migrated_stamps s.stamps }

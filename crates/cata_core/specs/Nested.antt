@@ -32,8 +32,10 @@ pub record IsKept (m : Nested) (len : ℕ) : Type 0 where
 abbrev pub AgreeNested : Nested → Nested → Type 0
 AgreeNested = AgreeMaps text_cmp (AgreeMaps text_cmp AgreeCells)
 
+-- maps of maps, joined: at each message of either the one map of cells, or the two joined
 abbrev pub joined_nested : Nested → Nested → Nested
 joined_nested = joined_maps text_cmp (joined_maps text_cmp joined_cells)
 
+-- a map of maps on the way from the first to its join with the last
 abbrev pub BetweenNested : Nested → Nested → Nested → Type 0
 BetweenNested = BetweenMaps text_cmp (BetweenMaps text_cmp (IsEitherOf joined_cells))

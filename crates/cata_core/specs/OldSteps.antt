@@ -32,5 +32,6 @@ migrated_step (OldTell site) = Tell site
 migrated_step (OldPost site told) = Post site told
 migrated_step (OldDeliver post) = Deliver post
 
+-- all steps migrated, in their order
 abbrev pub migrated_steps : List OldStep → List Step
 migrated_steps steps = map migrated_step steps

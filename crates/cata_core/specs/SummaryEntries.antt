@@ -3,5 +3,6 @@ use Rattle.cata_core.specs.declared.summary_entries.SummaryEntries.{SummaryEntri
 use Rattle.cata_core.specs.Delta.{Stamps}
 use Rattle.cata_core.specs.Summary.{stamps_of}
 
+-- the entries left, each as its key and its stamp
 abbrev pub stamps_left : SummaryEntries → Stamps
 stamps_left s = stamps_of s.entries.now

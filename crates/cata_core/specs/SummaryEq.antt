@@ -14,6 +14,7 @@ abbrev pub summary_entry_eq : EntryKey × Stamp → EntryKey × Stamp → Bool
 summary_entry_eq =
     eq_of_both (on (λ e. e.0) (eq_by_cmp key_cmp)) (on (λ e. e.1) (eq_by_cmp stamp_cmp))
 
+-- equality of a summary's entries is an equivalence
 pub summary_entry_equiv : IsEquivalence summary_entry_eq
 summary_entry_equiv =
     and_equiv (on_equiv (λ (e : EntryKey × Stamp). e.0) (eq_by_cmp_equiv key_cmp_total))
@@ -25,6 +26,7 @@ summary_eq =
     eq_of_both (on (λ s. s.owner) (pointwise nat_eq))
     (on (λ s. s.stamps) (pointwise summary_entry_eq))
 
+-- equality of summaries is an equivalence
 pub summary_equiv : IsEquivalence summary_eq
 summary_equiv =
     and_equiv (on_texts_equal (λ (s : SummaryState). s.owner))

@@ -16,6 +16,7 @@ pub record Taken : Type 0 where
   pub tellers : List ℕ
   pub posts : List PostedEdits
 
+-- the edits of a post, and to which site they go; none where it was not posted
 abbrev pub edits_delivered : Option PostedEdits → Option (ℕ × List Entry)
 edits_delivered None = None
 edits_delivered (Some post) = Some (post.addressee, post.edits)
@@ -47,6 +48,7 @@ abbrev pub edits_posted : Taken → Step → List PostedEdits
 edits_posted w (Post site told) = post_to (w.of_site site) (slice_get w.tellers told)
 edits_posted w _ = []
 
+-- what the sites took, who told and what was posted, after one step more
 abbrev pub taken_step : Taken → Step → Taken
 taken_step w step =
     record {
@@ -60,6 +62,7 @@ taken_step w step =
 abbrev pub nothing_taken : Taken
 nothing_taken = record { of_site = λ _. []; tellers = []; posts = [] }
 
+-- the same after some steps more
 abbrev pub taken_after : Taken → List Step → Taken
 taken_after w [] = w
 taken_after w (step ∷ steps) = taken_after (taken_step w step) steps
@@ -70,6 +73,7 @@ taken steps site = let w = taken_after nothing_taken steps in w.of_site site
 
 -- ---- the edits of a run
 
+-- the edit that a step makes, if it makes one
 abbrev pub edits_by : Step → List Entry
 edits_by (Edit site edit) = edit ∷ []
 edits_by _ = []

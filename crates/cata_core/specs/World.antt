@@ -15,6 +15,7 @@ use Rattle.cata_core.specs.PlayFault.{IsSound}
 abbrev pub at_sites : List Entries → ℕ → Entries
 at_sites catalogues = λ site. slice_index_or catalogues site []
 
+-- what the code keeps of a run, as the definitions have it
 abbrev pub held_in : World → Held
 held_in world =
     record {

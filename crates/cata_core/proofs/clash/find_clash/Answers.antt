@@ -46,6 +46,8 @@ overflow_add-front c =
     (entries_left c.next.new.self) c.loop-id.front c.requires.theirs.outer h c.requires.fits in
     omega (arith, fits, c.len.ensures.len)
 
+-- The cells before those left agree: the other has not this message, or its cells agree there, as
+-- the search within the message said.
 pub loop-id-preserved : goal.loop-id-preserved
 loop-id-preserved c =
     let own = c.args.mine.now in

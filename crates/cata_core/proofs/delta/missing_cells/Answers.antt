@@ -29,6 +29,8 @@ push-requires c =
     ((λ i. is_missing (sym found i) (sym c.stamp.ensures i)) ∙ sym c.is_missing.ensures
     ∙ c.if-not-is_missing.false))
 
+-- The missing ones are those among the cells read: this cell is missing by the summary's stamp at
+-- its key, so it was pushed last.
 pub loop-id-preserved : goal.loop-id-preserved
 loop-id-preserved c =
     let all = c.args.catalogue.now in
@@ -53,6 +55,7 @@ loop-id-preserved c =
     ((λ i. is_missing (sym found i) (sym c.stamp.ensures i)) ∙ sym c.is_missing.ensures
     ∙ c.if-not-is_missing.false))
 
+-- The same where the summary's stamp covers the cell: nothing is added.
 pub loop-id-preserved-then-not-is_missing : goal.loop-id-preserved-then-not-is_missing
 loop-id-preserved-then-not-is_missing c =
     let all = c.args.catalogue.now in

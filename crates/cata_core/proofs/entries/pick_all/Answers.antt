@@ -9,6 +9,8 @@ use Rattle.cata_core.proofs.entries.pick_all.Goals as goal
 use Rattle.cata_core.proofs.entries.pick_all.Goals.{in-Some+in-Some-pick_one+in_ok-push}
 use Rattle.cata_core.proofs.entries.pick_all.Goals.{in-Some+in_default-pick_one, in_default}
 
+-- The items are those of the picks so far: the label at this pick's place was pushed with its
+-- weight, or the pick has no label there and adds nothing.
 pub loop-place-preserved : goal.loop-place-preserved
 loop-place-preserved c =
     let labels = labelled_of c.args.labels.now in

@@ -16,6 +16,7 @@ returns-in-Less c =
     in_front_less c.args.map.now (entries_left c.next.new.self) key c.in-Some.key.now
     c.in-Some.cells.now c.loop-key.total h (sym c.cmp.ensures ∙ c.in-Less.is)
 
+-- The place fits: the cells of the messages so far are all before the end, and cells are countable.
 pub overflow_add-result : goal.overflow_add-result
 overflow_add-result c =
     let key : EntryKey = (c.args.id.now, c.args.lang.now) in

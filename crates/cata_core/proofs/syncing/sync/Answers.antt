@@ -29,6 +29,8 @@ returns-in-Ok-clause-second c =
     ap (joined c.args.second.now.cells) both ∙ joined_to_join a b agree in
     c.in-Ok.ensures.ok ∙ (λ i. record { name = c.args.second.now.name; cells = cells i })
 
+-- Memory ended at the second site: the first has its name and the whole join, which is one of the
+-- states on the way to it.
 pub returns-in-Err-clause-left_first : goal.returns-in-Err-clause-left_first
 returns-in-Err-clause-left_first c =
     let a = c.args.first.now.cells in

@@ -6,6 +6,8 @@ use Rattle.cata_core.specs.LentEntries.{labelled_of}
 use Rattle.cata_core.specs.Asking.{picked, IsFilterAnswer}
 use Rattle.cata_core.proofs.catalogue.Catalogue.ask_filter.Goals as goal
 
+-- The answer is that of the filter over the message's live labels: the languages filtered are
+-- theirs, and each pick was replaced by the label at its place.
 pub returns-in-Ok : goal.returns-in-Ok
 returns-in-Ok c =
     let cells = c.args.self.now in

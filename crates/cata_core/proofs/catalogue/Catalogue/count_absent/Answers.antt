@@ -5,6 +5,7 @@ use Rattle.cata_core.specs.Entries.{Entry, Entries}
 use Rattle.cata_core.proofs.JoinedCountsLemmas.{absent_next}
 use Rattle.cata_core.proofs.catalogue.Catalogue.count_absent.Goals as goal
 
+-- The same where the key is there: it counts nothing.
 pub loop-id-preserved-then-is_some : goal.loop-id-preserved-then-is_some
 loop-id-preserved-then-is_some c =
     let own = c.args.self.now in
@@ -33,6 +34,8 @@ overflow_add-count c =
       c.len-cells.type_inv,
     )
 
+-- The count, with the absent ones among the cells left, is that of all: this key is absent, so it
+-- was counted.
 pub loop-id-preserved : goal.loop-id-preserved
 loop-id-preserved c =
     let own = c.args.self.now in

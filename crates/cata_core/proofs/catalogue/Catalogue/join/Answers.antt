@@ -13,6 +13,8 @@ join-requires c =
     (subst (λ a. Agree a (flat c.map.result.now)) (sym c.self.view_is)
     (subst (Agree c.args.self.now) (sym c.map.ensures.flat) c.requires))
 
+-- The map of maps is joined, so it is a catalogue, whose flat list is the join of both; its length
+-- was found before the join, or the cells are counted anew.
 pub invariant_of-self : goal.invariant_of-self
 invariant_of-self c =
     let all : flat c.join.new.self ≡ joined c.args.self.now c.args.other.now =

@@ -7,6 +7,8 @@ use Rattle.cata_core.proofs.KnownLatestLemmas.{known_joined}
 use Rattle.cata_core.proofs.site.Site.merge_with.Goals as goal
 use Rattle.cata_core.proofs.site.Site.merge_with.Goals.{then-is_ok, else-is_ok}
 
+-- What is known of the latest stamp is true: merged, the cells have the later of both latest
+-- stamps; where the merge was refused nothing is known.
 pub invariant_of-self : goal.invariant_of-self
 invariant_of-self c =
     elim c.if-is_ok.branch as (λ _. IsKnownLatest c.if-is_ok.self c.merge-result.new.self) [

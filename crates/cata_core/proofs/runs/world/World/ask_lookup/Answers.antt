@@ -10,6 +10,8 @@ use Rattle.cata_core.proofs.Basics.{append_nil}
 use Rattle.cata_core.proofs.WorldLemmas.{at_site, named_one}
 use Rattle.cata_core.proofs.runs.world.World.ask_lookup.Goals as goal
 
+-- The step is sound, since the site is there; nothing that is held changes, and the one answer is
+-- the lookup's over what that site holds.
 pub returns-clause-ok : goal.returns-clause-ok
 returns-clause-ok c =
     let w = c.args.self.now in

@@ -11,6 +11,8 @@ use Rattle.cata_core.proofs.WorldLemmas.{addressed}
 use Rattle.cata_core.proofs.WorldLemmas.{both_hold}
 use Rattle.cata_core.proofs.runs.world.World.deliver.Goals as goal
 
+-- The step is sound, since the post is there and its cells agree; the addressee holds the join, all
+-- else is as it was, and nothing is answered.
 pub returns-clause-ok : goal.returns-clause-ok
 returns-clause-ok c =
     let w = c.args.self.now in
@@ -42,6 +44,7 @@ returns-clause-ok c =
     })
     c.take_in.ensures.agree c.take_in.ensures.ok
 
+-- The fault is the step's: the cells of the post clash with those of its addressee, or no memory.
 pub returns-clause-err : goal.returns-clause-err
 returns-clause-err c =
     let w = c.args.self.now in

@@ -6,6 +6,8 @@ use Rattle.cata_core.proofs.Basics.{append_nil}
 use Rattle.cata_core.proofs.WorldLemmas.{merged_self, merged, at_site, named_two}
 use Rattle.cata_core.proofs.runs.world.World.merge.Goals as goal
 
+-- A site that merges itself: its cells agree with themselves and join to themselves, so all is as
+-- it was.
 pub returns-then-into-source-clause-ok : goal.returns-then-into-source-clause-ok
 returns-then-into-source-clause-ok c =
     let w = c.args.self.now in
@@ -30,6 +32,8 @@ returns-then-into-source-clause-ok c =
       addressed = record { few = c.requires.few; told = c.requires.told; posts = c.requires.posts };
     }
 
+-- The step is sound, since both sites are there and agree; the one holds the join with the other's
+-- cells, all else is as it was, and nothing is answered.
 pub returns-clause-ok : goal.returns-clause-ok
 returns-clause-ok c =
     let w = c.args.self.now in

@@ -7,6 +7,8 @@ use Rattle.cata_core.proofs.Basics.{append_nil}
 use Rattle.cata_core.proofs.WorldLemmas.{posted_step, posted_addressed, at_site, named_one}
 use Rattle.cata_core.proofs.runs.world.World.post.Goals as goal
 
+-- The step is sound, since the site and the summary are there; the delta of the site's cells to
+-- that summary is posted to its teller, which is a site, and nothing is answered.
 pub returns-clause-ok : goal.returns-clause-ok
 returns-clause-ok c =
     let w = c.args.self.now in

@@ -8,6 +8,8 @@ use Rattle.cata_core.proofs.Basics.{append_nil}
 use Rattle.cata_core.proofs.WorldLemmas.{told_step, told_addressed, at_site, named_one}
 use Rattle.cata_core.proofs.runs.world.World.tell.Goals as goal
 
+-- The step is sound, since the site is there; its summary is told, by a teller that is a site, and
+-- nothing is answered.
 pub returns-clause-ok : goal.returns-clause-ok
 returns-clause-ok c =
     let w = c.args.self.now in
