@@ -50,6 +50,7 @@ module _ (checks : List Data → Data → List Check) where
   one : (before xs : List Data) (x : Data) → (before ++ x ∷ []) ++ xs ≡ before ++ x ∷ xs
   one before xs x = append_assoc before (x ∷ []) xs
 
+  -- where the first rows pass, and the rest after them, all rows pass
   pub rows-pass : (before xs ys : List Data) → AllPass (rows_checks checks before xs)
       → AllPass (rows_checks checks (before ++ xs) ys)
       → AllPass (rows_checks checks before (xs ++ ys))
@@ -62,6 +63,7 @@ module _ (checks : List Data → Data → List Check) where
       (rows-pass (before ++ x ∷ []) xs ys (AllPass-rest first rest p)
       (subst (λ b. AllPass (rows_checks checks b ys)) (sym (one before xs x)) q))
 
+  -- what fails first among the first rows fails first among all
   pub rows-fail-front : (before xs ys : List Data) (e : DocCause)
       → FirstFails (rows_checks checks before xs) e
       → FirstFails (rows_checks checks before (xs ++ ys)) e
@@ -71,6 +73,7 @@ module _ (checks : List Data → Data → List Check) where
       (rows_checks checks (before ++ x ∷ []) (xs ++ ys)) e
       (rows-fail-front (before ++ x ∷ []) xs ys e) p
 
+  -- where the first rows pass, what fails first among the rest fails first among all
   pub rows-fail-rest : (before xs ys : List Data) (e : DocCause)
       → AllPass (rows_checks checks before xs) → FirstFails (rows_checks checks (before ++ xs) ys) e
       → FirstFails (rows_checks checks before (xs ++ ys)) e

@@ -31,6 +31,7 @@ some_after None f rest each = refl
 some_after (Some d) f rest each = each d
 
 mutual
+  -- a value is data just where all its numbers are in range
   pub is_some-of_json : (j : json.Json) → is_some (of_json j) ≡ are_in_range (json_tokens j)
   is_some-of_json json.null = refl
   is_some-of_json (json.boolean b) = refl

@@ -73,6 +73,7 @@ without_member k j old e None = refl
 without_member k j old e (Some p) = rw e
 
 module _ (p : Parse json.Json) where
+  -- an item that is read comes before those read after it
   pub item_read : (n : ℕ) (ts r : List Token) (d : Data) → 0 < n → after_end_array ts ≡ None
       → converted of_json (p ts) ≡ Some (d, r)
       → converted of_items (items p n ts)
@@ -86,6 +87,7 @@ module _ (p : Parse json.Json) where
   no_item more None e = refl
   no_item more (Some q) e = without_item q.0 (refused q.1 (of_json q.0) e) (more q.1)
 
+  -- where an item is not read, neither are the items
   pub item_refused : (n : ℕ) (ts : List Token) → after_end_array ts ≡ None
       → converted of_json (p ts) ≡ None → converted of_items (items p n ts) ≡ None
   unfolding items
@@ -94,11 +96,13 @@ module _ (p : Parse json.Json) where
       ap (λ o. converted of_items (items_step p (items p n) ts o)) going
       ∙ no_item (items p n) (p ts) e
 
+  -- where the array ends, no item comes
   pub items_over : (n : ℕ) (ts r : List Token) → length ts ≤ n → after_end_array ts ≡ Some r
       → converted of_items (items p n ts) ≡ Some (no_items, r)
   items_over n ts r enough e = ap (converted of_items) (items_end p n ts r enough e)
 
   module _ (old : Members) where
+    -- a member that is read is put to those before it
     pub member_read : (n : ℕ) (k : List ℕ) (ts s r : List Token) (d : Data) → 0 < n
         → read_key ts ≡ Some (Some k, s) → converted of_json (p s) ≡ Some (d, r)
         → converted (λ ms. of_members ms old) (members p n ts)
@@ -115,6 +119,7 @@ module _ (p : Parse json.Json) where
     no_member k more None e = refl
     no_member k more (Some q) e = without_member k q.0 old (refused q.1 (of_json q.0) e) (more q.1)
 
+    -- where a member's value is not read, neither are the members
     pub member_refused : (n : ℕ) (k : List ℕ) (ts s : List Token) → read_key ts ≡ Some (Some k, s)
         → converted of_json (p s) ≡ None
         → converted (λ ms. of_members ms old) (members p n ts) ≡ None
@@ -122,10 +127,12 @@ module _ (p : Parse json.Json) where
     member_refused zero k ts s key e = refl
     member_refused (suc n) k ts s key e = rw key (no_member k (members p n) (p s) e)
 
+    -- where a member's name is not read, neither are the members
     pub key_refused : (n : ℕ) (ts : List Token) → read_key ts ≡ None
         → converted (λ ms. of_members ms old) (members p n ts) ≡ None
     key_refused n ts e = ap (converted (λ ms. of_members ms old)) (members_no_key p n ts e)
 
+    -- where the object ends, the members are those before
     pub members_over : (n : ℕ) (ts r : List Token) → length ts ≤ n → read_key ts ≡ Some (None, r)
         → converted (λ ms. of_members ms old) (members p n ts) ≡ Some (old, r)
     members_over n ts r enough e =

@@ -117,6 +117,7 @@ module _ (text : List ℕ) (ts : List Token) (is : tokens text ≡ begin_object 
       ap (converted of_json) (ap (value 127) is ∙ value-begin_object 127 ts (omega arith))
       ∙ converted-object (json.members (value 126) (length ts) ts)
 
+  -- a text that is an object and nothing else reads as it
   pub object_whole : (ms : Members) → ReadsMembers 126 ts ms [] → read text ≡ Some (object ms)
   object_whole ms found =
       whole_read (value 127 (tokens text)) (object ms) (opened ∙ ap (parse_map object) found)
@@ -131,6 +132,7 @@ module _ (text : List ℕ) (ts : List Token) (is : tokens text ≡ begin_object 
   object_refused none =
       whole_refused (value 127 (tokens text)) (opened ∙ ap (parse_map object) none)
 
+  -- a text that begins as an object, and is none or goes on after it, does not read
   pub not_whole : IsNotWhole ts → read text ≡ None
   not_whole why = elim why [
     | inl none ↦ object_refused none
@@ -138,6 +140,7 @@ module _ (text : List ℕ) (ts : List Token) (is : tokens text ≡ begin_object 
   ]
 
 module _ (text : List ℕ) where
+  -- a text that is one value and nothing else reads as data, where its numbers are in range
   pub value_whole : are_in_range (tokens text) ≡ true → skip_value 127 (tokens text) ≡ Some []
       → (d : Data) × (read text ≡ Some d)
   value_whole range passed = let there = skipped 127 (tokens text) [] range passed in

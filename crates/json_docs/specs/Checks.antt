@@ -15,6 +15,7 @@ pub record Check : Type 1 where
 abbrev pub check : Type 0 → DocCause → Check
 check p cause = record { passes = p; refuses = λ e. (¬ p) × (e ≡ cause) }
 
+-- all tests pass
 abbrev pub AllPass : List Check → Type 0
 AllPass [] = Unit {0}
 AllPass (c ∷ cs) = c.passes × AllPass cs

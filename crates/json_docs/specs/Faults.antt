@@ -21,11 +21,13 @@ use Rattle.json_docs.specs.declared.fault.DocCause.TheVariants.{SiteName, Versio
 use Rattle.json_docs.specs.declared.fault.DocCause.TheVariants.{Site, Step}
 use Rattle.json_docs.specs.declared.fault.DocFault.{DocFault}
 
+-- the number of a refusal of a field is that of the layer which refuses it
 abbrev pub field_number : FieldFault → ℕ
 field_number (Language fault) = lang_number fault
 field_number (Cell fault) = cell_number fault
 field_number (Priorities fault) = nego_number fault
 
+-- the number of each refusal
 abbrev pub number_of : DocCause → ℕ
 number_of (NotUtf8 offset) = 18
 number_of NotJson = 19
@@ -43,6 +45,7 @@ number_of (TimeAhead row) = 29
 number_of (Site fault) = cata_number fault
 number_of (Step fault) = play_number fault
 
+-- the row where a shape is refused; none where that is the document's
 abbrev pub row_of_spot : Spot → Option ℕ
 row_of_spot Document = None
 row_of_spot (Row row) = Some row

@@ -18,5 +18,6 @@ is_token_in_range (boolean b) = true
 is_token_in_range null = true
 is_token_in_range bad = true
 
+-- all numbers of a text's tokens are in range
 abbrev pub are_in_range : List Token → Bool
 are_in_range tokens = list_all is_token_in_range tokens

@@ -23,6 +23,7 @@ seen v = data_of (value_view v)
 abbrev pub Reads : ℕ → List Token → Data → List Token → Type 0
 Reads depth old d new = converted of_json (value depth old) ≡ Some (d, new)
 
+-- all numbers of these values are in range
 abbrev pub AreRead : {A : Type 0} → List (Value A) → Type 0
 AreRead [] = Unit {0}
 AreRead (v ∷ vs) = IsRead (value_view v) × AreRead vs

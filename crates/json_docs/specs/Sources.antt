@@ -32,6 +32,7 @@ abbrev pub is_read_cause : DocCause → Bool
 is_read_cause ReadFault = true
 is_read_cause _ = false
 
+-- what may end a read: too many bytes, a fault of the source, or no memory
 abbrev pub IsCauseOfRead : DocCause → Type 0
 IsCauseOfRead TooLarge = Unit {0}
 IsCauseOfRead ReadFault = Unit {0}

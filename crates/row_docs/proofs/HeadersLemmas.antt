@@ -54,15 +54,19 @@ passes : (a b c d : Bool) (m : Member) → member_by a b c d ≡ m → test_for 
 passes a b c d m is = subst (λ (n : Member). test_for n a b c d ≡ true) is (passed a b c d)
 
 module _ (kind : Kind) (name : List ℕ) where
+  -- the member that is the kind is named so
   pub named_kind : member_of kind name ≡ KindMember → name ≡ codes "kind"
   named_kind is = (bytes_eq-Decides name (codes "kind")).0 (passes _ _ _ _ KindMember is)
 
+  -- the member that is the version is named so
   pub named_version : member_of kind name ≡ Version → name ≡ codes "version"
   named_version is = (bytes_eq-Decides name (codes "version")).0 (passes _ _ _ _ Version is)
 
+  -- the member that names the site has the name of its kind of document
   pub named_subject : member_of kind name ≡ Subject → name ≡ subject_of kind
   named_subject is = (bytes_eq-Decides name (subject_of kind)).0 (passes _ _ _ _ Subject is)
 
+  -- the member that has the rows has the name of its kind of document
   pub named_rows : member_of kind name ≡ Rows → name ≡ rows_of kind
   named_rows is = (bytes_eq-Decides name (rows_of kind)).0 (passes _ _ _ _ Rows is)
 
@@ -114,6 +118,7 @@ module _ {S : Type 0} (kind : Kind) (checks : List Data → Data → List Check)
 
   module _ (header : Header) (old : S) (name : List ℕ) (d : Data) (ms : Members)
       (shown : Shows kind checks Holds header old ms) where
+    -- where the kind was read, the header shows it
     pub Shows-kind : member_of kind name ≡ KindMember
         → Shows kind checks Holds (record header { is_kind = is_text (kind_text kind) (as_str d) })
         old (put name d ms)
@@ -131,6 +136,7 @@ module _ {S : Type 0} (kind : Kind) (checks : List Data → Data → List Check)
           others = others_kept kind name d ms header.has_other (λ e. cc) shown.others;
         }
 
+    -- where the version was read, the header shows it
     pub Shows-version : member_of kind name ≡ Version
         → Shows kind checks Holds (record header { version = u64_in d }) old (put name d ms)
     Shows-version is =
@@ -147,6 +153,7 @@ module _ {S : Type 0} (kind : Kind) (checks : List Data → Data → List Check)
           others = others_kept kind name d ms header.has_other (λ e. cc) shown.others;
         }
 
+    -- where the member that names the site was read, the header shows it
     pub Shows-subject : (subject : SubjectValue) → IsSubject subject d → member_of kind name
         ≡ Subject → Shows kind checks Holds (record header { subject = Some subject }) old
         (put name d ms)
@@ -164,6 +171,7 @@ module _ {S : Type 0} (kind : Kind) (checks : List Data → Data → List Check)
           others = others_kept kind name d ms header.has_other (λ e. cc) shown.others;
         }
 
+    -- where the rows were read, the header shows them
     pub Shows-rows : (new : S) (read : Option (Option DocCause))
         → ShowsRows checks Holds read new (items_in d) → member_of kind name ≡ Rows
         → Shows kind checks Holds (record header { rows = read }) new (put name d ms)
@@ -181,6 +189,7 @@ module _ {S : Type 0} (kind : Kind) (checks : List Data → Data → List Check)
           others = others_kept kind name d ms header.has_other (λ e. cc) shown.others;
         }
 
+    -- where a member of another name was read, the header shows that there is one
     pub Shows-other : member_of kind name ≡ Other
         → Shows kind checks Holds (record header { has_other = true }) old (put name d ms)
     Shows-other is =

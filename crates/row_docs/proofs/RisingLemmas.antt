@@ -39,6 +39,7 @@ module _ {J : Type 0} (entry : Data → Option (EntryKey × J)) where
   AreEntries-push rows es d e are is = map-append entry rows (d ∷ [])
       ∙ (ap₂ (λ xs x. xs ++ x ∷ []) are is ∙ sym (map-append Some es (e ∷ [])))
 
+  -- the last key is that of the row which was added last
   pub last_key-push : (rows : List Data) (d : Data) (e : EntryKey × J) → entry d ≡ Some e
       → last_key entry (rows ++ d ∷ []) ≡ Some e.0
   last_key-push rows d e is =

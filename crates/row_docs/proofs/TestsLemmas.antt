@@ -168,6 +168,7 @@ module _ {S : Type 0} (kind : Kind) (checks : List Data → Data → List Check)
         rows_shown checks Holds rows header.rows _ has.1 shown.rows_part,
       )
 
+  -- where the header passes its tests, so do the members that it shows
   pub has_header : (tested : TestedHeader) → PassesHeader header tested
       → HasHeader kind checks Holds (object ms) tested rows
   has_header tested passes = record {
@@ -181,6 +182,7 @@ module _ {S : Type 0} (kind : Kind) (checks : List Data → Data → List Check)
     taken = rows_held checks Holds rows tested.refusal header.rows _ passes.rows shown.rows_part;
   }
 
+  -- the first test that the header fails is the first that the members fail
   pub header_fails : (e : DocCause) → FailsHeader header e
       → FirstFails (header_checks kind (object ms)) e
   header_fails e fails = elim fails [

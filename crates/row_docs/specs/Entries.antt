@@ -30,8 +30,10 @@ stamped_value t = stamp_value (record {
   count = t.1.count;
 })
 
+-- the rows of a catalogue, in the order of its entries
 abbrev pub cells_values : Entries → List Data
 cells_values cells = map entry_value cells
 
+-- the rows of a summary, in its order
 abbrev pub stamps_values : Stamps → List Data
 stamps_values stamps = map stamped_value stamps

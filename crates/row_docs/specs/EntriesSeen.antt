@@ -4,8 +4,10 @@ use Rattle.cata_core.specs.Entries.{Entry, EntryKey}
 use Rattle.row_docs.specs.declared.fields.CellEntry.{CellEntry}
 use Rattle.row_docs.specs.declared.fields.StampEntry.{StampEntry}
 
+-- the key and the stamp that were made of a row
 abbrev pub stamped_by : StampEntry → EntryKey × Stamp
 stamped_by e = ((e.id, e.lang), e.stamp)
 
+-- the key and the cell that were made of a row
 abbrev pub entry_by : CellEntry → Entry
 entry_by e = ((e.id, e.lang), e.cell)

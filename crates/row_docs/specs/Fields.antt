@@ -27,9 +27,11 @@ use Rattle.row_docs.specs.Values.{Row}
 abbrev pub key_of : Row → EntryKey
 key_of row = (row.id, str_to_ascii_lowercase row.language)
 
+-- the stamp of a row
 abbrev pub stamp_of : Row → Stamp
 stamp_of row = record { time = row.time; site = row.site; count = row.count }
 
+-- the cell of a row with these texts: a deletion where there are none
 abbrev pub cell_of : Row → Option (List (List ℕ)) → HeldCell
 cell_of row texts = record { stamp = stamp_of row; label = texts }
 
@@ -63,15 +65,19 @@ IsLabelRefusal k None e = ⊥
 IsLabelRefusal k (Some texts) e = (fault : CellFault) × RefusesTexts texts fault
     × (e ≡ Field k (Cell fault))
 
+-- the id of row k is a message id, or is refused
 abbrev pub id_check : ℕ → List ℕ → Check
 id_check k id = check (IsMessageId id) (Field k (Cell IdRefused))
 
+-- the text of row k spells a language, or is refused as none
 abbrev pub language_check : ℕ → List ℕ → Check
 language_check k text = record { passes = IsSpelled text; refuses = IsLanguageRefusal k text }
 
+-- the site of row k has a name, or is refused
 abbrev pub site_check : ℕ → List ℕ → Check
 site_check k site = check (IsSiteName site) (Field k (Cell SiteName))
 
+-- the texts of row k are a label or a deletion, or are refused
 abbrev pub label_check : ℕ → Option (List (List ℕ)) → Check
 label_check k texts = record { passes = IsLabelText texts; refuses = IsLabelRefusal k texts }
 
@@ -88,6 +94,7 @@ abbrev pub IsAfter : Option EntryKey → EntryKey → Type 0
 IsAfter None key = Unit {0}
 IsAfter (Some last) key = key_cmp last key ≡ Less
 
+-- the key of row k is greater than the last one, or is refused (21)
 abbrev pub order_check : ℕ → Option EntryKey → EntryKey → Check
 order_check k last key = check (IsAfter last key) (CellOrder k)
 

@@ -15,6 +15,7 @@ use Rattle.row_docs.specs.declared.header.Subject.{Subject}
 use Rattle.row_docs.specs.declared.kind.Kind.{Kind}
 use Rattle.row_docs.specs.declared.kind.Member.TheVariants.{Other}
 
+-- whether the text found is this one; where none was found it is not
 abbrev pub is_text : List ℕ → Option (List ℕ) → Bool
 is_text text None = false
 is_text text (Some found) = bytes_eq found text

@@ -7,12 +7,15 @@ use Rattle.row_docs.specs.declared.header.Header.{Header}
 use Rattle.row_docs.specs.declared.tested_header.TestedHeader.{TestedHeader}
 use Rattle.json_docs.specs.declared.fault.Spot.TheVariants as spot
 
+-- the kind is right, and the version is an unsigned whole number
 abbrev pub Starts : Header → Type 0
 Starts header = (header.is_kind ≡ true) × (is_some header.version ≡ true)
 
+-- the version is 1 or 2
 abbrev pub HasKnownVersion : Header → Type 0
 HasKnownVersion header = (header.version ≡ Some 1) ⊎ (header.version ≡ Some 2)
 
+-- the member that names the site is there, the rows are there in an array, and nothing else is
 abbrev pub IsWhole : Header → Type 0
 IsWhole header = (header.has_other ≡ false) × (is_some header.subject ≡ true)
     × (is_some header.rows ≡ true)

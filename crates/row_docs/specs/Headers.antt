@@ -18,9 +18,11 @@ use Rattle.json_docs.specs.declared.fault.Spot.TheVariants as spot
 
 -- ---- parts of a document
 
+-- the kind that a document says, where it is a text
 abbrev pub kind_in : Data → Option (List ℕ)
 kind_in d = option_and_then as_str (get (codes "kind") d)
 
+-- the version that a document says, where it is an unsigned whole number
 abbrev pub version_in : Data → Option ℕ
 version_in d = option_and_then u64_in (get (codes "version") d)
 
@@ -29,6 +31,7 @@ abbrev pub version_by : Option ℕ → Version
 version_by None = Two
 version_by (Some n) = if n == 1 then One else Two
 
+-- the version by which a document is read
 abbrev pub version_of : Data → Version
 version_of d = version_by (version_in d)
 
@@ -36,6 +39,7 @@ version_of d = version_by (version_in d)
 abbrev pub subject_data : Kind → Data → Data
 subject_data kind d = unwrap_or (get (subject_of kind) d) null
 
+-- the rows of a document; none where they are in no array
 abbrev pub rows_in : Kind → Data → List Data
 rows_in kind d = unwrap_or (option_and_then items_in (get (rows_of kind) d)) []
 
@@ -52,6 +56,7 @@ IsSubject Other d = (as_str d ≡ None) × (u64_in d ≡ None)
 abbrev pub Begins : Kind → Data → Type 0
 Begins kind d = (kind_in d ≡ Some (kind_text kind)) × (is_some (version_in d) ≡ true)
 
+-- the version is 1 or 2
 abbrev pub IsKnownVersion : Data → Type 0
 IsKnownVersion d = (version_in d ≡ Some 1) ⊎ (version_in d ≡ Some 2)
 
@@ -64,6 +69,7 @@ abbrev pub HasMembers : Kind → Data → Type 0
 HasMembers kind d = HasJust (names_of kind) d
     × (is_some (option_and_then items_in (get (rows_of kind) d)) ≡ true)
 
+-- the tests before the rows: how it begins, a known version, its members
 abbrev pub header_checks : Kind → Data → List Check
 header_checks kind d =
     check (Begins kind d) (Shape spot.Document)

@@ -8,6 +8,7 @@ use Rattle.row_docs.specs.declared.kind.Member.{Member}
 use Rattle.row_docs.specs.declared.kind.Member.TheVariants.{Kind as KindMember, Version}
 use Rattle.row_docs.specs.declared.kind.Member.TheVariants.{Subject, Rows, Other}
 
+-- what the member "kind" says
 abbrev pub kind_text : Kind → List ℕ
 kind_text Site = codes "site"
 kind_text Delta = codes "delta"
@@ -32,6 +33,7 @@ rows_of Script = codes "steps"
 abbrev pub names_of : Kind → List (List ℕ)
 names_of kind = codes "kind" ∷ codes "version" ∷ subject_of kind ∷ rows_of kind ∷ []
 
+-- whether a name is one of these
 abbrev pub is_among : List ℕ → List (List ℕ) → Bool
 is_among name names = list_any (λ known. bytes_eq name known) names
 
@@ -42,6 +44,7 @@ member_by is_kind is_version is_subject is_rows =
     (if is_version then Version else
     (if is_subject then Subject else (if is_rows then Rows else Other)))
 
+-- which member of a document of this kind has the name
 abbrev pub member_of : Kind → List ℕ → Member
 member_of kind name =
     member_by (bytes_eq name (codes "kind")) (bytes_eq name (codes "version"))

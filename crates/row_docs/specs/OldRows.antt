@@ -29,6 +29,7 @@ old_parts_in i l t s c = do
   site ← u32_in s
   option_map (λ count. old_stamped id language time site count) (u32_in c)
 
+-- the entry of a row's parts, `[id, language, time, site, count, label]`, with the site's number
 abbrev pub old_entry_of : List Data → Option OldEntry
 old_entry_of (i ∷ l ∷ t ∷ s ∷ c ∷ b ∷ []) = do
   parts ← old_parts_in i l t s c
@@ -39,6 +40,7 @@ old_entry_of _ = None
 abbrev pub old_entry_in : Data → Option OldEntry
 old_entry_in d = option_and_then old_entry_of (items_in d)
 
+-- the key and the stamp of a row's parts, `[id, language, time, site, count]`
 abbrev pub old_stamped_of : List Data → Option (EntryKey × OldStamp)
 old_stamped_of (i ∷ l ∷ t ∷ s ∷ c ∷ []) = old_parts_in i l t s c
 old_stamped_of _ = None

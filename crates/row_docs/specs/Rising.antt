@@ -36,9 +36,11 @@ AreEntries entry rows entries = map entry rows ≡ map Some entries
 abbrev pub no_row : Row
 no_row = record { id = []; language = []; time = 0; site = []; count = 0 }
 
+-- the parts of a row of a site or a delta, with its label; the empty row where the shape is another
 abbrev pub cell_row : Version → Data → Row × Option (List (List ℕ))
 cell_row version d = unwrap_or (cell_in version d) (no_row, None)
 
+-- the parts of a row of a summary; the empty row where the shape is another
 abbrev pub stamp_row : Version → Data → Row
 stamp_row version d = unwrap_or (stamp_in version d) no_row
 

@@ -25,6 +25,7 @@ label_in (string s) = None
 label_in (array ds) = option_map Some (texts_in (list_of ds))
 label_in (object ms) = None
 
+-- the five parts with which each row begins, where each has its shape
 abbrev pub parts_in : Version → Data → Data → Data → Data → Data → Option Row
 parts_in version i l t s c =
     option_and_then (λ id. option_and_then (λ language. option_and_then (λ time. option_and_then
@@ -34,6 +35,7 @@ parts_in version i l t s c =
 
 -- ---- rows: the language is as it is written
 
+-- the row of these parts, `[id, language, time, site, count]`
 abbrev pub stamp_of : Version → List Data → Option Row
 stamp_of version (i ∷ l ∷ t ∷ s ∷ c ∷ []) = parts_in version i l t s c
 stamp_of version _ = None
@@ -42,6 +44,7 @@ stamp_of version _ = None
 abbrev pub stamp_in : Version → Data → Option Row
 stamp_in version d = option_and_then (stamp_of version) (items_in d)
 
+-- the row of these parts, `[id, language, time, site, count, label]`, with its label
 abbrev pub cell_of : Version → List Data → Option (Row × Option (List (List ℕ)))
 cell_of version (i ∷ l ∷ t ∷ s ∷ c ∷ b ∷ []) =
     option_and_then (λ row. option_map (λ label. (row, label)) (label_in b))

@@ -12,10 +12,12 @@ use Rattle.row_docs.specs.declared.shapes.Row.{Row}
 use Rattle.row_docs.specs.declared.shapes.SiteText.{SiteText}
 use Rattle.row_docs.specs.declared.shapes.SiteText.TheVariants.{Number, Name}
 
+-- the site's name; of a number its padded name, as in version 1
 abbrev pub site_of : SiteText → List ℕ
 site_of (Number n) = padded_name n
 site_of (Name text) = text.now
 
+-- the row with the bytes of its texts
 abbrev pub row_of : Row → Plain
 row_of row = record {
   id = row.id.now;
@@ -29,6 +31,7 @@ row_of row = record {
 abbrev pub texts_of : {A : Type 0} → List (Value A) → List (List ℕ)
 texts_of values = unwrap_or (texts_in (map seen values)) []
 
+-- the same with the texts of its label; none in a deletion
 abbrev pub cell_of : CellRow → Plain × Option (List (List ℕ))
 cell_of cell = (row_of cell.row, option_map (λ values. texts_of values.now) cell.texts)
 
@@ -36,6 +39,7 @@ cell_of cell = (row_of cell.row, option_map (λ values. texts_of values.now) cel
 abbrev pub AreTexts : {A : Type 0} → List (Value A) → Type 0
 AreTexts values = is_some (texts_in (map seen values)) ≡ true
 
+-- they are texts where the row has a label
 abbrev pub AreTextsOf : {A : Type 0} → Option (Bor (List (Value A))) → Type 0
 AreTextsOf None = Unit {0}
 AreTextsOf (Some values) = AreTexts values.now

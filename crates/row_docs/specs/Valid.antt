@@ -10,6 +10,7 @@ use Rattle.cata_core.specs.Delta.{Stamps}
 use Rattle.cata_core.specs.Entries.{Entries, Entry, EntryKey, key_cmp}
 use Rattle.row_docs.specs.Fields.{IsLabelText}
 
+-- the id, the language and the site's name are some, and time and count fit 64 and 32 bits
 pub record IsKept (key : EntryKey) (stamp : Stamp) : Type 0 where
   pub id : IsMessageId key.0
   pub lang : IsLang key.1
@@ -17,16 +18,20 @@ pub record IsKept (key : EntryKey) (stamp : Stamp) : Type 0 where
   pub site : IsSiteName stamp.site
   pub count : stamp.count < 2 ^ 32
 
+-- such an entry, whose texts are a label or a deletion
 abbrev pub IsKeptCell : Entry → Type 0
 IsKeptCell e = IsKept e.0 e.1.stamp × IsLabelText e.1.label
 
+-- such a key with its stamp
 abbrev pub IsKeptStamp : EntryKey × Stamp → Type 0
 IsKeptStamp t = IsKept t.0 t.1
 
+-- such entries, whose keys rise
 pub record AreKeptCells (cells : Entries) : Type 0 where
   pub each : All IsKeptCell cells
   pub map : IsMap key_cmp cells
 
+-- such keys with stamps, which rise
 pub record AreKeptStamps (stamps : Stamps) : Type 0 where
   pub each : All IsKeptStamp stamps
   pub map : IsMap key_cmp stamps

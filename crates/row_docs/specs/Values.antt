@@ -11,6 +11,7 @@ pub record Row : Type 0 where
   pub site : List ℕ
   pub count : ℕ
 
+-- a label is an array of its texts
 abbrev pub texts_value : List (List ℕ) → Data
 texts_value texts = array (items_of (map string texts))
 

@@ -4,6 +4,7 @@ use Rattle.json.specs.Token.{Token, number, string}
 use Rattle.row_docs.specs.Values.{Row}
 use Rattle.row_docs.specs.declared.writing.WrittenRow.{WrittenRow}
 
+-- the row with the bytes of its texts
 abbrev pub row_of : WrittenRow → Row
 row_of row = record {
   id = row.id.now;
@@ -13,6 +14,7 @@ row_of row = record {
   count = row.count;
 }
 
+-- the bytes of each text
 abbrev pub texts_of : {A : Type 0} → List (String A) → List (List ℕ)
 texts_of texts = map string_bytes texts
 

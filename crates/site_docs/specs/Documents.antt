@@ -7,11 +7,14 @@ use Rattle.row_docs.specs.Entries.{cells_values, stamps_values}
 use Rattle.row_docs.specs.Texts.{text}
 use Rattle.site_docs.specs.Values.{delta_value, site_value, summary_value}
 
+-- the document of a site, as it is written
 abbrev pub site_text : SiteState → List ℕ
 site_text site = text (site_value site.name (cells_values site.cells))
 
+-- the document of a delta, as it is written
 abbrev pub delta_text : Delta → List ℕ
 delta_text delta = text (delta_value delta.addressee (cells_values delta.cells))
 
+-- the document of a summary, as it is written
 abbrev pub summary_text : SummaryState → List ℕ
 summary_text summary = text (summary_value summary.owner (stamps_values summary.stamps))

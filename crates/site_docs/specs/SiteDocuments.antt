@@ -33,25 +33,31 @@ document_checks kind checks d =
     ++ (subject_checks (version_of d) (subject_data kind d)
     ++ rows_checks (checks (version_of d)) [] (rows_in kind d))
 
+-- all tests of a site's document
 abbrev pub site_checks : Data → List Check
 site_checks d = document_checks Site cell_checks d
 
+-- all tests of a delta's document
 abbrev pub delta_checks : Data → List Check
 delta_checks d = document_checks Delta cell_checks d
 
+-- all tests of a summary's document
 abbrev pub summary_checks : Data → List Check
 summary_checks d = document_checks Summary stamp_checks d
 
 -- ---- what a document reads as
 
+-- the data name this site, and their rows are its entries
 pub record IsSiteDocument (d : Data) (site : SiteState) : Type 0 where
   pub name : named_in Site d ≡ Some site.name
   pub cells : AreEntries (entry_in (version_of d)) (rows_in Site d) site.cells
 
+-- the data name the site that the delta is for, and their rows are its entries
 pub record IsDeltaDocument (d : Data) (delta : DeltaState) : Type 0 where
   pub addressee : named_in Delta d ≡ Some delta.addressee
   pub cells : AreEntries (entry_in (version_of d)) (rows_in Delta d) delta.cells
 
+-- the data name the site whose summary it is, and their rows are its keys and stamps
 pub record IsSummaryDocument (d : Data) (summary : SummaryState) : Type 0 where
   pub owner : named_in Summary d ≡ Some summary.owner
   pub stamps : AreEntries (stamped_in (version_of d)) (rows_in Summary d) summary.stamps

@@ -20,6 +20,8 @@ loop-alloc-init g c = (
   refl,
 )
 
+-- The items so far, and then those left, are the array's, and their rows are taken or refused: the
+-- next item comes after them, and its row after theirs. Each takes a token at least.
 pub loop-alloc-preserved : goal.loop-alloc-preserved
 loop-alloc-preserved g c =
     let inv = c.loop-alloc.invariant in

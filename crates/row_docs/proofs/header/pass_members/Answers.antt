@@ -37,6 +37,8 @@ returns-in-Err-clause-read c =
           (not_skipped 125 s c.in-Err.ensures.value),
     )
 
+-- The members so far, and then those left, are the object's: the next name and the value skipped
+-- are one member more. Each takes a token at least.
 pub loop-reader-preserved : goal.loop-reader-preserved
 loop-reader-preserved c =
     let inv = c.loop-reader.invariant in

@@ -40,6 +40,7 @@ returns-then-not-is_scalar g c =
           c.in_default-token.not-BeginObject (sym c.if-not-is_scalar.ensures)),
     )
 
+-- An array was read: its items are the rows, which were taken or refused as they came.
 pub returns-in_ok-refusal-in-BeginArray : goal.returns-in_ok-refusal-in-BeginArray
 returns-in_ok-refusal-in-BeginArray g c =
     let ts = c.next.new.self in
@@ -58,6 +59,7 @@ returns-in_ok-refusal-in-BeginArray g c =
       (Some c.in_ok-refusal-in-BeginArray.refusal, (list_of ds, refl, e.read.2), refl),
     )
 
+-- An object was passed: it is data with no rows, as its member shows.
 pub returns-in_ok-pass_members-in-BeginObject : goal.returns-in_ok-pass_members-in-BeginObject
 returns-in_ok-pass_members-in-BeginObject g c =
     let ts = c.next.new.self in

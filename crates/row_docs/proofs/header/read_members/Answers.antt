@@ -40,6 +40,8 @@ returns-in_err-header g c =
     ∙ member_refused (value 126) inv.1 inv.0 name c.loop-name.reader s named none)
     c.in_err-header.ensures)
 
+-- The header shows the members so far: the next one, which may be any, was read and is shown too.
+-- Each takes a token at least.
 pub loop-name-preserved : goal.loop-name-preserved
 loop-name-preserved g c =
     let inv = c.loop-name.invariant in

@@ -4,6 +4,8 @@ use Rattle.json_docs.proofs.MembersLemmas.{both_weaker}
 use Rattle.row_docs.proofs.TestsLemmas.{has_header, header_fails}
 use Rattle.row_docs.proofs.tested_header.read_as.Goals as goal
 
+-- The text is an object, whose members the header shows: where the header passes they pass, and
+-- where it fails they fail the same test first.
 pub returns-in-Some : goal.returns-in-Some
 returns-in-Some g c =
     let e = rw c.in-Some.is at c.in_ok-header.ensures in

@@ -15,8 +15,8 @@ use Rattle.cata_core.proofs.catalogue.Catalogue.join_cell.Goals as goal
 use Rattle.cata_core.proofs.catalogue.Catalogue.join_cell.Goals.{then-is_new, in-Some, in-None}
 use Rattle.cata_core.proofs.catalogue.Catalogue.join_cell.Goals.{else-is_new}
 
--- The cell is in its message's map, so this is a catalogue; a new key makes one cell more, which was
--- found before, or the cells are counted anew.
+-- The cell is in its message's map, so this is a catalogue; a new key makes one cell more, which
+-- was found before, or the cells are counted anew.
 pub invariant_of-self : goal.invariant_of-self
 invariant_of-self c =
     let m = c.self.inside.map in

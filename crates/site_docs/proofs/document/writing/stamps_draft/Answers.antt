@@ -8,6 +8,8 @@ use Rattle.site_docs.proofs.document.writing.stamps_draft.Goals as goal
 use Rattle.site_docs.proofs.document.writing.stamps_draft.Goals.{in-Some+in_ok-write_stamped}
 use Rattle.site_docs.proofs.document.writing.stamps_draft.Goals.{in_default}
 
+-- The draft holds the rows of the stamps so far, which are all kept: the one at this place, which
+-- is there, was written after them.
 pub loop-place-preserved : goal.loop-place-preserved
 loop-place-preserved c =
     let stamps = c.args.summary.now.stamps in

@@ -12,6 +12,8 @@ give_cell-requires-clause-holds g c =
     let key = key_in c.in-Ok.spelled.front in
     (c.args.taker.now, [], c.requires, All-nil (λ (e : Entry). key_cmp e.0 key ≡ Less))
 
+-- The text begins with the row of an entry, which the taker took as its first: the parts in front
+-- and the label that was given are that row.
 pub returns : goal.returns
 returns g c =
     let spelled = c.in-Ok in

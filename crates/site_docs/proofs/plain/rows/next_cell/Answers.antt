@@ -9,6 +9,8 @@ give_cell-requires-clause-holds g c =
     let req = c.requires.holds in
     (req.0, req.1, req.2, req.3 (key_in c.follow.new.self.front) c.in-Ok.ensures.key)
 
+-- The text begins with the row of an entry, whose key is above the last one, and which the taker
+-- took after those before: the parts in front and the label that was given are that row.
 pub returns : goal.returns
 returns g c =
     let front = c.follow.new.self.front in

@@ -3,6 +3,8 @@ use Rattle.row_docs.specs.Values.{Row}
 use Rattle.site_docs.proofs.PlainLemmas.{front_taken}
 use Rattle.site_docs.proofs.plain.rows.next_front.Goals as goal
 
+-- The text is what a row has before its label: each part was taken with the bytes around it, just
+-- as they are written.
 pub returns : goal.returns
 returns c =
     let row : Row = record {

@@ -7,6 +7,8 @@ use Rattle.row_docs.specs.Entries.{stamps_values}
 use Rattle.site_docs.proofs.PlainReads.{summarised}
 use Rattle.site_docs.proofs.plain.summaries.written_summary.Goals as goal
 
+-- The text is the summary of a site that the bytes read as: the rows taken are that site's, and the
+-- owner that was written first is its name.
 pub returns-in-Ok-close_summary : goal.returns-in-Ok-close_summary
 returns-in-Ok-close_summary c =
     let name : List ℕ = c.in_ok-name.name in
