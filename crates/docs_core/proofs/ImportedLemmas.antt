@@ -16,11 +16,13 @@ use Rattle.docs_core.specs.Made.{with_change}
 module _ (now : ℕ) (name : List ℕ) (e : Labelled) (es : List Labelled) (old mid : Entries)
     (stamp : Stamp) (next : IsNext (latest_of old) now name stamp)
     (is : mid ≡ with_change (e.0, Some e.1) stamp old) where
+  -- the others put after a label that was put are all put
   pub Imports-next : (new : Entries) → Imports now name es mid new
       → Imports now name (e ∷ es) old new
   Imports-next new rest =
       (stamp, next, subst (λ (cells : Entries). Imports now name es cells new) is rest)
 
+  -- where the clock is spent among the others, it is among all
   pub SpendsImport-next : SpendsImport now name es mid → SpendsImport now name (e ∷ es) old
   SpendsImport-next rest =
       inr (stamp, next, subst (λ (cells : Entries). SpendsImport now name es cells) is rest)

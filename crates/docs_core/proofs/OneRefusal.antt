@@ -240,6 +240,7 @@ module _ (checks : Data → List Check) (tests : (d : Data) → AreTests (checks
     | inr none ↦ let found = json.1 in let lost = none.1 in cc
   ]
 
+  -- bytes that read as something are not refused
   pub read_not_refused : {X : Type 0} (Is : Data → X → Type 0) (bytes : List ℕ) (x : X)
       (e : DocCause) → Reads checks Is bytes x → IsRefusal checks bytes e → ⊥
   read_not_refused Is bytes x e reads why = elim why [
@@ -255,6 +256,7 @@ module _ (checks : Data → List Check) (tests : (d : Data) → AreTests (checks
     | inr h ↦ elim q [ inl k ↦ absurd (k.0 h.0) | inr k ↦ h.2 ∙ sym k.2 ]
   ]
 
+  -- refused bytes have one cause
   pub one_cause : (bytes : List ℕ) (e f : DocCause) → IsRefusal checks bytes e
       → IsRefusal checks bytes f → e ≡ f
   one_cause bytes e f p q = elim p [

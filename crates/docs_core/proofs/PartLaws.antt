@@ -147,6 +147,7 @@ module _ (widening : Widening) (cells : Entries) (items : List Item) (default : 
         (filter_in (λ (x : Labelled). messages x.0.0) labels e (in_from_Contains labels e there)
         inside)
 
+    -- the bundle of a part of the messages is that part of the bundle
     pub bundle_of_part : (messages : List ℕ → Bool) (labels : List Labelled)
         → IsBundleBy widening cells items default labels
         → IsBundleBy widening (part_of messages cells) items default (part_of messages labels)

@@ -75,6 +75,7 @@ head_absent k list m above = record {
 -- ---- the first of two lists
 
 module _ (r : Revised) (was is : EntryKey) (olds news : List Labelled) where
+  -- where the old list's first key is the lesser, it is removed
   pub first_removed : (texts more : List (List ℕ)) → key_of r ≡ was → old_of r ≡ Some texts
       → new_of r ≡ None → key_cmp was is ≡ Less → IsMap key_cmp ((was, texts) ∷ olds)
       → IsMap key_cmp ((is, more) ∷ news)
@@ -89,6 +90,7 @@ module _ (r : Revised) (was is : EntryKey) (olds news : List Labelled) where
         new_head = rw (key, new) (head_absent was ((is, more) ∷ news) n above);
       }
 
+  -- where the new list's first key is the lesser, it is added
   pub first_added : (texts more : List (List ℕ)) → key_of r ≡ is → old_of r ≡ None
       → new_of r ≡ Some more → key_cmp was is ≡ Greater → IsMap key_cmp ((was, texts) ∷ olds)
       → IsMap key_cmp ((is, more) ∷ news)
@@ -105,6 +107,7 @@ module _ (r : Revised) (was is : EntryKey) (olds news : List Labelled) where
         new_head = rw (key, new) (head_there is more news n);
       }
 
+  -- where both first keys are equal, both lists have it
   pub first_kept : (texts more : List (List ℕ)) → key_of r ≡ was → old_of r ≡ Some texts
       → new_of r ≡ Some more → key_cmp was is ≡ Equal → IsMap key_cmp ((was, texts) ∷ olds)
       → IsMap key_cmp ((is, more) ∷ news)
@@ -398,6 +401,7 @@ there_are_changes old new cells = (
 
 module _ (now : ℕ) (name : List ℕ) (r : Revised) (old new old_rest new_rest : List Labelled)
     (first : IsFirstRevised r old new old_rest new_rest) (cells mid : Entries) where
+  -- with the first key done, and then the rest, all is done
   pub Updates-next : IsRevised now name r cells mid → (final : Entries)
       → Updates now name old_rest new_rest mid final → Updates now name old new cells final
   Updates-next done final (changes, are, makes) = elim done [
@@ -417,6 +421,7 @@ module _ (now : ℕ) (name : List ℕ) (r : Revised) (old new old_rest new_rest 
     )
   ]
 
+  -- where the clock is spent in the rest, it is in all
   pub SpendsUpdate-next : IsRevised now name r cells mid
       → SpendsUpdate now name old_rest new_rest mid → SpendsUpdate now name old new cells
   SpendsUpdate-next done (changes, are, spends) = elim done [

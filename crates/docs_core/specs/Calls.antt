@@ -38,6 +38,7 @@ IsEdited bytes now key label text =
       cells = put key_cmp key (record { stamp = stamp; label = label }) site.cells;
     }) text
 
+-- the document is refused, or the edit of its site
 abbrev pub RefusesEditing : List ℕ → ℕ → DocFault → Type 0
 RefusesEditing bytes now fault =
     IsOfDocument 1 (RefusesSite bytes) fault
@@ -53,6 +54,7 @@ AreSynced a b x y =
     × IsSiteText (record { name = first.name; cells = joined first.cells second.cells }) x
     × IsSiteText (record { name = second.name; cells = joined first.cells second.cells }) y
 
+-- the first document is refused, then the second, then the join of their sites
 abbrev pub RefusesSync : List ℕ → List ℕ → DocFault → Type 0
 RefusesSync a b fault =
     IsOfDocument 1 (RefusesSite a) fault
@@ -62,6 +64,7 @@ RefusesSync a b fault =
 
 -- ---- summaries and deltas
 
+-- the summary of the site that the bytes are a document of
 abbrev pub IsSummarised : List ℕ → List ℕ → Type 0
 IsSummarised bytes text =
     (site : SiteState) × ReadsAsSite bytes site
@@ -74,6 +77,7 @@ IsDeltaFor a b text =
     × IsDeltaText (record { addressee = summary.owner; cells = delta_of site.cells summary.stamps })
     text
 
+-- the site's document is refused, then the summary's
 abbrev pub RefusesDeltaFor : List ℕ → List ℕ → DocFault → Type 0
 RefusesDeltaFor a b fault =
     IsOfDocument 1 (RefusesSite a) fault
@@ -86,6 +90,7 @@ IsTaken a b text =
     × (site.name ≡ delta.addressee) × Agree site.cells delta.cells
     × IsSiteText (record { name = site.name; cells = joined site.cells delta.cells }) text
 
+-- the site's document is refused, then the delta's, then the taking of it
 abbrev pub RefusesTaking : List ℕ → List ℕ → DocFault → Type 0
 RefusesTaking a b fault =
     IsOfDocument 1 (RefusesSite a) fault

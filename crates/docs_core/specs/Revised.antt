@@ -13,12 +13,15 @@ use Rattle.docs_core.specs.Made.{with_change}
 use Rattle.docs_core.specs.Updated.{IsChangeAt, Texts}
 use Rattle.docs_core.specs.declared.call.updating.Revised.{Revised}
 
+-- the key: a message and a language
 abbrev pub key_of : Revised → EntryKey
 key_of r = (r.key.now.id, r.key.now.lang)
 
+-- the texts at the key before, or none
 abbrev pub old_of : Revised → Texts
 old_of r = option_map (λ l. l.now) r.old
 
+-- the texts at the key after, or none
 abbrev pub new_of : Revised → Texts
 new_of r = option_map (λ l. l.now) r.new
 

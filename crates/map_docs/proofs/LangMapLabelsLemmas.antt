@@ -487,6 +487,7 @@ module _ (found : Found) (k : ℕ) (text key lang : List ℕ) (same : text ≡ k
   tested b is before holds =
       sym (found_is_repeated before found key lang holds (lower_of text key lang same spells)) ∙ is
 
+  -- a key whose language was found before is refused as a repeated one
   pub repeated_fails : (strings : Strings) → is_some (lookup (is_at (text_cmp lang)) found) ≡ true
       → IsKeyRefusal found k key strings (RepeatedTag k)
   repeated_fails strings is =
@@ -498,6 +499,7 @@ module _ (found : Found) (k : ℕ) (text key lang : List ℕ) (same : text ≡ k
       ))
 
   module _ (absent : is_some (lookup (is_at (text_cmp lang)) found) ≡ false) where
+    -- a new key whose value has not the shape of a label is refused for that
     pub shape_fails : (strings : Strings) → strings ≡ None
         → IsKeyRefusal found k key strings (Shape (Row k))
     shape_fails strings none =
@@ -511,6 +513,7 @@ module _ (found : Found) (k : ℕ) (text key lang : List ℕ) (same : text ≡ k
           ),
         ))
 
+    -- a new key whose strings are no label is refused for that
     pub label_fails : (texts : List (List ℕ)) (strings : Strings) (e : DocCause)
         → strings ≡ Some texts → (e ≡ NoMemory) ⊎ IsStringsRefusal k texts e
         → IsKeyRefusal found k key strings e
@@ -532,6 +535,7 @@ module _ (found : Found) (k : ℕ) (text key lang : List ℕ) (same : text ≡ k
           ))
     ]
 
+    -- a new key whose strings are a label or none passes its tests
     pub key_passes : (texts : List (List ℕ)) (strings : Strings) → strings ≡ Some texts
         → IsLabelOrNone texts → (before : Keys) → HoldsKeys before found
         → AllPass (key_checks k (names before) key strings)

@@ -28,6 +28,7 @@ abbrev pub IsStringsRefusal : ℕ → List (List ℕ) → DocCause → Type 0
 IsStringsRefusal k [] e = ⊥
 IsStringsRefusal k (t ∷ ts) e = IsLabelRefusal k (Some (t ∷ ts)) e
 
+-- the strings of row k are a label or none, or are refused
 abbrev pub strings_check : ℕ → List (List ℕ) → Check
 strings_check k strings = record {
   passes = IsLabelOrNone strings;
@@ -43,6 +44,7 @@ key_checks k before key strings =
     ∷ strings_check k (unwrap_or strings [])
     ∷ []
 
+-- the tests of the keys of row k from here on, each after the keys before it
 abbrev pub keys_checks : ℕ → List (List ℕ) → Keys → List Check
 keys_checks k before [] = []
 keys_checks k before (m ∷ ms) = key_checks k before m.0 m.1 ++ keys_checks k (before ++ m.0 ∷ []) ms
@@ -73,6 +75,7 @@ abbrev pub members_checks : ℕ → Rows → List Check
 members_checks k [] = []
 members_checks k (r ∷ rs) = member_checks k r ++ members_checks (k + 1) rs
 
+-- all tests of the document: an object, whose members each pass theirs
 abbrev pub langmaps_checks : Data → List Check
 langmaps_checks d =
     check (is_some (message_rows_in d) ≡ true) (Shape Document)

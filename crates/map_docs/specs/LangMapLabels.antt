@@ -44,5 +44,6 @@ abbrev pub AreLangMaps : List ℕ → List Labelled → Type 0
 AreLangMaps bytes labels =
     (d : Data) × AreJson bytes d × AllPass (langmaps_checks d) × ReadsAsLangMaps d labels
 
+-- the bytes are refused as language maps, by the first test that fails
 abbrev pub RefusesLangMaps : List ℕ → DocCause → Type 0
 RefusesLangMaps = IsRefusal langmaps_checks

@@ -22,6 +22,7 @@ pub record IsWritable (e : Labelled) : Type 0 where
   pub language : IsLang e.0.1
   pub label : IsLabel e.1
 
+-- each is a label of a message in a language
 abbrev pub AreWritable : List Labelled → Type 0
 AreWritable labels = AllByRecursion IsWritable labels
 

@@ -20,6 +20,7 @@ Keys = List (List ℕ × Strings)
 abbrev pub Rows : Type 0
 Rows = List (List ℕ × Option Keys)
 
+-- whether a value is a string or null, as an item of a label may be
 abbrev pub is_string_or_null : Data → Bool
 is_string_or_null null = true
 is_string_or_null (boolean b) = false
@@ -46,6 +47,7 @@ abbrev pub members_by : {X : Type 0} → (Data → X) → Members → List (List
 members_by of no_members = []
 members_by of (member k d ms) = (k, of d) ∷ members_by of ms
 
+-- the keys of a language map, each with its strings
 abbrev pub keys_of : Members → Keys
 keys_of = members_by strings_in
 

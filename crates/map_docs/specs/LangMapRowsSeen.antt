@@ -23,9 +23,11 @@ use Rattle.map_docs.specs.LangMapsValue.{Languages}
 abbrev pub HeldStrings : Type 0
 HeldStrings = Option (Vec (String Global) Global)
 
+-- the keys of a language map as they are kept, each with its strings
 abbrev pub HeldKeys : Type 0
 HeldKeys = Vec (String Global × HeldStrings) Global
 
+-- the members of a document as they are kept, each with its keys
 abbrev pub HeldRows : Type 0
 HeldRows = Vec (String Global × Option HeldKeys) Global
 
@@ -33,6 +35,7 @@ HeldRows = Vec (String Global × Option HeldKeys) Global
 abbrev pub AreSorted : {X : Type 0} → List (String Global × X) → Type 0
 AreSorted es = IsStrictlySortedBy string_cmp (keys_of es)
 
+-- the bytes of the strings that are kept
 abbrev pub strings_seen : HeldStrings → Strings
 strings_seen held = option_map (λ texts. texts_of texts.items) held
 
@@ -40,15 +43,19 @@ strings_seen held = option_map (λ texts. texts_of texts.items) held
 abbrev pub members_seen : {X Y : Type 0} → (X → Y) → List (String Global × X) → List (List ℕ × Y)
 members_seen of es = map (λ e. (string_bytes e.0, of e.1)) es
 
+-- the bytes of the keys that are kept, each with its strings
 abbrev pub keys_seen : List (String Global × HeldStrings) → Keys
 keys_seen = members_seen strings_seen
 
+-- the same of keys that may be absent
 abbrev pub keys_in_seen : Option HeldKeys → Option Keys
 keys_in_seen held = option_map (λ keys. keys_seen keys.items) held
 
+-- the bytes of the members that are kept, each with its keys
 abbrev pub rows_seen : List (String Global × Option HeldKeys) → Rows
 rows_seen = members_seen keys_in_seen
 
+-- the same of members that may be absent
 abbrev pub rows_in_seen : Option HeldRows → Option Rows
 rows_in_seen held = option_map (λ rows. rows_seen rows.items) held
 
@@ -56,6 +63,7 @@ rows_in_seen held = option_map (λ rows. rows_seen rows.items) held
 abbrev pub Found : Type 0
 Found = List (List ℕ × Option (List (List ℕ)))
 
+-- the languages that have a label, each with it
 abbrev pub live : Found → Languages
 live found = filter_map (λ e. option_map (λ texts. (e.0, texts)) e.1) found
 

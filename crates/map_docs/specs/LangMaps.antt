@@ -7,5 +7,6 @@ use Rattle.map_docs.specs.declared.maps.KeyedLabel.{KeyedLabel}
 abbrev pub Labelled : Type 0
 Labelled = EntryKey × List (List ℕ)
 
+-- the labels that are kept, each with its message's id and its language
 abbrev pub labels_of : List KeyedLabel → List Labelled
 labels_of labels = map (λ l. ((l.id, l.lang), l.label)) labels

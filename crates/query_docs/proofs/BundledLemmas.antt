@@ -231,6 +231,7 @@ module _ (widening : Widening) (cells : Entries) (items : List Item) (default : 
           | false ↦ λ t more. member_later m.0 id (ids_of ms) (id_there id ms more)
         ] refl found
 
+    -- a label of the bundle is the live one of its message and language
     pub label_of : (e : Labelled) → IsAnswer widening cells items default e
         → find text_cmp e.0.1 (live cells e.0.0) ≡ Some e.1
     label_of e answer = elim answer [ inl matched ↦ matched.1 | inr chosen ↦ chosen.3 ]
@@ -273,6 +274,7 @@ pub record IsBundling (widening : Widening) (cells : Entries) (items : List Item
 
 module _ (widening : Widening) (cells : Entries) (items : List Item) (default : Option (List ℕ))
   where
+    -- at first nothing is written, and all messages are left
     pub bundling_first : (draft : Draft) (messages : List LiveMessage)
         → AreMessages cells messages → HasWritten draft []
         → IsBundling widening cells items default draft messages
@@ -305,6 +307,7 @@ module _ (widening : Widening) (cells : Entries) (items : List Item) (default : 
               (reply, rest, is, looks, ap (λ o. answered_of m.0 o ++ rest) found));
         }
 
+    -- a message whose lookup finds a label adds it
     pub bundling_found : (old new : Draft) (m : LiveMessage) (left : List LiveMessage)
         (reply : Reply) (id lang : List ℕ) (label : List (List ℕ)) → id ≡ m.0
         → IsBundling widening cells items default old (m ∷ left)
@@ -331,6 +334,7 @@ module _ (widening : Widening) (cells : Entries) (items : List Item) (default : 
           b.looks rest (reply, rest, is, looks, ap (λ o. answered_of m.0 o ++ rest) none);
     }
 
+    -- where no message is left, the draft has the bundle
     pub bundling_last : (draft : Draft) → IsBundling widening cells items default draft []
         → (labels : List Labelled) × IsBundleBy widening cells items default labels
         × HasWritten draft labels

@@ -10,6 +10,7 @@ use Rattle.query_docs.specs.Lines.{filter_lines, reply_line}
 use Rattle.query_docs.specs.declared.asking.Ask.{Ask}
 use Rattle.query_docs.specs.declared.asking.Ask.TheVariants.{Filter, Lookup}
 
+-- whether a lookup found a label, by the list or the default
 abbrev pub is_found : Reply → Bool
 is_found (Matched lang label) = true
 is_found (Default lang label) = true

@@ -26,6 +26,7 @@ change_value change =
     array (item (string change.0.0) (item (string change.0.1)
     (item (side_value change.1.0) (item (side_value change.1.1) no_items))))
 
+-- the line of a change: the compact text of its array
 abbrev pub change_line : EntryKey × Sides → List ℕ
 change_line change = line (compact_text (change_value change))
 

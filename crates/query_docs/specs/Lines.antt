@@ -49,6 +49,7 @@ cell_line entry = line (compact_text (cell_value (row_of entry) entry.1.label))
 abbrev pub cells_lines : Entries → List ℕ
 cells_lines cells = listed (codes "cells") cell_line cells
 
+-- the lines of one answer of a run
 abbrev pub lines_of : Answer → List ℕ
 lines_of (Filter entries) = filter_lines entries
 lines_of (Lookup reply) = reply_line reply

@@ -19,6 +19,7 @@ AreSteps-push version (e ∷ ds) d (s ∷ ss) step so_far last =
     (so_far.0, AreSteps-push version ds d ss step so_far.1 last)
 
 module _ (version : Version) (before : List Data) (d : Data) where
+  -- a step of the right shape whose fields pass is a row that passes
   pub step_passes : (text : StepText) → Some text ≡ step_in version d
       → AllPass (step_fields (length before) text) → AllPass (step_checks version before d)
   step_passes text is pass = rw (← is) (refl, pass)

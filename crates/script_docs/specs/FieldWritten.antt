@@ -30,6 +30,7 @@ weight_text n = if n == 1000 then [] else codes ";q=0" ++ fraction_text n
 
 -- ---- a list
 
+-- an item of a list: its range, and its weight unless that is 1000
 abbrev pub item_text : Item → List ℕ
 item_text item = item.range ++ weight_text item.weight
 

@@ -21,9 +21,11 @@ count_of n = if nat_le 1 n && nat_le n 1024 then Some n else None
 abbrev pub sites_in : Data → Option ℕ
 sites_in d = option_and_then count_of (u64_in d)
 
+-- the member says how many sites there are, 1 to 1024
 abbrev pub sites_check : Data → Check
 sites_check subject = check (is_some (sites_in subject) ≡ true) (Shape spot.Document)
 
+-- all tests of a script's document
 abbrev pub script_checks : Data → List Check
 script_checks d =
     header_checks Script d

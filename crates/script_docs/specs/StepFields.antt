@@ -35,6 +35,7 @@ IsListRefusal k scheme text e =
     (fault : NegoFault) × (fault ≢ nego.NoMemory) × RefusesField scheme Refused text fault
     × (e ≡ Field k (Priorities fault))
 
+-- the text in row k is a priority list under the scheme, or is refused
 abbrev pub list_check : ℕ → Scheme → List ℕ → Check
 list_check k scheme text = record {
   passes = (items : List Item) × Lists scheme text items;
@@ -60,6 +61,7 @@ step_fields k (tell_step site) = []
 step_fields k (post_step site told) = []
 step_fields k (deliver_step post) = []
 
+-- the fields of a step, if its shape is right
 abbrev pub shaped_fields : ℕ → Option StepText → List Check
 shaped_fields k None = []
 shaped_fields k (Some text) = step_fields k text

@@ -30,6 +30,7 @@ pub data StepText : Type 0 where
   post_step : ℕ → ℕ → StepText
   deliver_step : ℕ → StepText
 
+-- the word that a step begins with; none of any other text
 abbrev pub word_of : List ℕ → Option Word
 word_of text =
     if bytes_eq text (codes "edit") then Some Edit
@@ -42,12 +43,14 @@ word_of text =
     else (if bytes_eq text (codes "deliver") then Some Deliver
     else None)))))))
 
+-- the scheme of this name; none of any other text
 abbrev pub scheme_of : List ℕ → Option Scheme
 scheme_of text =
     if bytes_eq text (codes "basic") then Some Basic
     else (if bytes_eq text (codes "extended") then Some Extended
     else None)
 
+-- the scheme that a value names
 abbrev pub scheme_in : Data → Option Scheme
 scheme_in d = option_and_then scheme_of (as_str d)
 
@@ -99,6 +102,7 @@ two_of step (d ∷ e ∷ []) = do
   option_map (λ n. step m n) (u32_in e)
 two_of step _ = None
 
+-- the step that begins with this word, by what comes after it
 abbrev pub step_after : Version → Word → List Data → Option StepText
 step_after version Edit ds = edit_of version ds
 step_after version Merge ds = two_of merge_step ds
@@ -109,6 +113,7 @@ step_after version Tell ds = one_of tell_step ds
 step_after version Post ds = two_of post_step ds
 step_after version Deliver ds = one_of deliver_step ds
 
+-- the step of a row's parts: its word, and what comes after it
 abbrev pub step_of : Version → List Data → Option StepText
 step_of version [] = None
 step_of version (d ∷ ds) = do

@@ -7,6 +7,7 @@ use Rattle.script_docs.specs.declared.steps.StepRow.{StepRow}
 use Rattle.script_docs.specs.declared.steps.StepRow.TheVariants.{Edit, Merge, Filter, Lookup, Cells}
 use Rattle.script_docs.specs.declared.steps.StepRow.TheVariants.{Tell, Post, Deliver}
 
+-- the step with the bytes of its texts
 abbrev pub text_of : StepRow → StepText
 text_of (Edit site cell) = edit_step site (cell_of cell)
 text_of (Merge into source) = merge_step into source

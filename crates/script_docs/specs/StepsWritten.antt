@@ -41,6 +41,7 @@ IsWritableStep (Deliver post) = FitsMember post
 abbrev pub RefusesRow : ℕ → Type 0 → DocCause → Type 0
 RefusesRow place Holds = OrMemory NoMemory (λ cause. (¬ Holds) × (cause ≡ Shape (spot.Row place)))
 
+-- why the step at this place is not written: no memory, or no document can have it (20)
 abbrev pub RefusesStep : ℕ → Step → DocCause → Type 0
 RefusesStep place step cause = RefusesRow place (IsWritableStep step) cause
 
@@ -61,6 +62,7 @@ edit_value site row label =
     array (item (string (codes "edit"))
     (item (number (unsigned site)) (item (cell_value row label) no_items)))
 
+-- the name of a scheme
 abbrev pub scheme_text : Scheme → List ℕ
 scheme_text Basic = codes "basic"
 scheme_text Extended = codes "extended"
@@ -84,6 +86,7 @@ lookup_value site id field default =
     (item (number (unsigned site))
     (item (string id) (item (string field) (item (default_value default) no_items)))))
 
+-- the row of a step's text
 abbrev pub step_value : StepText → Data
 step_value (edit_step site row) = edit_value site row.0 row.1
 step_value (merge_step into source) = pair_value (codes "merge") into source

@@ -44,6 +44,8 @@ returns-in_err-label-clause-err c =
     (texts_of c.in-Some.strings.items) (strings_seen c.args.strings) _
     (ap strings_seen c.in-Some.is) c.in_err-label.ensures)
 
+-- The key passes its tests, since it spells a language that is new here and its strings are a label
+-- or none; and it is held with those before it, since it was inserted.
 pub returns-clause-ok : goal.returns-clause-ok
 returns-clause-ok c = λ before holds.
     let found = c.args.found.now.entries in

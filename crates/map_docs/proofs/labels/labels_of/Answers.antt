@@ -34,6 +34,8 @@ add_row-requires-clause-lesser c =
     HoldsRows (rows_seen c.loop-name.invariant.0) c.loop-name.maps es) c.in-Some.ensures.steps.0
     c.loop-name.invariant.4)
 
+-- This row fails a test, and the rows before it passed, so that test is the first of all that
+-- fails; or no memory.
 pub returns-in_err-add_row : goal.returns-in_err-add_row
 returns-in_err-add_row c =
     let inv = c.loop-name.invariant in
@@ -52,6 +54,8 @@ returns-in_err-add_row c =
     (rows_fail (rows_seen front) (string_bytes c.in-Some.name, keys_in_seen c.in-Some.keys)
     (rows_seen left) c.loop-name.row e (inv.2 ∙ same_length front) inv.3 fails)))
 
+-- The rows so far pass, and their labels are held: this row passed too, and its labels are among
+-- those held, which ascend.
 pub loop-name-preserved : goal.loop-name-preserved
 loop-name-preserved c =
     let inv = c.loop-name.invariant in

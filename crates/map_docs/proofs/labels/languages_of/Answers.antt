@@ -9,6 +9,7 @@ use Rattle.map_docs.proofs.LangMapLabelsLemmas.{else_by, keys_fail, keys_pass, k
 use Rattle.map_docs.proofs.LangMapLabelsLemmas.{one_further}
 use Rattle.map_docs.proofs.labels.languages_of.Goals as goal
 
+-- The keys so far pass, and are held: this key passed after them, and is held with them.
 pub loop-key-preserved : goal.loop-key-preserved
 loop-key-preserved c =
     let inv = c.loop-key.invariant in
@@ -26,6 +27,8 @@ loop-key-preserved c =
       subst (λ (ms : Keys). HoldsKeys ms c.add_key.new.found.entries) (sym pushed) took.1,
     )
 
+-- This key fails a test, and the keys before it passed, so that test is the first of all that
+-- fails; or no memory.
 pub returns-in_err-add_key : goal.returns-in_err-add_key
 returns-in_err-add_key c =
     let inv = c.loop-key.invariant in

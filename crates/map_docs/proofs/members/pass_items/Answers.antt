@@ -10,6 +10,8 @@ pub loop-reader-init : goal.loop-reader-init
 loop-reader-init c =
     (length c.args.reader.now, [], omega arith, parse_map-none _, c.requires, omega arith)
 
+-- The items so far, and then those left, are the array's: the value skipped is one item more. Each
+-- takes a token at least.
 pub loop-reader-preserved : goal.loop-reader-preserved
 loop-reader-preserved c =
     let inv = c.loop-reader.invariant in

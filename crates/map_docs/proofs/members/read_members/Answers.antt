@@ -53,6 +53,8 @@ returns-in_err-value-clause-read g c =
     ∙ member_refused (value g.V.MemberValue.most_depth) inv.1 inv.0 name
     c.loop-found.reader s named none) c.in_err-value.ensures.read)
 
+-- The members so far are held in order of their names: the next one was read and inserted, in place
+-- of an earlier one of its name. Each takes a token at least.
 pub loop-found-preserved : goal.loop-found-preserved
 loop-found-preserved g c =
     let inv = c.loop-found.invariant in

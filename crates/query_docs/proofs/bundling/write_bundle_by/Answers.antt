@@ -35,6 +35,8 @@ returns c =
     IfOk-weaker c.close.result _ _
     (λ _ closed. (last.0, last.1, closed last.0 last.2 last.1.rising)) c.close.ensures
 
+-- The draft has the labels of the messages so far: this one's lookup found a label, by a shortlist
+-- of languages that have all of its own, and that label was added.
 pub loop-message-preserved-in-Continue-branch-5 : goal.loop-message-preserved-in-Continue-branch-5
 loop-message-preserved-in-Continue-branch-5 c =
     let cells = c.args.catalogue.now in
@@ -57,6 +59,7 @@ loop-message-preserved-in-Continue-branch-5 c =
       live.1,
     )
 
+-- The same where the lookup found nothing: nothing was added.
 pub loop-message-preserved : goal.loop-message-preserved
 loop-message-preserved c =
     let cells = c.args.catalogue.now in

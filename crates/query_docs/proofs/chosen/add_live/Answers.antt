@@ -35,6 +35,8 @@ loop-id-preserved-in_default c =
 pub decide-chosen-requires : goal.decide-chosen-requires
 decide-chosen-requires c = c.loop-id.invariant.1
 
+-- The labels added, and then those that the cells left give, are all: this cell has a label, which
+-- was added where its message is chosen.
 pub loop-id-preserved : goal.loop-id-preserved
 loop-id-preserved c =
     let of_cells = chosen_of c.args.messages c.args.cells.now in

@@ -27,6 +27,8 @@ loop-place-preserved c =
     step within
     is c.loop-place.invariant c.in_ok-write_step.ensures.ok
 
+-- The step at this place is refused: no memory, or it is the first that no document can have, since
+-- those before it were written.
 pub returns-in_err-write_step-clause-err : goal.returns-in_err-write_step-clause-err
 returns-in_err-write_step-clause-err c =
     let script = c.args.script.now in

@@ -9,6 +9,8 @@ use Rattle.map_docs.proofs.LangMapMembersLemmas.{first_left}
 use Rattle.docs_core.proofs.ImportedLemmas.{Imports-next, SpendsImport-next, not_put}
 use Rattle.docs_core.proofs.call.importing.put_labels.Goals as goal
 
+-- The put was refused: no memory, or no stamp follows for this label; since those before it were
+-- put, the clock is spent by the whole list.
 pub returns-in-Err-clause-err : goal.returns-in-Err-clause-err
 returns-in-Err-clause-err c =
     let inv = c.loop-found.invariant in
@@ -31,6 +33,8 @@ returns-in-Err-clause-err c =
           inv.name spent.1)))),
     ))
 
+-- What comes of the labels left comes of all: this label is put with the next stamp of the site,
+-- whose name stays, so those before it and it are put.
 pub loop-found-preserved : goal.loop-found-preserved
 loop-found-preserved c =
     let inv = c.loop-found.invariant in

@@ -44,6 +44,7 @@ returns-in_err-check_times c =
       inl ahead,
     )))))
 
+-- Both sites were read, the first is in time, and a time of the second is ahead.
 pub returns-in_err-check_times-2 : goal.returns-in_err-check_times-2
 returns-in_err-check_times-2 c =
     let p = err_from_is_err_and c.from_residual-in_err-check_times-2.result
@@ -68,6 +69,8 @@ joined_site : (left first second : SiteState) (cells : Entries)
 joined_site left first second cells is same =
     is ∙ (λ i. record { name = first.name; cells = joined first.cells (same i) })
 
+-- Both sites were read, and are in time and agree; the two texts are the join of their cells under
+-- the one name and under the other.
 pub returns : goal.returns
 returns c =
     let merged = c.in_ok-merge.ensures in
@@ -98,6 +101,8 @@ returns c =
       second,
     )
 
+-- Both sites were read, and are in time, and the join is refused: by a stamp that was used twice,
+-- or no memory.
 pub returns-in_err-merge : goal.returns-in_err-merge
 returns-in_err-merge c =
     let p = err_from_is_err_and c.from_residual-in_err-merge.result

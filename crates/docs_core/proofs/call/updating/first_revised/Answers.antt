@@ -8,6 +8,8 @@ use Rattle.docs_core.proofs.UpdatedLemmas.{first_added, first_kept, first_remove
 use Rattle.docs_core.proofs.call.updating.first_revised.Goals as goal
 use Rattle.docs_core.proofs.call.updating.first_revised.Goals.{in-Equal, in-Greater, in-Less}
 
+-- It is the least key of both lists: the lesser of their first ones, which is removed or added, or
+-- the one that both begin with.
 pub returns-after-compare-clause-first : goal.returns-after-compare-clause-first
 returns-after-compare-clause-first c =
     let left = c.in-Some-Some.left.now in

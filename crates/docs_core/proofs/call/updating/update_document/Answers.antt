@@ -20,6 +20,7 @@ returns-in_err-old c =
     rw (p.1, p.2) (else_by c.in_err-old.ensures
     (λ h. inr (inl (c.in_ok-site.site, c.in_ok-site.ensures, h))))
 
+-- The site and the old language maps were read, and the new ones are refused, or no memory.
 pub returns-in_err-new : goal.returns-in_err-new
 returns-in_err-new c =
     let p =

@@ -7,6 +7,8 @@ use Rattle.map_docs.proofs.LangMapLabelsLemmas.{else_by}
 use Rattle.docs_core.proofs.UpdatedLemmas.{SpendsUpdate-here, SpendsUpdate-next, Updates-next}
 use Rattle.docs_core.proofs.call.updating.update_labels.Goals as goal
 
+-- No memory, or no stamp follows for this key's change; since the keys before it are done, the
+-- clock is spent by the whole update.
 pub returns-in-Err-clause-err : goal.returns-in-Err-clause-err
 returns-in-Err-clause-err c =
     let inv = c.loop-revised.invariant in
@@ -25,6 +27,8 @@ returns-in-Err-clause-err c =
           )),
     ))
 
+-- What comes of the keys left comes of all: the least key was revised, the site's name stays, and
+-- what is left of both lists still rises.
 pub loop-revised-preserved : goal.loop-revised-preserved
 loop-revised-preserved c =
     let inv = c.loop-revised.invariant in

@@ -12,6 +12,8 @@ use Rattle.query_docs.proofs.by_message.ByMessageTakeCells.take.Goals as goal
 use Rattle.query_docs.proofs.by_message.ByMessageTakeCells.take.Goals.{else-begins_with_other}
 use Rattle.query_docs.proofs.by_message.ByMessageTakeCells.take.Goals.{then-begins_with_other+in_ok-end_message}
 
+-- The key is above those at hand: they are of the message so far, and it is above all that were
+-- given; where it begins another message none is at hand.
 pub push-requires : goal.push-requires
 push-requires g c =
     let key : EntryKey = (c.args.entry.id, c.args.entry.lang) in
@@ -30,6 +32,8 @@ push-requires g c =
           (subst (IsAboveAll key) has.all req.3))
     ]
 
+-- The cells at hand, after those given on by message, are all that came, with this one: where it
+-- begins another message those before were given on, else it joins them.
 pub returns : goal.returns
 returns g c =
     let self = c.args.self.now in
