@@ -65,6 +65,7 @@ abbrev pub IsNew : Text → List ℕ → ℕ → Type 0
 IsNew name text answered =
     IsSiteName name × IsSiteText (record { name = name; cells = [] }) text × (answered ≡ 0)
 
+-- the name is no site's name, or memory ended
 abbrev pub RefusesNew : Text → FrontFault → Type 0
 RefusesNew name fault =
     IsOf cell_fault (RefusesName name) fault ⊎ (IsSiteName name × (fault ≡ NoMemory))
@@ -76,6 +77,7 @@ abbrev pub IsLabelOrNone : Option (List Text) → Type 0
 IsLabelOrNone None = Unit {0}
 IsLabelOrNone (Some texts) = IsLabel texts
 
+-- the words are a message id, a language, and a label or none
 abbrev pub HasEdit : EditWords → Type 0
 HasEdit words = IsMessageId words.id × IsSpelled words.lang × IsLabelOrNone words.texts
 
@@ -86,16 +88,19 @@ RefusesEditWords words fault =
     ⊎ (IsMessageId words.id × IsSpelled words.lang
     × IsOf cell_fault (RefusesLabelWords words.texts) fault)
 
+-- the document of the input's site with the edit of the words made
 abbrev pub IsEdit : EditWords → List ℕ → List ℕ → ℕ → Type 0
 IsEdit words input text answered =
     (lang : List ℕ) × HasEdit words × SpellsLang words.lang lang
     × call.IsEdited input words.now (words.id, lang) words.texts text × (answered ≡ 0)
 
+-- the input is refused, or the edit
 abbrev pub RefusesEdit : EditWords → List ℕ → DocFault → Type 0
 RefusesEdit words input fault = call.RefusesEditing input words.now fault
 
 -- ---- documents
 
+-- the text that the call on the documents of the input gives
 abbrev pub AnswersDocuments : DocumentTask → List ℕ → List ℕ → ℕ → Type 0
 AnswersDocuments task input text answered = IsDocument task input text × (answered ≡ 0)
 
@@ -105,6 +110,7 @@ IsSync limit input text answered =
     (first second one other : List ℕ) × AreDocuments input first second
     × AreSyncedUntil first second limit one other × (text ≡ one ++ other) × (answered ≡ 0)
 
+-- the first document is refused, then the second, then their times, then the join
 abbrev pub RefusesSync : Option ℕ → List ℕ → DocFault → Type 0
 RefusesSync limit input fault =
     (first second : List ℕ) × AreDocuments input first second
@@ -118,9 +124,11 @@ AnswersSite Is input text answered =
     (site : SiteState) × (answer : Answer) × ReadsAsSite input site × Is site.cells answer
     × (text ≡ answer.text) × (answered ≡ answer_status answer.outcome)
 
+-- the lines of the filter, over the site of the input
 abbrev pub IsFilter : FilterWords → List ℕ → List ℕ → ℕ → Type 0
 IsFilter words = AnswersSite (λ cells. IsFilterLines cells words.id words.field)
 
+-- the line of the lookup, over the site of the input
 abbrev pub IsLookup : LookupWords → List ℕ → List ℕ → ℕ → Type 0
 IsLookup words =
     AnswersSite
@@ -128,9 +136,11 @@ IsLookup words =
 
 -- ---- `bundle`, `missing` and `outdated`
 
+-- the language maps of what the reader finds in the site of the input
 abbrev pub IsBundle : PreferenceWords → List ℕ → List ℕ → ℕ → Type 0
 IsBundle words = AnswersSite (λ cells. AreBundleMaps cells words.field words.default)
 
+-- the word reads as the language that these messages of the site lack
 abbrev pub IsMissing : Text → List ℕ → List ℕ → ℕ → Type 0
 IsMissing word input text answered =
     (lang : List ℕ) × (found : Bool) × SpellsLang word lang
@@ -145,12 +155,14 @@ IsOutdated words input text answered =
 
 -- ---- `changes`
 
+-- the lines of what changed from the first site of the input to the second
 abbrev pub AreChanges : List ℕ → List ℕ → ℕ → Type 0
 AreChanges input text answered =
     (found : Bool) × AreChangesOf input text found × (answered ≡ found_status found)
 
 -- ---- `explain`
 
+-- what explains the refusal of this number
 abbrev pub IsExplained : ℕ → List ℕ → ℕ → Type 0
 IsExplained number text answered = IsExplanation number text × (answered ≡ 0)
 

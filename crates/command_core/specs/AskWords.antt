@@ -7,22 +7,27 @@ use Rattle.nego_core.specs.declared.widening.Widening.{Widening}
 use Rattle.nego_core.specs.declared.widening.Widening.TheVariants.{By, Off}
 use Rattle.command_core.specs.FieldWords.{PreferenceWords, field_of, preference_words}
 
+-- what a reader prefers, and the tags among which one is picked
 pub record PickWords : Type 0 where
   pub preferences : PreferenceWords
   pub tags : List Text
 
+-- a priority list, and the tags of which all that fit are given
 pub record PickAllWords : Type 0 where
   pub field : FieldText
   pub tags : List Text
 
+-- a message, and the priority list that filters its labels
 pub record FilterWords : Type 0 where
   pub id : Text
   pub field : FieldText
 
+-- a message, and what its reader prefers
 pub record LookupWords : Type 0 where
   pub id : Text
   pub preferences : PreferenceWords
 
+-- a language, and the source that its labels translate
 pub record OutdatedWords : Type 0 where
   pub lang : Text
   pub source : Text
@@ -34,6 +39,7 @@ pick_words rows =
     (λ preferences. option_map (λ tags. record { preferences = preferences; tags = tags })
     (all_of (codes "tags") rows)) (preference_words (codes "ranges") rows)
 
+-- the words where there is neither a widening nor a default, or none
 abbrev where_plain : Widening → Option Text → PickAllWords → Option PickAllWords
 where_plain Off None words = Some words
 where_plain Off (Some default) words = None
@@ -44,18 +50,21 @@ abbrev pub pick_all_words : PickWords → Option PickAllWords
 pick_all_words words = where_plain words.preferences.field.widening words.preferences.default
     (record { field = words.preferences.field; tags = words.tags })
 
+-- none where a word is missing
 abbrev pub filter_words : List Row → Option FilterWords
 filter_words rows =
     option_and_then
     (λ id. option_map (λ field. record { id = id; field = field }) (field_of (codes "field") rows))
     (first_of (codes "id") rows)
 
+-- none where a word is missing
 abbrev pub lookup_words : List Row → Option LookupWords
 lookup_words rows =
     option_and_then
     (λ id. option_map (λ preferences. record { id = id; preferences = preferences })
     (preference_words (codes "field") rows)) (first_of (codes "id") rows)
 
+-- none where a word is missing
 abbrev pub outdated_words : List Row → Option OutdatedWords
 outdated_words rows =
     option_and_then (λ lang. option_map (λ source. record { lang = lang; source = source })

@@ -17,9 +17,11 @@ edit_words now texts rows =
     (λ id. option_map (λ lang. record { now = n; id = id; lang = lang; texts = texts })
     (first_of (codes "lang") rows)) (first_of (codes "id") rows)) now
 
+-- the edit that puts the texts; none where a word is missing
 abbrev pub put_words : Option ℕ → List Row → Option EditWords
 put_words now rows =
     option_and_then (λ texts. edit_words now (Some texts) rows) (all_of (codes "texts") rows)
 
+-- the edit that deletes; none where a word is missing
 abbrev pub delete_words : Option ℕ → List Row → Option EditWords
 delete_words now rows = edit_words now None rows

@@ -18,6 +18,7 @@ use Rattle.lang_core.specs.declared.fault.LangFault.{LangFault}
 abbrev pub NoWords : Type 0
 NoWords = Unit {0}
 
+-- no fault is a refusal of them
 abbrev pub RefusesNothing : FrontFault → Type 0
 RefusesNothing _ = ⊥
 

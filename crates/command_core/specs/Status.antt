@@ -11,5 +11,6 @@ status_of number = if (number == 24) || (number == 25) then 4 else (if number ==
 abbrev pub found_status : Bool → ℕ
 found_status found = if found then 0 else 1
 
+-- the status of an answer by its outcome
 abbrev pub answer_status : Outcome → ℕ
 answer_status outcome = found_status (is_found outcome)

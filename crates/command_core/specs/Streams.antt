@@ -21,14 +21,17 @@ pub record Streams (R W F : Type 0) : Type 0 where
   pub writer : Writer W
   pub faults : Writer F
 
+-- a source before and after what was read of it
 abbrev pub reads : {R : Type 0} → (R → Option (List ℕ)) → (R → Bool) → R → R → Reader R
 reads remaining failed old new =
     record { remaining = remaining; failed = failed; old = old; new = new }
 
+-- a sink before and after what was written to it
 abbrev pub writes : {W : Type 0} → (W → Option (List ℕ)) → (W → Bool) → W → W → Writer W
 writes contents failed old new =
     record { contents = contents; failed = failed; old = old; new = new }
 
+-- the three streams of a run
 abbrev pub streams : {R W F : Type 0} → Reader R → Writer W → Writer F → Streams R W F
 streams reader writer faults = record { reader = reader; writer = writer; faults = faults }
 

@@ -14,6 +14,7 @@ use Rattle.command_core.specs.declared.documents.DocumentTask.{DocumentTask}
 use Rattle.command_core.specs.declared.documents.DocumentTask.TheVariants as document
 use Rattle.command_core.specs.declared.matches.Numbers.{Numbers}
 
+-- what the program is asked to do, by the words of its arguments
 pub data TaskWords : Type 0 where
   Pick : (words : PickWords) → TaskWords
   PickAll : (words : PickAllWords) → TaskWords
@@ -30,6 +31,7 @@ pub data TaskWords : Type 0 where
   Replay : TaskWords
   Explain : (number : ℕ) → TaskWords
 
+-- one tag or all that fit; none where the words do not go with all
 abbrev pick_asked : Bool → PickWords → Option TaskWords
 pick_asked false words = Some (Pick words)
 pick_asked true words = option_map PickAll (pick_all_words words)

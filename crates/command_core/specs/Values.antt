@@ -11,6 +11,7 @@ use Rattle.command_core.specs.declared.matches.PreferenceValues.{PreferenceValue
 use Rattle.command_core.specs.declared.task.Task.{Task}
 use Rattle.command_core.specs.declared.task.Task.TheVariants as task
 
+-- the words of an edit, by their bytes
 abbrev pub edit_values : EditValues → EditWords
 edit_values values =
     record {
@@ -21,12 +22,14 @@ edit_values values =
           option_map (λ texts. map (λ s. s.now) texts.now) values.texts;
     }
 
+-- the words of what a reader prefers, by their bytes
 abbrev pub preference_values : PreferenceValues → PreferenceWords
 preference_values values = record {
   field = field_text values.field;
   default = option_map (λ s. s.now) values.default;
 }
 
+-- the words of a task, by their bytes
 abbrev pub task_values : Task → TaskWords
 task_values (task.Pick preferences tags) =
     Pick (record { preferences = preference_values preferences; tags = map (λ s. s.now) tags.now })

@@ -31,6 +31,7 @@ Schemes = Bor (List (Bor (List ℕ)))
 abbrev pub Numerals : Type 0
 Numerals = Bor (List (Bor (List ℕ)))
 
+-- `--scheme SCHEME`, one of these words
 abbrev pub scheme_rule : Schemes → Rule
 scheme_rule schemes =
     record
@@ -45,6 +46,7 @@ scheme_rule schemes =
 abbrev pub flag_rule : Text → Rule
 flag_rule name = record (new_rule name) { long = Some name; action = Some SetTrue }
 
+-- `--default LANG`
 abbrev pub default_rule : Rule
 default_rule =
     record (new_rule (codes "default")) { long = Some (codes "default"); value_names = 1 }
@@ -95,15 +97,19 @@ now_rule =
 abbrev pub required_rule : Text → Rule
 required_rule name = record (new_rule name) { long = Some name; value_names = 1; required = true }
 
+-- `--site NAME`, which must be given
 abbrev pub site_rule : Rule
 site_rule = required_rule (codes "site")
 
+-- `--id ID`, which must be given
 abbrev pub id_rule : Rule
 id_rule = required_rule (codes "id")
 
+-- `--lang LANG`, which must be given
 abbrev pub lang_rule : Rule
 lang_rule = required_rule (codes "lang")
 
+-- `--source LANG`, which must be given
 abbrev pub source_rule : Rule
 source_rule = required_rule (codes "source")
 
@@ -142,6 +148,7 @@ put_app = with_rule (edit_app (new_app (codes "put"))) (words_rule (codes "texts
 abbrev pub delete_app : App
 delete_app = edit_app (new_app (codes "delete"))
 
+-- `status`, without arguments
 abbrev pub status_app : App
 status_app = new_app (codes "status")
 
@@ -149,6 +156,7 @@ status_app = new_app (codes "status")
 abbrev pub import_app : App
 import_app = with_rule (new_app (codes "import")) now_rule
 
+-- `export`, without arguments
 abbrev pub export_app : App
 export_app = new_app (codes "export")
 
@@ -176,6 +184,7 @@ missing_app = with_rule (new_app (codes "missing")) lang_rule
 abbrev pub outdated_app : App
 outdated_app = with_rule (with_rule (new_app (codes "outdated")) lang_rule) source_rule
 
+-- `changes`, without arguments
 abbrev pub changes_app : App
 changes_app = new_app (codes "changes")
 
@@ -183,9 +192,11 @@ changes_app = new_app (codes "changes")
 abbrev pub update_app : App
 update_app = with_rule (new_app (codes "update")) now_rule
 
+-- `summary`, without arguments
 abbrev pub summary_app : App
 summary_app = new_app (codes "summary")
 
+-- `delta`, without arguments
 abbrev pub delta_app : App
 delta_app = new_app (codes "delta")
 
@@ -197,6 +208,7 @@ take_app = with_rule (new_app (codes "take")) not_after_rule
 abbrev pub sync_app : App
 sync_app = with_rule (new_app (codes "sync")) not_after_rule
 
+-- `replay`, without arguments
 abbrev pub replay_app : App
 replay_app = new_app (codes "replay")
 
@@ -220,6 +232,7 @@ bare_app =
           };
     }
 
+-- the program with one subcommand more
 abbrev under : App → App → App
 under app command = with_subcommand app command.top
 
@@ -247,6 +260,7 @@ exchange_app app numbers =
     replay_app)
     (explain_app numbers)
 
+-- the program with all its subcommands
 abbrev pub lexicat_app : Schemes → Numerals → App
 lexicat_app schemes numbers =
     exchange_app (questions_app (labels_app (sites_app bare_app schemes)) schemes) numbers

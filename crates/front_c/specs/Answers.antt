@@ -22,6 +22,7 @@ use Rattle.front_c.specs.Telling.{TellsNothing, TellsRefusal, TellsText, TellsUs
 use Rattle.front_c.specs.Telling.{refused}
 use Rattle.front_c.specs.declared.told.Told.{Told}
 
+-- the bytes of a text that C passes, or of a buffer
 abbrev pub Text : Type 0
 Text = List ℕ
 
@@ -41,6 +42,7 @@ TellsPicked (picked.Matched tag) = TellsText tag.now 0 found
 TellsPicked (picked.Default tag) = TellsText tag.now 1 found
 TellsPicked picked.Nothing = TellsNothing 0
 
+-- the text of an answer, and whether it found anything
 abbrev pub TellsAnswer : Answer → Ends
 TellsAnswer answer = TellsText answer.text 0 (status_of_outcome answer.outcome)
 
@@ -50,6 +52,7 @@ TellsLabelText (label.Found text count) = TellsText text.now count found
 TellsLabelText (label.PastEnd count) = TellsNothing count
 TellsLabelText label.Nothing = TellsNothing 0
 
+-- the tag that is picked; unknown flags are reported as usage
 abbrev pub TellsPick : ℕ → Text → Text → Text → Ends
 TellsPick flags field tags default old new told status =
     MatchOption (lookup_field_of flags field) (TellsUsage old new told status)
@@ -63,23 +66,27 @@ TellsAsked site read Is Refuses As old new told status =
     MatchOption (asked site read) (TellsUsage old new told status)
     (λ it. Tells (Is it.0 it.1) (Refuses it.1) As old new told status)
 
+-- the line of a lookup in the handle's site
 abbrev pub TellsLookup : Option SiteState → ℕ → Text → Text → Text → Ends
 TellsLookup site flags id field default =
     TellsAsked site (lookup_field_of flags field)
     (λ s read. IsLookupLine s.cells id read (default_of default))
     (λ read. RefusesLookupLine id read (default_of default)) TellsAnswer
 
+-- the text at a place of the label that a lookup in the handle's site finds
 abbrev pub TellsLookupText : Option SiteState → ℕ → Text → Text → Text → ℕ → Ends
 TellsLookupText site flags id field default place =
     TellsAsked site (lookup_field_of flags field)
     (λ s read. IsLookupText s.cells id read (default_of default) place)
     (λ read. RefusesLookup id read (default_of default)) TellsLabelText
 
+-- the lines of a filter of the handle's site
 abbrev pub TellsFilter : Option SiteState → ℕ → Text → Text → Ends
 TellsFilter site flags id field =
     TellsAsked site (field_of flags field) (λ s read. IsFilterLines s.cells id read)
     (λ read. RefusesFilterLines id read) TellsAnswer
 
+-- the language maps of what a reader finds in the handle's site
 abbrev pub TellsBundle : Option SiteState → ℕ → Text → Text → Ends
 TellsBundle site flags field default =
     TellsAsked site (lookup_field_of flags field)

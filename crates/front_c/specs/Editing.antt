@@ -25,9 +25,11 @@ use Rattle.front_c.specs.declared.told.Told.{Told}
 abbrev pub Reports : Type 1
 Reports = Told → ℤ → Type 0
 
+-- the call is reported as done
 abbrev pub TellsDone : Reports
 TellsDone told status = (status ≡ found) × (told ≡ answered 0 0)
 
+-- the call is reported as refused for this fault
 abbrev pub TellsFault : FrontFault → Reports
 TellsFault fault told status = (status ≡ status_of_refusal fault) × (told ≡ refused fault)
 
@@ -74,13 +76,16 @@ TellsEdited Is Refuses old new told status =
     ⊎ ((fault : FrontFault) × (after : SiteState) × (new ≡ Some after)
     × Refuses before after fault × TellsFault fault told status))
 
+-- the site with this text put at the key; a refused put leaves it as it was
 abbrev pub TellsPut : ℕ → Text → Text → Text → Option SiteState → Option SiteState → Reports
 TellsPut now id lang text = TellsEdited (IsPutInto now id lang text)
     (Keeps (RefusesPutInto now id lang text))
 
+-- the site with the key's label deleted; a refused deletion leaves it as it was
 abbrev pub TellsDeleted : ℕ → Text → Text → Option SiteState → Option SiteState → Reports
 TellsDeleted now id lang = TellsEdited (IsDeleted now id lang) (Keeps (RefusesDelete now id lang))
 
+-- the site with a delta for it taken; lack of memory may leave it partly joined
 abbrev pub TellsTaken : Text → ℕ → Option SiteState → Option SiteState → Reports
 TellsTaken delta limit =
     TellsEdited (IsTaken delta (limit_of limit))
@@ -93,9 +98,12 @@ TellsMerged other old new told status =
     (λ cells. TellsEdited (IsMerged cells) (Leaving (LeavesMerge cells) (RefusesMerge cells)) old
     new told status)
 
+-- the site with each label of the language maps put; a refused import leaves it as it was
 abbrev pub TellsImported : ℕ → Text → Option SiteState → Option SiteState → Reports
 TellsImported now maps = TellsEdited (IsImported now maps) (Keeps (RefusesImport now maps))
 
+-- the site with what changed between two states of language maps; a refused update leaves it as it
+-- was
 abbrev pub TellsUpdated : ℕ → Text → Text → Option SiteState → Option SiteState → Reports
 TellsUpdated now before after =
     TellsEdited (AreUpdated now before after) (Keeps (RefusesUpdates now before after))
@@ -112,24 +120,31 @@ TellsOf site Is Refuses old new told status =
 abbrev pub IsNoMemory : FrontFault → Type 0
 IsNoMemory fault = fault ≡ NoMemory
 
+-- the document of the handle's site
 abbrev pub TellsDocument : Option SiteState → Ends
 TellsDocument site = TellsOf site IsDocument IsNoMemory
 
+-- the summary of the handle's site
 abbrev pub TellsSummary : Option SiteState → Ends
 TellsSummary site = TellsOf site IsSummary IsNoMemory
 
+-- the status line of the handle's site
 abbrev pub TellsStatus : Option SiteState → Ends
 TellsStatus site = TellsOf site IsStatus IsNoMemory
 
+-- the cells of the handle's site that the summary lacks, for its owner
 abbrev pub TellsDelta : Option SiteState → Text → Ends
 TellsDelta site summary = TellsOf site (λ s. IsDelta s summary) (RefusesDelta summary)
 
+-- the language maps of the handle's site
 abbrev pub TellsExport : Option SiteState → Ends
 TellsExport site = TellsOf site IsExport IsNoMemory
 
+-- the messages of the handle's site that lack the language
 abbrev pub TellsMissing : Option SiteState → Text → Ends
 TellsMissing site lang = TellsOf site (λ s. IsMissing s lang) (RefusesMissing lang)
 
+-- the messages of the handle's site whose label in the language is older than in the source
 abbrev pub TellsOutdated : Option SiteState → Text → Text → Ends
 TellsOutdated site lang source =
     TellsOf site (λ s. IsOutdated s lang source) (RefusesOutdated lang source)
@@ -142,6 +157,7 @@ TellsChanges site other old new told status =
 
 -- ---- without a site
 
+-- the lines of the tags that the field takes; unknown flags are reported as usage
 abbrev pub TellsTagFilter : ℕ → Text → Text → Ends
 TellsTagFilter flags field tags old new told status =
     MatchOption (field_of flags field) (TellsUsage old new told status)

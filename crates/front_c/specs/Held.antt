@@ -16,9 +16,11 @@ use Rattle.std.specs.Coded.{Coded, coded_option}
 abbrev pub share_row : RattleType
 share_row = arc_row site_row global_row ghosts
 
+-- a share, as its site is seen
 abbrev pub Share : Type 0
 Share = share_row.Denot
 
+-- how the logic codes a share that may be absent
 abbrev pub share_code : Coded (Option Share)
 share_code = coded_option share_row.coded
 

@@ -8,6 +8,7 @@ use Rattle.nego_core.specs.declared.widening.Widening.TheVariants.{By, Off}
 use Rattle.cata_core.specs.Site.{SiteState}
 use Rattle.front_core.specs.Fields.{FieldText}
 
+-- a field with its scheme and what malformed elements do, for a lookup that is not widened
 abbrev pub field : Scheme → Malformed → List ℕ → FieldText
 field scheme malformed text =
     record { scheme = scheme; malformed = malformed; widening = Off; text = text }

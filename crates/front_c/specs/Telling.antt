@@ -6,6 +6,7 @@ use Rattle.front_core.specs.declared.fault.FrontFault.{FrontFault}
 use Rattle.front_c.specs.declared.told.Told.{Told}
 use Rattle.front_c.specs.Statuses.{nothing, status_of_refusal, usage}
 
+-- a number that may be absent, which is then reported as 0
 abbrev pub or_zero : Option ℕ → ℕ
 or_zero None = 0
 or_zero (Some n) = n
@@ -44,6 +45,7 @@ TellsNothing count old new told status = (status ≡ nothing) × (new ≡ old)
 abbrev pub TellsUsage : List ℕ → List ℕ → Told → ℤ → Type 0
 TellsUsage old new told status = (status ≡ usage) × (new ≡ old) × (told ≡ answered 0 0)
 
+-- a refusal is reported, with the buffer as it was
 abbrev pub TellsRefusal : FrontFault → List ℕ → List ℕ → Told → ℤ → Type 0
 TellsRefusal fault old new told status = (status ≡ status_of_refusal fault) × (new ≡ old)
     × (told ≡ refused fault)

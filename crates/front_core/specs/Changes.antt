@@ -26,6 +26,7 @@ use Rattle.front_core.specs.declared.fault.FrontFault.TheVariants.{Document, NoM
 abbrev pub IsKey : Text → Text → EntryKey → Type 0
 IsKey id lang key = IsId id × (key.0 ≡ id) × SpellsLang lang key.1
 
+-- the bytes spell some message and some language
 abbrev pub HasKey : Text → Text → Type 0
 HasKey id lang = IsId id × (spelled : Text) × SpellsLang lang spelled
 
@@ -51,6 +52,7 @@ RefusesLabelText text fault =
 
 -- ---- what a change is to do
 
+-- the text as the one text of a label, at the key that the bytes spell
 abbrev pub IsPut : Text → Text → Text → Change → Type 0
 IsPut id lang text change = IsKey id lang (change.id, change.lang) × HasLabel text
     × (change.label ≡ Some (text ∷ []))
@@ -60,6 +62,7 @@ abbrev pub RefusesPut : Text → Text → Text → FrontFault → Type 0
 RefusesPut id lang text fault = RefusesKey id lang fault
     ⊎ (HasKey id lang × RefusesLabelText text fault)
 
+-- no label, at the key that the bytes spell
 abbrev pub IsDelete : Text → Text → Change → Type 0
 IsDelete id lang change = IsKey id lang (change.id, change.lang) × (change.label ≡ None)
 

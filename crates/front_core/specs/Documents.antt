@@ -19,9 +19,11 @@ use Rattle.front_core.specs.declared.fault.FrontFault.{FrontFault}
 abbrev pub IsFound : (Text → Type 0) → Answer → Type 0
 IsFound Is answer = Is answer.text × (answer.outcome ≡ Found)
 
+-- the document of the site
 abbrev pub IsDocument : SiteState → Answer → Type 0
 IsDocument site = IsFound (IsSiteText site)
 
+-- the summary of the site
 abbrev pub IsSummary : SiteState → Answer → Type 0
 IsSummary site = IsFound (IsSummaryText (record {
   owner = site.name;
@@ -29,6 +31,7 @@ IsSummary site = IsFound (IsSummaryText (record {
       summary_of site.cells;
 }))
 
+-- the status line of the site
 abbrev pub IsStatus : SiteState → Answer → Type 0
 IsStatus site = IsFound (λ text. text ≡ status_line site)
 

@@ -34,6 +34,7 @@ abbrev pub IsDeleted : ℕ → Text → Text → Edits
 IsDeleted now id lang old new = (change : Change) × IsDelete id lang change
     × IsChanged now change old new
 
+-- the key is refused first, and then the edit
 abbrev pub RefusesDelete : ℕ → Text → Text → SiteState → FrontFault → Type 0
 RefusesDelete now id lang site fault = RefusesKey id lang fault
     ⊎ (HasKey id lang × RefusesChange site now fault)

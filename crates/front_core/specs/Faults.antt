@@ -21,6 +21,7 @@ use Rattle.front_core.specs.declared.fault.FrontFault.{FrontFault}
 use Rattle.front_core.specs.declared.fault.FrontFault.TheVariants.{Cell, Language, Field, Document}
 use Rattle.front_core.specs.declared.fault.FrontFault.TheVariants.{NoMemory}
 
+-- the number of each refusal is that of the crate below
 abbrev pub number_of : FrontFault → ℕ
 number_of (Cell fault) = cell_number fault
 number_of (Language fault) = lang_number fault
@@ -69,14 +70,17 @@ abbrev pub document_of : FrontFault → ℕ
 document_of (Document fault) = fault.document
 document_of _ = 0
 
+-- the refusal of a language
 abbrev pub language_fault : LangFault → FrontFault
 language_fault lang.NoMemory = NoMemory
 language_fault fault = Language fault
 
+-- the refusal of a field
 abbrev pub field_fault : NegoFault → FrontFault
 field_fault nego.NoMemory = NoMemory
 field_fault fault = Field fault
 
+-- the refusal of an id, a label or a name
 abbrev pub cell_fault : CellFault → FrontFault
 cell_fault cell.NoMemory = NoMemory
 cell_fault fault = Cell fault
@@ -86,6 +90,7 @@ abbrev pub cause_fault : DocFault → DocCause → FrontFault
 cause_fault fault cause.NoMemory = NoMemory
 cause_fault fault _ = Document fault
 
+-- the refusal of a document
 abbrev pub document_fault : DocFault → FrontFault
 document_fault fault = cause_fault fault fault.cause
 

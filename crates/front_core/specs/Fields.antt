@@ -8,9 +8,11 @@ use Rattle.nego_core.specs.declared.scheme.Scheme.{Scheme}
 use Rattle.nego_core.specs.declared.widening.Widening.{Widening}
 use Rattle.front_core.specs.declared.field.Field.{Field}
 
+-- the bytes of a text that is passed in
 abbrev pub Text : Type 0
 Text = List ℕ
 
+-- a field's bytes, the scheme of its ranges, what malformed elements do, and how lookup widens
 pub record FieldText : Type 0 where
   pub scheme : Scheme
   pub malformed : Malformed
@@ -33,6 +35,7 @@ abbrev pub ReadsAs : FieldText → List Item → Type 0
 ReadsAs field list = (length field.text ≤ 65535)
     × IsField field.scheme field.malformed field.text list
 
+-- the field is read as some list
 abbrev pub HasList : FieldText → Type 0
 HasList field = (list : List Item) × ReadsAs field list
 

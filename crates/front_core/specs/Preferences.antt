@@ -13,6 +13,7 @@ IsDefault None default = default ≡ None
 IsDefault (Some word) None = ⊥
 IsDefault (Some word) (Some lang) = SpellsLang word lang
 
+-- there is no default, or it spells a language
 abbrev pub HasDefault : Option Text → Type 0
 HasDefault word = (default : Option (List ℕ)) × IsDefault word default
 
@@ -21,10 +22,12 @@ abbrev pub RefusesDefault : Option Text → LangFault → Type 0
 RefusesDefault None fault = ⊥
 RefusesDefault (Some word) fault = RefusesLang word fault
 
+-- the list of the field and the language of the default, with the field's widening
 abbrev pub ArePreferences : FieldText → Option Text → Preferences → Type 0
 ArePreferences field word asked =
     ReadsAs field asked.list × IsDefault word asked.default × (asked.widening ≡ field.widening)
 
+-- the field is read as some list, and there is no default, or it spells a language
 abbrev pub HasPreferences : FieldText → Option Text → Type 0
 HasPreferences field word = HasDefault word × HasList field
 

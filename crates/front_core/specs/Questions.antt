@@ -40,20 +40,24 @@ is_found Nothing = false
 abbrev pub IsId : Text → Type 0
 IsId id = IsUtf8 id × IsMessageId id
 
+-- the bytes are no message id, or they are one and memory ended
 abbrev pub RefusesIdText : Text → CellFault → Type 0
 RefusesIdText id cell.IdRefused = ¬ IsId id
 RefusesIdText id cell.NoMemory = IsId id
 RefusesIdText id _ = ⊥
 
+-- the same, in the form that refusals have here
 abbrev pub RefusesId : Text → FrontFault → Type 0
 RefusesId id = IsOf cell_fault (RefusesIdText id)
 
 -- ---- the questions
 
+-- the question of a lookup: this message, and these preferences
 abbrev pub IsLookup : Text → FieldText → Option Text → Lookup → Type 0
 IsLookup id field word asked = IsId id × (asked.id ≡ id)
     × ArePreferences field word asked.preferences
 
+-- the id is one, and the field and the default give some preferences
 abbrev pub HasLookup : Text → FieldText → Option Text → Type 0
 HasLookup id field word = IsId id × HasPreferences field word
 
@@ -62,10 +66,12 @@ abbrev pub RefusesLookup : Text → FieldText → Option Text → FrontFault →
 RefusesLookup id field word fault = RefusesId id fault
     ⊎ (IsId id × RefusesPreferences field word fault)
 
+-- the question of a filter: this message, the field's scheme, and its list
 abbrev pub IsFilter : Text → FieldText → Filter → Type 0
 IsFilter id field asked = IsId id × (asked.id ≡ id) × (asked.scheme ≡ field.scheme)
     × ReadsAs field asked.list
 
+-- the id is one, and the field is read as some list
 abbrev pub HasFilter : Text → FieldText → Type 0
 HasFilter id field = IsId id × HasList field
 
@@ -119,30 +125,37 @@ AnswersBundle cells asked answer =
 
 -- ---- question and answer at once: memory may end before the answer is written
 
+-- the line of the lookup that is asked
 abbrev pub IsLookupLine : Entries → Text → FieldText → Option Text → Answer → Type 0
 IsLookupLine cells id field word answer = (asked : Lookup) × IsLookup id field word asked
     × AnswersLookup cells asked answer
 
+-- the text at a place of the label that the lookup asked finds
 abbrev pub IsLookupText : Entries → Text → FieldText → Option Text → ℕ → LabelText → Type 0
 IsLookupText cells id field word place text = (asked : Lookup) × IsLookup id field word asked
     × AnswersText cells asked place text
 
+-- the question is refused, or memory ended
 abbrev pub RefusesLookupLine : Text → FieldText → Option Text → FrontFault → Type 0
 RefusesLookupLine id field word fault = RefusesLookup id field word fault
     ⊎ (HasLookup id field word × (fault ≡ NoMemory))
 
+-- the lines of the filter that is asked
 abbrev pub IsFilterLines : Entries → Text → FieldText → Answer → Type 0
 IsFilterLines cells id field answer = (asked : Filter) × IsFilter id field asked
     × AnswersFilter cells asked answer
 
+-- the question is refused, or memory ended
 abbrev pub RefusesFilterLines : Text → FieldText → FrontFault → Type 0
 RefusesFilterLines id field fault = RefusesFilter id field fault
     ⊎ (HasFilter id field × (fault ≡ NoMemory))
 
+-- the language maps of what the preferences that are asked find
 abbrev pub AreBundleMaps : Entries → FieldText → Option Text → Answer → Type 0
 AreBundleMaps cells field word answer = (asked : Preferences) × ArePreferences field word asked
     × AnswersBundle cells asked answer
 
+-- the preferences are refused, or memory ended
 abbrev pub RefusesBundle : FieldText → Option Text → FrontFault → Type 0
 RefusesBundle field word fault = RefusesPreferences field word fault
     ⊎ (HasPreferences field word × (fault ≡ NoMemory))

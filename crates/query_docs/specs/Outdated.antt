@@ -1,5 +1,5 @@
--- What a translator has to look at again: messages whose label is older than their source's. Own
--- rule.
+-- What a translator has to look at again: messages whose label is older than their source's.
+-- Project rule.
 use Rattle.std.specs.Prelude.{◌≡◌, ◌<◌, ℕ, Bool, List, None, Option, Some, false, filter, is_some}
 use Rattle.std.specs.Prelude.{nat_lt, option_and_then, option_map, true}
 use Rattle.std.specs.FinMap.Entries.{find}

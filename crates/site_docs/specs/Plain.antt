@@ -1,5 +1,5 @@
--- Documents in the form in which they are written, and texts that begin with a part of one. Own
--- rule.
+-- Documents in the form in which they are written, and texts that begin with a part of one.
+-- Project rule.
 use Rattle.std.specs.Prelude.{◌≡◌, ◌⊎◌, ◌<◌, ◌≤◌, ◌+◌, ◌++◌, ◌∷◌, [], ℕ, List, Bool, true, false}
 use Rattle.std.specs.Prelude.{IsUtf8, codes, decimal, get_or, length, take}
 use Rattle.json.specs.Print.{escape_byte, quoted}

@@ -5,6 +5,8 @@ use Rattle.command_core.specs.Values.{edit_values}
 use Rattle.command_core.proofs.EditsLemmas.{label_fits}
 use Rattle.command_core.proofs.edits.answer_of.Goals as goal
 
+-- The text is the edited site's: the words were read as this key and this label, and the document
+-- call edited there, at the moment given.
 pub returns : goal.returns
 returns g c =
     let words = edit_values c.args.values in

@@ -12,6 +12,8 @@ returns-in_err-lexicat g c =
     no_memory c.as_slice.result c.as_slice-2.result (search rules) (search rules) _
     c.from_residual.result c.from_residual.ensures.1
 
+-- The words are matched, or refused, as the program of all subcommands says, since what was built
+-- is that program, whose arguments are all simple.
 pub returns : goal.returns
 returns g c =
     let schemes = c.as_slice.result in

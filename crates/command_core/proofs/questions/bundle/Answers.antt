@@ -4,6 +4,8 @@ use Rattle.front_core.specs.Questions.{is_found}
 use Rattle.front_core.specs.declared.answer.Answer.{Answer}
 use Rattle.command_core.proofs.questions.bundle.Goals as goal
 
+-- The language maps are those of the site that the input is read as, for the preferences that the
+-- words were read as.
 pub returns : goal.returns
 returns g c =
     let bundle = rw (c.bytes.ensures, c.as_ref-default.ensures.value) at c.in_ok-text.ensures in

@@ -6,6 +6,8 @@ use Rattle.command_core.proofs.QuestionsLemmas.{same_filter}
 use Rattle.command_core.proofs.ReadingLemmas.{memory_ended}
 use Rattle.command_core.proofs.questions.filter.Goals as goal
 
+-- The lines are those of the site that the input is read as: the cells that were kept have the
+-- message's cells, over which the filter goes.
 pub returns : goal.returns
 returns g c =
     let read = c.in_ok-site.ensures in

@@ -6,6 +6,8 @@ use Rattle.command_core.proofs.QuestionsLemmas.{same_lookup}
 use Rattle.command_core.proofs.ReadingLemmas.{memory_ended}
 use Rattle.command_core.proofs.questions.lookup.Goals as goal
 
+-- The line is that of the site that the input is read as: the cells that were kept have the
+-- message's cells, over which the lookup goes.
 pub returns : goal.returns
 returns g c =
     let read = c.in_ok-site.ensures in
@@ -27,6 +29,7 @@ returns g c =
       ),
     )
 
+-- Memory ended after the words and the input were read, which refuses the question for that alone.
 pub returns-in_err-answer : goal.returns-in_err-answer
 returns-in_err-answer g c =
     let p =

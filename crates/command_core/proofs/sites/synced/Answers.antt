@@ -19,6 +19,7 @@ returns g c = (
   ),
 )
 
+-- The input was read, and the two documents of it are refused by the document call.
 pub returns-in_err-texts : goal.returns-in_err-texts
 returns-in_err-texts g c =
     let p =

@@ -15,6 +15,8 @@ returns-in-Sync g c = rw c.in-Sync.is c.sync.ensures
 pub returns-in-Replay : goal.returns-in-Replay
 returns-in-Replay g c = rw c.in-Replay.is c.replay.ensures
 
+-- Each task is answered or refused as its own function says, and the answer is written, or the
+-- refusal reported, as the end of a run says.
 pub returns : goal.returns
 returns g c =
     let asked = task_values c.args.task in

@@ -2,6 +2,8 @@ use Rattle.std.proofs.Common.{Ok, refl}
 use Rattle.command_core.proofs.AppLemmas.{with_command}
 use Rattle.command_core.proofs.commands.exchange.with_exchange.Goals as goal
 
+-- The program has these six subcommands after those that it had: each was added to what the one
+-- before it gave, and where memory ended nothing is promised.
 pub returns : goal.returns
 returns c =
     let with_summary = with_command _ _ (Ok c.args.program) (Ok c.reading-summary.result)

@@ -2,6 +2,8 @@ use Rattle.std.proofs.Common.{Ok, refl}
 use Rattle.command_core.proofs.AppLemmas.{with_command}
 use Rattle.command_core.proofs.commands.labels.with_labels.Goals as goal
 
+-- The program has these six subcommands after those that it had: each was added to what the one
+-- before it gave, and where memory ended nothing is promised.
 pub returns : goal.returns
 returns c =
     let with_import = with_command _ _ (Ok c.args.program) c.import.result

@@ -40,6 +40,8 @@ use Rattle.front_c.specs.contracts.handles.raw_box.RawBox.into_box.Key.{name as 
 use Rattle.front_c.proofs.handles.raw_box.RawBox.into_box.Statement.{statement}
 use Rattle.front_c.proofs.handles.raw_box.RawBox.into_box.Code as code
 
+-- The box that `Box::from_raw` makes owns what the pointer and the allocator owned, and has the
+-- same value.
 pub into_box_spec : {M : Type 1} → statement M
 into_box_spec 𝓤 𝓛 𝓜 𝓡 wired T A L LA g d dx dd allocator glue glued =
     let H = 𝓛.H in let 𝓣 = tables 𝓤 H 𝓜 𝓡 𝓡.env in let R : RattleType = param 0 T in

@@ -41,6 +41,8 @@ use Rattle.front_c.specs.contracts.handles.raw_box.RawBox.of.Key.{name as #self}
 use Rattle.front_c.proofs.handles.raw_box.RawBox.of.Statement.{statement}
 use Rattle.front_c.proofs.handles.raw_box.RawBox.of.Code as code
 
+-- The pointer and the allocator that `Box::into_raw_with_allocator` gives own what the box owned,
+-- and lead to the same value.
 pub of_spec : {M : Type 1} → statement M
 of_spec 𝓤 𝓛 𝓜 𝓡 wired T A L LA g d dx dd allocator glue glued =
     let H = 𝓛.H in let 𝓣 = tables 𝓤 H 𝓜 𝓡 𝓡.env in let R : RattleType = param 0 T in

@@ -36,6 +36,7 @@ stayed = (stay_dropped (plain (λ _. G)) yes, tt)
 abbrev al : Al
 al = record { row = G; laws = LG; g = ghosts; d = impl [] tnil dnil; drops = impl [] tnil dnil }
 
+-- The handle is not open, since its pointer is null, which owns nothing.
 pub closed_spec : {M : Type 1} → statement M
 closed_spec 𝓤 𝓛 𝓜 𝓡 wired =
     let c = f.clauses 𝓛 𝓜.mem 𝓡.returns in let W = walk_of 𝓛 f.ended stayed c in let 𝓣 =

@@ -29,6 +29,7 @@ use Rattle.front_c.proofs.handles.site_handle.SiteHandle.discard.Code as code
 abbrev stayed : Stays f.ended.signature.params f.ended.kept
 stayed = (stay_dropped (plain (λ _. R)) yes, tt)
 
+-- A handle that is not open owns nothing, so nothing is lost where it ends.
 pub discard_spec : {M : Type 1} → statement M
 discard_spec 𝓤 𝓛 𝓜 𝓡 wired =
     let c = f.clauses 𝓛 𝓜.mem 𝓡.returns in let W = walk_of 𝓛 f.ended stayed c in let 𝓣 =

@@ -46,6 +46,8 @@ stayed = (stay_dropped (plain (λ _. R)) yes, (stay_dropped (plain (λ _. G)) ye
 abbrev al : Al
 al = record { row = G; laws = LG; g = ghosts; d = impl [] tnil dnil; drops = impl [] tnil dnil }
 
+-- The pointer of an open handle is that of a block, which it owns; so with the allocator beside it
+-- it is a raw box of the same share.
 pub into_raw_box_spec : {M : Type 1} → statement M
 into_raw_box_spec 𝓤 𝓛 𝓜 𝓡 wired =
     let c = f.clauses 𝓛 𝓜.mem 𝓡.returns in let W = walk_of 𝓛 f.ended stayed c in let 𝓣 =

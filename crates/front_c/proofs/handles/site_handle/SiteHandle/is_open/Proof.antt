@@ -41,6 +41,7 @@ not_not : (y : Bool) → not (not y) ≡ y
 not_not true = refl
 not_not false = refl
 
+-- The pointer is null just where the handle is not open, and to read it changes nothing.
 pub is_open_spec : {M : Type 1} → statement M
 is_open_spec 𝓤 𝓛 𝓜 𝓡 wired =
     let c = f.clauses 𝓛 𝓜.mem 𝓡.returns in let W = walk_of 𝓛 f.ended stayed c in let 𝓣 =

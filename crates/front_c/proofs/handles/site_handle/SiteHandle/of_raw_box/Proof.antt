@@ -33,6 +33,8 @@ use Rattle.front_c.proofs.handles.site_handle.SiteHandle.of_raw_box.Code as code
 abbrev stayed : Stays f.ended.signature.params f.ended.kept
 stayed = (stay_dropped (plain (λ _. RawBox T G LG ghosts)) yes, tt)
 
+-- The pointer of the raw box is that of a block, which the handle then owns: so it is open, and has
+-- the same share.
 pub of_raw_box_spec : {M : Type 1} → statement M
 of_raw_box_spec 𝓤 𝓛 𝓜 𝓡 wired =
     let c = f.clauses 𝓛 𝓜.mem 𝓡.returns in let W = walk_of 𝓛 f.ended stayed c in let 𝓣 =

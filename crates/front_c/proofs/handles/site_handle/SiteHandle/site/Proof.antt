@@ -66,6 +66,8 @@ module _ {M : Type 1} {𝓤 : Ura M} (𝓛 : Logic 𝓤) (h : SiteHandle) (us : 
         (with_site h x)
         ws)) us $ done !
 
+-- The borrow is of the share in the block that an open handle owns; what is written there becomes
+-- the handle's share, since it owns the rest meanwhile.
 pub site_spec : {M : Type 1} → statement M
 site_spec 𝓤 𝓛 𝓜 𝓡 wired =
     let c = f.clauses 𝓛 𝓜.mem 𝓡.returns in let W = walk_of 𝓛 f.ended stayed c in let 𝓣 =
