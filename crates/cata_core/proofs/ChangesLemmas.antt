@@ -86,7 +86,7 @@ find_after : (k : EntryKey) (es : Entries)
 find_after k es =
     find-mapped key_cmp (λ (c : Cell). (None, Some c)) k es ∙ pair_after (find key_cmp k es)
 
--- ---- what is below a list of entries, and lists that rise
+-- ---- what is below a list of entries, and lists that ascend
 
 module _ {J : Type 0} where
   head_low : (x : EntryKey) (e : EntryKey × J) (es : List (EntryKey × J))
@@ -186,7 +186,7 @@ find_sides k [] after m n = find_after k after
 find_sides k (e ∷ es) after m n =
     find_beside k e es (side_by_side es) m (λ ys o. find_sides k es ys (tail_of e es m) o) after n
 
--- ---- their keys rise
+-- ---- their keys ascend
 
 below_after : (x : EntryKey) (es : Entries) → T (below_all key_cmp x es)
     → T (below_all key_cmp x (map only_after es))

@@ -1,4 +1,4 @@
--- What sites hold are maps whose stamps only rise, whether or not edits clash.
+-- What sites hold are maps whose stamps only grow, whether or not edits clash.
 use Rattle.std.proofs.Common.{◌≡◌, ℕ, true, false, List, [], ◌∷◌, ◌++◌, Option, Some, None, inl}
 use Rattle.std.proofs.Common.{inr, refl, sym, subst}
 use Rattle.std.specs.Prelude.{◌==◌, if◌then◌else◌, slice_get}

@@ -1,4 +1,4 @@
--- Summaries: what they have at a key, and that they rise.
+-- Summaries: what they have at a key, and that they ascend.
 use Rattle.std.proofs.Common.{◌≡◌, ◌≢◌, true, false, cond, List, Option, Some, None, inl, inr, refl}
 use Rattle.std.proofs.Common.{sym, ap, ◌∙◌, subst}
 use Rattle.std.specs.declared.cmp.Ordering.TheVariants.{Less}

@@ -23,7 +23,7 @@ is_same = option_eq cell_eq
 abbrev pub change_of : Option Cell → Option Cell → Option Sides
 change_of before after = if is_same before after then None else Some (before, after)
 
--- one entry for each key whose cells are not equal, or that one of them lacks, in rising order
+-- one entry for each key whose cells are not equal, or that one of them lacks, in ascending order
 pub record AreChanges (before after : Entries) (changes : Changed) : Type 0 where
   pub rise : IsMap key_cmp changes
   pub each : (key : EntryKey)

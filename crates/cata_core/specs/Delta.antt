@@ -11,7 +11,7 @@ use Rattle.cell_core.specs.Cell.{AgreeStamps, joined_stamps}
 use Rattle.cell_core.specs.Keyed.{IsMap, AgreeMaps, joined_maps}
 use Rattle.cata_core.specs.Entries.{EntryKey, key_cmp, Entries}
 
--- stamps by keys that rise
+-- stamps by keys that ascend
 abbrev pub Stamps : Type 0
 Stamps = List (EntryKey × Stamp)
 

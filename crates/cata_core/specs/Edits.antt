@@ -32,7 +32,7 @@ is_beaten_by e f = is_eq (key_cmp e.0 f.0) && is_lt (stamp_cmp e.1.stamp f.1.sta
 abbrev pub is_best : List Entry → Entry → Bool
 is_best edits e = list_all (λ f. not (is_beaten_by e f)) edits
 
--- the edits in rising order of their keys
+-- the edits in ascending order of their keys
 abbrev pub entries_of : List Entry → Entries
 entries_of [] = []
 entries_of (e ∷ es) = put key_cmp e.0 e.1 (entries_of es)

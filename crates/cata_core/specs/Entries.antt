@@ -1,4 +1,4 @@
--- Keys, and catalogues as lists of entries in rising order of key.
+-- Keys, and catalogues as lists of entries in ascending order of key.
 use Rattle.std.specs.Prelude.{◌≡◌, ℕ, List, All}
 use Rattle.std.specs.declared.cmp.Ordering.{Ordering}
 use Rattle.std.specs.declared.cmp.Ordering.TheVariants.{Less, Equal}
@@ -47,7 +47,7 @@ IsAboveAll key es = All (λ e. key_cmp e.0 key ≡ Less) es
 abbrev pub Entry : Type 0
 Entry = EntryKey × Cell
 
--- a catalogue: entries whose keys rise
+-- a catalogue: entries whose keys ascend
 abbrev pub Entries : Type 0
 Entries = List Entry
 

@@ -1,4 +1,4 @@
--- Maps of maps as one list of entries, in rising order of both keys.
+-- Maps of maps as one list of entries, in ascending order of both keys.
 use Rattle.std.specs.Prelude.{◌<◌, List, [], Option, Some, None, All, length, map}
 use Rattle.std.specs.List.{flat_map}
 use Rattle.std.specs.declared.cmp.Ordering.{Ordering}

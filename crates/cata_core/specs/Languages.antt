@@ -23,7 +23,7 @@ is_in langs lang = is_some (find text_cmp lang langs)
 abbrev pub is_used : Entries → List ℕ → Bool
 is_used cells lang = list_any (λ e. is_some e.1.label && is_eq (text_cmp lang e.0.1)) cells
 
--- each language that has a live label in some message, once, in rising order
+-- each language that has a live label in some message, once, in ascending order
 pub record AreLanguages (cells : Entries) (langs : LanguageMap) : Type 0 where
   pub rise : IsMap text_cmp langs
   pub each : (lang : List ℕ) → is_in langs lang ≡ is_used cells lang

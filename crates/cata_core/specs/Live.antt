@@ -7,7 +7,7 @@ use Rattle.std.specs.FinMap.Entries.{find}
 use Rattle.cell_core.specs.declared.cell.Cell.{Cell}
 use Rattle.cata_core.specs.Entries.{text_cmp, Entries}
 
--- languages with their labels, in rising order
+-- languages with their labels, in ascending order
 abbrev pub Labelled : Type 0
 Labelled = List (List ℕ × List (List ℕ))
 

@@ -20,7 +20,7 @@ OldEntry = EntryKey × OldCell
 abbrev pub OldEntries : Type 0
 OldEntries = List OldEntry
 
--- the keys rise, and the stamps have sites and counts of 32 bits
+-- the keys ascend, and the stamps have sites and counts of 32 bits
 pub record IsOldMap (es : OldEntries) : Type 0 where
   pub map : IsMap key_cmp es
   pub stamps : (k : EntryKey) (c : OldCell) → find key_cmp k es ≡ Some c → IsOldStamp c.stamp

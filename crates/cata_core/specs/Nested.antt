@@ -15,7 +15,7 @@ Inner = List (List ℕ × Cell)
 abbrev pub Nested : Type 0
 Nested = List (List ℕ × Inner)
 
--- both keys rise, and no message is without a cell
+-- both keys ascend, and no message is without a cell
 abbrev pub IsCatalogue : Nested → Type 0
 IsCatalogue = IsNested text_cmp text_cmp
 

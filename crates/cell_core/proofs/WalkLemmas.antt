@@ -152,7 +152,7 @@ module _ {K J : Type 0} (cmp : K → K → Ordering) where
     place_found_in_map key es at d map lt tie =
         place_found key es at d (place_tied key es at d map tie lt) lt tie
 
-    -- keys of a map rise from one place to the next
+    -- keys of a map ascend from one place to the next
     pub rises : (es : List (K × J)) (i : ℕ) (d : K × J) → IsMap cmp es → suc i < length es
         → (let e = get_or es i d in let f = get_or es (suc i) d in cmp e.0 f.0 ≡ Less)
     rises [] i d map lt = absurd (omega (arith, lt))

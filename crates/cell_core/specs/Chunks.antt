@@ -33,7 +33,7 @@ pub record IsKept {K J : Type 0} (cmp : K → K → Ordering) (chunks : Chunks K
   pub chunked : IsChunked cmp chunks.list.items
   pub counted : chunks.count ≡ length (entries_of chunks)
 
--- the keys in front are lesser, and those behind are greater
+-- the keys of the chunks before it are lesser, and those of the chunks after it greater
 pub record IsChunkFor {K J Z : Type 0} (cmp : K → K → Ordering) (key : K)
     (cs : List (Vec (K × J) Z)) (at : ℕ) : Type 0 where
   pub in_range : at < length cs

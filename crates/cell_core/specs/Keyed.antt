@@ -1,4 +1,4 @@
--- Lists of entries in rising order of their keys, seen as maps: how they agree and join.
+-- Lists of entries in ascending order of their keys, seen as maps: how they agree and join.
 use Rattle.std.specs.Prelude.{◌≡◌, Bool, true, false, cond, ◌&&◌, T, ◌⊎◌, List, [], ◌∷◌, Option}
 use Rattle.std.specs.Prelude.{Some, None, refl}
 use Rattle.std.proofs.Common.{sym, ap, ◌∙◌, subst, inl, inr, true≢false}
@@ -160,7 +160,7 @@ tied Equal e = refl
 tied Greater e = absurd (true≢false (sym e))
 
 module _ {K J : Type 0} (cmp : K → K → Ordering) where
-  -- the keys strictly rise, so that no key comes twice
+  -- the keys strictly ascend, so that no key comes twice
   abbrev pub IsMap : List (K × J) → Type 0
   IsMap es = T (is_sorted cmp es)
 

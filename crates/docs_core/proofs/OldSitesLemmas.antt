@@ -184,7 +184,7 @@ same_sorted : {J L : Type 0} (f : J → L) (es : List (EntryKey × J))
 same_sorted f [] = refl
 same_sorted f (e ∷ es) = ap₂ (λ s t. s && t) (same_below f e.0 es) (same_sorted f es)
 
--- where the migrated entries rise, so do the old ones
+-- where the migrated entries ascend, so do the old ones
 old_rise : (olds : OldEntries) (es : Entries) → es ≡ migrated_entries olds → IsMap key_cmp es
     → IsMap key_cmp olds
 old_rise olds es same rise =
@@ -238,7 +238,7 @@ site_holds d site old pass small is was same = record {
       (ap (λ (s : SiteState). s.cells) same);
 }
 
--- what a text of version 1 reads as is a migrated site, whose numbers fit and whose keys rise
+-- what a text of version 1 reads as is a migrated site, whose numbers fit and whose keys ascend
 pub site_fits : (bytes : List ℕ) (d : Data) (site : SiteState) → AreJson bytes d
     → version_of d ≡ One → ReadsAsSite bytes site
     → (old : OldSite) × IsOldSite old × IsOldSiteDocument d old × (site ≡ migrated_site old)

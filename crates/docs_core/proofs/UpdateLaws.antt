@@ -58,7 +58,7 @@ made_at now name (e ∷ es) old new m (stamp, next, rest) q =
       )
     ] refl
 
--- the keys still rise after changes
+-- the keys still ascend after changes
 pub made-IsMap : (now : ℕ) (name : List ℕ) (changes : List Change) (old new : Entries)
     → IsMap key_cmp old → Makes now name changes old new → IsMap key_cmp new
 made-IsMap now name [] old new m is = subst (IsMap key_cmp) (sym is) m

@@ -11,7 +11,7 @@ use Rattle.map_docs.specs.LangMapLabels.{AreLangMaps, RefusesLangMaps}
 use Rattle.map_docs.specs.LangMaps.{Labelled}
 use Rattle.docs_core.specs.Imported.{Imports, SpendsImport}
 
--- the site with each label of the language maps put at this time, in rising order of key
+-- the site with each label of the language maps put at this time, in ascending order of key
 abbrev pub IsImported : List ℕ → ℕ → List ℕ → List ℕ → Type 0
 IsImported bytes now maps doc =
     (site : SiteState) × (labels : List Labelled) × (cells : Entries) × ReadsAsSite bytes site

@@ -1,4 +1,4 @@
--- Data of version 1 whose numbers fit and whose keys rise: times of 64 bits, sites and counts of
+-- Data of version 1 whose numbers fit and whose keys ascend: times of 64 bits, sites and counts of
 -- 32. Project rule.
 use Rattle.std.specs.Prelude.{◌≡◌, ℕ, ◌<◌, ◌^◌, All, Some, ⊤}
 use Rattle.std.specs.FinMap.Entries.{find}
@@ -9,22 +9,22 @@ use Rattle.cata_core.specs.Migration.{IsOldMap, OldDelta, OldSite, OldStamps, Ol
 use Rattle.cata_core.specs.OldSteps.{OldEdit, OldStep}
 use Rattle.script_docs.specs.OldScripts.{OldScript}
 
--- the keys of the stamps rise, and their numbers fit
+-- the keys of the stamps ascend, and their numbers fit
 pub record AreOldStamps (told : OldStamps) : Type 0 where
   pub map : IsMap key_cmp told
   pub stamps : (k : EntryKey) (s : OldStamp) → find key_cmp k told ≡ Some s → IsOldStamp s
 
--- the site's number fits, its keys rise, and its stamps' numbers fit
+-- the site's number fits, its keys ascend, and its stamps' numbers fit
 pub record IsOldSite (site : OldSite) : Type 0 where
   pub number_fits : site.number < 2 ^ 32
   pub cells : IsOldMap site.cells
 
--- the addressee's number fits, the keys rise, and the stamps' numbers fit
+-- the addressee's number fits, the keys ascend, and the stamps' numbers fit
 pub record IsOldDelta (delta : OldDelta) : Type 0 where
   pub addressee_fits : delta.addressee < 2 ^ 32
   pub cells : IsOldMap delta.cells
 
--- the owner's number fits, the keys rise, and the stamps' numbers fit
+-- the owner's number fits, the keys ascend, and the stamps' numbers fit
 pub record IsOldSummary (summary : OldSummary) : Type 0 where
   pub owner_fits : summary.owner < 2 ^ 32
   pub stamps : AreOldStamps summary.stamps

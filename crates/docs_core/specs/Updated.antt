@@ -26,7 +26,7 @@ IsChangeAt old new held change =
     (((old ≡ new) ⊎ (held ≡ new)) × (change ≡ None))
     ⊎ ((old ≢ new) × (held ≢ new) × (change ≡ Some new))
 
--- the changes from the old labels to the new ones, in rising order of key
+-- the changes from the old labels to the new ones, in ascending order of key
 pub record AreChanges (old new : List Labelled) (cells : Entries)
     (changes : List Change) : Type 0 where
   pub rising : IsMap key_cmp changes

@@ -17,7 +17,7 @@ use Rattle.front_core.specs.declared.fault.FrontFault.TheVariants.{NoMemory}
 abbrev pub RefusesMaps : Text → FrontFault → Type 0
 RefusesMaps maps = IsOf document_fault (OrMemory no_memory (IsOfDocument 1 (RefusesLangMaps maps)))
 
--- the site with each label of the language maps put at this time, in rising order of key
+-- the site with each label of the language maps put at this time, in ascending order of key
 abbrev pub IsImported : ℕ → Text → SiteState → SiteState → Type 0
 IsImported now maps old new =
     (labels : List Labelled) × AreLangMaps maps labels × (new.name ≡ old.name)

@@ -40,7 +40,7 @@ without_last [] = []
 without_last (s ∷ []) = []
 without_last (s ∷ t ∷ more) = s ∷ without_last (t ∷ more)
 
--- without the single letters and digits that stand last
+-- without the single letters and digits that are last
 abbrev pub without_last_singles : List (List ℕ) → List (List ℕ)
 without_last_singles [] = []
 without_last_singles (s ∷ more) = if list_all is_single (s ∷ more) then

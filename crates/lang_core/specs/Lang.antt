@@ -3,7 +3,7 @@ use Rattle.std.specs.Str.{bytes_eq, str_to_ascii_lowercase}
 use Rattle.lang_core.specs.Tag.{IsTag, RefusesTag}
 use Rattle.lang_core.specs.declared.fault.LangFault.{LangFault}
 
--- JSON-LD 1.1, section 9.8: the key "@none" stands for a text without a language
+-- JSON-LD 1.1, section 9.8: the key "@none" is that of a text without a language
 abbrev pub none_text : List ℕ
 none_text = codes "@none"
 

@@ -15,13 +15,13 @@ Basic range tag = (range ≡ (42 ∷ []) ∷ []) ⊎ IsFront range tag
 abbrev pub IsBeforeHyphen : List ℕ → List ℕ → Type 0
 IsBeforeHyphen front text = (rest : List ℕ) × (text ≡ front ++ 45 ∷ rest)
 
--- RFC 4647 section 3.3.1, of texts: the range is "*", equals the tag, or is what stands before a
+-- RFC 4647 section 3.3.1, of texts: the range is "*", equals the tag, or is what comes before a
 -- hyphen of it
 abbrev pub BasicInBytes : List ℕ → List ℕ → Type 0
 BasicInBytes range tag = (range ≡ 42 ∷ []) ⊎ ((range ≡ tag) ⊎ IsBeforeHyphen range tag)
 
--- The subtags that are wanted stand among those that are given, in order. A given one may be passed
--- over where it has more than one character.
+-- The subtags that are wanted are among those that are given, in order. A given one may be skipped
+-- where it has more than one character.
 abbrev pub Embeds : List (List ℕ) → List (List ℕ) → Type 0
 Embeds [] given = Unit {0}
 Embeds (w ∷ wanted) [] = ⊥

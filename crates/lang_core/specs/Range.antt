@@ -7,7 +7,7 @@ use Rattle.lang_core.specs.declared.fault.LangFault.{LangFault}
 use Rattle.lang_core.specs.declared.fault.LangFault.TheVariants.{RangeEmpty, RangeTooLong}
 use Rattle.lang_core.specs.declared.fault.LangFault.TheVariants.{RangeSubtag, NoMemory}
 
--- a text in lower case is a range of a grammar, which says which pieces may stand where
+-- a text in lower case is a range of a grammar, which says which pieces may be where
 abbrev pub IsRange : (List (List ℕ) → Type 0) → List ℕ → Type 0
 IsRange Grammar text = IsSized text × Grammar (pieces text)
 

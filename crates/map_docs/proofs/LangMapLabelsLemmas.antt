@@ -290,7 +290,7 @@ below_live x ((k, Some texts) ∷ es) h =
     (first_part (is_lt (text_cmp x k)) (below_all text_cmp x es) h)
     (below_live x es (second_part (is_lt (text_cmp x k)) (below_all text_cmp x es) h))
 
--- the languages with a label rise as all that were found
+-- the languages with a label ascend as all that were found
 pub live_IsMap : (es : Found) → IsMap text_cmp es → IsMap text_cmp (live es)
 live_IsMap [] h = tt
 live_IsMap ((k, None) ∷ es) h =
@@ -323,7 +323,7 @@ below_under id x (l ∷ ls) h =
     (first_part (is_lt (text_cmp x l.0)) (below_all text_cmp x ls) h)))
     (below_under id x ls (second_part (is_lt (text_cmp x l.0)) (below_all text_cmp x ls) h))
 
--- the labels of a message rise as its languages
+-- the labels of a message ascend as its languages
 pub under_IsMap : (id : List ℕ) (ls : Languages) → IsMap text_cmp ls → IsMap key_cmp (under id ls)
 under_IsMap id [] h = tt
 under_IsMap id (l ∷ ls) h =
@@ -366,7 +366,7 @@ below_in k [] x ys h =
 below_in k (e ∷ es) x ys h =
     below_in k es x ys (second_part (is_lt (key_cmp k e.0)) (below_all key_cmp k (es ++ x ∷ ys)) h)
 
--- in a list that rises each key is above those in front of it
+-- in a list that ascends each key is above those in front of it
 pub above_front : (es : List Labelled) (x : Labelled) (ys : List Labelled)
     → IsMap key_cmp (es ++ x ∷ ys) → IsAboveAll x.0 es
 above_front [] x ys m = All-nil (λ (e : Labelled). key_cmp e.0 x.0 ≡ Less)

@@ -1,4 +1,4 @@
--- A list of labels that rises is known by its labels.
+-- A list of labels that ascends is known by its labels.
 use Rattle.std.proofs.Common.{◌≡◌, ◌∙◌, ◌<◌, ℕ, zero, suc, List, [], ◌∷◌, length, get_or, false}
 use Rattle.std.proofs.Common.{refl, sym, ap, ap₂, subst, add-one, arith}
 use Rattle.std.specs.Prelude.{IsSorted, IsPermutation}

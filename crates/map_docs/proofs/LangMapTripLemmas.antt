@@ -170,7 +170,7 @@ languages_back front (l ∷ ls) m =
     ∙ languages_back (front ++ l ∷ []) ls (subst (IsMap text_cmp) (sym one_more) m)
     ∙ ap (λ l. Some (languages_members l)) one_more
 
--- ---- messages that rise, each with languages that rise
+-- ---- messages that ascend, each with languages that ascend
 
 abbrev AreRising : Messages → Type 0
 AreRising [] = Unit {0}

@@ -1,4 +1,4 @@
--- Names that rise, each with its labels, as they are read.
+-- Names that ascend, each with its labels, as they are read.
 use Rattle.std.proofs.Common.{◌≡◌, ◌∙◌, ◌||◌, ℕ, false, List, [], ◌∷◌, ◌++◌, map, length, refl}
 use Rattle.std.proofs.Common.{sym, ap, ap₂, subst, append_assoc, Option, Some, arith}
 use Rattle.std.specs.Prelude.{All, ◌<◌}
@@ -38,7 +38,7 @@ use Rattle.map_docs.proofs.LangMapTripLemmas.{unmarked}
 
 -- ---- a member more
 
--- of members that rise the next is the last
+-- of members that ascend the next is the last
 pub member_behind : {X : Type 0} (of : Data → X) (k : List ℕ) (d : Data) (ms : Members)
     → IsAbove text_cmp k (members_by of ms)
     → members_by of (put k d ms) ≡ members_by of ms ++ (k, of d) ∷ []
@@ -78,7 +78,7 @@ is_label : (texts : List (List ℕ)) → IsLabel texts → IsLabelOrNone texts
 is_label [] label = tt
 is_label (t ∷ ts) label = label
 
--- the keys so far, the last of which is this one, are in lower case and rise; they pass all tests
+-- the keys so far, the last of which is this one, are in lower case and ascend; they pass all tests
 pub record AreRisingKeys (last : List ℕ) (keys : Keys) : Type 0 where
   pub above : (n : List ℕ) → text_cmp last n ≡ Less → IsAbove text_cmp n keys
   pub languages : (n : List ℕ) → text_cmp last n ≡ Less → IsAbove text_cmp n (languages_of keys)
@@ -179,7 +179,7 @@ takes_none Holds old id = λ first before holds lesser map. (
 
 -- ---- a message more
 
--- the messages so far, the last of which is this one, rise and pass all tests
+-- the messages so far, the last of which is this one, ascend and pass all tests
 pub record AreRisingRows (last : List ℕ) (rows : Rows) : Type 0 where
   pub above : (n : List ℕ) → text_cmp last n ≡ Less → IsAbove text_cmp n rows
   pub lesser : (n : List ℕ) → text_cmp last n ≡ Less → AreLesser (rows_labels rows) n

@@ -33,7 +33,7 @@ row_labels r = unless_marked (is_marked r.0) (under r.0 (languages_of (unwrap_or
 abbrev pub rows_labels : Rows → List Labelled
 rows_labels rows = flat_map row_labels rows
 
--- the document's labels, in rising order of key
+-- the document's labels, in ascending order of key
 abbrev pub ReadsAsLangMaps : Data → List Labelled → Type 0
 ReadsAsLangMaps d labels =
     (rows : Rows) × (message_rows_in d ≡ Some rows) × IsPermutation (rows_labels rows) labels

@@ -26,7 +26,7 @@ pub record IsWritable (e : Labelled) : Type 0 where
 abbrev pub AreWritable : List Labelled → Type 0
 AreWritable labels = AllByRecursion IsWritable labels
 
--- labels that rise read from their own document
+-- labels that ascend read from their own document
 abbrev pub ReadsBack : Type 0
 ReadsBack = (labels : List Labelled) → IsMap key_cmp labels → AreWritable labels
     → IsUtf8 (text (langmaps_value labels)) → AreLangMaps (text (langmaps_value labels)) labels

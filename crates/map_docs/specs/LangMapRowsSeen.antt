@@ -80,7 +80,7 @@ abbrev pub IsOneLabel : List (List ℕ) → Option (List (List ℕ)) → Type 0
 IsOneLabel [] label = label ≡ None
 IsOneLabel (t ∷ ts) label = label ≡ Some (t ∷ ts)
 
--- the labels grew by those of these keys, in rising order
+-- the labels grew by those of these keys, in ascending order
 abbrev pub AddsLanguages : List Labelled → List Labelled → List ℕ → Keys → Type 0
 AddsLanguages old new id keys =
     (languages : Languages) × IsPermutation (languages_of keys) languages × IsMap text_cmp languages

@@ -1,4 +1,4 @@
--- Language maps as one list of labels, in rising order of key.
+-- Language maps as one list of labels, in ascending order of key.
 use Rattle.std.specs.Prelude.{ℕ, List, map}
 use Rattle.cata_core.specs.Entries.{EntryKey}
 use Rattle.map_docs.specs.declared.maps.KeyedLabel.{KeyedLabel}

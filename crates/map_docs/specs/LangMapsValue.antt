@@ -21,7 +21,7 @@ with_label e (m ∷ ms) =
     if bytes_eq e.0.0 m.0 then (e.0.0, (e.0.1, e.1) ∷ m.1) ∷ ms
     else (e.0.0, (e.0.1, e.1) ∷ []) ∷ m ∷ ms
 
--- labels in rising order of key, by their messages
+-- labels in ascending order of key, by their messages
 abbrev pub by_message : List Labelled → Messages
 by_message [] = []
 by_message (e ∷ es) = with_label e (by_message es)

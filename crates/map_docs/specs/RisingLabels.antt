@@ -10,8 +10,8 @@ use Rattle.map_docs.specs.LangMapRows.{Keys}
 use Rattle.map_docs.specs.LangMapRowsSeen.{AreLesser}
 use Rattle.map_docs.specs.LangMaps.{Labelled}
 
--- after labels that rise, of lesser messages, the taker took the labels of these languages too, and
--- all rise
+-- after labels that ascend, of lesser messages, the taker took the labels of these languages too,
+-- and all ascend
 abbrev pub Takes : {T : Type 0} → (T → T → List Labelled → Type 0) → T → T → List ℕ → Keys → Type 0
 Takes {T} Holds old new id keys =
     (first : T) (before : List Labelled) → Holds first old before → AreLesser before id

@@ -79,7 +79,7 @@ turns_behind k (i ∷ items) =
 abbrev Precedes : OrderKey → OrderKey → Type 0
 Precedes s t = s.place < t.place
 
--- The keys in written order have rising places.
+-- The keys in written order have ascending places.
 pub turns_rise : (k : ℕ) (items : List Item) → AllPairs Precedes (order_keys_from items k)
 turns_rise k [] = λ i j d lt low. absurd (omega arith)
 turns_rise k (i ∷ items) = elim (cases_Bool (is_tried i)) [

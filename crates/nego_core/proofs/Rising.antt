@@ -1,4 +1,4 @@
--- Texts in rising order, each once.
+-- Texts in ascending order, each once.
 use Rattle.std.proofs.Common.{ℕ, ◌≡◌, ◌⊎◌, List, [], ◌∷◌, Bool, inl, inr, refl, sym, ◌∙◌, ap, subst}
 use Rattle.std.proofs.Common.{arith}
 use Rattle.std.specs.Prelude.{zero, suc, All, AllPairs, Contains, IsTrue, if◌then◌else◌}
@@ -15,11 +15,11 @@ use Rattle.nego_core.proofs.Basics.{contains_cases, contains_first, contains_lat
 use Rattle.nego_core.proofs.Unique.{text_tied}
 use Rattle.nego_core.specs.Widening.{IsBelow}
 
--- the first text of a rising list is below all others
+-- the first text of an ascending list is below all others
 pub all_above : (x : List ℕ) (xs : List (List ℕ)) → AllPairs IsBelow (x ∷ xs) → All (IsBelow x) xs
 all_above x xs h = λ k d low. h zero (suc k) d (omega arith) (omega arith)
 
--- what follows the first text of a rising list rises
+-- what follows the first text of an ascending list ascends
 pub rising_tail : (x : List ℕ) (xs : List (List ℕ)) → AllPairs IsBelow (x ∷ xs)
     → AllPairs IsBelow xs
 rising_tail x xs h = λ i j d lt low. h (suc i) (suc j) d (omega arith) (omega arith)
@@ -117,14 +117,14 @@ put_rising x (y ∷ ys) h =
     put_rising_at (slice_cmp nat_cmp x y) x y ys (put_in x ys) refl h
     (put_rising x ys (rising_tail y ys h)) (λ l. put_all (IsBelow y) x ys l (all_above y ys h))
 
--- ---- those that pass a test, in rising order
+-- ---- those that pass a test, in ascending order
 
--- the texts of a list that pass a test, each once, in rising order
+-- the texts of a list that pass a test, each once, in ascending order
 abbrev pub rising_of : (List ℕ → Bool) → List (List ℕ) → List (List ℕ)
 rising_of p [] = []
 rising_of p (x ∷ xs) = if p x then put_in x (rising_of p xs) else rising_of p xs
 
--- that list rises
+-- that list ascends
 pub rising_is : (p : List ℕ → Bool) (xs : List (List ℕ)) → AllPairs IsBelow (rising_of p xs)
 rising_is p [] = λ i j d lt low. absurd (omega arith)
 rising_is p (x ∷ xs) = elim (cases_Bool (p x)) [
@@ -164,7 +164,7 @@ rising_has p (x ∷ xs) z t c = elim (contains_cases x z xs c) [
   ]
 ]
 
--- ---- one list of these members rises
+-- ---- one list of these members ascends
 
 first_same : (x y : List ℕ) (xs ys : List (List ℕ)) → AllPairs IsBelow (x ∷ xs)
     → AllPairs IsBelow (y ∷ ys) → Contains (y ∷ ys) x → Contains (x ∷ xs) y → x ≡ y
@@ -191,7 +191,7 @@ later_of x y z xs ys e h c d = elim (contains_cases y z ys d) [
   | inr later ↦ later
 ]
 
--- two rising lists with the same members are one
+-- two ascending lists with the same members are one
 pub one_rising : (xs ys : List (List ℕ)) → AllPairs IsBelow xs → AllPairs IsBelow ys
     → ((z : List ℕ) → Contains xs z → Contains ys z)
     → ((z : List ℕ) → Contains ys z → Contains xs z) → xs ≡ ys

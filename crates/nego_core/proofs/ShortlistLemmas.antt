@@ -118,7 +118,7 @@ found_among w items langs place text f =
     let first = found_at w items langs key (Some (pieces text)) f in
     ap (is_among langs) (sym (joined-pieces text)) ∙ first.passes.0
 
--- and stands at its least place
+-- and is at its least place
 pub found_stands : (langs : List (List ℕ)) (text : List ℕ) (k : ℕ)
     → least_place langs text ≡ Some k → slice_get langs k ≡ Some text
 found_stands langs text k e =
@@ -191,7 +191,7 @@ wider items some langs y all o =
     (among_contains some (joined y) o.0) in
     (contains_among langs (joined y) there, o.1)
 
--- the first in rising order that passes is the least that does
+-- the first in ascending order that passes is the least that does
 first_least : (P : List (List ℕ) → Type 0) (matched : List (List ℕ)) (x : List ℕ)
     → MatchFirstOf P (map pieces matched) (Some (pieces x)) → AllPairs IsBelow matched
     → All (λ m. P (pieces m) → ¬ IsBelow m x) matched
@@ -475,7 +475,7 @@ rank_last w items langs left keys ranked t h = record {
 
 -- ---- a language that is removed
 
--- it stands within
+-- it is within
 pub removed_within : (left : List (Bor (List ℕ))) (k : ℕ) (lang : List ℕ)
     → slice_get (texts_of left) k ≡ Some lang → k < length left
 removed_within left k lang s =

@@ -100,7 +100,7 @@ test_of_matches s i None h = absurd h
 test_of_matches scheme.Basic i (Some tag) h = test_of_basic (pieces i.range) (pieces tag) h
 test_of_matches scheme.Extended i (Some tag) h = test_of_extended (pieces i.range) (pieces tag) h
 
--- the languages that the range of an item matches, each once, in rising order
+-- the languages that the range of an item matches, each once, in ascending order
 abbrev pub matched_of : Scheme → List (List ℕ) → Item → List (List ℕ)
 matched_of s langs i = rising_of (λ lang. test_of s i (tag_of lang)) langs
 
@@ -192,7 +192,7 @@ none_fit s items langs i (m ∷ matched) h n =
     (none_fit s items langs i matched
     (All-tail (λ m. Contains langs m × MatchesLang s i m) m matched h) n)
 
--- the least that is open is the first in rising order
+-- the least that is open is the first in ascending order
 pub least_first : (P : List (List ℕ) → Type 0) (matched : List (List ℕ)) (x : List ℕ)
     → Contains matched x → P (pieces x) → AllPairs IsBelow matched
     → All (λ m. P (pieces m) → ¬ IsBelow m x) matched

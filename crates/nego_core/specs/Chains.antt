@@ -22,13 +22,13 @@ pub record AreChainsOf (subtags : List (List ℕ)) (chains : List ℕ) : Type 0 
   pub only : (c : ℕ) → Contains chains c → IsChainOfOne subtags c
   pub once : AllPairs ◌≢◌ chains
 
--- A range may stand in the chain of each of its subtags other than "*", and in the last one.
+-- A range may be in the chain of each of its subtags other than "*", and in the last one.
 abbrev pub MayStandIn : List (List ℕ) → ℕ → Type 0
 MayStandIn range chain =
     (chain ≡ LAST_CHAIN)
     ⊎ ((s : List ℕ) × Contains range s × (is_star s ≡ false) × (chain_of s ≡ chain))
 
--- a chain in which the range at each of the first n places may stand
+-- a chain in which the range at each of the first n places may be
 pub record AreNumbers (items : List Item) (n : ℕ) (numbers : List ℕ) : Type 0 where
   pub as_many : length numbers ≡ n
   pub within : (k : ℕ) → k < n → slice_index numbers k < CHAIN_COUNT
@@ -56,20 +56,20 @@ pub record AreLinksFrom (chains : ℕ) (numbers : List ℕ) (from : ℕ) (first 
 abbrev pub AreLinks : ℕ → List ℕ → Chains → Type 0
 AreLinks many numbers chains = AreLinksFrom many numbers 0 chains.first.items chains.next.items
 
--- the items stand in chains of these numbers
+-- the items are in chains of these numbers
 pub record AreLinked (items : List Item) (numbers : List ℕ) (chains : Chains) : Type 0 where
   pub numbers_ok : AreNumbers items (length items) numbers
   pub links_ok : AreLinks CHAIN_COUNT numbers chains
 
--- each item stands in a chain in which its range may stand
+-- each item is in a chain in which its range may be
 abbrev pub AreChains : List Item → Chains → Type 0
 AreChains items chains = (numbers : List ℕ) × AreLinked items numbers chains
 
--- the item at the place stands in the chain
+-- the item at the place is in the chain
 abbrev pub StandsIn : List ℕ → ℕ → ℕ → Type 0
 StandsIn numbers chain place = slice_index numbers place ≡ chain
 
--- the item at the place stands in one of these chains, or in the last one
+-- the item at the place is in one of these chains, or in the last one
 abbrev pub StandsAmong : List ℕ → List ℕ → ℕ → Type 0
 StandsAmong numbers chains place =
     StandsIn numbers LAST_CHAIN place ⊎ Contains chains (slice_index numbers place)

@@ -31,7 +31,7 @@ candidates_at items place = of_item (slice_get items place) where
 abbrev pub IsOpen : List Item → (List ℕ → Bool) → List (List ℕ) → Type 0
 IsOpen items held candidate = IsTrue (held (joined candidate)) × ¬ NamedRefuse items candidate
 
--- where the first of a list stands that passes
+-- where the first of a list is that passes
 pub record IsFirst {X : Type 0} (Passes : X → Type 0) (list : List X) (x : X) : Type 0 where
   pub before : List X
   pub after : List X

@@ -75,7 +75,7 @@ NamedRefuse items tag = (place : ℕ) × ((d : IsDecidingNamed items tag place) 
 
 -- ---- the best of some items
 
--- the other has more subtags other than "*", or as many and stands before
+-- the other has more subtags other than "*", or as many and an earlier place
 abbrev pub is_worse : MostSpecific → MostSpecific → Bool
 is_worse best other =
     nat_lt best.specificity other.specificity ||

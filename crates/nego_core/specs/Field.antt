@@ -152,7 +152,7 @@ pub record IsFirstMalformed (scheme : Scheme) (bytes : List ℕ) (offset : ℕ) 
   pub malformed : (item : Item) → ¬ IsPadded scheme piece item
   pub begins : offset ≡ sum_by (λ p. length p + 1) before + prefix_len is_blank piece
 
--- an element that some item fits, behind pieces that are read
+-- an element that some item fits, after pieces that are read
 pub record HasElement (scheme : Scheme) (malformed : Malformed) (bytes : List ℕ) : Type 0 where
   pub before : List (List ℕ)
   pub piece : List ℕ
@@ -172,7 +172,7 @@ RefusesField scheme malformed bytes NoMemory =
 
 -- ---- from element to element
 
--- what stands between two elements beside empty ones: RFC 9110 section 5.6.1, OWS "," OWS
+-- what comes between two elements beside empty ones: RFC 9110 section 5.6.1, OWS "," OWS
 abbrev pub is_separator : ℕ → Bool
 is_separator b = (b == 44) || is_blank b
 

@@ -12,7 +12,7 @@ use Rattle.nego_core.specs.declared.scheme.Scheme.{Scheme}
 use Rattle.nego_core.specs.declared.filtering.FilterKey.{FilterKey}
 use Rattle.nego_core.specs.declared.filtering.Pick.{Pick}
 
--- what decides where a language stands in the answer
+-- what decides where a language comes in the answer
 pub record Key : Type 0 where
   pub missing_weight : ℕ
   pub item : ℕ
@@ -90,7 +90,7 @@ pub record IsPicked (scheme : Scheme) (items : List Item) (langs : List (List �
 abbrev pub HasPick : Scheme → List Item → List (List ℕ) → Type 0
 HasPick scheme items langs = (pick : Pick) × IsPicked scheme items langs pick
 
--- the texts of languages that are lent
+-- the texts of languages that are borrowed
 abbrev pub texts_of : List (Bor (List ℕ)) → List (List ℕ)
 texts_of langs = map (λ l. l.now) langs
 

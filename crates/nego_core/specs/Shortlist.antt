@@ -68,7 +68,7 @@ AreAmong some langs = All (Contains langs) some
 abbrev pub IsOneOf : List (List ℕ) → List ℕ → Type 0
 IsOneOf some lang = IsTrue (is_among some lang)
 
--- Among any of the languages lookup finds the first that stands in this list, which is no longer
+-- Among any of the languages lookup finds the first that is in this list, which is no longer
 -- than there are languages.
 pub record IsRanking (widening : Widening) (items : List Item) (langs ranked : List (List ℕ))
     : Type 0 where

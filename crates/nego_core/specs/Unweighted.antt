@@ -24,7 +24,7 @@ AllUnweighted items = All (λ i. i.weight ≡ 1000) items
 abbrev pub MatchesSome : Scheme → List Item → List ℕ → Type 0
 MatchesSome scheme items tag = Any (λ i. Matches scheme (pieces i.range) (pieces tag)) items
 
--- RFC 4647 section 3.3: at the place stands a tag that some range of the list matches
+-- RFC 4647 section 3.3: at the place is a tag that some range of the list matches
 abbrev pub IsMatchedAt : Scheme → List Item → List (List ℕ) → ℕ → Type 0
 IsMatchedAt scheme items langs place =
     IsSomeAnd (slice_get langs place) (λ lang. IsSomeAnd (tag_of lang) (MatchesSome scheme items))

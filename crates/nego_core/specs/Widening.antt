@@ -29,14 +29,14 @@ MatchesLang scheme i lang =
 abbrev pub IsBelow : List ℕ → List ℕ → Type 0
 IsBelow a b = slice_cmp nat_cmp a b ≡ Less
 
--- the languages that the range of an item matches, each once, in rising order of bytes
+-- the languages that the range of an item matches, each once, in ascending order of bytes
 pub record AreMatched (scheme : Scheme) (langs : List (List ℕ)) (i : Item)
     (matched : List (List ℕ)) : Type 0 where
   pub each : (lang : List ℕ)
       → Contains matched lang ↔ (Contains langs lang × MatchesLang scheme i lang)
   pub rising : AllPairs IsBelow matched
 
--- the widened candidates of an item: those of lookup, and behind them the languages that it matches
+-- the widened candidates of an item: those of lookup, and after them the languages that it matches
 abbrev pub widened : Item → List (List ℕ) → List (List (List ℕ))
 widened i matched = candidates_of i ++ map pieces matched
 

@@ -172,7 +172,7 @@ module _ (widening : Widening) (cells : Entries) (items : List Item) (default : 
               (answers_there ms rest live.1 more e answer later)
         ])
 
-    -- ---- they rise
+    -- ---- they ascend
 
     is_less : (id lang other : List ℕ) (found : List ℕ × List (List ℕ)) → text_cmp id other ≡ Less
         → T (is_lt (key_cmp (id, lang) (other, found.0)))

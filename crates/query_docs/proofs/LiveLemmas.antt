@@ -19,7 +19,7 @@ use Rattle.query_docs.specs.declared.messages.Messages.TheVariants.{All}
 abbrev labelled : EntryKey → Option (List (List ℕ)) → List Labelled → List Labelled
 labelled key label rest = cons_option (option_map (λ l. (key, l)) label) rest
 
--- ---- they rise
+-- ---- they ascend
 
 below_live : (key : EntryKey) (es : Entries) → T (below_all key_cmp key es)
     → T (below_all key_cmp key (live_labels es))
@@ -34,7 +34,7 @@ below_live key (e ∷ es) h =
           (first_part (is_lt (key_cmp key e.0)) (below_all key_cmp key es) h) rest
     ]
 
--- the keys of the live labels rise
+-- the keys of the live labels ascend
 pub live-IsMap : (es : Entries) → IsMap key_cmp es → IsMap key_cmp (live_labels es)
 live-IsMap [] h = tt
 live-IsMap (e ∷ es) h =
@@ -47,7 +47,7 @@ live-IsMap (e ∷ es) h =
           rest
     ]
 
--- the keys of the chosen labels rise
+-- the keys of the chosen labels ascend
 pub chosen-IsMap : (messages : Messages) (cells : Entries) → IsMap key_cmp cells
     → IsMap key_cmp (chosen_labels messages cells)
 chosen-IsMap messages cells m =

@@ -30,7 +30,7 @@ change_value change =
 abbrev pub change_line : EntryKey × Sides → List ℕ
 change_line change = line (compact_text (change_value change))
 
--- `changes N`, then the changes in rising order of key
+-- `changes N`, then the changes in ascending order of key
 abbrev pub changes_lines : Changed → List ℕ
 changes_lines changes = listed (codes "changes") change_line changes
 

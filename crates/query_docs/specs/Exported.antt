@@ -9,7 +9,7 @@ use Rattle.site_docs.specs.ReadsAs.{ReadsAsSite}
 use Rattle.map_docs.specs.LangMapTexts.{IsTextOf}
 use Rattle.map_docs.specs.LangMaps.{Labelled}
 
--- the keys whose cells have a label, each with its texts, in rising order
+-- the keys whose cells have a label, each with its texts, in ascending order
 abbrev pub live_labels : Entries → List Labelled
 live_labels es = filter_map (λ e. option_map (λ label. (e.0, label)) e.1.label) es
 

@@ -45,7 +45,7 @@ reply_line Nothing = line (codes "nothing")
 abbrev pub cell_line : Entry → List ℕ
 cell_line entry = line (compact_text (cell_value (row_of entry) entry.1.label))
 
--- `cells N`, then the cells in rising order of key
+-- `cells N`, then the cells in ascending order of key
 abbrev pub cells_lines : Entries → List ℕ
 cells_lines cells = listed (codes "cells") cell_line cells
 

@@ -1,4 +1,4 @@
--- The keys of rows that pass their tests rise.
+-- The keys of rows that pass their tests ascend.
 use Rattle.std.proofs.Common.{◌≡◌, ◌++◌, ℕ, List, [], ◌∷◌, T, length, subst, sym}
 use Rattle.std.specs.Prelude.{Option, Some}
 use Rattle.std.specs.FinMap.Entries.{below_all, is_sorted}

@@ -73,7 +73,7 @@ id_check k id = check (IsMessageId id) (Field k (Cell IdRefused))
 abbrev pub language_check : ℕ → List ℕ → Check
 language_check k text = record { passes = IsSpelled text; refuses = IsLanguageRefusal k text }
 
--- the site of row k has a name, or is refused
+-- the text of row k's site is a site's name, or is refused
 abbrev pub site_check : ℕ → List ℕ → Check
 site_check k site = check (IsSiteName site) (Field k (Cell SiteName))
 

@@ -1,4 +1,4 @@
--- Rows that are entries in rising order of key: their tests, and what they make. Project rule.
+-- Rows that are entries in ascending order of key: their tests, and what they make. Project rule.
 use Rattle.std.specs.Prelude.{◌≡◌, ℕ, true, List, [], ◌∷◌, ◌++◌, ◌-◌, length, map, slice_get}
 use Rattle.std.specs.Prelude.{Option, None, Some, is_some, unwrap_or, option_map, option_and_then}
 use Rattle.serde_json.specs.Data.{Data}
@@ -70,7 +70,7 @@ stamp_checks version before d =
     ++ order_check (length before) (last_key (stamped_in version) before)
     (key_of (stamp_row version d)) ∷ []
 
--- these rows make these entries, whose keys rise
+-- these rows make these entries, whose keys ascend
 pub record MakesEntries {J : Type 0} (entry : Data → Option (EntryKey × J)) (rows : List Data)
     (entries : List (EntryKey × J)) : Type 0 where
   pub are : AreEntries entry rows entries

@@ -26,12 +26,12 @@ IsKeptCell e = IsKept e.0 e.1.stamp × IsLabelText e.1.label
 abbrev pub IsKeptStamp : EntryKey × Stamp → Type 0
 IsKeptStamp t = IsKept t.0 t.1
 
--- such entries, whose keys rise
+-- such entries of a catalogue, in ascending order of key
 pub record AreKeptCells (cells : Entries) : Type 0 where
   pub each : All IsKeptCell cells
   pub map : IsMap key_cmp cells
 
--- such keys with stamps, which rise
+-- such keys with their stamps, of a summary, in ascending order of key
 pub record AreKeptStamps (stamps : Stamps) : Type 0 where
   pub each : All IsKeptStamp stamps
   pub map : IsMap key_cmp stamps

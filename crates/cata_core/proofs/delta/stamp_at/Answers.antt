@@ -57,7 +57,7 @@ returns-clause-stamp c =
     (sym (nil_from_length c.loop-first.rest.now c.in_default.ensures.cases))
     ∙ c.loop-first.invariant.1 key (not_greater_self key)
 
--- The entries after the key found have at each greater key what all have: those passed are below
+-- The entries after the key found have at each greater key what all have: those skipped are below
 -- it.
 pub returns-in-Equal-clause-rest : goal.returns-in-Equal-clause-rest
 returns-in-Equal-clause-rest c =

@@ -46,8 +46,8 @@ join_pairs-requires-clause-agree g c =
     c.requires.agree
     (joined_none_yet cmp total g.J.Join.joined (all_of cs) c.requires.kept.chunked.map))
 
--- Memory ended within the run: the keys still rise, since each new one goes to this chunk, and the
--- count is right, since it grew as the chunk did.
+-- Memory ended within the run: the keys still ascend, since each new one goes to this chunk, and
+-- the count is right, since it grew as the chunk did.
 pub returns-in_err-join_pairs-clause-kept : goal.returns-in_err-join_pairs-clause-kept
 returns-in_err-join_pairs-clause-kept g c =
     let cmp = g.K.Ord.cmp in
@@ -107,7 +107,7 @@ returns-in_err-join_pairs-clause-err g c =
     (run_stopped cmp total cs c.requires.kept.chunked run at fits c.index_mut.result.now x
     c.index_mut.ensures.value grows g.J.Join.between c.in_err-join_pairs.ensures.err))
 
--- With the run joined to its chunk the keys still rise, since each goes there; so it may be cut.
+-- With the run joined to its chunk the keys still ascend, since each goes there; so it may be cut.
 pub cut_if_full-requires-clause-chunked : goal.cut_if_full-requires-clause-chunked
 cut_if_full-requires-clause-chunked g c =
     let cmp = g.K.Ord.cmp in

@@ -35,7 +35,7 @@ returns-clause-same g c =
           absurd (omega (arith, full, c.in_ok-reserve.ensures.ok))
     ]
 
--- The entries are the same, so their keys rise; and neither part is empty, since a chunk of at
+-- The entries are the same, so their keys ascend; and neither part is empty, since a chunk of at
 -- least two entries was cut in the middle.
 pub returns-clause-chunked : goal.returns-clause-chunked
 returns-clause-chunked g c =

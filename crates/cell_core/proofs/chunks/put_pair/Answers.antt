@@ -31,7 +31,7 @@ cut_if_full-requires-clause-chunked g c =
     fits c.index_mut.ensures.value c.in-Ok.ensures.ok in
     new.0
 
--- The keys rise and none is empty, since the entry was put into the chunk where its key goes; the
+-- The keys ascend and none is empty, since the entry was put into the chunk where its key goes; the
 -- count grew as the chunk did, and a cut changes no entry.
 pub returns-after-added-clause-kept : goal.returns-after-added-clause-kept
 returns-after-added-clause-kept g c =

@@ -5,7 +5,7 @@ use Rattle.cata_core.specs.Flat.{under}
 use Rattle.map_docs.specs.LangMapRowsSeen.{live}
 use Rattle.map_docs.proofs.labels.push_languages.Given as goal
 
--- what was put, and what is left to put, rise
+-- what was put, and what is left to put, ascend
 abbrev pub invariant-loop-lang : goal.invariant-loop-lang
 invariant-loop-lang l = record {
   all : l.maps ++ under l.id (live l.lang-iterator)

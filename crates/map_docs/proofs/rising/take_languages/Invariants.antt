@@ -10,7 +10,7 @@ use Rattle.map_docs.specs.RisingLabels.{Takes}
 use Rattle.map_docs.proofs.RisingLemmas.{AreRisingKeys}
 use Rattle.map_docs.proofs.rising.take_languages.Given as goal
 
--- the object is the members that were read, and then what is left; their keys rise, and their
+-- the object is the members that were read, and then what is left; their keys ascend, and their
 -- labels were taken
 abbrev pub invariant-loop-key : goal.invariant-loop-key
 invariant-loop-key g l =

@@ -10,7 +10,7 @@ use Rattle.map_docs.specs.LangMapRows.{message_rows}
 use Rattle.map_docs.proofs.RisingLemmas.{AreRisingRows}
 use Rattle.map_docs.proofs.rising.take_messages.Given as goal
 
--- the object is the members that were read, and then what is left; their names rise, and their
+-- the object is the members that were read, and then what is left; their names ascend, and their
 -- labels were taken
 abbrev pub invariant-loop-name : goal.invariant-loop-name
 invariant-loop-name g l =

@@ -102,7 +102,7 @@ returns-in_err-pass_over-in-None c =
     search rules
 
 -- The items are those of the pieces before the rest: an element's item is pushed last, a piece that
--- gives none is passed over, and what the separators skipped gives none, so an element is next.
+-- gives none is skipped, and what the separators skipped gives none, so an element is next.
 pub loop-rest-preserved : goal.loop-rest-preserved
 loop-rest-preserved c =
     let some : 0 < length c.loop-rest.rest.now = search rules in

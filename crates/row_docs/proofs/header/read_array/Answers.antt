@@ -59,7 +59,7 @@ returns-in_ok-refusal-in-BeginArray g c =
       (Some c.in_ok-refusal-in-BeginArray.refusal, (list_of ds, refl, e.read.2), refl),
     )
 
--- An object was passed: it is data with no rows, as its member shows.
+-- An object was skipped: it is data with no rows, as its member shows.
 pub returns-in_ok-pass_members-in-BeginObject : goal.returns-in_ok-pass_members-in-BeginObject
 returns-in_ok-pass_members-in-BeginObject g c =
     let ts = c.next.new.self in

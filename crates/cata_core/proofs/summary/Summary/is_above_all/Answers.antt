@@ -11,7 +11,7 @@ use Rattle.cata_core.specs.Summary.{SummaryState, stamps_of, entry_of}
 use Rattle.cata_core.proofs.LastKeysLemmas.{above_last}
 use Rattle.cata_core.proofs.summary.Summary.is_above_all.Goals as goal
 
--- The key is above all keys of the summary just where it is above the last one, since they rise.
+-- The key is above all keys of the summary just where it is above the last one, since they ascend.
 pub returns-in-Some : goal.returns-in-Some
 returns-in-Some c =
     let entries = c.self.inside.entries.items in

@@ -40,8 +40,8 @@ invariant_of-self-lent g c = λ w.
       counted = omega (arith, sum, size, c.self.invariant.counted);
     }
 
--- What is lent is the map's value at the key, and to write there is to put that value at the key,
--- since the place is the key's in its chunk.
+-- What is borrowed is the map's value at the key, and to write there is to put that value at the
+-- key, since the place is the key's in its chunk.
 pub returns-in-Some : goal.returns-in-Some
 returns-in-Some g c =
     let cmp = g.K.Ord.cmp in

@@ -28,7 +28,7 @@ returns-in-Err-clause-err c =
     ))
 
 -- What comes of the keys left comes of all: the least key was revised, the site's name stays, and
--- what is left of both lists still rises.
+-- what is left of both lists still ascends.
 pub loop-revised-preserved : goal.loop-revised-preserved
 loop-revised-preserved c =
     let inv = c.loop-revised.invariant in
