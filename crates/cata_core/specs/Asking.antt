@@ -68,7 +68,7 @@ IsLookedUpBy widening labels items default Nothing =
 abbrev pub IsLookedUpOf : Labelled → List Item → Option (List ℕ) → Reply → Type 0
 IsLookedUpOf = IsLookedUpBy Off
 
--- the answers over a catalogue
+-- what a filter answers of a message: RFC 4647 section 3.3 over its live labels
 abbrev pub IsFilterAnswer : Entries → List ℕ → Scheme → List Item → Weighed → Type 0
 IsFilterAnswer cells id scheme items answer = IsFilteredOf (live cells id) scheme items answer
 

@@ -28,7 +28,7 @@ pub record IsKept (m : Nested) (len : ℕ) : Type 0 where
   pub nested : IsCatalogue m
   pub counted : len ≡ length (flat m)
 
--- how maps of maps agree and join, by the definitions for maps alone
+-- maps of maps that agree, as maps of cells do at each message of both
 abbrev pub AgreeNested : Nested → Nested → Type 0
 AgreeNested = AgreeMaps text_cmp (AgreeMaps text_cmp AgreeCells)
 

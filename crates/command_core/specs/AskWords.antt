@@ -32,7 +32,7 @@ pub record OutdatedWords : Type 0 where
   pub lang : Text
   pub source : Text
 
--- none where a word is missing
+-- what `pick` is given; none where a word is missing
 abbrev pub pick_words : List Row → Option PickWords
 pick_words rows =
     option_and_then
@@ -50,21 +50,21 @@ abbrev pub pick_all_words : PickWords → Option PickAllWords
 pick_all_words words = where_plain words.preferences.field.widening words.preferences.default
     (record { field = words.preferences.field; tags = words.tags })
 
--- none where a word is missing
+-- what `filter` is given; none where a word is missing
 abbrev pub filter_words : List Row → Option FilterWords
 filter_words rows =
     option_and_then
     (λ id. option_map (λ field. record { id = id; field = field }) (field_of (codes "field") rows))
     (first_of (codes "id") rows)
 
--- none where a word is missing
+-- what `lookup` is given; none where a word is missing
 abbrev pub lookup_words : List Row → Option LookupWords
 lookup_words rows =
     option_and_then
     (λ id. option_map (λ preferences. record { id = id; preferences = preferences })
     (preference_words (codes "field") rows)) (first_of (codes "id") rows)
 
--- none where a word is missing
+-- what `outdated` is given; none where a word is missing
 abbrev pub outdated_words : List Row → Option OutdatedWords
 outdated_words rows =
     option_and_then (λ lang. option_map (λ source. record { lang = lang; source = source })

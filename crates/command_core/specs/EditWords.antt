@@ -9,7 +9,7 @@ pub record EditWords : Type 0 where
   pub lang : Text
   pub texts : Option (List Text)
 
--- none where a word is missing
+-- an edit of one label at a moment; none where a word is missing
 abbrev pub edit_words : Option ℕ → Option (List Text) → List Row → Option EditWords
 edit_words now texts rows =
     option_and_then

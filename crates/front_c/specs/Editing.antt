@@ -91,7 +91,7 @@ TellsTaken delta limit =
     TellsEdited (IsTaken delta (limit_of limit))
     (Leaving (LeavesTake delta (limit_of limit)) (RefusesTake delta (limit_of limit)))
 
--- the cells of another handle's site, which is open
+-- the site joined to that of another handle; where that is not open it is reported as usage
 abbrev pub TellsMerged : Option SiteState → Option SiteState → Option SiteState → Reports
 TellsMerged other old new told status =
     MatchOption other ((new ≡ old) × (status ≡ usage) × (told ≡ answered 0 0))
@@ -149,7 +149,7 @@ abbrev pub TellsOutdated : Option SiteState → Text → Text → Ends
 TellsOutdated site lang source =
     TellsOf site (λ s. IsOutdated s lang source) (RefusesOutdated lang source)
 
--- from the site to that of another handle, where both are open
+-- the lines of what changed from the handle's site to another handle's, where both are open
 abbrev pub TellsChanges : Option SiteState → Option SiteState → Ends
 TellsChanges site other old new told status =
     MatchOption other (TellsUsage old new told status)

@@ -8,7 +8,7 @@ use Rattle.std.specs.Char.{is_ascii_lowercase, is_ascii_digit}
 
 -- A subtag is a text in lower case, without hyphens.
 
--- ALPHA, DIGIT and alphanum of RFC 5646 section 2.1, of a text in lower case
+-- RFC 5646 section 2.1, of a text in lower case. ALPHA: "a" to "z"
 abbrev pub is_letter : ℕ → Bool
 is_letter = is_ascii_lowercase
 
@@ -24,7 +24,8 @@ is_alphanum b = is_letter b || is_digit b
 unfoldable pub is_run : (ℕ → Bool) → ℕ → ℕ → List ℕ → Bool
 is_run kind low high s = (nat_le low (length s) && nat_le (length s) high) && list_all kind s
 
--- the pieces of RFC 5646 section 2.1
+-- The pieces of RFC 5646 section 2.1, from here on. A language of 2 or 3 letters, which extlangs may
+-- follow: 2*3ALPHA.
 unfoldable pub is_short_language : List ℕ → Bool
 is_short_language s = is_run is_letter 2 3 s
 

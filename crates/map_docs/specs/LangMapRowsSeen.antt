@@ -19,7 +19,7 @@ use Rattle.map_docs.specs.LangMapRows.{Keys, Rows, Strings}
 use Rattle.map_docs.specs.LangMaps.{Labelled}
 use Rattle.map_docs.specs.LangMapsValue.{Languages}
 
--- the strings, the keys and the rows as they are kept
+-- the strings of a value as they are kept, or none where it has not the shape of a label
 abbrev pub HeldStrings : Type 0
 HeldStrings = Option (Vec (String Global) Global)
 

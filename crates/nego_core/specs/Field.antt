@@ -24,7 +24,7 @@ use Rattle.nego_core.specs.declared.field.Malformed.TheVariants.{Refused, Passed
 use Rattle.nego_core.specs.declared.fault.NegoFault.TheVariants.{FieldTooLong, FieldMalformed}
 use Rattle.nego_core.specs.declared.fault.NegoFault.TheVariants.{NoMemory}
 
--- which ranges a field has (RFC 4647 sections 2.1 and 2.2), and which weights after them
+-- which ranges a field has: basic or extended ones (RFC 4647 sections 2.1 and 2.2)
 abbrev pub RangeGrammar : Scheme → List (List ℕ) → Type 0
 RangeGrammar Basic = BasicRange
 RangeGrammar Extended = ExtendedRange

@@ -23,7 +23,7 @@ use Rattle.row_docs.specs.Values.{Row}
 
 -- ---- what the fields make
 
--- languages are in lower case
+-- the key of a row; languages are in lower case
 abbrev pub key_of : Row → EntryKey
 key_of row = (row.id, str_to_ascii_lowercase row.language)
 

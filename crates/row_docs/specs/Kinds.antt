@@ -37,7 +37,7 @@ names_of kind = codes "kind" ∷ codes "version" ∷ subject_of kind ∷ rows_of
 abbrev pub is_among : List ℕ → List (List ℕ) → Bool
 is_among name names = list_any (λ known. bytes_eq name known) names
 
--- which member has the name
+-- the member that has a name, by which of the four names of a document it is
 abbrev pub member_by : Bool → Bool → Bool → Bool → Member
 member_by is_kind is_version is_subject is_rows =
     if is_kind then KindMember else
