@@ -24,8 +24,8 @@ is_alphanum b = is_letter b || is_digit b
 unfoldable pub is_run : (ℕ → Bool) → ℕ → ℕ → List ℕ → Bool
 is_run kind low high s = (nat_le low (length s) && nat_le (length s) high) && list_all kind s
 
--- The pieces of RFC 5646 section 2.1, from here on. A language of 2 or 3 letters, which extlangs may
--- follow: 2*3ALPHA.
+-- The pieces of RFC 5646 section 2.1, from here on. A language of 2 or 3 letters, which extlangs
+-- may follow: 2*3ALPHA.
 unfoldable pub is_short_language : List ℕ → Bool
 is_short_language s = is_run is_letter 2 3 s
 

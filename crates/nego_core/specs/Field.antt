@@ -65,7 +65,7 @@ pub record IsStart (scheme : Scheme) (text : List ℕ) (item : Item) : Type 0 wh
   pub range_is : item.range ≡ str_to_ascii_lowercase range
   pub rest_ok : IsTail (WeightGrammar scheme) rest item.weight
 
--- a text begins with a range, after which is what may follow one
+-- a text is a range and what may follow it, without blanks before it
 abbrev pub HasStart : Scheme → List ℕ → Type 0
 HasStart scheme text = (item : Item) × IsStart scheme text item
 
