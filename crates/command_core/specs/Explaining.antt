@@ -9,6 +9,6 @@ explanation number refusal =
     ++ codes "\ncause: " ++ refusal.cause.now ++ codes "\nwhat to do: " ++ refusal.remedy.now
     ++ codes "\n"
 
--- the text explains a refusal by this number; its words are shown by tests alone
+-- the text explains some refusal under this number; what it says of it is tried by tests alone
 abbrev pub IsExplanation : ℕ → List ℕ → Type 0
 IsExplanation number text = (refusal : Refusal) × (text ≡ explanation number refusal)
