@@ -10,7 +10,7 @@ RT ?= rt
 PREFIX ?= /usr/local
 # (the tests and the examples are no part of the command)
 SOURCES := crates.txt $(shell find crates \
-	\( -name out -o -name '*_tests' -o -name 'example_*' -o -name bench \) -prune \
+	\( -name out -o -name '*_tests' -o -name 'example_*' \) -prune \
 	-o -type f \( -name '*.rt' -o -name '*.antt' \) -print)
 
 .PHONY: all help try try-session library browser demo test test-edits test-alone check-docs \
@@ -57,7 +57,7 @@ build/lib/libsilkwaram.a: $(SOURCES) include/silkwaram.h scripts/library
 #:                    (docs/BROWSER.md): a minute or two more than the library
 browser: build/browser/silkwaram.wasm
 
-build/browser/silkwaram.wasm: $(SOURCES) include/silkwaram.h scripts/browser scripts/archive \
+build/browser/silkwaram.wasm: $(SOURCES) include/silkwaram.h scripts/browser \
 		$(wildcard bindings/browser/*)
 	RT='$(RT)' scripts/browser
 
@@ -82,14 +82,14 @@ test-alone:
 #:                    are parts of it, of large documents and of the library
 # WALL=0 leaves time out; WRITE=1 keeps the figures.
 bench: build/lexicat
-	cd crates/bench && $(RT) run > /dev/null
+	RT='$(RT)' bench/proved/build
 	CARGO_TARGET_DIR=build/plain cargo build --release --offline --quiet --manifest-path bench/plain/Cargo.toml
 	bench/run
 	$(MAKE) bench-documents
 
 # Large documents, and random ones.
 bench-documents: build/lexicat
-	cd crates/bench && $(RT) run > /dev/null
+	RT='$(RT)' bench/proved/build
 	CARGO_TARGET_DIR=build/documents cargo build --release --offline --quiet --manifest-path bench/documents/Cargo.toml
 	bench/documents/run
 	bench/documents/rounds

@@ -1,0 +1,101 @@
+"""The record of edits: what each came to when it was last tried (docs/GATE.md).
+
+A line is a crate, an edit, a key and the verdict. The key is a sum of all that the verdict follows
+from: the kit, the edit, the crate's line of crates.txt and its sources, definitions and proofs, and
+of each library below what a crate above it reads, its interface, definitions and lemmas. Lines that
+are comments alone are left out of the sums, since no proof reads them.
+"""
+import collections
+import os
+import time
+
+from rattle_kit import sum_of, texts_of
+
+REFUSED, AT_A_LIMIT, NOT_REFUSED = "refused", "refused-at-a-limit", "not-refused"
+VERDICTS = (REFUSED, AT_A_LIMIT, NOT_REFUSED)
+COMMENTS = {".rt": b"//", ".antt": b"--"}
+# In so many days each edit of the record is tried again once.
+TURNS = 10
+
+Entry = collections.namedtuple("Entry", "key verdict")
+
+
+def verdict_of(is_refused, has_given_up):
+    """Returns the word for a verdict."""
+    if not is_refused:
+        return NOT_REFUSED
+    return AT_A_LIMIT if has_given_up else REFUSED
+
+
+class Record:
+    """The entries of a file, and those of this run."""
+
+    def __init__(self, path, kit):
+        self.kit, self.entries, self.new, self.libraries = kit, {}, {}, {}
+        if os.path.isfile(path):
+            with open(path, encoding="utf-8") as it:
+                rows = [line.split() for line in it if not line.startswith("#")]
+            self.entries = {(it[0], it[1]): Entry(it[2], it[3]) for it in rows}
+
+    def key_of(self, crate, edit):
+        """Returns the key of an edit, once the libraries below its crate are built."""
+        with open(edit.path, "rb") as it:
+            text = it.read()
+        return sum_of(self.sum_of_crate(crate), edit.name, text)
+
+    def known(self, crate, edit):
+        """Returns the verdict on the edit, where the record has it."""
+        found = self.entries.get((crate.name, edit.name))
+        if found and found.key == self.key_of(crate, edit) and found.verdict in VERDICTS:
+            return found.verdict
+        return None
+
+    def is_due(self, crate, edit):
+        """Returns whether it is the edit's turn to be tried though the record has it: a tenth of
+        them each day."""
+        turn = int(time.time() // 86400) % TURNS
+        return int(sum_of(crate.name, edit.name), 16) % TURNS == turn
+
+    def forget_others(self, crate, edits):
+        """Drops the entries of edits that the crate no longer has."""
+        names = {it.name for it in edits}
+        gone = [it for it in self.entries if it[0] == crate.name and it[1] not in names]
+        for it in gone:
+            del self.entries[it]
+
+    def note(self, crate, edit, verdict):
+        self.new[crate.name, edit.name] = Entry(self.key_of(crate, edit), verdict)
+
+    def write(self, path):
+        """Writes the entries of this run, and those of the crates and edits that it did not try."""
+        with open(path, "w", encoding="utf-8") as it:
+            it.write("# What each edit came to: docs/GATE.md. Written by `scripts/edits --record`.\n")
+            for (crate, edit), found in sorted({**self.entries, **self.new}.items()):
+                it.write(f"{crate} {edit} {found.key} {found.verdict}\n")
+
+    def sum_of_crate(self, crate):
+        """Returns the sum of what the verdicts on a crate follow from, but the edit."""
+        found = self.libraries.get((crate.name, "above"))
+        if not found:
+            kind = repr((crate.name, crate.said, [it.name for it in crate.deps], crate.of_kit))
+            parts = [f"{crate.folder}/{it}" for it in ("src", "specs", "proofs")]
+            below = [self.sum_of_library(it) for it in crate.below()]
+            found = sum_of(self.kit, kind, repr(below), *texts_of(parts, without_comments))
+            self.libraries[crate.name, "above"] = found
+        return found
+
+    def sum_of_library(self, crate):
+        """Returns the sum of what crates above read of a library that is built."""
+        found = self.libraries.get(crate.name)
+        if not found:
+            antt = f"{crate.rlib}/lang/antt"
+            parts = [f"{crate.rlib}/lang/src", f"{antt}/specs", f"{antt}/proofs"]
+            found = self.libraries[crate.name] = sum_of(*texts_of(parts, without_comments))
+        return found
+
+
+def without_comments(name, text):
+    """Returns the text of a source without the lines that are comments alone."""
+    mark = COMMENTS.get(os.path.splitext(name)[1])
+    lines = text.split(b"\n")
+    return b"\n".join(it for it in lines if not (mark and it.lstrip().startswith(mark)))

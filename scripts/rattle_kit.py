@@ -1,0 +1,157 @@
+"""The Rattle kit's own command `rt` as a module, for what no command of it does (docs/GATE.md)."""
+import functools
+import hashlib
+import importlib.machinery
+import importlib.util
+import os
+import re
+import shutil
+import subprocess
+import sys
+from concurrent.futures import FIRST_COMPLETED, ThreadPoolExecutor, wait
+
+KITS = ("rattle-kit-13b logic dac8208d650f15bf", "rattle-kit-13f logic dac8208d650f15bf")
+# What is left in front_c's folder: the archive, the module of LLVM that clang made it of, from which
+# scripts/browser makes the module for browsers, and a sum of what both were made of.
+ARCHIVE, MODULE, MADE = "out/libfront_c.a", "out/front_c.bc", "out/front_c.made"
+# The kit's clang, as it is called for a folder that keeps what it is given.
+CLANG = """#!/bin/sh
+for word in "$@"; do
+    case $word in *.bc) cp "$word" '{module}' ;; esac
+done
+exec '{clang}' "$@"
+"""
+
+
+@functools.lru_cache(maxsize=None)
+def load_rt():
+    """Returns `rt` as a module, and stops at one of another kit than those it was tried with. Its
+    module has the kit's version as `version`."""
+    sys.dont_write_bytecode = True
+    command = shutil.which(os.environ.get("RT", "rt")) or sys.exit("there is no command rt")
+    version = subprocess.run([command, "version"], capture_output=True, text=True).stdout.strip()
+    if version not in KITS:
+        wanted = " or ".join(KITS)
+        sys.exit(f"this was written for {wanted}, and rt is of {version}: docs/GATE.md")
+    loader = importlib.machinery.SourceFileLoader("rt", os.path.realpath(command))
+    rt = importlib.util.module_from_spec(importlib.util.spec_from_loader("rt", loader))
+    loader.exec_module(rt)
+    rt.version = version
+    return rt
+
+
+def in_lanes(tasks):
+    """Runs tasks side by side, each once those that it waits for have ended, first those with the
+    most work after them, and returns what each gave. A task is what it waits for, its work in lines,
+    its memory in bytes, and a call that gets what was given so far and how many jobs it may use: a
+    task gets the processors that no other one is ready for."""
+    lanes, memory = len(os.sched_getaffinity(0)), 0.85 * free_memory()
+    after = {key: 0 for key in tasks}
+    for key in reversed([*tasks]):
+        after[key] += tasks[key][1]
+        for it in tasks[key][0]:
+            after[it] = max(after[it], after[key])
+    given, running, left = {}, {}, sorted(tasks, key=lambda it: -after[it])
+    with ThreadPoolExecutor(lanes) as pool:
+        while left or running:
+            ready = [it for it in left if all(below in given for below in tasks[it][0])]
+            for at, key in enumerate(ready):
+                _, _, needs, call = tasks[key]
+                idle = lanes - sum(jobs for _, _, jobs in running.values())
+                room = memory - sum(used for _, used, _ in running.values())
+                if idle < 1 or running and needs > room:
+                    break
+                share = -(-idle // (len(ready) - at))
+                jobs = max(1, min(4, share, 1 + int((room / needs - 1) / 0.6)))
+                used = needs * (1 + 0.6 * (jobs - 1))
+                running[pool.submit(call, given, jobs)] = key, used, jobs
+                left.remove(key)
+            for it in wait(running, return_when=FIRST_COMPLETED).done:
+                given[running.pop(it)[0]] = it.result()
+    return given
+
+
+def free_memory():
+    """Returns the bytes of memory that are free."""
+    with open("/proc/meminfo", encoding="ascii") as it:
+        return 1024 * int(re.search(r"MemAvailable:\s+(\d+)", it.read())[1])
+
+
+def toolchain_that_keeps(kit, module, room):
+    """Makes a folder of links to the kit's toolchain, whose clang copies the module of LLVM that it
+    is given to the file `module`, and returns its path."""
+    links_to(f"{kit}/toolchain", f"{room}/toolchain")
+    os.remove(f"{room}/toolchain/bin")
+    links_to(f"{kit}/toolchain/bin", f"{room}/toolchain/bin")
+    os.remove(f"{room}/toolchain/bin/clang")
+    with open(f"{room}/toolchain/bin/clang", "x", encoding="utf-8") as file:
+        file.write(CLANG.format(module=module, clang=f"{kit}/toolchain/bin/clang"))
+    os.chmod(f"{room}/toolchain/bin/clang", 0o755)
+    return f"{room}/toolchain"
+
+
+def links_to(folder, to):
+    """Fills the new folder `to` with links to what another has."""
+    os.mkdir(to)
+    for name in os.listdir(folder):
+        os.symlink(f"{folder}/{name}", f"{to}/{name}")
+
+
+def keep_archive(crate, module):
+    """Puts the module of LLVM beside the archive of front_c, and of what both were made."""
+    shutil.copyfile(module, f"{crate.folder}/{MODULE}")
+    with open(f"{crate.folder}/{MADE}", "w", encoding="utf-8") as file:
+        file.write(sum_made(crate))
+
+
+def sum_made(crate):
+    """Returns a sum of what a crate is made of: its own sources, and what it reads of the libraries
+    below, which have to be built."""
+    return sum_of(sum_of_sources(crate), *map(sum_of_library, crate.below()))
+
+
+def sum_of_sources(crate):
+    """Returns a sum of the kit, of the crate's line of crates.txt, and of the files that its proof reads."""
+    kind = repr((crate.name, crate.said, [it.name for it in crate.deps], crate.of_kit))
+    parts = [f"{crate.folder}/{it}" for it in ("src", "specs", "proofs")]
+    return sum_of(load_rt().version, kind, *texts_of(parts))
+
+
+def sum_of_library(crate):
+    """Returns a sum of what crates above read of a library that is built: its statements and its code."""
+    return sum_of_library_at(crate.rlib)
+
+
+def sum_of_library_at(rlib):
+    """Returns the same of the library in a folder. What is left out says how it was checked."""
+    parts = [f"{rlib}/{it}" for it in ("lang", "interface")]
+    with open(f"{rlib}/toolchain/mir.json", "rb") as it:
+        return sum_of(it.read(), *texts_of(parts))
+
+
+def sum_of_tree(folder):
+    """Returns a sum of all files in a folder, or "" where there is none."""
+    texts = texts_of([folder])
+    return sum_of(*texts) if texts else ""
+
+
+def texts_of(folders, change=lambda name, text: text):
+    """Returns the paths of the files below these folders and their texts, each after `change`."""
+    texts = []
+    for top in folders:
+        for folder, inside, files in os.walk(top):
+            inside.sort()
+            for name in sorted(files):
+                with open(f"{folder}/{name}", "rb") as it:
+                    text = it.read()
+                texts += [os.path.relpath(f"{folder}/{name}", top), change(name, text)]
+    return texts
+
+
+def sum_of(*texts):
+    """Returns a sum of some texts, each with its length."""
+    whole = hashlib.sha256()
+    for it in texts:
+        text = it.encode() if isinstance(it, str) else it
+        whole.update(b"%d " % len(text) + text)
+    return whole.hexdigest()[:32]
