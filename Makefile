@@ -14,7 +14,8 @@ SOURCES := crates.txt $(shell find crates \
 	-o -type f \( -name '*.rt' -o -name '*.antt' \) -print)
 
 .PHONY: all help try try-session library browser demo test test-edits test-alone check-docs \
-	bench bench-documents bench-front install install-command install-library uninstall dist clean
+	bench bench-documents bench-front install install-command install-library uninstall dist proofs \
+	clean
 
 .DEFAULT_GOAL := all
 
@@ -163,6 +164,11 @@ dist:
 #:                    command, in some minutes
 check-docs: build/lexicat
 	for script in $(filter-out scripts/borrow-check,$(wildcard scripts/*-check)); do $$script || exit 1; done
+
+#: make proofs        the map of what is proved, build/PROOFS.md, from the sources in a second: each
+#:                    function and law with its sentence, clauses and definitions (docs/PROOFS.md)
+proofs:
+	scripts/proofs
 
 #: make clean         removes what was built, and what was kept of proofs
 clean:

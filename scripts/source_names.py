@@ -1,4 +1,4 @@
-"""What the crates' sources define: read by scripts/proofs-check and scripts/links-check."""
+"""What the crates' sources define, and what they say of it, for scripts/proofs and for checks."""
 import os
 import re
 
@@ -6,6 +6,7 @@ ROOT = os.path.dirname(os.path.dirname(os.path.abspath(__file__)))
 
 # Members of an `impl` that only prove what the trait asks, and say nothing of their own.
 PROOFS_ALONE = {"laws", "total", "matches_partial_cmp", "matches_eq"}
+IMPORT = re.compile(r"ghost use Rattle\.(\w+)\.specs\.([\w.]+?)(?:\.\{([^}]*)\}| as (\w+));")
 
 
 def read(path):
@@ -47,6 +48,39 @@ def owner_of(header):
     return bare(body)
 
 
+def doc_above(lines, place):
+    """The text of the doc comment above a line, where only attributes are between them."""
+    end = place
+    while end and re.match(r" *#\[|.*\)\]$| *//(?!/)", lines[end - 1]):
+        end -= 1
+    start = end
+    while start and lines[start - 1].strip().startswith("///"):
+        start -= 1
+    return "\n".join(line.strip()[len("///"):].strip() for line in lines[start:end])
+
+
+def sentence(doc):
+    """The first sentence of a doc comment, with the names in it as they are shown."""
+    text = doc.partition("\n\n")[0].replace("\n", " ")
+    text = re.match(r"(.*?[.?](?=\s+[^a-z\s]|$))?", text)[0] or text
+    return re.sub(r"\[(`[^`]+`)\](?:\([^)]*\))?", r"\1", text)
+
+
+def contract_at(lines, place):
+    """What a function is with its clauses: all that comes before its body, without comments."""
+    said, depth, in_clause = [], 0, False
+    for line in lines[place:]:
+        line = re.sub(r" *//.*", "", line)
+        starts = re.match(r" *(requires|ensures|decreases)\b", line)
+        in_clause = depth > 0 or bool(starts)
+        said.append(line)
+        if not in_clause and (line.endswith(";") or line.rstrip("}").endswith("{")):
+            break
+        if in_clause:
+            depth += line.count("{") - line.count("}")
+    return "\n".join(said)
+
+
 class Function:
     def __init__(self, name, owner, is_public, line):
         self.name, self.owner, self.is_public, self.line = name, owner, is_public, line
@@ -59,16 +93,17 @@ class Source:
     def __init__(self, path):
         self.path = path
         self.functions, self.types, self.impls, self.traits = [], set(), {}, set()
-        self.has_ensures = set()
+        self.has_ensures, self.lines, self.headers = set(), read(path).split("\n"), {}
         owner, function, header = None, None, None
-        for number, line in enumerate(read(path).split("\n"), 1):
+        for number, line in enumerate(self.lines, 1):
             if header is not None:
                 header += " " + line.strip()
             elif re.match(r"(impl\b|(pub )?trait )", line):
-                header = line.strip()
+                header, first = line.strip(), number
             if header is not None and header.endswith(("{", "{}")):
                 owner, header = owner_of(header), None
                 self.impls.setdefault(owner, set())
+                self.headers.setdefault(owner, first)
                 if re.match(r"(pub )?trait ", line):
                     self.traits.add(owner)
                     self.types.add(owner)
@@ -115,6 +150,45 @@ class Source:
             if function.owner == name and " for " in name:
                 clauses |= function.clauses
         return clauses
+
+    def doc_of(self, name):
+        """The doc comment of a function, or of an `impl`."""
+        found = self.named(name)[0]
+        line = found.line if isinstance(found, Function) else self.headers[name]
+        return doc_above(self.lines, line - 1)
+
+    def contract_of(self, name):
+        """What a function or an `impl` states: its clauses, and what it gives a trait."""
+        functions = [f for f in self.named(name) if isinstance(f, Function)]
+        text = ""
+        if not functions:
+            end = self.lines.index("}", self.headers[name])
+            body = "\n".join(self.lines[self.headers[name]:end])
+            text = "".join(stated for member, stated
+                           in re.findall(r"^    ghost\*? (\w+)([^;]*);", body, re.M)
+                           if member not in PROOFS_ALONE and member != "use")
+            functions = [f for f in self.functions if f.owner == name]
+        return text + "\n".join(contract_at(self.lines, f.line - 1) for f in functions)
+
+    def cited_by(self, name):
+        """The definitions of specs/ that such a text cites, in its order, as (their file, name)."""
+        known, modules = {}, {}
+        for crate, module, items, alias in IMPORT.findall("\n".join(self.lines)):
+            if crate in crates() and not module.startswith(("declared", "contracts")):
+                path = f"crates/{crate}/specs/{module.split('.')[0]}.antt"
+                if alias:
+                    modules[alias] = path
+                for item in filter(None, (item.strip() for item in items.split(","))):
+                    defined, _, renamed = item.partition(" as ")
+                    known[renamed or defined] = (path, defined)
+        cited = []
+        for word in re.findall(r"[^\s(){}\[\],;:]+", self.contract_of(name)):
+            first, _, rest = word.partition(".")
+            if first in modules and rest:
+                cited.append((modules[first], rest.split(".")[0]))
+            elif first in known:
+                cited.append(known[first])
+        return list(dict.fromkeys(cited))
 
 
 def definitions(path):
@@ -197,6 +271,11 @@ def public_names(crate):
             if members - PROOFS_ALONE or owner in source.has_ensures:
                 names.append((owner, source))
     return names
+
+
+def stated(crate):
+    """What of a crate has a row in the map of proofs; of a program its laws alone."""
+    return public_names(crate) + laws_of_program(crate)
 
 
 def laws_of_program(crate):

@@ -80,6 +80,7 @@ impl Edits {
     }
 }
 
+/// Lists of edits are equal where their edits are.
 impl PartialEq for Edits {
     ghost use Rattle.std.specs.Cmp as laws_of;
     ghost use Rattle.cata_core.specs.Equality.{entries_eq, entries_equiv};
@@ -186,6 +187,7 @@ impl Answers {
     }
 }
 
+/// Lists of answers are equal where their answers are.
 impl PartialEq for Answers {
     ghost use Rattle.std.specs.Cmp as laws_of;
     ghost use Rattle.cata_core.specs.AnswersEq.{answers_eq, answers_equiv};

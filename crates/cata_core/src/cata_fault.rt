@@ -42,6 +42,7 @@ impl CataFault {
     }
 }
 
+/// Out of memory is refusal 26.
 impl From<AllocError> for CataFault {
     ghost from_gives = { λ _ fault. fault ≡ NoMemory };
 
@@ -50,6 +51,7 @@ impl From<AllocError> for CataFault {
     }
 }
 
+/// What found no memory is dropped, and the refusal is 26.
 impl<T: Drop> From<AllocFailed<T>> for CataFault {
     ghost from_gives = { λ _ fault. fault ≡ NoMemory };
 

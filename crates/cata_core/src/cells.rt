@@ -29,6 +29,7 @@ impl<'a> Cells<'a> {
     }
 }
 
+/// Gives the cells that are left, in ascending order of key.
 impl<'a> Iterator for Cells<'a> {
     type Item = (&'a MessageId, &'a Lang, &'a Cell);
 

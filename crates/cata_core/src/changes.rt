@@ -50,6 +50,7 @@ impl<'a> Changes<'a> {
     }
 }
 
+/// Gives the changes that are left, in ascending order of key.
 impl<'a> Iterator for Changes<'a> {
     type Item = Change<'a>;
 

@@ -133,6 +133,7 @@ impl Entries {
     }
 }
 
+/// Answers of a filter are equal where their languages, labels and weights are.
 impl PartialEq for Entries {
     ghost use Rattle.std.specs.Cmp as laws_of;
     ghost use Rattle.cata_core.specs.EntriesEq.{weighed_eq, weighed_equiv};

@@ -13,6 +13,7 @@ use crate::site::Site;
 use cell_core::{Cell, MessageId};
 use lang_core::Lang;
 
+/// Edits are equal where their keys and their cells are.
 impl PartialEq for Edit {
     ghost eq = { entry_eq };
 

@@ -36,6 +36,7 @@ impl<'a> Labels<'a> {
     }
 }
 
+/// Gives the live labels that are left, in ascending order of language.
 impl<'a> Iterator for Labels<'a> {
     type Item = (&'a Lang, &'a Label);
 

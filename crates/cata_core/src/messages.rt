@@ -126,6 +126,7 @@ impl<'a> Messages<'a> {
     }
 }
 
+/// Gives the messages that are left, in ascending order of id.
 impl<'a> Iterator for Messages<'a> {
     type Item = Message<'a>;
 

@@ -49,6 +49,7 @@ impl PlayFault {
     }
 }
 
+/// Out of memory is refusal 26.
 impl From<AllocError> for PlayFault {
     ghost from_gives = { λ _ e. e ≡ NoMemory };
 
@@ -57,6 +58,7 @@ impl From<AllocError> for PlayFault {
     }
 }
 
+/// What found no memory is dropped, and the refusal is 26.
 impl<T: Drop> From<AllocFailed<T>> for PlayFault {
     ghost from_gives = { λ _ e. e ≡ NoMemory };
 

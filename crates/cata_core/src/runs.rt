@@ -17,9 +17,13 @@ use crate::runs::world::World;
 use crate::step::Step;
 use std::alloc::Global;
 
-/// The answers of a run over at most 1,024 sites, which begin empty.
+/// The answers of a run over at most 1,024 sites, which begin empty: by consistent edits exactly
+/// those that filtering and lookup give on the live labels of what each site took.
 ///
-/// The steps are processed in order, so 26 may come before a fault of a later step.
+/// Without deliveries they are that too where the edits are not consistent; with both they are the
+/// answers by the cells that each site holds. No answer is given where a step is faulty: refused is
+/// the first faulty step (16, 17, 13), and consistent steps never clash (13). The steps are
+/// processed in order, so 26 may come before a fault of a later step.
 pub fn play(alloc: Global, sites: usize, steps: &[Step]) -> Result<Answers, PlayFault>
     requires { sites ≤ 1024 }
     // No answer is given where a step is faulty.

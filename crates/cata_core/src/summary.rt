@@ -218,6 +218,7 @@ impl PartialEq for SummaryEntry {
     }
 }
 
+/// Summaries are equal where their owners, their keys and their stamps are.
 impl PartialEq for Summary {
     ghost use Rattle.std.specs.Cmp as laws_of;
     ghost use Rattle.cata_core.specs.SummaryEq.{summary_eq, summary_equiv};

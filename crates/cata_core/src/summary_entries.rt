@@ -25,6 +25,7 @@ impl<'a> SummaryEntries<'a> {
     }
 }
 
+/// Gives the entries that are left, in ascending order of key.
 impl<'a> Iterator for SummaryEntries<'a> {
     type Item = (&'a MessageId, &'a Lang, Stamp);
 

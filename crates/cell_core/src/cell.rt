@@ -44,6 +44,8 @@ impl Cell {
     }
 }
 
+/// Cells agree unless one stamp has two labels, and their join is the one with the greater stamp. A
+/// cell is unchanged when memory runs out.
 impl Join for Cell {
     ghost agree = { AgreeCells };
 

@@ -47,6 +47,7 @@ impl CellFault {
     }
 }
 
+/// Out of memory is refusal 26.
 impl From<AllocError> for CellFault {
     ghost from_gives = { λ _ fault. fault ≡ NoMemory };
 
@@ -55,6 +56,7 @@ impl From<AllocError> for CellFault {
     }
 }
 
+/// What found no memory is dropped, and the refusal is 26.
 impl<T: Drop> From<AllocFailed<T>> for CellFault {
     ghost from_gives = { λ _ fault. fault ≡ NoMemory };
 

@@ -211,6 +211,7 @@ impl<K: Key, J> Keyed<K, J> {
     }
 }
 
+/// Maps are equal where their entries are, however they lie in memory.
 impl<K: Key, J: PartialEq> PartialEq for Keyed<K, J> {
     ghost use Rattle.std.specs.Prelude.{◌&&◌};
     ghost use Rattle.std.specs.Cmp.{and_per, on_per};
@@ -241,6 +242,9 @@ impl<K: Key + fmt::Debug, J: fmt::Debug> fmt::Debug for Keyed<K, J> {
     }
 }
 
+/// Maps agree where their values at each common key do, and the join has each key of both, with the
+/// joined values of both at a common key. When memory runs out the map is between what it was and
+/// the join.
 impl<K: Key, J: Join> Join for Keyed<K, J> {
     ghost agree = { AgreeMaps K.cmp J.agree };
 

@@ -104,6 +104,7 @@ impl Label {
     }
 }
 
+/// Labels are equal where their texts are, byte for byte.
 impl PartialEq for Label {
     ghost eq = { pointwise (pointwise nat_eq) };
 

@@ -92,7 +92,7 @@ impl fmt::Debug for MessageId {
     }
 }
 
-/// Shows the text of the id.
+/// Shows the text of the id, padded and cut as the width and the precision of its place say.
 impl fmt::Display for MessageId {
     ghost output = { λ id. Some id };
 
@@ -103,6 +103,7 @@ impl fmt::Display for MessageId {
     }
 }
 
+/// Message ids are equal where their bytes are.
 impl PartialEq for MessageId {
     ghost eq = { pointwise nat_eq };
 
@@ -117,6 +118,7 @@ impl Eq for MessageId {
     ghost laws = { nat_list_eq_equiv };
 }
 
+/// Any two message ids are ordered, as their bytes are.
 impl PartialOrd for MessageId {
     ghost partial_cmp = { λ x y. Some (slice_cmp nat_cmp x y) };
 
@@ -127,6 +129,7 @@ impl PartialOrd for MessageId {
     }
 }
 
+/// Message ids are ordered as their bytes are.
 impl Ord for MessageId {
     ghost cmp = { slice_cmp nat_cmp };
 
@@ -141,6 +144,7 @@ impl Ord for MessageId {
     }
 }
 
+/// Ids that compare equal are the same.
 impl Key for MessageId {
     ghost exact = { exact_bytes };
 

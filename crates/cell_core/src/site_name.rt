@@ -96,7 +96,7 @@ impl fmt::Debug for SiteName {
     }
 }
 
-/// Shows the text of the name.
+/// Shows the text of the name, padded and cut as the width and the precision of its place say.
 impl fmt::Display for SiteName {
     ghost output = { λ name. Some name };
 
@@ -107,6 +107,7 @@ impl fmt::Display for SiteName {
     }
 }
 
+/// Site names are equal where their bytes are.
 impl PartialEq for SiteName {
     ghost eq = { pointwise nat_eq };
 
@@ -121,6 +122,7 @@ impl Eq for SiteName {
     ghost laws = { nat_list_eq_equiv };
 }
 
+/// Any two site names are ordered, as their bytes are.
 impl PartialOrd for SiteName {
     ghost partial_cmp = { λ x y. Some (slice_cmp nat_cmp x y) };
 
@@ -131,6 +133,7 @@ impl PartialOrd for SiteName {
     }
 }
 
+/// Site names are ordered as their bytes are.
 impl Ord for SiteName {
     ghost cmp = { slice_cmp nat_cmp };
 

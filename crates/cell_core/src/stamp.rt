@@ -78,6 +78,7 @@ impl fmt::Display for Stamp {
     }
 }
 
+/// Any two stamps agree, and their join is the greater. It is never refused.
 impl Join for Stamp {
     ghost agree = { AgreeStamps };
 

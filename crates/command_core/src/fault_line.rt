@@ -36,8 +36,8 @@ pub fn refuse<S: Sink>(faults: &mut S, fault: FrontFault) -> u8
     status::of_refusal(number)
 }
 
-/// Reports why the arguments of a process can't be read, and gives the status: there is no memory
-/// for them, or one is not UTF-8, which is a usage fault.
+/// Reports why the arguments of a process can't be read, and gives the status: lack of memory is
+/// refusal 26 with status 5, and any other error `error: a word is not UTF-8` with status 2.
 pub fn refuse_words<S: Sink>(faults: &mut S, error: &io::Error) -> u8
     requires { S.failed faults.old ≡ false }
     ensures { LacksWords (error_kind error.now)

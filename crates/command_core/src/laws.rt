@@ -7,8 +7,8 @@ ghost use Rattle.map_docs.specs.LangMapLabels.{AreLangMaps};
 ghost use Rattle.map_docs.specs.LangMaps.{Labelled};
 ghost use Rattle.command_core.specs.Input.{AreDocuments};
 
-/// A text that was written stands before the next document of an input: the input is cut behind it,
-/// and the document in front reads as it does.
+/// A text that was written may come before any other document in an input: the input is cut right
+/// after it, and its document reads as it does alone.
 pub fn a_written_text_is_a_document_of_the_input()
     ensures site { (site : SiteState) (text rest : List ℕ) → IsSiteText site text
         → (document : List ℕ) × AreDocuments (text ++ rest) document rest

@@ -32,6 +32,12 @@ static NUMBERS: [&str; 29] = [
 
 /// Runs the program on the arguments after its name, and gives its status. `help` is `--help`, and
 /// `help COMMAND` is `COMMAND --help`.
+///
+/// Which arguments are usage errors is in the contract, for the whole program. Help and the version
+/// go to the output. After any of these nothing is read, and the status is 0, 2 or 5.
+///
+/// Nothing is written to `faults` with status 0 or 1. A refusal is reported there by one line,
+/// `refused N: TEXT` with its row and document, or by a prefix of it where that writer failed.
 pub fn run<R: Source, W: Sink, F: Sink>(
     alloc: Global,
     words: &[String],

@@ -23,9 +23,18 @@ use front_core::{Field, FrontFault};
 use nego_core::Widening;
 use std::alloc::Global;
 
-/// Does what the matches say, and gives the status. Matches without a command of the program,
-/// without an argument that the command needs, or with two that do not go together, are a usage
-/// fault.
+/// Does what the matches say, and gives the status: what is written is the text that the call of
+/// `docs_core`, or of `front_core` for a question, gives for these arguments and this input.
+///
+/// The arguments are processed in their order, before the input: one that is refused leaves the
+/// input unread, and `pick`, `new` and `explain` never read. Then the whole input is read, at most
+/// 67,108,864 bytes of it. Of two documents the first ends at the first LF, and of three the second
+/// at the second. A refusal has the status of its number; with 25 a prefix of the text is written,
+/// and with any other nothing.
+///
+/// Matches without a command of the program, without an argument that the command needs, or with
+/// two that do not go together (`pick --all` with `--default` or `--widen`), are a usage fault:
+/// status 2, and nothing is read or written.
 pub fn act<R: Source, W: Sink, F: Sink>(
     alloc: Global,
     matches: &ArgMatches<'_>,

@@ -64,7 +64,7 @@ pub fn a_read_text_is_not_refused()
         → AreLangMaps bytes labels → ¬ RefusesLangMaps bytes cause }
 {}
 
-/// A text that is refused is refused for one cause.
+/// A text that is refused is refused for one cause, where out of memory is none of them.
 pub fn one_refusal()
     ensures site { (bytes : List ℕ) (a b : DocCause) → RefusesSite bytes a → RefusesSite bytes b
         → a ≡ b }

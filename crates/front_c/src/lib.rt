@@ -15,8 +15,9 @@
 //!
 //! Each of them returns a status, that of the command for the same question, and reports the rest
 //! in a [`Told`], which is written whatever the status. An answer is written to the buffer from its
-//! first byte; where the buffer is too small nothing is written to it, and the status and the
-//! reported length are as with room.
+//! first byte, and the rest of it is as it was. Where the buffer is too small, and where there is
+//! no answer or a refusal, all of it is as it was; the status and the reported length are as with
+//! room. No export has a `requires`: the contract of each holds for whatever it is passed.
 //!
 //! The flags of a question are 1, by which its field is a list of extended ranges (RFC 4647 section
 //! 2.2), 2, by which malformed elements of the field are skipped, and, where it is a lookup, 4, by

@@ -81,6 +81,7 @@ impl FrontFault {
     }
 }
 
+/// The refusal is kept, and out of memory has one form.
 impl From<CellFault> for FrontFault {
     ghost use Rattle.front_core.specs.Faults.{cell_fault};
 
@@ -94,6 +95,7 @@ impl From<CellFault> for FrontFault {
     }
 }
 
+/// The refusal is kept, and out of memory has one form.
 impl From<LangFault> for FrontFault {
     ghost use Rattle.front_core.specs.Faults.{language_fault};
 
@@ -107,6 +109,7 @@ impl From<LangFault> for FrontFault {
     }
 }
 
+/// The refusal is kept, and out of memory has one form.
 impl From<NegoFault> for FrontFault {
     ghost use Rattle.front_core.specs.Faults.{field_fault};
 
@@ -120,6 +123,7 @@ impl From<NegoFault> for FrontFault {
     }
 }
 
+/// The refusal is kept, with its row and its document, and out of memory has one form.
 impl From<DocFault> for FrontFault {
     ghost use Rattle.front_core.specs.Faults.{document_fault};
 
@@ -133,6 +137,7 @@ impl From<DocFault> for FrontFault {
     }
 }
 
+/// The refusal is kept, names no document, and out of memory has one form.
 impl From<CataFault> for FrontFault {
     ghost use Rattle.front_core.specs.Faults.{site_fault};
 
@@ -143,6 +148,7 @@ impl From<CataFault> for FrontFault {
     }
 }
 
+/// Out of memory is refusal 26.
 impl From<AllocError> for FrontFault {
     ghost use Rattle.front_core.specs.declared.fault.FrontFault.TheVariants.{NoMemory};
 
@@ -153,6 +159,7 @@ impl From<AllocError> for FrontFault {
     }
 }
 
+/// What found no memory is dropped, and the refusal is 26.
 impl<T: Drop> From<AllocFailed<T>> for FrontFault {
     ghost use Rattle.front_core.specs.declared.fault.FrontFault.TheVariants.{NoMemory};
 

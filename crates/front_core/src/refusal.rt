@@ -16,7 +16,8 @@ pub struct Refusal {
     pub remedy: &'static str,
 }
 
-/// The refusal of a number, from 1 to 29; other numbers have none.
+/// The refusal of a number, from 1 to 29; other numbers have none. Its texts are tested, and no
+/// clause says them.
 ///
 /// ```text
 /// explain(27)?.meaning  "a site name has 1 to 16 bytes of a to z, 0 to 9 and -"

@@ -75,6 +75,7 @@ impl Eq for Doc {
     ghost laws = { Prim.search (comparing, rules) };
 }
 
+/// The document has just these bytes.
 impl From<Vec<u8>> for Doc {
     ghost from_gives = { λ bytes doc. doc ≡ bytes.items };
 
@@ -84,6 +85,7 @@ impl From<Vec<u8>> for Doc {
     }
 }
 
+/// The document has just the bytes of the text.
 impl From<String> for Doc {
     ghost from_gives = { λ text doc. doc ≡ string_bytes text };
 

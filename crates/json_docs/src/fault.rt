@@ -145,6 +145,7 @@ impl DocCause {
     }
 }
 
+/// Out of memory is refusal 26.
 impl From<AllocError> for DocCause {
     ghost use Rattle.json_docs.specs.declared.fault.DocCause.TheVariants.{NoMemory};
 
@@ -155,6 +156,7 @@ impl From<AllocError> for DocCause {
     }
 }
 
+/// What found no memory is dropped, and the refusal is 26.
 impl<T: Drop> From<AllocFailed<T>> for DocCause {
     ghost use Rattle.json_docs.specs.declared.fault.DocCause.TheVariants.{NoMemory};
 
@@ -207,6 +209,7 @@ impl DocFault {
     }
 }
 
+/// Out of memory is refusal 26.
 impl From<AllocError> for DocFault {
     ghost use Rattle.json_docs.specs.Faults.{of_no_document};
     ghost use Rattle.json_docs.specs.declared.fault.DocCause.TheVariants.{NoMemory};
@@ -218,6 +221,7 @@ impl From<AllocError> for DocFault {
     }
 }
 
+/// What found no memory is dropped, and the refusal is 26.
 impl<T: Drop> From<AllocFailed<T>> for DocFault {
     ghost use Rattle.json_docs.specs.Faults.{of_no_document};
     ghost use Rattle.json_docs.specs.declared.fault.DocCause.TheVariants.{NoMemory};
@@ -229,6 +233,7 @@ impl<T: Drop> From<AllocFailed<T>> for DocFault {
     }
 }
 
+/// The refusal of a site is kept, and names no document.
 impl From<CataFault> for DocFault {
     ghost use Rattle.json_docs.specs.Faults.{of_no_document, of_site};
 
@@ -242,6 +247,7 @@ impl From<CataFault> for DocFault {
     }
 }
 
+/// The refusal of a step is kept, and names no document.
 impl From<PlayFault> for DocFault {
     ghost use Rattle.json_docs.specs.Faults.{of_no_document, of_step};
 

@@ -99,6 +99,7 @@ impl LangFault {
     }
 }
 
+/// Out of memory is refusal 26.
 impl From<AllocError> for LangFault {
     ghost from_gives = { λ _ e. e ≡ NoMemory };
 
@@ -107,6 +108,7 @@ impl From<AllocError> for LangFault {
     }
 }
 
+/// What found no memory is dropped, and the refusal is 26.
 impl<T: Drop> From<AllocFailed<T>> for LangFault {
     ghost from_gives = { λ _ e. e ≡ NoMemory };
 

@@ -120,6 +120,7 @@ impl Lang {
     }
 }
 
+/// A tag is a language.
 impl From<Tag> for Lang {
     ghost from_gives = { λ tag lang. lang ≡ tag };
 
@@ -132,6 +133,7 @@ impl From<Tag> for Lang {
     }
 }
 
+/// Shows the text, padded and cut as the width and the precision of its place say.
 impl fmt::Display for Lang {
     ghost output = { λ lang. Some lang };
 
@@ -142,6 +144,7 @@ impl fmt::Display for Lang {
     }
 }
 
+/// Languages are equal where their bytes are.
 impl PartialEq for Lang {
     ghost eq = { bytes_eq };
 
@@ -159,6 +162,7 @@ impl Eq for Lang {
     ghost laws = { Prim.search (comparing, rules) };
 }
 
+/// Any two languages are ordered, as their bytes are.
 impl PartialOrd for Lang {
     ghost partial_cmp = { λ a b. Some (slice_cmp nat_cmp a b) };
 
@@ -169,6 +173,7 @@ impl PartialOrd for Lang {
     }
 }
 
+/// Languages are ordered as their bytes are.
 impl Ord for Lang {
     ghost cmp = { slice_cmp nat_cmp };
 
@@ -186,6 +191,7 @@ impl Ord for Lang {
     }
 }
 
+/// A language is hashed as its text is, so equal languages have equal hashes.
 impl Hash for Lang {
     ghost hash_input = { λ lang. fed.str lang };
 

@@ -54,9 +54,9 @@ impl Model for Range {
 impl Range {
     /// The basic range that the bytes spell in any case (RFC 4647 section 2.1), as `de-ch` or `*`.
     ///
-    /// Refused are, in this order, an empty text, one over 255 bytes, and the first subtag that a
-    /// basic range may not have at its place. Only then a range of more than 16 bytes
-    /// makes one allocation, of its size; out of memory is the last refusal.
+    /// Refused are, in this order, an empty text (5), one over 255 bytes (6), and the first subtag
+    /// that a basic range may not have at its place (7, at its one offset). Only then a range of
+    /// more than 16 bytes makes one allocation, of its size; out of memory (26) is the last.
     ///
     /// ```text
     /// Range::parse_basic(alloc, b"de-CH")?.as_str()  "de-ch"
@@ -86,10 +86,10 @@ impl Range {
 
     /// The extended range that the bytes spell in any case (RFC 4647 section 2.2), as `de-*-ch`.
     ///
-    /// Refused are, in this order, an empty text, one over 255 bytes, and the first subtag that an
-    /// extended range may not have at its place. Only then one allocation is made for a text of
-    /// more than 16 bytes, and one for a lookup text that is neither the range's text nor "*"; out
-    /// of memory is the last refusal.
+    /// Refused are, in this order, an empty text (5), one over 255 bytes (6), and the first subtag
+    /// that an extended range may not have at its place (7, at its one offset). Only then one
+    /// allocation is made for a text of more than 16 bytes, and one for a lookup text that is
+    /// neither the range's text nor "*"; out of memory (26) is the last refusal.
     ///
     /// ```text
     /// Range::parse_extended(alloc, b"de-*-CH")?.lookup_text()  "de-ch"
@@ -199,6 +199,7 @@ impl Range {
     }
 }
 
+/// Shows the text, padded and cut as the width and the precision of its place say.
 impl fmt::Display for Range {
     ghost output = { λ range. Some range };
 
@@ -209,6 +210,7 @@ impl fmt::Display for Range {
     }
 }
 
+/// Ranges are equal where their bytes are.
 impl PartialEq for Range {
     ghost eq = { bytes_eq };
 

@@ -23,6 +23,7 @@ impl<'a> Subtags<'a> {
     }
 }
 
+/// Gives the subtags that are left, in order.
 impl<'a> Iterator for Subtags<'a> {
     type Item = &'a str;
 

@@ -47,9 +47,10 @@ impl Model for Tag {
 impl Tag {
     /// The tag that the bytes spell in any case, stored in lower case.
     ///
-    /// Refused are, in this order, an empty text, one over 255 bytes, the first subtag that is not
-    /// 1 to 8 letters or digits, and subtags that make no tag. Only then a tag of more than 16
-    /// bytes makes one allocation, of its size; out of memory is the last refusal.
+    /// Refused are, in this order, an empty text (1), one over 255 bytes (2), the first subtag that
+    /// is not 1 to 8 letters or digits (3, at its one offset), and subtags that make no tag (4).
+    /// Only then a tag of more than 16 bytes makes one allocation, of its size; out of memory (26)
+    /// is the last refusal.
     ///
     /// ```text
     /// Tag::parse(alloc, b"zh-Hant-CN")?.as_str()  "zh-hant-cn"
@@ -98,6 +99,7 @@ impl Tag {
     }
 }
 
+/// Shows the text, padded and cut as the width and the precision of its place say.
 impl fmt::Display for Tag {
     ghost output = { λ tag. Some tag };
 
@@ -108,6 +110,7 @@ impl fmt::Display for Tag {
     }
 }
 
+/// Tags are equal where their bytes are.
 impl PartialEq for Tag {
     ghost eq = { bytes_eq };
 
@@ -122,6 +125,7 @@ impl Eq for Tag {
     ghost laws = { Prim.search (comparing, rules) };
 }
 
+/// Any two tags are ordered, as their bytes are.
 impl PartialOrd for Tag {
     ghost partial_cmp = { λ a b. Some (slice_cmp nat_cmp a b) };
 
@@ -132,6 +136,7 @@ impl PartialOrd for Tag {
     }
 }
 
+/// Tags are ordered as their bytes are.
 impl Ord for Tag {
     ghost cmp = { slice_cmp nat_cmp };
 
@@ -146,6 +151,7 @@ impl Ord for Tag {
     }
 }
 
+/// A tag is hashed as its text is, so equal tags have equal hashes.
 impl Hash for Tag {
     ghost hash_input = { λ tag. fed.str tag };
 

@@ -27,6 +27,7 @@ impl<'a> Truncations<'a> {
     }
 }
 
+/// Gives the candidates that are left, longest first.
 impl<'a> Iterator for Truncations<'a> {
     type Item = &'a str;
 

@@ -81,6 +81,7 @@ impl Picks {
     }
 }
 
+/// Gives the picks, the best one first.
 impl<'a> IntoIterator for &'a Picks {
     type Item = &'a Pick;
 
@@ -93,6 +94,7 @@ impl<'a> IntoIterator for &'a Picks {
     }
 }
 
+/// Answers of a filter are equal where their picks are.
 impl PartialEq for Picks {
     ghost eq = { pointwise pick_eq };
 

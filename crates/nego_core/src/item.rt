@@ -98,6 +98,7 @@ impl Item {
     }
 }
 
+/// Items are equal where their ranges and their weights are.
 impl PartialEq for Item {
     ghost eq = { item_eq };
 

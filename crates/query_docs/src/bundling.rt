@@ -26,7 +26,7 @@ const MAX_ITEMS: usize = 16;
 
 /// The language-map document of the labels of one reader, and whether there is one: for each
 /// message the one label that its lookup answers, matched or as the default (RFC 4647, section
-/// 3.4). A message for which nothing is answered is left out.
+/// 3.4). A message for which nothing is answered is left out. The document reads as these labels.
 ///
 /// Refusals: a reader's with document 1. Out of memory (26) may come before.
 pub fn bundle_document(

@@ -15,7 +15,7 @@ use std::alloc::{AllocError, Global};
 
 /// The language-map document of the messages that have a live label but none of just this language,
 /// each with all its live labels, and whether there is one. A deleted label is none, and `fr-ca` is
-/// not `fr`.
+/// not `fr`. The document reads as these labels.
 ///
 /// Refusals: a reader's with document 1. Out of memory (26) may come before.
 pub fn missing_document(alloc: Global, site: &[u8], lang: &Lang) -> Result<(Doc, bool), DocFault>

@@ -13,8 +13,9 @@ use site_docs::{TakeCells, site_at, take_written_site};
 use std::alloc::{AllocError, Global};
 
 /// The site of a document as far as a question about one message needs it: under its name, with the
-/// live labels of this message. Which other cells it has is not said (none
-/// of a document in the form in which it is written, by the code and no clause).
+/// live labels of this message. A question about the message has the answers that it has over the
+/// whole. Which other cells the site has is not said (none of a document in the form in which it is
+/// written, by the code and no clause).
 ///
 /// Refused as the document of the site is by its reader, with document 1, or since memory ran out
 /// (26).

@@ -11,7 +11,7 @@ pub enum Version {
 impl Version {
     ghost use Rattle.row_docs.specs.Headers.{version_by};
 
-    /// The version with this number, where there is one.
+    /// The version with this number: there are 1 and 2.
     pub fn of_number(number: u64) -> Option<Version>
         ensures { MatchOption result ((number ≢ 1) × (number ≢ 2))
             (λ version. ((number ≡ 1) ⊎ (number ≡ 2)) × (version ≡ version_by (Some number))) }

@@ -14,6 +14,7 @@ pub struct Iter<'a, K, J> {
     pub(crate) chunks: &'a [Vec<(K, J)>],
 }
 
+/// Gives the entries that are left, in ascending order of key.
 impl<'a, K, J> Iterator for Iter<'a, K, J> {
     type Item = (&'a K, &'a J);
 

@@ -22,6 +22,9 @@ use std::alloc::Global;
 
 /// The document of the site after an edit at the time `now`: a label is put, and none deletes.
 ///
+/// It reads as that site, so the next call goes on from it; this is true of what each call on
+/// documents answers.
+///
 /// Refusals, in their order: a reader's with document 1, then 14 where the site has no next stamp.
 /// Out of memory (26) may come before.
 pub fn edit_document(

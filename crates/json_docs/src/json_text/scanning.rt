@@ -26,7 +26,7 @@ pub(crate) fn has_numbers_in_range(reader: &mut Reader<'_>) -> bool
     true
 }
 
-/// The next value, which nests at most this deep.
+/// The next value, or refusal 19 exactly where there is none that nests at most this deep.
 pub fn next_value<'t>(
     alloc: Global,
     reader: &mut Reader<'t>,

@@ -15,7 +15,7 @@ use json::{Reader, Scratch};
 /// How deep a text nests at most, as `serde_json` reads it.
 pub const MOST_DEPTH: usize = 127;
 
-/// The text, where the bytes are UTF-8 (RFC 3629).
+/// The text, where the bytes are UTF-8 (RFC 3629), or else refusal 18.
 pub fn text_in(bytes: &[u8]) -> Result<&str, DocCause>
     ensures { MatchResult result (λ text. (text.now ≡ bytes.now) × IsUtf8 bytes.now)
         (λ e. (¬ (IsUtf8 bytes.now)) × (e ≡ NotUtf8 (utf8_valid_len bytes.now))) }
@@ -28,7 +28,7 @@ pub fn text_in(bytes: &[u8]) -> Result<&str, DocCause>
     }
 }
 
-/// Refuses a text with a number out of range.
+/// Refuses a text with a number out of range (19).
 pub fn check_numbers(text: &str, scratch: &mut Scratch) -> Result<(), DocCause>
     ensures { MatchResult result (λ _. are_in_range (tokens text.now) ≡ true)
         (OrMemory NoMemory (λ e. (e ≡ NotJson) × (read text.now ≡ None))) }
@@ -43,7 +43,7 @@ pub fn check_numbers(text: &str, scratch: &mut Scratch) -> Result<(), DocCause>
     }
 }
 
-/// Refuses a text that is not one value.
+/// Refuses a text that is not one value (19).
 pub fn check_value(text: &str, scratch: &mut Scratch) -> Result<(), DocCause>
     requires { are_in_range (tokens text.now) ≡ true }
     ensures { MatchResult result (λ _. (d : Data) × (read text.now ≡ Some d))

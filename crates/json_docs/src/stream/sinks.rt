@@ -56,6 +56,7 @@ impl<W: Write> Output<W> {
     }
 }
 
+/// The bytes that are taken are those that the writer is given, and a failed write is remembered.
 impl<W: Write> Sink for Output<W> {
     ghost contents = { λ output. W.contents (writer_of output) };
 

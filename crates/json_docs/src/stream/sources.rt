@@ -63,6 +63,7 @@ impl<R: Read> Input<R> {
     }
 }
 
+/// The bytes that are given are those of the reader, and a failed read is remembered.
 impl<R: Read> Source for Input<R> {
     ghost remaining = { λ input. R.remaining (reader_of input) };
 
