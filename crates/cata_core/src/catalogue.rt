@@ -232,7 +232,8 @@ impl Catalogue {
     }
 
     /// How many cells the join with the other has, where the other is so small that searching for
-    /// its cells is cheaper than a walk over all messages of this one.
+    /// its cells is cheaper than a walk over all messages of this one: else many small merges into
+    /// a large catalogue would be quadratic.
     fn joined_len(&self, other: &Catalogue) -> Option<u128>
         ensures { IfSome result (λ len. len ≡ length (joined self.now other.now)) }
     {
@@ -333,7 +334,8 @@ fn at_key(
     }
 }
 
-/// Joins the cell to that of its key, and says whether the key is new.
+/// Joins the cell to that of its key, and says whether the key is new. The map of a new message is
+/// built first and put once, so that none is ever empty.
 fn join_in(
     map: &mut Keyed<MessageId, Keyed<Lang, Cell>>,
     alloc: Global,

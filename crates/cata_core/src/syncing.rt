@@ -30,6 +30,7 @@ pub fn sync(alloc: Global, first: &mut Site, second: &mut Site) -> Result<(), Ca
         ((second.new ≡ second.old) ⊎ (first.new.cells ≡ joined first.old.cells second.old.cells)) }
 {
     first.merge_with(alloc, second.catalogue(), second.latest())?;
+    // Not tested again: what agrees with both agrees with their join.
     match second.join(alloc, first.catalogue(), first.latest()) {
         Ok(()) => Ok(()),
         Err(AllocError) => Err(CataFault::NoMemory),

@@ -161,7 +161,7 @@ impl Key for MessageId {
 /// The text of an id.
 #[derive(Drop)]
 enum IdText {
-    /// Padded with zero bytes.
+    /// Padded with zero bytes. That it is UTF-8 is in the invariant, and is not tested again.
     Short([u8; MOST_SHORT_BYTES]),
     Long(String),
 }

@@ -128,6 +128,7 @@ pub(crate) fn merge(alloc: Global, held: &mut Arc<Site>, other: &Site) -> Result
     if let Some(site) = Arc::get_mut(held) {
         return front_core::merge(alloc, site, other);
     }
+    // (by `front_core::merge` here the kit's borrow checker stops at `CataFault`)
     let mut site = held.copy(alloc)?;
     site.merge(alloc, other.catalogue())?;
     *held = Arc::new(alloc, site)?;

@@ -60,6 +60,7 @@ pub fn delete(
 pub fn merge(alloc: Global, site: &mut Site, other: &Site) -> Result<(), FrontFault>
     ensures ok { OnOk result (IsMerged other.now site.old site.new) }
     ensures err { IfErr result (RefusesMerge other.now site.old) }
+    // Two clauses: by one of them, by cases of the fault, the exports' proofs are not found.
     ensures left { OnErr result (LeavesMerge other.now site.old site.new) }
     ensures kept { IfErr result (λ fault. fault ≢ NoMemory → site.new ≡ site.old) }
 {

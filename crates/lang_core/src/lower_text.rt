@@ -119,7 +119,8 @@ enum Kept {
 /// A text of at most 16 ASCII bytes other than zero.
 ///
 /// Zero bytes follow the text. No text has a zero byte, so the arrays are in the order of the
-/// texts, and are compared in place of them, as numbers.
+/// texts, and are compared in place of them, as numbers. The length takes no room of its own, and
+/// without it each use would seek the first zero.
 #[derive(Clone, Copy)]
 struct ShortText {
     bytes: [u8; MAX_SHORT_LEN],

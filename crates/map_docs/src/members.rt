@@ -95,7 +95,8 @@ trait MemberValue: Sized {
         ensures shorter { OnOk result (length reader.new < length reader.old) };
 }
 
-/// Reads the members of an object whose brace was read, in byte order of their names.
+/// Reads the members of an object whose brace was read, in byte order of their names. They are a
+/// list while the names ascend, as in what is exported; the first that does not has a tree made.
 fn read_members<V: MemberValue + Drop>(
     alloc: Global,
     reader: &mut Reader<'_>,

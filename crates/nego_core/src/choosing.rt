@@ -98,7 +98,8 @@ pub(crate) fn first_of<'a, H: Holds>(
     None
 }
 
-/// Whether the items other than "*" refuse the text.
+/// Whether the items other than "*" refuse the text. A list without a weight 0 is not asked: it
+/// refuses nothing, by the law `nothing_refused`.
 pub(crate) fn named_refuse(list: &PriorityList, text: &str) -> bool
     ensures { IsTrue result ↔ NamedRefuse list.now (pieces text.now) }
 {

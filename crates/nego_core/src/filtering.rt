@@ -146,7 +146,8 @@ pub fn filter_lent(
     filter_by::<&Lang>(alloc, list, scheme, langs)
 }
 
-/// Sort key of a filter's answer: its fields are compared in this order.
+/// Sort key of a filter's answer: its fields are compared in this order. It has no invariant, as a
+/// ghost field would import what the contracts of this file cite, and those cite the key.
 #[derive(PartialEq, Eq, PartialOrd, Ord, Drop)]
 pub(crate) struct FilterKey<'a> {
     /// 1000 less the weight.

@@ -77,7 +77,8 @@ impl PriorityList {
     ///
     /// Refusals: `FieldTooLong` where the field has more than 65,535 bytes; else, at the first
     /// malformed element where such are refused, `FieldMalformed` with the offset in the field at
-    /// which the element begins; `NoMemory`.
+    /// which the element begins. `NoMemory` comes only where an element fits, and then perhaps
+    /// before a malformed one further on.
     pub fn parse(
         alloc: Global,
         scheme: Scheme,

@@ -7,7 +7,8 @@ use crate::catalogue::Catalogue;
 use crate::summary::Summary;
 use std::marker::Model;
 
-/// A summary that was told, with the place of the site that told it.
+/// A summary that was told, with the place of the site that told it: sites are places here, and
+/// the names of summaries are none.
 #[derive(Drop)]
 pub struct ToldSummary {
     teller: usize,

@@ -10,7 +10,7 @@ use lang_core::{Lang, LangFault};
 use std::alloc::Global;
 use std::marker::Model;
 
-/// The most languages that are kept.
+/// The most languages that are kept, so that a message of very many takes no more memory.
 const MOST_LANGUAGES: usize = 64;
 
 /// The languages of a message in the order in which they came, and after them what is left of those
