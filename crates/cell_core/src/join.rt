@@ -60,8 +60,8 @@ pub fn agree_all<J: Join>(items: &[J]) -> bool
     true
 }
 
-/// The join of items that agree pairwise: above each of them, and below all that is above each.
-/// No items have none.
+/// The join of items that agree pairwise: above each of them, below all that is above each, and the
+/// same for every order. No items have none.
 ///
 /// Call [`agree_all`] where it is not known that the items agree.
 pub fn join_all<J: Join>(alloc: Global, items: &[J]) -> Result<Option<J>, AllocError>

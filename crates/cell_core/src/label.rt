@@ -84,7 +84,7 @@ impl Label {
         Ok(Label { texts })
     }
 
-    /// The texts, in order.
+    /// The texts, in order: as many, and as long, as those of a label are.
     pub fn texts(&self) -> &[String]
         ensures texts { texts_of result.now ≡ self.now }
         ensures label { IsLabel self.now }

@@ -77,7 +77,7 @@ impl MessageId {
         })
     }
 
-    /// The text of the id.
+    /// The text of the id, which is one that an id may have.
     pub fn as_str(&self) -> &str
         ensures text { result.now ≡ self.now }
         ensures id { IsMessageId self.now }

@@ -81,7 +81,7 @@ impl SiteName {
         }
     }
 
-    /// The text of the name.
+    /// The text of the name, which is one that a name may have.
     pub fn as_str(&self) -> &str
         ensures text { result.now ≡ self.now }
         ensures name { IsSiteName self.now }

@@ -37,7 +37,7 @@ pub(crate) fn answer_of(alloc: Global, it: Explained) -> Answered
     Ok(Answer::new(text, Outcome::Found))
 }
 
-/// What is refused, why, and what to do, a line each.
+/// What is refused, why, and what to do, a line each. That these are of the table tests show.
 fn lines_of(alloc: Global, it: Explained) -> Result<Doc, AllocError>
     ensures { IfOk result (λ text. text ≡ explanation it.number it.refusal) }
 {

@@ -439,7 +439,7 @@ pub extern "C" fn sw_filter(
 }
 
 /// Answers in a sentence, without an end mark, what was wanted where this refusal comes; nothing
-/// for a number that no refusal has.
+/// for a number that no refusal has. Which sentence it is no clause says.
 #[unsafe(no_mangle)]
 pub extern "C" fn sw_refusal(number: u32, out: &mut [u8], told: &mut Told) -> i32
     ensures { TellsMeaning number out.old out.new told.new result }

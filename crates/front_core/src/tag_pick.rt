@@ -28,7 +28,8 @@ pub enum Picked<'a> {
 /// does not refuse it.
 ///
 /// A line feed ends each line, and may be missing after the last: no bytes are no tags. Tags are
-/// equal without case, and `@none` is a tag that is never found, but it may be the default.
+/// equal without case, and of equal ones the first is answered. `@none` is a tag that is never
+/// found, but it may be the default.
 ///
 /// Refused are the default first (1 to 4), then the field (8, and 9 where a malformed element
 /// refuses it), then each tag in order (1 to 4; a line without bytes is 1). Out of memory (26) may

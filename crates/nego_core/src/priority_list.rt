@@ -143,7 +143,7 @@ impl PriorityList {
     }
 
     /// The place of the item that decides the tag: of those whose ranges match, the one with the
-    /// most subtags other than "*", the first written among equals.
+    /// most subtags other than "*", the first written among equals; none exactly where none match.
     pub fn item_for(&self, scheme: Scheme, tag: &Tag) -> Option<usize>
         ensures { IsTheOne result (IsDeciding scheme self.now (pieces tag.now)) }
     {
