@@ -122,11 +122,16 @@ def sum_of_library(crate):
     return sum_of_library_at(crate.rlib)
 
 
-def sum_of_library_at(rlib):
-    """Returns the same of the library in a folder. What is left out says how it was checked."""
-    parts = [f"{rlib}/{it}" for it in ("lang", "interface")]
-    with open(f"{rlib}/toolchain/mir.json", "rb") as it:
-        return sum_of(it.read(), *texts_of(parts))
+def sum_of_library_at(rlib, known={}):
+    """Returns the same of the library in a folder. What is left out says how it was checked. It is
+    summed up once, as its files are never written in place."""
+    code = f"{rlib}/toolchain/mir.json"
+    found = os.stat(code)
+    key = rlib, found.st_ino, found.st_mtime_ns
+    if key not in known:
+        with open(code, "rb") as it:
+            known[key] = sum_of(it.read(), *texts_of([f"{rlib}/lang", f"{rlib}/interface"]))
+    return known[key]
 
 
 def sum_of_tree(folder):
