@@ -13,7 +13,7 @@ SOURCES := crates.txt $(shell find crates \
 	\( -name out -o -name '*_tests' -o -name 'example_*' \) -prune \
 	-o -type f \( -name '*.rt' -o -name '*.antt' \) -print)
 
-.PHONY: all help try try-session library browser demo test test-edits test-alone check-docs \
+.PHONY: all help try try-session library browser demo test test-edits plant test-alone check-docs \
 	bench bench-documents bench-front install install-command install-library uninstall dist proofs \
 	clean
 
@@ -38,7 +38,7 @@ all: build/lexicat
 
 # Each crate is proved, and only then built. What was proved before is not proved again.
 build/lexicat: $(SOURCES)
-	RT='$(RT)' scripts/build
+	RT='$(RT)' scripts/build$(if $(HINTS), --hints '$(HINTS)')
 
 #: make demo          builds the command, and shows an answer, a story of three newsrooms, and that
 #:                    answer again
@@ -70,10 +70,15 @@ build/browser/silkwaram.wasm: $(SOURCES) include/silkwaram.h scripts/browser \
 test:
 	RT='$(RT)' scripts/gate
 
-#: make test-edits    tries every edit that the prover has to refuse, those of inner functions too,
-#:                    over what `make` kept: an hour or so
+#: make test-edits    tries every edit that the prover has to refuse, those too of which the record has
+#:                    the verdict, over what `make` kept: half an hour
 test-edits: build/lexicat
 	RT='$(RT)' scripts/edits
+
+#: make plant         has the kit plant wrong bodies of its own making, and lists those that contracts
+#:                    let through: some hours
+plant: build/lexicat
+	RT='$(RT)' scripts/plant
 
 #: make test-alone    the same by `rt ci` alone, with each edit tried alone: some hours
 test-alone:
