@@ -32,8 +32,9 @@ try:
 try-session:
 	@RT='$(RT)' scripts/try-session
 
-#: make               proves the crates and builds build/lexicat: some 35 minutes the first time on
-#:                    four processors, seconds where nothing changed
+#: make               proves the crates and builds build/lexicat: some 25 minutes the first time on
+#:                    four processors, seconds where nothing changed; HINTS=FILE proves all side by
+#:                    side over the statements of a release, silkwaram-*-statements.tar.zst, in 15
 all: build/lexicat
 
 # Each crate is proved, and only then built. What was proved before is not proved again.
@@ -160,7 +161,8 @@ uninstall:
 
 #: make dist          tarballs, one of them for browsers, Debian packages and a wheel for Python, for
 #:                    those who have no Rattle kit, in build/dist: some minutes more than the library.
-#:                    What `make` proved serves it, and what `make test` proved does not.
+#:                    What `make` or `make test` proved serves it; after `make test` the statements
+#:                    of the libraries are packed too, for `make HINTS=FILE`.
 #:                    MAINTAINER='NAME <ADDRESS>' names the distributor, SIGN_KEY=FILE signs checksums
 dist:
 	RT='$(RT)' scripts/dist

@@ -9,11 +9,10 @@ import collections
 import os
 import time
 
-from rattle_kit import sum_of, texts_of
+from rattle_kit import sum_of, texts_of, without_comments
 
 REFUSED, AT_A_LIMIT, NOT_REFUSED = "refused", "refused-at-a-limit", "not-refused"
 VERDICTS = (REFUSED, AT_A_LIMIT, NOT_REFUSED)
-COMMENTS = {".rt": b"//", ".antt": b"--"}
 # In so many days each edit of the record is tried again once.
 TURNS = 10
 
@@ -69,7 +68,7 @@ class Record:
     def write(self, path):
         """Writes the entries of this run, and those of the crates and edits that it did not try."""
         with open(path, "w", encoding="utf-8") as it:
-            it.write("# What each edit came to: docs/GATE.md. Written by `scripts/edits --record`.\n")
+            it.write("# What each edit came to, by `scripts/edits --record`: docs/GATE.md.\n")
             for (crate, edit), found in sorted({**self.entries, **self.new}.items()):
                 it.write(f"{crate} {edit} {found.key} {found.verdict}\n")
 
@@ -92,10 +91,3 @@ class Record:
             parts = [f"{crate.rlib}/lang/src", f"{antt}/specs", f"{antt}/proofs"]
             found = self.libraries[crate.name] = sum_of(*texts_of(parts, without_comments))
         return found
-
-
-def without_comments(name, text):
-    """Returns the text of a source without the lines that are comments alone."""
-    mark = COMMENTS.get(os.path.splitext(name)[1])
-    lines = text.split(b"\n")
-    return b"\n".join(it for it in lines if not (mark and it.lstrip().startswith(mark)))

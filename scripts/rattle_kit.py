@@ -14,6 +14,8 @@ KITS = ("rattle-kit-13b logic dac8208d650f15bf", "rattle-kit-13f logic dac8208d6
 # What is left in front_c's folder: the archive, the module of LLVM that clang made it of, from which
 # scripts/browser makes the module for browsers, and a sum of what both were made of.
 ARCHIVE, MODULE, MADE = "out/libfront_c.a", "out/front_c.bc", "out/front_c.made"
+# How a line begins that is a comment alone.
+COMMENTS = {".rt": b"//", ".antt": b"--"}
 # The kit's clang, as it is called for a folder that keeps what it is given.
 CLANG = """#!/bin/sh
 for word in "$@"; do
@@ -111,14 +113,16 @@ def sum_made(crate):
 
 
 def sum_of_sources(crate):
-    """Returns a sum of the kit, of the crate's line of crates.txt, and of the files that its proof reads."""
+    """Returns a sum of the kit, of the crate's line of crates.txt, and of the files that its proof
+    reads."""
     kind = repr((crate.name, crate.said, [it.name for it in crate.deps], crate.of_kit))
     parts = [f"{crate.folder}/{it}" for it in ("src", "specs", "proofs")]
     return sum_of(load_rt().version, kind, *texts_of(parts))
 
 
 def sum_of_library(crate):
-    """Returns a sum of what crates above read of a library that is built: its statements and its code."""
+    """Returns a sum of what crates above read of a library that is built, its statements and its
+    code."""
     return sum_of_library_at(crate.rlib)
 
 
@@ -130,7 +134,8 @@ def sum_of_library_at(rlib, known={}):
     key = rlib, found.st_ino, found.st_mtime_ns
     if key not in known:
         with open(code, "rb") as it:
-            known[key] = sum_of(it.read(), *texts_of([f"{rlib}/lang", f"{rlib}/interface"]))
+            parts = [f"{rlib}/lang", f"{rlib}/interface"]
+            known[key] = sum_of(it.read(), *texts_of(parts, without_comments))
     return known[key]
 
 
@@ -138,6 +143,14 @@ def sum_of_tree(folder):
     """Returns a sum of all files in a folder, or "" where there is none."""
     texts = texts_of([folder])
     return sum_of(*texts) if texts else ""
+
+
+def without_comments(name, text):
+    """Returns the text of a source without the lines that are comments alone, which no proof
+    reads."""
+    mark = COMMENTS.get(os.path.splitext(name)[1])
+    lines = text.split(b"\n")
+    return b"\n".join(it for it in lines if not (mark and it.lstrip().startswith(mark)))
 
 
 def texts_of(folders, change=lambda name, text: text):
