@@ -7,6 +7,7 @@ are comments alone are left out of the sums, since no proof reads them.
 """
 import collections
 import os
+import threading
 import time
 
 from rattle_kit import sum_of, texts_of, without_comments
@@ -31,6 +32,7 @@ class Record:
 
     def __init__(self, path, kit):
         self.kit, self.entries, self.new, self.libraries = kit, {}, {}, {}
+        self.writing = threading.Lock()
         if os.path.isfile(path):
             with open(path, encoding="utf-8") as it:
                 rows = [line.split() for line in it if not line.startswith("#")]
@@ -65,9 +67,14 @@ class Record:
     def note(self, crate, edit, verdict):
         self.new[crate.name, edit.name] = Entry(self.key_of(crate, edit), verdict)
 
+    def count_new(self):
+        """Returns how many entries of this run the file has not."""
+        return sum(self.entries.get(key) != it for key, it in self.new.items())
+
     def write(self, path):
         """Writes the entries of this run, and those of the crates and edits that it did not try."""
-        with open(path, "w", encoding="utf-8") as it:
+        os.makedirs(os.path.dirname(path), exist_ok=True)
+        with self.writing, open(path, "w", encoding="utf-8") as it:
             it.write("# What each edit came to, by `scripts/edits --record`: docs/GATE.md.\n")
             for (crate, edit), found in sorted({**self.entries, **self.new}.items()):
                 it.write(f"{crate} {edit} {found.key} {found.verdict}\n")
