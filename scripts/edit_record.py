@@ -37,6 +37,7 @@ class Record:
             with open(path, encoding="utf-8") as it:
                 rows = [line.split() for line in it if not line.startswith("#")]
             self.entries = {(it[0], it[1]): Entry(it[2], it[3]) for it in rows}
+        self.places = {key: place for place, key in enumerate(sorted(self.entries))}
 
     def key_of(self, crate, edit):
         """Returns the key of an edit, once the libraries below its crate are built."""
@@ -52,10 +53,10 @@ class Record:
         return None
 
     def is_due(self, crate, edit):
-        """Returns whether it is the edit's turn to be tried though the record has it: a tenth of
-        them each day."""
+        """Returns whether it is the edit's turn to be tried though the record has it. Each day a
+        tenth of the record is, from one place on, as a round of few edits costs most of one of many."""
         turn = int(time.time() // 86400) % TURNS
-        return int(sum_of(crate.name, edit.name), 16) % TURNS == turn
+        return self.places[crate.name, edit.name] * TURNS // len(self.places) == turn
 
     def forget_others(self, crate, edits):
         """Drops the entries of edits that the crate no longer has."""
