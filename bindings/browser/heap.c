@@ -35,7 +35,7 @@ static block *lists[64][FINE];
 static size coarse;         /* bit f: a list of lists[f] is not empty */
 static byte fine[64];       /* bit s: lists[f][s] is not empty */
 static byte *region_end;    /* after the last block, where the mark of the end is */
-static size bytes_in_use;
+static size taken;          /* bytes of the blocks that are in use */
 static byte nowhere[UNIT];  /* the address where there is no memory */
 
 static size bytes_of(const block *b) { return b->bytes & ~(size)IN_USE; }
@@ -139,7 +139,8 @@ static void add_memory(byte *from, byte *to) {
 
 static int grow(size bytes) {
   size pages = (bytes + PAGE - 1) / PAGE, old = __builtin_wasm_memory_grow(0, pages);
-  if (old == ~(size)0) return 0;
+  /* (wasm-opt makes 32 bits of it, of which -1 is a refusal, and widens these without their sign) */
+  if ((unsigned)old == ~0u) return 0;
   add_memory((byte *)(old * PAGE), (byte *)((old + pages) * PAGE));
   return 1;
 }
@@ -173,13 +174,13 @@ static byte *take(size n) {
   take_from_list(b);
   b->bytes |= IN_USE;
   cut(b, bytes);
-  bytes_in_use += bytes_of(b);
+  taken += bytes_of(b);
   return contents(b);
 }
 
 static void give_back(byte *at) {
   block *b = block_of(at);
-  bytes_in_use -= bytes_of(b);
+  taken -= bytes_of(b);
   make_free(b, bytes_of(b));
 }
 
@@ -194,7 +195,7 @@ static int resize(byte *at, size n) {
     after(b)->bytes_before = bytes_of(b);
   }
   cut(b, bytes);
-  bytes_in_use += bytes_of(b) - old;
+  taken += bytes_of(b) - old;
   return 1;
 }
 
@@ -223,9 +224,9 @@ allocated rattle_realloc(byte *at, size kept, size n, size alignment) {
 }
 
 /* For the host: memory for a text, or 0; its return; and how many bytes are in use, with what the heap itself takes. */
-__attribute__((export_name("allocate"))) byte *allocate(size n) { return take(n); }
-__attribute__((export_name("release"))) void release(byte *at) { rattle_dealloc(at); }
-__attribute__((export_name("bytes_in_use"))) size in_use(void) { return bytes_in_use; }
+byte *allocate(size n) { return take(n); }
+void release(byte *at) { rattle_dealloc(at); }
+size bytes_in_use(void) { return taken; }
 
 /* What LLVM calls by these names. (Copies and fills are instructions of WebAssembly.) */
 int memcmp(const void *one, const void *other, size n) {

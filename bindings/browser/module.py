@@ -1,16 +1,12 @@
-"""Reads a module of WebAssembly: what it imports and exports, and the limits of its memory.
+"""Checks that a module of WebAssembly imports nothing, exports its memory and these functions, and
+that its memory has 32-bit addresses and no largest size.
 
-usage: module.py check MODULE NAME..       stops unless the module imports nothing, exports the memory and
-                                           these functions, and its memory has 32-bit addresses
-       module.py limit MODULE OUT PAGES    writes the module with a largest size of its memory, in pages
-                                           of 64 KiB
+usage: module.py MODULE NAME..
 """
 import sys
 
 IMPORTS, MEMORIES, EXPORTS = 2, 5, 7
 FUNCTION, MEMORY = 0, 2
-# A flag of the limits of a memory.
-HAS_LARGEST = 1
 
 
 def stop(what):
@@ -27,16 +23,6 @@ def number(data, at):
         shift += 7
         if byte < 128:
             return value, at
-
-
-def written(value):
-    """The bytes of an unsigned number."""
-    made = bytearray()
-    while True:
-        made.append(value & 127 | (128 if value > 127 else 0))
-        value >>= 7
-        if not value:
-            return bytes(made)
 
 
 def sections(data):
@@ -75,27 +61,7 @@ def check(path, names):
         stop("the module has not one memory of 32-bit addresses, without a largest size")
 
 
-def limit(path, out, pages):
-    with open(path, "rb") as file:
-        data = file.read()
-    made = data[:8]
-    for kind, section in sections(data):
-        if kind == MEMORIES:
-            _, end = number(section, 2)
-            section = bytes([1, section[1] | HAS_LARGEST]) + section[2:end] + written(pages)
-        made += bytes([kind]) + written(len(section)) + section
-    with open(out, "wb") as file:
-        file.write(made)
-
-
-def main(words):
-    if len(words) > 2 and words[0] == "check":
-        check(words[1], words[2:])
-    elif len(words) == 4 and words[0] == "limit":
-        limit(words[1], words[2], int(words[3]))
-    else:
-        sys.exit(__doc__)
-
-
 if __name__ == "__main__":
-    main(sys.argv[1:])
+    if len(sys.argv) < 3:
+        sys.exit(__doc__)
+    check(sys.argv[1], sys.argv[2:])

@@ -1,15 +1,13 @@
-"""Makes a module of LLVM, which the Rattle kit lowered for x86-64, one for WebAssembly with 64-bit addresses.
+"""Makes a module of LLVM, which the Rattle kit lowered for x86-64, one that clang compiles for WebAssembly.
 
 usage: retarget.py MODULE.ll OUT.ll
 
-Each step is named below, and each has to find what it changes. It stops where anything is left that is of x86, where
-the module calls a function that is not named here, and where it has assembly code.
+Each step is named below. It stops where anything is left that is of x86, where the module calls a
+function that is not named here, and where it has assembly code.
 """
 import re
 import sys
 
-TRIPLE = "wasm64-unknown-unknown"
-LAYOUT = "e-m:e-p:64:64-p10:8:8-p20:8:8-i64:64-i128:128-n32:64-S128-ni:1:10:20"
 # What the module calls and does not define: the kit's heap, and the two that LLVM may call by name.
 CALLED = {"rattle_alloc", "rattle_realloc", "rattle_dealloc", "memcmp", "bcmp"}
 # Assembly code without text is for the compiler alone, and no instruction.
@@ -29,14 +27,6 @@ def stop(what):
     sys.exit(f"retarget.py: {what}")
 
 
-def replaced(text, pattern, other):
-    """Replaces what the module has once."""
-    text, count = re.subn(pattern, lambda _: other, text, flags=re.M)
-    if count != 1:
-        stop(f"the module has {pattern} {count} times, and not once")
-    return text
-
-
 def without_processor(text):
     """Takes out of attributes the processor and the way to look at the stack, which are those of x86-64."""
     return re.sub(r' "(?:target-cpu|target-features|tune-cpu|probe-stack|stack-probe-size)"="[^"]*"', "", text)
@@ -44,16 +34,24 @@ def without_processor(text):
 
 def with_swizzle(text):
     """Replaces the one instruction of x86 that the kit's libraries use by that of WebAssembly."""
-    if SHUFFLE not in text:
-        return text
-    text = replaced(text, rf"^declare <16 x i8> @{re.escape(SHUFFLE)}\(.*$", SWIZZLE)
+    text = re.sub(rf"^declare <16 x i8> @{re.escape(SHUFFLE)}\(.*$", SWIZZLE, text, flags=re.M)
     return text.replace(f"@{SHUFFLE}", "@shuffled")
 
 
-def with_plain_names(text):
-    """Names each function of the kit's form (`crate::name::<T>`) by a number, as the assembler wants it."""
-    names = {}
-    return re.sub(r'@"([^"]+)"', lambda it: f"@f{names.setdefault(it.group(1), len(names))}", text)
+def with_whole_loads(text):
+    """Splits each load of a part of a vector into the load of a number and what makes a vector of it.
+    Assembly code without text between them keeps LLVM from an instruction that does both, which
+    wasm-opt would not lower."""
+    for size, number in ((4, "i32"), (8, "i64")):
+        text = re.sub(
+            rf"^  (%\w+) = load <{size} x i8>, ptr ([^,]+), align (\d+).*$",
+            rf"  \1.read = load {number}, ptr \2, align \3" "\n"
+            rf'  \1.kept = call {number} asm "", "=r,0"({number} \1.read)' "\n"
+            rf"  \1 = bitcast {number} \1.kept to <{size} x i8>", text, flags=re.M)
+    return re.sub(
+        r"^  (%\w+) = insertelement (<\d+ x i8> \S+), i8 (%\w+), (.*)$",
+        r'  \1.kept = call i8 asm "", "=r,0"(i8 \3)' "\n"
+        r"  \1 = insertelement \2, i8 \1.kept, \4", text, flags=re.M)
 
 
 def check(text):
@@ -74,11 +72,9 @@ def main(words):
         sys.exit(__doc__)
     with open(words[0], encoding="utf-8") as file:
         text = file.read()
-    text = replaced(text, r"^target datalayout = .*$", f'target datalayout = "{LAYOUT}"')
-    text = replaced(text, r"^target triple = .*$", f'target triple = "{TRIPLE}"')
-    # (the name of the file that the compiler read)
-    text = re.sub(r"^; ModuleID = .*\n", "", text, count=1)
-    text = with_plain_names(with_swizzle(without_processor(text)))
+    # (clang gives it the layout of the target that it compiles for)
+    text = re.sub(r"^target (?:datalayout|triple) = .*\n", "", text, flags=re.M)
+    text = with_whole_loads(with_swizzle(without_processor(text)))
     check(text)
     with open(words[1], "w", encoding="utf-8") as file:
         file.write(text)
