@@ -1,7 +1,11 @@
-"""Reads what the command's own help says of its commands and their arguments."""
+"""Reads what the help of the command and of its companions says of commands and arguments."""
+import os
 import re
 import subprocess
 from collections import namedtuple
+
+ROOT = os.path.dirname(os.path.dirname(os.path.abspath(__file__)))
+LEXICAT = os.path.join(ROOT, "build", "lexicat")
 
 # An option without its two hyphens; the name of its value and the words that this may be, if any;
 # whether it has to be given; what it is for.
@@ -12,11 +16,9 @@ Argument = namedtuple("Argument", "name repeats words")
 Form = namedtuple("Form", "about options arguments")
 
 
-def help_of(lexicat, *words):
+def help_of(program, *words):
     """Returns what `--help` prints after these words."""
-    run = subprocess.run(
-        [lexicat, *words, "--help"], capture_output=True, text=True, check=True
-    )
+    run = subprocess.run([program, *words, "--help"], capture_output=True, text=True, check=True)
     return run.stdout
 
 
@@ -26,10 +28,16 @@ def section(text, name):
     return re.sub(r"\n {10,}", " ", found[1]).split("\n") if found else []
 
 
-def commands_of(lexicat):
-    """Returns the name of each command with what it is for, in the order of the help."""
-    lines = "\n".join(section(help_of(lexicat), "Commands"))
-    return re.findall(r"^  ([a-z]+) +(.*)$", lines, re.M)
+def options_in(text):
+    """Returns the options that any help text has, with their hyphens, short ones too."""
+    lines = re.findall(r"^ +(?:(-\w), )?(--[a-z-]+)", text, re.M)
+    return {it for line in lines for it in line if it}
+
+
+def commands_in(text):
+    """Returns the commands that any help text has: a line, or a part of one, for each."""
+    lines = re.findall(r"^  ([a-z]+(?:, [a-z]+)*)(?= |$)", text, re.M)
+    return [name for line in lines for name in line.split(", ")]
 
 
 def words_of(line):
@@ -59,3 +67,8 @@ def form_of(text):
     if in_usage != [argument.name for argument in arguments]:
         raise ValueError(f"the usage has other arguments:{usage}")
     return Form(text.split("\n")[0], options, arguments)
+
+
+def forms_of(lexicat):
+    """Returns what each command takes, by its name, in the order of the help."""
+    return {name: form_of(help_of(lexicat, name)) for name in commands_in(help_of(lexicat))}
