@@ -1,9 +1,9 @@
 #!/usr/bin/env python3
 """Compares what nginx answers with what `lexicat pick` answers for the same fields.
 
-usage: nginx_check.py LEXICAT SERVER REQUESTS FOLDER
+usage: beside_pick.py LEXICAT SERVER REQUESTS FOLDER
            asks SERVER/strict, SERVER/lenient and SERVER/wide, by curl, with files in FOLDER
-       nginx_check.py --print COUNT SERVER
+       beside_pick.py --print COUNT SERVER
            prints COUNT requests to each of the three, as a configuration for curl
 
 It makes always the same fields. A field that is refused (8, 9) counts as "*", which is what the
@@ -24,7 +24,9 @@ RANGES = (
     " nb i-klingon en-x-a-b zh-Hant-CN-x-private1-private2 * *"
 ).split()
 WEIGHTS = ["", "", "", ";q=0.5", ";q=0.8", "; Q=0.123", ";q=0", ";q=1.000", " ;\tq=0.9"]
-MALFORMED = ["en_US", "de;q=.8", "en;q=1.5", "fr;q=0.1234", "a b", "*-", "fr;level=1", "é", "-", '"fr"']
+MALFORMED = [
+    "en_US", "de;q=.8", "en;q=1.5", "fr;q=0.1234", "a b", "*-", "fr;level=1", "é", "-", '"fr"'
+]
 SEPARATORS = [", ", ",", " ,\t", ",,"]
 
 

@@ -1,0 +1,53 @@
+# shellcheck shell=bash disable=SC2015,SC2016,SC2034,SC2154
+# Of scripts/nginx-check: requests under valgrind.
+
+# Long tags and joined fields have blocks of memory of their own, past whose ends valgrind sees. The
+# module's own frames count; what nginx itself leaves is not of this check.
+under_valgrind() {
+    local n pid tags
+    tags=$(for ((n = 0; n < 700; n++)); do printf 'en-x-a%06d ' "$n"; done)
+    configured "$room/memory.conf" << END
+large_client_header_buffers 4 16k;
+server {
+    listen 127.0.0.1:PORT;
+    silkwaram_default en;
+    silkwaram_tags en fr de-CH zh-Hant;
+    location /strict { return 200 "\$silkwaram_lang \$silkwaram_lang\\n"; }
+    location /lenient {
+        silkwaram_lenient on;
+        silkwaram_tags $tags en fr;
+        return 200 "\$silkwaram_lang\\n";
+    }
+    location /wide { silkwaram_widen on; return 200 "\$silkwaram_lang\\n"; }
+}
+END
+    port=$((20000 + RANDOM % 12000))
+    sed "s/PORT/$port/" "$room/memory.conf" > "$room/nginx.conf"
+    valgrind --leak-check=full --show-leak-kinds=definite,indirect --log-file="$room/valgrind" \
+        nginx -p "$room" -e "$room/error.log" -c "$room/nginx.conf" \
+        -g 'daemon off; master_process off;' 2> "$room/not-started" &
+    pid=$!
+    servers+=("$pid")
+    for ((n = 0; n < 200; n++)); do
+        curl -s -o "$room/body" "http://127.0.0.1:$port/strict" && break
+        kill -0 "$pid" 2> /dev/null || { cat "$room/not-started"; return 1; }
+        sleep 0.1
+    done
+    field_file 'ja' 5000 '' one
+    field_file '' 6000 'fr' two
+    python3 "$own/beside_pick.py" --print 170 "http://127.0.0.1:$port" > "$room/questions"
+    for n in 1 2; do curl -sS -K "$room/questions" > "$room/body" || return 1; done
+    [ "$(wc -l < "$room/body")" -eq 510 ] || return 1
+    asked=0
+    wrong=0
+    answers 'fr fr' /strict -H "@$room/field-one" -H "@$room/field-two"
+    answers fr /lenient -H "@$room/field-one" -H "@$room/field-two"
+    [ "$wrong" -eq 0 ] || return 1
+    # (a signal that comes just before nginx waits for events is seen at the next one)
+    while kill -QUIT "$pid" 2> "$room/ended"; do sleep 0.5; done
+    wait "$pid"
+    unset 'servers[-1]'
+    grep -q 'ERROR SUMMARY' "$room/valgrind" || { tail -n 20 "$room/valgrind"; return 1; }
+    if grep -E -B 3 -A 6 'silkwaram|sw_' "$room/valgrind"; then return 1; fi
+    echo '1020 requests, nothing in the frames of the module'
+}
