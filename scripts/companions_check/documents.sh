@@ -1,0 +1,189 @@
+# shellcheck shell=bash disable=SC2016,SC2034,SC2154
+# Parts of scripts/companions-check: documents, merges and the limits of times.
+
+# Documents in files, and on standard input. The rows are those of docs/COMMAND.md.
+documents() {
+    part documents
+    echo '{"m":{"en":"Hello","fr":"Salut"}}' > maps
+    ends 0 lexicat-file paris.json import maps --now 5
+    labels '{"m":{"en":"Hello","fr":"Salut"}}'
+    echo '{"n":{"de":"Hallo"}}' > 'a file'
+    ends 0 lexicat-file paris.json import --now=6 -- 'a file'
+    FROM=maps ends 0 lexicat-file paris.json import -
+    ends 0 lexicat-file paris.json import <(echo '{"o":{"en":"x"}}')
+    labels '{"m":{"en":"Hello","fr":"Salut"},"n":{"de":"Hallo"},"o":{"en":"x"}}'
+    # What was laid out on several lines is read as it is meant.
+    jq . maps > old
+    sed 's/Salut/Bonjour/' old > new
+    ends 0 lexicat-file paris.json update old new
+    labels '{"m":{"en":"Hello","fr":"Bonjour"},"n":{"de":"Hallo"},"o":{"en":"x"}}'
+    FROM=old ends 0 lexicat-file paris.json update new -
+    labels '{"m":{"en":"Hello","fr":"Salut"},"n":{"de":"Hallo"},"o":{"en":"x"}}'
+    cat maps new > both
+    FROM=both ends 0 lexicat-file paris.json update -
+    labels '{"m":{"en":"Hello","fr":"Bonjour"},"n":{"de":"Hallo"},"o":{"en":"x"}}'
+    # An exchange, and a later state.
+    lexicat-file tokyo.json new --site tokyo
+    ends 0 lexicat-file tokyo.json summary
+    jq . output > summary
+    ends 0 lexicat-file paris.json delta summary
+    jq . output > 'a delta'
+    FROM=summary ends 0 lexicat-file paris.json delta
+    [ "$(jq -c . 'a delta')" = "$(cat output)" ] || fault "two deltas"
+    ends 0 lexicat-file tokyo.json take 'a delta'
+    labels '{"m":{"en":"Hello","fr":"Bonjour"},"n":{"de":"Hallo"},"o":{"en":"x"}}' tokyo.json
+    ends 1 lexicat-file tokyo.json changes paris.json
+    grep -qx 'changes 0' output || fault "$(cat output)"
+
+    cp paris.json before
+    # An LF within a text is no JSON, and stays none.
+    printf '{"m":{"fr":"Bon\njour"}}' > broken
+    ends 3 lexicat-file paris.json update broken new
+    remedy 19 'refused 19: not JSON of document 2'
+    : > empty
+    ends 3 lexicat-file paris.json import empty
+    remedy 19 'refused 19: not JSON of document 2'
+    ends 3 lexicat-file paris.json take maps
+    remedy 20 'refused 20: shape of document 2'
+    ends 3 lexicat-file paris.json put --id @x --lang en x
+    remedy 10 'refused 10: message id'
+    ends 3 lexicat-file paris.json lookup --id x 'e n'
+    remedy 9 'refused 9: field element at 0'
+    ends 4 lexicat-file paris.json import nowhere
+    reports 'nowhere: no such file'
+    ends 4 lexicat-file paris.json import .
+    ends 4 lexicat-file paris.json delta nowhere
+    ends 2 lexicat-file paris.json import maps new
+    ends 2 lexicat-file paris.json update old
+    ends 2 lexicat-file paris.json update old new maps
+    ends 2 lexicat-file paris.json take --now 5 'a delta'
+    ends 2 lexicat-file paris.json import --now
+    ends 2 lexicat-file paris.json import --now 5 --now 6 maps
+    ends 2 lexicat-file paris.json import --now= maps
+    same paris.json before
+    tidy
+}
+
+# a_site NAME CELL..: the file of a site with these cells.
+a_site() {
+    local name=$1 cells
+    shift
+    cells=$(IFS=,; echo "$*")
+    echo "{\"cells\":[$cells],\"kind\":\"site\",\"site\":\"$name\",\"version\":2}" > "$name.json"
+}
+
+# unchanged FILE..: each is as its copy in the folder `kept`.
+unchanged() {
+    local file
+    for file; do same "$file" "kept/$file"; done
+}
+
+merges() {
+    part merges
+    a_site paris '["m","en",5,"paris",0,["a"]]'
+    a_site tokyo '["m","en",7,"tokyo",0,["b"]]'
+    a_site oslo '["n","en",6,"oslo",0,null]'
+    mkdir kept
+    cp ./*.json kept
+    ends 0 lexicat-file paris.json merge tokyo.json oslo.json
+    cells '["m","en",7,"tokyo",0,["b"]]' '["n","en",6,"oslo",0,null]'
+    unchanged tokyo.json oslo.json
+    cp kept/paris.json .
+    jq . kept/tokyo.json > 'tokyo laid out'
+    ends 0 lexicat-file paris.json merge --not-after 7 oslo.json 'tokyo laid out'
+    cells '["m","en",7,"tokyo",0,["b"]]' '["n","en",6,"oslo",0,null]'
+
+    # All or none.
+    cp kept/paris.json .
+    echo '{}' > none.json
+    ends 3 lexicat-file paris.json merge tokyo.json none.json
+    remedy 20 'refused 20: shape of document 2'
+    reports 'none.json: is not merged, and paris.json is as it was'
+    ends 3 lexicat-file paris.json merge oslo.json tokyo.json --not-after 6
+    remedy 29 'refused 29: time is ahead in row 0 of document 2'
+    reports 'tokyo.json: is not merged'
+    ends 4 lexicat-file paris.json merge tokyo.json nowhere.json
+    ends 2 lexicat-file paris.json merge
+    ends 2 lexicat-file paris.json merge tokyo.json --no-limit --not-after 7
+    a_program sync '[ "$1" != sync ] || exit 4'
+    a_program counted 'if [ "$1" = sync ]; then
+    echo >> count; [ "$(wc -l < count)" -lt 2 ] || { echo "refused 25: write fault" >&2; exit 4; }
+fi
+exec "$REAL" "$@"'
+    ends 4 env LEXICAT=programs/counted REAL="$LEXICAT" \
+        lexicat-file paris.json merge tokyo.json oslo.json
+    unchanged paris.json tokyo.json oslo.json
+    a_site paris '["m","en",5,"x",0,["a"]]'
+    a_site tokyo
+    a_site oslo '["m","en",5,"x",0,["c"]]'
+    cp paris.json kept
+    ends 3 lexicat-file paris.json merge tokyo.json oslo.json
+    remedy 13 'refused 13: stamp 5 x 0 used twice, cell 0'
+    unchanged paris.json
+
+    # Two files of one site, the likeliest of which is a copy that was edited.
+    cp paris.json laptop.json
+    lexicat-file laptop.json put --id laptop --lang en x
+    cp laptop.json kept
+    for way in 'sync laptop.json' 'merge tokyo.json laptop.json' 'merge paris.json'; do
+        # shellcheck disable=SC2086 # words of their own
+        ends 3 lexicat-file paris.json $way
+        reports 'are both site paris'
+        reports 'lexicat-file NEW new --site NAME'
+    done
+    ends 3 lexicat-file oslo.json merge laptop.json paris.json
+    unchanged paris.json laptop.json
+    # What is said to do does it.
+    lexicat-file new.json new --site paris-laptop
+    ends 0 lexicat-file new.json merge laptop.json
+    ends 0 lexicat-file paris.json sync new.json
+    jq -e '.cells | map(.[0]) | index("laptop")' paris.json > output || fault "not mended"
+    tidy
+}
+
+# Times of more than a day ahead of the clock, which no command takes back, are let in by no door.
+limits() {
+    local way hour=3600000 now
+    part limits
+    lexicat-file tokyo.json new --site tokyo
+    a_program date 'case $* in *%s%3N*) echo "$CLOCK" ;; *) exec /bin/date "$@" ;; esac'
+    PATH="$PWD/programs:$PATH"
+    now=1764000000000
+    export CLOCK=$now
+    lexicat-file tokyo.json put --now $((now + 25 * hour)) --id m --lang en x
+    lexicat-file paris.json summary > paris.summary
+    lexicat-file tokyo.json delta paris.summary > paris.delta
+    mkdir kept
+    cp ./*.json kept
+    for way in 'take paris.delta' 'sync tokyo.json' 'merge tokyo.json'; do
+        # shellcheck disable=SC2086
+        ends 3 lexicat-file paris.json $way
+        remedy 29 'refused 29: time is ahead in row 0 of document 2'
+        # (a clock that was never set)
+        # shellcheck disable=SC2086
+        CLOCK=0 ends 3 lexicat-file paris.json $way
+        # shellcheck disable=SC2086
+        ends 3 lexicat-file paris.json $way --not-after $((now + 25 * hour - 1))
+    done
+    unchanged paris.json tokyo.json
+    for way in 'take paris.delta' 'sync tokyo.json' 'merge tokyo.json'; do
+        for limit in "--not-after=$((now + 25 * hour))" --no-limit; do
+            cp kept/paris.json .
+            # shellcheck disable=SC2086
+            ends 0 lexicat-file paris.json $way $limit
+            labels '{"m":{"en":"x"}}'
+        done
+        cp kept/paris.json .
+        # shellcheck disable=SC2086
+        CLOCK=$((now + hour)) ends 0 lexicat-file paris.json $way
+        labels '{"m":{"en":"x"}}'
+    done
+    ends 2 lexicat-file paris.json sync tokyo.json --not-after soon
+    # (an empty variable is not the wish for no limit)
+    ends 2 lexicat-file paris.json sync tokyo.json --not-after=
+    ends 2 lexicat-file paris.json sync tokyo.json --not-after ''
+    ends 2 lexicat-file paris.json import --no-limit maps
+    PATH=${PATH#*:}
+    unset CLOCK
+    tidy
+}
