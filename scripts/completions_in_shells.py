@@ -1,8 +1,8 @@
 """Completes lines in real shells, those of bash, zsh and fish that are installed.
 
-It is run by scripts/completions-check. In place of lexicat and of its companions runs a script, which
-writes its arguments and its input into a file. A line is typed, then a tab and the end of the line,
-and the file shows what was completed.
+It is run by scripts/completions-check. In place of lexicat and of its companions runs a script,
+which writes its arguments and its input into a file. A line is typed, then a tab and the end of the
+line, and the file shows what was completed.
 """
 import multiprocessing
 import os
@@ -32,8 +32,10 @@ LINES = [
     ("lexicat-file zz_file.json stat", "args:zz_file.json status input:"),
     ("lexicat-file --wait=5 zz_file.json upd", "args:--wait=5 zz_file.json update input:"),
     ("lexicat-file zz_file.json lookup --d", "args:zz_file.json lookup --default=? input:"),
-    ("lexicat-file zz_file.json lookup --scheme e", "args:zz_file.json lookup --scheme extended input:"),
-    ("lexicat-file --wait 5 zz_file.json put --la", "args:--wait 5 zz_file.json put --lang=? input:"),
+    ("lexicat-file zz_file.json lookup --scheme e",
+     "args:zz_file.json lookup --scheme extended input:"),
+    ("lexicat-file --wait 5 zz_file.json put --la",
+     "args:--wait 5 zz_file.json put --lang=? input:"),
     ("lexicat-file zz_file.json sync zz", "args:zz_file.json sync zz_file.json input:"),
     ("lexicat-file zz_file.json mer", "args:zz_file.json merge input:"),
     ("lexicat-file zz_file.json merge zz", "args:zz_file.json merge zz_file.json input:"),

@@ -1,9 +1,10 @@
-/* The heap of the WebAssembly module: the three functions that the proved code calls for memory, over a memory that
- * grows. Tried, not proved.
+/* The heap of the WebAssembly module: the three functions that the proved code calls for memory,
+ * over a memory that grows. Tried, not proved.
  *
- * Blocks lie one after the other. Each begins with its size and that of the block before it, so a block that is freed
- * is joined with free neighbours at once. Free blocks are in lists by size, eight to each power of two, and a bit for
- * each list that is not empty; so taking and giving back cost the same however many blocks there are. */
+ * Blocks lie one after the other. Each begins with its size and that of the block before it, so
+ * a block that is freed is joined with free neighbours at once. Free blocks are in lists by
+ * size, eight to each power of two, and a bit for each list that is not empty; so taking and
+ * giving back cost the same however many blocks there are. */
 typedef __SIZE_TYPE__ size;
 typedef unsigned char byte;
 _Static_assert(sizeof(size) == 8, "the module was made for 64 bits");
@@ -74,7 +75,8 @@ static void take_from_list(block *b) {
   if (!fine[f]) coarse &= ~((size)1 << f);
 }
 
-/* A free block of at least so many bytes, from the first list that has none that is smaller; or none. */
+/* A free block of at least so many bytes, from the first list that has none that is smaller; or
+ * none. */
 static block *find(size bytes) {
   unsigned f, s, rest;
   size higher;
@@ -89,8 +91,8 @@ static block *find(size bytes) {
   return lists[f][__builtin_ctz(rest)];
 }
 
-/* Makes a free block of a stretch that is in no list, joins it with the free blocks beside it, and puts it into its
- * list. The block after it has to be there already. */
+/* Makes a free block of a stretch that is in no list, joins it with the free blocks beside it,
+ * and puts it into its list. The block after it has to be there already. */
 static block *make_free(block *b, size bytes) {
   block *next = (block *)((byte *)b + bytes);
   if (!(next->bytes & IN_USE)) {
@@ -111,7 +113,8 @@ static block *make_free(block *b, size bytes) {
   return b;
 }
 
-/* Leaves in a block that is in use so many bytes, and makes what is after them free, if that is a block. */
+/* Leaves in a block that is in use so many bytes, and makes what is after them free, if that is a
+ * block. */
 static void cut(block *b, size bytes) {
   size whole = bytes_of(b), rest = whole - bytes;
   block *other;
@@ -122,7 +125,8 @@ static void cut(block *b, size bytes) {
   make_free(other, rest);
 }
 
-/* A stretch of new memory becomes a free block; where it follows the region that is there, of that one. */
+/* A stretch of new memory becomes a free block; where it follows the region that is there, of that
+ * one. */
 static void add_memory(byte *from, byte *to) {
   block *b, *end;
   if (from == region_end) {
@@ -139,14 +143,15 @@ static void add_memory(byte *from, byte *to) {
 
 static int grow(size bytes) {
   size pages = (bytes + PAGE - 1) / PAGE, old = __builtin_wasm_memory_grow(0, pages);
-  /* (wasm-opt makes 32 bits of it, of which -1 is a refusal, and widens these without their sign) */
+  /* (wasm-opt makes 32 bits of it, of which -1 is a refusal, and widens them without their sign) */
   if ((unsigned)old == ~0u) return 0;
   add_memory((byte *)(old * PAGE), (byte *)((old + pages) * PAGE));
   return 1;
 }
 
-/* Asks the host for memory in which a block of so many bytes is found: for an eighth of what there is, so that many
- * small requests do not each grow it; and where that is refused, for no more than is needed. */
+/* Asks the host for memory in which a block of so many bytes is found: for an eighth of what
+ * there is, so that many small requests do not each grow it; and where that is refused, for no
+ * more than is needed. */
 static int get_memory(size bytes) {
   size there = (size)__builtin_wasm_memory_size(0) * PAGE, wanted;
   if (!region_end) {
@@ -223,7 +228,8 @@ allocated rattle_realloc(byte *at, size kept, size n, size alignment) {
   return (allocated){1, other};
 }
 
-/* For the host: memory for a text, or 0; its return; and how many bytes are in use, with what the heap itself takes. */
+/* For the host: memory for a text, or 0; its return; and how many bytes are in use, with what
+ * the heap itself takes. */
 byte *allocate(size n) { return take(n); }
 void release(byte *at) { rattle_dealloc(at); }
 size bytes_in_use(void) { return taken; }

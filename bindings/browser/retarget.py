@@ -1,4 +1,5 @@
-"""Makes a module of LLVM, which the Rattle kit lowered for x86-64, one that clang compiles for WebAssembly.
+"""Makes a module of LLVM, which the Rattle kit lowered for x86-64, one that clang compiles for
+WebAssembly.
 
 usage: retarget.py MODULE.ll OUT.ll
 
@@ -12,10 +13,12 @@ import sys
 CALLED = {"rattle_alloc", "rattle_realloc", "rattle_dealloc", "memcmp", "bcmp"}
 # Assembly code without text is for the compiler alone, and no instruction.
 BARRIER = re.compile(r'asm (?:sideeffect )?"", "[^"]*"')
-# PSHUFB takes the low four bits of an index, and gives 0 where its highest bit is set; swizzle gives 0 for any index
-# over 15. So these two bits' masks (0x8f) make the second do what the first does.
+# PSHUFB takes the low four bits of an index, and gives 0 where its highest bit is set; swizzle
+# gives 0 for any index over 15. So these two bits' masks (0x8f) make the second do what the first
+# does.
 SHUFFLE = "llvm.x86.ssse3.pshuf.b.128"
-SWIZZLE = """define internal <16 x i8> @shuffled(<16 x i8> %bytes, <16 x i8> %indices) alwaysinline {
+SWIZZLE = """\
+define internal <16 x i8> @shuffled(<16 x i8> %bytes, <16 x i8> %indices) alwaysinline {
   %masked = and <16 x i8> %indices, splat (i8 143)
   %result = call <16 x i8> @llvm.wasm.swizzle(<16 x i8> %bytes, <16 x i8> %masked)
   ret <16 x i8> %result
@@ -28,8 +31,9 @@ def stop(what):
 
 
 def without_processor(text):
-    """Takes out of attributes the processor and the way to look at the stack, which are those of x86-64."""
-    return re.sub(r' "(?:target-cpu|target-features|tune-cpu|probe-stack|stack-probe-size)"="[^"]*"', "", text)
+    """Takes out of attributes the processor and the way to look at the stack, those of x86-64."""
+    named = "target-cpu|target-features|tune-cpu|probe-stack|stack-probe-size"
+    return re.sub(rf' "(?:{named})"="[^"]*"', "", text)
 
 
 def with_swizzle(text):
@@ -39,9 +43,9 @@ def with_swizzle(text):
 
 
 def with_whole_loads(text):
-    """Splits each load of a part of a vector into the load of a number and what makes a vector of it.
-    Assembly code without text between them keeps LLVM from an instruction that does both, which
-    wasm-opt would not lower."""
+    """Splits each load of a part of a vector into the load of a number and what makes a vector of
+    it. Assembly code without text between them keeps LLVM from an instruction that does both,
+    which wasm-opt would not lower."""
     for size, number in ((4, "i32"), (8, "i64")):
         text = re.sub(
             rf"^  (%\w+) = load <{size} x i8>, ptr ([^,]+), align (\d+).*$",
