@@ -22,6 +22,7 @@ HEAD = re.compile(
 )
 CYCLE = re.compile(r"^#\[cycle\((\w+)\)\]", re.M)
 TYPE = re.compile(rf"^{VISIBLE}(struct|enum|type|const) (\w+)", re.M)
+VARIANT = re.compile(r"^    (#\[.*\])\n(?:    (?:///|#\[).*\n)*    (\w+)(?: \{|\(|,)", re.M)
 FIELD = re.compile(r" +pub (?:ghost )?(\w+): ")
 GHOST = re.compile(r"^    (?:pub )?ghost\*? (\w+)(\s*[:=][^;]*);", re.M)
 CLAUSE = re.compile(r"\bensures\*?(?: (\w+))? ?\{")
@@ -240,6 +241,16 @@ def functions_of(text):
 def types_of(text, kinds=("struct", "enum", "type", "const")):
     """The names of a source's types of these kinds."""
     return [name for kind, name in TYPE.findall(text) if kind in kinds]
+
+
+def constants_of(text):
+    """The constants of a source that are numbers: these as written, by their names."""
+    return dict(re.findall(r"\bconst (\w+): \w+ = ([\d_]+);", text))
+
+
+def variants_of(text):
+    """The variants of a source's enums that have an attribute, after the first of these."""
+    return VARIANT.findall(text)
 
 
 def fields_of(text):
