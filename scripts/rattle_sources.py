@@ -49,6 +49,11 @@ def read(path):
         return file.read()
 
 
+def is_there(path):
+    """Whether the repository has this file or folder."""
+    return os.path.exists(os.path.join(ROOT, path))
+
+
 @functools.lru_cache(maxsize=None)
 def crates():
     """The names of crates.txt, in its order."""
@@ -83,7 +88,7 @@ def source_files(crate):
 def module_file(crate, module):
     """The source of a module, as `laws` or `play::world`, if the crate has it."""
     path = f"crates/{crate}/src/{module.replace('::', '/')}.rt"
-    return path if os.path.exists(os.path.join(ROOT, path)) else None
+    return path if is_there(path) else None
 
 
 # ---- sources
@@ -302,11 +307,7 @@ def cited_by_path(text):
 
 def without_texts(text):
     """A source or a file of definitions without its texts in quotes, line for line."""
-
-    def left(quoted):
-        text = quoted.group()
-        return text if text.startswith(("//", "--")) else "\n" * text.count("\n")
-
+    left = lambda it: it[0] if it[0].startswith(("//", "--")) else "\n" * it[0].count("\n")
     return QUOTED.sub(left, text)
 
 
