@@ -47,7 +47,8 @@ def in_lanes(tasks):
     most work after them, and returns what each gave. A task is what it waits for, its work in lines,
     its memory in bytes, and a call that gets what was given so far and how many jobs it may use: a
     task gets the processors that no other one is ready for."""
-    lanes, memory = len(os.sched_getaffinity(0)), 0.85 * free_memory()
+    # (of what rt plans for a check at most half was seen to be taken)
+    lanes, memory = len(os.sched_getaffinity(0)), 2 * 0.85 * free_memory()
     after = {key: 0 for key in tasks}
     for key in reversed([*tasks]):
         after[key] += tasks[key][1]
@@ -71,6 +72,12 @@ def in_lanes(tasks):
             for it in wait(running, return_when=FIRST_COMPLETED).done:
                 given[running.pop(it)[0]] = it.result()
     return given
+
+
+def need(crate):
+    """Returns the most memory that a check of the crate over built libraries is likely to take, in
+    bytes. (A kit without `rt.need` has the figure for libraries that are checked too.)"""
+    return getattr(load_rt(), "need", type(crate).need)(crate)
 
 
 def free_memory():
