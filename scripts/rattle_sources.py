@@ -15,10 +15,10 @@ VISIBLE = r"(?:pub(?:\([a-z ]+\))? )?"
 FUNCTION = re.compile(rf'( *)({VISIBLE})(?:const )?(?:unsafe )?(?:extern "C" )?fn (\w+)')
 BLOCK = re.compile(rf"(?:unsafe )?impl\b|{VISIBLE}trait ")
 # The head of a block: what `impl` has of parameters may have some in its own, and these in theirs.
-PARAMETERS = r"<(?:[^<>]|->|<(?:[^<>]|->|<[^<>]*>)*>)*>"
+PARAMETERS = r"<(?:->|[^<>]|<(?:->|[^<>]|<[^<>]*>)*>)*>"
 HEAD = re.compile(
     rf"(?:(?:unsafe )?(impl)\b\s*(?:{PARAMETERS})?|{VISIBLE}trait )\s*(?:(\S.*?) for )?"
-    r"(.+?)\s*(?:\bwhere\b.*|(?<!:):(?!:).*)?$"
+    r"(.*?)\s*(?:\bwhere\b.*|(?<!:):(?!:).*)?$"
 )
 CYCLE = re.compile(r"^#\[cycle\((\w+)\)\]", re.M)
 TYPE = re.compile(rf"^{VISIBLE}(struct|enum|type|const) (\w+)", re.M)
