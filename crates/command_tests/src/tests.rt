@@ -1,18 +1,8 @@
 //! What no contract says: worked rows, texts, and streams that fail.
 
-mod changes;
-mod documents;
-mod explained;
+mod commands;
 mod faults;
 mod harness;
-mod help;
-mod limits;
 mod matches;
-mod questions;
-mod refused_documents;
-mod rows;
 mod streams;
 mod texts;
-mod translators;
-mod usage;
-mod wording;

@@ -1,9 +1,9 @@
 //! The numbers, the texts and the lines of refusals.
 use super::harness::Page;
-use cata_core::{CataFault, PlayFault};
+use cata_core::PlayFault;
 use cell_core::{CellFault, SiteName, Stamp};
 use command_core::{refuse, refuse_words};
-use docs_core::{DocCause, DocFault, FieldFault, Output, Spot};
+use docs_core::{DocCause, DocFault, Output};
 use front_core::FrontFault;
 use lang_core::LangFault;
 use nego_core::NegoFault;
@@ -27,29 +27,9 @@ fn is_page(page: &Page, line: &str, is_so: bool) -> bool {
 fn question_faults(rt: HostRuntime) {
     let rows = [
         (
-            FrontFault::Language(LangFault::TagEmpty),
-            1,
-            "refused 1: tag is empty\n",
-        ),
-        (
-            FrontFault::Language(LangFault::TagTooLong),
-            2,
-            "refused 2: tag is over 255 bytes\n",
-        ),
-        (
             FrontFault::Language(LangFault::TagSubtag { offset: 254 }),
             3,
             "refused 3: subtag at 254\n",
-        ),
-        (
-            FrontFault::Language(LangFault::TagNotWellFormed),
-            4,
-            "refused 4: tag is not well-formed\n",
-        ),
-        (
-            FrontFault::Field(NegoFault::FieldTooLong),
-            8,
-            "refused 8: field is over 65535 bytes\n",
         ),
         (
             FrontFault::Field(NegoFault::FieldMalformed { offset: 65_534 }),
@@ -60,16 +40,6 @@ fn question_faults(rt: HostRuntime) {
             FrontFault::Cell(CellFault::IdRefused),
             10,
             "refused 10: message id\n",
-        ),
-        (
-            FrontFault::Cell(CellFault::TextTooLong { index: 0 }),
-            11,
-            "refused 11: text 0 is over 65535 bytes\n",
-        ),
-        (
-            FrontFault::Cell(CellFault::SiteName),
-            27,
-            "refused 27: site name\n",
         ),
         (FrontFault::NoMemory, 26, "refused 26: out of memory\n"),
     ];
@@ -99,17 +69,11 @@ fn the_longest_line(rt: HostRuntime) -> Result<(), Fail> {
     Ok(())
 }
 
-/// A refusal of a document is printed as the fault itself says it, with LF.
+/// A refusal of a document is printed as the fault itself says it, with LF. The row and the
+/// document that are meant come after the text.
 #[test]
 fn document_faults(rt: HostRuntime) {
     let rows = [
-        (
-            0,
-            DocCause::TooLarge,
-            3,
-            "refused 23: document is over 67108864 bytes\n",
-        ),
-        (0, DocCause::ReadFault, 4, "refused 24: read fault\n"),
         (0, DocCause::WriteFault, 4, "refused 25: write fault\n"),
         (0, DocCause::NoMemory, 5, "refused 26: out of memory\n"),
         (
@@ -118,123 +82,17 @@ fn document_faults(rt: HostRuntime) {
             3,
             "refused 23: document is over 67108864 bytes of document 2\n",
         ),
+        (
+            2,
+            DocCause::RepeatedTag { row: 1 },
+            3,
+            "refused 22: language repeated in row 1 of document 2\n",
+        ),
     ];
     for (document, cause, status, line) in rows {
         let fault = FrontFault::from(DocFault { document, cause });
         assert!(rt; is_reported(rt.alloc(), fault, status, line), "{line}");
     }
-}
-
-fn field(row: usize, fault: CellFault) -> DocCause {
-    DocCause::Field {
-        row,
-        fault: FieldFault::Cell(fault),
-    }
-}
-
-/// The row and the document that are meant stand behind the text.
-#[test]
-fn document_and_row(rt: HostRuntime) {
-    let rows = [
-        (
-            1,
-            DocCause::CellOrder { row: 1 },
-            "refused 21: cell order in row 1 of document 1\n",
-        ),
-        (
-            1,
-            DocCause::NotUtf8 { offset: 1 },
-            "refused 18: not UTF-8 at 1 of document 1\n",
-        ),
-        (2, DocCause::NotJson, "refused 19: not JSON of document 2\n"),
-        (
-            1,
-            DocCause::SiteName,
-            "refused 27: site name of document 1\n",
-        ),
-        (
-            1,
-            DocCause::VersionUnknown,
-            "refused 28: version unknown of document 1\n",
-        ),
-        (
-            1,
-            DocCause::Shape {
-                spot: Spot::Document,
-            },
-            "refused 20: shape of document 1\n",
-        ),
-        (
-            1,
-            DocCause::Shape { spot: Spot::Row(0) },
-            "refused 20: shape in row 0 of document 1\n",
-        ),
-        (
-            1,
-            field(0, CellFault::LabelCount { count: 0 }),
-            "refused 12: label has 0 texts in row 0 of document 1\n",
-        ),
-        (
-            2,
-            DocCause::RepeatedTag { row: 1 },
-            "refused 22: language repeated in row 1 of document 2\n",
-        ),
-        (
-            1,
-            field(0, CellFault::SiteName),
-            "refused 27: site name in row 0 of document 1\n",
-        ),
-    ];
-    for (document, cause, line) in rows {
-        let fault = FrontFault::from(DocFault { document, cause });
-        assert!(rt; is_reported(rt.alloc(), fault, 3, line), "{line}");
-    }
-}
-
-/// What a site or a script refuses means no document.
-#[test]
-fn sites_and_scripts(rt: HostRuntime) -> Result<(), Fail> {
-    let stamp = Stamp {
-        time: 5,
-        site: SiteName::new("0000000001")?,
-        count: 0,
-    };
-    let addressee = SiteName::new("0000000002")?;
-    let rows = [
-        (
-            DocCause::Site(CataFault::StampReused { place: 0, stamp }),
-            "refused 13: stamp 5 0000000001 0 used twice, cell 0\n",
-        ),
-        (
-            DocCause::Step(PlayFault::StampReused {
-                step: 4,
-                place: 0,
-                stamp,
-            }),
-            "refused 13: stamp 5 0000000001 0 used twice, cell 0, step 4\n",
-        ),
-        (
-            DocCause::Site(CataFault::ClockSpent),
-            "refused 14: clock is spent\n",
-        ),
-        (
-            DocCause::Site(CataFault::NotForMe { addressee }),
-            "refused 15: delta is for site 0000000002\n",
-        ),
-        (
-            DocCause::Step(PlayFault::NoSuchSite { step: 3 }),
-            "refused 16: step 3 names no site\n",
-        ),
-        (
-            DocCause::Step(PlayFault::NoSuchPost { step: 7 }),
-            "refused 17: step 7 names no post\n",
-        ),
-    ];
-    for (cause, line) in rows {
-        let fault = FrontFault::from(DocFault { document: 0, cause });
-        assert!(rt; is_reported(rt.alloc(), fault, 3, line), "{line}");
-    }
-    Ok(())
 }
 
 /// Whether a process without words ends so.

@@ -61,13 +61,8 @@ pub struct Tape<'a> {
 impl<'a> Tape<'a> {
     /// All of the text, as much of it at a read as there is room for.
     pub fn of(text: &'a str) -> Tape<'a> {
-        Tape::of_bytes(text.as_bytes())
-    }
-
-    /// All of these bytes, whether they are a text or not.
-    pub fn of_bytes(text: &'a [u8]) -> Tape<'a> {
         Tape {
-            text,
+            text: text.as_bytes(),
             given: 0,
             reads: 0,
             most: usize::MAX,
@@ -183,16 +178,16 @@ pub fn run_over(
     })
 }
 
-/// Whether the text stands somewhere in the bytes.
-pub fn has_text(bytes: &[u8], text: &str) -> bool {
+/// Whether the text is somewhere in the bytes.
+fn has_text(bytes: &[u8], text: &str) -> bool {
     match std::str::from_utf8(bytes) {
         Ok(all) => all.contains(text),
         Err(_) => false,
     }
 }
 
-/// Whether the bytes are just these lines, which stand between slashes.
-pub fn is_lines(bytes: &[u8], lines: &str) -> bool {
+/// Whether the bytes are just these lines, which have slashes between them.
+fn is_lines(bytes: &[u8], lines: &str) -> bool {
     if lines.is_empty() {
         return bytes.is_empty();
     }
@@ -227,7 +222,7 @@ pub fn has_left(ran: &Ran, status: u8, output: &[u8], faults: &[u8]) -> bool {
 }
 
 /// Whether a line ends so, where each read fails, and none is made where the status is not 4.
-pub fn ends_so(alloc: Global, line: &str, status: u8, lines: &str) -> Result<bool, AllocError> {
+fn ends_so(alloc: Global, line: &str, status: u8, lines: &str) -> Result<bool, AllocError> {
     let input = Tape::failing("", 0, 0);
     let ran = run_over(alloc, line, input, usize::MAX, usize::MAX)?;
     Ok(is_ended_by(&ran, status, lines))
@@ -251,35 +246,24 @@ fn ends_on(
     Ok(is_ended(&ran, status, lines))
 }
 
-/// Whether the line of a row ends as it says, on its own input, or else on this one, or on both
-/// where its own begins with `+`.
-pub fn is_row(alloc: Global, input: &str, row: &str) -> Result<bool, AllocError> {
+/// Whether the line of a row ends as it says, on its input; of the input `-` each read fails.
+fn is_row(alloc: Global, row: &str) -> Result<bool, AllocError> {
     let (status, rest) = row.split_once("|").unwrap_or((row, ""));
     let (line, rest) = rest.split_once("|").unwrap_or((rest, ""));
-    let (own, lines) = rest.split_once("|").unwrap_or((rest, ""));
+    let (input, lines) = rest.split_once("|").unwrap_or((rest, ""));
     let status = status.parse::<u8>().unwrap_or(99);
-    match own.strip_prefix("+ ") {
-        Some(more) => {
-            let both = format!(in alloc; "{input} / {more}")?;
-            ends_on(alloc, line, &both, status, lines)
-        }
-        None => {
-            let input = if own.is_empty() { input } else { own };
-            if input == "-" {
-                ends_so(alloc, line, status, lines)
-            } else {
-                ends_on(alloc, line, input, status, lines)
-            }
-        }
+    if input == "-" {
+        ends_so(alloc, line, status, lines)
+    } else {
+        ends_on(alloc, line, input, status, lines)
     }
 }
 
 /// Each row of `STATUS|WORDS|INPUT|LINES` ends as it says. The documents of an input and the lines
-/// of an answer stand between slashes; of the input `-` each read fails, and a row without an input
-/// has this one.
-pub fn all_end(rt: &(impl Abort + AllocGlobal), input: &str, rows: &str) -> Result<(), Fail> {
+/// of an answer have slashes between them.
+pub fn all_end(rt: &(impl Abort + AllocGlobal), rows: &str) -> Result<(), Fail> {
     for row in rows.lines() {
-        assert!(rt; is_row(rt.alloc(), input, row)?, "{row}");
+        assert!(rt; is_row(rt.alloc(), row)?, "{row}");
     }
     Ok(())
 }

@@ -1,9 +1,5 @@
 //! Documents that several tests read.
 
-/// Three labels of one message, as version 1 has them.
-pub const QUESTIONS: &str =
-    r#"{"cells":[["m","@none",1,1,0,["x"]],["m","en",1,1,1,["Hello"]],["m","fr",1,1,2,["Bonjour"]]],"kind":"site","site":1,"version":1}"#;
-
 /// A site without cells.
 pub const EMPTY_ONE: &str = r#"{"cells":[],"kind":"site","site":"0000000001","version":2}"#;
 
@@ -15,6 +11,6 @@ pub const SCRIPT: &str =
 pub const SCRIPT_WRITTEN: &str =
     "cells 1\n[\"m\",\"en\",5,\"0000000002\",0,[\"two\"]]\ncells 1\n[\"m\",\"en\",5,\"0000000002\",0,[\"two\"]]\nmatched en [\"two\"]\n";
 
-/// The same with its lines between slashes.
+/// The same with slashes between its lines.
 pub const SCRIPT_LINES: &str =
     r#"cells 1 / ["m","en",5,"0000000002",0,["two"]] / cells 1 / ["m","en",5,"0000000002",0,["two"]] / matched en ["two"]"#;
