@@ -1,4 +1,4 @@
-//! The tests of `docs_core`, by its public items alone.
+//! The tests of `docs_core` and of the libraries of documents below it, by public items alone.
 #![tactic(auto)]
 
 #[cfg(test)]

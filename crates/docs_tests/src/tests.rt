@@ -1,16 +1,21 @@
-//! What no contract says: texts, and streams of every kind in action.
+//! What no contract says: texts, documents as bytes, and streams of every kind in action.
 
 mod answers;
 mod asking;
 mod bundle;
-mod by_message;
 mod changes;
+mod doc;
 mod documents;
 mod exchange;
+mod lang_maps;
 mod lines;
-mod missing;
-mod outdated;
 mod questions;
+mod reading;
+mod refusals;
+mod script_writing;
 mod scripts;
+mod sites;
+mod summaries;
 mod time_limits;
 mod update;
+mod writing;

@@ -14,16 +14,16 @@ use std::test::Fail;
 
 /// Each question of the rows, `CALL|MESSAGE OR LANGUAGE|FIELD OR SOURCE|LINE`, is answered by its
 /// line.
-pub fn all_told(rt: &(impl Abort + AllocGlobal), site: &[u8], rows: &str) -> Result<(), Fail> {
+pub fn all_answered(rt: &(impl Abort + AllocGlobal), site: &[u8], rows: &str) -> Result<(), Fail> {
     for row in rows.lines() {
         let (question, line) = row.rsplit_once("|").unwrap_or((row, ""));
-        assert!(rt; is_told(rt.alloc(), site, question, line)?, "{row}");
+        assert!(rt; is_answered(rt.alloc(), site, question, line)?, "{row}");
     }
     Ok(())
 }
 
 /// Whether the site answers the question, `CALL|MESSAGE OR LANGUAGE|FIELD OR SOURCE`, by this line.
-pub fn is_told(alloc: Global, site: &[u8], question: &str, line: &str) -> Result<bool, Fail> {
+pub fn is_answered(alloc: Global, site: &[u8], question: &str, line: &str) -> Result<bool, Fail> {
     let (call, rest) = question.split_once("|").unwrap_or((question, ""));
     let (first, second) = rest.split_once("|").unwrap_or((rest, ""));
     match call {
@@ -38,7 +38,7 @@ pub fn is_told(alloc: Global, site: &[u8], question: &str, line: &str) -> Result
     }
 }
 
-/// The list of a field, and the default that may stand behind it, as in `fr default en`.
+/// The list of a field, and the default that may come after it, as in `fr default en`.
 fn preferences(alloc: Global, field: &str) -> Result<(PriorityList, Option<Lang>), Fail> {
     let (field, tag) = field.split_once("default ").unwrap_or((field, ""));
     let default = default_of(alloc, tag)?;

@@ -1,30 +1,10 @@
 //! What a reader with priorities gets of a site.
 
 use super::answers::is_found;
-use super::asking::all_told;
 use docs_core::{Doc, DocFault, bundle_document_by, read_site, write_bundle, write_bundle_by};
 use nego_core::{PriorityList, Scheme, Widening};
 use std::alloc::Global;
 use std::test::Fail;
-
-const SITE: &[u8] =
-    b"{\"cells\":[[\"m\",\"@none\",1,\"a\",0,[\"x\"]],[\"m\",\"en\",1,\"a\",1,[\"Hello\"]],\
-        [\"m\",\"fr\",1,\"a\",2,[\"Bonjour\"]],[\"n\",\"de\",1,\"a\",3,[\"Hallo\"]],\
-        [\"o\",\"en\",1,\"a\",4,null]],\"kind\":\"site\",\"site\":\"a\",\"version\":2}";
-
-/// Each message has the label that is looked up, or that of the default; the empty field gives the
-/// default alone.
-const BUNDLES: &str = r#"bundle||fr, en;q=0.5|{"m":{"fr":"Bonjour"}}
-bundle||fr default de|{"m":{"fr":"Bonjour"},"n":{"de":"Hallo"}}
-bundle||ja default @none|{"m":{"@none":"x"}}
-bundle||default en|{"m":{"en":"Hello"}}
-bundle||* default en|{"m":{"en":"Hello"}}
-bundle||ja|{}"#;
-
-#[test]
-fn bundles(rt: HostRuntime) -> Result<(), Fail> {
-    all_told(&rt, SITE, BUNDLES)
-}
 
 const REGIONS: &[u8] =
     b"{\"cells\":[[\"m\",\"en-us\",1,\"a\",0,[\"color\"]],[\"m\",\"fr\",1,\"a\",1,[\"couleur\"]],\

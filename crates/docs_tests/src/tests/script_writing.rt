@@ -1,10 +1,10 @@
 //! Scripts as they are written, and steps that no document can have.
 
+use super::answers::is_line;
 use cata_core::Step;
 use cell_core::MessageId;
-use json_docs::{Doc, DocCause, DocFault, Spot};
+use docs_core::{Doc, DocCause, DocFault, Script, Spot, read_script, write_script};
 use nego_core::{Malformed, PriorityList, Scheme};
-use script_docs::{Script, read_script, write_script};
 use std::alloc::Global;
 use std::test::Fail;
 
@@ -41,17 +41,6 @@ const TWO_SITES_AGAIN: &str = concat!(
 fn rewritten(alloc: Global, text: &str) -> Result<Doc, DocFault> {
     let script = read_script(alloc, text.as_bytes())?;
     write_script(alloc, &script)
-}
-
-/// Whether the document is this text and a line feed.
-fn is_line(answer: Result<Doc, DocFault>, text: &str) -> bool {
-    match answer {
-        Ok(doc) => match doc.bytes() {
-            [line @ .., b'\n'] => line == text.as_bytes(),
-            _ => false,
-        },
-        Err(_) => false,
-    }
 }
 
 const NO_STEP: &str = r#"{"kind":"script","sites":1024,"steps":[],"version":2}"#;

@@ -1,6 +1,6 @@
 //! Documents as bytes.
 
-use json_docs::Doc;
+use docs_core::Doc;
 use std::test::Fail;
 
 fn is_made(doc: &Doc) -> bool {

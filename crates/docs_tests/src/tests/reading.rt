@@ -1,6 +1,6 @@
 //! Reading a source to its end, and what stops it.
 
-use json_docs::{DocCause, DocFault, Input, MOST_BYTES, Source, read_all};
+use docs_core::{DocCause, DocFault, Input, MOST_BYTES, Source, read_all};
 use std::alloc::Global;
 use std::io;
 use std::io::Read;

@@ -1,6 +1,6 @@
 //! Writing out, to sinks that fail or take little.
 
-use json_docs::{DocCause, DocFault, Output, Sink, write_out};
+use docs_core::{DocCause, DocFault, Output, Sink, write_out};
 use std::alloc::Global;
 use std::io;
 use std::io::Write;

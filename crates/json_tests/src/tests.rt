@@ -1,6 +1,0 @@
-//! What no contract says: texts of refusals, documents as bytes, and streams that fail.
-
-mod doc;
-mod reading;
-mod refusals;
-mod writing;

@@ -1,3 +1,0 @@
-//! What no contract says: spellings of language maps.
-
-mod lang_maps;

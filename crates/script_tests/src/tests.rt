@@ -1,3 +1,0 @@
-//! What no contract says: spellings of scripts.
-
-mod script_writing;
