@@ -52,24 +52,12 @@ fn each_message_has_the_label_that_is_looked_up(rt: HostRuntime) {
 
 #[test]
 fn a_default_serves_where_nothing_matches(rt: HostRuntime) {
-    let alloc = rt.alloc();
-    let text = "{\"m\":{\"fr\":\"Bonjour\"},\"n\":{\"de\":\"Hallo\"}}\n";
-    assert_bundle(&rt, alloc, accept("fr"), Some(b"de"), text, Outcome::Found);
-    let text = "{\"m\":{\"@none\":\"x\"}}\n";
-    assert_bundle(
-        &rt,
-        alloc,
-        accept("ja"),
-        Some(b"@none"),
-        text,
-        Outcome::Found,
-    );
     let lenient = Field {
         malformed: Malformed::PassedOver,
         ..accept("ja;q=1.001")
     };
     let text = "{\"m\":{\"en\":\"Hello\"}}\n";
-    assert_bundle(&rt, alloc, lenient, Some(b"en"), text, Outcome::Found);
+    assert_bundle(&rt, rt.alloc(), lenient, Some(b"en"), text, Outcome::Found);
 }
 
 #[test]

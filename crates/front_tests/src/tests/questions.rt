@@ -156,11 +156,5 @@ fn lines_of_a_filter(rt: HostRuntime) -> Result<(), Fail> {
     let field = accept("fr;q=0.5, en");
     assert_lines(&rt, rt.alloc(), "m", field, lines, Outcome::Found)?;
     let none = "filter 0\n";
-    assert_lines(&rt, rt.alloc(), "z", accept("en"), none, Outcome::Nothing)?;
-    let any = Field {
-        scheme: Scheme::Extended,
-        ..accept("*-*")
-    };
-    let lines = "filter 2\nen 1000 [\"Hello\"]\nfr 1000 [\"Bonjour\",\"Salut\"]\n";
-    assert_lines(&rt, rt.alloc(), "m", any, lines, Outcome::Found)
+    assert_lines(&rt, rt.alloc(), "z", accept("en"), none, Outcome::Nothing)
 }

@@ -4,7 +4,7 @@ use cata_core::Site;
 use cell_core::CellFault;
 use docs_core::{DocCause, DocFault, FieldFault, Spot};
 use front_core::{
-    Field, Filter, FrontFault, Lookup, Preferences, bundle, filter_lines, lookup_line, lookup_text,
+    Field, Filter, FrontFault, Lookup, Preferences, filter_lines, lookup_line, lookup_text,
     open_site, pick,
 };
 use lang_core::LangFault;
@@ -63,7 +63,7 @@ fn a_line_without_bytes(rt: HostRuntime) {
 }
 
 #[test]
-fn a_subtag_is_told_by_its_place(rt: HostRuntime) {
+fn a_subtag_is_named_by_its_place(rt: HostRuntime) {
     let picked = pick(rt.alloc(), accept(b"fr"), None, b"en\nde-ab_c");
     let fault = FrontFault::Language(LangFault::TagSubtag { offset: 3 });
     assert_refused(&rt, picked, fault);
@@ -112,24 +112,6 @@ fn a_lookup_in_order(rt: HostRuntime) -> Result<(), Fail> {
     assert_lookup_refused(&rt, alloc, &site, b"@m", Some(b"e"), &ID);
     assert_lookup_refused(&rt, alloc, &site, b"m", Some(b"e"), &LANGUAGE);
     assert_lookup_refused(&rt, alloc, &site, b"m", None, &FIELD);
-    Ok(())
-}
-
-#[test]
-fn a_filter_in_order(rt: HostRuntime) -> Result<(), Fail> {
-    let alloc = rt.alloc();
-    let site = open_site(alloc, SITE)?;
-    assert_refused(&rt, filter_lines(alloc, &site, b"@m", malformed()), ID);
-    assert_refused(&rt, filter_lines(alloc, &site, b"m", malformed()), FIELD);
-    Ok(())
-}
-
-#[test]
-fn a_bundle_in_order(rt: HostRuntime) -> Result<(), Fail> {
-    let alloc = rt.alloc();
-    let site = open_site(alloc, SITE)?;
-    assert_refused(&rt, bundle(alloc, &site, malformed(), Some(b"e")), LANGUAGE);
-    assert_refused(&rt, bundle(alloc, &site, malformed(), None), FIELD);
     Ok(())
 }
 

@@ -45,8 +45,6 @@ fn nothing(rt: HostRuntime) {
     let ranges = field(Scheme::Basic, "ja");
     let answer = filter_tags(rt.alloc(), ranges, b"en\n");
     assert_lines(&rt, answer, "filter 0\n", Outcome::Nothing);
-    let answer = filter_answer(rt.alloc(), ranges, ["en"].as_slice());
-    assert_lines(&rt, answer, "filter 0\n", Outcome::Nothing);
     let answer = filter_tags(rt.alloc(), ranges, b"");
     assert_lines(&rt, answer, "filter 0\n", Outcome::Nothing);
 }
@@ -54,8 +52,6 @@ fn nothing(rt: HostRuntime) {
 #[test]
 fn extended(rt: HostRuntime) {
     let ranges = field(Scheme::Extended, "de-*-DE");
-    let answer = filter_answer(rt.alloc(), ranges, ["de-Latn-DE", "de"].as_slice());
-    assert_lines(&rt, answer, "filter 1\nde-latn-de 1000\n", Outcome::Found);
     let answer = filter_tags(rt.alloc(), ranges, b"de-Latn-DE\nde");
     assert_lines(&rt, answer, "filter 1\nde-Latn-DE 1000\n", Outcome::Found);
 }

