@@ -88,7 +88,7 @@ fn blanks_without_an_end(rt: HostRuntime) -> Result<(), Fail> {
     Ok(())
 }
 
-/// A reader of single bytes that fails at any of its reads, the one that would tell the end among
+/// A reader of single bytes that fails at any of its reads, the one that would find the end among
 /// them.
 #[test]
 fn readers_that_fail(rt: HostRuntime) -> Result<(), Fail> {
