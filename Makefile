@@ -173,7 +173,7 @@ check-docs: build/lexicat
 	for script in $(filter-out scripts/borrow-check,$(wildcard scripts/*-check)); do $$script || exit 1; done
 
 #: make proofs        the map of what is proved, build/PROOFS.md, from the sources in a second: each
-#:                    function and law with its sentence, clauses and definitions (docs/PROOFS.md)
+#:                    function and law with its sentence, clauses and definitions (docs/maintaining/PROOFS.md)
 proofs:
 	scripts/proofs
 

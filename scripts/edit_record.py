@@ -1,4 +1,4 @@
-"""The record of edits: what each came to when it was last tried (docs/GATE.md).
+"""The record of edits: what each came to when it was last tried (docs/maintaining/GATE.md).
 
 A line is a crate, an edit, a key and the verdict. The key is a sum of all that the verdict follows
 from: the kit, the edit, the crate's line of crates.txt and its sources, definitions and proofs, and
@@ -76,7 +76,7 @@ class Record:
         """Writes the entries of this run, and those of the crates and edits that it did not try."""
         os.makedirs(os.path.dirname(path), exist_ok=True)
         with self.writing, open(path, "w", encoding="utf-8") as it:
-            it.write("# What each edit came to, by `scripts/edits --record`: docs/GATE.md.\n")
+            it.write("# What each edit came to, by `scripts/edits --record`: docs/maintaining/GATE.md.\n")
             for (crate, edit), found in sorted({**self.entries, **self.new}.items()):
                 it.write(f"{crate} {edit} {found.key} {found.verdict}\n")
 

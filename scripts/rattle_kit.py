@@ -1,4 +1,4 @@
-"""The Rattle kit's own command `rt` as a module, for what no command of it does (docs/GATE.md)."""
+"""The Rattle kit's own command `rt` as a module, for what no command of it does (docs/maintaining/GATE.md)."""
 import functools
 import hashlib
 import importlib.machinery
@@ -34,7 +34,7 @@ def load_rt():
     version = subprocess.run([command, "version"], capture_output=True, text=True).stdout.strip()
     if version not in KITS:
         wanted = " or ".join(KITS)
-        sys.exit(f"this was written for {wanted}, and rt is of {version}: docs/GATE.md")
+        sys.exit(f"this was written for {wanted}, and rt is of {version}: docs/maintaining/GATE.md")
     loader = importlib.machinery.SourceFileLoader("rt", os.path.realpath(command))
     rt = importlib.util.module_from_spec(importlib.util.spec_from_loader("rt", loader))
     loader.exec_module(rt)
