@@ -63,7 +63,7 @@ build/browser/silkwaram.wasm: $(SOURCES) include/silkwaram.h scripts/browser \
 		$(wildcard bindings/browser/*)
 	RT='$(RT)' scripts/browser
 
-#: make test          the whole gate, from nothing: some 50 minutes on four processors, twice that on two
+#: make test          the whole gate, from nothing: some 30 minutes on four processors, twice that on two
 # The program that the compiler has to refuse; every proof, from nothing where this machine has not
 # passed the same crate before, the tests and the programs; the edits that the prover has to refuse,
 # one of each public function and many in one check; then what the docs show. The last line counts
