@@ -1,0 +1,195 @@
+// One message in the list: its name, its source and notes, and the fields of its translation.
+import { app, languageName, made, say, setText } from './app.mjs';
+import { attributeOf, directionOf } from './languages.mjs';
+import { differences } from './placeholders.mjs';
+
+const hasSizing = CSS.supports('field-sizing', 'content');
+let numbers = 0;
+
+/** Has fields as high as their texts. All are measured at once, as each height lays out the page anew. */
+export function fitHeights(texts) {
+  if (hasSizing) return;
+  const all = [...texts];
+  for (const text of all) text.style.height = 'auto';
+  const heights = all.map((text) => text.scrollHeight);
+  all.forEach((text, at) => {
+    text.style.height = `${heights[at] + 2}px`;
+  });
+}
+
+/** The languages of what is shown beside a message. */
+function sourceOf(id) {
+  const { labels } = app.work;
+  const { language, source } = app.state;
+  if (labels.textsOf(id, source).length > 0) return source;
+  if (source === language) return source;
+  return labels.firstOf(id) ?? source;
+}
+
+function actionOf(word, run, keys) {
+  const button = made('button', { type: 'button', textContent: say(word), tabIndex: -1, onclick: run, className: word });
+  button.setAttribute('aria-keyshortcuts', keys);
+  return button;
+}
+
+/** A row for a message. `does` is what a row is for: commit, type, key, confirm, copy and remove. */
+export function makeRow(id, does) {
+  const number = (numbers += 1);
+  const row = made('li', { className: 'row' });
+  row.label = id;
+  const name = made('h3', {}, made('bdi', { textContent: id }), ' ', made('span', { className: 'mark', id: `mark-${number}` }));
+  row.append(
+    made('div', { className: 'about' }, name, made('p', { className: 'source', id: `source-${number}` }),
+      made('p', { className: 'note', id: `note-${number}` })),
+    made('div', { className: 'translation' }, made('div', { className: 'texts' }),
+      made('p', { className: 'warning', id: `warning-${number}` }),
+      made('div', { className: 'row-actions' }, made('small', { className: 'who' }),
+        actionOf('stillRight', () => does.confirm(row), 'Control+Enter'),
+        actionOf('copySource', () => does.copy(row), 'Alt+C'),
+        actionOf('remove', () => does.remove(row), 'Alt+Delete'))),
+  );
+  row.number = number;
+  row.does = does;
+  updateRow(row);
+  return row;
+}
+
+function makeText(row, place) {
+  const { does, number } = row;
+  const text = made('textarea', { rows: 1, spellcheck: true });
+  text.place = place;
+  text.setAttribute('aria-describedby', ['source', 'mark', 'note', 'warning', 'other'].map((it) => `${it}-${number}`).join(' '));
+  text.oninput = () => does.type(row, text);
+  text.onchange = () => does.leave(row);
+  text.onkeydown = (event) => does.key(event, row, text);
+  return text;
+}
+
+/** The name of one of several texts: that of a plural form, or its place. */
+function nameOfText(id, count, place) {
+  const known = { id, language: languageName(app.state.language), place: place + 1, count };
+  return say(count > 1 ? 'textAt' : 'textOf', known);
+}
+
+function showOther(row, text) {
+  const { language } = app.state;
+  const { place } = text;
+  const other = app.work.otherAt(row.label, language, place);
+  let line = text.nextElementSibling;
+  if (line?.className !== 'other') line = null;
+  if (other === null) {
+    line?.remove();
+    return;
+  }
+  if (!line) {
+    line = made('p', { className: 'other', id: `other-${row.number}` });
+    line.setAttribute('role', 'status');
+    text.after(line);
+  }
+  const cell = app.work.labels.cellOf(row.label, language);
+  const who = cell?.site ?? '';
+  const content = made('bdi', { textContent: other || say('nothing'), lang: attributeOf(language) });
+  if (line.title === `${who} ${other}`) return;
+  line.title = `${who} ${other}`;
+  line.replaceChildren(made('b', { textContent: say('otherText', { who }) }), content, made('small', { textContent: say('otherHint') }));
+}
+
+function placeholderWarning(id, place) {
+  const { labels } = app.work;
+  const { language } = app.state;
+  const source = sourceOf(id);
+  const beside = labels.textsOf(id, source);
+  const text = app.work.shownAt(id, language, place);
+  if (text === '' || source === language || beside.length === 0) return '';
+  const { lacks, hasBeside } = differences(beside[place] ?? beside.at(-1), text);
+  return [
+    lacks.length > 0 ? say('lacks', { what: lacks.join(' ') }) : '',
+    hasBeside.length > 0 ? say('hasBeside', { what: hasBeside.join(' ') }) : '',
+  ].filter(Boolean).join(' ');
+}
+
+function whenOf(time) {
+  const format = new Intl.DateTimeFormat(app.state.page, { dateStyle: 'medium' });
+  return time < 8.64e15 ? format.format(time) : '';
+}
+
+/** Shows the words beside the fields, which change while something is typed. */
+export function updateMarks(row) {
+  const { labels } = app.work;
+  const { language, source } = app.state;
+  const id = row.label;
+  const isTyped = app.work.isTyping(id, language);
+  const kind = isTyped ? 'isTyped' : labels.isMissing(id, language) ? 'isMissing' :
+    labels.isOutdated(id, language, source) ? 'isOutdated' : null;
+  const mark = row.querySelector('.mark');
+  setText(mark, kind ? say(kind) : '');
+  row.dataset.mark = kind ?? '';
+  const texts = row.querySelectorAll('textarea');
+  const warnings = [...texts].map((text) => placeholderWarning(id, text.place)).filter(Boolean);
+  setText(row.querySelector('.warning'), warnings.join(' '));
+  for (const text of texts) showOther(row, text);
+  const cell = labels.cellOf(id, language);
+  const who = cell ? say(cell.texts ? 'by' : 'removedBy', { who: cell.site, when: whenOf(cell.time) }) : '';
+  setText(row.querySelector('.who'), who);
+  const beside = labels.textsOf(id, sourceOf(id));
+  row.querySelector('.stillRight').hidden = kind !== 'isOutdated';
+  row.querySelector('.copySource').hidden = !labels.isMissing(id, language) || isTyped || beside.length === 0;
+  row.querySelector('.remove').hidden = !cell?.texts;
+}
+
+/** Shows in a row what the site has; what is being typed stays. */
+export function updateRow(row) {
+  const { labels } = app.work;
+  const { language } = app.state;
+  const id = row.label;
+  const shown = sourceOf(id);
+  const beside = labels.textsOf(id, shown);
+  const held = labels.textsOf(id, language);
+  const typed = app.work.drafts.get(JSON.stringify([id, language]));
+  const most = typed ? Math.max(...typed.keys()) + 1 : 0;
+  const count = Math.max(1, held.length, most, shown === language ? 0 : beside.length);
+  const box = row.querySelector('.texts');
+  const texts = [...box.querySelectorAll('textarea')];
+  while (texts.length > count) {
+    const last = texts.pop();
+    if (last.nextElementSibling?.className === 'other') last.nextElementSibling.remove();
+    last.remove();
+  }
+  while (texts.length < count) {
+    texts.push(makeText(row, texts.length));
+    box.append(texts.at(-1));
+  }
+  const changed = [];
+  for (const text of texts) {
+    text.lang = attributeOf(language);
+    text.dir = directionOf(language);
+    text.setAttribute('aria-label', nameOfText(id, count, text.place));
+    const wanted = app.work.shownAt(id, language, text.place);
+    if (text.value !== wanted) {
+      text.value = wanted;
+      changed.push(text);
+    }
+  }
+  if (row.isConnected) fitHeights(changed);
+  showSource(row, shown, beside);
+  const note = labels.notesOf(id, language).join('\n');
+  setText(row.querySelector('.note'), note);
+  updateMarks(row);
+  for (const it of row.querySelectorAll('.row-actions button')) {
+    it.setAttribute('aria-label', say(`${it.className}Of`, { id, language: languageName(language) }));
+  }
+}
+
+function showSource(row, language, beside) {
+  const source = row.querySelector('.source');
+  const isOwn = language === app.state.language;
+  source.hidden = isOwn;
+  const has = beside.length > 0;
+  source.lang = has ? attributeOf(language) : app.state.page;
+  source.dir = directionOf(has ? language : app.state.page);
+  source.classList.toggle('hint', !has);
+  const isOther = has && language !== app.state.source;
+  const text = has ? beside.join('\n') : say('noSource', { language: languageName(app.state.source) });
+  setText(source, isOther ? `${text} (${languageName(language)})` : text);
+}
+
