@@ -34,15 +34,17 @@ def program():
 class Browser:
     """A browser with a profile of its own, which ends with the `with` block."""
 
-    def __init__(self, *flags):
+    def __init__(self, *flags, profile=None):
+        """A profile that is given is not taken away at the end."""
         self.flags = flags
+        self.given = profile
         self.numbers = itertools.count(1)
         self.rest = b""
         self.answers = {}
         self.events = []
 
     def __enter__(self):
-        self.profile = tempfile.mkdtemp(prefix="silkwaram-browser-")
+        self.profile = self.given or tempfile.mkdtemp(prefix="silkwaram-browser-")
         reads, self.writes = os.pipe()
         self.reads, writes = os.pipe()
         words = ["bash", "-c", START, "bash", program(), *FLAGS, f"--user-data-dir={self.profile}",
@@ -67,7 +69,13 @@ class Browser:
             self.process.wait()
         os.close(self.reads)
         os.close(self.writes)
-        shutil.rmtree(self.profile, ignore_errors=True)
+        if not self.given:
+            shutil.rmtree(self.profile, ignore_errors=True)
+
+    def kill(self):
+        """Ends it as a crash does."""
+        self.process.kill()
+        self.process.wait()
 
     def said(self):
         with open(f"{self.profile}/said", encoding="utf-8", errors="replace") as file:
@@ -102,12 +110,15 @@ class Browser:
             raise Failed(f"{method}: {answer['error']['message']}")
         return answer["result"]
 
-    def page(self, url, width=1000, height=800):
+    def page(self, url, width=1000, height=800, before=None):
+        """Opens a page in a tab of its own; `before` is code that runs in it before its own."""
         target = self.ask("Target.createTarget", url="about:blank")["targetId"]
         session = self.ask("Target.attachToTarget", targetId=target, flatten=True)["sessionId"]
         page = Page(self, target, session)
         for domain in ("Page", "Runtime", "Network", "Accessibility"):
             page.ask(f"{domain}.enable")
+        if before:
+            page.ask("Page.addScriptToEvaluateOnNewDocument", source=before)
         page.resize(width, height)
         page.go(url)
         return page
@@ -125,6 +136,9 @@ class Page:
         if answer.get("errorText"):
             raise Failed(f"{url}: {answer['errorText']}")
         self.until("document.readyState === 'complete'")
+
+    def close(self):
+        self.browser.ask("Target.closeTarget", targetId=self.target)
 
     def reload(self):
         self.run("window.isOld = true")
@@ -158,7 +172,8 @@ class Page:
     def key(self, key, code=None, modifiers=0, text=None):
         """Presses and lets go a key; `modifiers` is the sum of 1 Alt, 2 Control, 4 Meta, 8 Shift."""
         named = {"key": key, "code": code or key, "modifiers": modifiers}
-        number = {"Enter": 13, "Tab": 9, "Escape": 27, "ArrowDown": 40, "ArrowUp": 38}.get(key)
+        number = {"Enter": 13, "Tab": 9, "Escape": 27, "ArrowDown": 40, "ArrowUp": 38, "Delete": 46,
+                  " ": 32}.get(key)
         if number:
             named["windowsVirtualKeyCode"] = number
         if key == "Enter" and text is None:

@@ -15,7 +15,8 @@ import { afterEdit, relist, rowActions, showAnew, undo } from './working.mjs';
 import { Work, keyOf } from './work.mjs';
 import { WORDS, wordsOf } from './words.mjs';
 
-const PAUSE = 300;
+// How long a pause in typing is, after which a draft is kept.
+const PAUSE = 100;
 
 function fillWords() {
   app.say = wordsOf(app.state.page);

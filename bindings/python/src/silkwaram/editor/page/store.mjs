@@ -52,6 +52,8 @@ class Store {
       writing.oncomplete = () => resolve();
       writing.onabort = () => reject(writing.error ?? new Error('the transaction was aborted'));
       run((name) => writing.objectStore(name));
+      // (at once, so that a page that is being left has done it)
+      writing.commit();
     });
   }
 }
