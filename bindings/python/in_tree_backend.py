@@ -1,10 +1,12 @@
 """Builds the package with Python's standard library alone, so that an installation fetches nothing.
 
-These are the calls of PEP 517 that pip makes. The wheel has the modules as they are. With the
-setting `library`, the path of libsilkwaram.so, it has the library too, and bears the tag of the
-machines that this runs on; that wants `objdump` of binutils:
+These are the calls of PEP 517 that pip makes. The wheel has the modules as they are, with the page
+of the editor. With the setting `library`, the path of libsilkwaram.so, it has the library too, and
+bears the tag of the machines that this runs on; that wants `objdump` of binutils. With the setting
+`browser`, the folder that `make browser` builds, it has the module that the editor's page runs:
 
-    pip wheel --config-settings library=$PWD/build/lib/libsilkwaram.so ./bindings/python
+    pip wheel --config-settings library=$PWD/build/lib/libsilkwaram.so \\
+        --config-settings browser=$PWD/build/browser ./bindings/python
 """
 import base64
 import gzip
@@ -21,6 +23,11 @@ NAME = "silkwaram"
 LICENCES = ["LICENSE-APACHE", "LICENSE-MIT"]
 SONAME = "libsilkwaram.so.0"
 GLIBC = (2, 17)
+# What the editor's page is made of, and what of the module it runs.
+PAGE = (".html", ".css", ".js", ".mjs", ".svg")
+MODULE = ("silkwaram.mjs", "silkwaram.wasm")
+# The program by which the editor's server makes PO files: in a source package beside this file.
+PO_PROGRAM, PO_PLACE = "companions/lexicat-po", "editor/lexicat_po.py"
 # The first of January 1980, before which no date of a file in a wheel can be.
 EPOCH, ZIP_EPOCH = 315532800, (1980, 1, 1, 0, 0, 0)
 
@@ -74,8 +81,16 @@ def modules():
         os.path.relpath(os.path.join(path, it), folder)
         for path, _, files in os.walk(folder)
         for it in files
-        if it.endswith((".py", ".typed"))
+        if it.endswith((".py", ".typed", *PAGE)) and it not in MODULE
     )
+
+
+def po_program():
+    """The program lexicat-po, where the sources have it."""
+    for folder in ("", "../../"):
+        if os.path.exists(os.path.join(HERE, folder + PO_PROGRAM)):
+            return {PO_PROGRAM: read(folder + PO_PROGRAM)}
+    return {}
 
 
 def library_tag(path):
@@ -108,6 +123,10 @@ def record_line(path, content):
 def build_wheel(wheel_directory, config_settings=None, metadata_directory=None):
     info = f"{NAME}-{version()}.dist-info"
     files = {f"{NAME}/{it}": read(f"src/{NAME}/{it}") for it in modules()}
+    files.update({f"{NAME}/{PO_PLACE}": content for content in po_program().values()})
+    browser = (config_settings or {}).get("browser")
+    if browser:
+        files.update({f"{NAME}/editor/page/{it}": read(os.path.join(browser, it)) for it in MODULE})
     library = (config_settings or {}).get("library")
     machines = "any"
     if library:
@@ -140,6 +159,7 @@ def build_sdist(sdist_directory, config_settings=None):
     ]
     files = {it: read(it) for it in paths}
     files.update({it: licences()[it] for it in LICENCES})
+    files.update(po_program())
     files["PKG-INFO"] = metadata()
     made = f"{base}.tar.gz"
     # (with no name and a date of its own inside, so that the same sources give the same bytes)

@@ -16,11 +16,14 @@ import time
 
 sys.dont_write_bytecode = True
 import chromium  # noqa: E402
+import editor_more  # noqa: E402
 import editor_promises  # noqa: E402
 from editor_page import PACKAGE  # noqa: E402
 
 PROMISES = [editor_promises.any_id, editor_promises.no_edit_lost, editor_promises.no_edit_undone,
-            editor_promises.wrong_clocks, editor_promises.in_parallel]
+            editor_promises.wrong_clocks, editor_promises.in_parallel, editor_more.work_seen,
+            editor_more.languages_chosen, editor_more.exchange_alone, editor_more.key_wanted,
+            editor_more.many_messages, editor_more.looks, editor_more.by_keys, editor_more.tampered]
 
 
 def tried(promise, package=PACKAGE):

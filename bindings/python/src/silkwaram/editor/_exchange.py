@@ -80,7 +80,7 @@ class Exchange:
         with edit(self._path, wait=LONGEST_WAIT) as site:
             site.update(old, new)
 
-    def import_maps(self, maps: Any) -> None:
-        """Puts all labels of language maps."""
-        with edit(self._path, wait=LONGEST_WAIT) as site:
-            site.import_maps(maps)
+    def document(self) -> bytes:
+        """The document of the site."""
+        with self.current()[0] as site:
+            return site.to_bytes()

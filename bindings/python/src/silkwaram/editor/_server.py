@@ -7,11 +7,13 @@ import socket
 import sys
 from http import HTTPStatus
 from typing import Callable, Dict, Optional, Tuple
+from urllib.parse import parse_qs
 
 from silkwaram import Refused
 
 from ._exchange import Exchange
 from ._files import page_files
+from ._po import PoFault, edits_in, po_of
 
 LARGEST = 64 * 1024 * 1024
 # Seconds for which a connection may be silent.
@@ -33,6 +35,7 @@ ON_ALL = {
 }
 # By which a page knows that it was this server that answered, and no page of a network.
 EXCHANGE = "Silkwaram-Exchange"
+JSON, PO = "application/json", "text/x-gettext-translation"
 
 Answer = Tuple[bytes, Optional[str]]
 
@@ -57,8 +60,9 @@ class Handler(http.server.BaseHTTPRequestHandler):
         if not self.is_for_us():
             return
         path = self.path.partition("?")[0]
-        if path == "/summary":
-            self.exchange(self.server.exchange.summary)
+        asked = {"/summary": self.server.exchange.summary, "/po": self.po}.get(path)
+        if asked is not None:
+            self.exchange(asked, PO if path == "/po" else JSON)
             return
         file = self.server.files.get(path[1:] or "index.html")
         if file is None:
@@ -75,13 +79,16 @@ class Handler(http.server.BaseHTTPRequestHandler):
         """Takes a delta, or answers a summary with one."""
         if not self.is_for_us():
             return
-        asked = {"/summary": self.server.exchange.delta_for, "/delta": self.take}.get(self.path)
+        path = self.path.partition("?")[0]
+        calls = {"/summary": self.server.exchange.delta_for, "/delta": self.take,
+                 "/po": self.take_po}
+        asked = calls.get(path)
         try:
             if asked is None:
                 raise Fault(HTTPStatus.NOT_FOUND, "there is nothing at this address")
             # (before the body is read: who has no key sends none in vain)
             self.check_key()
-            body = self.body()
+            body = self.body(PO if path == "/po" else JSON)
         except Fault as fault:
             self.close_connection = True
             self.fail(fault)
@@ -118,11 +125,32 @@ class Handler(http.server.BaseHTTPRequestHandler):
         if not hmac.compare_digest(given, f"Bearer {token}".encode()):
             raise Fault(HTTPStatus.UNAUTHORIZED, "the key of this server is wanted")
 
-    def body(self) -> bytes:
-        """The body of a request, which has to be a JSON document of a stated length."""
-        # (a page of another server cannot send this type without asking first)
-        if self.headers.get_content_type() != "application/json":
-            raise Fault(HTTPStatus.UNSUPPORTED_MEDIA_TYPE, "application/json is wanted")
+    def languages(self) -> Tuple[str, str]:
+        """The language and the source that the address of a PO file names."""
+        asked = parse_qs(self.path.partition("?")[2])
+        try:
+            return asked["lang"][0], asked["source"][0]
+        except KeyError:
+            raise Fault(HTTPStatus.BAD_REQUEST, "/po?lang=LANG&source=LANG is wanted") from None
+
+    def po(self) -> Answer:
+        """The PO file of a language."""
+        lang, source = self.languages()
+        return po_of(self.server.exchange.document(), lang, source), None
+
+    def take_po(self, po: bytes) -> Answer:
+        """Takes what is translated in a PO file, and says what is left out."""
+        lang, source = self.languages()
+        exchange = self.server.exchange
+        old, new, said = edits_in(exchange.document(), po, lang, source)
+        exchange.update(old, new)
+        return json.dumps({"misfits": said}).encode() + b"\n", None
+
+    def body(self, kind: str) -> bytes:
+        """The body of a request, which has to be of a type and of a stated length."""
+        # (a page of another server cannot send these types without asking first)
+        if self.headers.get_content_type() != kind:
+            raise Fault(HTTPStatus.UNSUPPORTED_MEDIA_TYPE, f"{kind} is wanted")
         length = self.headers.get("Content-Length", "")
         if not (length.isascii() and length.isdecimal()):
             raise Fault(HTTPStatus.LENGTH_REQUIRED, "a Content-Length is wanted")
@@ -133,7 +161,7 @@ class Handler(http.server.BaseHTTPRequestHandler):
             raise Fault(HTTPStatus.BAD_REQUEST, "the body ended early")
         return body
 
-    def exchange(self, run: Callable[[], Answer]) -> None:
+    def exchange(self, run: Callable[[], Answer], kind: str = JSON) -> None:
         """Answers a request of an exchange."""
         try:
             self.check_key()
@@ -144,6 +172,8 @@ class Handler(http.server.BaseHTTPRequestHandler):
             made, tag = run()
         except Fault as fault:
             self.fail(fault)
+        except PoFault as fault:
+            self.fail(Fault(HTTPStatus.UNPROCESSABLE_ENTITY, str(fault)))
         except Refused as refused:
             words = str(refused).partition(": ")[2]
             self.fail(Fault(HTTPStatus.UNPROCESSABLE_ENTITY, words), number=refused.number)
@@ -156,7 +186,7 @@ class Handler(http.server.BaseHTTPRequestHandler):
             worth = len(made) >= LEAST_PACKED and self.takes_gzip()
             packed = gzip.compress(made, 1) if worth else None
             heads = {EXCHANGE: "1", **({"ETag": tag} if tag else {})}
-            self.send(HTTPStatus.OK, "application/json", made, heads, packed)
+            self.send(HTTPStatus.OK, kind, made, heads, packed)
 
     def fail(self, fault: Fault, **more: int) -> None:
         """Says why a request is not done."""
@@ -164,7 +194,7 @@ class Handler(http.server.BaseHTTPRequestHandler):
         heads = {EXCHANGE: "1"}
         if fault.status == HTTPStatus.UNAUTHORIZED:
             heads["WWW-Authenticate"] = "Bearer"
-        self.send(fault.status, "application/json", words, heads)
+        self.send(fault.status, JSON, words, heads)
 
     def takes_gzip(self) -> bool:
         return "gzip" in self.headers.get("Accept-Encoding", "")

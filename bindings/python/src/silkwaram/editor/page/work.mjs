@@ -236,9 +236,11 @@ export class Work {
     if (cells.length === 0) return { received: 0, late };
     this.site.take(delta);
     const came = [];
+    // (all of it is new in an empty site)
+    const isFirst = this.labels.ids().length === 0;
     for (const [id, language, time, site, , texts] of cells) {
       const before = this.labels.textsOf(id, language);
-      if (!isSame(before, texts ?? [])) came.push({ id, language, time, site, before, texts: texts ?? [] });
+      if (!isFirst && !isSame(before, texts ?? [])) came.push({ id, language, time, site, before, texts: texts ?? [] });
     }
     this.reread();
     const keys = new Set(came.map(({ id, language }) => keyOf(id, language)));

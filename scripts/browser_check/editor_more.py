@@ -1,0 +1,407 @@
+"""More promises of the editor: work that is seen, languages, exchanges without a thought, many messages, looks."""
+import json
+import os
+import time
+
+import chromium
+from editor_page import SHORT_MINUTE, Editor, expect, quoted
+from editor_promises import EMPTY
+
+# Elements with text that is cut, or wider than the page; and text that stands out too little from its ground.
+SEEN = """(() => {
+  const faults = [];
+  const rgb = (color) => color.match(/[\\d.]+/g).map(Number);
+  const light = ([r, g, b]) => [r, g, b].map((it) => it / 255)
+    .map((it) => it <= 0.03928 ? it / 12.92 : ((it + 0.055) / 1.055) ** 2.4)
+    .reduce((sum, it, at) => sum + it * [0.2126, 0.7152, 0.0722][at], 0);
+  const ground = (element) => {
+    for (let it = element; it; it = it.parentElement) {
+      const color = rgb(getComputedStyle(it).backgroundColor);
+      if (color.length < 4 || color[3] > 0) return color;
+    }
+    return [255, 255, 255];
+  };
+  if (document.documentElement.scrollWidth > innerWidth) faults.push('the page is wider than the window');
+  for (const element of document.body.querySelectorAll('*')) {
+    const isInput = /^(INPUT|TEXTAREA|SELECT)$/.test(element.tagName);
+    const hasText = isInput || [...element.childNodes].some((it) => it.nodeType === 3 && it.data.trim());
+    const box = element.getBoundingClientRect();
+    if (!hasText || !element.checkVisibility() || element.closest('.away, .skip, option, datalist, progress, .aside')) continue;
+    if (box.width <= 1 || element.type === 'file' || element.type === 'radio') continue;
+    const name = `${element.tagName} ${element.id} "${(element.value ?? element.textContent).slice(0, 40)}"`;
+    const style = getComputedStyle(element);
+    if (element.tagName === 'TEXTAREA' && element.scrollHeight > element.clientHeight + 2) faults.push(`cut: ${name}`);
+    if (style.display !== 'inline' && !isInput && element.scrollWidth > element.clientWidth + 2) faults.push(`cut: ${name}`);
+    if (box.width && (box.left < -1 || box.right > innerWidth + 1)) faults.push(`beside the window: ${name}`);
+    const [one, other] = [light(rgb(style.color)), light(ground(element))].sort((a, b) => b - a);
+    if ((one + 0.05) / (other + 0.05) < 4.5 && !element.disabled) faults.push(`too little contrast: ${name}`);
+  }
+  return faults;
+})()"""
+TITLES = {"title": "The Daily Catalogue", "greeting": "Good morning, {name}", "imprint": "Imprint",
+          "news": "The harbour is open again. Ferries leave from the new pier until further notice.",
+          "search": "Search", "weather": "Rain until Thursday."}
+ARABIC = {"title": "الفهرس اليومي", "greeting": "صباح الخير يا {name}", "news": "أُعيد فتح الميناء."}
+
+
+def work_seen(room):
+    """5. Work is seen: progress, what came and from whom, "Still right", undo, notes, placeholders."""
+    room.server.put(*[[name, "en", [text]] for name, text in TITLES.items()],
+                    ["greeting", "x-note", ["On the first page"]], ["items", "en", ["%d item", "%d items"]])
+    room.server.put(["title", "fr", ["Le catalogue"]], ["search", "fr", ["Chercher"]])
+    anna, ben = room.editor("anna"), room.editor("ben")
+    for editor in (anna, ben):
+        editor.exchanged()
+        editor.language("#source", "en")
+        editor.language("#language", "fr")
+    expect(anna.said("#progress-text") == "2 of 7", f"the progress is {anna.said('#progress-text')}")
+    expect("French: 2 of 7" in anna.said("#language"), f"of the languages it is said: {anna.said('#language')}")
+    expect(anna.run(f"{anna.row('greeting')}.querySelector('.note').textContent") == "On the first page", "no note is shown")
+    # placeholders, and a copy of the source
+    anna.go("greeting")
+    anna.page.type("Bonjour %s")
+    warning = f"{anna.row('greeting')}.querySelector('.warning').textContent"
+    expect(anna.run(warning) == "Not in your text: {name}. Not in the source: %s.", f"it is warned: {anna.run(warning)}")
+    anna.page.key("Escape")
+    anna.page.key("c", code="KeyC", modifiers=1)
+    expect(anna.text("greeting") == TITLES["greeting"], "the source is not copied")
+    anna.go("greeting")
+    anna.page.type("Bonjour {name}")
+    anna.page.key("Enter")
+    expect(anna.run(warning) == "", "a right text is warned of")
+    # both plural forms
+    anna.write("items", "%d article")
+    anna.write("items", "%d articles", 1)
+    anna.exchange()
+    expect(room.server.labels()[("items", "fr")] == ["%d article", "%d articles"], "a form is lost")
+    # outdated, and still right
+    ben.exchange()
+    ben.language("#language", "en")
+    ben.write("title", "The Daily Catalogue.")
+    ben.write("search", "Find")
+    ben.exchange()
+    anna.exchange()
+    expect(anna.count("outdated") == 2 and anna.count("came") == 2, f"{anna.count('outdated')} are outdated")
+    expect(anna.said("#progress-text") == "4 of 7", f"the progress is {anna.said('#progress-text')}")
+    anna.show("came")
+    expect(sorted(anna.listed()) == ["search", "title"], f"what came is {anna.listed()}")
+    anna.show("outdated")
+    anna.press("title", "stillRight")
+    anna.go("search")
+    anna.page.key("Enter", modifiers=2)
+    expect(anna.count("outdated") == 0, "what is still right stays outdated")
+    who = anna.run(f"{anna.row('title')}.querySelector('.who').textContent")
+    expect(who.startswith("anna"), f"it is said of who wrote it: {who}")
+    # undo, more than one, by Control+Z too
+    anna.show("all")
+    anna.write("news", "Le port est ouvert.")
+    anna.write("weather", "Pluie.")
+    anna.run("document.querySelector('#undo').click()")
+    expect(anna.text("weather") == "", "the last edit is not taken back")
+    anna.go("title")
+    anna.page.key("z", code="KeyZ", modifiers=2)
+    expect(anna.text("news") == "", "the edit before is not taken back")
+    expect(anna.run("document.activeElement.tagName") == "TEXTAREA", "the focus is lost by an undo")
+    return [anna, ben]
+
+
+def languages_chosen(room):
+    """6. Languages are chosen, not typed."""
+    anna = room.editor("anna", "en-US,en")
+    anna.add("title", "Title")
+    expect(list(anna.labels()) == [("title", "en")], f"a new site begins with {list(anna.labels())}")
+    for typed, tag in (("German", "de"), ("Français", "fr"), ("pt-BR", "pt-br"), ("日本語", "ja"), ("klingon", "klingon")):
+        anna.choose("#language", "..")
+        anna.page.until("document.querySelector('#language-dialog').open")
+        anna.page.type(typed)
+        anna.page.key("Enter")
+        if tag == "klingon":
+            said = anna.said("#language-dialog .bad")
+            expect("klingon" in said and anna.run("document.querySelector('#language-dialog').open"), "an unknown language is not warned of")
+            anna.page.key("Enter")
+        anna.page.until("!document.querySelector('#language-dialog').open")
+        anna.page.until(f"document.querySelector('#language').value === {quoted(tag)}", 10)
+        anna.write("title", typed)
+        anna.kept()
+    tags = sorted(tag for _, tag in anna.labels())
+    expect(tags == ["de", "en", "fr", "ja", "klingon", "pt-br"], f"the languages are {tags}")
+    anna.choose("#language", "..")
+    anna.page.until("document.querySelector('#language-dialog').open")
+    anna.page.type("no such language!")
+    anna.page.key("Enter")
+    expect("No language" in anna.said("#language-dialog .bad"), "a name of no language is taken")
+    anna.run("document.querySelector('#language-dialog .leave').click()")
+    anna.page.until("document.querySelector('#language').value === 'klingon'", 10)
+    return [anna]
+
+
+def exchange_alone(room):
+    """7. Exchange needs no thought: by itself, by files, and in words that tell faults apart."""
+    room.server.put(["title", "en", ["Title"]])
+    anna, ben = (Editor(room.browser(), room.address, name, before=SHORT_MINUTE) for name in ("anna", "ben"))
+    anna.exchanged()
+    ben.exchanged()
+    anna.language("#language", "fr")
+    ben.language("#language", "fr")
+    anna.write("title", "Titre")
+    ben.until_text("title", "Titre")
+    # what is wrong, in words of its own each
+    said = {}
+    for fault in ("away", 401, 404, 413, 500, "portal"):
+        with room.between.faulty(fault):
+            if fault == 413:
+                anna.write("title", f"Titre {fault}")
+            anna.exchange()
+            line = anna.said("#exchanged")
+            said[fault] = line.partition("Not exchanged")[0].partition("Exchanged")[0].strip()
+            expect(said[fault] and "refused" not in said[fault].lower(), f"of {fault} it is said: {line}")
+            if fault == "portal":
+                anna.reload()
+                anna.page.until(anna.row("title"))
+                expect("WiFi" not in anna.run("document.title"), "the kept page is that of a portal")
+        anna.exchange()
+    expect(len(set(said.values())) == len(said), f"faults are not told apart: {said}")
+    began = time.monotonic()
+    with room.between.faulty("hang"):
+        anna.page.ask("Page.reload")
+        anna.page.until(f"document.readyState === 'complete' && {anna.row('title')}", 10)
+        expect(time.monotonic() - began < 10, "the page waits for a server that hangs")
+    anna.reload()
+    # the kept page goes on without a server
+    with room.between.faulty("away"):
+        anna.reload()
+        anna.page.until(anna.row("title"))
+    # by file: a colleague's is taken in under one's own name, and nothing is taken from a cut one
+    carl = '{"cells":[["title","it",5,"carl",0,["Titolo"]]],"kind":"site","site":"carl","version":2}'
+    anna.give("#files-dialog .open-site", "carl.json", carl)
+    anna.page.until("document.querySelector('#ask-dialog').open")
+    first = anna.run("document.querySelector('#ask-dialog button').value")
+    expect(first == "takeIn", f"what is offered first is {first}")
+    anna.answer("takeIn")
+    anna.page.until("document.querySelector('#notice').textContent.includes('Taken in: 1')", 10)
+    expect(anna.said("#site-name") == "anna", "another's file makes this browser that other")
+    anna.exchange()
+    expect(room.server.labels()[("title", "it")] == ["Titolo"], "what came by a file is not exchanged")
+    anna.give("#files-dialog .open-site", "cut.json", carl[:40])
+    anna.page.until("!document.querySelector('#problem').hidden")
+    expect("not such a file" in anna.problem(), f"of a cut file it is said: {anna.problem()}")
+    # language maps
+    anna.give("#take-maps", "maps.json", '{"news":{"en":"News","fr":"Nouvelles"},"__proto__":{"en":"p"}}')
+    anna.page.until("document.querySelector('#notice').textContent.includes('Taken in: 3')", 10)
+    anna.exchange()
+    expect(room.server.labels()[("__proto__", "en")] == ["p"], "maps are not taken in")
+    return [anna, ben]
+
+
+def key_wanted(room):
+    """A server that asks for a key exchanges with who has it."""
+    room.server.stop()
+    room.server.words = ("--token", "secret12345")
+    room.server.start()
+    room.server.put(["title", "en", ["Title"]])
+    expect(room.server.ask("GET", "/summary")[0] == 401, "a summary is answered without the key")
+    expect(room.server.ask("POST", "/delta", "{}")[0] == 401, "a delta is taken without the key")
+    expect(room.server.ask("GET", "/summary", Authorization="Bearer secret12345")[0] == 200, "the key is refused")
+    anna = room.editor("anna")
+    anna.page.until("document.querySelector('#problem span button')")
+    anna.run("document.querySelector('#problem span button').click()")
+    anna.page.type("secret12345")
+    anna.page.key("Enter")
+    anna.page.until(anna.row("title"))
+    anna.reload()
+    anna.exchanged()
+    ben = Editor(room.browser(), f"{room.address}#key=secret12345", "ben")
+    ben.page.until(ben.row("title"))
+    expect("secret" not in ben.run("location.href"), "the key stays in the address")
+    return [anna, ben]
+
+
+def many_messages(room):
+    """8. 10,000 messages work."""
+    room.server.python("""
+import sys, silkwaram
+maps = {}
+for i in range(10000):
+    labels = {'en': f'Text number {i} of {{name}}, some words long', 'fr': f'Texte {i} de {{name}}', 'de': f'Text {i} von {{name}}'}
+    if i % 3: labels['ar'] = f'نص {i}'
+    if i % 2: labels['ja'] = f'項目 {i}'
+    maps[f'part{i % 40}.message.{i:05d}'] = labels
+with silkwaram.edit(sys.argv[1]) as site: site.import_maps(maps)
+""")
+    anna = room.editor("anna")
+    anna.exchanged()
+    anna.language("#source", "en")
+    anna.language("#language", "fr")
+    anna.kept()
+    anna.page.ask("Performance.enable", timeDomain="threadTicks")
+
+    def spent(run, until):
+        def ticks():
+            metrics = anna.page.ask("Performance.getMetrics")["metrics"]
+            return next(it["value"] for it in metrics if it["name"] == "TaskDuration")
+        before = ticks()
+        run()
+        anna.page.until(until)
+        anna.run("new Promise((done) => requestAnimationFrame(() => setTimeout(done, 50)))")
+        return (ticks() - before) * 1000
+
+    name = anna.listed()[3]
+    figures = {"edit": [], "find": [], "shown": []}
+    for turn in range(7):
+        anna.go(name)
+        anna.page.type(f"Texte changé {turn}")
+        figures["edit"].append(spent(lambda: anna.page.key("Enter"), "document.querySelector('#notice').textContent.includes('Kept')"))
+        anna.run("document.querySelector('#notice').textContent = ''")
+        wanted = f"message.0{turn + 1}00"
+        search = lambda: anna.run(f"(() => {{ const it = document.querySelector('#find'); it.value = {quoted(wanted)};"
+                                  " it.dispatchEvent(new Event('input')); })()")
+        figures["find"].append(spent(search, "document.querySelectorAll('.row').length === 1 || true"))
+        anna.run("(() => { const it = document.querySelector('#find'); it.value = ''; it.dispatchEvent(new Event('input')); })()")
+        anna.page.until(anna.row(name))
+    rows = anna.run("document.querySelectorAll('.row').length")
+    expect(rows < 100, f"{rows} rows are in the page")
+    # the last message is reached by a scroll, and an edit there costs the same
+    anna.run("scrollTo(0, document.body.scrollHeight)")
+    time.sleep(0.5)
+    anna.run("scrollTo(0, document.body.scrollHeight)")
+    time.sleep(0.5)
+    last = anna.run("[...document.querySelectorAll('.row')].at(-1).getAttribute('aria-posinset')")
+    expect(last == "10000", f"the end of the list is message {last}")
+    anna.exchanged()
+    opened = []
+    for _ in range(3):
+        began = time.process_time()
+        anna.page.ask("Page.reload")
+        anna.page.until("document.querySelector('.row')")
+        opened.append(anna.run("performance.getEntriesByName('shown')[0]?.startTime ?? NaN"))
+    median = {name: sorted(them)[len(them) // 2] for name, them in figures.items() if them}
+    print(f"an edit {median['edit']:.0f} ms, find {median['find']:.0f} ms of processor time, "
+          f"shown after {sorted(opened)[1]:.0f} ms, {rows} rows in the page")
+    expect(median["edit"] <= 50, f"an edit takes {median['edit']:.0f} ms")
+    expect(median["find"] <= 100, f"finding takes {median['find']:.0f} ms")
+    return [anna]
+
+
+def looks(room, pictures=os.environ.get("EDITOR_PICTURES")):
+    """9. It looks like a tool that one likes: widths, contrast, names, keys."""
+    room.server.put(*[[name, "en", [text]] for name, text in TITLES.items()], *[[name, "ar", [text]] for name, text in ARABIC.items()])
+    anna = room.editor("anna")
+    anna.exchanged()
+    anna.language("#source", "en")
+    anna.language("#language", "ar")
+    for language in ("en", "ar", "fr", "ja"):
+        anna.choose("#page-language", language)
+        direction = "rtl" if language == "ar" else "ltr"
+        expect(anna.run("document.documentElement.dir") == direction, f"{language} is not written {direction}")
+        for scheme in ("light", "dark"):
+            anna.page.ask("Emulation.setEmulatedMedia", features=[{"name": "prefers-color-scheme", "value": scheme}])
+            for width, height in ((320, 568), (360, 640), (768, 1024), (1200, 900), (1600, 900)):
+                anna.page.resize(width, height, width < 700)
+                anna.run("scrollTo(0, 0)")
+                anna.run("new Promise((done) => requestAnimationFrame(() => requestAnimationFrame(done)))")
+                faults = anna.run(SEEN)
+                expect(not faults, f"{language}, {scheme}, {width} wide: {'; '.join(faults[:8])}")
+                bottom = anna.run("document.querySelector('.row textarea').getBoundingClientRect().bottom")
+                expect(bottom < height - 52, f"{language}, {width} wide: the first text ends at {bottom}")
+                if pictures and (language, scheme, width) in PICTURES:
+                    anna.page.picture(f"{pictures}/editor-{language}-{scheme}-{width}.png")
+    anna.page.ask("Emulation.setEmulatedMedia", features=[])
+    anna.page.resize(1200, 900)
+    anna.choose("#page-language", "en")
+    nodes = anna.page.ask("Accessibility.getFullAXTree")["nodes"]
+    roles = ("button", "textbox", "searchbox", "combobox", "checkbox", "radio", "link", "spinbutton", "progressbar", "progressIndicator")
+    found = [it for it in nodes if not it.get("ignored") and it["role"]["value"] in roles]
+    bare = [it["role"]["value"] for it in found if not it.get("name", {}).get("value", "").strip()]
+    expect(len(found) > 20 and not bare, f"of {len(found)} controls these have no name: {bare}")
+    described = [it for it in found if it["role"]["value"] == "textbox" and TITLES["news"] in it.get("description", {}).get("value", "")]
+    expect(described, "a field does not name its source to who hears the page")
+    return [anna]
+
+
+PICTURES = {("en", "light", 1200), ("en", "light", 360), ("ar", "light", 1200), ("en", "dark", 1200), ("ar", "light", 360)}
+
+
+def by_keys(room):
+    """The whole day by keys: begin, add, translate, look again, find, undo, exchange, without a pointer."""
+    room.server.put(*[[name, "en", [text]] for name, text in list(TITLES.items())[:4]])
+    anna = room.editor("anna")
+    anna.exchanged()
+    page = anna.page
+
+    def tab_to(what, most=40):
+        for _ in range(most):
+            if anna.run(f"document.activeElement.matches({quoted(what)})"):
+                return
+            page.key("Tab")
+        raise chromium.Failed(f"Tab does not reach {what}")
+
+    anna.run("document.activeElement.blur()")
+    tab_to("#language")
+    for _ in range(2):    # "Another ..", the last option
+        page.key("ArrowDown")
+    page.until("document.querySelector('#language-dialog').open")
+    page.type("French")
+    page.key("Enter")
+    page.until("document.querySelector('#language').value === 'fr'")
+    tab_to(".row textarea")
+    seen = []
+    for text in ("Un", "Deux", "Trois", "Quatre"):
+        seen.append(anna.run("document.activeElement.closest('.row').label"))
+        page.type(text)
+        page.key("Enter")
+    expect(len(set(seen)) == 4, f"Enter does not go to the next: {seen}")
+    expect(anna.count("missing") == 0, "not all is translated")
+    # Tab goes from text to text, past what would delete
+    anna.go(seen[0])
+    page.key("Tab")
+    expect(anna.run("document.activeElement.closest('.row')?.label") == seen[1], "Tab stops between two texts")
+    page.key("ArrowUp", modifiers=1)
+    expect(anna.run("document.activeElement.closest('.row').label") == seen[0], "Alt with an arrow does not go up")
+    page.type("not to be kept")
+    page.key("Escape")
+    expect(anna.text(seen[0]) == "Un", "Escape does not take back what was typed")
+    page.key("Delete", modifiers=1)
+    expect(anna.count("missing") == 1, "a text is not deleted by keys")
+    page.key("z", code="KeyZ", modifiers=2)
+    expect(anna.count("missing") == 0, "a deletion is not taken back by keys")
+    page.key("n", code="KeyN", modifiers=1)
+    page.until("document.querySelector('#new-dialog').open")
+    page.type("footer")
+    page.key("Tab")
+    page.type("The end")
+    page.key("Enter")
+    page.until("!document.querySelector('#new-dialog').open")
+    anna.run("document.activeElement.blur()")
+    page.key("/", code="Slash")
+    expect(anna.run("document.activeElement.id") == "find", "/ does not find")
+    page.type("foot")
+    expect(anna.listed() == ["footer"], "what is looked for is not found")
+    tab_to(".row textarea")
+    page.type("Fin")
+    page.key("Enter")
+    anna.exchanged()
+    expect(room.server.labels()[("footer", "fr")] == ["Fin"], "the work does not arrive")
+    return [anna]
+
+
+def tampered(room):
+    """The server: what it takes, of whom, and what it says."""
+    ask = room.server.ask
+    room.server.put(["title", "en", ["Title"]])
+    status, heads, body = ask("GET", "/summary")
+    expect(status == 200 and json.loads(body)["owner"] == "server" and heads["Date"], "no summary")
+    expect(ask("GET", "/summary", If_None_Match=heads["ETag"])[0] == 304, "what is known is sent again")
+    for wanted, of in ((404, ("GET", "/nothing")), (404, ("GET", "/../_server.py")), (404, ("POST", "/nothing", "{}")),
+                       (422, ("POST", "/delta", "{}")), (422, ("POST", "/summary", "[1"))):
+        status, heads, body = ask(*of)
+        expect(status == wanted and heads["Silkwaram-Exchange"] and json.loads(body)["words"], f"{of}: {status} {body[:200]}")
+    for wanted, more in ((415, {"Content_Type": "text/plain"}), (421, {"Host": "evil.com"}), (421, {"Sec_Fetch_Site": "cross-site"}),
+                         (413, {"Content_Length": "99999999"})):
+        expect(ask("POST", "/delta", "{}", **more)[0] == wanted, f"{more} is not {wanted}")
+    day = int(time.time() * 1000) + 2 * 86400000
+    late = json.dumps({"cells": [["a", "en", day, "x", 0, ["x"]]], "kind": "delta", "to": "server", "version": 2})
+    status, _, body = ask("POST", "/delta", late)
+    expect(status == 422 and json.loads(body)["number"] == 29, "a late delta is taken")
+    status, heads, body = ask("GET", "/silkwaram.wasm", Accept_Encoding="gzip")
+    expect(status == 200 and heads["Content-Encoding"] == "gzip" and len(body) < 250000, "the module is not compressed")
+    return []
