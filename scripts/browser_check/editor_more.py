@@ -235,10 +235,11 @@ with silkwaram.edit(sys.argv[1]) as site: site.import_maps(maps)
     anna.kept()
     anna.page.ask("Performance.enable", timeDomain="threadTicks")
 
+    def ticks():
+        metrics = anna.page.ask("Performance.getMetrics")["metrics"]
+        return next(it["value"] for it in metrics if it["name"] == "TaskDuration")
+
     def spent(run, until):
-        def ticks():
-            metrics = anna.page.ask("Performance.getMetrics")["metrics"]
-            return next(it["value"] for it in metrics if it["name"] == "TaskDuration")
         before = ticks()
         run()
         anna.page.until(until)
@@ -246,7 +247,7 @@ with silkwaram.edit(sys.argv[1]) as site: site.import_maps(maps)
         return (ticks() - before) * 1000
 
     name = anna.listed()[3]
-    figures = {"edit": [], "find": [], "shown": []}
+    figures = {"edit": [], "find": []}
     for turn in range(7):
         anna.go(name)
         anna.page.type(f"Texte changé {turn}")
@@ -270,13 +271,14 @@ with silkwaram.edit(sys.argv[1]) as site: site.import_maps(maps)
     anna.exchanged()
     opened = []
     for _ in range(3):
-        began = time.process_time()
-        anna.page.ask("Page.reload")
-        anna.page.until("document.querySelector('.row')")
-        opened.append(anna.run("performance.getEntriesByName('shown')[0]?.startTime ?? NaN"))
+        anna.page.reload()
+        anna.page.until("performance.getEntriesByName('shown').length > 0")
+        opened.append(anna.run("performance.getEntriesByName('shown')[0].startTime"))
+        anna.exchanged()
     median = {name: sorted(them)[len(them) // 2] for name, them in figures.items() if them}
     print(f"an edit {median['edit']:.0f} ms, find {median['find']:.0f} ms of processor time, "
-          f"shown after {sorted(opened)[1]:.0f} ms, {rows} rows in the page")
+          f"by the clock it is shown after {sorted(opened)[1]:.0f} ms")
+    expect(sorted(opened)[1] <= 2000, f"to open takes {sorted(opened)[1]:.0f} ms")
     expect(median["edit"] <= 50, f"an edit takes {median['edit']:.0f} ms")
     expect(median["find"] <= 100, f"finding takes {median['find']:.0f} ms")
     return [anna]

@@ -83,6 +83,7 @@ function showWork() {
   showCounts();
   relist();
   showState();
+  requestAnimationFrame(() => performance.mark('shown'));
 }
 
 /** What other parts of the page have it do. */
