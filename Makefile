@@ -112,7 +112,7 @@ LIB = $(DESTDIR)$(LIBDIR)
 INCLUDE = $(DESTDIR)$(PREFIX)/include
 # Scripts around the command: two edit the file of a site in place, one makes PO files of it; they
 # are installed with it.
-COMPANIONS = lexicat-file lexicat-edit lexicat-po
+COMPANIONS = lexicat-file lexicat-edit lexicat-po lexicat-exchange
 
 #: make install       the command with its companions, manual and completions, and the library, below
 #:                    PREFIX=/usr/local; install-command and install-library are one of them alone

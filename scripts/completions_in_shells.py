@@ -60,10 +60,13 @@ LINES = [
     ("lexicat-po maps --dom", "args:maps --domain=? input:"),
     ("lexicat-po maps --source en zz", "args:maps --source en zz_file.json input:"),
     ("lexicat-po out --lang de < zz", "args:out --lang de input:held"),
+    ("lexicat-exchange --wa", "args:--wait=? input:"),
+    ("lexicat-exchange --key-file zz", "args:--key-file zz_file.json input:"),
+    ("lexicat-exchange http://localhost:8080/ zz", "args:http://localhost:8080/ zz_file.json input:"),
 ]
 
 # What completes, in an order in which each finds what it needs later.
-NAMES = ["lexicat-edit", "lexicat-file", "lexicat-po", "lexicat"]
+NAMES = ["lexicat-edit", "lexicat-exchange", "lexicat-file", "lexicat-po", "lexicat"]
 
 SETUP = {
     "bash": (

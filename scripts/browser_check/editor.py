@@ -23,7 +23,8 @@ from editor_page import PACKAGE  # noqa: E402
 PROMISES = [editor_promises.any_id, editor_promises.no_edit_lost, editor_promises.no_edit_undone,
             editor_promises.wrong_clocks, editor_promises.in_parallel, editor_more.work_seen,
             editor_more.languages_chosen, editor_more.exchange_alone, editor_more.key_wanted,
-            editor_more.many_messages, editor_more.looks, editor_more.by_keys, editor_more.tampered]
+            editor_more.many_messages, editor_more.looks, editor_more.by_keys, editor_more.by_companion,
+            editor_more.tampered]
 
 
 def tried(promise, package=PACKAGE):

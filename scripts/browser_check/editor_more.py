@@ -1,10 +1,11 @@
 """More promises of the editor: work that is seen, languages, exchanges without a thought, many messages, looks."""
 import json
 import os
+import subprocess
 import time
 
 import chromium
-from editor_page import SHORT_MINUTE, Editor, expect, quoted
+from editor_page import SHORT_MINUTE, SOURCES, Editor, cells_of, expect, quoted
 from editor_promises import EMPTY
 
 # Elements with text that is cut, or wider than the page; and text that stands out too little from its ground.
@@ -383,6 +384,49 @@ def by_keys(room):
     page.key("Enter")
     anna.exchanged()
     expect(room.server.labels()[("footer", "fr")] == ["Fin"], "the work does not arrive")
+    return [anna]
+
+
+def by_companion(room):
+    """The companion lexicat-exchange speaks the protocol too, and says what is wrong."""
+    site = f"{room.folder}/tokyo.json"
+    tools = {**os.environ, "PATH": f"{SOURCES}/companions:{os.environ['PATH']}",
+             "LEXICAT": os.path.abspath(os.environ.get("LEXICAT", f"{SOURCES}/build/lexicat"))}
+
+    def run(status, *words):
+        done = subprocess.run(words, env=tools, capture_output=True, text=True)
+        expect(done.returncode == status, f"{words[0]}: status {done.returncode}: {done.stderr}")
+        return done.stdout + done.stderr
+
+    room.server.put(["title", "en", ['1,"x",0,["a\\",5,"b",6,']], ["gone", "en", ["x"]], ["gone", "en", []])
+    anna = room.editor("anna")
+    run(0, "lexicat-file", site, "new", "--site", "tokyo")
+    run(0, "lexicat-file", site, "put", "--id", "title", "--lang", "ja", "題名")
+    address = f"http://localhost:{room.server.port}/"
+    expect(run(0, "lexicat-exchange", address, site) == "sent 1, received 2\n", "other labels are exchanged")
+    expect(run(0, "lexicat-exchange", address, site) == "sent 0, received 0\n", "labels are exchanged twice")
+    with open(site, encoding="utf-8") as file:
+        expect(cells_of(file.read()) == cells_of(room.server.site()), "the cells are not the same")
+    anna.exchange()
+    expect(anna.labels()[("title", "ja")] == ["題名"], "a page does not get what the companion sent")
+    with room.between.faulty("portal"):
+        run(8, "lexicat-exchange", room.address, site)
+    with room.between.faulty("away"):
+        run(8, "lexicat-exchange", room.address, site)
+    run(2, "lexicat-exchange", site)
+    run(4, "lexicat-exchange", address, f"{room.folder}/none.json")
+    run(0, "lexicat-file", site, "put", "--now", str(int(time.time() * 1000) + 10 * 86400000), "--id", "x", "--lang", "en", "x")
+    expect("time is ahead" in run(3, "lexicat-exchange", address, site), "a late label is taken")
+    room.server.stop()
+    room.server.words = ("--token", "secret12345")
+    room.server.start()
+    address = f"http://localhost:{room.server.port}/"
+    expect("key" in run(3, "lexicat-exchange", address, site), "no key is wanted")
+    other, key = f"{room.folder}/other.json", f"{room.folder}/key"
+    with open(key, "w", encoding="utf-8") as file:
+        file.write("secret12345\n")
+    run(0, "lexicat-file", other, "new", "--site", "other")
+    expect(run(0, "lexicat-exchange", "--key-file", key, address, other) == "sent 0, received 3\n", "with the key it is refused")
     return [anna]
 
 
