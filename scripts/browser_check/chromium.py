@@ -158,8 +158,9 @@ class Page:
             raise Failed(fault.get("exception", {}).get("description") or fault["text"])
         return answer["result"].get("value")
 
-    def until(self, code, seconds=MOST_SECONDS):
+    def until(self, code, seconds=None):
         """Waits until an expression is true in the page."""
+        seconds = min(seconds or MOST_SECONDS, MOST_SECONDS)
         end = time.monotonic() + seconds
         while True:
             with contextlib.suppress(Failed):   # (a page that is being left has no state)

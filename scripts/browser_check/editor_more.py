@@ -1,12 +1,14 @@
 """More promises of the editor: work that is seen, languages, exchanges without a thought, many messages, looks."""
+import base64
+import contextlib
 import json
 import os
 import subprocess
 import time
 
 import chromium
-from editor_page import SHORT_MINUTE, SOURCES, Editor, cells_of, expect, quoted
-from editor_promises import EMPTY
+from editor_page import PACKAGE, SHORT_MINUTE, SOURCES, Editor, cells_of, expect, quoted
+from editor_promises import Room
 
 # Elements with text that is cut, or wider than the page; and text that stands out too little from its ground.
 SEEN = """(() => {
@@ -285,43 +287,138 @@ with silkwaram.edit(sys.argv[1]) as site: site.import_maps(maps)
     return [anna]
 
 
-def looks(room, pictures=os.environ.get("EDITOR_PICTURES")):
-    """9. It looks like a tool that one likes: widths, contrast, names, keys."""
-    room.server.put(*[[name, "en", [text]] for name, text in TITLES.items()], *[[name, "ar", [text]] for name, text in ARABIC.items()])
-    anna = room.editor("anna")
+def states(room):
+    """Brings a page into each state that a person sees, and gives its name with the editor."""
+    anna = Editor(room.browser(), room.address)
+    anna.page.until("document.activeElement.name === 'name'")
+    yield "start", anna
+    anna.page.type("anna")
+    anna.page.key("Enter")
     anna.exchanged()
+    yield "empty", anna
+    room.server.put(*[[name, "en", [text]] for name, text in TITLES.items()],
+                    *[[name, "ar", [text]] for name, text in ARABIC.items()],
+                    ["greeting", "x-note", ["On the first page"]])
+    anna.exchange()
     anna.language("#source", "en")
     anna.language("#language", "ar")
-    for language in ("en", "ar", "fr", "ja"):
-        anna.choose("#page-language", language)
-        direction = "rtl" if language == "ar" else "ltr"
-        expect(anna.run("document.documentElement.dir") == direction, f"{language} is not written {direction}")
-        for scheme in ("light", "dark"):
-            anna.page.ask("Emulation.setEmulatedMedia", features=[{"name": "prefers-color-scheme", "value": scheme}])
-            for width, height in ((320, 568), (360, 640), (768, 1024), (1200, 900), (1600, 900)):
-                anna.page.resize(width, height, width < 700)
-                anna.run("scrollTo(0, 0)")
-                anna.run("new Promise((done) => requestAnimationFrame(() => requestAnimationFrame(done)))")
-                faults = anna.run(SEEN)
-                expect(not faults, f"{language}, {scheme}, {width} wide: {'; '.join(faults[:8])}")
-                bottom = anna.run("document.querySelector('.row textarea').getBoundingClientRect().bottom")
-                expect(bottom < height - 52, f"{language}, {width} wide: the first text ends at {bottom}")
-                if pictures and (language, scheme, width) in PICTURES:
-                    anna.page.picture(f"{pictures}/editor-{language}-{scheme}-{width}.png")
-    anna.page.ask("Emulation.setEmulatedMedia", features=[])
-    anna.page.resize(1200, 900)
     anna.choose("#page-language", "en")
-    nodes = anna.page.ask("Accessibility.getFullAXTree")["nodes"]
-    roles = ("button", "textbox", "searchbox", "combobox", "checkbox", "radio", "link", "spinbutton", "progressbar", "progressIndicator")
-    found = [it for it in nodes if not it.get("ignored") and it["role"]["value"] in roles]
-    bare = [it["role"]["value"] for it in found if not it.get("name", {}).get("value", "").strip()]
-    expect(len(found) > 20 and not bare, f"of {len(found)} controls these have no name: {bare}")
-    described = [it for it in found if it["role"]["value"] == "textbox" and TITLES["news"] in it.get("description", {}).get("value", "")]
-    expect(described, "a field does not name its source to who hears the page")
+    anna.go("search")
+    yield "work", anna
+    anna.show("missing")
+    yield "missing", anna
+    room.server.put(["title", "en", ["The Daily Catalogue, second edition"]])
+    anna.exchange()
+    anna.show("outdated")
+    yield "outdated", anna
+    anna.show("all")
+    anna.go("news")
+    anna.page.type("أُعيد فتح الميناء اليوم.")
+    room.server.put(["news", "ar", ["أُعيد فتح الميناء، وتغادر العبّارات من الرصيف الجديد."]])
+    anna.exchange()
+    anna.page.until(f"{anna.row('news')}.querySelector('.other')")
+    anna.go("news")
+    yield "conflict", anna
+    anna.page.key("Escape")
+    with room.between.faulty("away"):
+        anna.write("weather", "مطر حتى الخميس.")
+        anna.exchange()
+        anna.run("document.querySelector('#close-problem').click()")
+        yield "offline", anna
+    with room.between.faulty(413):
+        anna.exchange()
+        yield "error", anna
+    anna.exchange()
+    anna.run("document.querySelector('#open-files').click()")
+    yield "files", anna
+    anna.run("document.querySelector('#files-dialog').close()")
+    anna.run("document.querySelector('#open-reader').click()")
+    yield "readers", anna
+    anna.run("document.querySelector('#reader-dialog').close()")
+
+
+def settled(editor):
+    editor.run("new Promise((done) => requestAnimationFrame(() => requestAnimationFrame(done)))")
+
+
+def scheme(editor, name):
+    features = [{"name": "prefers-color-scheme", "value": name}]
+    editor.page.ask("Emulation.setEmulatedMedia", features=features)
+
+
+SIZES = ((320, 568), (360, 640), (768, 1024), (1200, 900), (1600, 900))
+
+
+def looks(room):
+    """9. It looks like a tool that one likes: widths, contrast, names."""
+    seen = 0
+    for name, anna in states(room):
+        for language in ("en", "ar") if name != "work" else ("ja", "fr", "ar", "en"):
+            anna.run(f"""(() => {{ const it = document.querySelector('#page-language');
+                it.value = {quoted(language)}; it.dispatchEvent(new Event('change')); }})()""")
+            direction = "rtl" if language == "ar" else "ltr"
+            expect(anna.run("document.documentElement.dir") == direction, f"{language} is not written {direction}")
+            for ground in ("light", "dark"):
+                scheme(anna, ground)
+                for width, height in SIZES:
+                    anna.page.resize(width, height, width < 700)
+                    anna.run("scrollTo(0, 0)")
+                    settled(anna)
+                    faults = anna.run(SEEN)
+                    expect(not faults, f"{name}, {language}, {ground}, {width} wide: {'; '.join(faults[:6])}")
+                    seen += 1
+                    if name != "work":
+                        continue
+                    bottom = anna.run("document.querySelector('.row textarea').getBoundingClientRect().bottom")
+                    expect(bottom < height - 52, f"{language}, {width} wide: the first text ends at {bottom}")
+        anna.run("document.querySelector('#page-language').value = 'en';"
+                 " document.querySelector('#page-language').dispatchEvent(new Event('change'))")
+        scheme(anna, "light")
+        anna.page.resize(1200, 900)
+        settled(anna)
+        nodes = anna.page.ask("Accessibility.getFullAXTree")["nodes"]
+        found = [it for it in nodes if not it.get("ignored") and it["role"]["value"] in ROLES]
+        bare = [it["role"]["value"] for it in found if not it.get("name", {}).get("value", "").strip()]
+        expect(found and not bare, f"{name}: of {len(found)} controls these have no name: {bare}")
+        if name == "work":
+            fields = [it for it in found if it["role"]["value"] == "textbox"]
+            expect(any(TITLES["search"] in it.get("description", {}).get("value", "") for it in fields),
+                   "a field does not name its source to who hears the page")
+    print(f"{seen} looks at pages")
     return [anna]
 
 
-PICTURES = {("en", "light", 1200), ("en", "light", 360), ("ar", "light", 1200), ("en", "dark", 1200), ("ar", "light", 360)}
+ROLES = ("button", "textbox", "searchbox", "combobox", "checkbox", "radio", "link", "progressbar",
+         "progressIndicator", "dialog")
+
+
+def take_pictures(folder):
+    """Leaves a picture of each state in a folder, and of some of them small, dark and in Arabic."""
+    with contextlib.ExitStack() as stack:
+        room = Room(PACKAGE, stack)
+
+        def take(editor, name):
+            settled(editor)
+            taken = editor.page.ask("Page.captureScreenshot", format="webp", quality=70)
+            with open(f"{folder}/editor-{name}.webp", "wb") as file:
+                file.write(base64.b64decode(taken["data"]))
+
+        for name, anna in states(room):
+            anna.page.resize(1000, 620)
+            take(anna, name)
+            if name == "work":
+                scheme(anna, "dark")
+                take(anna, "dark")
+                scheme(anna, "light")
+                anna.choose("#page-language", "ar")
+                anna.go("search")
+                take(anna, "ar")
+                anna.choose("#page-language", "en")
+                anna.page.resize(360, 640, True)
+                anna.run("scrollTo(0, 0)")
+                take(anna, "phone")
+                anna.page.resize(1000, 620)
+                anna.go("search")
 
 
 def by_keys(room):
@@ -384,6 +481,30 @@ def by_keys(room):
     page.key("Enter")
     anna.exchanged()
     expect(room.server.labels()[("footer", "fr")] == ["Fin"], "the work does not arrive")
+    return [anna]
+
+
+def po_files(room):
+    """A language goes out as a PO file, and comes back."""
+    room.server.put(["title", "en", ["Title"]], ["news", "en", ["News"]], ["title", "fr", ["Titre"]])
+    ask = lambda method, *more, **heads: room.server.ask(method, "/po?lang=fr&source=en", *more, **heads)
+    status, heads, po = ask("GET")
+    if status == 422 and b"polib" in po:
+        print("editor.py: PO files: skipped: there is no polib")
+        return []
+    expect(status == 200 and heads.get_content_type() == "text/x-gettext-translation", f"no PO file: {po[:300]}")
+    expect(b'msgid "Title"\nmsgstr "Titre"' in po, f"the PO file is {po.decode()}")
+    done = po.replace(b'msgid "News"\nmsgstr ""', 'msgid "News"\nmsgstr "Actualités"'.encode())
+    anna = room.editor("anna")
+    anna.language("#source", "en")
+    anna.language("#language", "fr")
+    anna.give("#take-po", "fr.po", done.decode())
+    anna.until_text("news", "Actualités")
+    expect(room.server.labels()[("news", "fr")] == ["Actualités"], "a PO file is not taken")
+    expect(ask("POST", done, Content_Type="text/plain")[0] == 415, "a page of another server could send one")
+    status, _, said = ask("POST", done[:-20], Content_Type="text/x-gettext-translation")
+    expect(status == 422 and json.loads(said)["words"], "a PO file that was cut is taken")
+    expect(room.server.ask("GET", "/po?lang=--help&source=en")[0] == 422, "an option is taken for a language")
     return [anna]
 
 

@@ -139,7 +139,7 @@ class Server:
     """The editor's server over a file, which can be stopped and started again."""
 
     def __init__(self, between, file, package=PACKAGE, *words):
-        self.between, self.file, self.words = between, file, words
+        self.between, self.file, self.words, self.package = between, file, words, package
         library = os.environ.get("SILKWARAM_LIBRARY", f"{SOURCES}/build/lib/libsilkwaram.so")
         self.environment = {**os.environ, "SILKWARAM_LIBRARY": library, "PYTHONPATH": package,
                             "PYTHONDONTWRITEBYTECODE": "1",

@@ -225,7 +225,11 @@ async function openKeeper() {
   app.keeper = new Keeper(store, () => ({
     site: app.work.site.toBytes(), state: app.state, unsent: app.work.unsent, drafts: drafts(),
   }));
-  app.keeper.onChange = showState;
+  app.keeper.onChange = () => {
+    showState();
+    if (app.keeper.failure) showProblem(say('notKept'), [['saveSite', saveSite]], 'keeping');
+    else hideProblem('keeping');
+  };
   return store ? store.read() : {};
 }
 
