@@ -33,8 +33,12 @@ def state(room):
     if shutil.which("node") is None:
         print("editor.py: its state: skipped: there is no node")
         return []
-    words = ["node", f"{HERE}/editor_state.mjs", f"{room.server.package}/silkwaram/editor/page",
-             f"{SOURCES}/build/browser"]
+    words = [
+        "node",
+        f"{HERE}/editor_state.mjs",
+        f"{room.server.package}/silkwaram/editor/page",
+        f"{SOURCES}/build/browser",
+    ]
     done = subprocess.run(words, capture_output=True, text=True)
     if done.returncode != 0:
         raise chromium.Failed(done.stderr[-1500:])
@@ -42,11 +46,22 @@ def state(room):
 
 
 PROMISES = [
-    state, editor_promises.any_id, editor_promises.no_edit_lost, editor_promises.no_edit_undone,
-    editor_promises.wrong_clocks, editor_promises.in_parallel, editor_more.work_seen,
-    editor_more.languages_chosen, editor_more.exchange_alone, editor_more.key_wanted,
-    editor_more.po_files, editor_more.many_messages, editor_more.looks, editor_more.by_keys,
-    editor_more.by_companion, editor_more.tampered,
+    state,
+    editor_promises.any_id,
+    editor_promises.no_edit_lost,
+    editor_promises.no_edit_undone,
+    editor_promises.wrong_clocks,
+    editor_promises.in_parallel,
+    editor_more.work_seen,
+    editor_more.languages_chosen,
+    editor_more.exchange_alone,
+    editor_more.key_wanted,
+    editor_more.po_files,
+    editor_more.many_messages,
+    editor_more.looks,
+    editor_more.by_keys,
+    editor_more.by_companion,
+    editor_more.tampered,
 ]
 
 
@@ -66,7 +81,9 @@ def without(remedy, room):
     with open(path, encoding="utf-8") as file:
         text = file.read()
     if text.count(remedy["old"]) != 1:
-        raise chromium.Failed(f"{remedy['file']} has {text.count(remedy['old'])} times {remedy['old']}")
+        raise chromium.Failed(
+            f"{remedy['file']} has {text.count(remedy['old'])} times {remedy['old']}"
+        )
     with open(path, "w", encoding="utf-8") as file:
         file.write(text.replace(remedy["old"], remedy["new"]))
     return package
@@ -84,15 +101,20 @@ def try_without(names):
         with tempfile.TemporaryDirectory() as room:
             try:
                 tried(promise, without(remedy, room))
-            except Exception as why:    # noqa: B902 (a page that is broken may break the test too)
+            except Exception as why:  # noqa: B902 (a page that is broken may break the test too)
                 if isinstance(why, chromium.Failed) and remedy["old"] in str(why):
                     raise
-                print(f"{remedy['promise']} fails without {remedy['old'].strip()[:50]}: "
-                      f"{str(why).splitlines()[0][:110]}", flush=True)
+                print(
+                    f"{remedy['promise']} fails without {remedy['old'].strip()[:50]}: "
+                    f"{str(why).splitlines()[0][:110]}",
+                    flush=True,
+                )
             else:
                 passed.append(f"{remedy['promise']}: {remedy['old']}")
     if passed:
-        raise chromium.Failed("these promises are kept without their remedies: " + "; ".join(passed))
+        raise chromium.Failed(
+            "these promises are kept without their remedies: " + "; ".join(passed)
+        )
     print(f"{len(remedies)} remedies, each needed")
 
 

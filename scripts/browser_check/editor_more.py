@@ -41,30 +41,54 @@ SEEN = """(() => {
   }
   return faults;
 })()"""
-TITLES = {"title": "The Daily Catalogue", "greeting": "Good morning, {name}", "imprint": "Imprint",
-          "news": "The harbour is open again. Ferries leave from the new pier until further notice.",
-          "search": "Search", "weather": "Rain until Thursday."}
-ARABIC = {"title": "الفهرس اليومي", "greeting": "صباح الخير يا {name}", "news": "أُعيد فتح الميناء."}
+TITLES = {
+    "title": "The Daily Catalogue",
+    "greeting": "Good morning, {name}",
+    "imprint": "Imprint",
+    "news": "The harbour is open again. Ferries leave from the new pier until further notice.",
+    "search": "Search",
+    "weather": "Rain until Thursday.",
+}
+ARABIC = {
+    "title": "الفهرس اليومي",
+    "greeting": "صباح الخير يا {name}",
+    "news": "أُعيد فتح الميناء.",
+}
 
 
 def work_seen(room):
     """5. Work is seen: progress, what came and from whom, "Still right", undo, notes, placeholders."""
-    room.server.put(*[[name, "en", [text]] for name, text in TITLES.items()],
-                    ["greeting", "x-note", ["On the first page"]], ["items", "en", ["%d item", "%d items"]])
+    room.server.put(
+        *[[name, "en", [text]] for name, text in TITLES.items()],
+        ["greeting", "x-note", ["On the first page"]],
+        ["items", "en", ["%d item", "%d items"]],
+    )
     room.server.put(["title", "fr", ["Le catalogue"]], ["search", "fr", ["Chercher"]])
     anna, ben = room.editor("anna"), room.editor("ben")
     for editor in (anna, ben):
         editor.exchanged()
         editor.language("#source", "en")
         editor.language("#language", "fr")
-    expect(anna.said("#progress-text") == "2 of 7", f"the progress is {anna.said('#progress-text')}")
-    expect("French: 2 of 7" in anna.said("#language"), f"of the languages it is said: {anna.said('#language')}")
-    expect(anna.run(f"{anna.row('greeting')}.querySelector('.note').textContent") == "On the first page", "no note is shown")
+    expect(
+        anna.said("#progress-text") == "2 of 7", f"the progress is {anna.said('#progress-text')}"
+    )
+    expect(
+        "French: 2 of 7" in anna.said("#language"),
+        f"of the languages it is said: {anna.said('#language')}",
+    )
+    expect(
+        anna.run(f"{anna.row('greeting')}.querySelector('.note').textContent")
+        == "On the first page",
+        "no note is shown",
+    )
     # placeholders, and a copy of the source
     anna.go("greeting")
     anna.page.type("Bonjour %s")
     warning = f"{anna.row('greeting')}.querySelector('.warning').textContent"
-    expect(anna.run(warning) == "Not in your text: {name}. Not in the source: %s.", f"it is warned: {anna.run(warning)}")
+    expect(
+        anna.run(warning) == "Not in your text: {name}. Not in the source: %s.",
+        f"it is warned: {anna.run(warning)}",
+    )
     anna.page.key("Escape")
     anna.page.key("c", code="KeyC", modifiers=1)
     expect(anna.text("greeting") == TITLES["greeting"], "the source is not copied")
@@ -84,8 +108,13 @@ def work_seen(room):
     ben.write("search", "Find")
     ben.exchange()
     anna.exchange()
-    expect(anna.count("outdated") == 2 and anna.count("came") == 2, f"{anna.count('outdated')} are outdated")
-    expect(anna.said("#progress-text") == "4 of 7", f"the progress is {anna.said('#progress-text')}")
+    expect(
+        anna.count("outdated") == 2 and anna.count("came") == 2,
+        f"{anna.count('outdated')} are outdated",
+    )
+    expect(
+        anna.said("#progress-text") == "4 of 7", f"the progress is {anna.said('#progress-text')}"
+    )
     anna.show("came")
     expect(sorted(anna.listed()) == ["search", "title"], f"what came is {anna.listed()}")
     anna.show("outdated")
@@ -112,15 +141,26 @@ def languages_chosen(room):
     """6. Languages are chosen, not typed."""
     anna = room.editor("anna", "en-US,en")
     anna.add("title", "Title")
-    expect(list(anna.labels()) == [("title", "en")], f"a new site begins with {list(anna.labels())}")
-    for typed, tag in (("German", "de"), ("Français", "fr"), ("pt-BR", "pt-br"), ("日本語", "ja"), ("klingon", "klingon")):
+    expect(
+        list(anna.labels()) == [("title", "en")], f"a new site begins with {list(anna.labels())}"
+    )
+    for typed, tag in (
+        ("German", "de"),
+        ("Français", "fr"),
+        ("pt-BR", "pt-br"),
+        ("日本語", "ja"),
+        ("klingon", "klingon"),
+    ):
         anna.choose("#language", "..")
         anna.page.until("document.querySelector('#language-dialog').open")
         anna.page.type(typed)
         anna.page.key("Enter")
         if tag == "klingon":
             said = anna.said("#language-dialog .bad")
-            expect("klingon" in said and anna.run("document.querySelector('#language-dialog').open"), "an unknown language is not warned of")
+            expect(
+                "klingon" in said and anna.run("document.querySelector('#language-dialog').open"),
+                "an unknown language is not warned of",
+            )
             anna.page.key("Enter")
         anna.page.until("!document.querySelector('#language-dialog').open")
         anna.page.until(f"document.querySelector('#language').value === {quoted(tag)}", 10)
@@ -141,7 +181,9 @@ def languages_chosen(room):
 def exchange_alone(room):
     """7. Exchange needs no thought: by itself, by files, and in words that tell faults apart."""
     room.server.put(["title", "en", ["Title"]])
-    anna, ben = (Editor(room.browser(), room.address, name, before=SHORT_MINUTE) for name in ("anna", "ben"))
+    anna, ben = (
+        Editor(room.browser(), room.address, name, before=SHORT_MINUTE) for name in ("anna", "ben")
+    )
     anna.exchanged()
     ben.exchanged()
     anna.language("#language", "fr")
@@ -157,11 +199,16 @@ def exchange_alone(room):
             anna.exchange()
             line = anna.said("#exchanged")
             said[fault] = line.partition("Not exchanged")[0].partition("Exchanged")[0].strip()
-            expect(said[fault] and "refused" not in said[fault].lower(), f"of {fault} it is said: {line}")
+            expect(
+                said[fault] and "refused" not in said[fault].lower(),
+                f"of {fault} it is said: {line}",
+            )
             if fault == "portal":
                 anna.reload()
                 anna.page.until(anna.row("title"))
-                expect("WiFi" not in anna.run("document.title"), "the kept page is that of a portal")
+                expect(
+                    "WiFi" not in anna.run("document.title"), "the kept page is that of a portal"
+                )
         anna.exchange()
     expect(len(set(said.values())) == len(said), f"faults are not told apart: {said}")
     began = time.monotonic()
@@ -175,7 +222,9 @@ def exchange_alone(room):
         anna.reload()
         anna.page.until(anna.row("title"))
     # by file: a colleague's is taken in under one's own name, and nothing is taken from a cut one
-    carl = '{"cells":[["title","it",5,"carl",0,["Titolo"]]],"kind":"site","site":"carl","version":2}'
+    carl = (
+        '{"cells":[["title","it",5,"carl",0,["Titolo"]]],"kind":"site","site":"carl","version":2}'
+    )
     anna.give("#files-dialog .open-site", "carl.json", carl)
     anna.page.until("document.querySelector('#ask-dialog').open")
     first = anna.run("document.querySelector('#ask-dialog button').value")
@@ -184,12 +233,16 @@ def exchange_alone(room):
     anna.page.until("document.querySelector('#notice').textContent.includes('Taken in: 1')", 10)
     expect(anna.said("#site-name") == "anna", "another's file makes this browser that other")
     anna.exchange()
-    expect(room.server.labels()[("title", "it")] == ["Titolo"], "what came by a file is not exchanged")
+    expect(
+        room.server.labels()[("title", "it")] == ["Titolo"], "what came by a file is not exchanged"
+    )
     anna.give("#files-dialog .open-site", "cut.json", carl[:40])
     anna.page.until("!document.querySelector('#problem').hidden")
     expect("not such a file" in anna.problem(), f"of a cut file it is said: {anna.problem()}")
     # language maps
-    anna.give("#take-maps", "maps.json", '{"news":{"en":"News","fr":"Nouvelles"},"__proto__":{"en":"p"}}')
+    anna.give(
+        "#take-maps", "maps.json", '{"news":{"en":"News","fr":"Nouvelles"},"__proto__":{"en":"p"}}'
+    )
     anna.page.until("document.querySelector('#notice').textContent.includes('Taken in: 3')", 10)
     anna.exchange()
     expect(room.server.labels()[("__proto__", "en")] == ["p"], "maps are not taken in")
@@ -204,7 +257,10 @@ def key_wanted(room):
     room.server.put(["title", "en", ["Title"]])
     expect(room.server.ask("GET", "/summary")[0] == 401, "a summary is answered without the key")
     expect(room.server.ask("POST", "/delta", "{}")[0] == 401, "a delta is taken without the key")
-    expect(room.server.ask("GET", "/summary", Authorization="Bearer secret12345")[0] == 200, "the key is refused")
+    expect(
+        room.server.ask("GET", "/summary", Authorization="Bearer secret12345")[0] == 200,
+        "the key is refused",
+    )
     anna = room.editor("anna")
     anna.page.until("document.querySelector('#problem span button')")
     anna.run("document.querySelector('#problem span button').click()")
@@ -221,7 +277,8 @@ def key_wanted(room):
 
 def many_messages(room):
     """8. 10,000 messages work."""
-    room.server.python("""
+    room.server.python(
+        """
 import sys, silkwaram
 maps = {}
 for i in range(10000):
@@ -230,7 +287,8 @@ for i in range(10000):
     if i % 2: labels['ja'] = f'項目 {i}'
     maps[f'part{i % 40}.message.{i:05d}'] = labels
 with silkwaram.edit(sys.argv[1]) as site: site.import_maps(maps)
-""")
+"""
+    )
     anna = room.editor("anna")
     anna.exchanged()
     anna.language("#source", "en")
@@ -254,13 +312,24 @@ with silkwaram.edit(sys.argv[1]) as site: site.import_maps(maps)
     for turn in range(7):
         anna.go(name)
         anna.page.type(f"Texte changé {turn}")
-        figures["edit"].append(spent(lambda: anna.page.key("Enter"), "document.querySelector('#notice').textContent.includes('Kept')"))
+        figures["edit"].append(
+            spent(
+                lambda: anna.page.key("Enter"),
+                "document.querySelector('#notice').textContent.includes('Kept')",
+            )
+        )
         anna.run("document.querySelector('#notice').textContent = ''")
         wanted = f"message.0{turn + 1}00"
-        search = lambda: anna.run(f"(() => {{ const it = document.querySelector('#find'); it.value = {quoted(wanted)};"
-                                  " it.dispatchEvent(new Event('input')); })()")
-        figures["find"].append(spent(search, "document.querySelectorAll('.row').length === 1 || true"))
-        anna.run("(() => { const it = document.querySelector('#find'); it.value = ''; it.dispatchEvent(new Event('input')); })()")
+        search = lambda: anna.run(
+            f"(() => {{ const it = document.querySelector('#find'); it.value = {quoted(wanted)};"
+            " it.dispatchEvent(new Event('input')); })()"
+        )
+        figures["find"].append(
+            spent(search, "document.querySelectorAll('.row').length === 1 || true")
+        )
+        anna.run(
+            "(() => { const it = document.querySelector('#find'); it.value = ''; it.dispatchEvent(new Event('input')); })()"
+        )
         anna.page.until(anna.row(name))
     rows = anna.run("document.querySelectorAll('.row').length")
     expect(rows < 100, f"{rows} rows are in the page")
@@ -279,8 +348,10 @@ with silkwaram.edit(sys.argv[1]) as site: site.import_maps(maps)
         opened.append(anna.run("performance.getEntriesByName('shown')[0].startTime"))
         anna.exchanged()
     median = {name: sorted(them)[len(them) // 2] for name, them in figures.items() if them}
-    print(f"an edit {median['edit']:.0f} ms, find {median['find']:.0f} ms of processor time, "
-          f"by the clock it is shown after {sorted(opened)[1]:.0f} ms")
+    print(
+        f"an edit {median['edit']:.0f} ms, find {median['find']:.0f} ms of processor time, "
+        f"by the clock it is shown after {sorted(opened)[1]:.0f} ms"
+    )
     expect(sorted(opened)[1] <= 2000, f"to open takes {sorted(opened)[1]:.0f} ms")
     expect(median["edit"] <= 50, f"an edit takes {median['edit']:.0f} ms")
     expect(median["find"] <= 100, f"finding takes {median['find']:.0f} ms")
@@ -296,9 +367,11 @@ def states(room):
     anna.page.key("Enter")
     anna.exchanged()
     yield "empty", anna
-    room.server.put(*[[name, "en", [text]] for name, text in TITLES.items()],
-                    *[[name, "ar", [text]] for name, text in ARABIC.items()],
-                    ["greeting", "x-note", ["On the first page"]])
+    room.server.put(
+        *[[name, "en", [text]] for name, text in TITLES.items()],
+        *[[name, "ar", [text]] for name, text in ARABIC.items()],
+        ["greeting", "x-note", ["On the first page"]],
+    )
     anna.exchange()
     anna.language("#source", "en")
     anna.language("#language", "ar")
@@ -354,10 +427,15 @@ def looks(room):
     seen = 0
     for name, anna in states(room):
         for language in ("en", "ar") if name != "work" else ("ja", "fr", "ar", "en"):
-            anna.run(f"""(() => {{ const it = document.querySelector('#page-language');
-                it.value = {quoted(language)}; it.dispatchEvent(new Event('change')); }})()""")
+            anna.run(
+                f"""(() => {{ const it = document.querySelector('#page-language');
+                it.value = {quoted(language)}; it.dispatchEvent(new Event('change')); }})()"""
+            )
             direction = "rtl" if language == "ar" else "ltr"
-            expect(anna.run("document.documentElement.dir") == direction, f"{language} is not written {direction}")
+            expect(
+                anna.run("document.documentElement.dir") == direction,
+                f"{language} is not written {direction}",
+            )
             for ground in ("light", "dark"):
                 scheme(anna, ground)
                 for width, height in SIZES:
@@ -365,31 +443,57 @@ def looks(room):
                     anna.run("scrollTo(0, 0)")
                     settled(anna)
                     faults = anna.run(SEEN)
-                    expect(not faults, f"{name}, {language}, {ground}, {width} wide: {'; '.join(faults[:6])}")
+                    expect(
+                        not faults,
+                        f"{name}, {language}, {ground}, {width} wide: {'; '.join(faults[:6])}",
+                    )
                     seen += 1
                     if name != "work":
                         continue
-                    bottom = anna.run("document.querySelector('.row textarea').getBoundingClientRect().bottom")
-                    expect(bottom < height - 52, f"{language}, {width} wide: the first text ends at {bottom}")
-        anna.run("document.querySelector('#page-language').value = 'en';"
-                 " document.querySelector('#page-language').dispatchEvent(new Event('change'))")
+                    bottom = anna.run(
+                        "document.querySelector('.row textarea').getBoundingClientRect().bottom"
+                    )
+                    expect(
+                        bottom < height - 52,
+                        f"{language}, {width} wide: the first text ends at {bottom}",
+                    )
+        anna.run(
+            "document.querySelector('#page-language').value = 'en';"
+            " document.querySelector('#page-language').dispatchEvent(new Event('change'))"
+        )
         scheme(anna, "light")
         anna.page.resize(1200, 900)
         settled(anna)
         nodes = anna.page.ask("Accessibility.getFullAXTree")["nodes"]
         found = [it for it in nodes if not it.get("ignored") and it["role"]["value"] in ROLES]
-        bare = [it["role"]["value"] for it in found if not it.get("name", {}).get("value", "").strip()]
+        bare = [
+            it["role"]["value"] for it in found if not it.get("name", {}).get("value", "").strip()
+        ]
         expect(found and not bare, f"{name}: of {len(found)} controls these have no name: {bare}")
         if name == "work":
             fields = [it for it in found if it["role"]["value"] == "textbox"]
-            expect(any(TITLES["search"] in it.get("description", {}).get("value", "") for it in fields),
-                   "a field does not name its source to who hears the page")
+            expect(
+                any(
+                    TITLES["search"] in it.get("description", {}).get("value", "") for it in fields
+                ),
+                "a field does not name its source to who hears the page",
+            )
     print(f"{seen} looks at pages")
     return [anna]
 
 
-ROLES = ("button", "textbox", "searchbox", "combobox", "checkbox", "radio", "link", "progressbar",
-         "progressIndicator", "dialog")
+ROLES = (
+    "button",
+    "textbox",
+    "searchbox",
+    "combobox",
+    "checkbox",
+    "radio",
+    "link",
+    "progressbar",
+    "progressIndicator",
+    "dialog",
+)
 
 
 def take_pictures(folder):
@@ -437,7 +541,7 @@ def by_keys(room):
 
     anna.run("document.activeElement.blur()")
     tab_to("#language")
-    for _ in range(2):    # "Another ..", the last option
+    for _ in range(2):  # "Another ..", the last option
         page.key("ArrowDown")
     page.until("document.querySelector('#language-dialog').open")
     page.type("French")
@@ -454,9 +558,15 @@ def by_keys(room):
     # Tab goes from text to text, past what would delete
     anna.go(seen[0])
     page.key("Tab")
-    expect(anna.run("document.activeElement.closest('.row')?.label") == seen[1], "Tab stops between two texts")
+    expect(
+        anna.run("document.activeElement.closest('.row')?.label") == seen[1],
+        "Tab stops between two texts",
+    )
     page.key("ArrowUp", modifiers=1)
-    expect(anna.run("document.activeElement.closest('.row').label") == seen[0], "Alt with an arrow does not go up")
+    expect(
+        anna.run("document.activeElement.closest('.row').label") == seen[0],
+        "Alt with an arrow does not go up",
+    )
     page.type("not to be kept")
     page.key("Escape")
     expect(anna.text(seen[0]) == "Un", "Escape does not take back what was typed")
@@ -486,13 +596,20 @@ def by_keys(room):
 
 def po_files(room):
     """A language goes out as a PO file, and comes back."""
-    room.server.put(["title", "en", ["Title"]], ["news", "en", ["News"]], ["title", "fr", ["Titre"]])
-    ask = lambda method, *more, **heads: room.server.ask(method, "/po?lang=fr&source=en", *more, **heads)
+    room.server.put(
+        ["title", "en", ["Title"]], ["news", "en", ["News"]], ["title", "fr", ["Titre"]]
+    )
+    ask = lambda method, *more, **heads: room.server.ask(
+        method, "/po?lang=fr&source=en", *more, **heads
+    )
     status, heads, po = ask("GET")
     if status == 422 and b"polib" in po:
         print("editor.py: PO files: skipped: there is no polib")
         return []
-    expect(status == 200 and heads.get_content_type() == "text/x-gettext-translation", f"no PO file: {po[:300]}")
+    expect(
+        status == 200 and heads.get_content_type() == "text/x-gettext-translation",
+        f"no PO file: {po[:300]}",
+    )
     expect(b'msgid "Title"\nmsgstr "Titre"' in po, f"the PO file is {po.decode()}")
     done = po.replace(b'msgid "News"\nmsgstr ""', 'msgid "News"\nmsgstr "Actualités"'.encode())
     anna = room.editor("anna")
@@ -501,31 +618,48 @@ def po_files(room):
     anna.give("#take-po", "fr.po", done.decode())
     anna.until_text("news", "Actualités")
     expect(room.server.labels()[("news", "fr")] == ["Actualités"], "a PO file is not taken")
-    expect(ask("POST", done, Content_Type="text/plain")[0] == 415, "a page of another server could send one")
+    expect(
+        ask("POST", done, Content_Type="text/plain")[0] == 415,
+        "a page of another server could send one",
+    )
     status, _, said = ask("POST", done[:-20], Content_Type="text/x-gettext-translation")
     expect(status == 422 and json.loads(said)["words"], "a PO file that was cut is taken")
-    expect(room.server.ask("GET", "/po?lang=--help&source=en")[0] == 422, "an option is taken for a language")
+    expect(
+        room.server.ask("GET", "/po?lang=--help&source=en")[0] == 422,
+        "an option is taken for a language",
+    )
     return [anna]
 
 
 def by_companion(room):
     """The companion lexicat-exchange speaks the protocol too, and says what is wrong."""
     site = f"{room.folder}/tokyo.json"
-    tools = {**os.environ, "PATH": f"{SOURCES}/companions:{os.environ['PATH']}",
-             "LEXICAT": os.path.abspath(os.environ.get("LEXICAT", f"{SOURCES}/build/lexicat"))}
+    tools = {
+        **os.environ,
+        "PATH": f"{SOURCES}/companions:{os.environ['PATH']}",
+        "LEXICAT": os.path.abspath(os.environ.get("LEXICAT", f"{SOURCES}/build/lexicat")),
+    }
 
     def run(status, *words):
         done = subprocess.run(words, env=tools, capture_output=True, text=True)
         expect(done.returncode == status, f"{words[0]}: status {done.returncode}: {done.stderr}")
         return done.stdout + done.stderr
 
-    room.server.put(["title", "en", ['1,"x",0,["a\\",5,"b",6,']], ["gone", "en", ["x"]], ["gone", "en", []])
+    room.server.put(
+        ["title", "en", ['1,"x",0,["a\\",5,"b",6,']], ["gone", "en", ["x"]], ["gone", "en", []]
+    )
     anna = room.editor("anna")
     run(0, "lexicat-file", site, "new", "--site", "tokyo")
     run(0, "lexicat-file", site, "put", "--id", "title", "--lang", "ja", "題名")
     address = f"http://localhost:{room.server.port}/"
-    expect(run(0, "lexicat-exchange", address, site) == "sent 1, received 2\n", "other labels are exchanged")
-    expect(run(0, "lexicat-exchange", address, site) == "sent 0, received 0\n", "labels are exchanged twice")
+    expect(
+        run(0, "lexicat-exchange", address, site) == "sent 1, received 2\n",
+        "other labels are exchanged",
+    )
+    expect(
+        run(0, "lexicat-exchange", address, site) == "sent 0, received 0\n",
+        "labels are exchanged twice",
+    )
     with open(site, encoding="utf-8") as file:
         expect(cells_of(file.read()) == cells_of(room.server.site()), "the cells are not the same")
     anna.exchange()
@@ -536,7 +670,19 @@ def by_companion(room):
         run(8, "lexicat-exchange", room.address, site)
     run(2, "lexicat-exchange", site)
     run(4, "lexicat-exchange", address, f"{room.folder}/none.json")
-    run(0, "lexicat-file", site, "put", "--now", str(int(time.time() * 1000) + 10 * 86400000), "--id", "x", "--lang", "en", "x")
+    run(
+        0,
+        "lexicat-file",
+        site,
+        "put",
+        "--now",
+        str(int(time.time() * 1000) + 10 * 86400000),
+        "--id",
+        "x",
+        "--lang",
+        "en",
+        "x",
+    )
     expect("time is ahead" in run(3, "lexicat-exchange", address, site), "a late label is taken")
     room.server.stop()
     room.server.words = ("--token", "secret12345")
@@ -547,7 +693,10 @@ def by_companion(room):
     with open(key, "w", encoding="utf-8") as file:
         file.write("secret12345\n")
     run(0, "lexicat-file", other, "new", "--site", "other")
-    expect(run(0, "lexicat-exchange", "--key-file", key, address, other) == "sent 0, received 3\n", "with the key it is refused")
+    expect(
+        run(0, "lexicat-exchange", "--key-file", key, address, other) == "sent 0, received 3\n",
+        "with the key it is refused",
+    )
     return [anna]
 
 
@@ -557,18 +706,37 @@ def tampered(room):
     room.server.put(["title", "en", ["Title"]])
     status, heads, body = ask("GET", "/summary")
     expect(status == 200 and json.loads(body)["owner"] == "server" and heads["Date"], "no summary")
-    expect(ask("GET", "/summary", If_None_Match=heads["ETag"])[0] == 304, "what is known is sent again")
-    for wanted, of in ((404, ("GET", "/nothing")), (404, ("GET", "/../_server.py")), (404, ("POST", "/nothing", "{}")),
-                       (422, ("POST", "/delta", "{}")), (422, ("POST", "/summary", "[1"))):
+    expect(
+        ask("GET", "/summary", If_None_Match=heads["ETag"])[0] == 304, "what is known is sent again"
+    )
+    for wanted, of in (
+        (404, ("GET", "/nothing")),
+        (404, ("GET", "/../_server.py")),
+        (404, ("POST", "/nothing", "{}")),
+        (422, ("POST", "/delta", "{}")),
+        (422, ("POST", "/summary", "[1")),
+    ):
         status, heads, body = ask(*of)
-        expect(status == wanted and heads["Silkwaram-Exchange"] and json.loads(body)["words"], f"{of}: {status} {body[:200]}")
-    for wanted, more in ((415, {"Content_Type": "text/plain"}), (421, {"Host": "evil.com"}), (421, {"Sec_Fetch_Site": "cross-site"}),
-                         (413, {"Content_Length": "99999999"})):
+        expect(
+            status == wanted and heads["Silkwaram-Exchange"] and json.loads(body)["words"],
+            f"{of}: {status} {body[:200]}",
+        )
+    for wanted, more in (
+        (415, {"Content_Type": "text/plain"}),
+        (421, {"Host": "evil.com"}),
+        (421, {"Sec_Fetch_Site": "cross-site"}),
+        (413, {"Content_Length": "99999999"}),
+    ):
         expect(ask("POST", "/delta", "{}", **more)[0] == wanted, f"{more} is not {wanted}")
     day = int(time.time() * 1000) + 2 * 86400000
-    late = json.dumps({"cells": [["a", "en", day, "x", 0, ["x"]]], "kind": "delta", "to": "server", "version": 2})
+    late = json.dumps(
+        {"cells": [["a", "en", day, "x", 0, ["x"]]], "kind": "delta", "to": "server", "version": 2}
+    )
     status, _, body = ask("POST", "/delta", late)
     expect(status == 422 and json.loads(body)["number"] == 29, "a late delta is taken")
     status, heads, body = ask("GET", "/silkwaram.wasm", Accept_Encoding="gzip")
-    expect(status == 200 and heads["Content-Encoding"] == "gzip" and len(body) < 250000, "the module is not compressed")
+    expect(
+        status == 200 and heads["Content-Encoding"] == "gzip" and len(body) < 250000,
+        "the module is not compressed",
+    )
     return []

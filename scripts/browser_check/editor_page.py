@@ -16,10 +16,24 @@ import chromium  # noqa: E402
 SOURCES = os.path.realpath(os.path.join(os.path.dirname(os.path.realpath(__file__)), "../.."))
 PACKAGE = f"{SOURCES}/bindings/python/src"
 PORTAL = b"<!doctype html><title>Hotel WiFi</title><form action='/login'>Log in</form>"
-PASSED = ("Content-Type", "Content-Encoding", "Cache-Control", "ETag", "Silkwaram-Exchange", "Date",
-          "Content-Security-Policy", "Vary")
-ASKED = ("Content-Type", "If-None-Match", "Authorization", "Accept-Encoding", "Sec-Fetch-Site",
-         "Sec-Fetch-Mode")
+PASSED = (
+    "Content-Type",
+    "Content-Encoding",
+    "Cache-Control",
+    "ETag",
+    "Silkwaram-Exchange",
+    "Date",
+    "Content-Security-Policy",
+    "Vary",
+)
+ASKED = (
+    "Content-Type",
+    "If-None-Match",
+    "Authorization",
+    "Accept-Encoding",
+    "Sec-Fetch-Site",
+    "Sec-Fetch-Mode",
+)
 # A clock that is some milliseconds off, and a minute that takes less of one.
 CLOCK = """(() => { const now = Date.now.bind(Date); let off = Number(sessionStorage.clock ?? %d);
   globalThis.setClock = (it) => { sessionStorage.clock = it; off = it; };
@@ -40,6 +54,7 @@ def expect(is_so, what):
 
 class Way(http.server.BaseHTTPRequestHandler):
     """Between the browsers and the server: it loses, doubles, hangs and lies where it is said to."""
+
     protocol_version = "HTTP/1.1"
 
     def do_GET(self):
@@ -141,15 +156,20 @@ class Server:
     def __init__(self, between, file, package=PACKAGE, *words):
         self.between, self.file, self.words, self.package = between, file, words, package
         library = os.environ.get("SILKWARAM_LIBRARY", f"{SOURCES}/build/lib/libsilkwaram.so")
-        self.environment = {**os.environ, "SILKWARAM_LIBRARY": library, "PYTHONPATH": package,
-                            "PYTHONDONTWRITEBYTECODE": "1",
-                            "SILKWARAM_BROWSER": f"{SOURCES}/build/browser"}
+        self.environment = {
+            **os.environ,
+            "SILKWARAM_LIBRARY": library,
+            "PYTHONPATH": package,
+            "PYTHONDONTWRITEBYTECODE": "1",
+            "SILKWARAM_BROWSER": f"{SOURCES}/build/browser",
+        }
         self.start()
 
     def start(self):
         words = [sys.executable, "-m", "silkwaram.editor", "--port", "0", *self.words, self.file]
-        self.process = subprocess.Popen(words, stdout=subprocess.PIPE, text=True,
-                                        env=self.environment, cwd="/")
+        self.process = subprocess.Popen(
+            words, stdout=subprocess.PIPE, text=True, env=self.environment, cwd="/"
+        )
         address = self.process.stdout.readline()
         expect(address, "the server does not start")
         self.port = int(address.strip().strip("/").rpartition(":")[2])
@@ -163,28 +183,37 @@ class Server:
 
     def python(self, code, *words):
         """Runs code over the package, with the site's file as its first word."""
-        done = subprocess.run([sys.executable, "-c", code, self.file, *words], env=self.environment,
-                              capture_output=True, text=True)
+        done = subprocess.run(
+            [sys.executable, "-c", code, self.file, *words],
+            env=self.environment,
+            capture_output=True,
+            text=True,
+        )
         expect(done.returncode == 0, f"code over the package: {done.stderr[-600:]}")
         return done.stdout
 
     def put(self, *labels):
         """Puts labels into the site's file, each a message, a language and its texts."""
-        self.python("""
+        self.python(
+            """
 import json, sys, silkwaram
 with silkwaram.edit(sys.argv[1], create='server') as site:
     for id, lang, texts in json.loads(sys.argv[2]):
         if len(texts) == 0: site.delete(id, lang)
         elif len(texts) == 1: site.put(id, lang, texts[0])
         else: site.import_maps({id: {lang: texts}})
-""", json.dumps(labels))
+""",
+            json.dumps(labels),
+        )
 
     def site(self):
         with open(self.file, encoding="utf-8") as file:
             return file.read()
 
     def labels(self):
-        return {(name, tag): texts for name, tag, *_, texts in json.loads(self.site())["cells"] if texts}
+        return {
+            (name, tag): texts for name, tag, *_, texts in json.loads(self.site())["cells"] if texts
+        }
 
     def time_of(self, name, tag):
         return next(cell[2] for cell in json.loads(self.site())["cells"] if cell[:2] == [name, tag])
@@ -230,8 +259,10 @@ class Editor:
         return self.run(f"document.querySelector({quoted(of)})?.textContent.trim()")
 
     def problem(self):
-        return self.run("(() => { const it = document.querySelector('#problem');"
-                        " return it.hidden ? '' : it.firstElementChild.textContent; })()")
+        return self.run(
+            "(() => { const it = document.querySelector('#problem');"
+            " return it.hidden ? '' : it.firstElementChild.textContent; })()"
+        )
 
     def row(self, name):
         return f"[...document.querySelectorAll('.row')].find((it) => it.label === {quoted(name)})"
@@ -243,17 +274,24 @@ class Editor:
         return self.run(f"{self.row(name)}.querySelectorAll('textarea')[{place}].value")
 
     def count(self, kind):
-        number = self.run(f"document.querySelector('#shown input[value={kind}]').parentElement"
-                          ".querySelector('b').textContent")
+        number = self.run(
+            f"document.querySelector('#shown input[value={kind}]').parentElement"
+            ".querySelector('b').textContent"
+        )
         return int(number.translate(str.maketrans("٠١٢٣٤٥٦٧٨٩", "0123456789")))
 
     def until_text(self, name, text, place=0):
-        self.page.until(f"{self.row(name)}?.querySelectorAll('textarea')[{place}]?.value === {quoted(text)}", 20)
+        self.page.until(
+            f"{self.row(name)}?.querySelectorAll('textarea')[{place}]?.value === {quoted(text)}", 20
+        )
 
     def kept(self):
         """Waits until the page says that all is kept, and returns the cells that the browser has, as a
         page that is opened anew would have them."""
-        self.page.until("document.querySelector('#kept').textContent.match(/^(All edits are kept|كل التعديلات)/)", 20)
+        self.page.until(
+            "document.querySelector('#kept').textContent.match(/^(All edits are kept|كل التعديلات)/)",
+            20,
+        )
         return self.run(CELLS)
 
     def labels(self):
@@ -262,8 +300,10 @@ class Editor:
     # What is done.
 
     def choose(self, box, value):
-        self.run(f"""(() => {{ const it = document.querySelector({quoted(box)}); it.focus();
-            it.value = {quoted(value)}; it.dispatchEvent(new Event('change', {{ bubbles: true }})); }})()""")
+        self.run(
+            f"""(() => {{ const it = document.querySelector({quoted(box)}); it.focus();
+            it.value = {quoted(value)}; it.dispatchEvent(new Event('change', {{ bubbles: true }})); }})()"""
+        )
 
     def language(self, box, tag):
         """Chooses a language, also one that the site does not have yet."""
@@ -292,18 +332,22 @@ class Editor:
 
     def reach(self, name):
         """Scrolls until a message is in the page, as the list has those near the window alone."""
-        self.run(f"""(async () => {{
+        self.run(
+            f"""(async () => {{
           for (let at = 0; at <= document.body.scrollHeight && !({self.row(name)}); at += innerHeight / 2) {{
             scrollTo(0, at);
             await new Promise((done) => requestAnimationFrame(() => requestAnimationFrame(done)));
-          }} }})()""")
+          }} }})()"""
+        )
         self.page.until(self.row(name), 20)
 
     def go(self, name, place=0):
         if not self.run(f"!!({self.row(name)})"):
             self.reach(name)
-        self.run(f"(() => {{ const it = {self.row(name)}.querySelectorAll('textarea')[{place}];"
-                 " it.focus(); it.select(); })()")
+        self.run(
+            f"(() => {{ const it = {self.row(name)}.querySelectorAll('textarea')[{place}];"
+            " it.focus(); it.select(); })()"
+        )
 
     def write(self, name, text, place=0):
         self.go(name, place)
@@ -322,7 +366,9 @@ class Editor:
 
     def exchanged(self):
         """Waits until all is exchanged, without asking for it."""
-        self.page.until("document.querySelector('#exchanged').textContent.match(/^(Exchanged:|آخر تبادل)/)", 30)
+        self.page.until(
+            "document.querySelector('#exchanged').textContent.match(/^(Exchanged:|آخر تبادل)/)", 30
+        )
 
     def reload(self):
         self.page.reload()
@@ -330,9 +376,11 @@ class Editor:
 
     def give(self, box, name, text):
         """Chooses a file in a box, as a person would."""
-        self.run(f"""(() => {{ const it = document.querySelector({quoted(box)}); const made = new DataTransfer();
+        self.run(
+            f"""(() => {{ const it = document.querySelector({quoted(box)}); const made = new DataTransfer();
             made.items.add(new File([{quoted(text)}], {quoted(name)})); it.files = made.files;
-            it.dispatchEvent(new Event('change')); }})()""")
+            it.dispatchEvent(new Event('change')); }})()"""
+        )
 
     def answer(self, word):
         """Chooses in the dialog that asks what to do."""
@@ -340,7 +388,9 @@ class Editor:
         self.run(f"document.querySelector('#ask-dialog button[value={word}]').click()")
 
     def faults(self):
-        thrown = [it for it in self.page.browser.events if it["method"] == "Runtime.exceptionThrown"]
+        thrown = [
+            it for it in self.page.browser.events if it["method"] == "Runtime.exceptionThrown"
+        ]
         return json.dumps(thrown[:1])[:900] if thrown else ""
 
 

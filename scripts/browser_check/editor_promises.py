@@ -7,11 +7,31 @@ import time
 import chromium
 from editor_page import CLOCK, DAY, SHORT_MINUTE, Between, Editor, Server, cells_of, expect, quoted
 
-HOSTILE = ["__proto__", "constructor", "toString", "hasOwnProperty", "valueOf", "prototype", "then",
-           "<script>window.pwned=1</script>", "<img src=x onerror=window.pwned=1>", "\"'`", "' onclick='x",
-           "../../summary", "a b", "\u202egnp.exe", "\u200b", "é" * 64, "x" * 128, "$&{name}", "&lt;b&gt;"]
+HOSTILE = [
+    "__proto__",
+    "constructor",
+    "toString",
+    "hasOwnProperty",
+    "valueOf",
+    "prototype",
+    "then",
+    "<script>window.pwned=1</script>",
+    "<img src=x onerror=window.pwned=1>",
+    "\"'`",
+    "' onclick='x",
+    "../../summary",
+    "a b",
+    "\u202egnp.exe",
+    "\u200b",
+    "é" * 64,
+    "x" * 128,
+    "$&{name}",
+    "&lt;b&gt;",
+]
 NO_LOCKS = "Object.defineProperty(Navigator.prototype, 'locks', { get: () => undefined });"
-NO_STORE = "IDBFactory.prototype.open = () => { throw new DOMException('denied', 'SecurityError'); };"
+NO_STORE = (
+    "IDBFactory.prototype.open = () => { throw new DOMException('denied', 'SecurityError'); };"
+)
 FULL = """(() => { const put = IDBObjectStore.prototype.put; globalThis.isFull = false;
   IDBObjectStore.prototype.put = function (...given) {
     if (globalThis.isFull) { this.transaction.abort(); return put.apply(this, given); }
@@ -48,7 +68,10 @@ def any_id(room):
     anna.exchanged()
     anna.language("#source", "en")
     anna.language("#language", "fr")
-    expect(anna.count("all") == len(HOSTILE), f"of {len(HOSTILE)} messages {anna.count('all')} are counted")
+    expect(
+        anna.count("all") == len(HOSTILE),
+        f"of {len(HOSTILE)} messages {anna.count('all')} are counted",
+    )
     expect(anna.count("missing") == len(HOSTILE), f"{anna.count('missing')} are missing")
     expect(anna.count("outdated") == 0, "a message is to be looked at again without a text")
     anna.show("missing")
@@ -62,18 +85,35 @@ def any_id(room):
     anna.run("document.querySelector('#open-reader').click()")
     anna.run("document.querySelector('#reader-dialog').close()")
     for name in ("__proto__", "constructor", HOSTILE[7]):
-        expect(room.server.labels().get((name, "fr")) == [f"fr {name}"], f"{name!r} does not arrive")
+        expect(
+            room.server.labels().get((name, "fr")) == [f"fr {name}"], f"{name!r} does not arrive"
+        )
     anna.reload()
     anna.page.until(anna.row("__proto__"))
     expect(anna.labels()[("__proto__", "fr")] == ["fr __proto__"], "it is not kept")
-    expect(anna.run("window.pwned === undefined && document.querySelector('li script, li img, li b b') === null"),
-           "a text has become markup")
-    expect(anna.run("Object.keys(Object.prototype).length") == 0, "all objects have members of a message")
+    expect(
+        anna.run(
+            "window.pwned === undefined && document.querySelector('li script, li img, li b b') === null"
+        ),
+        "a text has become markup",
+    )
+    expect(
+        anna.run("Object.keys(Object.prototype).length") == 0,
+        "all objects have members of a message",
+    )
     _, heads, _ = room.server.ask("GET", "/")
     policy = heads["Content-Security-Policy"]
-    for part in ("default-src 'none'", "frame-ancestors 'none'", "form-action 'none'", "base-uri 'none'"):
+    for part in (
+        "default-src 'none'",
+        "frame-ancestors 'none'",
+        "form-action 'none'",
+        "base-uri 'none'",
+    ):
         expect(part in policy, f"the policy has no {part}")
-    expect("unsafe-inline" not in policy and heads["X-Frame-Options"] == "DENY", "the policy lets more in")
+    expect(
+        "unsafe-inline" not in policy and heads["X-Frame-Options"] == "DENY",
+        "the policy lets more in",
+    )
     return [anna]
 
 
@@ -90,7 +130,9 @@ def no_edit_lost(room):
         anna.page.type("Nouv")
         anna.reload()
         anna.until_text("news", "Nouv")
-        expect("being typed: 1" in anna.said("#kept").lower(), f"it is not said: {anna.said('#kept')}")
+        expect(
+            "being typed: 1" in anna.said("#kept").lower(), f"it is not said: {anna.said('#kept')}"
+        )
         expect(anna.text("title") == "Titre", "a reload loses an edit")
         # a second tab waits, and the first one is closed while something is typed
         second = first.page(room.address)
@@ -149,8 +191,13 @@ EMPTY = '{"cells":[],"kind":"site","site":"NAME","version":2}'
 
 def no_edit_undone(room):
     """3. No edit of another is undone unseen; CR LF is no edit."""
-    room.server.put(["items", "fr", ["un", "plusieurs"]], ["title", "fr", ["Titre"]], ["cr", "fr", ["un\r\ndeux"]],
-                    ["items", "en", ["one", "many"]], ["title", "en", ["Title"]])
+    room.server.put(
+        ["items", "fr", ["un", "plusieurs"]],
+        ["title", "fr", ["Titre"]],
+        ["cr", "fr", ["un\r\ndeux"]],
+        ["items", "en", ["one", "many"]],
+        ["title", "en", ["Title"]],
+    )
     anna, ben = room.editor("anna"), room.editor("ben")
     for editor in (anna, ben):
         editor.exchanged()
@@ -167,8 +214,10 @@ def no_edit_undone(room):
     anna.go("items")
     anna.page.key("Enter")
     anna.exchange()
-    expect(room.server.labels()[("items", "fr")] == ["un ANNA", "plusieurs BEN"],
-           f"an edit is undone: {room.server.labels()[('items', 'fr')]}")
+    expect(
+        room.server.labels()[("items", "fr")] == ["un ANNA", "plusieurs BEN"],
+        f"an edit is undone: {room.server.labels()[('items', 'fr')]}",
+    )
     # both change one text
     anna.go("title")
     anna.page.type("Titre ANNA")
@@ -185,7 +234,9 @@ def no_edit_undone(room):
     anna.run(f"{anna.row('title')}.querySelector('textarea').focus()")
     anna.page.key("Enter")
     anna.exchange()
-    expect(room.server.labels()[("title", "fr")] == ["Titre ANNA"], "the second Enter does not decide")
+    expect(
+        room.server.labels()[("title", "fr")] == ["Titre ANNA"], "the second Enter does not decide"
+    )
     # an undo takes back no edit of another
     ben.exchange()
     ben.write("title", "Titre de BEN")
@@ -193,7 +244,10 @@ def no_edit_undone(room):
     anna.exchange()
     anna.run("document.querySelector('#undo').click()")
     anna.exchange()
-    expect(room.server.labels()[("title", "fr")] == ["Titre de BEN"], "an undo takes back another's edit")
+    expect(
+        room.server.labels()[("title", "fr")] == ["Titre de BEN"],
+        "an undo takes back another's edit",
+    )
     # CR LF
     before = room.server.site()
     anna.go("cr")
@@ -206,7 +260,10 @@ def no_edit_undone(room):
 def wrong_clocks(room):
     """4. A wrong clock does no harm."""
     room.server.put(["title", "en", ["Title"]], ["news", "en", ["News"]])
-    for name, off, word in (("ahead", 10 * DAY, "10 days ahead"), ("behind", -30 * DAY, "30 days behind")):
+    for name, off, word in (
+        ("ahead", 10 * DAY, "10 days ahead"),
+        ("behind", -30 * DAY, "30 days behind"),
+    ):
         editor = Editor(room.browser(), room.address, name, before=CLOCK % off)
         editor.exchanged()
         editor.page.until("!document.querySelector('#problem').hidden")
@@ -235,21 +292,33 @@ def wrong_clocks(room):
     expect(("title", "it") not in room.server.labels(), "a late edit arrives")
     room.server.put(["news", "de", ["Neues"]])
     carl.exchange()
-    expect(carl.labels().get(("news", "de")) == ["Neues"], "nothing is received because of a late edit")
+    expect(
+        carl.labels().get(("news", "de")) == ["Neues"], "nothing is received because of a late edit"
+    )
     carl.run("document.querySelector('#problem span button').click()")
     carl.page.until("document.querySelector('#files-dialog').open")
     carl.run("document.querySelector('#begin-anew').click()")
     carl.page.until("document.querySelector('#site-name').textContent === 'carl-2'")
     carl.exchanged()
-    expect(room.server.labels()[("title", "it")] == ["Titolo"], "a site that began anew has lost a label")
-    expect(abs(room.server.time_of("title", "it") - time.time() * 1000) < 120000, "its time is still ahead")
+    expect(
+        room.server.labels()[("title", "it")] == ["Titolo"],
+        "a site that began anew has lost a label",
+    )
+    expect(
+        abs(room.server.time_of("title", "it") - time.time() * 1000) < 120000,
+        "its time is still ahead",
+    )
     # a late row of another, which an editor leaves out and counts
-    room.server.python("""
+    room.server.python(
+        """
 import sys, time, silkwaram
 with silkwaram.edit(sys.argv[1]) as site: site.put('late', 'en', 'x', now=int(time.time() * 1000) + 20 * 86400000)
-""")
+"""
+    )
     carl.exchange()
-    expect("far ahead: 1" in carl.said("#notice"), f"of late labels it is said: {carl.said('#notice')}")
+    expect(
+        "far ahead: 1" in carl.said("#notice"), f"of late labels it is said: {carl.said('#notice')}"
+    )
     expect(("late", "en") not in carl.labels(), "a late label is taken")
     return [carl]
 
@@ -257,7 +326,10 @@ with silkwaram.edit(sys.argv[1]) as site: site.put('late', 'en', 'x', now=int(ti
 def in_parallel(room):
     """Edits apart while the server is killed, an exchange that is lost and one that comes twice."""
     anna, badr = room.editor("anna"), room.editor("badr", "ar,en")
-    expect(badr.run("document.documentElement.dir") == "rtl", "the page is not in the reader's language")
+    expect(
+        badr.run("document.documentElement.dir") == "rtl",
+        "the page is not in the reader's language",
+    )
     for name in ("title", "greeting", "news", "search"):
         anna.add(name, f"{name} in English")
     anna.exchange()
@@ -270,7 +342,10 @@ def in_parallel(room):
     badr.write("greeting", "صباح الخير")
     for editor in (anna, badr):
         editor.exchange()
-        expect("due" in editor.run("document.querySelector('#exchanged').className"), "it is not said that the server is away")
+        expect(
+            "due" in editor.run("document.querySelector('#exchanged').className"),
+            "it is not said that the server is away",
+        )
         before = editor.kept()
         editor.reload()
         editor.page.until(editor.row("title"))
@@ -283,8 +358,16 @@ def in_parallel(room):
     badr.exchange()
     anna.exchange()
     badr.exchange()
-    expect(room.between.seen == ["lose", "double"], f"of the faults only these came to be: {room.between.seen}")
-    sites = [json.dumps(cells_of(room.server.site())), *[json.dumps(json.loads(it.kept())) for it in (anna, badr)]]
-    expect(len(set(sites)) == 1, "the cells are not the same:\n" + "\n".join(it[:900] for it in sites))
+    expect(
+        room.between.seen == ["lose", "double"],
+        f"of the faults only these came to be: {room.between.seen}",
+    )
+    sites = [
+        json.dumps(cells_of(room.server.site())),
+        *[json.dumps(json.loads(it.kept())) for it in (anna, badr)],
+    ]
+    expect(
+        len(set(sites)) == 1, "the cells are not the same:\n" + "\n".join(it[:900] for it in sites)
+    )
     expect(anna.labels()[("greeting", "ar")] == ["صباح الخير"], "an edit is lost")
     return [anna, badr]

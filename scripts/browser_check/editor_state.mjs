@@ -1,5 +1,5 @@
-// Tries the modules of the editor that know no document, under Node: labels, work, clock, placeholders, languages, words,
-// and what an exchange makes of answers.
+// Tries the modules of the editor that know no document, under Node: labels, work, clock,
+// placeholders, languages, words, and what an exchange makes of answers.
 //
 // usage: node editor_state.mjs PAGE MODULE     the folders of the page and of silkwaram.mjs
 import assert from 'node:assert/strict';
@@ -51,7 +51,8 @@ const tests = {
         } else if (what === 2) {
           work.confirm(oneOf(IDS), oneOf(TAGS));
         } else {
-          work.setTexts(oneOf(IDS), oneOf(TAGS), [oneOf(TEXTS), oneOf(TEXTS)].slice(0, 1 + below(2)));
+          work.setTexts(
+            oneOf(IDS), oneOf(TAGS), [oneOf(TEXTS), oneOf(TEXTS)].slice(0, 1 + below(2)));
         }
         const held = new Labels(JSON.parse(work.site.write()).cells);
         assert.deepEqual(all(work.labels), all(held));
@@ -61,8 +62,10 @@ const tests = {
       }
       const empty = sw.Site.new('server');
       const alone = workOf('carl');
-      for (let step = 0; step < 12; step += 1) alone.setTexts(oneOf(IDS), oneOf(TAGS), [oneOf(TEXTS)]);
-      assert.equal(deltaOf([...alone.unsent.values()], 'server'), alone.site.deltaFor(empty.summary()));
+      for (let step = 0; step < 12; step += 1)
+        alone.setTexts(oneOf(IDS), oneOf(TAGS), [oneOf(TEXTS)]);
+      assert.equal(
+        deltaOf([...alone.unsent.values()], 'server'), alone.site.deltaFor(empty.summary()));
     }
     return `${steps} steps`;
   },
@@ -124,7 +127,8 @@ const tests = {
     clock.hear(device - MINUTE);
     assert.equal(clock.difference(), 0);
     // after a reload: ahead and put right, behind and put right, and still wrong
-    const later = (ahead, passed) => new Clock({ server: 1e12, device: 1e12 + ahead }, () => 1e12 + ahead + passed).difference();
+    const later = (ahead, passed) =>
+      new Clock({ server: 1e12, device: 1e12 + ahead }, () => 1e12 + ahead + passed).difference();
     assert.equal(later(10 * DAY, -10 * DAY + MINUTE), 0);
     assert.equal(later(-30 * DAY, 30 * DAY + MINUTE), 0);
     assert.equal(later(10 * DAY, MINUTE), 10 * DAY);
@@ -170,13 +174,17 @@ const tests = {
   },
 
   'languages'() {
-    const rows = [['German', 'de'], ['deutsch', 'de'], ['Français', 'fr'], ['pt-BR', 'pt-br'], ['日本語', 'ja'],
-      ['العربية', 'ar'], ['klingon', 'klingon'], ['no such!', null], ['', null]];
+    const rows = [
+      ['German', 'de'], ['deutsch', 'de'], ['Français', 'fr'], ['pt-BR', 'pt-br'], ['日本語', 'ja'],
+      ['العربية', 'ar'], ['klingon', 'klingon'], ['no such!', null], ['', null]
+    ];
     for (const [typed, tag] of rows) assert.equal(tagMeant(typed, 'en'), tag, typed);
     assert.equal(tagMeant('allemand', 'fr'), 'de');
-    const shorter = [['en-US', 'en'], ['zh-Hant-TW', 'zh-hant'], ['de', 'de'], ['sr-Latn', 'sr-latn']];
+    const shorter =
+      [['en-US', 'en'], ['zh-Hant-TW', 'zh-hant'], ['de', 'de'], ['sr-Latn', 'sr-latn']];
     for (const [tag, without] of shorter) assert.equal(withoutRegion(tag), without);
-    const directions = [['ar', 'rtl'], ['az-Arab', 'rtl'], ['ar-Latn', 'ltr'], ['en', 'ltr'], ['@none', 'auto']];
+    const directions =
+      [['ar', 'rtl'], ['az-Arab', 'rtl'], ['ar-Latn', 'ltr'], ['en', 'ltr'], ['@none', 'auto']];
     for (const [tag, direction] of directions) assert.equal(directionOf(tag), direction);
   },
 
@@ -196,15 +204,24 @@ const tests = {
     const ours = { 'Silkwaram-Exchange': '1', 'Content-Type': 'application/json' };
     const html = { 'Content-Type': 'text/html' };
     const rows = [
-      ['key', 401, ours, '{}'], ['key', 407, html, ''], ['none', 404, html, 'no'], ['large', 413, html, ''],
-      ['broken', 500, html, ''], ['broken', 503, ours, '{}'], ['portal', 200, html, '<form>'],
-      ['portal', 200, { 'Content-Type': 'application/json' }, '{}'], ['portal', 302, html, ''],
-      ['refused', 422, ours, '{"number":13,"words":"x"}'], ['portal', 422, ours, '<'],
+      ['key', 401, ours, '{}'],
+      ['key', 407, html, ''],
+      ['none', 404, html, 'no'],
+      ['large', 413, html, ''],
+      ['broken', 500, html, ''],
+      ['broken', 503, ours, '{}'],
+      ['portal', 200, html, '<form>'],
+      ['portal', 200, {'Content-Type': 'application/json'}, '{}'],
+      ['portal', 302, html, ''],
+      ['refused', 422, ours, '{"number":13,"words":"x"}'],
+      ['portal', 422, ours, '<'],
     ];
     const { fetch } = globalThis;
     const tried = async (answer) => {
       globalThis.fetch = async () => answer();
-      const why = await exchange({ key: '', tag: null, owner: null, clock: new Clock() }, workOf('anna')).catch((it) => it);
+      const why =
+        await exchange({ key: '', tag: null, owner: null, clock: new Clock() }, workOf('anna'))
+          .catch((it) => it);
       globalThis.fetch = fetch;
       return why.kind;
     };

@@ -51,8 +51,11 @@ def _file(name: str, content: bytes) -> PageFile:
 
 def page_files() -> Dict[str, PageFile]:
     """The files by their names. That of the service worker names all others, and their version."""
-    contents = {name: _read(os.path.join(PAGE, name)) for name in sorted(os.listdir(PAGE))
-                if os.path.splitext(name)[1] in TYPES and name not in MODULE}
+    contents = {
+        name: _read(os.path.join(PAGE, name))
+        for name in sorted(os.listdir(PAGE))
+        if os.path.splitext(name)[1] in TYPES and name not in MODULE
+    }
     folder = _module_folder()
     contents.update({name: _read(os.path.join(folder, name)) for name in MODULE})
     worker = contents.pop(WORKER)

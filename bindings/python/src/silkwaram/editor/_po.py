@@ -30,8 +30,12 @@ def _run(words: List[str], given: bytes = b"") -> Tuple[bytes, List[str]]:
         # (Debian's polib is for its own Python)
         for python in (sys.executable, "/usr/bin/python3"):
             done = subprocess.run(
-                [python, program, *words], input=given, stdout=subprocess.PIPE,
-                stderr=subprocess.PIPE, timeout=LONGEST_RUN, check=False,
+                [python, program, *words],
+                input=given,
+                stdout=subprocess.PIPE,
+                stderr=subprocess.PIPE,
+                timeout=LONGEST_RUN,
+                check=False,
             )
             if done.returncode != NO_POLIB or not os.path.exists("/usr/bin/python3"):
                 break
@@ -51,7 +55,7 @@ def po_of(document: bytes, lang: str, source: str) -> bytes:
 
 
 def edits_in(document: bytes, po: bytes, lang: str, source: str) -> Tuple[bytes, bytes, List[str]]:
-    """The old and the new language maps of what is translated in a PO file, and what is left out."""
+    """The old and new language maps of what is translated in a PO file, and what is left out."""
     with tempfile.TemporaryDirectory() as room:
         site, file = os.path.join(room, "site.json"), os.path.join(room, f"{lang}.po")
         for path, content in ((site, document), (file, po)):

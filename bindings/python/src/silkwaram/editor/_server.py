@@ -80,8 +80,11 @@ class Handler(http.server.BaseHTTPRequestHandler):
         if not self.is_for_us():
             return
         path = self.path.partition("?")[0]
-        calls = {"/summary": self.server.exchange.delta_for, "/delta": self.take,
-                 "/po": self.take_po}
+        calls = {
+            "/summary": self.server.exchange.delta_for,
+            "/delta": self.take,
+            "/po": self.take_po,
+        }
         asked = calls.get(path)
         try:
             if asked is None:
@@ -104,7 +107,7 @@ class Handler(http.server.BaseHTTPRequestHandler):
         """Whether a request is for this server, and of no page of another one."""
         server = self.server
         words = None
-        # (a name of another that leads to this machine would let its pages in; a key keeps them out)
+        # (a name of another that leads to this machine would let its pages in; a key does not)
         if server.token is None and self.headers.get("Host") not in server.names:
             words = f"this server is {' and '.join(sorted(server.names))}"
         elif self.headers.get("Sec-Fetch-Site", "none") not in ("same-origin", "none"):
@@ -199,8 +202,14 @@ class Handler(http.server.BaseHTTPRequestHandler):
     def takes_gzip(self) -> bool:
         return "gzip" in self.headers.get("Accept-Encoding", "")
 
-    def send(self, status: HTTPStatus, kind: Optional[str], content: bytes,
-             heads: Dict[str, str], packed: Optional[bytes] = None) -> None:
+    def send(
+        self,
+        status: HTTPStatus,
+        kind: Optional[str],
+        content: bytes,
+        heads: Dict[str, str],
+        packed: Optional[bytes] = None,
+    ) -> None:
         """Sends an answer, packed where it is given so."""
         body = content if packed is None else packed
         self.send_response(status)
@@ -233,8 +242,14 @@ class EditorServer(http.server.ThreadingHTTPServer):
 
     daemon_threads = True
 
-    def __init__(self, path: str, name: str = "server", host: str = "localhost", port: int = 8080,
-                 token: Optional[str] = None) -> None:
+    def __init__(
+        self,
+        path: str,
+        name: str = "server",
+        host: str = "localhost",
+        port: int = 8080,
+        token: Optional[str] = None,
+    ) -> None:
         """Listens on an address. A file that is not there becomes the empty site of the name."""
         self.token = token
         self.files = page_files()

@@ -1,4 +1,5 @@
-// What the parts of the page share: the site and the work at it, the words, and what is said at the foot of the page.
+// What the parts of the page share: the site and the work at it, the words, and what is said at the
+// foot of the page.
 import { nameOf } from './languages.mjs';
 import { wordsOf } from './words.mjs';
 
@@ -12,7 +13,14 @@ export const app = {
   clock: null,
   /** What the page shows, which is kept: its language, those of the work, and the last exchange. */
   state: {
-    page: null, language: null, source: null, field: null, otherwise: null, widen: false, last: null, heard: null,
+    page: null,
+    language: null,
+    source: null,
+    field: null,
+    otherwise: null,
+    widen: false,
+    last: null,
+    heard: null,
     key: '',
   },
   say: wordsOf('en'),
@@ -53,7 +61,8 @@ let shown = '';
 export function showProblem(text, actions = [], kind = '') {
   shown = kind;
   setText($('problem').firstElementChild, text);
-  const buttons = actions.map(([word, onclick]) => made('button', { type: 'button', onclick, textContent: say(word) }));
+  const buttons = actions.map(
+    ([word, onclick]) => made('button', { type: 'button', onclick, textContent: say(word) }));
   $('problem').children[1].replaceChildren(...buttons);
   $('problem').hidden = false;
 }
@@ -68,7 +77,8 @@ export function hideProblem(kind = null) {
 export function whyOf(error) {
   if (error.name !== 'Refused') return say('failed', { why: error.message });
   const { number } = error;
-  return app.say.has(`refused${number}`) ? say(`refused${number}`) : say('refused', { why: error.message });
+  return app.say.has(`refused${number}`) ? say(`refused${number}`) :
+                                           say('refused', { why: error.message });
 }
 
 /** Runs what may be refused, and says so. Returns whether it was done. */

@@ -23,8 +23,9 @@ export class Clock {
   }
 
   /**
-   * How many milliseconds the device's clock is ahead of the server's; 0 where it is not known to differ by minutes.
-   * What was learned before a reload holds as long as nobody can have put the clock right since.
+   * How many milliseconds the device's clock is ahead of the server's; 0 where it is not known to
+   * differ by minutes. What was learned before a reload holds as long as nobody can have put the
+   * clock right since.
    */
   difference() {
     if (!this.heard) return 0;

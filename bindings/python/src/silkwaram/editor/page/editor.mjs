@@ -1,4 +1,5 @@
-// The page: one site, which is kept in this browser after each edit, and exchanged when there is a network.
+// The page: one site, which is kept in this browser after each edit, and exchanged when there is a
+// network.
 import { load } from './silkwaram.mjs';
 import {
   $, app, hideProblem, languageName, made, notice, say, setText, showProblem, tried, whyOf,
@@ -43,8 +44,9 @@ function useWork(work, isKept = false) {
   const waits = new Map();
   work.onDraft = (key, draft) => {
     clearTimeout(waits.get(key));
-    if (draft) waits.set(key, setTimeout(() => app.keeper.draft(key, work.draftAt(...JSON.parse(key))), PAUSE));
-    else app.keeper.draft(key, null);
+    const keep = () => app.keeper.draft(key, work.draftAt(...JSON.parse(key)));
+    if (draft) waits.set(key, setTimeout(keep, PAUSE));
+    else keep();
   };
   showWork();
   if (!isKept) app.keeper.all();
@@ -138,7 +140,8 @@ function listen() {
     event.preventDefault();
     tried(() => useSite(app.sw.Site.new(event.target.elements.name.value)));
   };
-  for (const button of [$('open-new'), $('none').lastElementChild]) button.onclick = () => askNewMessage(addMessage);
+  for (const button of [$('open-new'), $('none').lastElementChild])
+    button.onclick = () => askNewMessage(addMessage);
   $('open-reader').onclick = () => openReader(() => app.keeper.state(app.state));
   $('open-keys').onclick = openKeys;
   $('undo').onclick = undo;
@@ -159,7 +162,8 @@ function listen() {
   document.onkeydown = onKey;
   addEventListener('beforeunload', (event) => {
     const { keeper, work } = app;
-    const isLost = keeper.store ? keeper.isBusy || keeper.failure : keeper.isUnsaved || (work?.typing() ?? 0) > 0;
+    const isLost = keeper.store ? keeper.isBusy || keeper.failure :
+                                  keeper.isUnsaved || (work?.typing() ?? 0) > 0;
     if (work && isLost) event.preventDefault();
   });
   addEventListener('pagehide', keepDrafts);
@@ -235,9 +239,13 @@ async function openKeeper() {
 
 async function begin() {
   const pages = Object.keys(WORDS);
-  for (const tag of pages) $('page-language').append(made('option', { value: tag, lang: tag, textContent: WORDS[tag].own }));
+  for (const value of pages) {
+    const option = made('option', { value, lang: value, textContent: WORDS[value].own });
+    $('page-language').append(option);
+  }
   app.sw = await load();
-  const reader = app.sw.pick(navigator.languages.join(', '), pages, { default: pages[0], lenient: true });
+  const reader =
+    app.sw.pick(navigator.languages.join(', '), pages, { default: pages[0], lenient: true });
   app.state.page = reader ?? pages[0];
   fillWords();
   const kept = await openKeeper();

@@ -1,4 +1,5 @@
-// An exchange with the server, by the protocol that README.md states. Each step may be lost, or done twice.
+// An exchange with the server, by the protocol that README.md states. Each step may be lost, or
+// done twice.
 import { deltaOf, withoutLate } from './work.mjs';
 
 const MOST_WAIT = 30000;
@@ -6,8 +7,9 @@ const OTHER_SITE = 15;
 const HEADER = 'Silkwaram-Exchange';
 
 /**
- * Why there was no exchange. `kind`: `away`, no answer; `slow`, none in time; `key`, it asks for a key; `none`, nobody
- * exchanges at this address; `portal`, something else answered; `large`; `broken`, the server has a fault; `refused`.
+ * Why there was no exchange. `kind`: `away`, no answer; `slow`, none in time; `key`, it asks for a
+ * key; `none`, nobody exchanges at this address; `portal`, something else answered; `large`;
+ * `broken`, the server has a fault; `refused`.
  */
 export class Problem extends Error {
   constructor(kind, detail = '', cause = undefined) {
@@ -34,7 +36,9 @@ function problemOf(answer, text) {
   }
 }
 
-/** Asks the server. `key` is what it asks for of its users, or empty. Hears what time it is there. */
+/**
+ * Asks the server. `key` is what it asks for of its users, or empty. Hears what time it is there.
+ */
 async function ask(way, path, { method = 'GET', body, tag } = {}) {
   const headers = {};
   if (way.key) headers.Authorization = `Bearer ${way.key}`;
@@ -53,7 +57,8 @@ async function ask(way, path, { method = 'GET', body, tag } = {}) {
   if (answer.headers.get(HEADER) !== null) way.clock.hear(Date.parse(answer.headers.get('Date')));
   if (answer.status !== 304 && !answer.ok) throw problemOf(answer, text);
   const isJson = (answer.headers.get('Content-Type') ?? '').startsWith('application/json');
-  if (answer.headers.get(HEADER) === null || (answer.status !== 304 && !isJson)) throw new Problem('portal');
+  if (answer.headers.get(HEADER) === null || (answer.status !== 304 && !isJson))
+    throw new Problem('portal');
   return { status: answer.status, text, tag: answer.headers.get('ETag') };
 }
 
@@ -64,7 +69,8 @@ async function sendAll(way, work) {
   const rows = new Map(work.unsent);
   const { delta, cells, late } = withoutLate(work.site.deltaFor(text), work.clock.limit());
   if (cells.length > 0) await ask(way, 'delta', { method: 'POST', body: delta });
-  const gone = late === 0 ? work.wasSent(rows) : work.wasSent([...rows].filter(([key]) => work.sendable().has(key)));
+  const gone = late === 0 ? work.wasSent(rows) :
+                            work.wasSent([...rows].filter(([key]) => work.sendable().has(key)));
   return { sent: cells.length, gone, late };
 }
 
@@ -75,7 +81,8 @@ async function sendEdits(way, work) {
     const { status } = await ask(way, 'summary', { method: 'HEAD', tag: way.tag });
     return { sent: 0, gone: [], late: work.unsent.size, isAll: status === 304 };
   }
-  const { text } = await ask(way, 'delta', { method: 'POST', body: deltaOf([...rows.values()], way.owner) });
+  const { text } =
+    await ask(way, 'delta', { method: 'POST', body: deltaOf([...rows.values()], way.owner) });
   const { before, after } = JSON.parse(text);
   const isAll = before === way.tag;
   if (isAll) way.tag = after;
@@ -84,8 +91,9 @@ async function sendEdits(way, work) {
 }
 
 /**
- * Exchanges a site with the server. `way` has its key, what it was known to have (`tag`, `owner`), and the clock.
- * Answers how many cells were sent and received, which edits are sent, and how many were left out as too late.
+ * Exchanges a site with the server. `way` has its key, what it was known to have (`tag`, `owner`),
+ * and the clock. Answers how many cells were sent and received, which edits are sent, and how many
+ * were left out as too late.
  */
 export async function exchange(way, work) {
   let made;

@@ -16,7 +16,8 @@ let page;
 let timer = 0;
 let isWanted = false;
 
-// Says that the clock is wrong, before an edit is made; and takes that away where it is right again.
+// Says that the clock is wrong, before an edit is made; and takes that away where it is right
+// again.
 function sayClock() {
   const words = clockWords();
   if (words === null) hideProblem('clock');
@@ -63,6 +64,12 @@ async function enterKey() {
   exchangeNow(true);
 }
 
+// How long it is until the next exchange.
+function waitAfter(work) {
+  if (exchanged.problem !== null) return AGAIN;
+  return work.sendable().size > 0 ? AFTER_EDIT : EACH;
+}
+
 /** Exchanges now. `isAsked` where a person asked for it, who is told what came of it. */
 export async function exchangeNow(isAsked) {
   const { work } = app;
@@ -98,8 +105,7 @@ export async function exchangeNow(isAsked) {
     showState();
     const isAgain = isWanted;
     isWanted = false;
-    exchangeSoon(isAgain ? 0 : work.unsent.size > work.late() && exchanged.problem === null ? AFTER_EDIT :
-      exchanged.problem === null ? EACH : AGAIN);
+    exchangeSoon(isAgain ? 0 : waitAfter(work));
   }
 }
 
@@ -112,7 +118,10 @@ export function exchangeSoon(wait = AFTER_EDIT) {
   }, wait);
 }
 
-/** Has the page exchange by itself: at a return, where a network is back, and once a minute while it is seen. */
+/**
+ * Has the page exchange by itself: at a return, where a network is back, and once a minute while
+ * it is seen.
+ */
 export function beginExchanges(actions) {
   page = actions;
   $('exchange').onclick = () => exchangeNow(true);

@@ -1,6 +1,7 @@
 // Files that are saved and taken: sites, language maps, PO files; and a site that begins anew.
 import { $, app, ask, hideProblem, notice, say, setText, showProblem, whyOf } from './app.mjs';
 
+const PO = 'text/x-gettext-translation';
 const LARGEST = 64 * 1024 * 1024;
 
 export function save(name, content, type = 'application/json') {
@@ -43,11 +44,13 @@ async function openSite(bytes, page) {
   if (!app.work) return page.useSite(opened);
   let choice = 'takeIn';
   if (name !== app.work.name) {
-    choice = await ask(say('whatWithFile', { name, labels, own: app.work.name }), ['takeIn', 'goOnAs', 'close']);
+    choice = await ask(
+      say('whatWithFile', { name, labels, own: app.work.name }), ['takeIn', 'goOnAs', 'close']);
   }
   if (choice === 'goOnAs') {
     const count = app.work.unsent.size;
-    if (count === 0 || await ask(say('replace', { site: app.work.name, count }), ['close', 'goOnAs']) === 'goOnAs') {
+    const question = say('replace', { site: app.work.name, count });
+    if (count === 0 || (await ask(question, ['close', 'goOnAs'])) === 'goOnAs') {
       return page.useSite(opened);
     }
   }
@@ -55,7 +58,8 @@ async function openSite(bytes, page) {
     const { received, late } = app.work.join(opened);
     page.joined();
     $('files-dialog').close();
-    notice([say('taken', { received }), late > 0 ? say('lateOfOthers', { count: late }) : ''].join(' '));
+    notice(
+      [say('taken', { received }), late > 0 ? say('lateOfOthers', { count: late }) : ''].join(' '));
   }
   opened.close();
   return undefined;
@@ -67,7 +71,8 @@ function takeMaps(bytes, page) {
   const { work } = app;
   const trial = app.sw.Site.open(work.site.toBytes());
   trial.importMaps(text, { now: app.clock.now() });
-  const isOther = ({ before, after }) => JSON.stringify(before?.texts) !== JSON.stringify(after?.texts);
+  const isOther = ({ before, after }) =>
+    JSON.stringify(before?.texts) !== JSON.stringify(after?.texts);
   const changed = work.site.changes(trial).filter(isOther);
   trial.close();
   work.importLabels(changed.map(({ id, language, after }) => [id, language, after.texts]));
@@ -85,7 +90,8 @@ async function askPo(how) {
   const headers = app.state.key ? { Authorization: `Bearer ${app.state.key}` } : {};
   let answer;
   try {
-    answer = await fetch(poAddress(), { cache: 'no-store', ...how, headers: { ...headers, ...how.headers } });
+    Object.assign(headers, how.headers);
+    answer = await fetch(poAddress(), { cache: 'no-store', ...how, headers });
   } catch {
     throw new Error(say('is_away'));
   }
@@ -97,14 +103,15 @@ async function askPo(how) {
 
 async function savePo(page) {
   await page.exchangeNow(false);
-  save(`${app.state.language}.po`, await askPo({}), 'text/x-gettext-translation');
+  save(`${app.state.language}.po`, await askPo({}), PO);
 }
 
 async function takePo(bytes, page) {
-  const told = JSON.parse(await askPo({ method: 'POST', headers: { 'Content-Type': 'text/x-gettext-translation' }, body: bytes }));
+  const headers = { 'Content-Type': PO };
+  const { misfits } = JSON.parse(await askPo({ method: 'POST', headers, body: bytes }));
   await page.exchangeNow(false);
   $('files-dialog').close();
-  notice([say('poTaken'), ...told.misfits].join(' '));
+  notice([say('poTaken'), ...misfits].join(' '));
 }
 
 /** A name for a site that begins anew: anna-2 of anna, anna-3 of that. */
@@ -134,13 +141,17 @@ function beginAnew(page) {
   }
 }
 
-/** Has the buttons and fields of files do what they say. `page` is what the page does with a site. */
+/**
+ * Has the buttons and fields of files do what they say. `page` is what the page does with a site.
+ */
 export function beginFiles(page) {
   $('open-files').onclick = openFiles;
   $('save-site').onclick = saveSite;
-  $('save-maps').onclick = () => save(`${app.work.name}-labels.json`, JSON.stringify(app.work.site.export(), null, 1));
+  $('save-maps').onclick = () =>
+    save(`${app.work.name}-labels.json`, JSON.stringify(app.work.site.export(), null, 1));
   $('begin-anew').onclick = () => beginAnew(page);
-  for (const input of document.querySelectorAll('.open-site')) onFile(input, (bytes) => openSite(bytes, page));
+  for (const input of document.querySelectorAll('.open-site'))
+    onFile(input, (bytes) => openSite(bytes, page));
   onFile($('take-maps'), (bytes) => takeMaps(bytes, page));
   onFile($('take-po'), (bytes) => takePo(bytes, page));
   $('save-po').onclick = () => savePo(page).catch((error) => showProblem(whyOf(error)));

@@ -1,6 +1,9 @@
-// The labels of a site, by message and language, as a page asks for them. An id is any text, so all is kept in maps.
+// The labels of a site, by message and language, as a page asks for them. An id is any text, so all
+// is kept in maps.
 
-/** Where notes of messages are: `x-note`, and `x-note-fr` for those of the translators into French. */
+/**
+ * Where notes of messages are: `x-note`, and `x-note-fr` for those of the translators into French.
+ */
 export const NOTES = 'x-note';
 const BESIDE = /^x-(note|flags)(-|$)/;
 
@@ -67,7 +70,9 @@ export class Labels {
 
   /** The languages of the site that are translated, with how many messages have a label of each. */
   languages() {
-    return [...this.#counts].filter(([tag, count]) => count > 0 && isTranslated(tag)).sort(([a], [b]) => (a < b ? -1 : 1));
+    return [...this.#counts]
+      .filter(([tag, count]) => count > 0 && isTranslated(tag))
+      .sort(([a], [b]) => (a < b ? -1 : 1));
   }
 
   countOf(language) {
@@ -86,16 +91,22 @@ export class Labels {
 
   /** The notes of a message for the translators into a language. */
   notesOf(id, language) {
-    return [NOTES, `${NOTES}-${language.replace(/^@/, '')}`].flatMap((tag) => this.textsOf(id, tag)).filter(Boolean);
+    return [NOTES, `${NOTES}-${language.replace(/^@/, '')}`]
+      .flatMap((tag) => this.textsOf(id, tag))
+      .filter(Boolean);
   }
 
   /** The language of a message that is shown where it has none of the source: the first one. */
   firstOf(id) {
     const cells = this.#messages.get(id)?.cells ?? new Map();
-    return [...cells].filter(([tag, it]) => it.texts && isTranslated(tag)).map(([tag]) => tag).sort()[0] ?? null;
+    const tags = [...cells].filter(([tag, it]) => it.texts && isTranslated(tag));
+    return tags.map(([tag]) => tag).sort()[0] ?? null;
   }
 
-  /** How many messages there are, lack a text of a language, and have one that is older than its source. */
+  /**
+   * How many messages there are, lack a text of a language, and have one that is older than its
+   * source.
+   */
   progress(language, source) {
     let outdated = 0;
     const ids = this.ids();

@@ -1,11 +1,14 @@
 // How languages are called and written, and which one a name or a tag means.
 
-// Languages that are written from right to left, where nothing of a tag says otherwise, and such scripts.
-const FROM_RIGHT = new Set('ar arc ckb dv fa ha-arab he ks ku-arab nqo ps sd syr ug ur uz-arab yi'.split(' '));
+// Languages that are written from right to left, where nothing of a tag says otherwise, and such
+// scripts.
+const FROM_RIGHT =
+  new Set('ar arc ckb dv fa ha-arab he ks ku-arab nqo ps sd syr ug ur uz-arab yi'.split(' '));
 const SCRIPTS_FROM_RIGHT = new Set('adlm arab hebr nkoo rohg syrc thaa'.split(' '));
 // Languages with three letters, and with regions and scripts, which names are looked for among.
-const MORE = 'ckb fil gsw haw hsb dsb kab nds sco nqo ceb en-gb en-us es-419 es-mx fr-ca pt-br pt-pt zh-hans zh-hant ' +
-  'de-at de-ch sr-latn sr-cyrl uz-latn az-latn';
+const MORE =
+  'ckb fil gsw haw hsb dsb kab nds sco nqo ceb en-gb en-us es-419 es-mx fr-ca pt-br pt-pt ' +
+  'zh-hans zh-hant de-at de-ch sr-latn sr-cyrl uz-latn az-latn';
 const LETTERS = [...'abcdefghijklmnopqrstuvwxyz'];
 
 /** `ltr` or `rtl`, or `auto` for text in no language. */
@@ -46,7 +49,10 @@ export function attributeOf(tag) {
 
 /** A language without its region, which most readers of it ask for: `en` of `en-US`. */
 export function withoutRegion(tag) {
-  return tag.toLowerCase().split('-').filter((it, at) => at === 0 || /^[a-z]{4}$/.test(it)).join('-');
+  return tag.toLowerCase()
+    .split('-')
+    .filter((it, at) => at === 0 || /^[a-z]{4}$/.test(it))
+    .join('-');
 }
 
 let tagsByName;
@@ -55,18 +61,24 @@ function plain(name) {
   return name.trim().toLocaleLowerCase().normalize('NFC');
 }
 
-/** The tag that somebody means who typed a name, in their language, in English or in its own, or a tag; or null. */
+/**
+ * The tag that somebody means who typed a name, in their language, in English or in its own, or a
+ * tag; or null.
+ */
 export function tagMeant(typed, within) {
   const wanted = plain(typed);
   tagsByName ??= new Map();
   if (!tagsByName.has(within)) {
     const names = new Map();
-    const tags = [...LETTERS.flatMap((one) => LETTERS.map((other) => one + other)), ...MORE.split(' ')];
+    const tags =
+      [...LETTERS.flatMap((one) => LETTERS.map((other) => one + other)), ...MORE.split(' ')];
     for (const tag of tags) {
       for (const language of [tag, 'en', within]) {
         let name = null;
         try {
-          name = Intl.DisplayNames.supportedLocalesOf([language]).length > 0 ? knownName(tag, language) : null;
+          name = Intl.DisplayNames.supportedLocalesOf([language]).length > 0 ?
+            knownName(tag, language) :
+            null;
         } catch {
           // (no such language)
         }

@@ -1,10 +1,17 @@
-// The service worker: it keeps the files of the page under one version, so that it opens without a network, and at once
-// with one that is half there. The server writes the version and the names. Exchanges pass by it.
+// The service worker: it keeps the files of the page under one version, so that it opens without a
+// network, and at once with one that is half there. The server writes the version and the names.
+// Exchanges pass by it.
 const VERSION = '@VERSION@';
 const FILES = '@FILES@'.split(' ');
 const CACHE = `silkwaram-editor-${VERSION}`;
 const KEPT = new Set(FILES.map((file) => new URL(file, self.location).href));
-const TYPES = { '': 'text/html', css: 'text/css', mjs: 'text/javascript', svg: 'image/svg+xml', wasm: 'application/wasm' };
+const TYPES = {
+  '': 'text/html',
+  css: 'text/css',
+  mjs: 'text/javascript',
+  svg: 'image/svg+xml',
+  wasm: 'application/wasm'
+};
 
 function typeOf(url) {
   const name = new URL(url).pathname.split('/').at(-1);
@@ -13,9 +20,11 @@ function typeOf(url) {
 
 // A file as the server has it, and no page of a network that asks for a login.
 async function fetched(url) {
-  const answer = await fetch(url, { cache: 'no-cache', redirect: 'error', credentials: 'same-origin' });
+  const answer =
+    await fetch(url, { cache: 'no-cache', redirect: 'error', credentials: 'same-origin' });
   const kind = answer.headers.get('Content-Type') ?? '';
-  if (!answer.ok || answer.type !== 'basic' || !kind.startsWith(typeOf(url))) throw new Error(`not a file of the page: ${url}`);
+  if (!answer.ok || answer.type !== 'basic' || !kind.startsWith(typeOf(url)))
+    throw new Error(`not a file of the page: ${url}`);
   return answer;
 }
 

@@ -2,7 +2,9 @@
 
 const KINDS = [
   /\{\{?\s*[\w.$-]{1,60}\s*(?:,[^{}]{0,200})?\}\}?/g,
-  /%(?:\([\w.]{1,60}\)|\{[\w.]{1,60}\}|\d{1,2}\$)?[-+#0]{0,4}\d{0,3}(?:\.\d{1,3})?(?:hh?|ll?|[Lqjzt])?[diouxXeEfFgGcrsp@]/g,
+  new RegExp(
+    '%(?:\\([\\w.]{1,60}\\)|\\{[\\w.]{1,60}\\}|\\d{1,2}\\$)?[-+#0]{0,4}\\d{0,3}(?:\\.\\d{1,3})?' +
+      '(?:hh?|ll?|[Lqjzt])?[diouxXeEfFgGcrsp@]', 'g'),
   /<\/?[A-Za-z][\w-]{0,40}(?:\s[^<>]{0,300})?\/?>/g,
 ];
 
@@ -24,6 +26,9 @@ export function placeholdersIn(text) {
 /** The placeholders that a translation lacks, and those that it has beyond its source. */
 export function differences(source, translation) {
   const [wanted, found] = [placeholdersIn(source), placeholdersIn(translation)];
-  const beyond = (one, other) => [...one].filter(([it, count]) => count > (other.get(it) ?? 0)).map(([it]) => it);
+  const beyond = (one, other) => {
+    const more = [...one].filter(([it, count]) => count > (other.get(it) ?? 0));
+    return more.map(([it]) => it);
+  };
   return { lacks: beyond(wanted, found), hasBeside: beyond(found, wanted) };
 }

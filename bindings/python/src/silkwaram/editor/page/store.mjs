@@ -1,5 +1,5 @@
-// What the browser keeps of the site, in IndexedDB: its document, the edits since that was written, those that are to
-// be sent, what is being typed, and the state of the page.
+// What the browser keeps of the site, in IndexedDB: its document, the edits since that was written,
+// those that are to be sent, what is being typed, and the state of the page.
 
 const NAME = 'silkwaram-labels';
 const LOCK = 'silkwaram-labels';
@@ -19,7 +19,8 @@ export async function openStore() {
   const opening = indexedDB.open(NAME, 2);
   opening.onupgradeneeded = () => {
     const { objectStoreNames } = opening.result;
-    for (const it of STORES) if (!objectStoreNames.contains(it)) opening.result.createObjectStore(it);
+    for (const it of STORES)
+      if (!objectStoreNames.contains(it)) opening.result.createObjectStore(it);
   };
   return new Store(await done(opening));
 }
@@ -30,7 +31,10 @@ class Store {
     database.onversionchange = () => database.close();
   }
 
-  /** All that is kept: the document and the state, or undefined, and the entries of the other stores. */
+  /**
+   * All that is kept: the document and the state, or undefined, and the entries of the other
+   * stores.
+   */
   async read() {
     const reading = this.database.transaction(STORES);
     const entries = async (name) => {
@@ -40,7 +44,11 @@ class Store {
     };
     const kept = reading.objectStore('kept');
     const [site, state, edits, unsent, drafts] = await Promise.all([
-      done(kept.get('site')), done(kept.get('state')), entries('edits'), entries('unsent'), entries('drafts'),
+      done(kept.get('site')),
+      done(kept.get('state')),
+      entries('edits'),
+      entries('unsent'),
+      entries('drafts'),
     ]);
     return { site, state, edits, unsent, drafts };
   }
@@ -58,7 +66,10 @@ class Store {
   }
 }
 
-/** Keeps the work of a page, and knows whether all is kept. Without a store it keeps nothing, and says so. */
+/**
+ * Keeps the work of a page, and knows whether all is kept. Without a store it keeps nothing, and
+ * says so.
+ */
 export class Keeper {
   /** What is called where that changes. */
   onChange = () => {};
@@ -106,7 +117,8 @@ export class Keeper {
 
   /** Keeps what is typed in a field, or forgets it. */
   draft(key, draft) {
-    return this.#write((store) => (draft ? store('drafts').put({ ...draft }, key) : store('drafts').delete(key)));
+    return this.#write(
+      (store) => (draft ? store('drafts').put({ ...draft }, key) : store('drafts').delete(key)));
   }
 
   /** Forgets that edits were to be sent. */
@@ -136,8 +148,9 @@ export class Keeper {
 }
 
 /**
- * Waits until this is the only tab that has the site: two that edit one would make different labels under one stamp.
- * `waiting` is called where another tab has it. Answers false where the browser has no locks.
+ * Waits until this is the only tab that has the site: two that edit one would make different labels
+ * under one stamp. `waiting` is called where another tab has it. Answers false where the browser
+ * has no locks.
  */
 export async function beOnlyTab(waiting) {
   if (!navigator.locks) return false;

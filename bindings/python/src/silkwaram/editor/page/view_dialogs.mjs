@@ -1,9 +1,12 @@
-// The dialogs: a new message, another language, what a reader gets, the keys, and the key of the server.
+// The dialogs: a new message, another language, what a reader gets, the keys, and the key of the
+// server.
 import { $, app, languageName, made, say, setText, whyOf } from './app.mjs';
 import { attributeOf, directionOf, knownName, tagMeant } from './languages.mjs';
 import { list } from './view_list.mjs';
 
-/** Has a form's dialog do something before it closes; what it answers keeps it open, and is shown. */
+/**
+ * Has a form's dialog do something before it closes; what it answers keeps it open, and is shown.
+ */
 function onDialog(dialog, run) {
   const form = dialog.querySelector('form');
   form.onsubmit = (event) => {
@@ -92,9 +95,12 @@ export function askLanguage() {
 
 function readerRow(id, label) {
   const name = made('dt', { textContent: id, dir: 'auto' });
-  if (label === null) return [name, made('dd', { textContent: say('getsNothing'), className: 'hint' })];
+  if (label === null)
+    return [name, made('dd', { textContent: say('getsNothing'), className: 'hint' })];
   const { language, texts } = label;
-  const shown = made('span', { lang: attributeOf(language), dir: directionOf(language), textContent: texts.join('\n') });
+  const shown = made(
+    'span',
+    { lang: attributeOf(language), dir: directionOf(language), textContent: texts.join('\n') });
   return [name, made('dd', {}, shown, made('small', { textContent: languageName(language) }))];
 }
 
@@ -125,14 +131,17 @@ function showReader() {
   if (without > 0) found.push(say('nameAndCount', { name: say('getsNothing'), count: without }));
   setText($('reader-counts'), found.join(', '));
   const ids = list.last && work.labels.has(list.last) ? [list.last] : list.ids.slice(0, 5);
-  $('reader').replaceChildren(...ids.flatMap((id) => readerRow(id, work.site.lookup(id, field, options))));
+  $('reader').replaceChildren(
+    ...ids.flatMap((id) => readerRow(id, work.site.lookup(id, field, options))));
 }
 
 /** Shows what a reader gets: how many messages in which language, and that which was worked at. */
 export function openReader(onChange) {
   const { state, work } = app;
   const tags = work.labels.languages().map(([tag]) => tag);
-  $('reader-otherwise').replaceChildren(...tags.map((value) => made('option', { value, textContent: languageName(value) })));
+  $('reader-otherwise')
+    .replaceChildren(
+      ...tags.map((value) => made('option', { value, textContent: languageName(value) })));
   $('reader-field').value = state.field;
   $('reader-otherwise').value = state.otherwise;
   $('reader-widen').checked = state.widen;
@@ -151,11 +160,15 @@ export function openReader(onChange) {
 
 // ---- Keys
 
-const KEYS = ['Enter', 'Shift+Enter', 'Escape', 'Ctrl+Enter', 'Alt+C', 'Alt+Delete', 'Alt+N', 'Ctrl+Z', '/', '?'];
+const KEYS = [
+  'Enter', 'Shift+Enter', 'Escape', 'Ctrl+Enter', 'Alt+C', 'Alt+Delete', 'Alt+N', 'Ctrl+Z', '/', '?'
+];
 
 export function openKeys() {
-  const rows = KEYS.flatMap((key, at) => [
-    made('dt', {}, made('kbd', { textContent: key, dir: 'ltr' })), made('dd', { textContent: say(`key${at}`) }),
+  const rows = KEYS.flatMap(
+    (key, at) =>
+      [made('dt', {}, made('kbd', { textContent: key, dir: 'ltr' })),
+       made('dd', {textContent: say(`key${at}`)}),
   ]);
   $('keys').replaceChildren(...rows);
   $('keys-dialog').showModal();

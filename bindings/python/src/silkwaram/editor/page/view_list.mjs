@@ -1,5 +1,5 @@
-// The list of messages. Only the rows near the window are in the page, between two spaces that are as
-// high as the rows before and after them.
+// The list of messages. Only the rows near the window are in the page, between two spaces that are
+// as high as the rows before and after them.
 import { $, app, say, setText } from './app.mjs';
 import { fitHeights, makeRow, updateRow } from './view_row.mjs';
 
@@ -170,7 +170,8 @@ export function goFrom(row, text, step) {
   }
   const id = list.ids[places.get(row.label) + step];
   if (id === undefined) return false;
-  return goTo(id, step > 0 ? 0 : Math.max(0, (rowOf(id)?.querySelectorAll('textarea').length ?? 1) - 1));
+  return goTo(
+    id, step > 0 ? 0 : Math.max(0, (rowOf(id)?.querySelectorAll('textarea').length ?? 1) - 1));
 }
 
 /** What is said where no message is listed. */

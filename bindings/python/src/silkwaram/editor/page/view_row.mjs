@@ -6,7 +6,10 @@ import { differences } from './placeholders.mjs';
 const hasSizing = CSS.supports('field-sizing', 'content');
 let numbers = 0;
 
-/** Has fields as high as their texts. All are measured at once, as each height lays out the page anew. */
+/**
+ * Has fields as high as their texts. All are measured at once, as each height lays out the page
+ * anew.
+ */
 export function fitHeights(texts) {
   if (hasSizing) return;
   const all = [...texts];
@@ -27,23 +30,32 @@ function sourceOf(id) {
 }
 
 function actionOf(word, run, keys) {
-  const button = made('button', { type: 'button', textContent: say(word), tabIndex: -1, onclick: run, className: word });
+  const button = made(
+    'button',
+    { type: 'button', textContent: say(word), tabIndex: -1, onclick: run, className: word });
   button.setAttribute('aria-keyshortcuts', keys);
   return button;
 }
 
-/** A row for a message. `does` is what a row is for: commit, type, key, confirm, copy and remove. */
+/**
+ * A row for a message. `does` is what a row is for: commit, type, key, confirm, copy and remove.
+ */
 export function makeRow(id, does) {
   const number = (numbers += 1);
   const row = made('li', { className: 'row' });
   row.label = id;
-  const name = made('h3', {}, made('bdi', { textContent: id }), ' ', made('span', { className: 'mark', id: `mark-${number}` }));
+  const name = made(
+    'h3', {}, made('bdi', { textContent: id }), ' ',
+    made('span', {className: 'mark', id: `mark-${number}`}));
   row.append(
-    made('div', { className: 'about' }, name, made('p', { className: 'source', id: `source-${number}` }),
-      made('p', { className: 'note', id: `note-${number}` })),
-    made('div', { className: 'translation' }, made('div', { className: 'texts' }),
-      made('p', { className: 'warning', id: `warning-${number}` }),
-      made('div', { className: 'row-actions' }, made('small', { className: 'who' }),
+    made(
+      'div', { className: 'about' }, name, made('p', {className: 'source', id: `source-${number}`}),
+      made('p', {className: 'note', id: `note-${number}`})),
+    made(
+      'div', { className: 'translation' }, made('div', { className: 'texts' }),
+      made('p', {className: 'warning', id: `warning-${number}`}),
+      made(
+        'div', { className: 'row-actions' }, made('small', { className: 'who' }),
         actionOf('stillRight', () => does.confirm(row), 'Control+Enter'),
         actionOf('copySource', () => does.copy(row), 'Alt+C'),
         actionOf('remove', () => does.remove(row), 'Alt+Delete'))),
@@ -58,7 +70,9 @@ function makeText(row, place) {
   const { does, number } = row;
   const text = made('textarea', { rows: 1, spellcheck: true });
   text.place = place;
-  text.setAttribute('aria-describedby', ['source', 'mark', 'note', 'warning', 'other'].map((it) => `${it}-${number}`).join(' '));
+  text.setAttribute(
+    'aria-describedby',
+    ['source', 'mark', 'note', 'warning', 'other'].map((it) => `${it}-${number}`).join(' '));
   text.oninput = () => does.type(row, text);
   text.onchange = () => does.leave(row);
   text.onkeydown = (event) => does.key(event, row, text);
@@ -88,10 +102,13 @@ function showOther(row, text) {
   }
   const cell = app.work.labels.cellOf(row.label, language);
   const who = cell?.site ?? '';
-  const content = made('bdi', { textContent: other || say('nothing'), lang: attributeOf(language) });
+  const textContent = other || say('nothing');
+  const content = made('bdi', { textContent, lang: attributeOf(language) });
   if (line.title === `${who} ${other}`) return;
   line.title = `${who} ${other}`;
-  line.replaceChildren(made('b', { textContent: say('otherText', { who }) }), content, made('small', { textContent: say('otherHint') }));
+  line.replaceChildren(
+    made('b', {textContent: say('otherText', { who })}), content,
+    made('small', { textContent: say('otherHint') }));
 }
 
 function placeholderWarning(id, place) {
@@ -129,11 +146,13 @@ export function updateMarks(row) {
   setText(row.querySelector('.warning'), warnings.join(' '));
   for (const text of texts) showOther(row, text);
   const cell = labels.cellOf(id, language);
-  const who = cell ? say(cell.texts ? 'by' : 'removedBy', { who: cell.site, when: whenOf(cell.time) }) : '';
+  const who =
+    cell ? say(cell.texts ? 'by' : 'removedBy', { who: cell.site, when: whenOf(cell.time) }) : '';
   setText(row.querySelector('.who'), who);
   const beside = labels.textsOf(id, sourceOf(id));
   row.querySelector('.stillRight').hidden = kind !== 'isOutdated';
-  row.querySelector('.copySource').hidden = !labels.isMissing(id, language) || isTyped || beside.length === 0;
+  row.querySelector('.copySource').hidden =
+    !labels.isMissing(id, language) || isTyped || beside.length === 0;
   row.querySelector('.remove').hidden = !cell?.texts;
 }
 
@@ -176,7 +195,8 @@ export function updateRow(row) {
   setText(row.querySelector('.note'), note);
   updateMarks(row);
   for (const it of row.querySelectorAll('.row-actions button')) {
-    it.setAttribute('aria-label', say(`${it.className}Of`, { id, language: languageName(language) }));
+    const known = { id, language: languageName(language) };
+    it.setAttribute('aria-label', say(`${it.className}Of`, known));
   }
 }
 
@@ -189,7 +209,8 @@ function showSource(row, language, beside) {
   source.dir = directionOf(has ? language : app.state.page);
   source.classList.toggle('hint', !has);
   const isOther = has && language !== app.state.source;
-  const text = has ? beside.join('\n') : say('noSource', { language: languageName(app.state.source) });
+  const text =
+    has ? beside.join('\n') : say('noSource', { language: languageName(app.state.source) });
   setText(source, isOther ? `${text} (${languageName(language)})` : text);
 }
 

@@ -5,7 +5,9 @@ import { MOST_DIFFERENCE } from './clock.mjs';
 const ANOTHER = '..';
 const KINDS = ['all', 'missing', 'outdated', 'came', 'typed'];
 
-/** What the last exchange came to: `isRunning`, the kind of its problem or null, and what was late. */
+/**
+ * What the last exchange came to: `isRunning`, the kind of its problem or null, and what was late.
+ */
 export const exchanged = { isRunning: false, problem: null, late: 0, lateOfOthers: 0 };
 
 function keptLine() {
@@ -20,7 +22,8 @@ function exchangedLine() {
   const { last } = app.state;
   if (exchanged.isRunning) return say('exchanging');
   const count = app.work.unsent.size;
-  const format = new Intl.DateTimeFormat(app.state.page, { dateStyle: 'medium', timeStyle: 'short' });
+  const how = { dateStyle: 'medium', timeStyle: 'short' };
+  const format = new Intl.DateTimeFormat(app.state.page, how);
   const parts = [
     exchanged.problem ? say(`is_${exchanged.problem}`) : '',
     count > 0 ? say('unsent', { count }) : '',
@@ -48,7 +51,8 @@ export function clockWords() {
   const minutes = Math.round(Math.abs(ahead) / 60000);
   const [count, unit] = minutes < 120 ? [minutes, 'minute'] : minutes < 2880 ?
     [Math.round(minutes / 60), 'hour'] : [Math.round(minutes / 1440), 'day'];
-  const format = new Intl.NumberFormat(app.state.page, { style: 'unit', unit, unitDisplay: 'long' });
+  const how = { style: 'unit', unit, unitDisplay: 'long' };
+  const format = new Intl.NumberFormat(app.state.page, how);
   return say(ahead > 0 ? 'clockAhead' : 'clockBehind', { much: format.format(count) });
 }
 
@@ -57,8 +61,10 @@ export function idsOf(kind) {
   const { labels } = work;
   const ids = labels.ids();
   if (kind === 'missing') return ids.filter((id) => labels.isMissing(id, state.language));
-  if (kind === 'outdated') return ids.filter((id) => labels.isOutdated(id, state.language, state.source));
-  if (kind === 'came') return [...new Set(work.came.map(({ id }) => id))].filter((id) => labels.has(id));
+  if (kind === 'outdated')
+    return ids.filter((id) => labels.isOutdated(id, state.language, state.source));
+  if (kind === 'came')
+    return [...new Set(work.came.map(({ id }) => id))].filter((id) => labels.has(id));
   if (kind === 'typed') return ids.filter((id) => work.isTyping(id, state.language));
   return ids;
 }
@@ -76,7 +82,8 @@ export function showCounts() {
   const { work, state } = app;
   const format = new Intl.NumberFormat(state.page);
   const { all, missing, outdated, done } = work.labels.progress(state.language, state.source);
-  const typed = [...work.drafts.keys()].filter((key) => JSON.parse(key)[1] === state.language).length;
+  const typed =
+    [...work.drafts.keys()].filter((key) => JSON.parse(key)[1] === state.language).length;
   const counts = { all, missing, outdated, came: idsOf('came').length, typed };
   for (const kind of KINDS) {
     const input = document.querySelector(`#shown input[value=${kind}]`);
@@ -88,7 +95,8 @@ export function showCounts() {
   const bar = $('progress').querySelector('progress');
   bar.max = Math.max(1, all);
   bar.value = done;
-  setText($('progress-text'), say('progress', { done: format.format(done), all: format.format(all) }));
+  setText(
+    $('progress-text'), say('progress', { done: format.format(done), all: format.format(all) }));
   showDone();
 }
 
@@ -104,7 +112,8 @@ function optionsOf(chosen, isWithCounts) {
   const format = new Intl.NumberFormat(app.state.page);
   return named.map(([value, name]) => {
     const done = format.format(labels.countOf(value));
-    const textContent = isWithCounts ? say('languageOf', { name, done, all: format.format(all) }) : name;
+    const textContent =
+      isWithCounts ? say('languageOf', { name, done, all: format.format(all) }) : name;
     return made('option', { value, textContent });
   });
 }
@@ -130,7 +139,8 @@ function showDone() {
   for (const option of $('language').options) {
     if (option.value === ANOTHER) continue;
     const name = languageName(option.value);
-    setText(option, say('languageOf', { name, done: format.format(labels.countOf(option.value)), all }));
+    setText(
+      option, say('languageOf', { name, done: format.format(labels.countOf(option.value)), all }));
   }
 }
 

@@ -15,7 +15,8 @@ export function wordsOf(language) {
   const [before, after] = directionOf(language) === 'rtl' ? ['\u2068', '\u2069'] : ['', ''];
   const say = (name, known = {}) => {
     const text = words[name] ?? en[name] ?? name;
-    return text.replace(/\{(\w+)\}/g, (all, it) => (Object.hasOwn(known, it) ? before + known[it] + after : all));
+    return text.replace(
+      /\{(\w+)\}/g, (all, it) => (Object.hasOwn(known, it) ? before + known[it] + after : all));
   };
   return Object.assign(say, { has: (name) => Object.hasOwn(words, name) });
 }

@@ -1,5 +1,5 @@
-// One site and the work at it: edits, what is being typed, what was undone, what came, and what is to be sent. It knows
-// no document, so it is tried without a browser.
+// One site and the work at it: edits, what is being typed, what was undone, what came, and what is
+// to be sent. It knows no document, so it is tried without a browser.
 import { Labels, isSame } from './labels.mjs';
 
 const MOST_UNDONE = 100;
@@ -15,15 +15,18 @@ function asTyped(text) {
 }
 
 function inOrder(one, other) {
-  const [a, b] = [one, other].map(([id, language]) => new TextEncoder().encode(`${id}\0${language}`));
+  const [a, b] =
+    [one, other].map(([id, language]) => new TextEncoder().encode(`${id}\0${language}`));
   const at = a.findIndex((byte, place) => byte !== b[place]);
   return at < 0 ? a.length - b.length : a[at] - (b[at] ?? -1);
 }
 
 /** The delta for a site of cells, each as text. */
 export function deltaOf(rows, to) {
-  const cells = rows.map((row) => [JSON.parse(row), row]).sort(([one], [other]) => inOrder(one, other));
-  return `{"cells":[${cells.map(([, row]) => row).join(',')}],"kind":"delta","to":${JSON.stringify(to)},"version":2}\n`;
+  const cells =
+    rows.map((row) => [JSON.parse(row), row]).sort(([one], [other]) => inOrder(one, other));
+  return `{"cells":[${cells.map(([, row]) => row).join(',')}],"kind":"delta","to":${
+    JSON.stringify(to)},"version":2}\n`;
 }
 
 /** A delta without the cells of a later time than a limit, and how many these are. */
@@ -63,7 +66,10 @@ export class Work {
 
   // ---- Edits
 
-  /** Gives a message these texts in a language; none, or empty ones alone, delete the label. Whether it is an edit. */
+  /**
+   * Gives a message these texts in a language; none, or empty ones alone, delete the label.
+   * Whether it is an edit.
+   */
   setTexts(id, language, texts, { isUndone = false } = {}) {
     const before = this.labels.textsOf(id, language);
     const after = texts.every((text) => text === '') ? [] : texts;
@@ -84,10 +90,13 @@ export class Work {
     const options = { now: this.clock.now() };
     if (texts.length === 0) this.site.delete(id, language, options);
     else if (texts.length === 1) this.site.put(id, language, texts[0], options);
-    else this.site.importMaps(`{${JSON.stringify(id)}:{${JSON.stringify(language)}:${JSON.stringify(texts)}}}`, options);
+    else
+      this.site.importMaps(
+        `{${JSON.stringify(id)}:{${JSON.stringify(language)}:${JSON.stringify(texts)}}}`, options);
     const { time, site, count } = this.site.status().last;
     const label = texts.length === 0 ? null : texts;
-    const row = `[${JSON.stringify(id)},${JSON.stringify(language)},${time},${JSON.stringify(site)},${count},` +
+    const row = `[${JSON.stringify(id)},${JSON.stringify(language)},${time},${
+                  JSON.stringify(site)},${count},` +
       `${JSON.stringify(label)}]`;
     this.labels.set(JSON.parse(row));
     const key = keyOf(id, language);
@@ -95,13 +104,17 @@ export class Work {
     this.onEdit(key, row);
   }
 
-  /** Puts many labels at once, each a message, a language and its texts. They are sent by a full exchange. */
+  /**
+   * Puts many labels at once, each a message, a language and its texts. They are sent by a full
+   * exchange.
+   */
   importLabels(labels) {
     const messages = new Map();
     for (const [id, ...label] of labels) messages.set(id, [...(messages.get(id) ?? []), label]);
     // (as text, as an id may be `__proto__`)
     const maps = [...messages].map(([id, them]) => {
-      const inside = them.map(([language, texts]) => `${JSON.stringify(language)}:${JSON.stringify(texts)}`);
+      const inside =
+        them.map(([language, texts]) => `${JSON.stringify(language)}:${JSON.stringify(texts)}`);
       return `${JSON.stringify(id)}:{${inside.join(',')}}`;
     });
     this.site.importMaps(`{${maps.join(',')}}`, { now: this.clock.now() });
@@ -114,8 +127,8 @@ export class Work {
   }
 
   /**
-   * Takes back the last edit, or says that it was not: `null` where there is none, `changed` where the label is
-   * another one by now.
+   * Takes back the last edit, or says that it was not: `null` where there is none, `changed` where
+   * the label is another one by now.
    */
   undo() {
     const edit = this.done.pop();
@@ -164,7 +177,10 @@ export class Work {
     if (typed.size === 0) this.drafts.delete(key);
   }
 
-  /** The text of a field that came from another while something else was typed there, or null where none did. */
+  /**
+   * The text of a field that came from another while something else was typed there, or null where
+   * none did.
+   */
   otherAt(id, language, place) {
     const draft = this.draftAt(id, language, place);
     const held = this.labels.textsOf(id, language)[place] ?? '';
@@ -172,8 +188,9 @@ export class Work {
   }
 
   /**
-   * Makes an edit of what was typed. Fields that nobody typed in stay as the site has them. Where a text changed
-   * meanwhile nothing is done, and the answer is `changed`; the same call again decides for what was typed.
+   * Makes an edit of what was typed. Fields that nobody typed in stay as the site has them. Where a
+   * text changed meanwhile nothing is done, and the answer is `changed`; the same call again
+   * decides for what was typed.
    */
   commit(id, language) {
     const typed = this.drafts.get(keyOf(id, language));
@@ -230,7 +247,10 @@ export class Work {
     return gone;
   }
 
-  /** Takes a delta for this site but for what is too late. Answers how many labels came, and how many were too late. */
+  /**
+   * Takes a delta for this site but for what is too late. Answers how many labels came, and how
+   * many were too late.
+   */
   take(given) {
     const { delta, cells, late } = withoutLate(given, this.clock.limit());
     if (cells.length === 0) return { received: 0, late };
@@ -240,7 +260,8 @@ export class Work {
     const isFirst = this.labels.ids().length === 0;
     for (const [id, language, time, site, , texts] of cells) {
       const before = this.labels.textsOf(id, language);
-      if (!isFirst && !isSame(before, texts ?? [])) came.push({ id, language, time, site, before, texts: texts ?? [] });
+      if (!isFirst && !isSame(before, texts ?? []))
+        came.push({ id, language, time, site, before, texts: texts ?? [] });
     }
     this.reread();
     const keys = new Set(came.map(({ id, language }) => keyOf(id, language)));
@@ -255,8 +276,8 @@ export class Work {
   }
 
   /**
-   * The same labels in a new site of another name. Those with a time that no other takes yet get the time of now, the
-   * others stay as they are. What is being typed goes along.
+   * The same labels in a new site of another name. Those with a time that no other takes yet get
+   * the time of now, the others stay as they are. What is being typed goes along.
    */
   begunAnew(name) {
     const fresh = this.sw.Site.new(name);

@@ -49,8 +49,11 @@ export const rowActions = {
   },
   copy(row) {
     const { labels } = app.work;
-    const source = labels.textsOf(row.label, app.state.source).length > 0 ? app.state.source : labels.firstOf(row.label);
-    labels.textsOf(row.label, source).forEach((text, place) => app.work.type(row.label, app.state.language, place, text));
+    const source = labels.textsOf(row.label, app.state.source).length > 0 ?
+      app.state.source :
+      labels.firstOf(row.label);
+    labels.textsOf(row.label, source)
+      .forEach((text, place) => app.work.type(row.label, app.state.language, place, text));
     updateRows(row.label);
     row.querySelector('textarea').focus();
   },
@@ -71,7 +74,8 @@ export const rowActions = {
       goFrom(row, text, 1);
     } else if (event.key === 'Enter' && !event.shiftKey) {
       event.preventDefault();
-      if (commit(row) !== 'changed' && $('problem').dataset.refused !== row.label) goFrom(row, text, 1);
+      if (commit(row) !== 'changed' && $('problem').dataset.refused !== row.label)
+        goFrom(row, text, 1);
     } else if (event.key === 'Escape') {
       app.work.discard(row.label, app.state.language, text.place);
       updateRows(row.label);
