@@ -97,13 +97,20 @@ class Browser:
                     self.answers[message["id"]] = message
                 else:
                     self.events.append(message)
+                    if message["method"] == "Page.javascriptDialogOpening":
+                        self.send("Page.handleJavaScriptDialog", message["sessionId"], accept=True)
 
-    def ask(self, method, session=None, **parameters):
+    def send(self, method, session=None, **parameters):
+        """Sends a command, and returns its number."""
         number = next(self.numbers)
         message = {"id": number, "method": method, "params": parameters}
         if session:
             message["sessionId"] = session
         os.write(self.writes, json.dumps(message).encode() + b"\0")
+        return number
+
+    def ask(self, method, session=None, **parameters):
+        number = self.send(method, session, **parameters)
         self.receive(lambda: number in self.answers)
         answer = self.answers.pop(number)
         if "error" in answer:

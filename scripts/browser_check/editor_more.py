@@ -72,6 +72,7 @@ def work_seen(room):
     expect(
         anna.said("#progress-text") == "2 of 7", f"the progress is {anna.said('#progress-text')}"
     )
+    expect("x-note" not in anna.said("#language"), "notes are taken for a language")
     expect(
         "French: 2 of 7" in anna.said("#language"),
         f"of the languages it is said: {anna.said('#language')}",

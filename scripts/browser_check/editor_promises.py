@@ -125,6 +125,10 @@ def no_edit_lost(room):
         anna = Editor(first, room.address, "anna")
         anna.exchanged()
         anna.language("#language", "fr")
+        for turn in range(6):
+            anna.write("title", f"Titre {turn}")
+            anna.reload()
+            anna.until_text("title", f"Titre {turn}")
         anna.write("title", "Titre")
         anna.go("news")
         anna.page.type("Nouv")
@@ -166,9 +170,13 @@ def no_edit_lost(room):
         ben.give("#start .open-site", "ben.json", EMPTY.replace("NAME", "ben"))
         ben.page.until("document.querySelector('#work:not([hidden])')")
         ben.exchange()
-        ben.write("title", "Titel")
-        expect("NOT KEPT" in ben.said("#kept"), f"it is not said: {ben.said('#kept')}")
+        with room.between.faulty("away"):
+            ben.write("title", f"Titel {len(before)}")
+            expect("NOT KEPT" in ben.said("#kept"), f"it is not said: {ben.said('#kept')}")
         ben.exchange()
+        expect("NOT KEPT" not in ben.said("#kept"), "what was exchanged is said not to be kept")
+        label = room.server.labels()[("title", "en")]
+        expect(label == [f"Titel {len(before)}"], f"an edit without a store is lost: {label}")
         room.browsers.pop().kill()
     # a full store
     carl = Editor(room.browser(), room.address, "carl", before=FULL)

@@ -5,7 +5,7 @@ import {
   $, app, hideProblem, languageName, made, notice, say, setText, showProblem, tried, whyOf,
 } from './app.mjs';
 import { Clock } from './clock.mjs';
-import { beginExchanges, exchangeNow, way } from './exchanging.mjs';
+import { beginExchanges, exchangeNow } from './exchanging.mjs';
 import { beginFiles, saveSite } from './files.mjs';
 import { directionOf, withoutRegion } from './languages.mjs';
 import { Keeper, beOnlyTab, openStore } from './store.mjs';
@@ -35,12 +35,7 @@ function fillWords() {
 /** Goes on with a work: shows it, keeps it and exchanges. */
 function useWork(work, isKept = false) {
   app.work = work;
-  way.tag = null;
-  work.onEdit = (key, row) => {
-    app.keeper.edit(key, row);
-    $('undo').disabled = work.done.length === 0;
-    queueMicrotask(() => ($('undo').disabled = work.done.length === 0));
-  };
+  work.onEdit = (key, row) => app.keeper.edit(key, row);
   const waits = new Map();
   work.onDraft = (key, draft) => {
     clearTimeout(waits.get(key));
@@ -79,7 +74,6 @@ function showWork() {
   for (const id of ['work', 'state', 'work-actions', 'menu']) $(id).hidden = false;
   delete $('site-name').dataset.word;
   $('site-name').textContent = app.work.name;
-  $('undo').disabled = app.work.done.length === 0;
   fillWords();
   showLanguages();
   showCounts();
@@ -103,7 +97,8 @@ const page = {
   },
   /** Labels came by a file: what is to be sent is not known one by one. */
   joined() {
-    way.tag = null;
+    app.work.way = null;
+    app.keeper.isUnsaved = true;
     page.came();
     relist(false);
     exchangeNow(false);
@@ -162,8 +157,8 @@ function listen() {
   document.onkeydown = onKey;
   addEventListener('beforeunload', (event) => {
     const { keeper, work } = app;
-    const isLost = keeper.store ? keeper.isBusy || keeper.failure :
-                                  keeper.isUnsaved || (work?.typing() ?? 0) > 0;
+    // (a write that has begun is done without the page)
+    const isLost = keeper.store ? keeper.failure : keeper.isUnsaved || (work?.typing() ?? 0) > 0;
     if (work && isLost) event.preventDefault();
   });
   addEventListener('pagehide', keepDrafts);
@@ -180,7 +175,7 @@ function onKey(event) {
   if (!app.work || document.querySelector('dialog[open]')) return;
   const isInField = event.target.closest('input, textarea, select');
   const run = event.altKey && event.code === 'KeyN' ? () => askNewMessage(addMessage) :
-    event.ctrlKey && !event.shiftKey && event.code === 'KeyZ' && !isTypedIn(event.target) ? undo :
+    (event.ctrlKey || event.metaKey) && !event.shiftKey && event.code === 'KeyZ' && !isTypedIn(event.target) ? undo :
       isInField ? null : { '/': () => $('find').focus(), '?': openKeys }[event.key];
   if (!run) return;
   event.preventDefault();

@@ -9,9 +9,6 @@ const EACH = 60000;
 const AFTER_EDIT = 1500;
 const AGAIN = 15000;
 
-/** What is known of the server in this visit. */
-export const way = { key: '', tag: null, owner: null, clock: null };
-
 let page;
 let timer = 0;
 let isWanted = false;
@@ -81,12 +78,15 @@ export async function exchangeNow(isAsked) {
   clearTimeout(timer);
   exchanged.isRunning = true;
   showState();
+  // (what is known of the server belongs to this work, whatever is opened meanwhile)
+  const way = (work.way ??= { tag: null, owner: null });
   Object.assign(way, { key: app.state.key, clock: app.clock });
   try {
     const made = await exchange(way, work);
     // (the site may have begun anew meanwhile)
     if (app.work !== work) return;
     app.keeper.sent(made.gone);
+    app.keeper.isUnsaved = work.unsent.size > 0;
     exchanged.problem = null;
     app.state = { ...app.state, last: Date.now(), heard: app.clock.heard };
     const { sent, received, lateOfOthers } = made;
@@ -98,6 +98,7 @@ export async function exchangeNow(isAsked) {
     sayClock();
     sayLate(made);
   } catch (problem) {
+    if (app.work !== work) return;
     sayClock();
     sayProblem(problem, isAsked);
   } finally {
@@ -105,7 +106,7 @@ export async function exchangeNow(isAsked) {
     showState();
     const isAgain = isWanted;
     isWanted = false;
-    exchangeSoon(isAgain ? 0 : waitAfter(work));
+    exchangeSoon(isAgain ? 0 : waitAfter(app.work));
   }
 }
 

@@ -133,7 +133,6 @@ export class Keeper {
 
   /** Keeps all anew. */
   all() {
-    this.isUnsaved = true;
     if (!this.store) return undefined;
     const { site, state, unsent, drafts } = this.snapshot();
     this.#edits = 0;

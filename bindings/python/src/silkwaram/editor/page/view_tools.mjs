@@ -42,6 +42,7 @@ export function showState() {
   $('exchanged').title = line;
   $('exchanged').classList.toggle('due', exchanged.problem !== null);
   $('exchange').disabled = exchanged.isRunning;
+  $('undo').disabled = app.work.done.length === 0;
 }
 
 /** How far a clock is off, in words; or null where it is right. */

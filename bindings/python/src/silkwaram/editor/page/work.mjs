@@ -51,6 +51,9 @@ export class Work {
   /** What is called where a draft changes: its key, and it or null. */
   onDraft = () => {};
 
+  /** What is known of the server that it is exchanged with. */
+  way = null;
+
   constructor(sw, site, clock) {
     this.sw = sw;
     this.site = site;

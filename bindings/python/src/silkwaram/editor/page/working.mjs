@@ -38,7 +38,11 @@ export const rowActions = {
     showState();
   },
   leave(row) {
-    commit(row);
+    // (what another wrote meanwhile is decided on by Enter alone)
+    const texts = [...row.querySelectorAll('textarea')];
+    const isDecided = texts.every(({ place }) =>
+      app.work.otherAt(row.label, app.state.language, place) === null);
+    if (isDecided) commit(row);
   },
   confirm(row) {
     const id = row.label;
@@ -68,7 +72,7 @@ export const rowActions = {
   key(event, row, text) {
     if (event.isComposing) return;
     const step = { ArrowDown: 1, ArrowUp: -1 }[event.key];
-    if (event.key === 'Enter' && event.ctrlKey) {
+    if (event.key === 'Enter' && (event.ctrlKey || event.metaKey)) {
       event.preventDefault();
       rowActions.confirm(row);
       goFrom(row, text, 1);
