@@ -110,8 +110,8 @@ SHARE = $(DESTDIR)$(PREFIX)/share
 LIBDIR ?= $(PREFIX)/lib
 LIB = $(DESTDIR)$(LIBDIR)
 INCLUDE = $(DESTDIR)$(PREFIX)/include
-# Scripts around the command: two edit the file of a site in place, one makes PO files of it; they
-# are installed with it.
+# Scripts around the command: two edit the file of a site in place, one makes PO files of it, one
+# exchanges it with a server; they are installed with it.
 COMPANIONS = lexicat-file lexicat-edit lexicat-po lexicat-exchange
 
 #: make install       the command with its companions, manual and completions, and the library, below

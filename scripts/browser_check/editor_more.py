@@ -1,4 +1,5 @@
-"""More promises of the editor: work that is seen, languages, exchanges without a thought, many messages, looks."""
+"""More promises of the editor: work that is seen, languages, exchanges by themselves, many
+messages, looks."""
 import base64
 import contextlib
 import json
@@ -10,7 +11,7 @@ import chromium
 from editor_page import PACKAGE, SHORT_MINUTE, SOURCES, Editor, cells_of, expect, quoted
 from editor_promises import Room
 
-# Elements with text that is cut, or wider than the page; and text that stands out too little from its ground.
+# Elements with text that is cut, or wider than the page; and text of too little contrast.
 SEEN = """(() => {
   const faults = [];
   const rgb = (color) => color.match(/[\\d.]+/g).map(Number);
@@ -24,20 +25,27 @@ SEEN = """(() => {
     }
     return [255, 255, 255];
   };
-  if (document.documentElement.scrollWidth > innerWidth) faults.push('the page is wider than the window');
+  if (document.documentElement.scrollWidth > innerWidth) faults.push('wider than the window');
+  const left = '.away, .skip, option, datalist, progress, .aside';
   for (const element of document.body.querySelectorAll('*')) {
     const isInput = /^(INPUT|TEXTAREA|SELECT)$/.test(element.tagName);
-    const hasText = isInput || [...element.childNodes].some((it) => it.nodeType === 3 && it.data.trim());
+    const nodes = [...element.childNodes];
+    const hasText = isInput || nodes.some((it) => it.nodeType === 3 && it.data.trim());
     const box = element.getBoundingClientRect();
-    if (!hasText || !element.checkVisibility() || element.closest('.away, .skip, option, datalist, progress, .aside')) continue;
+    if (!hasText || !element.checkVisibility() || element.closest(left)) continue;
     if (box.width <= 1 || element.type === 'file' || element.type === 'radio') continue;
-    const name = `${element.tagName} ${element.id} "${(element.value ?? element.textContent).slice(0, 40)}"`;
+    const text = (element.value ?? element.textContent).slice(0, 40);
+    const name = `${element.tagName} ${element.id} "${text}"`;
     const style = getComputedStyle(element);
-    if (element.tagName === 'TEXTAREA' && element.scrollHeight > element.clientHeight + 2) faults.push(`cut: ${name}`);
-    if (style.display !== 'inline' && !isInput && element.scrollWidth > element.clientWidth + 2) faults.push(`cut: ${name}`);
-    if (box.width && (box.left < -1 || box.right > innerWidth + 1)) faults.push(`beside the window: ${name}`);
+    const isLow = element.scrollHeight > element.clientHeight + 2;
+    const isNarrow = element.scrollWidth > element.clientWidth + 2;
+    if (element.tagName === 'TEXTAREA' && isLow) faults.push(`cut: ${name}`);
+    if (style.display !== 'inline' && !isInput && isNarrow) faults.push(`cut: ${name}`);
+    const isBeside = box.left < -1 || box.right > innerWidth + 1;
+    if (box.width && isBeside) faults.push(`beside the window: ${name}`);
     const [one, other] = [light(rgb(style.color)), light(ground(element))].sort((a, b) => b - a);
-    if ((one + 0.05) / (other + 0.05) < 4.5 && !element.disabled) faults.push(`too little contrast: ${name}`);
+    const isFaint = (one + 0.05) / (other + 0.05) < 4.5 && !element.disabled;
+    if (isFaint) faults.push(`too little contrast: ${name}`);
   }
   return faults;
 })()"""
@@ -57,7 +65,7 @@ ARABIC = {
 
 
 def work_seen(room):
-    """5. Work is seen: progress, what came and from whom, "Still right", undo, notes, placeholders."""
+    """5. Work is seen: progress, what came and from whom, undo, notes, placeholders."""
     room.server.put(
         *[[name, "en", [text]] for name, text in TITLES.items()],
         ["greeting", "x-note", ["On the first page"]],
@@ -283,7 +291,8 @@ def many_messages(room):
 import sys, silkwaram
 maps = {}
 for i in range(10000):
-    labels = {'en': f'Text number {i} of {{name}}, some words long', 'fr': f'Texte {i} de {{name}}', 'de': f'Text {i} von {{name}}'}
+    labels = {'en': f'Text number {i} of {{name}}, some words long', 'de': f'Text {i} von {{name}}'}
+    labels['fr'] = f'Texte {i} de {{name}}'
     if i % 3: labels['ar'] = f'نص {i}'
     if i % 2: labels['ja'] = f'項目 {i}'
     maps[f'part{i % 40}.message.{i:05d}'] = labels
@@ -329,7 +338,8 @@ with silkwaram.edit(sys.argv[1]) as site: site.import_maps(maps)
             spent(search, "document.querySelectorAll('.row').length === 1 || true")
         )
         anna.run(
-            "(() => { const it = document.querySelector('#find'); it.value = ''; it.dispatchEvent(new Event('input')); })()"
+            "(() => { const it = document.querySelector('#find'); it.value = '';"
+            " it.dispatchEvent(new Event('input')); })()"
         )
         anna.page.until(anna.row(name))
     rows = anna.run("document.querySelectorAll('.row').length")
@@ -527,7 +537,7 @@ def take_pictures(folder):
 
 
 def by_keys(room):
-    """The whole day by keys: begin, add, translate, look again, find, undo, exchange, without a pointer."""
+    """The whole day by keys: add, translate, find, undo, exchange, without a pointer."""
     room.server.put(*[[name, "en", [text]] for name, text in list(TITLES.items())[:4]])
     anna = room.editor("anna")
     anna.exchanged()

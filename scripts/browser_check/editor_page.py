@@ -1,5 +1,5 @@
-"""The editor's page and its server as the tests of scripts/browser_check use them: a server that can be
-stopped, what is between it and the browsers, and a page with what a person does there."""
+"""The editor's page and its server as the tests use them: a server that can be stopped, what is
+between it and the browsers, and a page with what a person does there."""
 import contextlib
 import http.client
 import http.server
@@ -53,7 +53,7 @@ def expect(is_so, what):
 
 
 class Way(http.server.BaseHTTPRequestHandler):
-    """Between the browsers and the server: it loses, doubles, hangs and lies where it is said to."""
+    """Between the browsers and the server: it loses, doubles, hangs and lies as it is said to."""
 
     protocol_version = "HTTP/1.1"
 
@@ -286,10 +286,11 @@ class Editor:
         )
 
     def kept(self):
-        """Waits until the page says that all is kept, and returns the cells that the browser has, as a
-        page that is opened anew would have them."""
+        """Waits until the page says that all is kept, and returns the cells that a page which is
+        opened anew would have."""
         self.page.until(
-            "document.querySelector('#kept').textContent.match(/^(All edits are kept|كل التعديلات)/)",
+            "document.querySelector('#kept').textContent"
+            ".match(/^(All edits are kept|كل التعديلات)/)",
             20,
         )
         return self.run(CELLS)
@@ -302,12 +303,14 @@ class Editor:
     def choose(self, box, value):
         self.run(
             f"""(() => {{ const it = document.querySelector({quoted(box)}); it.focus();
-            it.value = {quoted(value)}; it.dispatchEvent(new Event('change', {{ bubbles: true }})); }})()"""
+            it.value = {quoted(value)};
+            it.dispatchEvent(new Event('change', {{ bubbles: true }})); }})()"""
         )
 
     def language(self, box, tag):
         """Chooses a language, also one that the site does not have yet."""
-        has = f"[...document.querySelector({quoted(box)}).options].some((it) => it.value === {quoted(tag)})"
+        options = f"[...document.querySelector({quoted(box)}).options]"
+        has = f"{options}.some((it) => it.value === {quoted(tag)})"
         if self.run(has):
             self.choose(box, tag)
             return
@@ -334,7 +337,8 @@ class Editor:
         """Scrolls until a message is in the page, as the list has those near the window alone."""
         self.run(
             f"""(async () => {{
-          for (let at = 0; at <= document.body.scrollHeight && !({self.row(name)}); at += innerHeight / 2) {{
+          const step = innerHeight / 2;
+          for (let at = 0; at <= document.body.scrollHeight && !({self.row(name)}); at += step) {{
             scrollTo(0, at);
             await new Promise((done) => requestAnimationFrame(() => requestAnimationFrame(done)));
           }} }})()"""
@@ -377,7 +381,8 @@ class Editor:
     def give(self, box, name, text):
         """Chooses a file in a box, as a person would."""
         self.run(
-            f"""(() => {{ const it = document.querySelector({quoted(box)}); const made = new DataTransfer();
+            f"""(() => {{ const it = document.querySelector({quoted(box)});
+            const made = new DataTransfer();
             made.items.add(new File([{quoted(text)}], {quoted(name)})); it.files = made.files;
             it.dispatchEvent(new Event('change')); }})()"""
         )
@@ -396,15 +401,19 @@ class Editor:
 
 # The cells of the document that is kept, with the edits since it was written.
 CELLS = """(async () => {
-  const done = (it) => new Promise((yes, no) => { it.onsuccess = () => yes(it.result); it.onerror = () => no(it.error); });
+  const done = (it) => new Promise((yes, no) => {
+    it.onsuccess = () => yes(it.result);
+    it.onerror = () => no(it.error);
+  });
+  const key = (it) => JSON.stringify(it.slice(0, 2));
   const base = await done(indexedDB.open('silkwaram-labels'));
   const reading = base.transaction(['kept', 'edits']);
   const [site, edits] = await Promise.all([
     done(reading.objectStore('kept').get('site')), done(reading.objectStore('edits').getAll())]);
   base.close();
   const cells = new Map();
-  for (const it of JSON.parse(new TextDecoder().decode(site)).cells) cells.set(JSON.stringify(it.slice(0, 2)), it);
-  for (const it of edits.map((row) => JSON.parse(row))) cells.set(JSON.stringify(it.slice(0, 2)), it);
+  for (const it of JSON.parse(new TextDecoder().decode(site)).cells) cells.set(key(it), it);
+  for (const it of edits.map((row) => JSON.parse(row))) cells.set(key(it), it);
   return JSON.stringify([...cells].sort(([a], [b]) => a < b ? -1 : 1).map(([, it]) => it));
 })()"""
 

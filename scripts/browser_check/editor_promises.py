@@ -93,7 +93,8 @@ def any_id(room):
     expect(anna.labels()[("__proto__", "fr")] == ["fr __proto__"], "it is not kept")
     expect(
         anna.run(
-            "window.pwned === undefined && document.querySelector('li script, li img, li b b') === null"
+            "window.pwned === undefined &&"
+            " document.querySelector('li script, li img, li b b') === null"
         ),
         "a text has become markup",
     )
@@ -118,7 +119,7 @@ def any_id(room):
 
 
 def no_edit_lost(room):
-    """2. What is typed survives a reload, a closed tab and a crash; one tab edits; no store is said."""
+    """2. What is typed survives a reload, a closed tab and a crash; one tab edits."""
     profile = room.stack.enter_context(tempfile.TemporaryDirectory())
     room.server.put(["title", "en", ["Title"]], ["news", "en", ["News"]])
     with chromium.Browser("--accept-lang=en", profile=profile) as first:
@@ -320,7 +321,8 @@ def wrong_clocks(room):
     room.server.python(
         """
 import sys, time, silkwaram
-with silkwaram.edit(sys.argv[1]) as site: site.put('late', 'en', 'x', now=int(time.time() * 1000) + 20 * 86400000)
+late = int(time.time() * 1000) + 20 * 86400000
+with silkwaram.edit(sys.argv[1]) as site: site.put('late', 'en', 'x', now=late)
 """
     )
     carl.exchange()
