@@ -49,6 +49,12 @@ SEEN = """(() => {
   }
   return faults;
 })()"""
+# What the line of the exchange says once none runs.
+OUTCOME = """(async () => {
+  const line = document.querySelector('#exchanged');
+  while (line.textContent.startsWith('Exchanging')) await new Promise((done) => setTimeout(done, 5));
+  return line.textContent;
+})()"""
 TITLES = {
     "title": "The Daily Catalogue",
     "greeting": "Good morning, {name}",
@@ -189,7 +195,7 @@ def languages_chosen(room):
 
 def exchange_alone(room):
     """7. Exchange needs no thought: by itself, by files, and in words that tell faults apart."""
-    room.server.put(["title", "en", ["Title"]])
+    room.server.put(["title", "en", ["Title"]], ["news", "en", ["News"]])
     anna, ben = (
         Editor(room.browser(), room.address, name, before=SHORT_MINUTE) for name in ("anna", "ben")
     )
@@ -199,6 +205,15 @@ def exchange_alone(room):
     ben.language("#language", "fr")
     anna.write("title", "Titre")
     ben.until_text("title", "Titre")
+    # both have something to send, and the second one also has something to receive
+    with room.between.faulty("away"):
+        anna.write("title", "Le titre")
+        ben.write("news", "Nouvelles")
+        anna.kept()
+        ben.kept()
+    anna.exchange()
+    ben.exchange()
+    ben.until_text("title", "Le titre")
     # what is wrong, in words of its own each
     said = {}
     for fault in ("away", 401, 404, 413, 500, "portal"):
@@ -206,7 +221,7 @@ def exchange_alone(room):
             if fault == 413:
                 anna.write("title", f"Titre {fault}")
             anna.exchange()
-            line = anna.said("#exchanged")
+            line = anna.run(OUTCOME)
             said[fault] = line.partition("Not exchanged")[0].partition("Exchanged")[0].strip()
             expect(
                 said[fault] and "refused" not in said[fault].lower(),
@@ -250,7 +265,7 @@ def exchange_alone(room):
     expect("not such a file" in anna.problem(), f"of a cut file it is said: {anna.problem()}")
     # language maps
     anna.give(
-        "#take-maps", "maps.json", '{"news":{"en":"News","fr":"Nouvelles"},"__proto__":{"en":"p"}}'
+        "#take-maps", "maps.json", '{"news":{"en":"New","it":"Notizie"},"__proto__":{"en":"p"}}'
     )
     anna.page.until("document.querySelector('#notice').textContent.includes('Taken in: 3')", 10)
     anna.exchange()
