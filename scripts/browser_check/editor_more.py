@@ -535,6 +535,8 @@ def take_pictures(folder):
 
         for name, anna in states(room):
             anna.page.resize(1000, 620)
+            if name in ("offline", "error"):
+                anna.run("scrollTo(0, 0)")
             take(anna, name)
             if name == "work":
                 scheme(anna, "dark")

@@ -135,9 +135,7 @@ def no_edit_lost(room):
         anna.page.type("Nouv")
         anna.reload()
         anna.until_text("news", "Nouv")
-        expect(
-            "being typed: 1" in anna.said("#kept").lower(), f"it is not said: {anna.said('#kept')}"
-        )
+        expect(anna.count("typed") == 1, f"{anna.count('typed')} texts are said to be typed")
         expect(anna.text("title") == "Titre", "a reload loses an edit")
         # a second tab waits, and the first one is closed while something is typed
         second = first.page(room.address)

@@ -11,11 +11,10 @@ const KINDS = ['all', 'missing', 'outdated', 'came', 'typed'];
 export const exchanged = { isRunning: false, problem: null, late: 0, lateOfOthers: 0 };
 
 function keptLine() {
-  const { keeper, work } = app;
-  const typing = work.typing() > 0 ? ` ${say('typing', { count: work.typing() })}` : '';
-  if (!keeper.store) return say(keeper.isUnsaved ? 'notInStore' : 'noStore') + typing;
+  const { keeper } = app;
+  if (!keeper.store) return say(keeper.isUnsaved ? 'notInStore' : 'noStore');
   if (keeper.failure) return say('notKept');
-  return say(keeper.isBusy ? 'keeping' : 'kept') + typing;
+  return say(keeper.isBusy ? 'keeping' : 'kept');
 }
 
 function exchangedLine() {

@@ -20,7 +20,6 @@ export default {
   notInStore: 'NOT KEPT: save your edits as a file, or exchange them, before you close this page.',
   noStoreHere: 'This browser keeps nothing for this page: its storage or its locks are turned off, as in a private window or at an address without https. Open your file, work, and save a file at the end.',
   mayGo: 'The browser may clear what it keeps when the disk is full: exchange, or save a file, now and then.',
-  typing: 'Being typed: {count}.',
   unsent: 'Not exchanged yet: {count}.',
   never: 'Never exchanged yet.',
   last: 'Exchanged: {when}.',

@@ -20,7 +20,6 @@ export default {
   notInStore: 'NON GARDÉ : enregistrez un fichier, ou échangez, avant de fermer cette page.',
   noStoreHere: 'Ce navigateur ne garde rien pour cette page : son stockage ou ses verrous sont désactivés, comme en navigation privée ou à une adresse sans https. Ouvrez votre fichier, travaillez, et enregistrez un fichier à la fin.',
   mayGo: 'Le navigateur peut tout effacer si le disque est plein : échangez, ou enregistrez un fichier, de temps en temps.',
-  typing: 'En cours de saisie : {count}.',
   unsent: 'Pas encore échangés : {count}.',
   never: 'Encore aucun échange.',
   last: 'Dernier échange : {when}.',

@@ -32,10 +32,11 @@ export function afterEdit(id) {
 // What a row does.
 export const rowActions = {
   type(row, text) {
+    const before = app.work.typing();
     app.work.type(row.label, app.state.language, text.place, text.value);
     fitHeights([text]);
     updateMarks(row);
-    showState();
+    if (app.work.typing() !== before) showCounts();
   },
   leave(row) {
     // (what another wrote meanwhile is decided on by Enter alone)
@@ -59,6 +60,7 @@ export const rowActions = {
     labels.textsOf(row.label, source)
       .forEach((text, place) => app.work.type(row.label, app.state.language, place, text));
     updateRows(row.label);
+    showCounts();
     row.querySelector('textarea').focus();
   },
   remove(row) {
@@ -83,7 +85,7 @@ export const rowActions = {
     } else if (event.key === 'Escape') {
       app.work.discard(row.label, app.state.language, text.place);
       updateRows(row.label);
-      showState();
+      showCounts();
     } else if (step && event.altKey) {
       event.preventDefault();
       goFrom(row, text, step);
@@ -119,7 +121,7 @@ function commit(row) {
     afterEdit(id);
   } else if (is !== 'refused') {
     updateRows(id);
-    showState();
+    showCounts();
   }
   return is;
 }
