@@ -2,7 +2,7 @@
 """Tries the promises of the editor (python -m silkwaram.editor) by browsers and its server.
 
 usage: editor.py [PROMISE..]
-           all of them, or those functions of editor_promises.py and editor_more.py
+           all of them, or those functions of editor_promises.py and the others beside it
        editor.py --without [PROMISE..]
            takes each remedy of editor_remedies.json out of a copy, and sees that its promise fails
        editor.py --pictures FOLDER
@@ -21,7 +21,9 @@ import time
 
 sys.dont_write_bytecode = True
 import chromium  # noqa: E402
+import editor_looks  # noqa: E402
 import editor_more  # noqa: E402
+import editor_outside  # noqa: E402
 import editor_promises  # noqa: E402
 from editor_page import PACKAGE, SOURCES  # noqa: E402
 
@@ -56,12 +58,12 @@ PROMISES = [
     editor_more.languages_chosen,
     editor_more.exchange_alone,
     editor_more.key_wanted,
-    editor_more.po_files,
+    editor_outside.po_files,
     editor_more.many_messages,
-    editor_more.looks,
-    editor_more.by_keys,
-    editor_more.by_companion,
-    editor_more.tampered,
+    editor_looks.looks,
+    editor_looks.by_keys,
+    editor_outside.by_companion,
+    editor_outside.tampered,
 ]
 
 
@@ -119,7 +121,7 @@ def main(words):
         try_without(words[1:])
         return
     if words[:1] == ["--pictures"]:
-        editor_more.take_pictures(words[1])
+        editor_looks.take_pictures(words[1])
         return
     chosen = [it for it in PROMISES if not words or it.__name__ in words]
     for promise in chosen:
