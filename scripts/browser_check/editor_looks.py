@@ -275,7 +275,7 @@ def by_keys(room):
     page.key("Tab")
     page.type("The end")
     page.key("Enter")
-    page.until("!document.querySelector('#new-dialog').open")
+    page.until("document.activeElement.closest('.row')")
     anna.run("document.activeElement.blur()")
     page.key("/", code="Slash")
     expect(anna.run("document.activeElement.id") == "find", "/ does not find")

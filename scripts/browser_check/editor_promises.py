@@ -1,11 +1,11 @@
 """The promises of the editor, each tried as a person would find it broken."""
-import contextlib
 import json
 import tempfile
 import time
 
 import chromium
-from editor_page import CLOCK, DAY, SHORT_MINUTE, Between, Editor, Server, cells_of, expect, quoted
+from editor_between import Between
+from editor_page import CLOCK, DAY, Editor, Server, cells_of, expect
 
 HOSTILE = [
     "__proto__",
