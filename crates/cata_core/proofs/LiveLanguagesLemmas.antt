@@ -1,30 +1,27 @@
 -- The languages of live labels, as lookup and widened lookup search them.
 use Rattle.std.proofs.Common.{◌≡◌, ◌∙◌, ℕ, List, [], ◌∷◌, Option, Some, None, Bool, true, false}
-use Rattle.std.proofs.Common.{inl, inr, refl, sym, ap, subst, true≢false}
-use Rattle.std.specs.Prelude.{All, T}
-use Rattle.std.specs.Ordering.{is_eq, is_lt}
+use Rattle.std.proofs.Common.{◌++◌, append-nil, append_assoc, inl, inr, refl, sym, ap, subst}
+use Rattle.std.proofs.Common.{true≢false}
+use Rattle.std.specs.Ordering.{is_eq}
 use Rattle.std.specs.Str.{bytes_eq}
 use Rattle.std.specs.Cmp.Lexicographic.{nat_list_cmp_total}
-use Rattle.std.specs.FinMap.Entries.{below_all, is_sorted}
 use Rattle.std.proofs.lemmas.Bool.{cases_Bool}
 use Rattle.std.proofs.lemmas.Cmp.{tied_itself}
-use Rattle.std.proofs.lemmas.List.Elements.{All-nil, All-cons}
+use Rattle.std.proofs.lemmas.List.{map-append}
+use Rattle.std.proofs.lemmas.List.Elements.{All-nil}
 use Rattle.std.proofs.lemmas.Slice.Eq.{bytes_eq-Decides}
 use Rattle.lang_core.specs.Text.{pieces}
 use Rattle.nego_core.specs.Choosing.{IsChosen, HasOpenDefault}
 use Rattle.nego_core.specs.Item.{Item}
 use Rattle.nego_core.specs.LangSet.{is_among}
-use Rattle.nego_core.specs.WidenedChoice.{IsChosenWidened, MatchLeast}
-use Rattle.nego_core.specs.Widening.{IsBelow}
+use Rattle.nego_core.specs.WidenedChoice.{IsChosenWidened, IsMatchedAt, MatchEarliest}
 use Rattle.nego_core.specs.declared.choosing.Choice.{Choice}
 use Rattle.nego_core.specs.declared.choosing.Choice.TheVariants as choice
 use Rattle.nego_core.specs.declared.scheme.Scheme.{Scheme}
+use Rattle.nego_core.specs.declared.widened_choice.Earliest.{Earliest}
 use Rattle.nego_core.specs.declared.widening.Widening.{Widening}
 use Rattle.nego_core.specs.declared.widening.Widening.TheVariants.{Off, By}
-use Rattle.nego_core.proofs.Basics.{contains_first, contains_later}
-use Rattle.nego_core.proofs.Rising.{not_both}
 use Rattle.nego_core.proofs.WideningLemmas.{found_there}
-use Rattle.cell_core.specs.Keyed.{IsMap}
 use Rattle.cata_core.specs.Entries.{text_cmp}
 use Rattle.nego_core.specs.Shortlist.{IsChosenBy as IsChosenAmong, IsThere}
 use Rattle.cata_core.specs.declared.reply.Reply.{Reply}
@@ -32,7 +29,7 @@ use Rattle.cata_core.specs.declared.reply.Reply.TheVariants.{Matched, Default, N
 use Rattle.cata_core.specs.Asking.{Finds, IsChosenBy, IsLookedUpBy}
 use Rattle.cata_core.specs.LiveReplies.{IsReplyTo}
 use Rattle.cata_core.specs.Live.{Labelled, languages, is_live}
-use Rattle.cata_core.proofs.Basics.{false_if, first_part, less_than, second_part, tied}
+use Rattle.cata_core.proofs.Basics.{false_if, tied}
 use Rattle.cata_core.proofs.NestedCataloguesLemmas.{text_exact}
 use Rattle.cata_core.proofs.ReplyLemmas.{joined-pieces}
 
@@ -128,68 +125,39 @@ replied widening labels items default choice.Nothing (Matched lang label) h r = 
 replied widening labels items default choice.Nothing (Default lang label) h r = absurd r
 replied widening labels items default choice.Nothing Nothing h r = h
 
--- ---- the least that passes
+-- ---- the earliest that is matched
 
-above : (P : List ℕ → Type 0) (x : List ℕ) (es : Labelled) → T (below_all text_cmp x es)
-    → All (λ l. P l → ¬ IsBelow l x) (languages es)
-above P x [] h = All-nil (λ l. P l → ¬ IsBelow l x)
-above P x (e ∷ es) h =
-    let lower = less_than (text_cmp x e.0)
-    (first_part (is_lt (text_cmp x e.0)) (below_all text_cmp x es) h) in
-    let rest = above P x es (second_part (is_lt (text_cmp x e.0)) (below_all text_cmp x es) h) in
-    All-cons (λ l. P l → ¬ IsBelow l x) e.0 (languages es) (λ _ g. not_both x e.0 lower g) rest
+-- the earliest of the labels before those that are left
+abbrev pub IsEarliestBefore : Scheme → List Item → Labelled → Labelled → Option Earliest → Type 0
+IsEarliestBefore scheme items all left earliest =
+    (seen : Labelled) × (seen ++ left ≡ all)
+    × MatchEarliest scheme items (languages seen) earliest
 
--- the first of ascending languages is the least that passes, if it passes
-first_least : (P : List ℕ → Type 0) (e : List ℕ × List (List ℕ)) (es : Labelled)
-    → IsMap text_cmp (e ∷ es) → P e.0 → MatchLeast P (languages (e ∷ es)) (Some e.0)
-first_least P e es m p =
-    let low = above P e.0 es (first_part (below_all text_cmp e.0 es) (is_sorted text_cmp es) m) in
-    let all = All-cons (λ l. P l → ¬ IsBelow l e.0) e.0 (languages es)
-    (λ _ h. not_both e.0 e.0 h h) low in
-    (contains_first e.0 (languages es), p, all)
+-- before all labels there is none
+pub none_before : (scheme : Scheme) (items : List Item) (all : Labelled)
+    → IsEarliestBefore scheme items all all None
+none_before scheme items all =
+    ([], refl, All-nil (λ l. (n : ℕ) → ¬ IsMatchedAt scheme items l n))
 
--- after a language that does not pass, the least that passes is that of the rest
-later_least : (P : List ℕ → Type 0) (e : List ℕ × List (List ℕ)) (es : Labelled)
-    (found : Option (List ℕ)) → ¬ P e.0 → MatchLeast P (languages es) found
-    → MatchLeast P (languages (e ∷ es)) found
-later_least P e es None n m = All-cons (λ l. ¬ P l) e.0 (languages es) n m
-later_least P e es (Some x) n m = (
-  contains_later e.0 x (languages es) m.0,
-  m.1,
-  All-cons (λ l. P l → ¬ IsBelow l x) e.0 (languages es) (λ p _. n p) m.2,
+-- the next label may be earlier
+pub next_before : (scheme : Scheme) (items : List Item) (all left : Labelled)
+    (e : List ℕ × List (List ℕ)) (rest : Labelled) (earliest next : Option Earliest)
+    → IsEarliestBefore scheme items all left earliest → left ≡ e ∷ rest
+    → ((langs : List (List ℕ)) → MatchEarliest scheme items langs earliest
+    → MatchEarliest scheme items (langs ++ e.0 ∷ []) next)
+    → IsEarliestBefore scheme items all rest next
+next_before scheme items all left e rest earliest next h is step = (
+  h.0 ++ e ∷ [],
+  append_assoc h.0 (e ∷ []) rest ∙ (ap (λ (x : Labelled). h.0 ++ x) (sym is) ∙ h.1),
+  subst (λ (x : List (List ℕ)). MatchEarliest scheme items x next)
+      (sym (map-append (λ (x : List ℕ × List (List ℕ)). x.0) h.0 (e ∷ [])))
+      (step (languages h.0) h.2),
 )
 
--- what is the least that passes of those that are left is so of all
-abbrev pub Seeks : (List ℕ → Type 0) → Labelled → Labelled → Type 0
-Seeks P all left =
-    IsMap text_cmp left × ((found : Option (List ℕ)) → MatchLeast P (languages left) found
-    → MatchLeast P (languages all) found)
-
--- at the start all are left
-pub seek_all : (P : List ℕ → Type 0) (all : Labelled) → IsMap text_cmp all → Seeks P all all
-seek_all P all m = (m, λ found h. h)
-
--- the first that is left and passes is the least
-pub seek_found : (P : List ℕ → Type 0) (all left : Labelled) (e : List ℕ × List (List ℕ))
-    (rest : Labelled) → Seeks P all left → left ≡ e ∷ rest → P e.0
-    → MatchLeast P (languages all) (Some e.0)
-seek_found P all left e rest h is p =
-    let here = first_least P e rest (subst (IsMap text_cmp) is h.0) p in
-    h.1 (Some e.0) (subst (λ (x : Labelled). MatchLeast P (languages x) (Some e.0)) (sym is) here)
-
--- one that does not pass is left out
-pub seek_passed : (P : List ℕ → Type 0) (all left : Labelled) (e : List ℕ × List (List ℕ))
-    (rest : Labelled) → Seeks P all left → left ≡ e ∷ rest → ¬ P e.0 → Seeks P all rest
-seek_passed P all left e rest h is n = (
-  second_part (below_all text_cmp e.0 rest) (is_sorted text_cmp rest)
-      (subst (IsMap text_cmp) is h.0),
-  λ found m. h.1 found (subst (λ (x : Labelled). MatchLeast P (languages x) found) (sym is)
-      (later_least P e rest found n m)),
-)
-
--- where none is left, none passes
-pub seek_none : (P : List ℕ → Type 0) (all left : Labelled) → Seeks P all left → left ≡ []
-    → MatchLeast P (languages all) None
-seek_none P all left h is =
-    let none = All-nil (λ l. ¬ P l) in
-    h.1 None (subst (λ (x : Labelled). MatchLeast P (languages x) None) (sym is) none)
+-- where none is left, it is that of all
+pub all_before : (scheme : Scheme) (items : List Item) (all left : Labelled)
+    (earliest : Option Earliest) → IsEarliestBefore scheme items all left earliest → left ≡ []
+    → MatchEarliest scheme items (languages all) earliest
+all_before scheme items all left earliest h is =
+    subst (λ (x : Labelled). MatchEarliest scheme items (languages x) earliest)
+    (sym (append-nil h.0) ∙ (ap (λ (x : Labelled). h.0 ++ x) (sym is) ∙ h.1)) h.2

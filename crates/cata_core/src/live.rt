@@ -5,8 +5,7 @@ ghost use Rattle.std.specs.FinMap.Entries.{find};
 ghost use Rattle.cata_core.specs.Entries.{text_cmp};
 ghost use Rattle.cata_core.specs.Live.{languages, live_of};
 ghost use Rattle.cata_core.specs.Labels.{labels_left};
-ghost use Rattle.cell_core.specs.Keyed.{IsMap};
-ghost use Rattle.nego_core.specs.WidenedChoice.{MatchLeast, Passes};
+ghost use Rattle.nego_core.specs.WidenedChoice.{MatchEarliest};
 ghost use Rattle.std.specs.Option.{option_map};
 ghost use Rattle.cell_core.specs.Found.{with_key};
 ghost use Rattle.cata_core.specs.Lent.{lent_pair};
@@ -16,7 +15,8 @@ use crate::reply::LentReply;
 use cell_core::{Cell, Keyed, Label};
 use lang_core::Lang;
 use nego_core::{
-    Choice, Holds, Languages, PriorityList, RangeTest, Shortlist, Widening, choose, choose_widened,
+    Choice, Earliest, Holds, Languages, PriorityList, Shortlist, WidenedRanges, Widening, choose,
+    choose_widened,
 };
 
 /// The live labels of a message, which a lookup searches by their languages' texts.
@@ -137,23 +137,21 @@ impl Languages for Live<'_> {
         self.label(lang).is_some()
     }
 
-    fn least(&self, test: &RangeTest<'_>) -> Option<&Lang> {
-        first_that_passes(Labels::new(self.cells), test)
+    fn earliest(&self, ranges: &WidenedRanges<'_>) -> Option<Earliest<'_>> {
+        earliest_of(Labels::new(self.cells), ranges)
     }
 }
 
-/// The first language that passes the test, which is the least by bytes.
-fn first_that_passes<'a>(labels: Labels<'a>, test: &RangeTest<'_>) -> Option<&'a Lang>
-    requires { IsMap text_cmp (labels_left labels) }
-    ensures { MatchLeast (Passes test.now) (languages (labels_left labels.entry))
-        (option_map (λ l. l.now) result) }
+/// Of the languages that the ranges match the earliest.
+fn earliest_of<'a>(labels: Labels<'a>, ranges: &WidenedRanges<'_>) -> Option<Earliest<'a>>
+    ensures { MatchEarliest ranges.now.scheme ranges.now.list.now
+        (languages (labels_left labels.entry)) result }
 {
+    let mut earliest = None;
     for (lang, _label) in labels {
-        if test.passes(lang) {
-            return Some(lang);
-        }
+        earliest = ranges.earlier(earliest, lang);
     }
-    None
+    earliest
 }
 
 /// The language of this text with its label, where it is live.

@@ -24,6 +24,7 @@ pub mod NothingRefused
 pub mod Unique
 pub mod OrderKeyLemmas
 pub mod LookupOrderLemmas
+pub mod FirstTriedLemmas
 pub mod FilteringKeys
 pub mod FilteringLemmas
 pub mod FilteringEach
@@ -39,4 +40,8 @@ pub mod LookupPlacesLemmas
 pub mod LangSetLemmas
 pub mod Rising
 pub mod WideningLemmas
+pub mod EarliestLemmas
+pub mod FoundWidenedLemmas
+pub mod UnrankedLemmas
+pub mod RankingLemmas
 pub mod ShortlistLemmas

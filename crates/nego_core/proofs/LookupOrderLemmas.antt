@@ -6,7 +6,7 @@ use Rattle.std.specs.List.{filter_map, slice_get}
 use Rattle.std.proofs.lemmas.Cmp.{nat_cmp_total, on_total, then_total}
 use Rattle.nego_core.proofs.Unique.{one_order, then_tied, nat_tied}
 use Rattle.nego_core.specs.Item.{Item}
-use Rattle.nego_core.specs.LookupOrder.{IsOrder, order_key_cmp, order_keys_from}
+use Rattle.nego_core.specs.LookupOrder.{AreOrderKeys, IsOrder, order_key_cmp, order_keys_from}
 use Rattle.nego_core.specs.declared.lookup_order.OrderKey.{OrderKey}
 
 -- The order of the keys, by missing weight and then by place, is total.
@@ -24,11 +24,17 @@ order_key_tied x y e =
     ∙ ap (λ (n : ℕ). record { missing_weight = y.missing_weight; place = n })
     (nat_tied x.place y.place parts.1)
 
+-- The items have one order of keys.
+pub one_keys : (items : List Item) (a b : List OrderKey) → AreOrderKeys items a
+    → AreOrderKeys items b → a ≡ b
+one_keys items a b o p =
+    one_order order_key_cmp order_key_total order_key_tied (order_keys_from items 0) a b o.each_once
+    o.rising p.each_once p.rising
+
 -- A priority list has one order of lookup.
 pub one_order_of : (items a b : List Item) → IsOrder items a → IsOrder items b → a ≡ b
 one_order_of items a b o p =
     o.items_are
     ∙ (ap (filter_map (λ t. slice_get items t.place))
-    (one_order order_key_cmp order_key_total order_key_tied (order_keys_from items 0) o.keys
-    p.keys o.keys_ok.each_once o.keys_ok.rising p.keys_ok.each_once p.keys_ok.rising)
+    (one_keys items o.keys p.keys o.keys_ok p.keys_ok)
     ∙ sym p.items_are)

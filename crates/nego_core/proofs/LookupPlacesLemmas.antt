@@ -31,11 +31,14 @@ has_place langs text h e = let low = any_place _ langs h in let high =
 
 -- ---- lookup among languages has one answer
 
-same_text : (a b : List ℕ) → Some (pieces a) ≡ Some (pieces b) → a ≡ b
+-- Texts of the same pieces are the same.
+pub same_text : (a b : List ℕ) → Some (pieces a) ≡ Some (pieces b) → a ≡ b
 same_text a b e = let p : pieces a ≡ pieces b = cc in
     sym (joined-pieces a) ∙ (ap joined p ∙ joined-pieces b)
 
-same_place : (langs : List (List ℕ)) (a b : List ℕ) (p q : ℕ) → a ≡ b → least_place langs a ≡ Some p
+-- The same text has one least place.
+pub same_place : (langs : List (List ℕ)) (a b : List ℕ) (p q : ℕ) → a ≡ b
+    → least_place langs a ≡ Some p
     → least_place langs b ≡ Some q → p ≡ q
 same_place langs a b p q e f g = let s : Some p ≡ Some q = sym f ∙ (ap (least_place langs) e ∙ g) in
     cc
@@ -46,7 +49,8 @@ found_or_none : (items : List Item) (langs : List (List ℕ)) (text : List ℕ)
 found_or_none items langs text f g = let e =
     one_lookup items (is_among langs) (Some (pieces text)) None f g in cc
 
-has_default : (items : List Item) (langs : List (List ℕ)) (default : Option (List ℕ))
+-- A default that is open is there.
+pub has_default : (items : List Item) (langs : List (List ℕ)) (default : Option (List ℕ))
     (lang : List ℕ) → default ≡ Some lang → IsOpenDefault items (is_among langs) lang
     → HasOpenDefault items (is_among langs) default
 has_default items langs default lang e o = rw e o

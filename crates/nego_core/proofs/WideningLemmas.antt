@@ -1,34 +1,29 @@
 -- Widened lookup.
 use Rattle.std.proofs.Common.{ℕ, ◌≡◌, ◌+◌, ◌≤◌, ◌<◌, ◌⊎◌, List, [], ◌∷◌, ◌++◌, Option, Some, None}
 use Rattle.std.proofs.Common.{Bool, true, false, inl, inr, refl, sym, ◌∙◌, ap, subst, append-nil}
-use Rattle.std.proofs.Common.{arith, drop, take, get_or, length, cond}
-use Rattle.std.specs.Prelude.{suc, IsTrue, ◌↔◌, All, AllPairs, Contains, IsSomeAnd, map, nat_lt}
-use Rattle.std.specs.Prelude.{not, is_some, if◌then◌else◌}
+use Rattle.std.proofs.Common.{arith, drop, get_or, length, cond}
+use Rattle.std.specs.Prelude.{suc, IsTrue, All, AllPairs, Contains, IsSomeAnd, map, nat_lt}
+use Rattle.std.specs.Prelude.{is_some, if◌then◌else◌}
 use Rattle.std.specs.List.{flat_map, slice_get, cons_option, list_any, position_or_len}
 use Rattle.std.specs.Str.{bytes_eq}
-use Rattle.std.specs.Cmp.Lexicographic.{slice_cmp}
-use Rattle.std.specs.Ordering.{nat_cmp, is_lt}
+use Rattle.std.specs.Ordering.{is_lt}
 use Rattle.std.specs.declared.cmp.Ordering.{Ordering}
 use Rattle.std.specs.declared.cmp.Ordering.TheVariants.{Less, Equal, Greater}
 use Rattle.std.proofs.lemmas.Bool.{cases_Bool, le-ltb, lt-ltb, ltb-false, ltb-true}
-use Rattle.std.proofs.lemmas.Cmp.{nat_list_cmp_total}
-use Rattle.std.proofs.lemmas.Option.{slice_get_past}
 use Rattle.std.proofs.lemmas.List.{drop_all}
 use Rattle.std.proofs.lemmas.List.Elements.{All-nil, All-cons, All-append, All-contains}
-use Rattle.std.proofs.lemmas.List.Elements.{All-contains_itself, All-head, All-tail, All-push}
-use Rattle.std.proofs.lemmas.List.Elements.{All-weaker, Contains-append_cases, Contains-append_left}
-use Rattle.std.proofs.lemmas.List.Elements.{Contains-append_right, Contains-push}
+use Rattle.std.proofs.lemmas.List.Elements.{All-contains_itself, All-head, All-tail}
+use Rattle.std.proofs.lemmas.List.Elements.{All-weaker, Contains-append_cases}
+use Rattle.std.proofs.lemmas.List.Elements.{Contains-append_right}
 use Rattle.std.proofs.lemmas.Slice.Eq.{bytes_eq-Decides}
 use Rattle.lang_core.specs.Text.{pieces, joined}
 use Rattle.lang_core.specs.Lang.{tag_of}
 use Rattle.lang_core.specs.Grammar.{is_star}
-use Rattle.lang_core.specs.Matching.{Extended, as_basic, greedy, is_basic_match}
-use Rattle.lang_core.specs.Candidates.{candidates}
+use Rattle.lang_core.specs.Matching.{Extended, greedy, is_basic_match}
 use Rattle.lang_core.proofs.BasicLaw.{basic_of_test, test_of_basic}
 use Rattle.lang_core.proofs.Embedding.{embeds_of_greedy, greedy_of_embeds}
 use Rattle.nego_core.proofs.Basics.{contains_cases, contains_first, contains_from_map, element_at}
-use Rattle.nego_core.proofs.Basics.{false_true, same_default, stands_at}
-use Rattle.nego_core.proofs.FilteringKeys.{take_next}
+use Rattle.nego_core.proofs.Basics.{false_true, same_default}
 use Rattle.nego_core.proofs.FoundCandidates.{IsTriedOf, each_tried}
 use Rattle.nego_core.proofs.LangSetLemmas.{among_contains, contains_among}
 use Rattle.nego_core.proofs.LookupCandidatesLemmas.{first_append, first_front, first_here}
@@ -44,8 +39,7 @@ use Rattle.nego_core.specs.Choosing.{candidates_of, all_candidates, IsOpen, IsLo
 use Rattle.nego_core.specs.Choosing.{MatchFirstOf}
 use Rattle.nego_core.specs.LookupOrder.{AreOrderKeys, IsOrder, is_tried}
 use Rattle.nego_core.specs.LookupPlaces.{least_place}
-use Rattle.nego_core.specs.WidenedChoice.{Fits, IsFirstWidened, IsFirstWidenedAt, MatchLeast}
-use Rattle.nego_core.specs.WidenedChoice.{is_below}
+use Rattle.nego_core.specs.WidenedChoice.{IsFirstWidened, IsFirstWidenedAt}
 use Rattle.nego_core.specs.Widening.{AreMatched, IsBelow, IsLookedUpWidened, MatchesLang, widened}
 use Rattle.nego_core.specs.declared.lookup_order.OrderKey.{OrderKey}
 use Rattle.nego_core.specs.declared.scheme.Scheme.{Scheme}
@@ -180,6 +174,16 @@ open_lang : (items : List Item) (langs : List (List ℕ)) (lang : List ℕ) → 
 open_lang items langs lang c n =
     (ap (is_among langs) (joined-pieces lang) ∙ contains_among langs lang c, n)
 
+-- the range of the item matches the language, and the items other than "*" do not refuse it
+abbrev pub Fits : Scheme → List Item → Item → List ℕ → Type 0
+Fits scheme items i lang = MatchesLang scheme i lang × ¬ NamedRefuse items (pieces lang)
+
+-- the least of the languages that fit, or none where none does
+abbrev pub MatchLeast : (List ℕ → Type 0) → List (List ℕ) → Option (List ℕ) → Type 0
+MatchLeast Passes langs None = All (λ l. ¬ Passes l) langs
+MatchLeast Passes langs (Some x) =
+    Contains langs x × Passes x × All (λ l. Passes l → ¬ IsBelow l x) langs
+
 none_fit : (s : Scheme) (items : List Item) (langs : List (List ℕ)) (i : Item)
     (matched : List (List ℕ))
     → All (λ m. Contains langs m × MatchesLang s i m) matched → All (λ l. ¬ Fits s items i l) langs
@@ -215,14 +219,6 @@ each_matched s langs i matched h =
     All-weaker (Contains matched) (λ m. Contains langs m × MatchesLang s i m)
     (λ m c. (h.each m).0 c) matched (All-contains_itself matched)
 
--- the candidates of an equal range are those of the item
-pub of_range : (P : List (List ℕ) → Type 0) (i : Item) (range : List ℕ)
-    (found : Option (List (List ℕ)))
-    → range ≡ i.range → MatchFirstOf P (candidates (as_basic (pieces range))) found
-    → MatchFirstOf P (candidates_of i) found
-of_range P i range found e f =
-    subst (λ (r : List ℕ). MatchFirstOf P (candidates (as_basic (pieces r))) found) e f
-
 -- where a candidate is open, the first such is the first widened candidate
 pub by_candidate : (s : Scheme) (items : List Item) (langs : List (List ℕ)) (i : Item)
     (found : List (List ℕ))
@@ -255,97 +251,23 @@ by_match s items langs i x n least = λ matched h.
     (least_first (Open items langs) matched x c (open_lang items langs x least.0 least.1.1) h.rising
     low)
 
--- ---- the least of the languages so far
+-- ---- texts below others
 
-lt_less : (o : Ordering) → is_lt o ≡ true → o ≡ Less
+-- An order that is less is that of a text below.
+pub lt_less : (o : Ordering) → is_lt o ≡ true → o ≡ Less
 lt_less Less h = refl
 lt_less Equal h = absurd (false_true h)
 lt_less Greater h = absurd (false_true h)
 
-less_lt : (o : Ordering) → o ≡ Less → is_lt o ≡ true
+-- And the other way round.
+pub less_lt : (o : Ordering) → o ≡ Less → is_lt o ≡ true
 less_lt o e = ap is_lt e
 
-not_itself : (x : List ℕ) → ¬ IsBelow x x
+-- No text is below itself.
+pub not_itself : (x : List ℕ) → ¬ IsBelow x x
 not_itself x h = not_both x x h h
 
-least_new : (Q : List ℕ → Type 0) (xs : List (List ℕ)) (x : List ℕ) (least : Option (List ℕ))
-    → MatchLeast Q xs least → is_below x least ≡ true → Q x → MatchLeast Q (xs ++ x ∷ []) (Some x)
-least_new Q xs x None m b q = (
-  Contains-push xs x,
-  q,
-  All-push (λ l. Q l → ¬ IsBelow l x) xs x
-      (All-weaker (λ l. ¬ Q l) (λ l. Q l → ¬ IsBelow l x) (λ l n p. absurd (n p)) xs m)
-      (λ p. not_itself x),
-)
-least_new Q xs x (Some y) m b q = (
-  Contains-push xs x,
-  q,
-  All-push (λ l. Q l → ¬ IsBelow l x) xs x
-      (All-weaker (λ l. Q l → ¬ IsBelow l y) (λ l. Q l → ¬ IsBelow l x)
-      (λ l n p h. n p (nat_list_cmp_total.trans l x y h (lt_less (slice_cmp nat_cmp x y) b))) xs
-      m.2) (λ p. not_itself x),
-)
-
-least_above : (Q : List ℕ → Type 0) (xs : List (List ℕ)) (x : List ℕ) (least : Option (List ℕ))
-    → MatchLeast Q xs least → is_below x least ≡ false → MatchLeast Q (xs ++ x ∷ []) least
-least_above Q xs x None m b = absurd (false_true (sym b))
-least_above Q xs x (Some y) m b = (
-  Contains-append_left xs (x ∷ []) y m.0,
-  m.1,
-  All-push (λ l. Q l → ¬ IsBelow l y) xs x m.2
-      (λ p h. false_true (sym b ∙ less_lt (slice_cmp nat_cmp x y) h)),
-)
-
-least_unfit : (Q : List ℕ → Type 0) (xs : List (List ℕ)) (x : List ℕ) (least : Option (List ℕ))
-    → MatchLeast Q xs least → ¬ Q x → MatchLeast Q (xs ++ x ∷ []) least
-least_unfit Q xs x None m n = All-push (λ l. ¬ Q l) xs x m n
-least_unfit Q xs x (Some y) m n = (
-  Contains-append_left xs (x ∷ []) y m.0,
-  m.1,
-  All-push (λ l. Q l → ¬ IsBelow l y) xs x m.2
-      (λ p h. n p),
-)
-
--- the same of the languages of a list up to a place
-pub next_new : (Q : List ℕ → Type 0) (langs : List (List ℕ)) (k : ℕ) (x : List ℕ)
-    (least : Option (List ℕ))
-    → k < length langs → x ≡ get_or langs k x → MatchLeast Q (take k langs) least
-    → is_below x least ≡ true → Q x → MatchLeast Q (take (k + 1) langs) (Some x)
-next_new Q langs k x least low e m b q =
-    subst (λ xs. MatchLeast Q xs (Some x)) (sym (take_next langs k x low e))
-    (least_new Q (take k langs) x least m b q)
-
--- a language that is not below the least so far leaves it
-pub next_above : (Q : List ℕ → Type 0) (langs : List (List ℕ)) (k : ℕ) (x : List ℕ)
-    (least : Option (List ℕ))
-    → k < length langs → x ≡ get_or langs k x → MatchLeast Q (take k langs) least
-    → is_below x least ≡ false → MatchLeast Q (take (k + 1) langs) least
-next_above Q langs k x least low e m b =
-    subst (λ xs. MatchLeast Q xs least) (sym (take_next langs k x low e))
-    (least_above Q (take k langs) x least m b)
-
--- a language that does not fit leaves the least so far
-pub next_unfit : (Q : List ℕ → Type 0) (langs : List (List ℕ)) (k : ℕ) (x : List ℕ)
-    (least : Option (List ℕ))
-    → k < length langs → x ≡ get_or langs k x → MatchLeast Q (take k langs) least → ¬ Q x
-    → MatchLeast Q (take (k + 1) langs) least
-next_unfit Q langs k x least low e m n =
-    subst (λ xs. MatchLeast Q xs least) (sym (take_next langs k x low e))
-    (least_unfit Q (take k langs) x least m n)
-
 -- ---- the walk over the keys
-
--- At a place after the last item there is nothing to find.
-pub no_item : (s : Scheme) (items : List Item) (langs : List (List ℕ)) (place : ℕ)
-    → length items ≤ place → IsFirstWidenedAt s items langs place None
-no_item s items langs place past = rw (slice_get_past items place past) refl
-
--- what is found of an item is found at its place
-pub the_item : (s : Scheme) (items : List Item) (langs : List (List ℕ)) (place : ℕ) (i : Item)
-    (found : Option (List (List ℕ)))
-    → place < length items → i ≡ get_or items place i → IsFirstWidened s items langs i found
-    → IsFirstWidenedAt s items langs place found
-the_item s items langs place i found low e f = rw (stands_at items place i low e) f
 
 -- the widened candidates of items, joined
 abbrev pub all_widened : (Item → List (List ℕ)) → List Item → List (List (List ℕ))
@@ -505,12 +427,6 @@ has_place langs text r e =
     ap is_some e
     ∙ (some_place (nat_lt (position_or_len (Spells text) langs) (length langs))
     (position_or_len (Spells text) langs) ∙ sym (place_or_none langs text))
-
--- a language fits where it is matched and not refused
-pub fits_on : (Matches Refuses : Type 0) (r : Bool) → Matches → IsTrue r ↔ Refuses
-    → IsTrue (not r) ↔ (Matches × ¬ Refuses)
-fits_on Matches Refuses true m b = ((λ f. absurd (false_true f)), (λ p. absurd (p.1 (b.0 refl))))
-fits_on Matches Refuses false m b = ((λ _. (m, λ r. false_true (b.1 r))), (λ _. refl))
 
 -- ---- laws
 
@@ -703,16 +619,18 @@ first_narrow P m (i ∷ items) x c f =
 all_covered : (s : Scheme) (items ordered : List Item) (langs : List (List ℕ))
     (m : Item → List (List ℕ))
     → ((i : Item) → AreMatched s langs i (m i)) → IsOrder items ordered
-    → ((i : Item) → Contains items i → AddsNone s langs i) → All (Covers m) ordered
+    → ((i : Item) → Contains items i → IsTrue (is_tried i) → AddsNone s langs i)
+    → All (Covers m) ordered
 all_covered s items ordered langs m ok o h =
     All-weaker (IsTriedOf items) (Covers m)
-    (λ i t. covered s langs i (m i) (h i t.0) (each_matched s langs i (m i) (ok i))) ordered
+    (λ i t. covered s langs i (m i) (h i t.0 t.1) (each_matched s langs i (m i) (ok i))) ordered
     (each_tried items ordered o)
 
 -- lookup finds what widened lookup finds
 pub same_narrow : (s : Scheme) (items : List Item) (langs : List (List ℕ))
     (found : Option (List (List ℕ)))
-    → ((i : Item) → Contains items i → AddsNone s langs i) → IsLookedUpWidened s items langs found
+    → ((i : Item) → Contains items i → IsTrue (is_tried i) → AddsNone s langs i)
+    → IsLookedUpWidened s items langs found
     → IsLookedUp items (is_among langs) found
 same_narrow s items langs None h l = nothing_narrow s items langs l
 same_narrow s items langs (Some x) h l =
@@ -727,7 +645,8 @@ same_narrow s items langs (Some x) h l =
 -- and the other way round
 pub same_wide : (s : Scheme) (items : List Item) (langs : List (List ℕ))
     (found : Option (List (List ℕ)))
-    → ((i : Item) → Contains items i → AddsNone s langs i) → IsLookedUp items (is_among langs) found
+    → ((i : Item) → Contains items i → IsTrue (is_tried i) → AddsNone s langs i)
+    → IsLookedUp items (is_among langs) found
     → IsLookedUpWidened s items langs found
 same_wide s items langs found h l =
     record {

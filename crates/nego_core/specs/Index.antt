@@ -1,5 +1,5 @@
 use Rattle.std.specs.Prelude.{ℕ, ◌≡◌, ◌≢◌, ◌<◌, ◌≤◌, slice_index, true, false, List, [], Option}
-use Rattle.std.specs.Prelude.{Some, MatchOption, unwrap_or, option_map, length, All, Contains}
+use Rattle.std.specs.Prelude.{Some, None, MatchOption, unwrap_or, option_map, length, All, Contains}
 use Rattle.std.specs.Prelude.{IsSorted}
 use Rattle.std.specs.List.{slice_get, slice_index_or}
 use Rattle.std.specs.declared.cmp.Ordering.{Ordering}
@@ -62,6 +62,13 @@ abbrev pub MatchFirst : List Item → List ℕ → Option ℕ → Type 0
 MatchFirst items text place =
     MatchOption place ((k : ℕ) (other : Item) → slice_get items k ≡ Some other → other.range ≢ text)
     (IsFirstWith items text)
+
+-- the place of the first item whose range is that of the item at a place, if there is one
+abbrev pub IsFirstAlike : List Item → ℕ → Option ℕ → Type 0
+IsFirstAlike items place found = of_item (slice_get items place) where
+  of_item : Option Item → Type 0
+  of_item None = found ≡ None
+  of_item (Some i) = MatchFirst items i.range found
 
 -- ---- one index or the other
 

@@ -9,6 +9,7 @@ pub mod Chains
 pub mod HashedRanges
 pub mod Index
 pub mod LookupOrder
+pub mod FirstTried
 pub mod LangSet
 pub mod Choosing
 pub mod LookupPlaces
@@ -16,4 +17,5 @@ pub mod WidenedChoice
 pub mod Widening
 pub mod Filtering
 pub mod Unweighted
+pub mod Unranked
 pub mod Shortlist

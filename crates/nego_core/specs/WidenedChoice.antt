@@ -1,5 +1,6 @@
 -- Widened lookup over any languages that can be searched.
-use Rattle.std.specs.Prelude.{ℕ, ◌≡◌, Bool, true, List, Option, Some, None, All, Contains}
+use Rattle.std.specs.Prelude.{ℕ, ◌≡◌, ◌≤◌, ◌==◌, ◌&&◌, ◌||◌, nat_lt, Bool, true}
+use Rattle.std.specs.Prelude.{List, Option, Some, None, All, Contains}
 use Rattle.std.specs.List.{slice_get}
 use Rattle.std.specs.Cmp.Lexicographic.{slice_cmp}
 use Rattle.std.specs.Ordering.{nat_cmp, is_lt}
@@ -13,7 +14,10 @@ use Rattle.nego_core.specs.Widening.{AreMatched, IsBelow, IsLookedUpWidened, Mat
 use Rattle.nego_core.specs.declared.scheme.Scheme.{Scheme}
 use Rattle.nego_core.specs.declared.choosing.Choice.{Choice}
 use Rattle.nego_core.specs.declared.choosing.Choice.TheVariants.{Matched, Default, Nothing}
-use Rattle.nego_core.specs.declared.widened_choice.RangeTest.{RangeTest}
+use Rattle.nego_core.specs.FirstTried.{item_tried}
+use Rattle.nego_core.specs.LookupOrder.{AreOrderKeys}
+use Rattle.nego_core.specs.declared.lookup_order.OrderKey.{OrderKey}
+use Rattle.nego_core.specs.declared.widened_choice.Earliest.{Earliest}
 
 -- widened lookup, with the default where no widened candidate is found
 abbrev pub IsChosenWidened : Scheme → List Item → List (List ℕ) → Option (List ℕ) → Choice
@@ -24,6 +28,39 @@ IsChosenWidened scheme items langs default Default =
     IsLookedUpWidened scheme items langs None × HasOpenDefault items (is_among langs) default
 IsChosenWidened scheme items langs default Nothing =
     IsLookedUpWidened scheme items langs None × ¬ HasOpenDefault items (is_among langs) default
+
+-- the item at a place of the order of lookup matches the language, which the items other than "*"
+-- do
+-- not refuse
+abbrev pub IsMatchedAt : Scheme → List Item → List ℕ → ℕ → Type 0
+IsMatchedAt scheme items lang n =
+    (keys : List OrderKey) × AreOrderKeys items keys
+    × ((i : Item) × (item_tried items keys n ≡ Some i)
+    × MatchesLang scheme i lang)
+    × ¬ NamedRefuse items (pieces lang)
+
+-- the same of the first such place
+abbrev pub IsMatchedFirst : Scheme → List Item → List ℕ → ℕ → Type 0
+IsMatchedFirst scheme items lang n =
+    IsMatchedAt scheme items lang n × ((m : ℕ) → IsMatchedAt scheme items lang m → n ≤ m)
+
+-- a language that is matched at one place does not come before one that is matched at another
+abbrev pub IsNotBefore : ℕ → List ℕ → ℕ → List ℕ → Type 0
+IsNotBefore n lang tried x = (tried ≤ n) × (n ≡ tried → ¬ IsBelow lang x)
+
+-- the language that is matched first, the least by bytes where one item matches several, or none
+-- where none is matched
+abbrev pub MatchEarliest : Scheme → List Item → List (List ℕ) → Option Earliest → Type 0
+MatchEarliest scheme items langs None = All (λ l. (n : ℕ) → ¬ IsMatchedAt scheme items l n) langs
+MatchEarliest scheme items langs (Some e) =
+    Contains langs e.lang.now × IsMatchedAt scheme items e.lang.now e.tried
+    × All (λ l. (n : ℕ) → IsMatchedAt scheme items l n → IsNotBefore n l e.tried e.lang.now) langs
+
+-- whether the language, matched at a place, comes before the earliest so far
+abbrev pub is_earlier : ℕ → List ℕ → Option Earliest → Bool
+is_earlier tried lang None = true
+is_earlier tried lang (Some e) =
+    nat_lt tried e.tried || ((tried == e.tried) && is_lt (slice_cmp nat_cmp lang e.lang.now))
 
 -- whatever the languages are that the item matches, the first of its widened candidates that is
 -- open
@@ -40,22 +77,3 @@ IsFirstWidenedAt scheme items langs place found = of_item (slice_get items place
   of_item : Option Item → Type 0
   of_item None = found ≡ None
   of_item (Some i) = IsFirstWidened scheme items langs i found
-
--- the range of the item matches the language, and the items other than "*" do not refuse it
-abbrev pub Fits : Scheme → List Item → Item → List ℕ → Type 0
-Fits scheme items i lang = MatchesLang scheme i lang × ¬ NamedRefuse items (pieces lang)
-
--- the least of the languages that fit, or none where none does
-abbrev pub MatchLeast : (List ℕ → Type 0) → List (List ℕ) → Option (List ℕ) → Type 0
-MatchLeast Passes langs None = All (λ l. ¬ Passes l) langs
-MatchLeast Passes langs (Some x) =
-    Contains langs x × Passes x × All (λ l. Passes l → ¬ IsBelow l x) langs
-
--- whether the language is below the least one so far
-abbrev pub is_below : List ℕ → Option (List ℕ) → Bool
-is_below lang None = true
-is_below lang (Some least) = is_lt (slice_cmp nat_cmp lang least)
-
--- the range adds the language to its candidates
-abbrev pub Passes : RangeTest → List ℕ → Type 0
-Passes test lang = Fits test.scheme test.list.now test.item.now lang

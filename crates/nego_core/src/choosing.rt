@@ -129,7 +129,7 @@ pub(crate) fn has_open_default<H: Holds>(
 }
 
 /// Whether the text is in the set and not refused.
-fn is_open<H: Holds>(list: &PriorityList, held: &H, text: &str) -> bool
+pub(crate) fn is_open<H: Holds>(list: &PriorityList, held: &H, text: &str) -> bool
     ensures { IsTrue result ↔ IsOpen list.now (H.held held.now) (pieces text.now) }
 {
     held.holds(text) && !named_refuse(list, text)

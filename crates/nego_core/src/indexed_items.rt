@@ -1,9 +1,9 @@
 //! The items of a list with their index, by which a long list is asked.
-ghost use Rattle.std.specs.Prelude.{◌≡◌, IfSome};
+ghost use Rattle.std.specs.Prelude.{◌≡◌, IfSome, length};
 ghost use Rattle.lang_core.specs.Text.{pieces};
 ghost use Rattle.lang_core.specs.Matching.{Basic};
 ghost use Rattle.nego_core.specs.Deciding.{IsBest, IsAny, Matches, MatchesNamed};
-ghost use Rattle.nego_core.specs.Index.{IsIndex, MatchFirst};
+ghost use Rattle.nego_core.specs.Index.{IsFirstAlike, IsIndex, MatchFirst};
 
 use crate::deciding::{MostSpecific, best_extended, best_of, better_of};
 use crate::hashed_ranges::place_in;
@@ -44,6 +44,13 @@ impl<'a> IndexedItems<'a> {
         ensures { result ≡ items.now }
     {
         IndexedItems { items, index }
+    }
+
+    /// How many items there are.
+    pub(crate) fn len(&self) -> usize
+        ensures { result ≡ length self.now }
+    {
+        self.items.len()
     }
 
     /// The best of the items that match, by the index where there is one for the scheme.
@@ -106,8 +113,18 @@ impl<'a> IndexedItems<'a> {
         }
     }
 
+    /// The place of the first item whose range is that of the item at the place.
+    pub(crate) fn first_alike(&self, place: usize) -> Option<usize>
+        ensures { IsFirstAlike self.now place result }
+    {
+        match self.items.get(place) {
+            Some(item) => self.place_of(item.range().as_str().as_bytes()),
+            None => None,
+        }
+    }
+
     /// The place of the first item whose range is the text.
-    fn place_of(&self, text: &[u8]) -> Option<usize>
+    pub(crate) fn place_of(&self, text: &[u8]) -> Option<usize>
         ensures { MatchFirst self.now text.now result }
     {
         match self.index {

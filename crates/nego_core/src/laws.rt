@@ -11,7 +11,7 @@ ghost use Rattle.nego_core.specs.LookupOrder.{is_tried, IsOrder};
 ghost use Rattle.nego_core.specs.Choosing.{IsLookedUp, candidates_of};
 ghost use Rattle.nego_core.specs.LookupPlaces.{IsFound};
 ghost use Rattle.nego_core.specs.LangSet.{is_among};
-ghost use Rattle.nego_core.specs.Widening.{IsLookedUpWidened, MatchesLang};
+ghost use Rattle.nego_core.specs.Widening.{IsFoundWidened, IsLookedUpWidened, MatchesLang};
 ghost use Rattle.nego_core.specs.Deciding.{Matches, IsDeciding, IsDecidedBy, NamedRefuse};
 ghost use Rattle.nego_core.specs.Deciding.{RefusesLang, named_items};
 ghost use Rattle.nego_core.specs.Unweighted.{AllPositive, AllUnweighted, IsMatchedAt, IsFirstHeld};
@@ -107,6 +107,13 @@ pub fn one_widened_lookup()
         → IsLookedUpWidened scheme items langs a → IsLookedUpWidened scheme items langs b → a ≡ b }
 {}
 
+/// Widened lookup over a slice of languages has one answer.
+pub fn one_found_widened()
+    ensures { (scheme : Scheme) (items : List Item) (langs : List (List ℕ))
+        (default : Option (List ℕ)) (a b : Found) → IsFoundWidened scheme items langs default a
+        → IsFoundWidened scheme items langs default b → a ≡ b }
+{}
+
 /// What widened lookup finds is one of the languages, the items other than "*" do not refuse it,
 /// and it is a candidate of an item that is tried, or that item's range matches it.
 pub fn widened_is_a_candidate_or_matched()
@@ -133,13 +140,14 @@ pub fn widened_keeps_the_first_item()
         → IsLookedUpWidened scheme items langs (Some found) }
 {}
 
-/// Where no range of the list matches a language that is not one of its candidates, widened lookup
-/// and lookup find the same.
+/// Where no range that lookup tries matches a language that is not one of its candidates, widened
+/// lookup and lookup find the same.
 pub fn widened_is_lookup_where_nothing_is_added()
     ensures { (scheme : Scheme) (items : List Item) (langs : List (List ℕ))
         (found : Option (List (List ℕ)))
-        → ((item : Item) → Contains items item → (lang : List ℕ) → Contains langs lang
-        → MatchesLang scheme item lang → Contains (candidates_of item) (pieces lang))
+        → ((item : Item) → Contains items item → IsTrue (is_tried item) → (lang : List ℕ)
+        → Contains langs lang → MatchesLang scheme item lang
+        → Contains (candidates_of item) (pieces lang))
         → IsLookedUpWidened scheme items langs found ↔ IsLookedUp items (is_among langs) found }
 {}
 

@@ -39,6 +39,13 @@ impl<'a> OrderedText<'a> {
             text,
         }
     }
+
+    /// The text.
+    pub(crate) fn text(&self) -> &'a str
+        ensures { result.now ≡ self.now }
+    {
+        self.text
+    }
 }
 
 impl<'a> PartialEq for OrderedText<'a> {

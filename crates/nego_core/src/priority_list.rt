@@ -1,6 +1,6 @@
 //! Priority lists (RFC 4647 section 2.3), and how they are read from a field.
 ghost use Rattle.std.specs.Prelude.{◌≡◌, ◌≤◌, ◌<◌, ◌==◌, ℕ, false, length, All, MatchResult};
-ghost use Rattle.std.specs.Prelude.{MatchOption, IfSome};
+ghost use Rattle.std.specs.Prelude.{IfOk, IfSome, List, MatchOption};
 ghost use Rattle.std.specs.List.{list_any};
 ghost use Rattle.std.specs.Cmp as laws_of;
 ghost use Rattle.std.specs.Cmp.Lexicographic.{pointwise, lists_equiv};
@@ -9,7 +9,11 @@ ghost use Rattle.nego_core.specs.Item.{item_eq, item_equiv};
 ghost use Rattle.nego_core.specs.Basics.{IsTheOne};
 ghost use Rattle.nego_core.specs.Deciding.{IsDeciding, IsDecidedBy};
 ghost use Rattle.nego_core.specs.Deciding.{IsDecidingWeight, DecidesLang};
+ghost use Rattle.nego_core.specs.Deciding.{Matches};
+ghost use Rattle.nego_core.specs.FirstTried.{AreFirstsIfAny, IsFirstTried};
 ghost use Rattle.nego_core.specs.LookupOrder.{AreOrderKeys};
+ghost use Rattle.nego_core.specs.Widening.{MatchesLang};
+ghost use Rattle.nego_core.specs.declared.lookup_order.OrderKey.{OrderKey};
 ghost use Rattle.nego_core.specs.Unweighted.{AllPositive};
 ghost use Rattle.nego_core.specs.Index.{IsIndex};
 ghost use Rattle.nego_core.specs.Field.{IsField, IsAccept, IsAcceptRanges, IsOfOneKind};
@@ -21,13 +25,14 @@ ghost use Rattle.nego_core.specs.declared.fault.NegoFault.TheVariants.{NoMemory}
 use crate::deciding::Decision;
 use crate::fault::NegoFault;
 use crate::field::{Malformed, read_items};
+use crate::first_tried::{first_basic_match, first_match, first_tried_of};
 use crate::index::{Index, index_of};
 use crate::indexed_items::IndexedItems;
 use crate::item::Item;
 use crate::lookup_order::{OrderKey, order_of};
 use crate::scheme::Scheme;
 use lang_core::{Lang, Tag};
-use std::alloc::Global;
+use std::alloc::{AllocError, Global};
 use std::fmt;
 use std::marker::Model;
 
@@ -39,6 +44,9 @@ pub struct PriorityList {
     order: Vec<OrderKey>,
     /// What makes questions fast, where there are many items.
     index: Option<Index>,
+    /// Where in `order` a range of each text is first tried, at the place of the first item with
+    /// this text. It is empty where the items are compared one by one.
+    firsts: Vec<usize>,
     /// Whether an item may have weight 0, and so refuse what it decides.
     may_refuse: bool,
 }
@@ -51,6 +59,7 @@ impl Model for PriorityList {
     ghost Value = { List Item };
 
     ghost use Rattle.nego_core.specs.Field.{IsOfOneKind};
+    ghost use Rattle.nego_core.specs.FirstTried.{AreFirstsIfAny};
     ghost use Rattle.nego_core.specs.LookupOrder.{AreOrderKeys};
     ghost use Rattle.nego_core.specs.Index.{IsIndex};
 
@@ -58,6 +67,7 @@ impl Model for PriorityList {
 
     ghost invariant = { λ l. AreOrderKeys l.items.items l.order.items
         × IfSome l.index (IsIndex l.items.items)
+        × AreFirstsIfAny l.items.items l.order.items l.firsts.items
         × (l.may_refuse ≡ false → AllPositive l.items.items)
         × IsOfOneKind l.items.items
         × All (λ i. i.weight ≤ 1000) l.items.items };
@@ -128,6 +138,18 @@ impl PriorityList {
         &self.order
     }
 
+    /// Where in `order` an item is first tried that matches the language, or the number of its keys
+    /// where none does. None matches `@none`.
+    pub(crate) fn first_tried(&self, scheme: Scheme, lang: &Lang) -> usize
+        ensures { (keys : List OrderKey) → AreOrderKeys self.now keys
+            → IsFirstTried (λ i. MatchesLang scheme i lang.now) self.now keys result }
+    {
+        match lang.tag() {
+            Some(tag) => self.first_match(scheme, tag),
+            None => self.order().len(),
+        }
+    }
+
     /// The items with their index.
     pub(crate) fn indexed_items(&self) -> IndexedItems<'_>
         ensures { result ≡ self.now }
@@ -173,6 +195,23 @@ impl PriorityList {
         match lang.tag() {
             Some(tag) => self.decide(scheme, tag),
             None => None,
+        }
+    }
+
+    /// Where in `order` an item is first tried that matches the tag, or the number of its keys.
+    fn first_match(&self, scheme: Scheme, tag: &Tag) -> usize
+        ensures { (keys : List OrderKey) → AreOrderKeys self.now keys
+            → IsFirstTried (λ i. Matches scheme (pieces i.range) (pieces tag.now)) self.now keys
+            result }
+    {
+        match (scheme, self.firsts.is_empty()) {
+            (Scheme::Basic, false) => first_basic_match(
+                &self.indexed_items(),
+                &self.order,
+                &self.firsts,
+                tag.as_str().as_bytes(),
+            ),
+            _ => first_match(&self.items, &self.order, scheme, tag),
         }
     }
 
@@ -227,18 +266,39 @@ fn list_of(alloc: Global, scheme: Scheme, items: Vec<Item>) -> Result<PriorityLi
             items,
             order: Vec::new(alloc),
             index: None,
+            firsts: Vec::new(alloc),
             may_refuse: false,
         });
     }
     let may_refuse = may_refuse(&items);
     let order = order_of(alloc, &items)?;
     let index = index_of(alloc, scheme, &items)?;
+    let firsts = firsts_of(alloc, &items, index.as_ref(), &order)?;
     Ok(PriorityList {
         items,
         order,
         index,
+        firsts,
         may_refuse,
     })
+}
+
+/// Where a range of each text is first tried, where the index is of the ranges' texts.
+fn firsts_of(
+    alloc: Global,
+    items: &[Item],
+    index: Option<&Index>,
+    order: &[OrderKey],
+) -> Result<Vec<usize>, AllocError>
+    requires { IfSome index (λ index. IsIndex items.now index.now) }
+    ensures { IfOk result (λ firsts. AreFirstsIfAny items.now order.now firsts.items) }
+{
+    match index {
+        Some(Index::Buckets(_) | Index::Ranges(_)) => {
+            first_tried_of(alloc, &IndexedItems::new(items, index), order)
+        }
+        _ => Ok(Vec::new(alloc)),
+    }
 }
 
 /// Whether an item has weight 0.

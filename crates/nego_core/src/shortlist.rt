@@ -1,16 +1,17 @@
 //! Priority lists cut to some languages.
-ghost use Rattle.std.specs.Prelude.{◌≡◌, IfOk, IsTrue, option_map};
-ghost use Rattle.lang_core.specs.Text.{pieces};
+ghost use Rattle.std.specs.Prelude.{◌≡◌, IfOk, IsPermutation, IsSorted, IsTrue, option_map};
 ghost use Rattle.nego_core.specs.Filtering.{texts_of};
 ghost use Rattle.nego_core.specs.LangSet.{is_among};
 ghost use Rattle.nego_core.specs.Choosing.{MatchFirstOf};
-ghost use Rattle.nego_core.specs.Shortlist.{AreAmong, IsChosenBy, IsFirstAt, IsFoundAt, IsOneOf};
-ghost use Rattle.nego_core.specs.Shortlist.{IsRanking, IsShortlist, IsThere};
+ghost use Rattle.nego_core.specs.Shortlist.{AreAmong, AreMatchedBy, AreMatchedLangs, IsChosenBy};
+ghost use Rattle.nego_core.specs.Shortlist.{IsOneOf, IsRanking, IsShortlist, IsThere, matched_cmp};
 
-use crate::choosing::{Choice, first_at, has_open_default};
+use crate::choosing::{Choice, has_open_default, is_open};
+use crate::ordered_text::OrderedText;
 use crate::priority_list::PriorityList;
-use crate::widened_choice::{Languages, Searched, first_widened_at};
-use crate::widening::{Listed, Widening, listed_place};
+use crate::unranked::Unranked;
+use crate::widened_choice::{Languages, Searched, WidenedRanges};
+use crate::widening::Widening;
 use lang_core::Lang;
 use std::alloc::{AllocError, Global};
 use std::marker::Model;
@@ -51,7 +52,9 @@ impl<'a> Model for Shortlist<'a> {
 impl<'a> Shortlist<'a> {
     /// The list, cut to these languages, for lookups that are widened or not.
     ///
-    /// It takes time for each item with each language. Out of memory is the only refusal.
+    /// It takes time for each candidate of the items and for each language. Only where ranges are
+    /// extended and lookup is widened is each range compared with each language. Out of memory is
+    /// the only refusal.
     pub fn new(
         alloc: Global,
         list: &'a PriorityList,
@@ -111,8 +114,16 @@ fn first_among<'a, L: Languages>(ranked: &[&'a Lang], langs: &L) -> Option<&'a L
     None
 }
 
-/// Of these languages those that lookup finds, best first: each item is asked for the first that it
-/// finds of those that are left, until it finds none.
+/// A language, and where in the order of lookup the range comes that matches it first. Such are
+/// compared by that place, then by the languages' bytes.
+#[derive(PartialEq, Eq, PartialOrd, Ord, Drop)]
+pub(crate) struct MatchedLang<'a> {
+    pub(crate) tried: usize,
+    pub(crate) lang: OrderedText<'a>,
+}
+
+/// Of these languages those that lookup finds, best first: item by item in the order of lookup its
+/// candidates, and after them the languages that it matches, where it is widened.
 fn rank<'a>(
     alloc: Global,
     list: &PriorityList,
@@ -122,49 +133,83 @@ fn rank<'a>(
     ensures { IfOk result (λ ranked. IsRanking widening list.now (texts_of langs.now)
         (texts_of ranked.items)) }
 {
-    let mut left = Vec::from_slice(alloc, langs)?;
+    let matched = matched_langs(alloc, list, widening, langs)?;
+    let mut left = Unranked::new(alloc, langs)?;
     let mut ranked = Vec::new(alloc);
+    let mut next = 0;
+    let items = list.items();
     let keys = list.order();
-    let mut at = 0;
-    while at < keys.len() {
-        match found_place(list, keys[at].place, widening, &left) {
-            Some(place) => {
-                let lang = left.remove(place);
-                ranked.push(lang)?;
+    for (at, key) in keys.iter().enumerate() {
+        match items.get(key.place) {
+            Some(item) => {
+                for text in item.range().truncations() {
+                    if is_open(list, &left, text) {
+                        match left.take(text) {
+                            Some(lang) => ranked.push(lang)?,
+                            None => {}
+                        }
+                    }
+                }
             }
-            None => at += 1,
+            None => {}
+        }
+        while next < matched.len() && matched[next].tried == at {
+            match left.take(matched[next].lang.text()) {
+                Some(lang) => ranked.push(lang)?,
+                None => {}
+            }
+            next += 1;
         }
     }
     Ok(ranked)
 }
 
-/// The place of the language that the item at the place finds first.
-fn found_place(
+/// The languages that the ranges match, where lookup is widened, the earliest first.
+fn matched_langs<'a>(
+    alloc: Global,
     list: &PriorityList,
-    place: usize,
     widening: Widening,
-    langs: &[&Lang],
-) -> Option<usize>
-    ensures { IsFoundAt widening list.now (texts_of langs.now) place result }
+    langs: &[&'a Lang],
+) -> Result<Vec<MatchedLang<'a>>, AllocError>
+    ensures { IfOk result (λ matched. AreMatchedBy widening list.now (texts_of langs.now)
+        matched.items) }
 {
-    match first_text(list, place, widening, &Listed { langs }) {
-        Some(text) => Some(listed_place(langs, text)),
-        None => None,
+    match widening {
+        Widening::Off => Ok(Vec::new(alloc)),
+        Widening::By(scheme) => {
+            let mut matched = all_matched(alloc, &WidenedRanges::new(list, scheme), langs)?;
+            sort_matched(&mut matched);
+            Ok(matched)
+        }
     }
 }
 
-/// The text of the language that the item at the place finds first.
-fn first_text<'a, L: Languages>(
-    list: &'a PriorityList,
-    place: usize,
-    widening: Widening,
-    langs: &'a L,
-) -> Option<&'a str>
-    ensures { IsFirstAt widening list.now (L.texts langs.now) place
-        (option_map (λ text. pieces text.now) result) }
+/// The languages that the ranges match, in their own order.
+fn all_matched<'a>(
+    alloc: Global,
+    ranges: &WidenedRanges<'_>,
+    langs: &[&'a Lang],
+) -> Result<Vec<MatchedLang<'a>>, AllocError>
+    ensures { IfOk result (λ matched. AreMatchedLangs ranges.now.scheme ranges.now.list.now
+        (texts_of langs.now) matched.items) }
 {
-    match widening {
-        Widening::Off => first_at(list, place, &Searched { langs }),
-        Widening::By(scheme) => first_widened_at(list, place, scheme, langs),
+    let mut matched = Vec::new(alloc);
+    for lang in langs {
+        match ranges.first_tried(lang) {
+            Some(tried) => matched.push(MatchedLang {
+                tried,
+                lang: OrderedText::new(lang.as_str()),
+            })?,
+            None => {}
+        }
     }
+    Ok(matched)
+}
+
+/// Puts the languages in the order of what matches them, and of their bytes.
+fn sort_matched(matched: &mut Vec<MatchedLang>)
+    ensures same { IsPermutation matched.old.items matched.new.items }
+    ensures rising { IsSorted matched_cmp matched.new.items }
+{
+    matched.sort_unstable()
 }

@@ -1,13 +1,12 @@
 //! Widened lookup over any languages that can be searched, with a default.
-ghost use Rattle.std.specs.Prelude.{◌≡◌, ◌↔◌, ℕ, List, IsTrue, option_map};
+ghost use Rattle.std.specs.Prelude.{◌≡◌, ◌++◌, ◌∷◌, [], ℕ, List, MatchOption, option_map};
 ghost use Rattle.lang_core.specs.Text.{pieces};
 ghost use Rattle.nego_core.specs.LangSet.{is_among};
-ghost use Rattle.nego_core.specs.WidenedChoice.{IsChosenWidened, IsFirstWidened};
-ghost use Rattle.nego_core.specs.WidenedChoice.{IsFirstWidenedAt, MatchLeast, Passes};
-ghost use Rattle.nego_core.specs.Widening.{IsLookedUpWidened, MatchesLang};
+ghost use Rattle.nego_core.specs.WidenedChoice.{IsChosenWidened, IsMatchedAt, IsMatchedFirst};
+ghost use Rattle.nego_core.specs.WidenedChoice.{MatchEarliest, is_earlier};
+ghost use Rattle.nego_core.specs.Widening.{IsLookedUpWidened};
 
-use crate::choosing::{Choice, first_of, has_open_default, named_refuse};
-use crate::item::{Item, first_byte};
+use crate::choosing::{Choice, first_at, has_open_default, named_refuse};
 use crate::lang_set::Holds;
 use crate::priority_list::PriorityList;
 use crate::scheme::Scheme;
@@ -25,26 +24,68 @@ pub trait Languages {
     fn has(&self, lang: &str) -> bool
         ensures { result ≡ is_among (texts self.now) lang.now };
 
-    /// Of those that pass the test the least by bytes.
-    fn least(&self, test: &RangeTest<'_>) -> Option<&Lang>
-        ensures { MatchLeast (Passes test.now) (texts self.now) (option_map (λ l. l.now) result) };
+    /// Of those that the ranges match the earliest: each language is given once to
+    /// [`WidenedRanges::earlier`], with what it answered of those before.
+    fn earliest(&self, ranges: &WidenedRanges<'_>) -> Option<Earliest<'_>>
+        ensures { MatchEarliest ranges.now.scheme ranges.now.list.now (texts self.now) result };
 }
 
-/// Whether a range of a list adds a language to its candidates: it matches the language under the
-/// scheme, and the items other than "*" do not refuse it.
+/// The language that a list matches first.
+#[derive(Clone, Copy, Drop)]
+pub struct Earliest<'a> {
+    /// Where in the order of lookup the range comes that matches it.
+    tried: usize,
+    lang: &'a Lang,
+}
+
+/// The ranges of a list, in the order in which lookup tries them, as they match languages under a
+/// scheme.
 #[derive(Drop)]
-pub struct RangeTest<'a> {
+pub struct WidenedRanges<'a> {
     list: &'a PriorityList,
-    item: &'a Item,
     scheme: Scheme,
 }
 
-impl RangeTest<'_> {
-    /// Whether the language passes.
-    pub fn passes(&self, lang: &Lang) -> bool
-        ensures { IsTrue result ↔ Passes self.now lang.now }
+impl<'a> WidenedRanges<'a> {
+    /// The ranges of the list.
+    pub(crate) fn new(list: &'a PriorityList, scheme: Scheme) -> WidenedRanges<'a>
+        ensures list { result.list.now ≡ list.now }
+        ensures scheme { result.scheme ≡ scheme }
     {
-        matches_lang(self.item, self.scheme, lang) && !named_refuse(self.list, lang.as_str())
+        WidenedRanges { list, scheme }
+    }
+
+    /// Of the earliest so far and another language the one that is matched by the earlier range, or
+    /// by the same range and is the lesser by bytes. A language that no range matches, or that the
+    /// items other than "*" refuse, changes nothing.
+    pub fn earlier<'b>(
+        &self,
+        earliest: Option<Earliest<'b>>,
+        lang: &'b Lang,
+    ) -> Option<Earliest<'b>>
+        ensures { let scheme = self.now.scheme in let items = self.now.list.now in
+            (langs : List (List ℕ)) → MatchEarliest scheme items langs earliest.entry
+            → MatchEarliest scheme items (langs ++ lang.now ∷ []) result }
+    {
+        match self.first_tried(lang) {
+            Some(tried) if is_earlier(tried, lang, earliest) => Some(Earliest { tried, lang }),
+            _ => earliest,
+        }
+    }
+
+    /// Where in the order of lookup the first range comes that matches the language, unless the
+    /// items other than "*" refuse it.
+    pub(crate) fn first_tried(&self, lang: &Lang) -> Option<usize>
+        ensures { let scheme = self.now.scheme in let items = self.now.list.now in
+            MatchOption result ((n : ℕ) → ¬ IsMatchedAt scheme items lang.now n)
+            (IsMatchedFirst scheme items lang.now) }
+    {
+        let tried = self.list.first_tried(self.scheme, lang);
+        if tried < self.list.order().len() && !named_refuse(self.list, lang.as_str()) {
+            Some(tried)
+        } else {
+            None
+        }
     }
 }
 
@@ -71,23 +112,6 @@ pub fn choose_widened<'a, L: Languages>(
     }
 }
 
-/// The first widened candidate of the item at the place that is open.
-pub(crate) fn first_widened_at<'a, L: Languages>(
-    list: &'a PriorityList,
-    place: usize,
-    scheme: Scheme,
-    langs: &'a L,
-) -> Option<&'a str>
-    ensures { IsFirstWidenedAt scheme list.now (L.texts langs.now) place
-        (option_map (λ text. pieces text.now) result) }
-{
-    let items = list.items();
-    if place >= items.len() {
-        return None;
-    }
-    first_widened(list, &items[place], scheme, langs)
-}
-
 /// The languages, as the set of their texts.
 #[derive(Drop)]
 pub(crate) struct Searched<'a, L> {
@@ -112,40 +136,32 @@ fn look_up_widened<'a, L: Languages>(
         (option_map (λ text. pieces text.now) result) }
 {
     let keys = list.order();
-    for key in keys {
-        match first_widened_at(list, key.place, scheme, langs) {
+    let earliest = langs.earliest(&WidenedRanges::new(list, scheme));
+    for (at, key) in keys.iter().enumerate() {
+        match first_at(list, key.place, &Searched { langs }) {
             Some(text) => return Some(text),
+            None => {}
+        }
+        match earliest {
+            Some(found) => {
+                if found.tried == at {
+                    return Some(found.lang.as_str());
+                }
+            }
             None => {}
         }
     }
     None
 }
 
-/// The first widened candidate of the item that is open.
-fn first_widened<'a, L: Languages>(
-    list: &PriorityList,
-    item: &'a Item,
-    scheme: Scheme,
-    langs: &'a L,
-) -> Option<&'a str>
-    ensures { IsFirstWidened scheme list.now (L.texts langs.now) item.now
-        (option_map (λ text. pieces text.now) result) }
+/// Whether the language, which is matched at this place of the order, comes before the earliest.
+fn is_earlier(tried: usize, lang: &Lang, earliest: Option<Earliest<'_>>) -> bool
+    ensures { result ≡ is_earlier tried lang.now earliest.entry }
 {
-    match first_of(list, item.range(), &Searched { langs }) {
-        Some(text) => Some(text),
-        None => match langs.least(&RangeTest { list, item, scheme }) {
-            Some(lang) => Some(lang.as_str()),
-            None => None,
-        },
-    }
-}
-
-/// Whether the range of the item matches the language. None matches `@none`.
-fn matches_lang(item: &Item, scheme: Scheme, lang: &Lang) -> bool
-    ensures { IsTrue result ↔ MatchesLang scheme item.now lang.now }
-{
-    match lang.tag() {
-        Some(tag) => item.matches(scheme, tag, first_byte(tag.as_str())),
-        None => false,
+    match earliest {
+        Some(earliest) => {
+            tried < earliest.tried || (tried == earliest.tried && lang.cmp(earliest.lang).is_lt())
+        }
+        None => true,
     }
 }

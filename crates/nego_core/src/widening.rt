@@ -4,7 +4,7 @@ ghost use Rattle.std.specs.Prelude.{◌≡◌, IsTrue, Some, map, option_map};
 ghost use Rattle.nego_core.specs.Filtering.{texts_of};
 ghost use Rattle.nego_core.specs.LangSet.{is_among};
 ghost use Rattle.nego_core.specs.LookupPlaces.{least_place};
-ghost use Rattle.nego_core.specs.WidenedChoice.{MatchLeast, Passes, is_below};
+ghost use Rattle.nego_core.specs.WidenedChoice.{MatchEarliest};
 ghost use Rattle.nego_core.specs.Widening.{IsFoundBy, IsFoundWidened};
 
 use crate::as_lang::AsLang;
@@ -13,7 +13,7 @@ use crate::lang_set::is_among;
 use crate::lookup_places::{Found, lookup};
 use crate::priority_list::PriorityList;
 use crate::scheme::Scheme;
-use crate::widened_choice::{Languages, RangeTest, choose_widened};
+use crate::widened_choice::{Earliest, Languages, WidenedRanges, choose_widened};
 use lang_core::Lang;
 
 /// Whether lookup also lets a range find the languages that it matches.
@@ -63,6 +63,9 @@ pub fn lookup_widened(
 ///
 /// "*" finds nothing, and no range finds `@none`.
 ///
+/// Each language is asked once which range matches it first, and whether it is refused. Only
+/// extended ranges are compared with each language, as a filter compares them.
+///
 /// ```text
 /// fr, en over fr-ca and en      Matched(0)
 /// en over en-us and en-gb       Matched(1)
@@ -92,8 +95,8 @@ impl<'a, L: AsLang> Languages for Listed<'a, L> {
         place_among(self.langs, lang).is_some()
     }
 
-    fn least(&self, test: &RangeTest<'_>) -> Option<&Lang> {
-        least_that_passes(self.langs, test)
+    fn earliest(&self, ranges: &WidenedRanges<'_>) -> Option<Earliest<'_>> {
+        earliest_of(self.langs, ranges)
     }
 }
 
@@ -105,8 +108,8 @@ impl Languages for &[Lang] {
         is_among(self, lang)
     }
 
-    fn least(&self, test: &RangeTest<'_>) -> Option<&Lang> {
-        least_that_passes(self, test)
+    fn earliest(&self, ranges: &WidenedRanges<'_>) -> Option<Earliest<'_>> {
+        earliest_of(self, ranges)
     }
 }
 
@@ -141,29 +144,15 @@ fn find_widened<L: AsLang>(
     }
 }
 
-/// Of the languages that pass the test the least by bytes.
-fn least_that_passes<'a, L: AsLang>(langs: &'a [L], test: &RangeTest<'_>) -> Option<&'a Lang>
-    ensures { MatchLeast (Passes test.now) (map L.text langs.now)
-        (option_map (λ l. l.now) result) }
+/// Of the languages that the ranges match the earliest.
+fn earliest_of<'a, L: AsLang>(langs: &'a [L], ranges: &WidenedRanges<'_>) -> Option<Earliest<'a>>
+    ensures { MatchEarliest ranges.now.scheme ranges.now.list.now (map L.text langs.now) result }
 {
-    let mut least = None;
+    let mut earliest = None;
     for lang in langs {
-        let lang = lang.as_lang();
-        if is_below(lang, least) && test.passes(lang) {
-            least = Some(lang);
-        }
+        earliest = ranges.earlier(earliest, lang.as_lang());
     }
-    least
-}
-
-/// Whether the language is below the least one so far.
-fn is_below(lang: &Lang, least: Option<&Lang>) -> bool
-    ensures { result ≡ is_below lang.now (option_map (λ l. l.now) least.entry) }
-{
-    match least {
-        Some(least) => lang.cmp(least).is_lt(),
-        None => true,
-    }
+    earliest
 }
 
 /// The least place of a text, if it is there.

@@ -1,12 +1,23 @@
-use Rattle.std.proofs.Common.{◌+◌, ◌-◌, drop, length}
+use Rattle.std.proofs.Common.{◌-◌, length}
+use Rattle.lang_core.specs.Truncations.{truncations_left}
 use Rattle.nego_core.specs.Filtering.{texts_of}
-use Rattle.nego_core.proofs.ShortlistLemmas.{IsRankingTo}
+use Rattle.nego_core.proofs.RankingLemmas.{AtCandidates, AtKey, AtMatched}
 use Rattle.nego_core.proofs.shortlist.rank.Given as goal
+
+abbrev pub invariant-loop-text : goal.invariant-loop-text
+invariant-loop-text l =
+    AtCandidates l.fn.widening l.list (texts_of l.langs) l.matched.items l.keys l.at l.next l.left
+    l.ranked.items (truncations_left l.text-iterator)
+
+abbrev pub invariant-loop-next : goal.invariant-loop-next
+invariant-loop-next l =
+    AtMatched l.fn.widening l.list (texts_of l.langs) l.matched.items l.keys l.at l.next l.left
+    l.ranked.items
+
+abbrev pub decreases-loop-next : goal.decreases-loop-next
+decreases-loop-next l = length l.matched.items - l.next
 
 abbrev pub invariant-loop-at : goal.invariant-loop-at
 invariant-loop-at l =
-    IsRankingTo l.widening l.list (texts_of l.langs) (texts_of l.left.items) l.keys
-    (texts_of l.ranked.items) (drop l.at l.keys)
-
-abbrev pub decreases-loop-at : goal.decreases-loop-at
-decreases-loop-at l = (length l.keys - l.at) + length l.left.items
+    AtKey l.fn.widening l.list (texts_of l.langs) l.matched.items l.keys l.at l.next l.left
+    l.ranked.items

@@ -1,10 +1,13 @@
 use Rattle.std.specs.Prelude.{Option}
 use Rattle.std.proofs.Common.{ℕ, List}
+use Rattle.nego_core.specs.WidenedChoice.{MatchEarliest}
+use Rattle.nego_core.proofs.EarliestLemmas.{IsFrom}
 use Rattle.nego_core.proofs.WideningLemmas.{WidenedFrom}
 use Rattle.nego_core.proofs.widened_choice.look_up_widened.Given as goal
 
-abbrev pub invariant-loop-key : goal.invariant-loop-key
-invariant-loop-key g l =
+abbrev pub invariant-loop-at : goal.invariant-loop-at
+invariant-loop-at g l =
     let langs = g.L.Languages.texts l.langs in
-    (found : Option (List (List ℕ))) → WidenedFrom l.scheme l.list langs l.keys l.key-index found
-    → WidenedFrom l.scheme l.list langs l.keys 0 found
+    MatchEarliest l.fn.scheme l.list langs l.earliest × IsFrom l.at l.earliest
+    × ((found : Option (List (List ℕ))) → WidenedFrom l.fn.scheme l.list langs l.keys l.at found
+    → WidenedFrom l.fn.scheme l.list langs l.keys 0 found)
