@@ -1,11 +1,12 @@
 -- Case does not matter.
-use Rattle.std.proofs.Common.{ℕ, ◌≡◌, ◌==◌, List, [], ◌∷◌, Bool, refl, sym, arith}
+use Rattle.std.proofs.Common.{ℕ, ◌≡◌, ◌==◌, List, [], ◌∷◌, Bool, true, refl, sym, arith}
 use Rattle.std.specs.Prelude.{◌&&◌, map}
 use Rattle.std.specs.List.{list_all}
 use Rattle.std.specs.Char.{to_ascii_lowercase, is_ascii_alphabetic, is_ascii_alphanumeric}
 use Rattle.std.specs.Str.{str_to_ascii_lowercase}
 use Rattle.std.proofs.lemmas.Bool.Decides.{nat_tests}
 use Rattle.lang_core.specs.Grammar.{is_letter, is_digit, is_alphanum, is_star}
+use Rattle.lang_core.proofs.Basics.{each_true}
 
 -- the pieces in lower case
 abbrev pub lowered : List (List ℕ) → List (List ℕ)
@@ -50,6 +51,18 @@ digits-lower s = sym (list_all-lower is_digit is_digit s lower_digit)
 pub alphanums-lower : (s : List ℕ)
     → list_all is_ascii_alphanumeric s ≡ list_all is_alphanum (str_to_ascii_lowercase s)
 alphanums-lower s = sym (list_all-lower is_alphanum is_ascii_alphanumeric s lower_alphanum)
+
+lower_same : (b : ℕ) → is_alphanum b ≡ true → to_ascii_lowercase b ≡ b
+lower_same b h = grind (arith, nat_tests)
+
+-- A text of digits and lower-case letters is its own text in lower case.
+pub lower_alphanums : (s : List ℕ) → list_all is_alphanum s ≡ true → str_to_ascii_lowercase s ≡ s
+lower_alphanums [] h = refl
+lower_alphanums (b ∷ s) h =
+    let parts = each_true (is_alphanum b) (list_all is_alphanum s) h in
+    let first : to_ascii_lowercase b ≡ b = lower_same b parts.0 in
+    let rest : str_to_ascii_lowercase s ≡ s = lower_alphanums s parts.1 in
+    cc
 
 -- Lower case does not change whether a subtag is "*".
 pub star-lower : (s : List ℕ) → is_star (str_to_ascii_lowercase s) ≡ is_star s

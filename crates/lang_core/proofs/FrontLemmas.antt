@@ -26,7 +26,8 @@ joined_two s (u ∷ before) t after =
     ap (λ (x : List ℕ). s ++ 45 ∷ x) (joined_two u before t after)
     ∙ sym (append_assoc s (45 ∷ joined (u ∷ before)) (45 ∷ joined (t ∷ after)))
 
-joined_some : (front : List (List ℕ)) (t : List ℕ) (after : List (List ℕ)) → 0 < length front
+-- The text of a list in two parts is those of both, with a hyphen between them.
+pub joined_some : (front : List (List ℕ)) (t : List ℕ) (after : List (List ℕ)) → 0 < length front
     → joined (front ++ t ∷ after) ≡ joined front ++ 45 ∷ joined (t ∷ after)
 joined_some [] t after n = absurd (omega arith)
 joined_some (s ∷ front) t after n = joined_two s front t after

@@ -3,8 +3,8 @@ pub mod Classes
 pub mod Stars
 pub mod CaseLemmas
 pub mod ClassSums
-pub mod SubtagLemmas
 pub mod PiecesLemmas
+pub mod SubtagLemmas
 pub mod StageSound
 pub mod StageComplete
 pub mod GrammarLemmas
@@ -24,3 +24,6 @@ pub mod LookupLemmas
 pub mod TruncationSteps
 pub mod LangLemmas
 pub mod LowerTextLemmas
+pub mod RunsLemmas
+pub mod PartsLemmas
+pub mod PartsLaw

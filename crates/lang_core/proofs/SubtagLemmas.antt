@@ -1,16 +1,19 @@
 -- What is kept of a subtag.
-use Rattle.std.proofs.Common.{ℕ, ◌≡◌, ◌≤◌, ◌<◌, List, [], ◌∷◌, Bool, true, false, length, refl, sym}
-use Rattle.std.proofs.Common.{◌∙◌, ap, arith}
+use Rattle.std.proofs.Common.{ℕ, ◌≡◌, ◌≤◌, ◌<◌, List, [], ◌∷◌, ◌++◌, Bool, true, false, length}
+use Rattle.std.proofs.Common.{refl, sym, get_or, ◌∙◌, ap, arith}
 use Rattle.std.specs.Prelude.{nat_le, ◌&&◌, zero, suc}
 use Rattle.std.specs.List.{list_all}
 use Rattle.std.specs.Char.{to_ascii_lowercase, is_ascii_alphanumeric}
 use Rattle.std.specs.Str.{str_to_ascii_lowercase}
 use Rattle.std.proofs.lemmas.List.{length-map}
+use Rattle.std.proofs.lemmas.Bool.Decides.{nat_tests}
+use Rattle.lang_core.specs.Text.{pieces, joined}
 use Rattle.lang_core.specs.Grammar.{is_run, is_letter, is_digit, is_alphanum, is_private_piece}
-use Rattle.lang_core.specs.Grammar.{basic_piece}
+use Rattle.lang_core.specs.Grammar.{basic_piece, AreAll}
 use Rattle.lang_core.proofs.Basics.{both, each_true, is_false, is_le, or_left}
-use Rattle.lang_core.proofs.CaseLemmas.{alphanums-lower}
+use Rattle.lang_core.proofs.CaseLemmas.{alphanums-lower, lower_alphanums, lowered}
 use Rattle.lang_core.proofs.Classes.{run_of}
+use Rattle.lang_core.proofs.PiecesLemmas.{pieces_no_hyphen, pieces_join}
 
 -- ---- a kept test answers for the whole subtag
 
@@ -104,3 +107,45 @@ basic_none zero s h =
     sized is_alphanum s (let n = r.long in omega arith) r.short
     (all_of is_letter s (λ b x. or_left (is_letter b) (is_digit b) x) r.all) in cc))
 basic_none (suc place) s h = sym h
+
+hyphen_alphanum : (b : ℕ) → is_alphanum b ≡ true → b ≡ 45 → ⊥
+hyphen_alphanum b h e = grind (arith, nat_tests)
+
+no_hyphen : (s : List ℕ) → list_all is_alphanum s ≡ true → (k : ℕ) → k < length s
+    → get_or s k 0 ≡ 45 → ⊥
+no_hyphen [] h k n e = omega arith
+no_hyphen (b ∷ s) h zero n e =
+    hyphen_alphanum b (each_true (is_alphanum b) (list_all is_alphanum s) h).0 e
+no_hyphen (b ∷ s) h (suc k) n e =
+    no_hyphen s (each_true (is_alphanum b) (list_all is_alphanum s) h).1 k (omega arith) e
+
+-- ---- subtags of a tag, which are in lower case
+
+-- A subtag of a tag is its own text in lower case.
+pub lower_piece : (s : List ℕ) → is_private_piece s ≡ true → str_to_ascii_lowercase s ≡ s
+unfolding is_private_piece
+lower_piece s h = lower_alphanums s (run_of is_alphanum 1 8 s h).all
+
+-- Subtags of a tag are the same in lower case.
+pub lowered_pieces : (list : List (List ℕ)) → AreAll is_private_piece list → lowered list ≡ list
+lowered_pieces [] h = refl
+lowered_pieces (s ∷ list) h =
+    let parts = each_true (is_private_piece s) (list_all is_private_piece list) h in
+    let first : str_to_ascii_lowercase s ≡ s = lower_piece s parts.0 in
+    let rest : lowered list ≡ list = lowered_pieces list parts.1 in
+    cc
+
+-- A subtag of a tag has no hyphen, so it is its own only piece.
+pub piece_whole : (s : List ℕ) → is_private_piece s ≡ true → pieces s ≡ s ∷ []
+unfolding is_private_piece
+piece_whole s h = pieces_no_hyphen s (no_hyphen s (run_of is_alphanum 1 8 s h).all)
+
+-- The pieces of subtags that are joined are the subtags.
+pub pieces_joined : (s : List ℕ) (list : List (List ℕ)) → AreAll is_private_piece (s ∷ list)
+    → pieces (joined (s ∷ list)) ≡ s ∷ list
+pieces_joined s [] h = piece_whole s (each_true (is_private_piece s) true h).0
+pieces_joined s (t ∷ list) h =
+    let parts = each_true (is_private_piece s) (list_all is_private_piece (t ∷ list)) h in
+    pieces_join s (joined (t ∷ list))
+    ∙ (ap (λ (x : List (List ℕ)). x ++ pieces (joined (t ∷ list))) (piece_whole s parts.0)
+    ∙ ap (λ (x : List (List ℕ)). s ∷ x) (pieces_joined t list parts.1))

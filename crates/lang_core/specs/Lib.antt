@@ -18,3 +18,6 @@ pub mod LookupText
 pub mod Fronts
 pub mod LowerText
 pub mod Kept
+pub mod Kind
+pub mod Runs
+pub mod Parts

@@ -2,6 +2,7 @@
 //! matches which tag (RFC 4647 section 3).
 //!
 //! - [`Tag`] is a well-formed tag, [`Lang`] a tag or `@none`, [`Range`] an extended range.
+//! - A tag gives its language, extlangs, script, region and variants as slices of its text.
 //! - Ranges match tags by basic and by extended filtering, and give the texts that lookup tries.
 //! - [`LangFault`] says why a text is refused, and where.
 //!
@@ -12,6 +13,7 @@
 //! ```text
 //! let tag = Tag::parse(alloc, b"de-Latn-DE")?;
 //! let range = Range::parse_extended(alloc, b"de-*-DE")?;
+//! tag.script()                  Some("latn")
 //! range.matches_extended(&tag)  true
 //! range.truncations()           "de-de", "de"
 //! ```
@@ -23,11 +25,13 @@
 mod fault;
 mod grammar;
 mod irregular;
+mod kind;
 mod lang;
 pub mod laws;
 mod lookup_text;
 mod lower_text;
 mod matching;
+mod parts;
 mod pieces;
 mod range;
 mod range_syntax;

@@ -2,11 +2,15 @@
 ghost use Rattle.std.specs.Prelude.{◌≡◌, ◌∷◌, [], MatchOption, position};
 ghost use Rattle.std.specs.Iterator.{YieldsFirstBy, item_count};
 ghost use Rattle.lang_core.specs.Text.{pieces};
+ghost use Rattle.lang_core.specs.Grammar.{AreAll, is_private_piece};
+ghost use Rattle.lang_core.specs.Kind.{is_of};
+ghost use Rattle.lang_core.specs.Runs.{IsSplit, TakesRun};
 
+use crate::kind::Kind;
 use crate::pieces::{HYPHEN, separator_at};
 
-/// The subtags of a tag or a range as slices of its text, in order; each "*" is one. It takes no
-/// memory.
+/// The subtags of a tag, of a part of it or of a range as slices of its text, in order; each "*" is
+/// one. It takes no memory.
 #[derive(Clone, Debug, Drop)]
 pub struct Subtags<'a> {
     rest: Option<&'a str>,
@@ -20,6 +24,41 @@ impl<'a> Subtags<'a> {
         ensures { subtags_left result ≡ pieces text.now }
     {
         Subtags { rest: Some(text) }
+    }
+
+    /// No subtags.
+    pub(crate) fn none() -> Subtags<'a>
+        ensures { subtags_left result ≡ [] }
+    {
+        Subtags { rest: None }
+    }
+
+    /// The first subtags, all that are of the kind, and those after them.
+    pub(crate) fn split_run(self, kind: Kind) -> (Subtags<'a>, Subtags<'a>)
+        requires { AreAll is_private_piece (subtags_left self) }
+        ensures { IsSplit (is_of kind) (subtags_left self.entry)
+            (subtags_left result.0) (subtags_left result.1) }
+    {
+        match self.rest {
+            Some(text) => Subtags::split_text(text, kind),
+            None => (Subtags::none(), Subtags::none()),
+        }
+    }
+
+    /// The first subtags of the text, all that are of the kind, and those after them.
+    fn split_text(text: &'a str, kind: Kind) -> (Subtags<'a>, Subtags<'a>)
+        requires { AreAll is_private_piece (pieces text.now) }
+        ensures { IsSplit (is_of kind) (pieces text.now)
+            (subtags_left result.0) (subtags_left result.1) }
+    {
+        let len = run_len(text, kind);
+        if len == 0 {
+            (Subtags::none(), Subtags::new(text))
+        } else if len > text.len() {
+            (Subtags::new(text), Subtags::none())
+        } else {
+            (Subtags::new(&text[..len - 1]), Subtags::new(&text[len..]))
+        }
     }
 }
 
@@ -46,6 +85,21 @@ impl<'a> Iterator for Subtags<'a> {
             }
         }
     }
+}
+
+/// The bytes of the first subtags, all that are of the kind, with a hyphen after each.
+fn run_len(text: &str, kind: Kind) -> usize
+    requires { AreAll is_private_piece (pieces text.now) }
+    ensures { TakesRun (is_of kind) (pieces text.now) result }
+{
+    let mut len = 0;
+    for subtag in Subtags::new(text) {
+        if !kind.has(subtag) {
+            return len;
+        }
+        len += subtag.len() + 1;
+    }
+    len
 }
 
 /// The first subtag and the text after its hyphen, where there is one.

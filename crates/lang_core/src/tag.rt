@@ -1,6 +1,7 @@
 //! Tags (RFC 5646 section 2.1).
 ghost use Rattle.std.specs.Prelude.{◌≡◌, ◌<◌, ◌≤◌, List, ℕ, MatchResult, IfOk, IsErr, Some, Option};
 ghost use Rattle.std.specs.Prelude.{MatchOption, length};
+ghost use Rattle.std.specs.Option.{option_copied, option_to_list};
 ghost use Rattle.std.specs.Str.{bytes_eq, str_to_ascii_lowercase};
 ghost use Rattle.std.specs.Ordering.{nat_cmp};
 ghost use Rattle.std.specs.Cmp.Lexicographic.{slice_cmp};
@@ -11,11 +12,14 @@ ghost use Rattle.lang_core.specs.Tag.{IsTag, RefusesTag, RefusesTagFirst};
 ghost use Rattle.lang_core.specs.LowerText.{TakesMemory};
 ghost use Rattle.lang_core.specs.Subtags.{subtags_left};
 ghost use Rattle.lang_core.specs.Text.{pieces};
+ghost use Rattle.lang_core.specs.Parts.{IsPart, language_of, extlangs_of, script_of};
+ghost use Rattle.lang_core.specs.Parts.{region_of, variants_of};
 ghost use borrow.Author.Rules.{rules};
 
 use crate::fault::LangFault;
 use crate::grammar::fault_by_subtags;
 use crate::lower_text::{LowerText, MAX_LEN};
+use crate::parts;
 use crate::subtags::Subtags;
 use crate::tag_table::is_staged;
 use std::alloc::{AllocError, Global};
@@ -86,6 +90,70 @@ impl Tag {
         ensures { subtags_left result ≡ pieces self.now }
     {
         Subtags::new(self.text.as_str())
+    }
+
+    /// The language, which is the first subtag (RFC 5646 section 2.2.1), or `None` for a tag of
+    /// private use alone (`x-whatever`) and an irregular one (`i-klingon`, `en-gb-oed`). Those two
+    /// have no parts at all: the grammar names none in them.
+    ///
+    /// ```text
+    /// Tag::parse(alloc, b"sl-Latn-IT-nedis")?.language()  Some("sl")
+    /// Tag::parse(alloc, b"x-whatever")?.language()        None
+    /// ```
+    pub fn language(&self) -> Option<&str>
+        ensures { IsPart (pieces self.now) language_of (option_to_list (option_copied result)) }
+    {
+        parts::language(self.as_str())
+    }
+
+    /// The extended language subtags, at most three, in order (RFC 5646 section 2.2.2). The grammar
+    /// alone counts: regular grandfathered tags, as `zh-min-nan`, have parts as other tags do.
+    ///
+    /// ```text
+    /// Tag::parse(alloc, b"zh-yue-HK")?.extlangs()   "yue"
+    /// Tag::parse(alloc, b"zh-min-nan")?.extlangs()  "min", "nan"
+    /// ```
+    pub fn extlangs(&self) -> Subtags<'_>
+        ensures { IsPart (pieces self.now) extlangs_of (subtags_left result) }
+    {
+        parts::extlangs(self.as_str())
+    }
+
+    /// The script, in lower case as the whole tag is (RFC 5646 section 2.2.3).
+    ///
+    /// ```text
+    /// Tag::parse(alloc, b"zh-cmn-Hans-CN")?.script()  Some("hans")
+    /// Tag::parse(alloc, b"de-DE-x-latn")?.script()    None
+    /// ```
+    pub fn script(&self) -> Option<&str>
+        ensures { IsPart (pieces self.now) script_of (option_to_list (option_copied result)) }
+    {
+        parts::script(self.as_str())
+    }
+
+    /// The region, of two letters or three digits (RFC 5646 section 2.2.4).
+    ///
+    /// ```text
+    /// Tag::parse(alloc, b"es-419")?.region()        Some("419")
+    /// Tag::parse(alloc, b"de-a-ch-x-at")?.region()  None
+    /// ```
+    pub fn region(&self) -> Option<&str>
+        ensures { IsPart (pieces self.now) region_of (option_to_list (option_copied result)) }
+    {
+        parts::region(self.as_str())
+    }
+
+    /// The variants, in order (RFC 5646 section 2.2.5). No subtag of an extension or of private use
+    /// is one.
+    ///
+    /// ```text
+    /// Tag::parse(alloc, b"sl-rozaj-biske")?.variants()   "rozaj", "biske"
+    /// Tag::parse(alloc, b"de-CH-x-phonebk")?.variants()  none
+    /// ```
+    pub fn variants(&self) -> Subtags<'_>
+        ensures { IsPart (pieces self.now) variants_of (subtags_left result) }
+    {
+        parts::variants(self.as_str())
     }
 
     /// An equal tag, by the same number of allocations as its parsing: a copy of a tag of at most

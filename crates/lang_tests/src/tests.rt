@@ -2,6 +2,7 @@
 mod lengths;
 mod matching;
 mod parsing;
+mod parts;
 mod refusals;
 mod truncations;
 mod values;
