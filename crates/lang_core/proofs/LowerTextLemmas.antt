@@ -8,7 +8,8 @@ use Rattle.std.specs.Str.{IsAscii, IsUtf8, str_to_ascii_lowercase, bytes_eq}
 use Rattle.std.proofs.lemmas.Bool.Decides.{nat_tests}
 use Rattle.std.proofs.lemmas.Str.{IsUtf8-from_ascii}
 use Rattle.std.proofs.lemmas.Str.Ascii.{IsAscii-nil, IsAscii-cons}
-use Rattle.lang_core.specs.LowerText.{is_plain, IsPlain, IsShort, filled, number_of, KeepsShort}
+use Rattle.lang_core.specs.LowerText.{is_nonzero_ascii, IsNonzeroAscii, IsShort, filled}
+use Rattle.lang_core.specs.LowerText.{spelled_number, KeepsShort}
 use Rattle.lang_core.proofs.Basics.{each_true}
 use Rattle.std.specs.Prelude.{suc, zero, slice_index, ◌==◌}
 use Rattle.std.specs.Cmp.{tied_itself, nat_cmp_is, ranks, unsigned_ties}
@@ -21,30 +22,30 @@ use Rattle.std.proofs.lemmas.List.{length-map, map-append, length-replicate}
 use Rattle.std.proofs.lemmas.List.Elements.{All-head, All-tail, All-cons, All-replicate}
 use Rattle.std.specs.Int.{from_be_bytes, w128}
 
-plain_is_ascii : (b : ℕ) → is_plain b ≡ true → b < 128
-plain_is_ascii b h = grind (arith, nat_tests)
+nonzero_is_ascii : (b : ℕ) → is_nonzero_ascii b ≡ true → b < 128
+nonzero_is_ascii b h = grind (arith, nat_tests)
 
 -- The bytes of such a text are ASCII.
-pub IsAscii-plain : (text : List ℕ) → IsPlain text → IsAscii text
-IsAscii-plain [] h = IsAscii-nil
-IsAscii-plain (b ∷ text) h =
-    let parts = each_true (is_plain b) (list_all is_plain text) h in
-    IsAscii-cons b text (plain_is_ascii b parts.0) (IsAscii-plain text parts.1)
+pub IsAscii-nonzero : (text : List ℕ) → IsNonzeroAscii text → IsAscii text
+IsAscii-nonzero [] h = IsAscii-nil
+IsAscii-nonzero (b ∷ text) h =
+    let parts = each_true (is_nonzero_ascii b) (list_all is_nonzero_ascii text) h in
+    IsAscii-cons b text (nonzero_is_ascii b parts.0) (IsAscii-nonzero text parts.1)
 
 -- Such a text is UTF-8.
-pub IsUtf8-plain : (text : List ℕ) → IsPlain text → IsUtf8 text
-IsUtf8-plain text h = IsUtf8-from_ascii text (IsAscii-plain text h)
+pub IsUtf8-nonzero : (text : List ℕ) → IsNonzeroAscii text → IsUtf8 text
+IsUtf8-nonzero text h = IsUtf8-from_ascii text (IsAscii-nonzero text h)
 
 -- A text is ASCII where, in lower case, it is of ASCII bytes other than zero.
-pub plain-lower : (text : List ℕ) → IsPlain (str_to_ascii_lowercase text) → IsAscii text
-plain-lower [] h = IsAscii-nil
-plain-lower (b ∷ text) h =
+pub nonzero-lower : (text : List ℕ) → IsNonzeroAscii (str_to_ascii_lowercase text) → IsAscii text
+nonzero-lower [] h = IsAscii-nil
+nonzero-lower (b ∷ text) h =
     let parts =
-    each_true (is_plain (to_ascii_lowercase b))
-    (list_all is_plain (str_to_ascii_lowercase text)) h in
-    IsAscii-cons b text (small b parts.0) (plain-lower text parts.1)
+    each_true (is_nonzero_ascii (to_ascii_lowercase b))
+    (list_all is_nonzero_ascii (str_to_ascii_lowercase text)) h in
+    IsAscii-cons b text (small b parts.0) (nonzero-lower text parts.1)
   where
-    small : (b : ℕ) → is_plain (to_ascii_lowercase b) ≡ true → b < 128
+    small : (b : ℕ) → is_nonzero_ascii (to_ascii_lowercase b) ≡ true → b < 128
     small b h = grind (arith, nat_tests)
 
 -- ---- short texts, which are kept with zero bytes after them
@@ -56,7 +57,7 @@ KeepsShort-filled text is =
     record {
       short = is.0;
       size = ap length front;
-      plain = subst IsPlain (sym front) is.1;
+      nonzero = subst IsNonzeroAscii (sym front) is.1;
       zeros = ap filled front;
     }
 
@@ -64,7 +65,7 @@ KeepsShort-filled text is =
 
 -- texts without zero bytes keep their order where both are filled up to one length
 cmp_filled_up : (xs ys : List ℕ) (i j : ℕ) → length xs + i ≡ length ys + j
-    → IsPlain xs → IsPlain ys
+    → IsNonzeroAscii xs → IsNonzeroAscii ys
     → slice_cmp nat_cmp (xs ++ replicate i 0) (ys ++ replicate j 0) ≡ slice_cmp nat_cmp xs ys
 cmp_filled_up [] [] i j e p q = let same : i ≡ j = omega arith in
     rw same (tied_itself nat_list_cmp_total (replicate j 0))
@@ -79,8 +80,8 @@ cmp_filled_up (suc x ∷ xs) [] i (suc j) e p q =
     ap (λ r. ordering_then r (slice_cmp nat_cmp (xs ++ replicate i 0) (replicate j 0)))
     (sym (nat_cmp_is (suc x) 0 Greater (omega arith)))
 cmp_filled_up (x ∷ xs) (y ∷ ys) i j e p q =
-    let first = each_true (is_plain x) (list_all is_plain xs) p in
-    let second = each_true (is_plain y) (list_all is_plain ys) q in
+    let first = each_true (is_nonzero_ascii x) (list_all is_nonzero_ascii xs) p in
+    let second = each_true (is_nonzero_ascii y) (list_all is_nonzero_ascii ys) q in
     ap (ordering_then (nat_cmp x y)) (cmp_filled_up xs ys i j (omega arith) first.1 second.1)
 
 -- ---- the bytes as one number
@@ -163,15 +164,15 @@ spelt-sixteen bytes e =
     is ∙ ap (spelt 0) (read_out 16 bytes 0 (sym e))
 
 -- bytes of a text, and the zero bytes after it, are below 256
-small_plain : (b : ℕ) → is_plain b ≡ true → b < 256
-small_plain b h = grind (arith, nat_tests)
+small_nonzero : (b : ℕ) → is_nonzero_ascii b ≡ true → b < 256
+small_nonzero b h = grind (arith, nat_tests)
 
-small_filled : (text : List ℕ) (k : ℕ) → IsPlain text
+small_filled : (text : List ℕ) (k : ℕ) → IsNonzeroAscii text
     → All (λ b. b < 256) (text ++ replicate k 0)
 small_filled [] k p = All-replicate (λ b. b < 256) k 0 (omega arith)
 small_filled (b ∷ text) k p =
-    let parts = each_true (is_plain b) (list_all is_plain text) p in
-    All-cons (λ b. b < 256) b (text ++ replicate k 0) (small_plain b parts.0)
+    let parts = each_true (is_nonzero_ascii b) (list_all is_nonzero_ascii text) p in
+    All-cons (λ b. b < 256) b (text ++ replicate k 0) (small_nonzero b parts.0)
     (small_filled text k parts.1)
 
 length-filled : (text : List ℕ) → length text ≤ 16 → length (filled text) ≡ 16
@@ -185,7 +186,7 @@ length-filled text short =
 
 -- The numbers of short texts are in the order of the texts.
 pub cmp-numbers : (xs ys : List ℕ) → IsShort xs → IsShort ys
-    → nat_cmp (number_of xs) (number_of ys) ≡ slice_cmp nat_cmp xs ys
+    → nat_cmp (spelled_number xs) (spelled_number ys) ≡ slice_cmp nat_cmp xs ys
 cmp-numbers xs ys p q =
     let i = 16 - length xs in
     let j = 16 - length ys in
@@ -198,9 +199,9 @@ cmp-numbers xs ys p q =
 
 -- The numbers of short texts are equal where the texts are.
 pub eq-numbers : (xs ys : List ℕ) → IsShort xs → IsShort ys
-    → (number_of xs == number_of ys) ≡ bytes_eq xs ys
+    → (spelled_number xs == spelled_number ys) ≡ bytes_eq xs ys
 eq-numbers xs ys p q =
-    unsigned_ties (number_of xs) (number_of ys)
+    unsigned_ties (spelled_number xs) (spelled_number ys)
     ∙ (ap is_eq (cmp-numbers xs ys p q) ∙ sym (texts_ties xs ys))
 
 below : (m n k : ℕ) → 0 < k → m / k < n / k → m < n

@@ -10,7 +10,7 @@ use Rattle.lang_core.specs.Text.{pieces_by, pieces, joined}
 use Rattle.lang_core.specs.Grammar.{are_allowed, is_list_of, is_alphanum, is_letter, is_digit}
 use Rattle.lang_core.specs.Grammar.{is_private_piece, is_star, basic_piece, extended_piece}
 use Rattle.lang_core.specs.Grammar.{BasicRange, ExtendedRange, IsFirstRefused}
-use Rattle.lang_core.specs.LowerText.{is_plain, IsPlain}
+use Rattle.lang_core.specs.LowerText.{is_nonzero_ascii, IsNonzeroAscii}
 use Rattle.lang_core.proofs.Basics.{cases_bool, each_true, both, one_true, or_left, or_right}
 use Rattle.lang_core.proofs.Classes.{run_of}
 use Rattle.lang_core.proofs.PiecesLemmas.{joined-pieces, some_pieces}
@@ -176,22 +176,22 @@ range_bytes text h =
     split_bytes text
     (extended_bytes 0 (pieces text) (allowed_of_list extended_piece (pieces text) h))
 
-byte_plain : (b : ℕ) → is_range_byte b ≡ true → is_plain b ≡ true
-byte_plain b h = grind (arith, nat_tests)
+byte_nonzero : (b : ℕ) → is_range_byte b ≡ true → is_nonzero_ascii b ≡ true
+byte_nonzero b h = grind (arith, nat_tests)
 
-bytes_plain : (text : List ℕ) → list_all is_range_byte text ≡ true → IsPlain text
-bytes_plain [] h = refl
-bytes_plain (b ∷ text) h =
+bytes_nonzero : (text : List ℕ) → list_all is_range_byte text ≡ true → IsNonzeroAscii text
+bytes_nonzero [] h = refl
+bytes_nonzero (b ∷ text) h =
     let parts = each_true (is_range_byte b) (list_all is_range_byte text) h in
-    both _ _ (byte_plain b parts.0) (bytes_plain text parts.1)
+    both _ _ (byte_nonzero b parts.0) (bytes_nonzero text parts.1)
 
 -- Each byte of an extended range is ASCII, and not zero.
-pub extended_plain : (text : List ℕ) → ExtendedRange (pieces text) → IsPlain text
-extended_plain text h = bytes_plain text (range_bytes text h)
+pub extended_nonzero : (text : List ℕ) → ExtendedRange (pieces text) → IsNonzeroAscii text
+extended_nonzero text h = bytes_nonzero text (range_bytes text h)
 
 -- Each byte of a basic range is ASCII, and not zero.
-pub basic_plain : (text : List ℕ) → BasicRange (pieces text) → IsPlain text
-basic_plain text h = extended_plain text (basic_extended (pieces text) h)
+pub basic_nonzero : (text : List ℕ) → BasicRange (pieces text) → IsNonzeroAscii text
+basic_nonzero text h = extended_nonzero text (basic_extended (pieces text) h)
 
 -- ---- what the reader found
 

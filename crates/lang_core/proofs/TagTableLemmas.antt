@@ -38,16 +38,16 @@ stages =
 abbrev pub stage_at : ℕ → Option Stage
 stage_at m = get_or stages m None
 
-abbrev number_of : Option Stage → ℕ
-number_of None = 0
-number_of (Some Start) = 1
-number_of (Some (Language left)) = 5 - left
-number_of (Some Script) = 6
-number_of (Some Variants) = 7
-number_of (Some Singleton) = 8
-number_of (Some Extension) = 9
-number_of (Some PrivateStart) = 10
-number_of (Some Private) = 11
+abbrev stage_number : Option Stage → ℕ
+stage_number None = 0
+stage_number (Some Start) = 1
+stage_number (Some (Language left)) = 5 - left
+stage_number (Some Script) = 6
+stage_number (Some Variants) = 7
+stage_number (Some Singleton) = 8
+stage_number (Some Extension) = 9
+stage_number (Some PrivateStart) = 10
+stage_number (Some Private) = 11
 
 -- at most three extlangs may follow
 abbrev is_numbered : Option Stage → Bool
@@ -61,7 +61,7 @@ is_numbered (Some Extension) = true
 is_numbered (Some PrivateStart) = true
 is_numbered (Some Private) = true
 
-numbered : (o : Option Stage) → is_numbered o ≡ true → stage_at (number_of o) ≡ o
+numbered : (o : Option Stage) → is_numbered o ≡ true → stage_at (stage_number o) ≡ o
 numbered None h = refl
 numbered (Some Start) h = refl
 numbered (Some (Language zero)) h = refl
@@ -265,8 +265,8 @@ unfoldable pub ends : List ℕ → (m n : ℕ) (l d f x : Bool) → Bool
 ends table m n l d f x =
     if n == 0 then moved table (state_of m n l d f x) 3 == 0
     else ((moved table (state_of m n l d f x) 3 == state_of
-    (number_of (next_at m n l d f x)) 0 true true false false)
-    && (is_numbered (next_at m n l d f x) && nat_lt (number_of (next_at m n l d f x)) 12))
+    (stage_number (next_at m n l d f x)) 0 true true false false)
+    && (is_numbered (next_at m n l d f x) && nat_lt (stage_number (next_at m n l d f x)) 12))
 
 abbrev same : Bool → Bool → Bool
 same a b = if a then b else not b
@@ -795,9 +795,9 @@ spoil table text s m b ok g none =
 -- what the table says where a subtag ends
 record Ended (table : List ℕ) (m n : ℕ) (l d f x : Bool) : Type 0 where
   pub state : moved table (state_of m n l d f x) 3
-      ≡ state_of (number_of (next_at m n l d f x)) 0 true true false false
+      ≡ state_of (stage_number (next_at m n l d f x)) 0 true true false false
   pub known : is_numbered (next_at m n l d f x) ≡ true
-  pub few : number_of (next_at m n l d f x) < 12
+  pub few : stage_number (next_at m n l d f x) < 12
 
 ended : (table : List ℕ) (m n : ℕ) (l d f x : Bool) → (n == 0) ≡ false
     → ends table m n l d f x ≡ true → Ended table m n l d f x
@@ -805,8 +805,9 @@ unfolding ends
 ended table m n l d f x some h = from (rw some at h)
   where
     from : (moved table (state_of m n l d f x) 3 == state_of
-        (number_of (next_at m n l d f x)) 0 true true false false)
-        && (is_numbered (next_at m n l d f x) && nat_lt (number_of (next_at m n l d f x)) 12) ≡ true
+        (stage_number (next_at m n l d f x)) 0 true true false false)
+        && (is_numbered (next_at m n l d f x)
+        && nat_lt (stage_number (next_at m n l d f x)) 12) ≡ true
         → Ended table m n l d f x
     from h = let one = each_true _ _ h in let two = each_true _ _ one.1 in
         record { state = eqb-true _ _ one.0; known = two.0; few = lt_is _ _ two.1 }
@@ -845,13 +846,13 @@ end table text s m b ok reads g few short all h =
       | inr some ↦ (
           let next = ended table m (length s) _ _ _ _ some h in
           let a_piece : is_private_piece s ≡ true = piece ∙ ap not some in
-          let stage : stage_at (number_of following) ≡ stage_after (stage_at m) s =
+          let stage : stage_at (stage_number following) ≡ stage_after (stage_at m) s =
           numbered following next.known ∙ sym (next_is (stage_at m) s all) in
           after_class table text (state_at m s) b 3 g.class_is
           ∙ (ap (λ (n : ℕ). nat_le 37 (run table n text)) (next.state
-          ∙ sym (state_before (number_of following)))
-          ∙ (reads [] (number_of following) next.few (omega arith) refl usual_before
-          ∙ (ap (good (stage_at (number_of following)))
+          ∙ sym (state_before (stage_number following)))
+          ∙ (reads [] (stage_number following) next.few (omega arith) refl usual_before
+          ∙ (ap (good (stage_at (stage_number following)))
           (onto_nothing rest (some_pieces (str_to_ascii_lowercase text)))
           ∙ (ap (λ (o : Option Stage). good o rest) stage
           ∙ sym (parts ∙ next_good (stage_at m) s rest a_piece))))))

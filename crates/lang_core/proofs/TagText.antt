@@ -6,40 +6,40 @@ use Rattle.std.proofs.lemmas.Bool.Decides.{nat_tests}
 use Rattle.std.proofs.lemmas.List.Splits.{slice_split-cons_yes, slice_split-cons_no}
 use Rattle.lang_core.specs.Text.{pieces_by, pieces}
 use Rattle.lang_core.specs.Grammar.{are_allowed, tag_piece, is_alphanum, is_private_piece}
-use Rattle.lang_core.specs.LowerText.{is_plain, IsPlain}
+use Rattle.lang_core.specs.LowerText.{is_nonzero_ascii, IsNonzeroAscii}
 use Rattle.lang_core.specs.Tag.{HasSubtags}
 use Rattle.lang_core.proofs.Basics.{cases_bool, each_true, both}
 use Rattle.lang_core.proofs.Classes.{run_of}
 
-alphanum_plain : (b : ℕ) → is_alphanum b ≡ true → is_plain b ≡ true
-alphanum_plain b h = grind (arith, nat_tests)
+alphanum_nonzero : (b : ℕ) → is_alphanum b ≡ true → is_nonzero_ascii b ≡ true
+alphanum_nonzero b h = grind (arith, nat_tests)
 
-hyphen_plain : (b : ℕ) → (b == 45) ≡ true → is_plain b ≡ true
-hyphen_plain b h = grind (arith, nat_tests)
+hyphen_nonzero : (b : ℕ) → (b == 45) ≡ true → is_nonzero_ascii b ≡ true
+hyphen_nonzero b h = grind (arith, nat_tests)
 
 -- each byte of each piece is a letter or a digit
 abbrev each_alphanum : List (List ℕ) → Bool
 each_alphanum list = list_all (λ s. list_all is_alphanum s) list
 
-onto_plain : (b : ℕ) (text : List ℕ) (parts : List (List ℕ))
-    → (each_alphanum parts ≡ true → IsPlain text)
-    → each_alphanum (onto_first b parts) ≡ true → IsPlain (b ∷ text)
-onto_plain b text [] rest h =
+onto_nonzero : (b : ℕ) (text : List ℕ) (parts : List (List ℕ))
+    → (each_alphanum parts ≡ true → IsNonzeroAscii text)
+    → each_alphanum (onto_first b parts) ≡ true → IsNonzeroAscii (b ∷ text)
+onto_nonzero b text [] rest h =
     let byte =
     each_true (is_alphanum b) true (each_true (list_all is_alphanum (b ∷ [])) true h).0 in
-    both _ _ (alphanum_plain b byte.0) (rest refl)
-onto_plain b text (part ∷ parts) rest h =
+    both _ _ (alphanum_nonzero b byte.0) (rest refl)
+onto_nonzero b text (part ∷ parts) rest h =
     let first = each_true (list_all is_alphanum (b ∷ part)) (each_alphanum parts) h in
     let byte = each_true (is_alphanum b) (list_all is_alphanum part) first.0 in
-    both _ _ (alphanum_plain b byte.0) (rest (both _ _ byte.1 first.1))
+    both _ _ (alphanum_nonzero b byte.0) (rest (both _ _ byte.1 first.1))
 
-split_plain : (text : List ℕ) → each_alphanum (slice_split (λ b. b == 45) text) ≡ true
-    → IsPlain text
-split_plain [] h = refl
-split_plain (b ∷ bs) h = elim (cases_bool (b == 45)) [
-  | inl e ↦ both _ _ (hyphen_plain b e)
-      (split_plain bs (rw (slice_split-cons_yes (λ x. x == 45) b bs e) at h))
-  | inr e ↦ onto_plain b bs (slice_split (λ x. x == 45) bs) (split_plain bs)
+split_nonzero : (text : List ℕ) → each_alphanum (slice_split (λ b. b == 45) text) ≡ true
+    → IsNonzeroAscii text
+split_nonzero [] h = refl
+split_nonzero (b ∷ bs) h = elim (cases_bool (b == 45)) [
+  | inl e ↦ both _ _ (hyphen_nonzero b e)
+      (split_nonzero bs (rw (slice_split-cons_yes (λ x. x == 45) b bs e) at h))
+  | inr e ↦ onto_nonzero b bs (slice_split (λ x. x == 45) bs) (split_nonzero bs)
       (rw (slice_split-cons_no (λ x. x == 45) b bs e) at h)
 ]
 
@@ -52,6 +52,6 @@ allowed_alphanum place (s ∷ list) h =
     both _ _ (run_of is_alphanum 1 8 s parts.0).all (allowed_alphanum (place + 1) list parts.1)
 
 -- Each byte of a text whose subtags are of letters and digits is ASCII, and not zero.
-pub tag_plain : (text : List ℕ) → HasSubtags text → IsPlain text
+pub tag_nonzero : (text : List ℕ) → HasSubtags text → IsNonzeroAscii text
 unfolding pieces_by
-tag_plain text h = split_plain text (allowed_alphanum 0 (pieces text) h)
+tag_nonzero text h = split_nonzero text (allowed_alphanum 0 (pieces text) h)

@@ -6,7 +6,8 @@ ghost use Rattle.std.specs.Str.{IsAscii, bytes_eq, str_to_ascii_lowercase};
 ghost use Rattle.std.specs.Ordering.{nat_cmp};
 ghost use Rattle.std.specs.Cmp.Lexicographic.{slice_cmp};
 ghost use Rattle.lang_core.specs.declared.fault.LangFault.TheVariants.{NoMemory};
-ghost use Rattle.lang_core.specs.LowerText.{IsPlain, TakesMemory, IsShort, filled, number_of};
+ghost use Rattle.lang_core.specs.LowerText.{IsNonzeroAscii, TakesMemory, IsShort, filled};
+ghost use Rattle.lang_core.specs.LowerText.{spelled_number};
 
 use crate::fault::LangFault;
 use std::alloc::{AllocError, Global};
@@ -40,7 +41,7 @@ impl Model for LowerText {
 impl LowerText {
     /// The text in lower case: without memory up to 16 bytes, else by one allocation.
     pub(crate) fn new(alloc: Global, bytes: &[u8]) -> Result<LowerText, LangFault>
-        requires { IsPlain (str_to_ascii_lowercase bytes.now) }
+        requires { IsNonzeroAscii (str_to_ascii_lowercase bytes.now) }
         ensures { MatchResult result
             (λ text. text ≡ str_to_ascii_lowercase bytes.now)
             (λ fault. (fault ≡ NoMemory) × TakesMemory (str_to_ascii_lowercase bytes.now)) }
@@ -189,7 +190,7 @@ impl ShortText {
     /// The number that the bytes spell, the first byte the highest. Numbers are in the order of the
     /// texts, and are compared by few instructions.
     fn number(&self) -> u128
-        ensures value { result ≡ number_of self.now }
+        ensures value { result ≡ spelled_number self.now }
         ensures text { IsShort self.now }
     {
         u128::from_be_bytes(self.bytes)

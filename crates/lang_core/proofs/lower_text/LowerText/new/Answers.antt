@@ -2,13 +2,13 @@ use Rattle.std.proofs.Common.{ℕ, ◌≡◌, ◌<◌, List, length, arith}
 use Rattle.std.specs.Str.{str_to_ascii_lowercase}
 use Rattle.std.specs.Char.{to_ascii_lowercase}
 use Rattle.std.proofs.lemmas.List.{length-map}
-use Rattle.lang_core.proofs.LowerTextLemmas.{plain-lower}
+use Rattle.lang_core.proofs.LowerTextLemmas.{nonzero-lower}
 use Rattle.lang_core.proofs.lower_text.LowerText.new.Goals as goal
 use Rattle.lang_core.proofs.lower_text.LowerText.new.Goals.{then-bytes-le-MAX_SHORT_LEN}
 use Rattle.lang_core.proofs.lower_text.LowerText.new.Goals.{else-bytes-le-MAX_SHORT_LEN+in_ok-lower_long}
 
 pub lower_long-requires : goal.lower_long-requires
-lower_long-requires c = plain-lower c.args.bytes.now c.requires
+lower_long-requires c = nonzero-lower c.args.bytes.now c.requires
 
 lower_size : (text : List ℕ) → length (str_to_ascii_lowercase text) ≡ length text
 lower_size text = length-map text to_ascii_lowercase

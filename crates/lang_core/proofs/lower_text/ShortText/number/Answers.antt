@@ -12,4 +12,4 @@ returns-clause-text c =
     let kept = c.self.invariant in
     let short : length (take c.self.inside.len c.self.inside.bytes) ≤ 16 =
     omega (arith, kept.size, kept.short) in
-    rw (← c.self.view_is) (short, kept.plain)
+    rw (← c.self.view_is) (short, kept.nonzero)

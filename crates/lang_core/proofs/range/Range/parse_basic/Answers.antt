@@ -5,12 +5,12 @@ use Rattle.std.specs.Str.{str_to_ascii_lowercase}
 use Rattle.lang_core.specs.Text.{subtags, IsSized}
 use Rattle.lang_core.specs.Grammar.{BasicRange, ExtendedRange}
 use Rattle.lang_core.specs.Range.{IsRange}
-use Rattle.lang_core.proofs.RangeText.{basic_plain, basic_extended}
+use Rattle.lang_core.proofs.RangeText.{basic_nonzero, basic_extended}
 use Rattle.lang_core.proofs.LookupLemmas.{lookup_text-basic}
 use Rattle.lang_core.proofs.range.Range.parse_basic.Goals as goal
 
 pub new-requires : goal.new-requires
-new-requires c = basic_plain _ c.in_default.ensures
+new-requires c = basic_nonzero _ c.in_default.ensures
 
 pub invariant_of-result : goal.invariant_of-result
 invariant_of-result c =
