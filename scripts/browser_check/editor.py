@@ -25,6 +25,7 @@ import editor_looks  # noqa: E402
 import editor_more  # noqa: E402
 import editor_outside  # noqa: E402
 import editor_promises  # noqa: E402
+import editor_still  # noqa: E402
 from editor_page import PACKAGE, SOURCES  # noqa: E402
 
 HERE = os.path.dirname(os.path.realpath(__file__))
@@ -62,6 +63,7 @@ PROMISES = [
     editor_more.many_messages,
     editor_looks.looks,
     editor_looks.by_keys,
+    editor_still.nothing_jumps,
     editor_outside.by_companion,
     editor_outside.tampered,
 ]

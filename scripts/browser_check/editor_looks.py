@@ -37,13 +37,35 @@ SEEN = """(() => {
     const isNarrow = element.scrollWidth > element.clientWidth + 2;
     if (element.tagName === 'TEXTAREA' && isLow) faults.push(`cut: ${name}`);
     if (style.display !== 'inline' && !isInput && isNarrow) faults.push(`cut: ${name}`);
-    const isBeside = box.left < -1 || box.right > innerWidth + 1;
+    // (the kinds of messages are a line that is moved sideways)
+    const isOut = box.left < -1 || box.right > innerWidth + 1;
+    const isBeside = isOut && !element.closest('.tabs');
     if (box.width && isBeside) faults.push(`beside the window: ${name}`);
     const [one, other] = [light(rgb(style.color)), light(ground(element))].sort((a, b) => b - a);
     const isFaint = (one + 0.05) / (other + 0.05) < 4.5 && !element.disabled;
     if (isFaint) faults.push(`too little contrast: ${name}`);
   }
   return faults;
+})()"""
+
+# What is said of the exchange and of what is kept, in all languages, that is longer than its line.
+CUT = """(async () => {
+  const { WORDS, wordsOf } = await import('./words.mjs');
+  const line = document.querySelector('#exchanged');
+  const shown = line.textContent;
+  const cut = Object.keys(WORDS).flatMap((language) => {
+    const say = wordsOf(language);
+    const faults = Object.keys(WORDS[language]).filter((it) => it.startsWith('short_'));
+    const lines = ['never', 'exchanging', 'kept', 'keeping', 'notKeptHere', 'noStore', 'notInStore'];
+    return [
+      ...faults.map((it) => `${say(it)} ${say('unsent', { count: 1234 })}`), ...lines.map((it) => say(it)),
+    ].filter((text) => {
+      line.textContent = text;
+      return line.scrollWidth > line.clientWidth;
+    });
+  });
+  line.textContent = shown;
+  return cut;
 })()"""
 
 ARABIC = {
@@ -113,7 +135,8 @@ def scheme(editor, name):
     features = [{"name": "prefers-color-scheme", "value": name}]
     editor.page.ask("Emulation.setEmulatedMedia", features=features)
 
-SIZES = ((320, 568), (360, 640), (768, 1024), (1200, 900), (1600, 900))
+
+SIZES = ((320, 568), (360, 640), (768, 1024), (1000, 620), (1200, 900), (1600, 900))
 
 
 def looks(room):
@@ -144,6 +167,8 @@ def looks(room):
                     seen += 1
                     if name != "work":
                         continue
+                    cut = anna.run(CUT)
+                    expect(not cut, f"{width} wide these are cut: {cut}")
                     bottom = anna.run(
                         "document.querySelector('.row textarea').getBoundingClientRect().bottom"
                     )

@@ -42,6 +42,12 @@ export function setText(element, text) {
   if (element.textContent !== text) element.textContent = text;
 }
 
+/** Sets a text that is as wide as the longest that will be there, so that what is beside it stays. */
+export function setAsWide(element, text, longest) {
+  setText(element, text);
+  element.dataset.longest = longest;
+}
+
 /** An element with its properties, and what is in it. */
 export function made(name, properties = {}, ...inside) {
   const element = Object.assign(document.createElement(name), properties);
@@ -57,6 +63,23 @@ export function notice(text) {
 
 let shown = '';
 
+/**
+ * Puts what is wrong at the foot of the page or, where that would cover the field that is typed in,
+ * at its head: the page below it never moves.
+ */
+export function placeProblem() {
+  const box = $('problem');
+  const field = document.activeElement;
+  if (box.hidden || !field.matches('input, textarea, select')) return;
+  const { top, bottom } = field.getBoundingClientRect();
+  const covers = (isAbove) => {
+    box.classList.toggle('above', isAbove);
+    const own = box.getBoundingClientRect();
+    return own.top < bottom && top < own.bottom;
+  };
+  if (covers(false) && covers(true)) box.classList.remove('above');
+}
+
 /** Says what is wrong and what to do, with buttons for that: each a word and what it does. */
 export function showProblem(text, actions = [], kind = '') {
   shown = kind;
@@ -65,6 +88,7 @@ export function showProblem(text, actions = [], kind = '') {
     ([word, onclick]) => made('button', { type: 'button', onclick, textContent: say(word) }));
   $('problem').children[1].replaceChildren(...buttons);
   $('problem').hidden = false;
+  placeProblem();
 }
 
 /** Takes away what was said, or that of one kind. */

@@ -2,7 +2,8 @@
 // network.
 import { load } from './silkwaram.mjs';
 import {
-  $, app, hideProblem, languageName, made, notice, say, setText, showProblem, tried, whyOf,
+  $, app, hideProblem, languageName, made, notice, placeProblem, say, setText, showProblem, tried,
+  whyOf,
 } from './app.mjs';
 import { Clock } from './clock.mjs';
 import { beginExchanges, exchangeNow } from './exchanging.mjs';
@@ -10,7 +11,7 @@ import { beginFiles, saveSite } from './files.mjs';
 import { directionOf, withoutRegion } from './languages.mjs';
 import { Keeper, beOnlyTab, openStore } from './store.mjs';
 import { askLanguage, askNewMessage, beginDialogs, openKeys, openReader } from './view_dialogs.mjs';
-import { beginList, goTo, list } from './view_list.mjs';
+import { beginList, goTo } from './view_list.mjs';
 import { chooseKind, onLanguage, showCounts, showLanguages, showState } from './view_tools.mjs';
 import { afterEdit, relist, rowActions, showAnew, undo } from './working.mjs';
 import { Work, keyOf } from './work.mjs';
@@ -150,10 +151,7 @@ function listen() {
   for (const name of ['language', 'source']) onLanguage(name, choose, askLanguage);
   $('find').oninput = () => relist();
   $('shown').onchange = () => relist();
-  $('list').addEventListener('focusin', (event) => {
-    const row = event.target.closest('.row');
-    if (row) list.last = row.label;
-  });
+  for (const name of ['focusin', 'input']) document.addEventListener(name, placeProblem);
   document.onkeydown = onKey;
   addEventListener('beforeunload', (event) => {
     const { keeper, work } = app;

@@ -50,6 +50,8 @@ function sayProblem(problem, isAsked) {
     showProblem(say('is_large'), [['saveSite', saveSite]], 'exchange');
   } else if (isAsked) {
     showProblem(say(`is_${kind}`), [], 'exchange');
+  } else {
+    notice(say(`is_${kind}`));
   }
 }
 
@@ -87,10 +89,11 @@ export async function exchangeNow(isAsked) {
     if (app.work !== work) return;
     app.keeper.sent(made.gone);
     app.keeper.isUnsaved = work.unsent.size > 0;
+    const isBack = exchanged.problem !== null;
     exchanged.problem = null;
     app.state = { ...app.state, last: Date.now(), heard: app.clock.heard };
     const { sent, received, lateOfOthers } = made;
-    if (isAsked || received > 0) notice(say('exchangedNow', { sent, received }));
+    if (isAsked || isBack || received > 0) notice(say('exchangedNow', { sent, received }));
     if (received > 0) page.came();
     else app.keeper.state(app.state);
     hideProblem('exchange');

@@ -7,6 +7,8 @@ import { fitHeights, makeRow, updateRow } from './view_row.mjs';
 const BESIDE = 8;
 const FIRST_HEIGHT = 96;
 
+const doesAnchor = CSS.supports('overflow-anchor', 'auto');
+
 export const list = {
   /** The messages that are listed, in their order. */
   ids: [],
@@ -19,6 +21,11 @@ const rows = new Map();
 const heights = new Map();
 let places = new Map();
 let before, after;
+// What a row is taken to be high that was not seen, once there are some: another height each time
+// would move what is shown.
+let usual = null;
+// Room above the first row, where rows got lower above what has to stay and nothing can be scrolled.
+let lead = 0;
 
 const sizes = new ResizeObserver((entries) => {
   for (const { target } of entries) heights.set(target.label, target.offsetHeight);
@@ -49,24 +56,90 @@ export function beginList(actions) {
   };
   addEventListener('scroll', onMove, { passive: true });
   addEventListener('resize', () => {
-    heights.clear();
+    // (the heights of rows that are not there stay as good a guess as any)
     fitHeights($('list').querySelectorAll('textarea'));
     onMove();
+  });
+  $('list').addEventListener('focusin', ({ target }) => beAt(target.closest('.row')));
+  $('list').addEventListener('focusout', ({ relatedTarget }) => {
+    if (document.hasFocus() && !relatedTarget?.closest('.row')) beAt(null);
+  });
+}
+
+// The row that one is at, where what another wrote lies over what is below the fields.
+function beAt(row) {
+  const former = $('list').querySelector('.row.here');
+  if (row) list.last = row.label;
+  if (row === former) return;
+  holding(() => {
+    former?.classList.remove('here');
+    row?.classList.add('here');
   });
 }
 
 function usualHeight() {
-  if (heights.size === 0) return FIRST_HEIGHT;
-  let sum = 0;
-  for (const it of heights.values()) sum += it;
-  return sum / heights.size;
+  if (usual === null && heights.size > 0) {
+    usual = 0;
+    for (const it of heights.values()) usual += it / heights.size;
+  }
+  return usual ?? FIRST_HEIGHT;
+}
+
+function heightBefore(at) {
+  const known = usualHeight();
+  let height = lead;
+  for (let it = 0; it < at; it += 1) height += heights.get(list.ids[it]) ?? known;
+  return height;
+}
+
+// ---- What is seen stays where it is
+
+const topOf = (element) => element.getBoundingClientRect().top;
+
+// The rows that are seen, each with how far down it is.
+function seenRows() {
+  const head = $('tools').getBoundingClientRect().bottom;
+  return [...rows]
+    .filter(([, row]) => !row.classList.contains('aside'))
+    .map(([id, row]) => [id, topOf(row)])
+    .filter(([, top]) => top >= head && top < innerHeight)
+    .sort(([, one], [, other]) => one - other);
+}
+
+// Has what has moved on the screen be where it was.
+function stay(moved) {
+  if (Math.abs(moved) < 1) return;
+  const wanted = scrollY + moved;
+  if (wanted >= 0) {
+    // (a page that was no higher than the window has nothing to scroll)
+    const height = wanted + innerHeight;
+    if (document.documentElement.scrollHeight < height) document.body.style.minHeight = `${height}px`;
+    scrollTo({ top: wanted });
+  } else {
+    lead -= wanted;
+    before.style.height = `${parseFloat(before.style.height) - wanted}px`;
+  }
+}
+
+/**
+ * Changes rows, and has the field that one is at stay where it is on the screen, or else the first
+ * row that is seen. What grew above it is scrolled away.
+ */
+export function holding(run) {
+  const { activeElement } = document;
+  const field = activeElement.closest('.row:not(.aside)') ? activeElement : null;
+  const [[id, seen] = []] = field ? [] : seenRows();
+  const held = field ?? rows.get(id);
+  const top = field ? topOf(field) : seen;
+  run();
+  if (held?.isConnected) stay(topOf(held) - top);
 }
 
 // The places of the first row and after the last that are to be there, and how high all before and
 // after them are.
-function wantedRows(usual) {
-  const top = -$('list').getBoundingClientRect().top;
-  const heightAt = (at) => heights.get(list.ids[at]) ?? usual;
+function wantedRows(known) {
+  const top = -topOf($('list')) - lead;
+  const heightAt = (at) => heights.get(list.ids[at]) ?? known;
   let first = 0;
   let above = 0;
   while (first < list.ids.length && above + heightAt(first) < top) above += heightAt(first++);
@@ -83,6 +156,12 @@ function wantedRows(usual) {
 
 /** Makes the rows that are near the window, and takes others away. */
 export function renderRows() {
+  // (rows above that were never seen are not as high as was thought, which most browsers mind)
+  if (doesAnchor) renderWanted();
+  else holding(renderWanted);
+}
+
+function renderWanted() {
   const { first, end, above, below } = wantedRows(usualHeight());
   const wanted = new Set(list.ids.slice(first, end));
   const focused = document.activeElement?.closest('.row') ?? null;
@@ -95,7 +174,7 @@ export function renderRows() {
     row.remove();
     rows.delete(id);
   }
-  before.style.height = `${above}px`;
+  before.style.height = `${lead + above}px`;
   after.style.height = `${below}px`;
   const fresh = [];
   let next = before;
@@ -115,9 +194,10 @@ export function renderRows() {
   for (const row of fresh) sizes.observe(row);
 }
 
-/** Lists messages anew, from the top or where the window is. */
+/** Lists messages anew, from the top or so that the first one that is seen stays. */
 export function showList(ids, isFromTop) {
   const { activeElement } = document;
+  const seen = isFromTop ? [] : seenRows();
   list.ids = ids;
   places = new Map(ids.map((id, at) => [id, at]));
   for (const row of rows.values()) {
@@ -125,8 +205,19 @@ export function showList(ids, isFromTop) {
     row.remove();
   }
   rows.clear();
-  if (isFromTop) scrollTo({ top: 0 });
+  if (isFromTop) {
+    lead = 0;
+    usual = null;
+    document.body.style.minHeight = '';
+    scrollTo({ top: 0 });
+  }
+  const [id, top] = seen.find(([it]) => places.has(it)) ?? [];
+  if (id !== undefined) {
+    after.style.height = `${heightBefore(ids.length) + innerHeight}px`;
+    scrollTo({ top: scrollY + topOf($('list')) + heightBefore(places.get(id)) - top });
+  }
   renderRows();
+  if (id !== undefined) stay(topOf(rows.get(id)) - top);
   if (activeElement && !activeElement.isConnected) $('list').focus({ preventScroll: true });
 }
 
@@ -148,11 +239,7 @@ export function goTo(id, place = 0) {
   const at = places.get(id);
   if (at === undefined) return false;
   if (!rows.has(id)) {
-    const usual = usualHeight();
-    let height = 0;
-    for (let it = 0; it < at; it += 1) height += heights.get(list.ids[it]) ?? usual;
-    const top = $('list').getBoundingClientRect().top + scrollY;
-    scrollTo({ top: top + height - innerHeight / 2 });
+    scrollTo({ top: scrollY + topOf($('list')) + heightBefore(at) - innerHeight / 2 });
     renderRows();
   }
   const texts = rows.get(id).querySelectorAll('textarea');

@@ -44,18 +44,19 @@ export function makeRow(id, does) {
   const number = (numbers += 1);
   const row = made('li', { className: 'row' });
   row.label = id;
-  const name = made(
-    'h3', {}, made('bdi', { textContent: id }), ' ',
-    made('span', {className: 'mark', id: `mark-${number}`}));
+  const line = (className) => made('p', { className, id: `${className}-${number}` });
+  const others = made('div', { className: 'others', id: `others-${number}` });
+  others.setAttribute('role', 'status');
   row.append(
     made(
-      'div', { className: 'about' }, name, made('p', {className: 'source', id: `source-${number}`}),
-      made('p', {className: 'note', id: `note-${number}`})),
+      'div', { className: 'about' }, made('h3', {}, made('bdi', { textContent: id })),
+      line('source'), line('note')),
     made(
-      'div', { className: 'translation' }, made('div', { className: 'texts' }),
-      made('p', {className: 'warning', id: `warning-${number}`}),
+      'div', { className: 'translation' },
+      made('div', { className: 'writing' }, made('div', { className: 'texts' }), others),
       made(
-        'div', { className: 'row-actions' }, made('small', { className: 'who' }),
+        'div', { className: 'row-actions' },
+        made('div', { className: 'said' }, line('warning'), line('mark'), line('who')),
         actionOf('stillRight', () => does.confirm(row), 'Control+Enter'),
         actionOf('copySource', () => does.copy(row), 'Alt+C'),
         actionOf('remove', () => does.remove(row), 'Alt+Delete'))),
@@ -72,7 +73,7 @@ function makeText(row, place) {
   text.place = place;
   text.setAttribute(
     'aria-describedby',
-    ['source', 'mark', 'note', 'warning', 'other'].map((it) => `${it}-${number}`).join(' '));
+    ['source', 'mark', 'note', 'warning', 'others'].map((it) => `${it}-${number}`).join(' '));
   text.oninput = () => does.type(row, text);
   text.onchange = () => does.leave(row);
   text.onkeydown = (event) => does.key(event, row, text);
@@ -85,30 +86,25 @@ function nameOfText(id, count, place) {
   return say(count > 1 ? 'textAt' : 'textOf', known);
 }
 
-function showOther(row, text) {
+// Shows what another wrote while something else was typed. It lies over what is below the fields of
+// the row that one is at, and has room of its own in the others (working.mjs).
+function showOthers(row, count) {
   const { language } = app.state;
-  const { place } = text;
-  const other = app.work.otherAt(row.label, language, place);
-  let line = text.nextElementSibling;
-  if (line?.className !== 'other') line = null;
-  if (other === null) {
-    line?.remove();
-    return;
-  }
-  if (!line) {
-    line = made('p', { className: 'other', id: `other-${row.number}` });
-    line.setAttribute('role', 'status');
-    text.after(line);
-  }
-  const cell = app.work.labels.cellOf(row.label, language);
-  const who = cell?.site ?? '';
-  const textContent = other || say('nothing');
-  const content = made('bdi', { textContent, lang: attributeOf(language) });
-  if (line.title === `${who} ${other}`) return;
-  line.title = `${who} ${other}`;
-  line.replaceChildren(
-    made('b', {textContent: say('otherText', { who })}), content,
-    made('small', { textContent: say('otherHint') }));
+  const box = row.querySelector('.others');
+  const who = app.work.labels.cellOf(row.label, language)?.site ?? '';
+  const others = [...Array(count).keys()]
+    .map((place) => [place, app.work.otherAt(row.label, language, place)])
+    .filter(([, other]) => other !== null);
+  const shown = JSON.stringify([app.state.page, who, others]);
+  if (box.shown === shown) return;
+  box.shown = shown;
+  box.replaceChildren(...others.map(([place, other]) => {
+    const number = count > 1 ? `${place + 1}. ` : '';
+    return made(
+      'p', { className: 'other' }, made('b', { textContent: number + say('otherText', { who }) }),
+      made('bdi', { textContent: other || say('nothing'), lang: attributeOf(language) }),
+      made('small', { textContent: say('otherHint') }));
+  }));
 }
 
 function placeholderWarning(id, place) {
@@ -138,17 +134,20 @@ export function updateMarks(row) {
   const isTyped = app.work.isTyping(id, language);
   const kind = isTyped ? 'isTyped' : labels.isMissing(id, language) ? 'isMissing' :
     labels.isOutdated(id, language, source) ? 'isOutdated' : null;
-  const mark = row.querySelector('.mark');
-  setText(mark, kind ? say(kind) : '');
+  setText(row.querySelector('.mark'), kind ? say(kind) : '');
   row.dataset.mark = kind ?? '';
   const texts = row.querySelectorAll('textarea');
   const warnings = [...texts].map((text) => placeholderWarning(id, text.place)).filter(Boolean);
   setText(row.querySelector('.warning'), warnings.join(' '));
-  for (const text of texts) showOther(row, text);
+  showOthers(row, texts.length);
   const cell = labels.cellOf(id, language);
   const who =
     cell ? say(cell.texts ? 'by' : 'removedBy', { who: cell.site, when: whenOf(cell.time) }) : '';
   setText(row.querySelector('.who'), who);
+  // (one of them, in the room that is kept for it: the fields stay where they are)
+  const isGone = kind === 'isMissing' && who !== '';
+  const said = warnings.length > 0 ? 'warning' : kind && !isGone ? 'mark' : 'who';
+  for (const it of row.querySelector('.said').children) it.hidden = it.className !== said;
   const beside = labels.textsOf(id, sourceOf(id));
   row.querySelector('.stillRight').hidden = kind !== 'isOutdated';
   row.querySelector('.copySource').hidden =
@@ -166,14 +165,12 @@ export function updateRow(row) {
   const held = labels.textsOf(id, language);
   const typed = app.work.drafts.get(JSON.stringify([id, language]));
   const most = typed ? Math.max(...typed.keys()) + 1 : 0;
-  const count = Math.max(1, held.length, most, shown === language ? 0 : beside.length);
   const box = row.querySelector('.texts');
   const texts = [...box.querySelectorAll('textarea')];
-  while (texts.length > count) {
-    const last = texts.pop();
-    if (last.nextElementSibling?.className === 'other') last.nextElementSibling.remove();
-    last.remove();
-  }
+  // (a field that one is at stays)
+  const at = texts.indexOf(document.activeElement) + 1;
+  const count = Math.max(1, held.length, most, at, shown === language ? 0 : beside.length);
+  while (texts.length > count) texts.pop().remove();
   while (texts.length < count) {
     texts.push(makeText(row, texts.length));
     box.append(texts.at(-1));

@@ -1,5 +1,5 @@
 // The lines above the list: what is kept and exchanged, the languages, and what is shown.
-import { $, app, languageName, made, say, setText } from './app.mjs';
+import { $, app, languageName, made, say, setAsWide, setText } from './app.mjs';
 import { MOST_DIFFERENCE } from './clock.mjs';
 
 const ANOTHER = '..';
@@ -13,22 +13,22 @@ export const exchanged = { isRunning: false, problem: null, late: 0, lateOfOther
 function keptLine() {
   const { keeper } = app;
   if (!keeper.store) return say(keeper.isUnsaved ? 'notInStore' : 'noStore');
-  if (keeper.failure) return say('notKept');
+  if (keeper.failure) return say('notKeptHere');
   return say(keeper.isBusy ? 'keeping' : 'kept');
 }
 
 function exchangedLine() {
   const { last } = app.state;
-  if (exchanged.isRunning) return say('exchanging');
+  const { isRunning, problem } = exchanged;
+  if (isRunning) return say('exchanging');
   const count = app.work.unsent.size;
+  const unsent = count > 0 ? say('unsent', { count }) : '';
+  // (few words, as the page would move for a second line: what to do is said at its foot)
+  if (problem) return `${say(`short_${problem}`)} ${unsent}`.trim();
+  if (unsent) return unsent;
+  if (last === null) return say('never');
   const how = { dateStyle: 'medium', timeStyle: 'short' };
-  const format = new Intl.DateTimeFormat(app.state.page, how);
-  const parts = [
-    exchanged.problem ? say(`is_${exchanged.problem}`) : '',
-    count > 0 ? say('unsent', { count }) : '',
-    last === null ? say('never') : count > 0 ? '' : say('last', { when: format.format(last) }),
-  ];
-  return parts.filter(Boolean).join(' ');
+  return say('last', { when: new Intl.DateTimeFormat(app.state.page, how).format(last) });
 }
 
 export function showState() {
@@ -38,7 +38,7 @@ export function showState() {
   $('kept').classList.toggle('bad', !keeper.store || keeper.failure !== null);
   const line = exchangedLine();
   setText($('exchanged'), line);
-  $('exchanged').title = line;
+  $('exchanged').title = exchanged.problem ? say(`is_${exchanged.problem}`) : line;
   $('exchanged').classList.toggle('due', exchanged.problem !== null);
   $('exchange').disabled = exchanged.isRunning;
   $('undo').disabled = app.work.done.length === 0;
@@ -87,16 +87,17 @@ export function showCounts() {
   const counts = { all, missing, outdated, came: idsOf('came').length, typed };
   for (const kind of KINDS) {
     const input = document.querySelector(`#shown input[value=${kind}]`);
-    setText(input.parentElement.querySelector('b'), format.format(counts[kind]));
-    // (the last two are there when there are such)
-    const isShown = counts[kind] > 0 || input.checked || !['came', 'typed'].includes(kind);
-    input.parentElement.hidden = !isShown;
+    const number = input.parentElement.querySelector('b');
+    // (two digits at least, so that the tenth message moves nothing)
+    setAsWide(number, format.format(counts[kind]), format.format(Math.max(all, 10)));
+    input.parentElement.classList.toggle('empty', counts[kind] === 0);
   }
   const bar = $('progress').querySelector('progress');
   bar.max = Math.max(1, all);
   bar.value = done;
-  setText(
-    $('progress-text'), say('progress', { done: format.format(done), all: format.format(all) }));
+  const [some, whole] = [done, all].map((count) => format.format(count));
+  const longest = say('progress', { done: whole, all: whole });
+  setAsWide($('progress-text'), say('progress', { done: some, all: whole }), longest);
   showDone();
 }
 

@@ -1,7 +1,7 @@
 // The work in the list: what is listed, and what keys and buttons of a row do.
 import { $, app, languageName, notice, say, tried } from './app.mjs';
 import { exchangeSoon } from './exchanging.mjs';
-import { goFrom, list, showList, showNone, updateRows } from './view_list.mjs';
+import { goFrom, holding, list, showList, showNone, updateRows } from './view_list.mjs';
 import { fitHeights, updateMarks } from './view_row.mjs';
 import { idsOf, showCounts, showState, shownKind } from './view_tools.mjs';
 
@@ -18,8 +18,8 @@ export function relist(isFromTop = true) {
 /** Shows what came: the list is listed anew only where nobody is at work in it. */
 export function showAnew() {
   showCounts();
-  updateRows();
-  if (!$('list').contains(document.activeElement)) relist(false);
+  if ($('list').contains(document.activeElement)) holding(() => updateRows());
+  else relist(false);
 }
 
 export function afterEdit(id) {
@@ -113,7 +113,10 @@ function commit(row) {
     is = app.work.commit(id, language);
   });
   if (!isDone) $('problem').dataset.refused = id;
-  if (is === 'changed') notice(say('changedMeanwhile', { id }));
+  if (is === 'changed') {
+    notice(say('changedMeanwhile', { id }));
+    row.querySelector('.others').scrollIntoView({ block: 'nearest' });
+  }
   if (is === 'kept') {
     const after = app.work.labels.textsOf(id, language);
     notice(say(after.length === 0 ? 'removed' : 'saved', { id, language: languageName(language) }));
