@@ -42,10 +42,10 @@ export function setText(element, text) {
   if (element.textContent !== text) element.textContent = text;
 }
 
-/** Sets a text that is as wide as the longest that will be there, so that what is beside it stays. */
+/** Sets a text with room for the longest that will be there, so that what is beside it stays. */
 export function setAsWide(element, text, longest) {
   setText(element, text);
-  element.dataset.longest = longest;
+  setText(element.nextElementSibling, longest);
 }
 
 /** An element with its properties, and what is in it. */

@@ -213,7 +213,11 @@ function workOf({ site: document, edits, unsent, drafts }) {
 async function openKeeper() {
   let store = null;
   try {
-    if (await beOnlyTab(() => setText($('site-name'), say('otherTab')))) store = await openStore();
+    const waiting = () => {
+      setText($('site-name'), say('otherTab'));
+      $('bar').hidden = false;
+    };
+    if (await beOnlyTab(waiting)) store = await openStore();
   } catch (error) {
     console.warn(error);
   }
@@ -264,6 +268,8 @@ async function begin() {
     $('start').hidden = false;
     document.querySelector('#new-site input').focus();
   }
+  // (once all of it is there)
+  $('bar').hidden = false;
   if (!app.keeper.store) showProblem(say('noStoreHere'), [], 'store');
   else if ((await navigator.storage?.persist?.()) === false) notice(say('mayGo'));
   if (!app.keeper.store) document.querySelector('#problem').dataset.kind = 'store';

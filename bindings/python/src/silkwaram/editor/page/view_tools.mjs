@@ -84,19 +84,20 @@ export function showCounts() {
   const { all, missing, outdated, done } = work.labels.progress(state.language, state.source);
   const typed =
     [...work.drafts.keys()].filter((key) => JSON.parse(key)[1] === state.language).length;
+  // (two digits at least, so that the tenth message moves nothing)
+  const most = format.format(Math.max(all, 10));
   const counts = { all, missing, outdated, came: idsOf('came').length, typed };
   for (const kind of KINDS) {
     const input = document.querySelector(`#shown input[value=${kind}]`);
     const number = input.parentElement.querySelector('b');
-    // (two digits at least, so that the tenth message moves nothing)
-    setAsWide(number, format.format(counts[kind]), format.format(Math.max(all, 10)));
+    setAsWide(number, format.format(counts[kind]), most);
     input.parentElement.classList.toggle('empty', counts[kind] === 0);
   }
   const bar = $('progress').querySelector('progress');
   bar.max = Math.max(1, all);
   bar.value = done;
   const [some, whole] = [done, all].map((count) => format.format(count));
-  const longest = say('progress', { done: whole, all: whole });
+  const longest = say('progress', { done: most, all: most });
   setAsWide($('progress-text'), say('progress', { done: some, all: whole }), longest);
   showDone();
 }
