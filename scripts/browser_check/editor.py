@@ -22,6 +22,7 @@ import time
 sys.dont_write_bytecode = True
 import chromium  # noqa: E402
 import editor_looks  # noqa: E402
+import editor_messages  # noqa: E402
 import editor_more  # noqa: E402
 import editor_outside  # noqa: E402
 import editor_promises  # noqa: E402
@@ -56,6 +57,7 @@ PROMISES = [
     editor_promises.wrong_clocks,
     editor_promises.in_parallel,
     editor_more.work_seen,
+    editor_messages.whole_messages,
     editor_more.languages_chosen,
     editor_more.exchange_alone,
     editor_more.key_wanted,
@@ -64,6 +66,7 @@ PROMISES = [
     editor_looks.looks,
     editor_looks.by_keys,
     editor_still.nothing_jumps,
+    editor_still.in_long_list,
     editor_outside.by_companion,
     editor_outside.tampered,
 ]

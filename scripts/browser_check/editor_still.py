@@ -234,7 +234,7 @@ MIDDLE = """(() => {
 
 
 def in_long_list(room):
-    """Rows that were never seen, and are not as high as is thought, move nothing as they come."""
+    """9. Nothing jumps in a long list, where rows that were never seen come."""
     for at in range(40):
         of = [f"{at:02}.{more}" for more in range(10)]
         room.server.put(*[[name, "en", [LONG * (at * at % 5)]] for name in of])
@@ -272,6 +272,7 @@ def in_long_list(room):
     editor.run(SETTLED)
     now = still.places(FOCUSED)[0]
     expect(now == before, f"in a window that is lower a field is at {now}, and was at {before}")
+    return [editor]
 
 
 def nothing_jumps(room):
@@ -297,5 +298,4 @@ def nothing_jumps(room):
             in_dialogs(still)
             expect(not editor.faults(), editor.faults())
             room.browsers.pop().kill()
-    in_long_list(room)
     return []

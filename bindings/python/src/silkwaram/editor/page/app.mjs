@@ -1,5 +1,6 @@
 // What the parts of the page share: the site and the work at it, the words, and what is said at the
 // foot of the page.
+import { NOTES } from './labels.mjs';
 import { nameOf } from './languages.mjs';
 import { wordsOf } from './words.mjs';
 
@@ -33,6 +34,7 @@ export function say(name, known) {
 /** What a language is called on this page. */
 export function languageName(tag) {
   if (tag === '@none') return say('noLanguage');
+  if (tag === NOTES) return say('note');
   const name = nameOf(tag, app.state.page);
   return name === tag ? say('lang', { language: tag }) : name;
 }

@@ -1,6 +1,6 @@
 // An exchange with the server, by the protocol that README.md states. Each step may be lost, or
 // done twice.
-import { deltaOf, withoutLate } from './work.mjs';
+import { deltaOf, withoutLate } from './deltas.mjs';
 
 const MOST_WAIT = 30000;
 const OTHER_SITE = 15;

@@ -75,6 +75,12 @@ export class Labels {
       .sort(([a], [b]) => (a < b ? -1 : 1));
   }
 
+  /** The languages that a message has a label of, with those of its notes. */
+  languagesOf(id) {
+    const cells = this.#messages.get(id)?.cells ?? new Map();
+    return [...cells].filter(([, it]) => it.texts).map(([language]) => language);
+  }
+
   countOf(language) {
     return this.#counts.get(language) ?? 0;
   }
@@ -98,9 +104,7 @@ export class Labels {
 
   /** The language of a message that is shown where it has none of the source: the first one. */
   firstOf(id) {
-    const cells = this.#messages.get(id)?.cells ?? new Map();
-    const tags = [...cells].filter(([tag, it]) => it.texts && isTranslated(tag));
-    return tags.map(([tag]) => tag).sort()[0] ?? null;
+    return this.languagesOf(id).filter(isTranslated).sort()[0] ?? null;
   }
 
   /**

@@ -1,8 +1,10 @@
-// The dialogs: a new message, another language, what a reader gets, the keys, and the key of the
+// The dialogs: a new message, its note, another language, what a reader gets, the keys, and the key of the
 // server.
 import { $, app, languageName, made, say, setText, whyOf } from './app.mjs';
+import { NOTES } from './labels.mjs';
 import { attributeOf, directionOf, knownName, tagMeant } from './languages.mjs';
 import { list } from './view_list.mjs';
+import { asTyped } from './work.mjs';
 
 /**
  * Has a form's dialog do something before it closes; what it answers keeps it open, and is shown.
@@ -59,6 +61,61 @@ export function askNewMessage(add) {
   });
   open(dialog);
   id.focus();
+}
+
+// ---- A message
+
+/**
+ * Shows the note of a message. `does` keeps it or removes the message; where another changed that
+ * meanwhile, this is said, and the same button once more decides. `then` comes after it.
+ */
+export function askMessage(id, does, then) {
+  const dialog = $('message-dialog');
+  const { note } = dialog.querySelector('form').elements;
+  const noteNow = () => app.work.labels.textsOf(id, NOTES)[0] ?? '';
+  const allNow = () => JSON.stringify(
+    app.work.labels.languagesOf(id).map((it) => [it, app.work.labels.textsOf(id, it)]));
+  let [before, all] = [noteNow(), allNow()];
+  $('message-title').textContent = id;
+  note.value = before;
+  const keep = () => {
+    if (note.value === asTyped(before)) return null;
+    if (noteNow() !== before) {
+      before = noteNow();
+      const who = app.work.labels.cellOf(id, NOTES).site;
+      return `${say('otherText', { who })} ${before || say('nothing')}`;
+    }
+    does.keepNote(note.value);
+    return null;
+  };
+  const remove = () => {
+    if (allNow() !== all) {
+      all = allNow();
+      return say('messageChanged', { id });
+    }
+    does.remove();
+    return null;
+  };
+  const orWhy = (run) => () => {
+    try {
+      return run();
+    } catch (error) {
+      return whyOf(error);
+    }
+  };
+  onDialog(dialog, orWhy(keep));
+  $('remove-message').onclick = () => {
+    const why = orWhy(remove)();
+    if (why) setText(dialog.querySelector('.bad'), why);
+    else dialog.close();
+  };
+  note.onkeydown = (event) => {
+    if (event.key !== 'Enter' || !(event.ctrlKey || event.metaKey)) return;
+    event.preventDefault();
+    note.form.requestSubmit();
+  };
+  open(dialog);
+  dialog.onclose = then;
 }
 
 // ---- Another language
@@ -161,7 +218,8 @@ export function openReader(onChange) {
 // ---- Keys
 
 const KEYS = [
-  'Enter', 'Shift+Enter', 'Escape', 'Ctrl+Enter', 'Alt+C', 'Alt+Delete', 'Alt+N', 'Ctrl+Z', '/', '?'
+  'Enter', 'Shift+Enter', 'Escape', 'Ctrl+Enter', 'Alt+C', 'Alt+Delete', 'Alt+N', 'Ctrl+Z', '/', '?',
+  'Alt+M',
 ];
 
 export function openKeys() {

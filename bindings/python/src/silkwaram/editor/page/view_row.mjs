@@ -38,7 +38,7 @@ function actionOf(word, run, keys) {
 }
 
 /**
- * A row for a message. `does` is what a row is for: commit, type, key, confirm, copy and remove.
+ * A row for a message. `does` is what a row is for: type, leave, key, confirm, copy, remove, more.
  */
 export function makeRow(id, does) {
   const number = (numbers += 1);
@@ -49,7 +49,10 @@ export function makeRow(id, does) {
   others.setAttribute('role', 'status');
   row.append(
     made(
-      'div', { className: 'about' }, made('h3', {}, made('bdi', { textContent: id })),
+      'div', { className: 'about' },
+      made(
+        'div', { className: 'name' }, made('h3', {}, made('bdi', { textContent: id })),
+        actionOf('more', () => does.more(row), 'Alt+M')),
       line('source'), line('note')),
     made(
       'div', { className: 'translation' },
@@ -191,7 +194,7 @@ export function updateRow(row) {
   const note = labels.notesOf(id, language).join('\n');
   setText(row.querySelector('.note'), note);
   updateMarks(row);
-  for (const it of row.querySelectorAll('.row-actions button')) {
+  for (const it of row.querySelectorAll('button')) {
     const known = { id, language: languageName(language) };
     it.setAttribute('aria-label', say(`${it.className}Of`, known));
   }

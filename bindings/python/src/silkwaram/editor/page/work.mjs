@@ -1,5 +1,6 @@
 // One site and the work at it: edits, what is being typed, what was undone, what came, and what is
 // to be sent. It knows no document, so it is tried without a browser.
+import { withoutLate } from './deltas.mjs';
 import { Labels, isSame } from './labels.mjs';
 
 const MOST_UNDONE = 100;
@@ -9,32 +10,9 @@ export function keyOf(...parts) {
   return JSON.stringify(parts);
 }
 
-// A text as a text area has it.
-function asTyped(text) {
+/** A text as a text area has it. */
+export function asTyped(text) {
   return text.replace(/\r\n?/g, '\n');
-}
-
-function inOrder(one, other) {
-  const [a, b] =
-    [one, other].map(([id, language]) => new TextEncoder().encode(`${id}\0${language}`));
-  const at = a.findIndex((byte, place) => byte !== b[place]);
-  return at < 0 ? a.length - b.length : a[at] - (b[at] ?? -1);
-}
-
-/** The delta for a site of cells, each as text. */
-export function deltaOf(rows, to) {
-  const cells =
-    rows.map((row) => [JSON.parse(row), row]).sort(([one], [other]) => inOrder(one, other));
-  return `{"cells":[${cells.map(([, row]) => row).join(',')}],"kind":"delta","to":${
-    JSON.stringify(to)},"version":2}\n`;
-}
-
-/** A delta without the cells of a later time than a limit, and how many these are. */
-export function withoutLate(delta, limit) {
-  const document = JSON.parse(delta);
-  const cells = document.cells.filter(([, , time]) => time <= limit);
-  const late = document.cells.length - cells.length;
-  return { delta: late === 0 ? delta : `${JSON.stringify({ ...document, cells })}\n`, cells, late };
 }
 
 export class Work {
@@ -78,8 +56,19 @@ export class Work {
     const after = texts.every((text) => text === '') ? [] : texts;
     if (isSame(before, after)) return false;
     this.#put(id, language, after);
-    if (!isUndone) this.#remember({ id, language, before, after });
+    if (!isUndone) this.#remember({ id, labels: [{ language, before, after }] });
     return true;
+  }
+
+  /** Deletes a message: all its labels and notes, which is one edit to take back. */
+  removeMessage(id) {
+    const labels = this.labels.languagesOf(id)
+      .map((language) => ({ language, before: this.labels.textsOf(id, language), after: [] }));
+    for (const { language } of labels) {
+      this.discard(id, language);
+      this.#put(id, language, []);
+    }
+    if (labels.length > 0) this.#remember({ id, labels });
   }
 
   /** Says that a text is right as it is, so that it is no longer older than its source. */
@@ -131,14 +120,17 @@ export class Work {
 
   /**
    * Takes back the last edit, or says that it was not: `null` where there is none, `changed` where
-   * the label is another one by now.
+   * a label is another one by now.
    */
   undo() {
     const edit = this.done.pop();
     if (!edit) return null;
-    const { id, language, before, after } = edit;
-    if (!isSame(this.labels.textsOf(id, language), after)) return { ...edit, is: 'changed' };
-    this.setTexts(id, language, before, { isUndone: true });
+    const { id, labels } = edit;
+    const isOther = labels.some(
+      ({ language, after }) => !isSame(this.labels.textsOf(id, language), after));
+    if (isOther) return { ...edit, is: 'changed' };
+    for (const { language, before } of labels)
+      this.setTexts(id, language, before, { isUndone: true });
     return { ...edit, is: 'undone' };
   }
 

@@ -1,7 +1,9 @@
 // The work in the list: what is listed, and what keys and buttons of a row do.
 import { $, app, languageName, notice, say, tried } from './app.mjs';
 import { exchangeSoon } from './exchanging.mjs';
-import { goFrom, holding, list, showList, showNone, updateRows } from './view_list.mjs';
+import { NOTES } from './labels.mjs';
+import { askMessage } from './view_dialogs.mjs';
+import { goFrom, goTo, holding, list, showList, showNone, updateRows } from './view_list.mjs';
 import { fitHeights, updateMarks } from './view_row.mjs';
 import { idsOf, showCounts, showState, shownKind } from './view_tools.mjs';
 
@@ -71,6 +73,27 @@ export const rowActions = {
     afterEdit(id);
     row.querySelector('textarea').focus();
   },
+  more(row) {
+    const id = row.label;
+    const at = list.ids.indexOf(id);
+    const beside = list.ids[at + 1] ?? list.ids[at - 1];
+    const { work } = app;
+    const does = {
+      keepNote(text) {
+        const others = work.labels.textsOf(id, NOTES).slice(1);
+        if (!work.setTexts(id, NOTES, [text, ...others])) return;
+        notice(say(text ? 'saved' : 'removed', { id, language: say('note') }));
+        afterEdit(id);
+      },
+      remove() {
+        work.removeMessage(id);
+        notice(say('removed', { id, language: say('allLanguages') }));
+        relist(false);
+        afterEdit(id);
+      },
+    };
+    askMessage(id, does, () => goTo(id) || goTo(beside));
+  },
   key(event, row, text) {
     if (event.isComposing) return;
     const step = { ArrowDown: 1, ArrowUp: -1 }[event.key];
@@ -92,6 +115,9 @@ export const rowActions = {
     } else if (event.altKey && event.code === 'KeyC') {
       event.preventDefault();
       rowActions.copy(row);
+    } else if (event.altKey && event.code === 'KeyM') {
+      event.preventDefault();
+      rowActions.more(row);
     } else if (event.altKey && event.key === 'Delete') {
       event.preventDefault();
       rowActions.remove(row);
@@ -133,7 +159,10 @@ export function undo() {
   let undone = null;
   if (!tried(() => (undone = app.work.undo()))) return;
   if (undone === null) return;
-  const { id, language, is } = undone;
-  notice(say(is, { id, language: languageName(language) }));
+  const { id, labels, is } = undone;
+  const isOne = labels.length === 1;
+  const language = isOne ? languageName(labels[0].language) : say('allLanguages');
+  notice(say(is, { id, language }));
+  if (!list.ids.includes(id)) relist(false);
   afterEdit(id);
 }
