@@ -56,10 +56,10 @@ CUT = """(async () => {
   const cut = Object.keys(WORDS).flatMap((language) => {
     const say = wordsOf(language);
     const faults = Object.keys(WORDS[language]).filter((it) => it.startsWith('short_'));
-    const lines = ['never', 'exchanging', 'kept', 'keeping', 'notKeptHere', 'noStore', 'notInStore'];
-    return [
-      ...faults.map((it) => `${say(it)} ${say('unsent', { count: 1234 })}`), ...lines.map((it) => say(it)),
-    ].filter((text) => {
+    const kept = ['kept', 'keeping', 'notKeptHere', 'noStore', 'notInStore'];
+    const unsent = say('unsent', { count: 1234 });
+    const lines = [...faults.map((it) => `${say(it)} ${unsent}`), ...kept.map((it) => say(it))];
+    return lines.filter((text) => {
       line.textContent = text;
       return line.scrollWidth > line.clientWidth;
     });

@@ -5,7 +5,7 @@ from editor_page import expect
 def whole_messages(room):
     """A message gets a note, and is deleted with all its texts; both can be taken back."""
     room.server.put(
-        *[[name, tag, [f"{name} {tag}"]] for name in ("title", "__proto__") for tag in ("en", "fr")],
+        *[[name, tag, [tag]] for name in ("title", "__proto__") for tag in ("en", "fr")],
         ["news", "en", ["News"]],
         ["title", "x-note", ["Above\r\nthe page"]],
     )

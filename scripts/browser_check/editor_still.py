@@ -16,7 +16,7 @@ OBSERVED = (
 const seen = ({ node, previousRect: one, currentRect: other }) => {
   const it = node?.nodeType === 1 ? node : node?.parentElement;
   return { of: it?.closest('.row')?.label ?? null, top: one.top,
-    what: `${it?.id || it?.className || it?.tagName} from ${one.x},${one.y} to ${other.x},${other.y}` };
+    what: `${it?.id || it?.className} from ${one.x},${one.y} to ${other.x},${other.y}` };
 };
 new PerformanceObserver((list) => {
   // (a notice of more lines than the last one begins higher)
@@ -50,8 +50,8 @@ class Still:
     def places(self, of):
         """Where a field is, and all that is above and below the list."""
         return self.editor.run(
-            f"[{of}, ...document.querySelectorAll({quoted(AROUND)})].map((it) =>"
-            " { const { left, width, top } = it.getBoundingClientRect(); return [left, width, top]; })"
+            f"[{of}, ...document.querySelectorAll({quoted(AROUND)})]"
+            ".map((it) => it.getBoundingClientRect()).map((it) => [it.left, it.width, it.top])"
         )
 
     def step(self, what, run, until=None, of=FOCUSED, is_taller=False):
@@ -144,8 +144,9 @@ def typing(still, language):
     expect(editor.run(f"{FOCUSED} === {field(editor, 'm03')}"), "Tab does not go on")
     editor.go("m02")
     page.key("Escape")
-    still.step("the clock is wrong", lambda: turn(still, 10 * DAY), "!document.querySelector('#problem').hidden")
-    still.step("it is right", lambda: turn(still, 0), "document.querySelector('#problem').hidden")
+    hidden = "document.querySelector('#problem').hidden"
+    still.step("the clock is wrong", lambda: turn(still, 10 * DAY), f"!{hidden}")
+    still.step("it is right", lambda: turn(still, 0), hidden)
 
 
 def turn(still, off):
@@ -160,11 +161,12 @@ def arriving(still, language):
     editor.go("m02")
     editor.run("scrollTo(0, 0)")
     source = lambda name: f"{editor.row(name)}.querySelector('.source').textContent"
-    still.came("a longer source above", ["m01", "en", [LONG]], until=f"{source('m01')}.includes('much')")
+    longer = lambda name: f"{source(name)}.includes('much')"
+    still.came("a longer source above", ["m01", "en", [LONG]], until=longer("m01"))
     editor.run("scrollTo(0, 0)")
     still.came("a shorter one", ["m01", "en", ["S"]], until=f"{source('m01')} === 'S'")
     editor.go("m04")
-    still.came("a longer source", ["m04", "en", [LONG]], until=f"{source('m04')}.includes('much')")
+    still.came("a longer source", ["m04", "en", [LONG]], until=longer("m04"))
     note = f"{editor.row('m04')}.querySelector('.note').textContent"
     still.came("a note", ["m04", "x-note", ["On the first page"]], until=f"{note} !== ''")
     before = editor.count("all")
@@ -192,7 +194,7 @@ def arriving(still, language):
     # a list that is lower than the window
     search(editor, "few")
     editor.go("zfew.3")
-    still.came("a longer one of few", ["zfew.1", "en", [LONG]], until=f"{source('zfew.1')}.includes('much')")
+    still.came("a longer one of few", ["zfew.1", "en", [LONG]], until=longer("zfew.1"))
     search(editor, "")
 
 

@@ -1,5 +1,5 @@
-// The dialogs: a new message, its note, another language, what a reader gets, the keys, and the key of the
-// server.
+// The dialogs: a new message, its note, another language, what a reader gets, the keys, and the key
+// of the server.
 import { $, app, languageName, made, say, setText, whyOf } from './app.mjs';
 import { NOTES } from './labels.mjs';
 import { attributeOf, directionOf, knownName, tagMeant } from './languages.mjs';
@@ -218,8 +218,8 @@ export function openReader(onChange) {
 // ---- Keys
 
 const KEYS = [
-  'Enter', 'Shift+Enter', 'Escape', 'Ctrl+Enter', 'Alt+C', 'Alt+Delete', 'Alt+N', 'Ctrl+Z', '/', '?',
-  'Alt+M',
+  'Enter', 'Shift+Enter', 'Escape', 'Ctrl+Enter', 'Alt+C', 'Alt+Delete', 'Alt+N', 'Ctrl+Z', '/',
+  '?', 'Alt+M',
 ];
 
 export function openKeys() {

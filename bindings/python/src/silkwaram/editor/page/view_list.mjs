@@ -24,7 +24,7 @@ let before, after;
 // What a row is taken to be high that was not seen, once there are some: another height each time
 // would move what is shown.
 let usual = null;
-// Room above the first row, where rows got lower above what has to stay and nothing can be scrolled.
+// Room above the first row, where rows got lower above what has to stay and nothing is to scroll.
 let lead = 0;
 
 const sizes = new ResizeObserver((entries) => {
@@ -113,7 +113,8 @@ function stay(moved) {
   if (wanted >= 0) {
     // (a page that was no higher than the window has nothing to scroll)
     const height = wanted + innerHeight;
-    if (document.documentElement.scrollHeight < height) document.body.style.minHeight = `${height}px`;
+    const { body, documentElement } = document;
+    if (documentElement.scrollHeight < height) body.style.minHeight = `${height}px`;
     scrollTo({ top: wanted });
   } else {
     lead -= wanted;
