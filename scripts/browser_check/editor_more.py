@@ -37,7 +37,8 @@ def work_seen(room):
     expect(
         anna.said("#progress-text") == "2 of 7", f"the progress is {anna.said('#progress-text')}"
     )
-    expect("x-note" not in anna.said("#language"), "notes are taken for a language")
+    tags = anna.run("[...document.querySelector('#language').options].map((it) => it.value)")
+    expect("en" in tags and "x-note" not in tags, f"notes are taken for a language: {tags}")
     expect(
         "French: 2 of 7" in anna.said("#language"),
         f"of the languages it is said: {anna.said('#language')}",

@@ -83,22 +83,23 @@ class Still:
     def exchange(self):
         self.editor.run("dispatchEvent(new Event('online'))")
 
-    def came(self, what, *labels, until, is_taller=True):
+    def came(self, what, *labels, until, of=FOCUSED, is_taller=True):
         """Labels of another come by an exchange."""
 
         def run():
             self.room.server.put(*labels)
             self.exchange()
 
-        self.step(what, run, until, is_taller=is_taller)
+        self.step(what, run, until, of, is_taller)
 
-    def told(self, fault):
+    def told(self, fault, meanwhile=lambda: None):
         """The exchange meets a fault, which goes again."""
         with contextlib.ExitStack() as stack:
             begin = lambda: (stack.enter_context(self.room.between.faulty(fault)), self.exchange())
             self.step(f"the server is {fault}", begin, "document.querySelector('#exchanged.due')")
             is_covered = self.editor.problem() and self.editor.run(OVERLAPS)
             expect(not is_covered, f"{self.name}: what is said of {fault} covers what is typed in")
+            meanwhile()
             self.step(
                 "the server is back", stack.close, "!document.querySelector('#exchanged.due')"
             )
@@ -125,6 +126,8 @@ def typing(still, language):
     editor.run("scrollTo(0, 0)")
     for fault in ("away", 404, 500, "portal", 413, 401):
         still.told(fault)
+    notice = f"document.querySelector('#notice').textContent = {quoted(9 * LONG)}"
+    still.step("much is said", lambda: editor.run(notice))
     row = editor.row("m02")
     still.step("a letter is typed", lambda: page.type("T"), f"{row}.dataset.mark === 'isTyped'")
     still.step("the draft is kept", lambda: time.sleep(0.5))
@@ -189,8 +192,7 @@ def arriving(still, language):
     )
     # the end of the list, with what is wrong above it
     editor.go("m11")
-    editor.run("scrollTo(0, document.body.scrollHeight)")
-    still.told(413)
+    still.told(413, lambda: editor.run("scrollTo(0, document.body.scrollHeight)"))
     # a list that is lower than the window
     search(editor, "few")
     editor.go("zfew.3")
@@ -259,13 +261,13 @@ def in_long_list(room):
     name, _ = editor.run(MIDDLE)
     editor.run("document.activeElement.blur()")
     count = editor.count("all") + 30
-    room.server.put(*[[f"00.x{at}", "en", ["More"]] for at in range(30)])
-    still.step(
+    # (some of them are near the window, and higher than most)
+    near = f"{name[:-1]}{chr(ord(name[-1]) - 1)}x"
+    still.came(
         "many come above",
-        still.exchange,
-        f"document.querySelector('#shown b').textContent === '{count}'",
+        *[[f"{of}{at}", "en", [5 * LONG]] for of in ("00.x", near) for at in range(15)],
+        until=f"document.querySelector('#shown b').textContent === '{count}'",
         of=editor.row(name),
-        is_taller=True,
     )
     editor.go(name)
     # a keyboard on the screen

@@ -192,7 +192,11 @@ function renderWanted() {
     next = row;
   }
   fitHeights(fresh.flatMap((row) => [...row.querySelectorAll('textarea')]));
-  for (const row of fresh) sizes.observe(row);
+  for (const row of fresh) {
+    // (known at once, as the next rows that are wanted go by it)
+    heights.set(row.label, row.offsetHeight);
+    sizes.observe(row);
+  }
 }
 
 /** Lists messages anew, from the top or so that the first one that is seen stays. */
