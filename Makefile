@@ -111,8 +111,8 @@ LIBDIR ?= $(PREFIX)/lib
 LIB = $(DESTDIR)$(LIBDIR)
 INCLUDE = $(DESTDIR)$(PREFIX)/include
 # Scripts around the command: two edit the file of a site in place, one makes PO files of it, one
-# exchanges it with a server; they are installed with it.
-COMPANIONS = lexicat-file lexicat-edit lexicat-po lexicat-exchange
+# exchanges it with a server, one checks its labels; they are installed with it.
+COMPANIONS = lexicat-file lexicat-edit lexicat-po lexicat-exchange lexicat-check
 
 #: make install       the command with its companions, manual and completions, and the library, below
 #:                    PREFIX=/usr/local; install-command and install-library are one of them alone

@@ -63,10 +63,14 @@ LINES = [
     ("lexicat-exchange --wa", "args:--wait=? input:"),
     ("lexicat-exchange --key-file zz", "args:--key-file zz_file.json input:"),
     ("lexicat-exchange http://localhost:8080/ zz", "args:http://localhost:8080/ zz_file.json input:"),
+    ("lexicat-check --so", "args:--source=? input:"),
+    ("lexicat-check --source en --only bl", "args:--source en --only blanks input:"),
+    ("lexicat-check --source en zz", "args:--source en zz_file.json input:"),
 ]
 
 # What completes, in an order in which each finds what it needs later.
-NAMES = ["lexicat-edit", "lexicat-exchange", "lexicat-file", "lexicat-po", "lexicat"]
+NAMES = [
+    "lexicat-check", "lexicat-edit", "lexicat-exchange", "lexicat-file", "lexicat-po", "lexicat"]
 
 SETUP = {
     "bash": (

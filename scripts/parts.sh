@@ -1,7 +1,7 @@
 # shellcheck shell=bash disable=SC2034,SC2154
-# What scripts/companions-check and scripts/po-check share: parts that run the companions, each in a
-# folder of its own, and what the last command has to have done. Sourced from the root of the
-# repository.
+# What scripts/companions-check, scripts/po-check and scripts/labels-check share: parts that run the
+# companions, each in a folder of its own, and what the last command has to have done. Sourced from
+# the root of the repository.
 check=${0##*/}
 LEXICAT=$(realpath "${LEXICAT:-build/lexicat}")
 PATH="$(realpath "${COMPANIONS:-companions}"):$PATH"

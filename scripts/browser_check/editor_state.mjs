@@ -3,6 +3,7 @@
 //
 // usage: node editor_state.mjs PAGE MODULE     the folders of the page and of silkwaram.mjs
 import assert from 'node:assert/strict';
+import { readFileSync } from 'node:fs';
 import { pathToFileURL } from 'node:url';
 
 const [page, module] = process.argv.slice(2).map((it) => `${pathToFileURL(it).href}/`);
@@ -11,7 +12,7 @@ const { Labels } = await import(`${page}labels.mjs`);
 const { deltaOf } = await import(`${page}deltas.mjs`);
 const { Work, keyOf } = await import(`${page}work.mjs`);
 const { Clock } = await import(`${page}clock.mjs`);
-const { differences } = await import(`${page}placeholders.mjs`);
+const { differencesAt, isCompared } = await import(`${page}placeholders.mjs`);
 const { directionOf, tagMeant, withoutRegion } = await import(`${page}languages.mjs`);
 const { exchange } = await import(`${page}exchange.mjs`);
 const { WORDS } = await import(`${page}words.mjs`);
@@ -154,24 +155,22 @@ const tests = {
   },
 
   'placeholders'() {
-    const rows = [
-      ['Hello {name}', 'Bonjour {name}', [], []],
-      ['Hello {name}', 'Bonjour', ['{name}'], []],
-      ['%d of %s', '%s von %s', ['%d'], ['%s']],
-      ['100% of it', '100% davon', [], []],
-      ['%(a)s %1$s', '%(b)s %1$s', ['%(a)s'], ['%(b)s']],
-      ['<b>x</b>', '<b>x', ['</b>'], []],
-      ['a < b and c > d', 'a < b', [], []],
-      ['{{count}} {0}', '{{count}}', ['{0}'], []],
-      ['%%d', '%d', [], ['%d']],
+    // (the rows that scripts/labels-check has for lexicat-check too)
+    const rows = JSON.parse(readFileSync(new URL('../labels_check/rows.json', import.meta.url)));
+    const labels = [
+      ...rows.texts.map(([source, text, ...wanted]) => ['xx', [source], [text], [wanted]]),
+      ...rows.labels,
     ];
-    for (const [source, text, lacks, hasBeside] of rows) {
-      assert.deepEqual(differences(source, text), { lacks, hasBeside }, `${source} ${text}`);
+    for (const [language, sources, texts, wanted] of labels) {
+      const found = texts.map((_, place) => differencesAt(sources, texts, place, language));
+      assert.deepEqual(found.map((it) => [it.lacks, it.hasBeside]), wanted, `${sources} ${texts}`);
     }
+    assert.ok(isCompared([]) && isCompared(['c-format']) && !isCompared(['x', 'no-c-format']));
     const began = performance.now();
-    differences('%'.repeat(65535), '{'.repeat(65535));
-    differences('<a '.repeat(20000), '{a,'.repeat(20000));
+    differencesAt(['%'.repeat(65535)], ['{'.repeat(65535)], 0, 'fr');
+    differencesAt(['<a '.repeat(20000)], ['{a,'.repeat(20000)], 0, 'fr');
     assert.ok(performance.now() - began < 2000, 'a long text takes long');
+    return `${labels.length} labels`;
   },
 
   'languages'() {

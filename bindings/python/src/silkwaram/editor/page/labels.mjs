@@ -5,6 +5,8 @@
  * Where notes of messages are: `x-note`, and `x-note-fr` for those of the translators into French.
  */
 export const NOTES = 'x-note';
+/** Where flags of messages are, as `no-c-format`. */
+export const FLAGS = 'x-flags';
 const BESIDE = /^x-(note|flags)(-|$)/;
 
 /** Whether texts of a language are translated, and are no notes. */

@@ -1,7 +1,8 @@
 // One message in the list: its name, its source and notes, and the fields of its translation.
 import { app, languageName, made, say, setText } from './app.mjs';
+import { FLAGS } from './labels.mjs';
 import { attributeOf, directionOf } from './languages.mjs';
-import { differences } from './placeholders.mjs';
+import { differencesAt, isCompared } from './placeholders.mjs';
 
 const hasSizing = CSS.supports('field-sizing', 'content');
 let numbers = 0;
@@ -110,18 +111,24 @@ function showOthers(row, count) {
   }));
 }
 
-function placeholderWarning(id, place) {
+/** What is wrong with the placeholders of the fields of a message, in words. */
+function placeholderWarning(id, fields) {
   const { labels } = app.work;
   const { language } = app.state;
   const source = sourceOf(id);
   const beside = labels.textsOf(id, source);
-  const text = app.work.shownAt(id, language, place);
-  if (text === '' || source === language || beside.length === 0) return '';
-  const { lacks, hasBeside } = differences(beside[place] ?? beside.at(-1), text);
-  return [
-    lacks.length > 0 ? say('lacks', { what: lacks.join(' ') }) : '',
-    hasBeside.length > 0 ? say('hasBeside', { what: hasBeside.join(' ') }) : '',
-  ].filter(Boolean).join(' ');
+  if (source === language || beside.length === 0) return '';
+  if (!isCompared(labels.textsOf(id, FLAGS))) return '';
+  const texts = fields.map(({ place }) => app.work.shownAt(id, language, place));
+  while (texts.at(-1) === '') texts.pop();
+  return texts.flatMap((text, place) => {
+    if (text === '') return [];
+    const { lacks, hasBeside } = differencesAt(beside, texts, place, language);
+    return [
+      lacks.length > 0 ? say('lacks', { what: lacks.join(' ') }) : '',
+      hasBeside.length > 0 ? say('hasBeside', { what: hasBeside.join(' ') }) : '',
+    ];
+  }).filter(Boolean).join(' ');
 }
 
 function whenOf(time) {
@@ -140,8 +147,7 @@ export function updateMarks(row) {
   setText(row.querySelector('.mark'), kind ? say(kind) : '');
   row.dataset.mark = kind ?? '';
   const texts = row.querySelectorAll('textarea');
-  const warnings = [...texts].map((text) => placeholderWarning(id, text.place)).filter(Boolean);
-  setText(row.querySelector('.warning'), warnings.join(' '));
+  setText(row.querySelector('.warning'), placeholderWarning(id, [...texts]));
   showOthers(row, texts.length);
   const cell = labels.cellOf(id, language);
   const who =
