@@ -104,3 +104,71 @@ confirms_and_undoes() {
     reports 'no jq, which undo needs'
     tidy
 }
+
+# Where there is a log, it has each edit: for each label its lines lead from the first state to the
+# last one, and none is there twice.
+logged() { # the former site, and the site
+    jq -ce . "$2.changes" > /dev/null || fault "a line of $2.changes is no JSON"
+    jq -nce --slurpfile was "$1" --slurpfile now "$2" --slurpfile lines "$2.changes" '
+        def state(site): reduce site.cells[] as $it ({}; .[$it[:2] | tojson] = $it[2:]);
+        reduce $lines[] as $it (state($was[0]);
+            ($it[:2] | tojson) as $key
+            | if .[$key] == $it[2] and $it[2] != $it[3] then .[$key] = $it[3] else error($key) end)
+        | . == state($now[0])' > said 2>&1 || fault "$2.changes does not lead to $2: $(cat said)"
+}
+
+logs() {
+    local n it
+    part logs
+    lexicat-file paris.json put --now 5 --id hi --lang en Hello
+    [ ! -e paris.json.changes ] || fault 'a log is there unasked'
+    cp paris.json first
+    : > paris.json.changes
+    ends 0 lexicat-file paris.json put --now 6 --id hi --lang en Hi
+    ends 0 lexicat-file paris.json put --now 7 --id hi --lang fr Salut
+    ends 0 lexicat-file paris.json delete --now 8 --id hi --lang en
+    [ "$(cat paris.json.changes)" = '["hi","en",[5,"paris",0,["Hello"]],[6,"paris",0,["Hi"]]]
+["hi","fr",null,[7,"paris",0,["Salut"]]]
+["hi","en",[6,"paris",0,["Hi"]],[8,"paris",0,null]]' ] || fault "$(cat paris.json.changes)"
+    # What changes nothing or is refused is no edit.
+    ends 1 lexicat-file paris.json delete --id hi --lang ja
+    ends 3 lexicat-file paris.json put --id @ --lang fr x
+    # Others' edits, in both sites, by several at once, and one taken back.
+    lexicat-file tokyo.json new --site tokyo
+    : > tokyo.json.changes
+    cp tokyo.json tokyo.first
+    lexicat-file tokyo.json put --id 'a"\' --lang ja $'x\ny'
+    cp paris.json former
+    ends 0 lexicat-file paris.json sync tokyo.json
+    tidy
+    for n in 1 2 3 4; do
+        for it in a b c; do lexicat-file paris.json put --id "m-$it" --lang fr "$n"; done &
+    done
+    wait
+    ends 0 lexicat-file paris.json undo former
+    jq . paris.json > laid-out && cp laid-out paris.json
+    ends 0 lexicat-file paris.json put --id hi --lang fr Bonjour
+    logged first paris.json
+    logged tokyo.first tokyo.json
+    [ "$(wc -l < paris.json.changes)" = 20 ] || fault "$(wc -l < paris.json.changes) lines"
+    # One line is taken back, as docs/RECIPES.md has it.
+    tail -n 1 paris.json.changes > line
+    jq -c '. as [$id, $lang, $was, $now] | ($now, $was)
+        | {($id): (if .[3] then {($lang): .[3]} else {} end)}' line > maps
+    FROM=maps ends 0 lexicat-file paris.json update
+    lexicat-file paris.json lookup --id hi fr > output
+    prints 'matched fr ["Salut"]'
+    # A log that is none is left alone, and stops no edit.
+    : > elsewhere
+    for it in 'ln -s elsewhere' mkdir mkfifo; do
+        rm -rf paris.json.changes
+        $it paris.json.changes
+        ends 0 lexicat-file paris.json put --id hi --lang fr "$it"
+        reports 'its log is no plain file that may be written'
+        lexicat-file paris.json lookup --id hi fr > output
+        prints "matched fr [\"$it\"]"
+    done
+    [ ! -s elsewhere ] || fault 'a link is followed'
+    rm -rf paris.json.changes
+    tidy
+}
