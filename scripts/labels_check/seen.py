@@ -13,7 +13,8 @@ import sys
 import tempfile
 
 FORMATS = ["c-format", "python-format", "python-brace-format", "objc-format", "ruby-format"]
-TESTS = ["xmltags", "printf", "variables", "brackets", "startwhitespace", "endwhitespace", "newlines"]
+TESTS = ["xmltags", "printf", "variables", "brackets", "startwhitespace", "endwhitespace", "newlines",
+         "blank"]
 
 
 def header(rule):

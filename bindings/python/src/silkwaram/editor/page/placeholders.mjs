@@ -9,9 +9,9 @@ const printf = (flag) => new RegExp(
     `(?:${flag}){0,5}(${NUMBER}(?:\\.${NUMBER})?)` +
     '(?:((?:hh?|ll?|[Lqjz]|t(?=[a-z]\\b))?)([diouxXeEfFgGcrspm@])|' +
     '<PRI([diouxX])(\\w{1,10})>))', 'g');
-const PRINTF = printf("[+#0'I]|-(?=[-+#0'I\\d*])");
+const PRINTF = printf("[+#0']|I(?=[diu])|-(?=[-+#0'\\d*])");
 // (and % d or %-e, which in a text of another kind is a percentage and a word)
-const STRICT_PRINTF = printf("[-+#0'I ]");
+const STRICT_PRINTF = printf("[-+#0' ]|I(?=[diu])");
 // (as msgfmt has them: an argument of %i may be written by %d)
 const KINDS = {
   i: 'd', o: 'u', x: 'u', X: 'u', E: 'e', f: 'e', F: 'e', g: 'e', G: 'e', r: 's',
@@ -55,7 +55,7 @@ function printsIn(text, isStrict) {
   const found = [];
   let next = 1;
   const isDoubled = text.includes('%%');
-  const doubled = isStrict ? /%[-+#0'I ]{0,5}%/g : /%%/g;
+  const doubled = isStrict ? /%[-+#0' ]{0,5}%/g : /%%/g;
   const single = text.replace(doubled, (all) => ' '.repeat(all.length));
   const rest = single.replace(isStrict ? STRICT_PRINTF : PRINTF, (all, ...groups) => {
     const [whole, name, place, width, length, conversion, macro, type, at] = groups;
