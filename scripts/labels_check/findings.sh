@@ -47,6 +47,8 @@ findings() {
     ends 1 lexicat-check --source en site.json
     diff all output | grep -v '^[<>] "hi" fr' | grep '^[<>]' && fault 'another label is found'
     grep -q '^"hi"' output && fault 'what is right is found'
+    ends 3 lexicat-check --source pt site.json
+    reports 'lexicat-check: no label is in pt, so nothing is compared'
     part nothing
     ends 0 lexicat-check --source en site.json
 }
