@@ -47,11 +47,15 @@ def is_taken(text, room):
 
 
 def is_seen_by_msgfmt(sources, texts, rule, room):
-    """Whether msgfmt refuses the texts in a format that it takes of the sources themselves."""
-    own = [sources[-1]] * len(texts)
-    return any(is_taken(header(rule) + entry(0, sources, own, flag), room)
-               and not is_taken(header(rule) + entry(0, sources, texts, flag), room)
-               for flag in FORMATS)
+    """Whether msgfmt refuses the texts in the first format of which the sources have placeholders,
+    or, where they have none, in one."""
+    def takes(texts, flag):
+        return is_taken(header(rule) + entry(0, sources, texts, flag), room)
+
+    own, none = [sources[-1]] * len(texts), ["x"] * len(texts)
+    formats = [flag for flag in FORMATS if takes(own, flag)]
+    first = next((flag for flag in formats if not takes(none, flag)), None)
+    return any(not takes(texts, flag) for flag in ([first] if first else formats))
 
 
 def seen_by_pofilter(labels, rule, room):

@@ -9,9 +9,9 @@ const printf = (flag) => new RegExp(
     `(?:${flag}){0,5}(${NUMBER}(?:\\.${NUMBER})?)` +
     '(?:((?:hh?|ll?|[Lqjz]|t(?=[a-z]\\b))?)([diouxXeEfFgGcrspm@])|' +
     '<PRI([diouxX])(\\w{1,10})>))', 'g');
-const PRINTF = printf("[+#0']|I(?=[diu])|-(?=[-+#0'\\d*])");
+const PRINTF = printf("[+#0']|I(?!\\d)|-(?=[-+#0'\\d*])");
 // (and % d or %-e, which in a text of another kind is a percentage and a word)
-const STRICT_PRINTF = printf("[-+#0' ]|I(?=[diu])");
+const STRICT_PRINTF = printf("[-+#0' ]|I(?!\\d)");
 // (as msgfmt has them: an argument of %i may be written by %d)
 const KINDS = {
   i: 'd', o: 'u', x: 'u', X: 'u', E: 'e', f: 'e', F: 'e', g: 'e', G: 'e', r: 's',
