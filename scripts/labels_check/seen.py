@@ -89,11 +89,13 @@ def main(labels, found, folder):
     rules, left, lines = rules_of(folder), {}, 0
     with open(found, encoding="utf-8") as file, tempfile.TemporaryDirectory() as room:
         for lines, line in enumerate(file, 1):
-            message, lang = re.match(r'("(?:[^"\\]|\\.)*") (\S+): ', line).groups()
+            message, lang, words = re.match(
+                r'("(?:[^"\\]|\\.)*") (\S+): (?:text \d+ )?(\w+)', line).groups()
             maps = labels[json.loads(message)]
             sources, texts = ([it] if isinstance(it, str) else it for it in (maps["en"], maps[lang]))
             rule = rules.get(lang, "nplurals=2; plural=n != 1;")
-            if not is_seen_by_msgfmt(sources, texts, rule, room):
+            # (blanks are for pofilter)
+            if words not in ("lacks", "has") or not is_seen_by_msgfmt(sources, texts, rule, room):
                 left.setdefault((lang, rule), []).append((line, (lines, sources, texts)))
     faults, seen = 0, lines - sum(map(len, left.values()))
     for (lang, rule), named in left.items():
