@@ -52,9 +52,10 @@ def is_seen_by_msgfmt(sources, texts, rule, room):
     def takes(texts, flag):
         return is_taken(header(rule) + entry(0, sources, texts, flag), room)
 
-    own, none = [sources[-1]] * len(texts), ["x"] * len(texts)
-    formats = [flag for flag in FORMATS if takes(own, flag)]
-    first = next((flag for flag in formats if not takes(none, flag)), None)
+    # (line feeds at the ends are looked at in each)
+    bare = re.sub(r"[^\n](.*[^\n])?", "x", sources[-1], flags=re.DOTALL)
+    formats = [flag for flag in FORMATS if takes([sources[-1]] * len(texts), flag)]
+    first = next((flag for flag in formats if not takes([bare] * len(texts), flag)), None)
     return any(not takes(texts, flag) for flag in ([first] if first else formats))
 
 
