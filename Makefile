@@ -111,8 +111,11 @@ LIBDIR ?= $(PREFIX)/lib
 LIB = $(DESTDIR)$(LIBDIR)
 INCLUDE = $(DESTDIR)$(PREFIX)/include
 # Scripts around the command: two edit the file of a site in place, one makes PO files of it, one
-# exchanges it with a server, one checks its labels; they are installed with it.
-COMPANIONS = lexicat-file lexicat-edit lexicat-po lexicat-exchange lexicat-check
+# converts files of other formats, one exchanges a site with a server, one checks its labels; they are
+# installed with it.
+COMPANIONS = lexicat-file lexicat-edit lexicat-po lexicat-convert lexicat-exchange lexicat-check
+# (the modules of lexicat-convert, which looks for them beside itself or here)
+MODULES = $(SHARE)/silkwaram/lexicat_convert
 
 #: make install       the command with its companions, manual and completions, and the library, below
 #:                    PREFIX=/usr/local; install-command and install-library are one of them alone
@@ -135,6 +138,8 @@ install-command: build/lexicat
 		install -m 644 completions/_$$name "$(SHARE)/zsh/site-functions/_$$name" && \
 		install -m 644 completions/$$name.fish "$(SHARE)/fish/vendor_completions.d/$$name.fish" || exit 1; \
 	done
+	install -d "$(MODULES)"
+	install -m 644 companions/lexicat_convert/*.py "$(MODULES)"
 
 # (the links are made by `scripts/library`, and lead to each other by their names alone)
 install-library: library
@@ -156,6 +161,8 @@ uninstall:
 			"$(SHARE)/bash-completion/completions/$$name" "$(SHARE)/zsh/site-functions/_$$name" \
 			"$(SHARE)/fish/vendor_completions.d/$$name.fish"; \
 	done
+	rm -rf "$(MODULES)"
+	-rmdir "$(SHARE)/silkwaram" 2> /dev/null
 	rm -f "$(INCLUDE)/silkwaram.h" "$(LIB)/pkgconfig/silkwaram.pc"
 	rm -f "$(LIB)/libsilkwaram.a" "$(LIB)"/libsilkwaram.so*
 

@@ -60,6 +60,12 @@ LINES = [
     ("lexicat-po maps --dom", "args:maps --domain=? input:"),
     ("lexicat-po maps --source en zz", "args:maps --source en zz_file.json input:"),
     ("lexicat-po out --lang de < zz", "args:out --lang de input:held"),
+    ("lexicat-convert stringsd", "args:stringsdict input:"),
+    ("lexicat-convert csv ou", "args:csv out input:"),
+    ("lexicat-convert i18next in --fl", "args:i18next in --flat input:"),
+    ("lexicat-convert arb in zz", "args:arb in zz_file.json input:"),
+    ("lexicat-convert xliff out --so", "args:xliff out --source=? input:"),
+    ("lexicat-convert arb out --lang de < zz", "args:arb out --lang de input:held"),
     ("lexicat-exchange --wa", "args:--wait=? input:"),
     ("lexicat-exchange --key-file zz", "args:--key-file zz_file.json input:"),
     ("lexicat-exchange http://localhost:8080/ zz", "args:http://localhost:8080/ zz_file.json input:"),
@@ -70,7 +76,8 @@ LINES = [
 
 # What completes, in an order in which each finds what it needs later.
 NAMES = [
-    "lexicat-check", "lexicat-edit", "lexicat-exchange", "lexicat-file", "lexicat-po", "lexicat"]
+    "lexicat-check", "lexicat-convert", "lexicat-edit", "lexicat-exchange", "lexicat-file",
+    "lexicat-po", "lexicat"]
 
 SETUP = {
     "bash": (
