@@ -7,7 +7,6 @@ from lexicat_convert.common import (ARRAY, DEPTH, FORMS, PLURAL, Misfit, Pairs, 
                                     stated_language)
 
 KEEPS = (FORMS,)
-SUFFIXES = tuple(f"_{name}" for name in plurals.ORDER)
 
 
 def plurals_in(pairs, lang, args):
