@@ -301,8 +301,8 @@ def read_json(data, name):
                           parse_float=number)
     except json.JSONDecodeError as fault:
         raise Refused(f"{name}: line {fault.lineno} is not JSON: {fault.msg}") from None
-    except (ValueError, RecursionError):
-        raise Refused(f"{name}: not JSON, or nested too deep") from None
+    except ValueError:
+        raise Refused(f"{name}: not JSON") from None
 
 
 def read_object(data, name):
