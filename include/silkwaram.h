@@ -51,8 +51,8 @@ extern "C" {
 #define SW_LENIENT 2u
 /* With SW_WIDEN, which is of sw_pick, sw_site_lookup, sw_site_text and sw_site_bundle alone, a range also finds the
  * languages that it matches, as `en` finds en-us, before the next range is tried; the default is not widened. This is
- * the project's own, and no part of RFC 4647. A hostile field costs the ranges times the languages, times the ranges
- * again: bound fields of strangers (bench/README.md, "Costs of the command"). */
+ * the project's own, and no part of RFC 4647. Each language is asked once; with SW_EXTENDED a field costs its ranges
+ * times the languages (SECURITY.md, "What bounds a call"). */
 #define SW_WIDEN 4u
 
 /* The statuses, which are those of the command `lexicat`. */
