@@ -147,7 +147,8 @@ export function updateMarks(row) {
   setText(row.querySelector('.mark'), kind ? say(kind) : '');
   row.dataset.mark = kind ?? '';
   const texts = row.querySelectorAll('textarea');
-  setText(row.querySelector('.warning'), placeholderWarning(id, [...texts]));
+  const warning = placeholderWarning(id, [...texts]);
+  setText(row.querySelector('.warning'), warning);
   showOthers(row, texts.length);
   const cell = labels.cellOf(id, language);
   const who =
@@ -155,7 +156,7 @@ export function updateMarks(row) {
   setText(row.querySelector('.who'), who);
   // (one of them, in the room that is kept for it: the fields stay where they are)
   const isGone = kind === 'isMissing' && who !== '';
-  const said = warnings.length > 0 ? 'warning' : kind && !isGone ? 'mark' : 'who';
+  const said = warning ? 'warning' : kind && !isGone ? 'mark' : 'who';
   for (const it of row.querySelector('.said').children) it.hidden = it.className !== said;
   const beside = labels.textsOf(id, sourceOf(id));
   row.querySelector('.stillRight').hidden = kind !== 'isOutdated';
