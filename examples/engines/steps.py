@@ -4,6 +4,8 @@
     steps.py STEP PART      makes FOLDER/STEP/PART; the folder is where it runs
     steps.py whole PART     all steps of a part, in their order
 
+Under GNU parallel: ls maps | parallel --retries 3 --joblog log steps.py whole {}
+
 A step reads files that no step edits, takes its time as an argument, and renames its result into
 place. So it writes the same bytes whoever runs it, and however often, `import` too; and who reads a
 result never reads half of one. What a step that was killed leaves is a file beside it, whose name

@@ -56,7 +56,7 @@ def merged(folder):
     return len(glob.glob(f"{folder}/both/*.json"))
 
 
-def compare(folder, plain, engines):
+def compare(folder, plain):
     parts = os.listdir(f"{plain}/maps")
     for step in ("begun", "paris", "deltas", "taken", "tokyo", "both", "missing"):
         for part in parts:
@@ -117,8 +117,8 @@ def main(engines, folder, plain):
             it.kill()
             it.wait()
     watch.join()
+    compared = compare(folder, plain)
     assert not watch.half, f"seen half-written: {sorted(watch.half)[:3]}"
-    compared = compare(folder, plain, engines)
     left = len(glob.glob(f"{folder}/*/*.new"))
     print(f"{compared} parts are as they have to be; killed when {done} were merged, "
           f"{left} halves left under other names")
