@@ -106,7 +106,7 @@ in_root() {
     rm -rf "$room/runner/labels"
     cp -a . "$room/runner/labels"
     inside "$room/runner" env SITES="$SITES" SOURCE="$SOURCE" LANGUAGES="$LANGUAGES" \
-        bash -c 'cd /labels && bash --noprofile --norc -eo pipefail /tmp/step.sh'
+        bash -c 'cd labels && bash --noprofile --norc -eo pipefail ../tmp/step.sh'
 }
 
 of_workflow() {
