@@ -22,7 +22,8 @@ context() {
     mkdir "$room/context"
     if [ -f "${made[0]}" ]; then cp "${made[0]}" "$room/context"; return; fi
     echo 'workflow-check: there is no build/dist, so the tarball has the command and its companions alone'
-    install -D -t "$at/bin" "$LEXICAT" companions/*
+    install -D -t "$at/bin" "$LEXICAT" companions/lexicat-*
+    install -D -m 644 -t "$at/share/silkwaram/lexicat_convert" companions/lexicat_convert/*.py
     install -D -m 644 -t "$at/include" include/silkwaram.h
     install -D -m 644 -t "$at/share/man/man1" man/*.1
     install -D -m 644 -t "$at/lib" LICENSE-MIT
