@@ -2,6 +2,7 @@ pub mod ActsLemmas
 pub mod AppLemmas
 pub mod EditsLemmas
 pub mod FaultLineLemmas
+pub mod FirstByteLemmas
 pub mod InputLemmas
 pub mod MatchesLemmas
 pub mod ProgramLemmas

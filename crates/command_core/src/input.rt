@@ -2,6 +2,8 @@
 ghost use Rattle.std.specs.Prelude.{◌≡◌, ◌==◌, position};
 ghost use Rattle.command_core.specs.Input.{AreDocuments};
 
+use memchr::memchr;
+
 /// Document 1 is what comes before the first LF, and document 2 what comes after it; without an LF
 /// all is document 1, and document 2 is empty.
 pub(crate) fn two_documents(input: &[u8]) -> (&[u8], &[u8])
@@ -17,5 +19,5 @@ pub(crate) fn two_documents(input: &[u8]) -> (&[u8], &[u8])
 fn first_line_feed(input: &[u8]) -> Option<usize>
     ensures { result ≡ position (λ byte. byte == 10) input.now }
 {
-    input.iter().position(|&byte| byte == b'\n')
+    memchr(b'\n', input)
 }
