@@ -1,7 +1,7 @@
 //! Language maps written piece by piece into one buffer.
 ghost use Rattle.std.specs.Prelude.{◌≡◌, ◌∷◌, [], ◌++◌, List, IfOk, None, OnOk, option_map};
 ghost use Rattle.json.specs.Token.{begin_object, end_object, key};
-ghost use Rattle.cell_core.specs.Label.{texts_of};
+ghost use Rattle.cell_core.specs.Label.{IsLabel, texts_of};
 ghost use Rattle.cell_core.specs.Keyed.{IsMap};
 ghost use Rattle.cell_core.specs.MessageId.{IsMessageId};
 ghost use Rattle.cata_core.specs.Entries.{key_cmp};
@@ -76,6 +76,27 @@ pub fn write_label(
     open_message(out, current, id)?;
     out.key(lang.as_str())?;
     write_language(out, label.texts())
+}
+
+/// Adds a label of this one text, in a message of its own unless that is the current one.
+pub fn write_text(
+    out: &mut Writer,
+    current: Option<&MessageId>,
+    id: &MessageId,
+    lang: &Lang,
+    text: &str,
+) -> Result<(), AllocError>
+    requires { IsLabel (text.now ∷ []) }
+    ensures tokens { OnOk result
+        (Adds out.old out.new
+        (opening_tokens (option_map (λ m. m.now) current.entry) id.now
+        ++ label_tokens ((id.now, lang.now), text.now ∷ []))) }
+    ensures valid { OnOk result (IsWritable ((id.now, lang.now), text.now ∷ [])) }
+{
+    open_message(out, current, id)?;
+    let name = lang.as_str();
+    out.key(name)?;
+    out.string(text)
 }
 
 /// Closes the current message and the outer object.
