@@ -1,7 +1,7 @@
 -- The labels of one reader, with one message more.
-use Rattle.std.proofs.Common.{◌≡◌, ◌∙◌, ◌++◌, [], ◌∷◌, ℕ, List, ap, false, inl, inr}
+use Rattle.std.proofs.Common.{◌≡◌, ◌++◌, [], ◌∷◌, ℕ, List, ap, false, inl, inr}
 use Rattle.std.proofs.Common.{refl, subst, sym, true}
-use Rattle.std.specs.Prelude.{All, Contains, None, Option, Some, slice_get}
+use Rattle.std.specs.Prelude.{All, Contains, None, Option, Some}
 use Rattle.std.proofs.lemmas.List.Elements.{All-contains, All-contains_itself, All-head}
 use Rattle.std.proofs.lemmas.List.Elements.{All-weaker}
 use Rattle.std.proofs.lemmas.List.Elements.{Contains-append_cases, Contains-append_left}
@@ -16,13 +16,14 @@ use Rattle.cata_core.specs.Entries.{Entries, Entry, IsAboveAll, key_cmp, text_cm
 use Rattle.cata_core.specs.Live.{Labelled as Labels, live}
 use Rattle.cata_core.specs.declared.reply.Reply.{Reply}
 use Rattle.cata_core.specs.declared.reply.Reply.TheVariants.{Default, Matched}
-use Rattle.cata_core.proofs.Basics.{append_nil, some_same, tied}
+use Rattle.cata_core.proofs.Basics.{append_nil, tied}
 use Rattle.cata_core.proofs.BehindLemmas.{IsMap-behind}
 use Rattle.cata_core.proofs.NestedCataloguesLemmas.{text_exact}
 use Rattle.map_docs.specs.LangMaps.{Labelled}
 use Rattle.query_docs.specs.BundleByMessage.{HasBundled, default_of}
 use Rattle.query_docs.specs.Bundled.{IsAnswer, IsBundleBy}
-use Rattle.query_docs.specs.ByMessage.{IsNextMessage}
+use Rattle.query_docs.specs.ByMessage.{IsNextMessage, cell_of, cells_of}
+use Rattle.query_docs.specs.declared.by_message.MessageCell.{MessageCell}
 use Rattle.query_docs.specs.Draft.{HasWritten}
 use Rattle.query_docs.specs.Exported.{live_labels}
 use Rattle.query_docs.specs.LooksUp.{answered, answered_of}
@@ -104,24 +105,19 @@ module _ (widening : Widening) (items : List Item) (default : Option (List ℕ))
 
 -- ---- what is written
 
--- Where there is no first cell there is none.
-pub none_first : (cells : Entries) → None ≡ slice_get cells 0 → cells ≡ []
-none_first [] none = refl
-none_first (e ∷ es) none = absurd (cc)
-
--- the first cell is of the message
-first_id : (cells : Entries) (e : Entry) (id : List ℕ) → Some e ≡ slice_get cells 0
-    → All (λ x. x.0.0 ≡ id) cells → e.0.0 ≡ id
-first_id [] e id is own = absurd (cc)
-first_id (c ∷ cs) e id is own =
-    ap (λ (x : Entry). x.0.0) (some_same e c is) ∙ All-head (λ (x : Entry). x.0.0 ≡ id) c cs own
+-- Cells that are of one message have its id.
+pub own_id : (id own : List ℕ) (cells : List MessageCell) → (cells ≡ [] → ⊥)
+    → All (λ e. e.0.0 ≡ own) (cells_of id cells) → id ≡ own
+own_id id own [] some all = absurd (some refl)
+own_id id own (c ∷ cs) some all =
+    All-head (λ (x : Entry). x.0.0 ≡ own) (cell_of id c) (cells_of id cs) all
 
 -- Of one message more its label is written, if any.
-pub bundled_more : (first old : Bundle) (draft : Draft) (before cells : Entries) (e : Entry)
-    (reply : Reply) (next : IsNextMessage before cells) → Some e ≡ slice_get cells 0
-    → IsLookupAnswerBy old.widening cells e.0.0 old.list.now (default_of old) reply
+pub bundled_more : (first old : Bundle) (draft : Draft) (before cells : Entries) (own : List ℕ)
+    (reply : Reply) (next : IsNextMessage before cells) → own ≡ next.id
+    → IsLookupAnswerBy old.widening cells own old.list.now (default_of old) reply
     → ((labels : List Labelled) → HasWritten old.draft labels
-    → HasWritten draft (labels ++ answered_of e.0.0 (answered reply)))
+    → HasWritten draft (labels ++ answered_of own (answered reply)))
     → HasBundled first old before
     → HasBundled first
     (record {
@@ -130,20 +126,19 @@ pub bundled_more : (first old : Bundle) (draft : Draft) (before cells : Entries)
       default = old.default;
       draft = draft;
     }) (before ++ cells)
-bundled_more first old draft before cells e reply next is answer adds has =
-    let id : e.0.0 ≡ next.id = first_id cells e next.id is next.own in
-    let own =
+bundled_more first old draft before cells own reply next id answer adds has =
+    let looked_up =
     subst
     (λ (i : List ℕ). IsLookedUpBy first.widening (live cells i) first.list.now (default_of first)
     reply) id
     (subst
-    (λ (d : Option (List ℕ)). IsLookedUpBy first.widening (live cells e.0.0) first.list.now d reply)
+    (λ (d : Option (List ℕ)). IsLookedUpBy first.widening (live cells own) first.list.now d reply)
     has.default_is
     (subst
-    (λ (items : List Item). IsLookedUpBy first.widening (live cells e.0.0) items (default_of old)
+    (λ (items : List Item). IsLookedUpBy first.widening (live cells own) items (default_of old)
     reply) has.list_is
     (subst
-    (λ (w : Widening). IsLookedUpBy w (live cells e.0.0) old.list.now (default_of old) reply)
+    (λ (w : Widening). IsLookedUpBy w (live cells own) old.list.now (default_of old) reply)
     has.widening_is answer))) in record {
       list_is = has.list_is;
       widening_is = has.widening_is;
@@ -151,7 +146,7 @@ bundled_more first old draft before cells e reply next is answer adds has =
       labels = has.labels ++ answered_of next.id (answered reply);
       labels_are =
           bundle_more first.widening first.list.now (default_of first) before cells next has.labels
-          has.labels_are reply own;
+          has.labels_are reply looked_up;
       written =
           subst (λ (i : List ℕ). HasWritten draft (has.labels ++ answered_of i (answered reply))) id
           (adds has.labels has.written);

@@ -1,7 +1,11 @@
 -- Cells that are given on message by message: one cell more, and one message more.
-use Rattle.std.proofs.Common.{◌≡◌, ◌∙◌, ◌++◌, [], ◌∷◌, ℕ, List, ap, append_assoc, cond, false, map}
-use Rattle.std.proofs.Common.{refl, subst, sym, true, true≢false}
-use Rattle.std.specs.Prelude.{All, Bool, None, Option, Some, filter, not}
+use Rattle.std.proofs.Common.{◌≡◌, ◌∙◌, ◌++◌, [], ◌∷◌, ℕ, List, ap, ap₂, append_assoc, cond}
+use Rattle.std.proofs.Common.{false, map}
+use Rattle.std.proofs.Common.{◌+◌, ◌<◌, add-one, drop, get_or, length, refl, subst, suc, sym, take}
+use Rattle.std.proofs.Common.{true, true≢false}
+use Rattle.std.proofs.Math.Seq.{drop-cons, take-suc}
+use Rattle.std.proofs.lemmas.List.{map-append, take-append-drop}
+use Rattle.std.specs.Prelude.{All, Bool, None, Option, Some, filter}
 use Rattle.std.specs.Option.{option_or}
 use Rattle.std.proofs.lemmas.List.Elements.{All-append, All-cons, All-head, All-nil, All-push}
 use Rattle.std.proofs.lemmas.List.Elements.{All-tail, All-weaker, filter-append}
@@ -10,12 +14,19 @@ use Rattle.std.specs.FinMap.Entries.{find}
 use Rattle.std.specs.Ordering.{is_eq, ordering_reverse, ordering_then}
 use Rattle.std.specs.declared.cmp.Ordering.{Ordering}
 use Rattle.std.specs.declared.cmp.Ordering.TheVariants.{Equal, Greater, Less}
+use Rattle.cell_core.specs.Keyed.{IsMap}
 use Rattle.cata_core.specs.Entries.{Entries, Entry, EntryKey, IsAboveAll, key_cmp, text_cmp}
 use Rattle.cata_core.specs.Live.{live, live_of}
 use Rattle.cata_core.proofs.Basics.{apart_first, append_nil, tied}
+use Rattle.cata_core.proofs.BehindLemmas.{IsMap-behind, front_below}
 use Rattle.cata_core.proofs.FlatLemmas.{find-append_lists}
 use Rattle.cata_core.proofs.NestedCataloguesLemmas.{text_exact}
-use Rattle.query_docs.specs.ByMessage.{HasGiven, IsNextMessage, begins_with_other}
+use Rattle.site_docs.specs.Sink.{IsLabelRef}
+use Rattle.query_docs.specs.ByMessage.{AreLabelRefs, HasGiven, HasSeen, IsNextMessage, cell_of}
+use Rattle.query_docs.specs.ByMessage.{cells_by, cells_of, entries_in}
+use Rattle.query_docs.specs.ByMessage.{is_of}
+use Rattle.query_docs.specs.declared.by_message.ByMessage.{ByMessage}
+use Rattle.query_docs.specs.declared.by_message.MessageCell.{MessageCell}
 
 -- What is so of all of two lists in sequence is so of all of the second.
 pub all_of_second : {X : Type 0} (P : X → Type 0) (xs ys : List X) → All P (xs ++ ys) → All P ys
@@ -24,9 +35,45 @@ all_of_second P (x ∷ xs) ys all = all_of_second P xs ys (All-tail P x (xs ++ y
 
 -- ---- one cell more
 
-not_other : (same : Bool) → not same ≡ false → same ≡ true
-not_other true e = refl
-not_other false e = absurd (true≢false e)
+-- the first of these cells, if any, is of this message
+abbrev pub IsSame : Entries → List ℕ → Type 0
+IsSame [] id = Unit {0}
+IsSame (c ∷ cs) id = c.0.0 ≡ id
+
+-- the first of these cells, if any, is of another message
+abbrev pub IsOther : Entries → List ℕ → Type 0
+IsOther [] id = Unit {0}
+IsOther (c ∷ cs) id = is_eq (text_cmp c.0.0 id) ≡ false
+
+-- The cells of the message that is read have the id that it has.
+pub same_of : {T : Type 0} (by : ByMessage T) (id : List ℕ) → is_of by.id id ≡ true
+    → (by.id ≡ Some id) × IsSame (entries_in by) id
+same_of by id is = elim by.id as (λ o. is_of o id ≡ true → (o ≡ Some id)
+    × IsSame (cells_by o by.cells.items) id) [
+      | None ↦ λ no. absurd (true≢false (sym no))
+      | Some own ↦ λ eq.
+          let same = text_exact own id (tied (text_cmp own id) eq) in
+          (ap Some same, same_first own by.cells.items same)
+    ] is
+  where
+    same_first : (own : List ℕ) (cells : List MessageCell) → own ≡ id
+        → IsSame (cells_of own cells) id
+    same_first own [] same = tt
+    same_first own (c ∷ cs) same = same
+
+-- And where another message is asked for, they are of another.
+pub other_of : {T : Type 0} (by : ByMessage T) (id : List ℕ) → is_of by.id id ≡ false
+    → IsOther (entries_in by) id
+other_of by id is =
+    elim by.id as (λ o. is_of o id ≡ false → IsOther (cells_by o by.cells.items) id) [
+      | None ↦ λ no. tt
+      | Some own ↦ λ ne. other_first own by.cells.items ne
+    ] is
+  where
+    other_first : (own : List ℕ) (cells : List MessageCell) → is_eq (text_cmp own id) ≡ false
+        → IsOther (cells_of own cells) id
+    other_first own [] ne = tt
+    other_first own (c ∷ cs) ne = ne
 
 -- a key that is greater has a greater id, or the same
 less_or_same : (r s : Ordering) → ordering_then r s ≡ Less → (r ≡ Equal → ⊥) → r ≡ Less
@@ -39,12 +86,12 @@ not_empty : {X : Type 0} (xs : List X) (x : X) → xs ++ x ∷ [] ≡ [] → ⊥
 not_empty [] x e = cc
 not_empty (y ∷ ys) x e = cc
 
-module _ {T : Type 0} (Takes : T → T → Entries → Type 0) (first taker : T) (e : Entry) where
+module _ {T : Type 0} (Holds : T → T → Entries → Type 0) (first sink : T) (e : Entry) where
   -- The cell is of the message that is read.
-  pub given_more : (cells taken : Entries) → begins_with_other cells e.0.0 ≡ false
-      → IsAboveAll e.0 taken → HasGiven Takes first taker cells taken
-      → HasGiven Takes first taker (cells ++ e ∷ []) (taken ++ e ∷ [])
-  given_more [] taken same above has =
+  pub given_more : (cells seen : Entries) → IsSame cells e.0.0
+      → IsAboveAll e.0 seen → HasGiven Holds first sink cells seen
+      → HasGiven Holds first sink (cells ++ e ∷ []) (seen ++ e ∷ [])
+  given_more [] seen same above has =
       let none : has.given ≡ [] = has.begun refl in record {
         given = [];
         all =
@@ -55,16 +102,15 @@ module _ {T : Type 0} (Takes : T → T → Entries → Type 0) (first taker : T)
           own = All-cons (λ (x : Entry). x.0.0 ≡ e.0.0) e [] refl (All-nil (λ (x : Entry). x.0.0
               ≡ e.0.0));
           above = All-nil (λ (x : Entry). text_cmp x.0.0 e.0.0 ≡ Less);
+          map = IsMap-behind [] e.0 e.1 tt (All-nil (λ (x : Entry). key_cmp x.0 e.0 ≡ Less));
         };
         begun = λ no. refl;
-        takes = subst (Takes first taker) none has.takes;
+        holds = subst (Holds first sink) none has.holds;
       }
-  given_more (c ∷ cs) taken same above has =
+  given_more (c ∷ cs) seen same above has =
       let next = has.next in
       let id : c.0.0 ≡ next.id = All-head (λ (x : Entry). x.0.0 ≡ next.id) c cs next.own in
-      let equal : c.0.0 ≡ e.0.0 =
-      text_exact c.0.0 e.0.0 (tied (text_cmp c.0.0 e.0.0) (not_other (is_eq (text_cmp c.0.0 e.0.0))
-      same)) in record {
+      let equal : c.0.0 ≡ e.0.0 = same in record {
         given = has.given;
         all = ap (λ (es : Entries). es ++ e ∷ []) has.all
             ∙ append_assoc has.given (c ∷ cs) (e ∷ []);
@@ -72,20 +118,40 @@ module _ {T : Type 0} (Takes : T → T → Entries → Type 0) (first taker : T)
           id = next.id;
           own = All-push (λ (x : Entry). x.0.0 ≡ next.id) (c ∷ cs) e next.own (sym equal ∙ id);
           above = next.above;
+          map = IsMap-behind (c ∷ cs) e.0 e.1 next.map
+              (all_of_second (λ (x : Entry). key_cmp x.0 e.0 ≡ Less) has.given (c ∷ cs)
+              (subst (IsAboveAll e.0) has.all above));
         };
         begun = λ no. absurd (not_empty (c ∷ cs) e no);
-        takes = has.takes;
+        holds = has.holds;
       }
 
   -- The cell is of another message, after that which was read was given on.
-  pub given_on : (new : T) (cells taken : Entries) → begins_with_other cells e.0.0 ≡ true
-      → IsAboveAll e.0 taken
-      → ((before : Entries) → Takes first taker before → IsNextMessage before cells
-      → Takes first new (before ++ cells))
-      → HasGiven Takes first taker cells taken
-      → HasGiven Takes first new (e ∷ []) (taken ++ e ∷ [])
-  given_on new [] taken other above gives has = absurd (true≢false (sym other))
-  given_on new (c ∷ cs) taken other above gives has =
+  pub given_on : (new : T) (cells seen : Entries) → IsOther cells e.0.0
+      → IsAboveAll e.0 seen
+      → ((before : Entries) → Holds first sink before → IsNextMessage before cells
+      → Holds first new (before ++ cells))
+      → HasGiven Holds first sink cells seen
+      → HasGiven Holds first new (e ∷ []) (seen ++ e ∷ [])
+  given_on new [] seen other above gives has =
+      let none : has.given ≡ [] = has.begun refl in record {
+        given = [];
+        all =
+            ap (λ (es : Entries). es ++ e ∷ [])
+            (has.all ∙ append_nil has.given ∙ none);
+        next = record {
+          id = e.0.0;
+          own = All-cons (λ (x : Entry). x.0.0 ≡ e.0.0) e [] refl (All-nil (λ (x : Entry). x.0.0
+              ≡ e.0.0));
+          above = All-nil (λ (x : Entry). text_cmp x.0.0 e.0.0 ≡ Less);
+          map = IsMap-behind [] e.0 e.1 tt (All-nil (λ (x : Entry). key_cmp x.0 e.0 ≡ Less));
+        };
+        begun = λ no. refl;
+        holds =
+            subst (Holds first new) (append_nil has.given ∙ none)
+            (gives has.given has.holds has.next);
+      }
+  given_on new (c ∷ cs) seen other above gives has =
       let next = has.next in
       let id : c.0.0 ≡ next.id = All-head (λ (x : Entry). x.0.0 ≡ next.id) c cs next.own in
       let cells_above = all_of_second (λ (x : Entry). key_cmp x.0 e.0 ≡ Less) has.given (c ∷ cs)
@@ -93,7 +159,7 @@ module _ {T : Type 0} (Takes : T → T → Entries → Type 0) (first taker : T)
       let less : text_cmp c.0.0 e.0.0 ≡ Less =
       less_or_same (text_cmp c.0.0 e.0.0) (text_cmp c.0.1 e.0.1)
       (All-head (λ (x : Entry). key_cmp x.0 e.0 ≡ Less) c cs cells_above)
-      (λ equal. true≢false (sym other ∙ ap (λ o. not (is_eq o)) equal)) in
+      (λ equal. true≢false (ap is_eq (sym equal) ∙ other)) in
       let id_less : text_cmp next.id e.0.0 ≡ Less =
       subst (λ (i : List ℕ). text_cmp i e.0.0 ≡ Less) id less in
       let own_below =
@@ -105,7 +171,7 @@ module _ {T : Type 0} (Takes : T → T → Entries → Type 0) (first taker : T)
       (λ (x : Entry). text_cmp x.0.0 e.0.0 ≡ Less)
       (λ x is. nat_list_cmp_total.trans x.0.0 next.id e.0.0 is id_less) has.given next.above in
       record {
-        given = taken;
+        given = seen;
         all = refl;
         next = record {
           id = e.0.0;
@@ -114,10 +180,40 @@ module _ {T : Type 0} (Takes : T → T → Entries → Type 0) (first taker : T)
           above = subst (All (λ (x : Entry). text_cmp x.0.0 e.0.0 ≡ Less)) (sym has.all)
               (All-append (λ (x : Entry). text_cmp x.0.0 e.0.0 ≡ Less) has.given (c ∷ cs)
               given_below own_below);
+          map = IsMap-behind [] e.0 e.1 tt (All-nil (λ (x : Entry). key_cmp x.0 e.0 ≡ Less));
         };
         begun = λ no. cc;
-        takes = subst (Takes first new) (sym has.all) (gives has.given has.takes next);
+        holds = subst (Holds first new) (sym has.all) (gives has.given has.holds next);
       }
+
+-- A cell was pushed after those of the message that is read.
+pushed : {T : Type 0} (old new : ByMessage T) (cell : MessageCell) (id : List ℕ) (e : Entry)
+    → old.id ≡ Some id → new.id ≡ old.id → new.cells.items ≡ old.cells.items ++ cell ∷ []
+    → cell_of id cell ≡ e → entries_in new ≡ entries_in old ++ e ∷ []
+pushed old new cell id e at same items own =
+    ap (λ o. cells_by o new.cells.items) (same ∙ at)
+    ∙ ap (cells_of id) items
+    ∙ map-append (cell_of id) old.cells.items (cell ∷ [])
+    ∙ ap₂ (λ (es : Entries) (x : Entry). es ++ x ∷ [])
+    (ap (λ o. cells_by o old.cells.items) (sym at)) own
+
+-- With it all cells were seen that were seen before, and it.
+pub seen_more : {T : Type 0} (Holds : T → T → Entries → Type 0) (first : T) (old new : ByMessage T)
+    (cell : MessageCell) (id : List ℕ) (e : Entry) (seen : Entries) → old.id ≡ Some id
+    → new.id ≡ old.id → new.cells.items ≡ old.cells.items ++ cell ∷ [] → cell_of id cell ≡ e
+    → AreLabelRefs old.cells.items → IsLabelRef cell.label
+    → HasGiven Holds first new.sink (entries_in old ++ e ∷ []) seen
+    → HasSeen Holds first new seen
+seen_more Holds first old new cell id e seen at same items own labels label given =
+    let all = sym (pushed old new cell id e at same items own) in record {
+      given = subst (λ (es : Entries). HasGiven Holds first new.sink es seen) all given;
+      message = record {
+        labels =
+            subst AreLabelRefs (sym items)
+            (All-push (λ (x : MessageCell). IsLabelRef x.label) old.cells.items cell labels label);
+        map = subst (IsMap key_cmp) all given.next.map;
+      };
+    }
 
 -- ---- cells of other messages
 
@@ -200,3 +296,34 @@ module _ (before cells : Entries) (next : IsNextMessage before cells) where
       (filter-append of_it before cells
       ∙ ap (λ (es : Entries). es ++ filter of_it cells)
       (none_kept next.id before none_before))
+
+-- ---- the cells one after another
+
+-- The cells from a place on are that at the place and those after it.
+pub cells_from : (cells : List MessageCell) (k : ℕ) (c : MessageCell) → k < length cells
+    → c ≡ get_or cells k c → drop k cells ≡ c ∷ drop (k + 1) cells
+cells_from cells k c within is =
+    rw (add-one) (drop-cons cells k c within
+    ∙ ap (λ (x : MessageCell). x ∷ drop (suc k) cells) (sym is))
+
+-- The cells up to a place and that at the place are those up to the next.
+pub cells_to : (id : List ℕ) (cells : List MessageCell) (k : ℕ) (c : MessageCell)
+    → k < length cells → c ≡ get_or cells k c
+    → cells_of id (take (k + 1) cells) ≡ cells_of id (take k cells) ++ cell_of id c ∷ []
+cells_to id cells k c within is =
+    rw (add-one, take-suc cells k c within)
+    (map-append (cell_of id) (take k cells) (get_or cells k c ∷ [])
+    ∙ ap (λ (x : MessageCell). cells_of id (take k cells) ++ cell_of id x ∷ []) (sym is))
+
+-- The cells before a place have lesser keys than that at the place.
+pub cells_below : (id : List ℕ) (cells : List MessageCell) (k : ℕ) (c : MessageCell)
+    → k < length cells → c ≡ get_or cells k c → IsMap key_cmp (cells_of id cells)
+    → IsAboveAll (cell_of id c).0 (cells_of id (take k cells))
+cells_below id cells k c within is map =
+    let rest = drop (k + 1) cells in
+    let whole : cells_of id (take k cells) ++ cell_of id c ∷ cells_of id rest ≡ cells_of id cells =
+    sym (map-append (cell_of id) (take k cells) (c ∷ rest))
+    ∙ ap (cells_of id) (ap (λ (cs : List MessageCell). take k cells ++ cs)
+    (sym (cells_from cells k c within is)) ∙ take-append-drop k cells) in
+    front_below (cells_of id (take k cells)) (cells_of id rest) (cell_of id c).0 (cell_of id c).1
+    (subst (IsMap key_cmp) (sym whole) map)

@@ -7,16 +7,19 @@ use Rattle.std.proofs.lemmas.List.Elements.{filter-append, filter_map-append}
 use Rattle.std.specs.List.{cons_option}
 use Rattle.std.specs.FinMap.Entries.{find}
 use Rattle.std.specs.Option.{is_none}
-use Rattle.std.specs.Ordering.{is_eq}
-use Rattle.std.specs.declared.cmp.Ordering.TheVariants.{Less}
+use Rattle.std.specs.Cmp.Lexicographic.{nat_list_cmp_total}
+use Rattle.std.specs.Ordering.{is_eq, ordering_reverse, ordering_then}
+use Rattle.std.specs.declared.cmp.Ordering.{Ordering}
+use Rattle.std.specs.declared.cmp.Ordering.TheVariants.{Equal, Greater, Less}
 use Rattle.cell_core.specs.declared.cell.Cell.{Cell}
 use Rattle.cata_core.specs.Entries.{Entries, Entry, key_cmp, text_cmp}
 use Rattle.map_docs.specs.LangMaps.{Labelled}
-use Rattle.query_docs.specs.ByMessage.{IsNextMessage}
-use Rattle.query_docs.specs.Chosen.{HasChosen, chosen_labels, chosen_of, is_chosen}
+use Rattle.query_docs.specs.ByMessage.{IsNextMessage, cell_of, cells_of}
+use Rattle.query_docs.specs.Chosen.{HasChosen, chosen_labels, is_chosen}
 use Rattle.query_docs.specs.Draft.{HasWritten}
 use Rattle.query_docs.specs.Exported.{live_labels}
-use Rattle.query_docs.specs.Outdated.{is_before, labelled_at}
+use Rattle.query_docs.specs.Outdated.{is_before, labelled_at, live_time}
+use Rattle.query_docs.specs.declared.by_message.MessageCell.{MessageCell}
 use Rattle.query_docs.specs.declared.chosen.ChosenLabels.{ChosenLabels}
 use Rattle.query_docs.specs.declared.messages.Messages.{Messages}
 use Rattle.query_docs.specs.declared.messages.Messages.TheVariants as messages
@@ -55,7 +58,6 @@ filter_same {X} p q (x ∷ xs) all =
 chosen_by_own : (messages : Messages) (cells other : Entries) (id : List ℕ)
     → ((lang : List ℕ) → find key_cmp (id, lang) cells ≡ find key_cmp (id, lang) other)
     → is_chosen messages cells id ≡ is_chosen messages other id
-chosen_by_own messages.All cells other id same = refl
 chosen_by_own (messages.Lacking lang) cells other id same =
     ap (λ (o : Option Cell). is_none (option_and_then (λ c. c.label) o)) (same lang.now)
 chosen_by_own (messages.Outdated lang source) cells other id same =
@@ -109,29 +111,58 @@ has_more first old new before cells same adds has next = record {
       (adds (chosen_labels first.messages before) has.labels_are));
 }
 
--- ---- label by label
+-- a test that is the same for all lets all pass, or none
+filter_all : {X : Type 0} (b : Bool) (xs : List X) → filter (λ _. b) xs ≡ cond b xs []
+filter_all true [] = refl
+filter_all true (x ∷ xs) = ap (λ ys. x ∷ ys) (filter_all true xs)
+filter_all false [] = refl
+filter_all false (x ∷ xs) = filter_all false xs
 
--- A cell with a label adds it to the chosen ones where its message is chosen.
-pub chosen_labelled : (messages : Messages) (cells : Entries) (e : Entry) (left : Entries)
-    (label : List (List ℕ)) (chosen : Bool) → e.1.label ≡ Some label
-    → chosen ≡ is_chosen messages cells e.0.0
-    → chosen_of messages cells (e ∷ left)
-    ≡ cond chosen ((e.0, label) ∷ []) [] ++ chosen_of messages cells left
-chosen_labelled messages cells e left label chosen labelled is =
-    let p : Labelled → Bool = λ l. is_chosen messages cells l.0.0 in
-    let rest = filter p (live_labels left) in
-    ap (λ o. filter p (cons_option (option_map (λ l. (e.0, l)) o) (live_labels left))) labelled
-    ∙ ap (λ b. cond b ((e.0, label) ∷ rest) rest) (sym is)
-    ∙ put_first chosen (e.0, label) rest
-  where
-    put_first : (b : Bool) (l : Labelled) (ls : List Labelled)
-        → cond b (l ∷ ls) ls ≡ cond b (l ∷ []) [] ++ ls
-    put_first true l ls = refl
-    put_first false l ls = refl
+-- The cells of a message have its id.
+pub all_own : (id : List ℕ) (cells : List MessageCell) → All (λ e. e.0.0 ≡ id) (cells_of id cells)
+all_own id [] = All-nil (λ (e : Entry). e.0.0 ≡ id)
+all_own id (c ∷ cs) =
+    All-cons (λ (e : Entry). e.0.0 ≡ id) (cell_of id c) (cells_of id cs) refl (all_own id cs)
 
--- A cell without a label adds none.
-pub chosen_unlabelled : (messages : Messages) (cells : Entries) (e : Entry) (left : Entries)
-    → e.1.label ≡ None → chosen_of messages cells (e ∷ left) ≡ chosen_of messages cells left
-chosen_unlabelled messages cells e left none =
-    ap (λ o. filter (λ (l : Labelled). is_chosen messages cells l.0.0)
-    (cons_option (option_map (λ l. (e.0, l)) o) (live_labels left))) none
+-- Of a message all live labels are chosen, or none.
+pub chosen_or_none : (messages : Messages) (id : List ℕ) (cells : List MessageCell) (b : Bool)
+    → b ≡ is_chosen messages (cells_of id cells) id
+    → chosen_labels messages (cells_of id cells) ≡ cond b (live_labels (cells_of id cells)) []
+chosen_or_none messages id cells b is =
+    let es = cells_of id cells in
+    let p : Labelled → Bool = λ l. is_chosen messages es l.0.0 in
+    let same = ids_live (λ i. is_chosen messages es i ≡ b) es
+    (All-weaker (λ (e : Entry). e.0.0 ≡ id) (λ (e : Entry). is_chosen messages es e.0.0 ≡ b)
+    (λ e own. ap (is_chosen messages es) own ∙ sym is) es (all_own id cells)) in
+    filter_same p (λ _. b) (live_labels es) same ∙ filter_all b (live_labels es)
+
+-- ---- the cells of a message
+
+own_order : (o : Ordering) → o ≡ ordering_reverse o → o ≡ Equal
+own_order Less e = absurd (cc)
+own_order Equal e = refl
+own_order Greater e = absurd (cc)
+
+same_text : (id : List ℕ) → text_cmp id id ≡ Equal
+same_text id = own_order (text_cmp id id) (nat_list_cmp_total.antisymm id id)
+
+same_keys : (id lang other : List ℕ) → key_cmp (id, lang) (id, other) ≡ text_cmp lang other
+same_keys id lang other = ap (λ o. ordering_then o (text_cmp lang other)) (same_text id)
+
+-- The time of the first cell of this language is that of the key.
+pub time_here : (id lang : List ℕ) (c : MessageCell) (cs : List MessageCell)
+    → is_eq (text_cmp lang c.lang) ≡ true
+    → live_time (id, lang) (cells_of id (c ∷ cs)) ≡ labelled_at (Some (cell_of id c).1)
+time_here id lang c cs eq =
+    ap
+    (λ t. labelled_at (cond t (Some (cell_of id c).1) (find key_cmp (id, lang) (cells_of id cs))))
+    (ap is_eq (same_keys id lang c.lang) ∙ eq)
+
+-- A cell of another language is not that of the key.
+pub time_after : (id lang : List ℕ) (c : MessageCell) (cs : List MessageCell)
+    → is_eq (text_cmp lang c.lang) ≡ false
+    → live_time (id, lang) (cells_of id (c ∷ cs)) ≡ live_time (id, lang) (cells_of id cs)
+time_after id lang c cs ne =
+    ap
+    (λ t. labelled_at (cond t (Some (cell_of id c).1) (find key_cmp (id, lang) (cells_of id cs))))
+    (ap is_eq (same_keys id lang c.lang) ∙ ne)

@@ -1,8 +1,7 @@
 -- Language maps that are being written, with one label more, and closed.
-use Rattle.std.proofs.Common.{◌≡◌, ◌∙◌, ◌++◌, [], ◌∷◌, ℕ, List, ap, append_assoc, subst, sym}
-use Rattle.std.specs.Prelude.{None, Option, Some, option_map}
+use Rattle.std.proofs.Common.{◌≡◌, ◌++◌, [], ◌∷◌, ℕ, List, append_assoc, subst, sym}
+use Rattle.std.specs.Prelude.{Option, Some, option_map}
 use Rattle.std.proofs.lemmas.List.Elements.{filter_map-append}
-use Rattle.std.specs.List.{cons_option}
 use Rattle.cata_core.specs.Entries.{Entries, Entry}
 use Rattle.cata_core.proofs.Basics.{append_nil}
 use Rattle.row_docs.specs.Texts.{Adds}
@@ -10,7 +9,7 @@ use Rattle.map_docs.specs.LangMapLaws.{IsWritable}
 use Rattle.map_docs.specs.LangMaps.{Labelled}
 use Rattle.map_docs.specs.LangMapsWritten.{IsWriting, label_tokens, opening_tokens}
 use Rattle.map_docs.proofs.WritingLemmas.{writing_next}
-use Rattle.query_docs.specs.Draft.{HasWritten}
+use Rattle.query_docs.specs.Draft.{HasWritten, labelled_by}
 use Rattle.query_docs.specs.Exported.{live_labels}
 use Rattle.query_docs.specs.declared.draft.Draft.{Draft}
 
@@ -34,26 +33,7 @@ all_written draft labels has =
     (has [])
 
 -- With one cell more the live labels are those before and that of the cell, if any.
-pub live_more : (taken : Entries) (e : Entry)
-    → live_labels (taken ++ e ∷ [])
-    ≡ live_labels taken ++ cons_option (option_map (λ label. (e.0, label)) e.1.label) []
-live_more taken e =
-    filter_map-append (λ (x : Entry). option_map (λ label. (x.0, label)) x.1.label) taken (e ∷ [])
-
--- A cell more was taken: its label is written, if it has one.
-pub took_label : (new : Draft) (taken : Entries) (e : Entry) (label : List (List ℕ))
-    → e.1.label ≡ Some label → HasWritten new (live_labels taken ++ (e.0, label) ∷ [])
-    → HasWritten new (live_labels (taken ++ e ∷ []))
-took_label new taken e label is has =
-    subst (HasWritten new)
-    (ap (λ o. live_labels taken ++ cons_option (option_map (λ l. (e.0, l)) o) []) (sym is)
-    ∙ sym (live_more taken e)) has
-
--- A cell more was taken that has no label.
-pub took_none : (draft : Draft) (taken : Entries) (e : Entry) → e.1.label ≡ None
-    → HasWritten draft (live_labels taken) → HasWritten draft (live_labels (taken ++ e ∷ []))
-took_none draft taken e is has =
-    subst (HasWritten draft)
-    (sym (append_nil (live_labels taken))
-    ∙ ap (λ o. live_labels taken ++ cons_option (option_map (λ l. (e.0, l)) o) []) (sym is)
-    ∙ sym (live_more taken e)) has
+pub live_more : (seen : Entries) (e : Entry)
+    → live_labels (seen ++ e ∷ []) ≡ live_labels seen ++ labelled_by e.0 e.1.label
+live_more seen e =
+    filter_map-append (λ (x : Entry). option_map (λ label. (x.0, label)) x.1.label) seen (e ∷ [])

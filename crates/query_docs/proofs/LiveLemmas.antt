@@ -1,6 +1,6 @@
 -- The live labels of a catalogue, as a map.
 use Rattle.std.proofs.Common.{◌≡◌, ◌∙◌, ℕ, true, false, cond, List, [], ◌∷◌, refl, ap}
-use Rattle.std.specs.Prelude.{None, Option, Some, T, filter, option_and_then, option_map}
+use Rattle.std.specs.Prelude.{None, Option, Some, T, option_and_then, option_map}
 use Rattle.std.specs.List.{cons_option}
 use Rattle.std.specs.Ordering.{eq_by_cmp, is_lt}
 use Rattle.std.specs.FinMap.Entries.{below_all, find, is_sorted}
@@ -13,7 +13,6 @@ use Rattle.map_docs.specs.LangMaps.{Labelled}
 use Rattle.query_docs.specs.Chosen.{chosen_labels, is_chosen}
 use Rattle.query_docs.specs.Exported.{label_at, live_labels}
 use Rattle.query_docs.specs.declared.messages.Messages.{Messages}
-use Rattle.query_docs.specs.declared.messages.Messages.TheVariants.{All}
 
 -- the labels of the other entries, and before them what this entry adds
 abbrev labelled : EntryKey → Option (List (List ℕ)) → List Labelled → List Labelled
@@ -53,14 +52,6 @@ pub chosen-IsMap : (messages : Messages) (cells : Entries) → IsMap key_cmp cel
 chosen-IsMap messages cells m =
     filter-IsMap key_cmp (λ (e : Labelled). is_chosen messages cells e.0.0) (live_labels cells)
     (live-IsMap cells m)
-
-all_pass : (labels : List Labelled) → filter (λ _. true) labels ≡ labels
-all_pass [] = refl
-all_pass (e ∷ es) = ap (λ t. e ∷ t) (all_pass es)
-
--- all live labels are of all messages
-pub all_chosen : (cells : Entries) → chosen_labels All cells ≡ live_labels cells
-all_chosen cells = all_pass (live_labels cells)
 
 -- ---- a key's label
 

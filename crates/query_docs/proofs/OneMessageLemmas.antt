@@ -1,12 +1,13 @@
 -- What a site that is read for one message answers of it.
-use Rattle.std.proofs.Common.{◌≡◌, ◌∙◌, [], ◌∷◌, ℕ, Bool, List, ap, cond, false, map, refl}
+use Rattle.std.proofs.Common.{◌≡◌, ◌∙◌, ◌++◌, [], ◌∷◌, ℕ, Bool, List, ap, cond, false, map, refl}
 use Rattle.std.proofs.Common.{subst, sym, true}
 use Rattle.std.specs.Prelude.{filter}
-use Rattle.std.proofs.lemmas.List.Elements.{All-filter}
+use Rattle.std.proofs.lemmas.List.Elements.{All-filter, filter-append}
+use Rattle.std.specs.Ordering.{is_eq}
 use Rattle.std.specs.declared.cmp.Ordering.TheVariants.{Less}
 use Rattle.cata_core.specs.Asking.{IsFilteredOf, IsLookedUpBy}
 use Rattle.nego_core.specs.declared.widening.Widening.TheVariants.{Off}
-use Rattle.cata_core.specs.Entries.{Entries, Entry, EntryKey, IsAboveAll, key_cmp}
+use Rattle.cata_core.specs.Entries.{Entries, Entry, EntryKey, IsAboveAll, key_cmp, text_cmp}
 use Rattle.cata_core.specs.Live.{Labelled, live, live_of}
 use Rattle.query_docs.specs.Asks.{Answers}
 use Rattle.query_docs.specs.OneMessage.{KeepsMessage, is_of}
@@ -23,6 +24,22 @@ above_kept first message before key keeps above =
     subst (λ (es : Entries). IsAboveAll key es) (sym keeps.cells_are)
     (All-filter (λ (e : Entry). is_of first.id.now e.0.0)
     (λ (e : Entry). key_cmp e.0 key ≡ Less) before above)
+
+-- Of the cells with one cell more of the message that one is kept too.
+pub kept_more : (first old : OneMessage) (new before : Entries) (e : Entry)
+    → is_eq (text_cmp old.id.now e.0.0) ≡ true → new ≡ old.cells ++ e ∷ []
+    → KeepsMessage first old before
+    → KeepsMessage first (record { id = old.id; cells = new }) (before ++ e ∷ [])
+kept_more first old new before e own pushed keeps =
+    let p : Entry → Bool = λ x. is_of first.id.now x.0.0 in
+    let kept : p e ≡ true =
+    ap (λ (id : List ℕ). is_eq (text_cmp id e.0.0)) (sym keeps.id_is) ∙ own in record {
+      id_is = keeps.id_is;
+      cells_are =
+          pushed ∙ ap (λ (es : Entries). es ++ e ∷ []) keeps.cells_are
+          ∙ sym (filter-append p before (e ∷ [])
+          ∙ ap (λ b. filter p before ++ cond b (e ∷ []) []) kept);
+    }
 
 filtered_twice : {X : Type 0} (p : X → Bool) (xs : List X)
     → filter p (filter p xs) ≡ filter p xs

@@ -11,10 +11,10 @@ abbrev pub default_of : Bundle → Option (List ℕ)
 default_of bundle = option_map (λ l. l.now) bundle.default
 
 -- of these cells the labels that the reader gets are written
-pub record HasBundled (first bundle : Bundle) (taken : Entries) : Type 0 where
+pub record HasBundled (first bundle : Bundle) (seen : Entries) : Type 0 where
   pub list_is : bundle.list.now ≡ first.list.now
   pub widening_is : bundle.widening ≡ first.widening
   pub default_is : default_of bundle ≡ default_of first
   pub labels : List Labelled
-  pub labels_are : IsBundleBy first.widening taken first.list.now (default_of first) labels
+  pub labels_are : IsBundleBy first.widening seen first.list.now (default_of first) labels
   pub written : HasWritten bundle.draft labels

@@ -1,26 +1,64 @@
--- Cells that are taken one after another, given on message by message.
-use Rattle.std.specs.Prelude.{◌≡◌, ◌++◌, ◌∷◌, [], ℕ, All, Bool, List, false, not}
+-- Cells that are seen one after another, given on message by message.
+use Rattle.std.specs.Prelude.{◌≡◌, ◌++◌, [], ℕ, All, Bool, List, None, Option, Some, false}
+use Rattle.std.specs.Prelude.{map}
 use Rattle.std.specs.Ordering.{is_eq}
 use Rattle.std.specs.declared.cmp.Ordering.TheVariants.{Less}
-use Rattle.cata_core.specs.Entries.{Entries, text_cmp}
+use Rattle.cell_core.specs.Keyed.{IsMap}
+use Rattle.cata_core.specs.Entries.{Entries, Entry, key_cmp, text_cmp}
+use Rattle.site_docs.specs.Sink.{IsLabelRef, texts_of}
+use Rattle.query_docs.specs.declared.by_message.ByMessage.{ByMessage}
+use Rattle.query_docs.specs.declared.by_message.MessageCell.{MessageCell}
 
--- whether the first of these cells is of another message
-abbrev pub begins_with_other : Entries → List ℕ → Bool
-begins_with_other [] id = false
-begins_with_other (e ∷ es) id = not (is_eq (text_cmp e.0.0 id))
+-- a cell of the message with this id
+abbrev pub cell_of : List ℕ → MessageCell → Entry
+cell_of id cell = ((id, cell.lang), record { stamp = cell.stamp; label = texts_of cell.label })
+
+-- the cells of the message with this id
+abbrev pub cells_of : List ℕ → List MessageCell → Entries
+cells_of id cells = map (cell_of id) cells
+
+-- the cells of the message with this id, if there is one
+abbrev pub cells_by : Option (List ℕ) → List MessageCell → Entries
+cells_by None cells = []
+cells_by (Some id) cells = cells_of id cells
+
+-- the cells of the message that is read, if any
+abbrev pub entries_in : {T : Type 0} → ByMessage T → Entries
+entries_in by = cells_by by.id by.cells.items
+
+-- each text that stands alone is a label
+abbrev pub AreLabelRefs : List MessageCell → Type 0
+AreLabelRefs cells = All (λ c. IsLabelRef c.label) cells
+
+-- whether the message that is read, if any, has this id
+abbrev pub is_of : Option (List ℕ) → List ℕ → Bool
+is_of None id = false
+is_of (Some own) id = is_eq (text_cmp own id)
 
 -- the cells are of one message, whose id is greater than those of the cells before
 pub record IsNextMessage (before cells : Entries) : Type 0 where
   pub id : List ℕ
   pub own : All (λ e. e.0.0 ≡ id) cells
   pub above : All (λ e. text_cmp e.0.0 id ≡ Less) before
+  pub map : IsMap key_cmp cells
 
--- what the taker became by the cells that were given to it, with which those of the message that
--- is read are all that were taken
-pub record HasGiven {T : Type 0} (Takes : T → T → Entries → Type 0) (first taker : T)
-    (cells taken : Entries) : Type 0 where
+-- what the sink became by the cells that were given to it, with which those of the message that is
+-- read are all that were seen
+pub record HasGiven {T : Type 0} (Holds : T → T → Entries → Type 0) (first sink : T)
+    (cells seen : Entries) : Type 0 where
   pub given : Entries
-  pub all : taken ≡ given ++ cells
+  pub all : seen ≡ given ++ cells
   pub next : IsNextMessage given cells
   pub begun : cells ≡ [] → given ≡ []
-  pub takes : Takes first taker given
+  pub holds : Holds first sink given
+
+-- the cells of the message that is read ascend, and each text that stands alone is a label
+pub record AreOfMessage {T : Type 0} (by : ByMessage T) : Type 0 where
+  pub labels : AreLabelRefs by.cells.items
+  pub map : IsMap key_cmp (entries_in by)
+
+-- the same of what was seen, with the message that is read
+pub record HasSeen {T : Type 0} (Holds : T → T → Entries → Type 0) (first : T) (by : ByMessage T)
+    (seen : Entries) : Type 0 where
+  pub given : HasGiven Holds first by.sink (entries_in by) seen
+  pub message : AreOfMessage by

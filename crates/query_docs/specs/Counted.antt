@@ -1,4 +1,4 @@
--- The counts of cells that are taken one after another.
+-- The counts of cells that are seen one after another.
 use Rattle.std.specs.Prelude.{◌≡◌, count_by, length}
 use Rattle.cata_core.specs.Entries.{Entries}
 use Rattle.cata_core.specs.Latest.{latest_of}

@@ -1,5 +1,7 @@
 -- Language maps that are being written, label by label.
-use Rattle.std.specs.Prelude.{◌++◌, List}
+use Rattle.std.specs.Prelude.{◌++◌, [], ℕ, List, Option, option_map}
+use Rattle.std.specs.List.{cons_option}
+use Rattle.cata_core.specs.Entries.{EntryKey}
 use Rattle.map_docs.specs.LangMaps.{Labelled}
 use Rattle.map_docs.specs.LangMapsWritten.{IsWriting}
 use Rattle.query_docs.specs.declared.draft.Draft.{Draft}
@@ -8,3 +10,7 @@ use Rattle.query_docs.specs.declared.draft.Draft.{Draft}
 abbrev pub HasWritten : Draft → List Labelled → Type 0
 HasWritten draft labels =
     (left : List Labelled) → IsWriting draft.out draft.current left (labels ++ left)
+
+-- the label of a key, if there is one
+abbrev pub labelled_by : EntryKey → Option (List (List ℕ)) → List Labelled
+labelled_by key texts = cons_option (option_map (λ label. (key, label)) texts) []

@@ -13,9 +13,9 @@ abbrev pub is_of : List ℕ → List ℕ → Bool
 is_of id other = is_eq (text_cmp id other)
 
 -- of these cells those of the message were kept
-pub record KeepsMessage (first message : OneMessage) (taken : Entries) : Type 0 where
+pub record KeepsMessage (first message : OneMessage) (seen : Entries) : Type 0 where
   pub id_is : message.id.now ≡ first.id.now
-  pub cells_are : message.cells ≡ part_of (is_of first.id.now) taken
+  pub cells_are : message.cells ≡ part_of (is_of first.id.now) seen
 
 -- the site has the name and the live labels of this message that the document says
 abbrev pub IsReadFor : List ℕ → List ℕ → SiteState → Type 0

@@ -1,54 +1,55 @@
 //! The labels of one reader, looked up message by message as a document is read.
-ghost use Rattle.std.specs.Prelude.{IfSome, option_map};
+ghost use Rattle.std.specs.Prelude.{◌≡◌, IfOk, MatchResult, option_map};
+ghost use Rattle.cell_core.specs.Keyed.{IsMap};
+ghost use Rattle.cata_core.specs.Entries.{key_cmp};
+ghost use Rattle.json_docs.specs.Checks.{OrMemory};
+ghost use Rattle.row_docs.specs.Reading.{IsOfDocument, no_memory};
+ghost use Rattle.site_docs.specs.ReadsAs.{RefusesSite};
 ghost use Rattle.query_docs.specs.BundleByMessage.{HasBundled};
 ghost use Rattle.query_docs.specs.Bundled.{IsBundledBy};
+ghost use Rattle.query_docs.specs.ByMessage.{AreLabelRefs, cells_of};
 
 use crate::bundling::answered;
-use crate::by_message::{ByMessage, TakeMessages};
+use crate::by_message::{ByMessage, MessageCell, MessageSink};
 use crate::draft::Draft;
 use cata_core::Catalogue;
-use json_docs::Doc;
+use cell_core::{Cell, Key, MessageId};
+use json_docs::{Doc, DocFault};
 use lang_core::Lang;
 use nego_core::{PriorityList, Widening};
-use site_docs::take_written_site;
+use site_docs::show_document;
 use std::alloc::{AllocError, Global};
 
-/// What [`bundle_document_by`](crate::bundle_document_by) gives where the document is in the form
-/// in which it is written. Each message is looked up by the whole list.
-pub(crate) fn written_bundle(
+/// What [`bundle_document_by`](crate::bundle_document_by) gives where each message is looked up by
+/// the whole list.
+pub(crate) fn bundle_by_message(
     alloc: Global,
     site: &[u8],
     list: &PriorityList,
     widening: Widening,
     default: Option<&Lang>,
-) -> Option<(Doc, bool)>
-    ensures { IfSome result (λ answer. IsBundledBy widening site.now list.now (option_map
-        (λ l. l.now) default.entry) answer.0 answer.1) }
+) -> Result<(Doc, bool), DocFault>
+    ensures { MatchResult result (λ answer. IsBundledBy widening site.now list.now (option_map
+        (λ l. l.now) default.entry) answer.0 answer.1) (OrMemory no_memory (IsOfDocument 1
+        (RefusesSite site.now))) }
 {
-    let Ok(draft) = Draft::new(alloc) else {
-        return None;
-    };
     let bundle = Bundle {
         list,
         widening,
         default,
-        draft,
+        draft: Draft::new(alloc)?,
     };
-    let mut taker = ByMessage::new(alloc, bundle);
-    take_written_site(alloc, site, &mut taker)?;
-    let Ok(bundle) = taker.finish(alloc) else {
-        return None;
-    };
+    let start = ByMessage::new(alloc, bundle);
+    let (_, shown) = show_document(alloc, 1, site, &start)?;
+    let bundle = shown.finish(alloc)?;
     let Bundle { draft, .. } = bundle;
-    match draft.close() {
-        Ok(answer) => Some(answer),
-        Err(_) => None,
-    }
+    let answer = draft.close()?;
+    Ok(answer)
 }
 
 /// The labels that a list looks up, written.
 #[derive(Drop)]
-pub(crate) struct Bundle<'a> {
+struct Bundle<'a> {
     list: &'a PriorityList,
     widening: Widening,
     default: Option<&'a Lang>,
@@ -56,17 +57,52 @@ pub(crate) struct Bundle<'a> {
 }
 
 /// Writes the label that the lookup of a message answers.
-impl TakeMessages for Bundle<'_> {
-    ghost Takes = { λ first bundle taken. HasBundled first bundle taken };
+impl<'t> MessageSink<'t> for Bundle<'_> {
+    ghost Holds = { λ first bundle seen. HasBundled first bundle seen };
 
-    fn take_message(&mut self, alloc: Global, cells: &Catalogue) -> Result<(), AllocError> {
-        let Some((id, _, _)) = cells.nth(0) else {
+    fn begin(&self, alloc: Global) -> Result<Self, AllocError> {
+        Ok(Bundle {
+            list: self.list,
+            widening: self.widening,
+            default: self.default,
+            draft: Draft::new(alloc)?,
+        })
+    }
+
+    fn see_message(
+        &mut self,
+        alloc: Global,
+        id: &MessageId,
+        cells: &[MessageCell<'t>],
+    ) -> Result<(), AllocError> {
+        if cells.is_empty() {
             return Ok(());
-        };
+        }
+        let cells = catalogue_of(alloc, id, cells)?;
         let reply = cells.ask_lookup_by(id, self.list, self.widening, self.default);
         match answered(reply) {
             Some((lang, label)) => self.draft.add(alloc, id, lang, label),
             None => Ok(()),
         }
     }
+}
+
+/// The catalogue of the cells of a message.
+fn catalogue_of(
+    alloc: Global,
+    id: &MessageId,
+    cells: &[MessageCell<'_>],
+) -> Result<Catalogue, AllocError>
+    requires labels { AreLabelRefs cells.now }
+    requires map { IsMap key_cmp (cells_of id.now cells.now) }
+    ensures { IfOk result (λ catalogue. catalogue ≡ cells_of id.now cells.now) }
+{
+    let mut catalogue = Catalogue::new(alloc);
+    for cell in cells {
+        let label = cell.label.to_label(alloc)?;
+        let id = id.copy(alloc)?;
+        let lang = cell.lang.copy(alloc)?;
+        catalogue.push(alloc, id, lang, Cell::new(cell.stamp, label))?;
+    }
+    Ok(catalogue)
 }

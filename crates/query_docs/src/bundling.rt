@@ -10,7 +10,7 @@ ghost use Rattle.map_docs.specs.LangMaps.{Labelled};
 ghost use Rattle.query_docs.specs.Bundled.{IsBundle, IsBundleBy, IsBundled, IsBundledBy};
 ghost use Rattle.query_docs.specs.LooksUp.{answered};
 
-use crate::bundle_by_message::written_bundle;
+use crate::bundle_by_message::bundle_by_message;
 use crate::draft::Draft;
 use cata_core::{Catalogue, LentReply, list_languages};
 use cell_core::Label;
@@ -58,9 +58,7 @@ pub fn bundle_document_by(
         (RefusesSite site.now))) }
 {
     if list.items().len() <= MAX_ITEMS {
-        if let Some(answer) = written_bundle(alloc, site, list, widening, default) {
-            return Ok(answer);
-        }
+        return bundle_by_message(alloc, site, list, widening, default);
     }
     let site = site_at(alloc, 1, site)?;
     let answer = write_bundle_by(alloc, site.catalogue(), list, widening, default)?;

@@ -1,89 +1,153 @@
-//! Cells that are taken one after another, given on message by message.
-ghost use Rattle.std.specs.Prelude.{◌≡◌, ◌++◌, [], IfOk, OnOk};
-ghost use Rattle.cata_core.specs.Entries.{Entries};
-ghost use Rattle.query_docs.specs.ByMessage.{HasGiven, IsNextMessage, begins_with_other};
+//! Cells that are seen one after another, given on message by message.
+ghost use Rattle.std.specs.Prelude.{◌≡◌, ◌++◌, ◌∷◌, [], IfOk, OnOk, Some};
+ghost use Rattle.cell_core.specs.Keyed.{IsMap};
+ghost use Rattle.cata_core.specs.Entries.{Entries, Entry, IsAboveAll, key_cmp};
+ghost use Rattle.query_docs.specs.ByMessage.{AreLabelRefs, AreOfMessage, HasGiven, HasSeen};
+ghost use Rattle.query_docs.specs.ByMessage.{IsNextMessage};
+ghost use Rattle.query_docs.specs.ByMessage.{cells_of, entries_in, is_of};
 
-use cata_core::Catalogue;
-use cell_core::MessageId;
-use row_docs::CellEntry;
-use site_docs::TakeCells;
+use cell_core::{Key, MessageId, Stamp};
+use lang_core::Lang;
+use site_docs::{CellRef, CellSink, LabelRef};
 use std::alloc::{AllocError, Global};
-use std::mem;
 
-/// Takes the cells of a document message by message, in rising order of key.
-pub(crate) trait TakeMessages {
+/// A cell of a message.
+#[derive(Drop)]
+pub(crate) struct MessageCell<'t> {
+    /// The language.
+    pub lang: Lang,
+    /// The stamp.
+    pub stamp: Stamp,
+    /// The label.
+    pub label: LabelRef<'t>,
+}
+
+/// Sees the cells of a site message by message, in ascending order of key.
+pub(crate) trait MessageSink<'t>: Sized + Drop {
     /// The second value is what the first becomes by these cells.
-    ghost Takes: { Self → Self → Entries → Type 0 };
+    ghost Holds: { Self → Self → Entries → Type 0 };
 
-    /// Takes all cells of one message more, whose id is greater than those before.
+    /// A sink as this one, before its first message.
     ///
     /// Its one refusal is out of memory (26).
-    fn take_message(&mut self, alloc: Global, cells: &Catalogue) -> Result<(), AllocError>
-        ensures { OnOk result ((first : Self) → (before : Entries) → Takes first self.old before
-            → IsNextMessage before cells.now → Takes first self.new (before ++ cells.now)) };
+    fn begin(&self, alloc: Global) -> Result<Self, AllocError>
+        ensures { IfOk result (λ begun. Holds self.now begun []) };
+
+    /// Sees all cells of one message more, whose id is greater than those before.
+    ///
+    /// Its one refusal is out of memory (26).
+    fn see_message(
+        &mut self,
+        alloc: Global,
+        id: &MessageId,
+        cells: &[MessageCell<'t>],
+    ) -> Result<(), AllocError>
+        requires labels { AreLabelRefs cells.now }
+        requires map { IsMap key_cmp (cells_of id.now cells.now) }
+        ensures { OnOk result ((first : Self) → (before : Entries) → Holds first self.old before
+            → IsNextMessage before (cells_of id.now cells.now)
+            → Holds first self.new (before ++ cells_of id.now cells.now)) };
 }
 
-/// The cells of the message that is read, and what takes the messages.
+/// The cells of the message that is read, and the sink of messages.
 #[derive(Drop)]
-pub(crate) struct ByMessage<T> {
-    taker: T,
-    cells: Catalogue,
+pub(crate) struct ByMessage<'t, T> {
+    sink: T,
+    id: Option<MessageId>,
+    cells: Vec<MessageCell<'t>>,
 }
 
-impl<T: TakeMessages + Drop> ByMessage<T> {
-    /// This taker, which took no cells yet.
-    pub(crate) fn new(alloc: Global, taker: T) -> ByMessage<T>
-        requires { T.Takes taker taker [] }
-        ensures taker { result.taker ≡ taker }
-        ensures given { HasGiven T.Takes result.taker result.taker result.cells [] }
+impl<'t, T: MessageSink<'t>> ByMessage<'t, T> {
+    /// This sink, which saw no cells yet.
+    pub(crate) fn new(alloc: Global, sink: T) -> ByMessage<'t, T>
+        ensures sink { result.sink ≡ sink }
+        ensures cells { entries_in result ≡ [] }
+        ensures message { AreOfMessage result }
     {
         ByMessage {
-            taker,
-            cells: Catalogue::new(alloc),
+            sink,
+            id: None,
+            cells: Vec::new(alloc),
         }
     }
 
-    /// The taker after all cells, those of the last message among them.
+    /// The sink after all cells, those of the last message among them.
     pub(crate) fn finish(self, alloc: Global) -> Result<T, AllocError>
-        ensures { IfOk result (λ taker. (first : T) → (taken : Entries)
-            → HasGiven T.Takes first self.taker self.cells taken → T.Takes first taker taken) }
+        requires { AreOfMessage self }
+        ensures { IfOk result (λ sink. (first : T) → (seen : Entries)
+            → HasSeen T.Holds first self.entry seen → T.Holds first sink seen) }
     {
-        let ByMessage { mut taker, cells } = self;
-        taker.take_message(alloc, &cells)?;
-        Ok(taker)
+        let mut last = self;
+        last.end_message(alloc)?;
+        let ByMessage { sink, .. } = last;
+        Ok(sink)
     }
 
-    /// Gives the cells of the message that was read to the taker.
+    /// Gives the cells of the message that was read to the sink.
     fn end_message(&mut self, alloc: Global) -> Result<(), AllocError>
-        ensures cells { OnOk result (self.new.cells ≡ []) }
+        requires { AreOfMessage self.old }
+        ensures cells { OnOk result (self.new.cells.items ≡ []) }
         ensures given { OnOk result ((first : T) → (before : Entries)
-            → T.Takes first self.old.taker before → IsNextMessage before self.old.cells
-            → T.Takes first self.new.taker (before ++ self.old.cells)) }
+            → T.Holds first self.old.sink before → IsNextMessage before (entries_in self.old)
+            → T.Holds first self.new.sink (before ++ entries_in self.old)) }
     {
-        let cells = mem::replace(&mut self.cells, Catalogue::new(alloc));
-        self.taker.take_message(alloc, &cells)
+        if let Some(id) = &self.id {
+            self.sink.see_message(alloc, id, &self.cells)?;
+        }
+        self.cells.clear();
+        Ok(())
+    }
+
+    /// Gives the cells of the message that was read to the sink, where this is another one; this is
+    /// read from now on.
+    fn reach(&mut self, alloc: Global, id: &MessageId) -> Result<(), AllocError>
+        requires { AreOfMessage self.old }
+        ensures id { OnOk result (self.new.id ≡ Some id.now) }
+        ensures message { OnOk result (AreOfMessage self.new) }
+        ensures given { OnOk result ((first : T) → (seen : Entries) → (e : Entry)
+            → e.0.0 ≡ id.now → IsAboveAll e.0 seen
+            → HasGiven T.Holds first self.old.sink (entries_in self.old) seen
+            → HasGiven T.Holds first self.new.sink (entries_in self.new ++ e ∷ [])
+            (seen ++ e ∷ [])) }
+    {
+        if self.is_of(id) {
+            return Ok(());
+        }
+        self.end_message(alloc)?;
+        self.id = Some(id.copy(alloc)?);
+        Ok(())
+    }
+
+    /// Whether this is the message that is read.
+    fn is_of(&self, id: &MessageId) -> bool
+        ensures { result ≡ is_of self.now.id id.now }
+    {
+        match &self.id {
+            Some(own) => own.cmp(id).is_eq(),
+            None => false,
+        }
     }
 }
 
 /// Gives the cells of a message on where another one begins.
-impl<T: TakeMessages + Drop> TakeCells for ByMessage<T> {
-    ghost Holds = { λ first by taken. HasGiven T.Takes first.taker by.taker by.cells taken };
+impl<'t, T: MessageSink<'t>> CellSink<'t> for ByMessage<'t, T> {
+    ghost Holds = { λ first by seen. HasSeen T.Holds first.sink by seen };
 
-    fn take(&mut self, alloc: Global, entry: CellEntry) -> Result<(), AllocError> {
-        let CellEntry { id, lang, cell } = entry;
-        if begins_with_other(&self.cells, &id) {
-            self.end_message(alloc)?;
-        }
-        self.cells.push(alloc, id, lang, cell)
+    fn begin(&self, alloc: Global) -> Result<Self, AllocError> {
+        let sink = self.sink.begin(alloc)?;
+        Ok(ByMessage::new(alloc, sink))
     }
-}
 
-/// Whether the first of these cells is of another message.
-fn begins_with_other(cells: &Catalogue, id: &MessageId) -> bool
-    ensures { result ≡ begins_with_other cells.now id.now }
-{
-    match cells.nth(0) {
-        Some((first, _, _)) => !first.cmp(id).is_eq(),
-        None => false,
+    fn see(&mut self, alloc: Global, cell: CellRef<'_, 't>) -> Result<(), AllocError> {
+        let CellRef {
+            id,
+            lang,
+            stamp,
+            label,
+        } = cell;
+        self.reach(alloc, id)?;
+        let lang = lang.copy(alloc)?;
+        self.cells.push(MessageCell { lang, stamp, label })?;
+        Ok(())
     }
 }

@@ -1,27 +1,29 @@
 //! The live labels of some of the messages, written.
-ghost use Rattle.std.specs.Prelude.{◌≡◌, ◌++◌, ◌∷◌, [], IfOk, IfSome, List, MatchResult, OnOk};
-ghost use Rattle.std.specs.Prelude.{cond};
+ghost use Rattle.std.specs.Prelude.{◌≡◌, ◌++◌, [], ℕ, IfOk, List, MatchResult, OnOk};
+ghost use Rattle.std.specs.Prelude.{Some};
 ghost use Rattle.cell_core.specs.Keyed.{IsMap};
-ghost use Rattle.cata_core.specs.Entries.{key_cmp};
+ghost use Rattle.cata_core.specs.Entries.{Entries, key_cmp};
 ghost use Rattle.json_docs.specs.Checks.{OrMemory};
 ghost use Rattle.row_docs.specs.Reading.{IsOfDocument, no_memory};
 ghost use Rattle.site_docs.specs.ReadsAs.{RefusesSite};
 ghost use Rattle.map_docs.specs.LangMapTexts.{AreWritten};
 ghost use Rattle.map_docs.specs.LangMaps.{Labelled};
-ghost use Rattle.query_docs.specs.Chosen.{AreChosenOf, HasChosen, IsDecided, chosen_labels};
-ghost use Rattle.query_docs.specs.Chosen.{is_chosen};
+ghost use Rattle.query_docs.specs.ByMessage.{AreLabelRefs, AreOfMessage, HasSeen, cell_of};
+ghost use Rattle.query_docs.specs.ByMessage.{cells_of};
+ghost use Rattle.query_docs.specs.Chosen.{AreChosenOf, HasChosen, chosen_labels, is_chosen};
 ghost use Rattle.query_docs.specs.Draft.{HasWritten};
-ghost use Rattle.query_docs.specs.Outdated.{is_before, live_time};
+ghost use Rattle.query_docs.specs.Exported.{live_labels};
+ghost use Rattle.query_docs.specs.Outdated.{is_before, labelled_at, live_time};
+ghost use Rattle.query_docs.specs.declared.chosen.ChosenLabels.{ChosenLabels};
 
-use crate::by_message::{ByMessage, TakeMessages};
+use crate::by_message::{ByMessage, MessageCell, MessageSink};
 use crate::draft::Draft;
-use crate::exporting::label_at;
 use crate::messages::Messages;
 use cata_core::Catalogue;
-use cell_core::{Label, MessageId};
+use cell_core::MessageId;
 use json_docs::{Doc, DocFault};
 use lang_core::Lang;
-use site_docs::{site_at, take_written_site};
+use site_docs::{show_catalogue, show_document};
 use std::alloc::{AllocError, Global};
 
 /// The language-map document of the live labels of these messages of the site of a document, and
@@ -37,17 +39,15 @@ pub(crate) fn chosen_document(
         (λ answer. AreChosenOf messages.entry site.now answer.0 answer.1)
         (OrMemory no_memory (IsOfDocument 1 (RefusesSite site.now))) }
 {
-    if let Some(answer) = written_chosen(alloc, site, messages) {
-        return Ok(answer);
-    }
-    let site = site_at(alloc, 1, site)?;
-    let answer = write_live(alloc, site.catalogue(), messages)?;
+    let start = begin(alloc, messages)?;
+    let (_, shown) = show_document(alloc, 1, site, &start)?;
+    let answer = close(alloc, shown)?;
     Ok(answer)
 }
 
-/// The language-map document of the live labels of these messages of a catalogue, borrowed from
-/// it, and whether there is one.
-pub(crate) fn write_live(
+/// The language-map document of the live labels of these messages of a catalogue, and whether there
+/// is one.
+pub(crate) fn write_chosen(
     alloc: Global,
     catalogue: &Catalogue,
     messages: Messages<'_>,
@@ -55,116 +55,92 @@ pub(crate) fn write_live(
     ensures { IfOk result (λ written. AreWritten
         (chosen_labels messages.entry catalogue.now) written.0 written.1) }
 {
-    let mut draft = Draft::new(alloc)?;
-    add_live(alloc, &mut draft, catalogue, messages)?;
-    draft.close()
-}
-
-/// What [`chosen_document`] gives where the document is in the form in which it is written.
-fn written_chosen(alloc: Global, site: &[u8], messages: Messages<'_>) -> Option<(Doc, bool)>
-    ensures { IfSome result (λ answer. AreChosenOf messages.entry site.now answer.0 answer.1) }
-{
-    let Ok(draft) = Draft::new(alloc) else {
-        return None;
-    };
-    let mut taker = ByMessage::new(alloc, ChosenLabels { messages, draft });
-    take_written_site(alloc, site, &mut taker)?;
-    let Ok(chosen) = taker.finish(alloc) else {
-        return None;
-    };
-    let ChosenLabels { draft, .. } = chosen;
-    match draft.close() {
-        Ok(answer) => Some(answer),
-        Err(_) => None,
-    }
+    let start = begin(alloc, messages)?;
+    let shown = show_catalogue(alloc, catalogue, &start)?;
+    close(alloc, shown)
 }
 
 /// The live labels of these messages, written.
 #[derive(Drop)]
-pub(crate) struct ChosenLabels<'a> {
+struct ChosenLabels<'a> {
     messages: Messages<'a>,
     draft: Draft,
 }
 
 /// Writes the live labels of the messages that are among these.
-impl TakeMessages for ChosenLabels<'_> {
-    ghost Takes = { λ first chosen taken. HasChosen first chosen taken };
+impl<'t> MessageSink<'t> for ChosenLabels<'_> {
+    ghost Holds = { λ first chosen seen. HasChosen first chosen seen };
 
-    fn take_message(&mut self, alloc: Global, cells: &Catalogue) -> Result<(), AllocError> {
-        add_live(alloc, &mut self.draft, cells, self.messages)
+    fn begin(&self, alloc: Global) -> Result<Self, AllocError> {
+        Ok(ChosenLabels {
+            messages: self.messages,
+            draft: Draft::new(alloc)?,
+        })
+    }
+
+    fn see_message(
+        &mut self,
+        alloc: Global,
+        id: &MessageId,
+        cells: &[MessageCell<'t>],
+    ) -> Result<(), AllocError> {
+        if is_chosen(cells, self.messages) {
+            add_all(alloc, &mut self.draft, id, cells)
+        } else {
+            Ok(())
+        }
     }
 }
 
-/// Adds the live labels of these messages of a catalogue. Of the labels of a message one after
-/// another it is decided once whether it is one of these.
-fn add_live(
+/// The sink of these messages, before the first.
+fn begin<'t, 'a>(
+    alloc: Global,
+    messages: Messages<'a>,
+) -> Result<ByMessage<'t, ChosenLabels<'a>>, AllocError>
+    ensures { IfOk result (λ start. start.sink.messages ≡ messages.entry) }
+{
+    let draft = Draft::new(alloc)?;
+    Ok(ByMessage::new(alloc, ChosenLabels { messages, draft }))
+}
+
+/// The document of the labels that were written, and whether there is one.
+fn close(alloc: Global, shown: ByMessage<'_, ChosenLabels<'_>>) -> Result<(Doc, bool), AllocError>
+    requires { AreOfMessage shown }
+    ensures { IfOk result (λ written. (first : ChosenLabels) → (seen : Entries)
+        → HasSeen HasChosen first shown.entry seen → IsMap key_cmp seen
+        → AreWritten (chosen_labels first.messages seen) written.0 written.1) }
+{
+    let chosen = shown.finish(alloc)?;
+    let ChosenLabels { draft, .. } = chosen;
+    draft.close()
+}
+
+/// Adds all live labels of a message.
+fn add_all(
     alloc: Global,
     draft: &mut Draft,
-    cells: &Catalogue,
-    messages: Messages<'_>,
+    id: &MessageId,
+    cells: &[MessageCell<'_>],
 ) -> Result<(), AllocError>
-    ensures { OnOk result (IsMap key_cmp cells.now
-        × ((labels : List Labelled) → HasWritten draft.old labels
-        → HasWritten draft.new (labels ++ chosen_labels messages.entry cells.now))) }
+    requires { AreLabelRefs cells.now }
+    ensures { OnOk result ((labels : List Labelled) → HasWritten draft.old labels
+        → HasWritten draft.new (labels ++ live_labels (cells_of id.now cells.now))) }
 {
-    let mut decided: Option<(&MessageId, bool)> = None;
-    for (id, lang, cell) in cells.iter() {
-        let Some(label) = cell.label() else {
-            continue;
-        };
-        let chosen = decide(cells, decided, id, messages);
-        add_if(alloc, draft, chosen, id, lang, label)?;
-        decided = Some((id, chosen));
+    for cell in cells {
+        draft.add_seen(alloc, id, &cell.lang, &cell.label)?;
     }
     Ok(())
 }
 
-/// Adds the label if its message is chosen.
-fn add_if(
-    alloc: Global,
-    draft: &mut Draft,
-    chosen: bool,
-    id: &MessageId,
-    lang: &Lang,
-    label: &Label,
-) -> Result<(), AllocError>
-    ensures { OnOk result ((labels : List Labelled) → HasWritten draft.old labels
-        → HasWritten draft.new (labels ++ cond chosen (((id.now, lang.now), label.now) ∷ []) [])) }
-{
-    if chosen {
-        draft.add(alloc, id, lang, label)
-    } else {
-        Ok(())
-    }
-}
-
-/// Whether the message is one of these, which is known where it was decided last.
-fn decide(
-    cells: &Catalogue,
-    decided: Option<(&MessageId, bool)>,
-    id: &MessageId,
-    messages: Messages<'_>,
-) -> bool
-    requires { IsDecided messages cells.now decided }
-    ensures { result ≡ is_chosen messages.entry cells.now id.now }
-{
-    match decided {
-        Some((other, chosen)) if other.cmp(id).is_eq() => chosen,
-        _ => is_chosen(cells, id, messages),
-    }
-}
-
-/// Whether the message is one of these.
-fn is_chosen(catalogue: &Catalogue, id: &MessageId, messages: Messages<'_>) -> bool
-    ensures { result ≡ is_chosen messages.entry catalogue.now id.now }
+/// Whether a message with these cells is one of these.
+fn is_chosen(cells: &[MessageCell<'_>], messages: Messages<'_>) -> bool
+    ensures { (id : List ℕ) → result ≡ is_chosen messages.entry (cells_of id cells.now) id }
 {
     match messages {
-        Messages::All => true,
-        Messages::Lacking(lang) => label_at(catalogue, id, lang).is_none(),
-        Messages::Outdated(lang, source) => is_before(
-            live_time(catalogue, id, lang),
-            live_time(catalogue, id, source),
-        ),
+        Messages::Lacking(lang) => live_time(cells, lang).is_none(),
+        Messages::Outdated(lang, source) => {
+            is_before(live_time(cells, lang), live_time(cells, source))
+        }
     }
 }
 
@@ -178,13 +154,25 @@ fn is_before(time: Option<u64>, other: Option<u64>) -> bool
     }
 }
 
-/// The time of the live label of a message in a language.
-fn live_time(catalogue: &Catalogue, id: &MessageId, lang: &Lang) -> Option<u64>
-    ensures { result ≡ live_time (id.now, lang.now) catalogue.now }
+/// The time of the live label in a language.
+fn live_time(cells: &[MessageCell<'_>], lang: &Lang) -> Option<u64>
+    ensures { (id : List ℕ) → result ≡ live_time (id, lang.now) (cells_of id cells.now) }
 {
-    let cell = catalogue.cell(id, lang)?;
-    match cell.label() {
-        Some(_) => Some(cell.stamp().time),
-        None => None,
+    for cell in cells {
+        if lang.cmp(&cell.lang).is_eq() {
+            return labelled_time(cell);
+        }
+    }
+    None
+}
+
+/// The time of a cell that has a label.
+fn labelled_time(cell: &MessageCell<'_>) -> Option<u64>
+    ensures { (id : List ℕ) → result ≡ labelled_at (Some (cell_of id cell.now).1) }
+{
+    if cell.label.is_label() {
+        Some(cell.stamp.time)
+    } else {
+        None
     }
 }

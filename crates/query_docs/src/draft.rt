@@ -1,19 +1,20 @@
 //! Language maps that are being written, label by label.
 ghost use Rattle.std.specs.Prelude.{◌≡◌, ◌++◌, ◌∷◌, [], IfOk, List, OnOk, Some};
 ghost use Rattle.cell_core.specs.Keyed.{IsMap};
+ghost use Rattle.cell_core.specs.Label.{IsLabel};
 ghost use Rattle.cata_core.specs.Entries.{key_cmp};
 ghost use Rattle.map_docs.specs.LangMapTexts.{AreWritten};
 ghost use Rattle.map_docs.specs.LangMaps.{Labelled};
-ghost use Rattle.query_docs.specs.Draft.{HasWritten};
+ghost use Rattle.site_docs.specs.Sink.{IsLabelRef, texts_of};
+ghost use Rattle.query_docs.specs.Draft.{HasWritten, labelled_by};
 ghost use Rattle.query_docs.specs.Exported.{live_labels};
 
 use cell_core::{Key, Label, MessageId};
 use json::Writer;
 use json_docs::Doc;
 use lang_core::Lang;
-use map_docs::{close_labels, open_labels, write_label};
-use row_docs::CellEntry;
-use site_docs::TakeCells;
+use map_docs::{close_labels, open_labels, write_label, write_text};
+use site_docs::{CellRef, CellSink, LabelRef};
 use std::alloc::{AllocError, Global};
 
 /// The language maps of some labels, without their end, and the message that is open.
@@ -48,6 +49,43 @@ impl Draft {
         Ok(())
     }
 
+    /// Adds a label where there is one.
+    pub(crate) fn add_seen(
+        &mut self,
+        alloc: Global,
+        id: &MessageId,
+        lang: &Lang,
+        label: &LabelRef<'_>,
+    ) -> Result<(), AllocError>
+        requires { IsLabelRef label.now }
+        ensures { OnOk result ((labels : List Labelled) → HasWritten self.old labels
+            → HasWritten self.new (labels ++ labelled_by (id.now, lang.now) (texts_of label.now))) }
+    {
+        match label {
+            LabelRef::Deleted => Ok(()),
+            LabelRef::Text(text) => self.add_text(alloc, id, lang, text),
+            LabelRef::Held(label) => self.add(alloc, id, lang, label),
+            LabelRef::Made(label) => self.add(alloc, id, lang, label),
+        }
+    }
+
+    /// Adds a label of one text.
+    fn add_text(
+        &mut self,
+        alloc: Global,
+        id: &MessageId,
+        lang: &Lang,
+        text: &str,
+    ) -> Result<(), AllocError>
+        requires { IsLabel (text.now ∷ []) }
+        ensures { OnOk result ((labels : List Labelled) → HasWritten self.old labels
+            → HasWritten self.new (labels ++ ((id.now, lang.now), text.now ∷ []) ∷ [])) }
+    {
+        write_text(&mut self.out, self.current.as_ref(), id, lang, text)?;
+        self.current = with_open(alloc, self.current.take(), id)?;
+        Ok(())
+    }
+
     /// The document of the labels, and whether there is one.
     pub(crate) fn close(self) -> Result<(Doc, bool), AllocError>
         ensures { IfOk result (λ written. (labels : List Labelled) → HasWritten self labels
@@ -60,15 +98,15 @@ impl Draft {
 }
 
 /// Writes the live label of each cell.
-impl TakeCells for Draft {
-    ghost Holds = { λ first draft taken. HasWritten draft (live_labels taken) };
+impl<'t> CellSink<'t> for Draft {
+    ghost Holds = { λ first draft seen. HasWritten draft (live_labels seen) };
 
-    fn take(&mut self, alloc: Global, entry: CellEntry) -> Result<(), AllocError> {
-        let CellEntry { id, lang, cell } = entry;
-        match cell.label() {
-            Some(label) => self.add(alloc, &id, &lang, label),
-            None => Ok(()),
-        }
+    fn begin(&self, alloc: Global) -> Result<Draft, AllocError> {
+        Draft::new(alloc)
+    }
+
+    fn see(&mut self, alloc: Global, cell: CellRef<'_, 't>) -> Result<(), AllocError> {
+        self.add_seen(alloc, cell.id, cell.lang, &cell.label)
     }
 }
 

@@ -7,14 +7,12 @@ ghost use Rattle.site_docs.specs.ReadsAs.{RefusesSite};
 ghost use Rattle.map_docs.specs.LangMapTexts.{IsTextOf};
 ghost use Rattle.query_docs.specs.Exported.{IsExported, label_at, live_labels};
 
-use crate::chosen::write_live;
 use crate::draft::Draft;
-use crate::messages::Messages;
 use cata_core::Catalogue;
 use cell_core::{Label, MessageId};
 use json_docs::{Doc, DocFault};
 use lang_core::Lang;
-use site_docs::{site_at, take_written_site};
+use site_docs::{show_catalogue, show_document};
 use std::alloc::{AllocError, Global};
 
 /// The language-map document of the live labels of the site: deletions are left out, and so is a
@@ -25,11 +23,9 @@ pub fn export_document(alloc: Global, site: &[u8]) -> Result<Doc, DocFault>
     ensures { MatchResult result (IsExported site.now)
         (OrMemory no_memory (IsOfDocument 1 (RefusesSite site.now))) }
 {
-    if let Some(doc) = written_export(alloc, site) {
-        return Ok(doc);
-    }
-    let site = site_at(alloc, 1, site)?;
-    let doc = write_live_labels(alloc, site.catalogue())?;
+    let start = Draft::new(alloc)?;
+    let (_, draft) = show_document(alloc, 1, site, &start)?;
+    let (doc, _) = draft.close()?;
     Ok(doc)
 }
 
@@ -40,8 +36,10 @@ pub fn export_document(alloc: Global, site: &[u8]) -> Result<Doc, DocFault>
 pub fn write_live_labels(alloc: Global, catalogue: &Catalogue) -> Result<Doc, AllocError>
     ensures { IfOk result (λ doc. IsTextOf (live_labels catalogue.now) doc) }
 {
-    let written = write_live(alloc, catalogue, Messages::All)?;
-    Ok(written.0)
+    let start = Draft::new(alloc)?;
+    let draft = show_catalogue(alloc, catalogue, &start)?;
+    let (doc, _) = draft.close()?;
+    Ok(doc)
 }
 
 /// The live label of a message in a language.
@@ -51,19 +49,5 @@ pub fn label_at<'a>(catalogue: &'a Catalogue, id: &MessageId, lang: &Lang) -> Op
     match catalogue.cell(id, lang) {
         Some(cell) => cell.label(),
         None => None,
-    }
-}
-
-/// The document of the live labels where the site's is in the form in which it is written.
-fn written_export(alloc: Global, site: &[u8]) -> Option<Doc>
-    ensures { IfSome result (IsExported site.now) }
-{
-    let Ok(mut draft) = Draft::new(alloc) else {
-        return None;
-    };
-    take_written_site(alloc, site, &mut draft)?;
-    match draft.close() {
-        Ok((doc, _)) => Some(doc),
-        Err(_) => None,
     }
 }

@@ -6,7 +6,7 @@ ghost use Rattle.site_docs.specs.ReadsAs.{RefusesSite};
 ghost use Rattle.map_docs.specs.LangMapTexts.{AreWritten};
 ghost use Rattle.query_docs.specs.Missing.{IsMissing, missing_labels};
 
-use crate::chosen::{chosen_document, write_live};
+use crate::chosen::{chosen_document, write_chosen};
 use crate::messages::Messages;
 use cata_core::Catalogue;
 use json_docs::{Doc, DocFault};
@@ -38,5 +38,5 @@ pub fn write_missing(
     ensures { IfOk result (λ written. AreWritten
         (missing_labels lang.now catalogue.now) written.0 written.1) }
 {
-    write_live(alloc, catalogue, Messages::Lacking(lang))
+    write_chosen(alloc, catalogue, Messages::Lacking(lang))
 }

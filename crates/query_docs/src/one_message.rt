@@ -8,14 +8,12 @@ ghost use Rattle.query_docs.specs.OneMessage.{IsReadFor, KeepsMessage};
 use cata_core::{Catalogue, Site};
 use cell_core::MessageId;
 use json_docs::DocFault;
-use row_docs::CellEntry;
-use site_docs::{TakeCells, site_at, take_written_site};
+use site_docs::{CellRef, CellSink, show_document};
 use std::alloc::{AllocError, Global};
 
 /// The site of a document as far as a question about one message needs it: under its name, with the
 /// live labels of this message. A question about the message has the answers that it has over the
-/// whole. Which other cells the site has is not said (none of a document in the form in which it is
-/// written, by the code and no clause).
+/// whole. Which other cells the site has is not said (none, by the code and no clause).
 ///
 /// Refused as the document of the site is by its reader, with document 1, or since memory ran out
 /// (26).
@@ -23,24 +21,13 @@ pub fn read_message(alloc: Global, site: &[u8], id: &MessageId) -> Result<Site, 
     ensures { MatchResult result (IsReadFor site.now id.now)
         (OrMemory no_memory (IsOfDocument 1 (RefusesSite site.now))) }
 {
-    if let Some(part) = written_message(alloc, site, id) {
-        return Ok(part);
-    }
-    let whole = site_at(alloc, 1, site)?;
-    Ok(whole)
-}
-
-/// The same where the document is in the form in which it is written.
-fn written_message(alloc: Global, site: &[u8], id: &MessageId) -> Option<Site>
-    ensures { IfSome result (IsReadFor site.now id.now) }
-{
-    let mut message = OneMessage {
+    let start = OneMessage {
         id,
         cells: Catalogue::new(alloc),
     };
-    let name = take_written_site(alloc, site, &mut message)?;
+    let (name, message) = show_document(alloc, 1, site, &start)?;
     let OneMessage { cells, .. } = message;
-    Some(Site::from_catalogue(name, cells))
+    Ok(Site::from_catalogue(name, cells))
 }
 
 /// The cells of one message.
@@ -51,15 +38,20 @@ struct OneMessage<'a> {
 }
 
 /// Keeps the cells of this message alone.
-impl TakeCells for OneMessage<'_> {
-    ghost Holds = { λ first message taken. KeepsMessage first message taken };
+impl<'t> CellSink<'t> for OneMessage<'_> {
+    ghost Holds = { λ first message seen. KeepsMessage first message seen };
 
-    fn take(&mut self, alloc: Global, entry: CellEntry) -> Result<(), AllocError> {
-        let CellEntry { id, lang, cell } = entry;
-        if !self.id.cmp(&id).is_eq() {
+    fn begin(&self, alloc: Global) -> Result<Self, AllocError> {
+        Ok(OneMessage {
+            id: self.id,
+            cells: Catalogue::new(alloc),
+        })
+    }
+
+    fn see(&mut self, alloc: Global, cell: CellRef<'_, 't>) -> Result<(), AllocError> {
+        if !self.id.cmp(cell.id).is_eq() {
             return Ok(());
         }
-        self.cells.push(alloc, id, lang, cell)?;
-        Ok(())
+        self.cells.see(alloc, cell)
     }
 }

@@ -6,7 +6,7 @@ ghost use Rattle.site_docs.specs.ReadsAs.{RefusesSite};
 ghost use Rattle.map_docs.specs.LangMapTexts.{AreWritten};
 ghost use Rattle.query_docs.specs.Outdated.{IsOutdated, outdated_labels};
 
-use crate::chosen::{chosen_document, write_live};
+use crate::chosen::{chosen_document, write_chosen};
 use crate::messages::Messages;
 use cata_core::Catalogue;
 use json_docs::{Doc, DocFault};
@@ -44,5 +44,5 @@ pub fn write_outdated(
     ensures { IfOk result (λ written. AreWritten
         (outdated_labels lang.now source.now catalogue.now) written.0 written.1) }
 {
-    write_live(alloc, catalogue, Messages::Outdated(lang, source))
+    write_chosen(alloc, catalogue, Messages::Outdated(lang, source))
 }

@@ -1,19 +1,19 @@
 //! The line of a site's status.
-ghost use Rattle.std.specs.Prelude.{◌≡◌, ◌+◌, [], Some, cond, count_by, is_some, IfOk, IfSome};
+ghost use Rattle.std.specs.Prelude.{◌≡◌, ◌+◌, [], Some, cond, is_some, IfOk};
 ghost use Rattle.std.specs.Prelude.{MatchResult};
 ghost use Rattle.cell_core.specs.Cell.{joined_stamps};
 ghost use Rattle.cell_core.specs.Keyed.{joined_if_both};
 ghost use Rattle.json_docs.specs.Checks.{OrMemory};
 ghost use Rattle.row_docs.specs.Reading.{IsOfDocument, no_memory};
 ghost use Rattle.site_docs.specs.ReadsAs.{RefusesSite};
+ghost use Rattle.site_docs.specs.Sink.{texts_of};
 ghost use Rattle.query_docs.specs.Counted.{AreCounts};
-ghost use Rattle.query_docs.specs.Status.{IsStatus, counted_line, is_labelled, status_line};
+ghost use Rattle.query_docs.specs.Status.{IsStatus, counted_line, status_line};
 
-use cata_core::{Catalogue, Site};
-use cell_core::{Cell, Join, SiteName, Stamp};
+use cata_core::Site;
+use cell_core::{Join, SiteName, Stamp};
 use json_docs::{Doc, DocFault};
-use row_docs::CellEntry;
-use site_docs::{TakeCells, site_at, take_written_site};
+use site_docs::{CellRef, CellSink, LabelRef, show_catalogue, show_document};
 use std::alloc::{AllocError, Global};
 
 /// The status line of the site: how many cells and labels it has, and its greatest stamp.
@@ -23,11 +23,9 @@ pub fn status_document(alloc: Global, site: &[u8]) -> Result<Doc, DocFault>
     ensures { MatchResult result (IsStatus site.now)
         (OrMemory no_memory (IsOfDocument 1 (RefusesSite site.now))) }
 {
-    if let Some(line) = written_status(alloc, site) {
-        return Ok(line);
-    }
-    let site = site_at(alloc, 1, site)?;
-    let line = status_line(alloc, &site)?;
+    let start = Counts::new();
+    let (name, counts) = show_document(alloc, 1, site, &start)?;
+    let line = status_of(alloc, name, counts.cells, counts.labels, counts.last)?;
     Ok(line)
 }
 
@@ -36,29 +34,13 @@ pub fn status_document(alloc: Global, site: &[u8]) -> Result<Doc, DocFault>
 pub fn status_line(alloc: Global, site: &Site) -> Result<Doc, AllocError>
     ensures { IfOk result (λ doc. doc ≡ status_line site.now) }
 {
-    let labels = label_count(site.catalogue());
-    let counts = Counts {
-        cells: site.catalogue().len(),
-        labels,
-        last: site.last(),
-    };
-    counts.line(alloc, site.name())
-}
-
-/// The same where the document is in the form in which it is written.
-fn written_status(alloc: Global, site: &[u8]) -> Option<Doc>
-    ensures { IfSome result (IsStatus site.now) }
-{
-    let mut counts = Counts::new();
-    let name = take_written_site(alloc, site, &mut counts)?;
-    match counts.line(alloc, name) {
-        Ok(line) => Some(line),
-        Err(_) => None,
-    }
+    let start = Counts::new();
+    let counts = show_catalogue(alloc, site.catalogue(), &start)?;
+    status_of(alloc, site.name(), counts.cells, counts.labels, counts.last)
 }
 
 /// What a status line says of the cells of a site.
-#[derive(Drop)]
+#[derive(Clone, Copy)]
 struct Counts {
     cells: u128,
     labels: u128,
@@ -76,34 +58,19 @@ impl Counts {
             last: None,
         }
     }
-
-    /// The status line of the site of this name.
-    fn line(&self, alloc: Global, name: SiteName) -> Result<Doc, AllocError>
-        ensures { IfOk result
-            (λ doc. doc ≡ counted_line name self.now.cells self.now.labels self.now.last) }
-    {
-        let Counts {
-            cells,
-            labels,
-            last,
-        } = self;
-        let line = match last {
-            Some(last) => {
-                format!(in alloc; "site {name} cells {cells} labels {labels} last {last}\n")?
-            }
-            None => format!(in alloc; "site {name} cells {cells} labels {labels} last none\n")?,
-        };
-        Ok(Doc::from(line))
-    }
 }
 
-impl TakeCells for Counts {
-    ghost Holds = { λ first counts taken. AreCounts counts taken };
+impl<'t> CellSink<'t> for Counts {
+    ghost Holds = { λ first counts seen. AreCounts counts seen };
 
-    fn take(&mut self, alloc: Global, entry: CellEntry) -> Result<(), AllocError> {
+    fn begin(&self, _alloc: Global) -> Result<Counts, AllocError> {
+        Ok(Counts::new())
+    }
+
+    fn see(&mut self, alloc: Global, cell: CellRef<'_, 't>) -> Result<(), AllocError> {
         let cells = one_more(self.cells)?;
-        let labels = labels_with(self.labels, &entry.cell)?;
-        let last = latest_of_both(alloc, self.last, entry.cell.stamp())?;
+        let labels = labels_with(self.labels, &cell.label)?;
+        let last = latest_of_both(alloc, self.last, cell.stamp)?;
         *self = Counts {
             cells,
             labels,
@@ -123,13 +90,14 @@ fn one_more(count: u128) -> Result<u128, AllocError>
     }
 }
 
-/// The labels, with that of the cell where it has one.
-fn labels_with(labels: u128, cell: &Cell) -> Result<u128, AllocError>
-    ensures { IfOk result (λ more. more ≡ labels + cond (is_some cell.now.label) 1 0) }
+/// The labels, with that of a cell where it has one.
+fn labels_with(labels: u128, label: &LabelRef<'_>) -> Result<u128, AllocError>
+    ensures { IfOk result (λ more. more ≡ labels + cond (is_some (texts_of label.now)) 1 0) }
 {
-    match cell.label() {
-        Some(_) => one_more(labels),
-        None => Ok(labels),
+    if label.is_label() {
+        one_more(labels)
+    } else {
+        Ok(labels)
     }
 }
 
@@ -145,17 +113,21 @@ fn latest_of_both(alloc: Global, stamp: Option<Stamp>, other: Stamp) -> Result<S
     Ok(later)
 }
 
-/// How many cells have a label.
-fn label_count(catalogue: &Catalogue) -> u128
-    ensures { result ≡ count_by is_labelled catalogue.now }
+/// The status line of a site of this name with so many cells and labels, and this greatest stamp.
+fn status_of(
+    alloc: Global,
+    name: SiteName,
+    cells: u128,
+    labels: u128,
+    last: Option<Stamp>,
+) -> Result<Doc, AllocError>
+    ensures { IfOk result (λ doc. doc ≡ counted_line name cells labels last) }
 {
-    // There are no more cells than this counts.
-    let _most = catalogue.len();
-    let mut count = 0;
-    for (_, _, cell) in catalogue.iter() {
-        if cell.label().is_some() {
-            count += 1;
+    let line = match last {
+        Some(last) => {
+            format!(in alloc; "site {name} cells {cells} labels {labels} last {last}\n")?
         }
-    }
-    count
+        None => format!(in alloc; "site {name} cells {cells} labels {labels} last none\n")?,
+    };
+    Ok(Doc::from(line))
 }

@@ -13,7 +13,7 @@ use Rattle.cata_core.specs.Entries.{Entries, Entry, EntryKey}
 use Rattle.cell_core.specs.declared.stamp.Stamp.{Stamp}
 use Rattle.row_docs.specs.Entries.{cells_values, entry_value, stamps_values, stamped_value}
 use Rattle.row_docs.specs.Texts.{Adds, value_tokens}
-use Rattle.site_docs.specs.Drafts.{HasStamps, HoldsCells, HoldsStamps}
+use Rattle.site_docs.specs.Drafts.{HoldsCells, HoldsStamps}
 use Rattle.row_docs.proofs.TextsLemmas.{row_tokens-push}
 
 HoldsCells-adds : (a b : Written) (rows : List Data) (d : Data) → HoldsCells a rows
@@ -61,17 +61,18 @@ stamp_more a b owner stamps k t holds adds is =
     (HoldsStamps-adds a b owner (stamps_values (take k stamps)) (stamped_value t) holds adds)
 
 -- the stamp of one cell more is written
-pub stamp_added : (first a b : Written) (cells : Entries) (e : Entry)
-    → Adds a b (value_tokens (stamped_value (e.0, e.1.stamp))) → HasStamps first a cells
-    → HasStamps first b (cells ++ e ∷ [])
-stamp_added first a b cells e adds has = λ owner begun.
+pub stamp_added : (a b : Written) (owner : List ℕ) (cells : Entries) (e : Entry)
+    → Adds a b (value_tokens (stamped_value (e.0, e.1.stamp)))
+    → HoldsStamps a owner (stamps_values (summary_of cells))
+    → HoldsStamps b owner (stamps_values (summary_of (cells ++ e ∷ [])))
+stamp_added a b owner cells e adds holds =
     let stamped : Entry → EntryKey × Stamp = λ x. (x.0, x.1.stamp) in
     rw (
       map-append stamped cells (e ∷ []),
       map-append stamped_value (map stamped cells) (stamped e ∷ []),
     )
     (HoldsStamps-adds a b owner (stamps_values (summary_of cells)) (stamped_value (stamped e))
-    (has owner begun) adds)
+    holds adds)
 
 -- there is a stamp at each place
 pub some_at : {A : Type 0} (xs : List A) (k : ℕ) → k < length xs → slice_get xs k ≡ None → ⊥

@@ -6,6 +6,7 @@ pub mod PlainLemmas
 pub mod PlainReads
 pub mod RoundTrip
 pub mod SharedCellsLemmas
+pub mod ShowingLemmas
 pub mod SiteDocumentsLemmas
 pub mod LanguagesLemmas
 pub mod TextsLemmas

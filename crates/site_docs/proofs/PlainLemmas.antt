@@ -100,21 +100,26 @@ texts_later old new t is = ap is_later is ∙ is_later-push old t
 
 -- ---- rows
 
+-- an id without escapes, with the quotes about it
+pub plain_id_taken : (id text r1 after : List ℕ) → text ≡ 91 ∷ 34 ∷ r1
+    → r1 ≡ escape id ++ 34 ∷ 44 ∷ 34 ∷ after
+    → text ≡ 91 ∷ (quoted id ++ 44 ∷ 34 ∷ after)
+plain_id_taken id text r1 after p1 p2 =
+    p1 ∙ ap (λ r. 91 ∷ r) (ap (λ r. 34 ∷ r) p2 ∙ quotes_taken id (44 ∷ 34 ∷ after))
+
 -- what a row has before its label, one after another
-pub front_taken : (row : Row) (text r1 r2 r3 r4 r5 after : List ℕ) → text ≡ 91 ∷ 34 ∷ r1
-    → r1 ≡ escape row.id ++ 34 ∷ 44 ∷ 34 ∷ r2 → r2 ≡ escape row.language ++ 34 ∷ 44 ∷ r3
+pub front_taken : (row : Row) (text r2 r3 r4 r5 after : List ℕ)
+    → text ≡ 91 ∷ (quoted row.id ++ 44 ∷ 34 ∷ r2) → r2 ≡ escape row.language ++ 34 ∷ 44 ∷ r3
     → r3 ≡ decimal row.time ++ 44 ∷ 34 ∷ r4 → r4 ≡ escape row.site ++ 34 ∷ 44 ∷ r5
     → r5 ≡ decimal row.count ++ 44 ∷ after
     → text ≡ row_before row after
-front_taken row text r1 r2 r3 r4 r5 after p1 p2 p3 p4 p5 p6 =
-    p1 ∙ ap (λ r. 91 ∷ r)
-    (ap (λ r. 34 ∷ r) p2 ∙ quotes_taken row.id (44 ∷ 34 ∷ r2)
-    ∙ ap (λ r. quoted row.id ++ 44 ∷ r)
+front_taken row text r2 r3 r4 r5 after p2 p3 p4 p5 p6 =
+    p2 ∙ ap (λ r. 91 ∷ (quoted row.id ++ 44 ∷ r))
     (ap (λ r. 34 ∷ r) p3 ∙ quotes_taken row.language (44 ∷ r3)
     ∙ ap (λ r. quoted row.language ++ 44 ∷ r)
     (p4 ∙ ap (λ r. decimal row.time ++ 44 ∷ r)
     (ap (λ r. 34 ∷ r) p5 ∙ quotes_taken row.site (44 ∷ r5)
-    ∙ ap (λ r. quoted row.site ++ 44 ∷ r) p6))))
+    ∙ ap (λ r. quoted row.site ++ 44 ∷ r) p6)))
 
 -- a row is what it has before its label, its label and its bracket
 pub row_taken : (row : Row) (label : Option (List (List ℕ))) (text rest after : List ℕ)

@@ -3,9 +3,6 @@ use Rattle.std.specs.Prelude.{◌≡◌, ℕ, List, [], ◌∷◌, codes}
 use Rattle.json.specs.Token.{begin_object, begin_array, key, string}
 use Rattle.json.specs.Written.{Written}
 use Rattle.serde_json.specs.Data.{Data}
-use Rattle.cata_core.specs.Delta.{summary_of}
-use Rattle.cata_core.specs.Entries.{Entries}
-use Rattle.row_docs.specs.Entries.{stamps_values}
 use Rattle.row_docs.specs.Texts.{row_tokens}
 
 -- a site's or a delta's draft: it is open after these rows
@@ -19,10 +16,3 @@ HoldsStamps draft owner rows =
     (draft.before ≡ [])
     × (draft.tokens ≡ begin_object ∷ key (codes "kind") ∷ string (codes "summary")
     ∷ key (codes "owner") ∷ string owner ∷ key (codes "stamps") ∷ begin_array ∷ row_tokens rows)
-
--- where the first is a summary's draft without a row, the second is open after the stamps of these
--- cells
-abbrev pub HasStamps : Written → Written → Entries → Type 0
-HasStamps first draft cells =
-    (owner : List ℕ) → HoldsStamps first owner []
-    → HoldsStamps draft owner (stamps_values (summary_of cells))

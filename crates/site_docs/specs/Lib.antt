@@ -5,6 +5,7 @@ pub mod Plain
 pub mod PlainRows
 pub mod ReadsAs
 pub mod SharedCells
+pub mod Sink
 pub mod SiteDocuments
 pub mod Unread
 pub mod Values

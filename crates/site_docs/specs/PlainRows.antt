@@ -1,5 +1,5 @@
 -- Rows as they are written, and what their texts spell.
-use Rattle.std.specs.Prelude.{◌≡◌, ◌++◌, ◌∷◌, ℕ, List, Option, decimal}
+use Rattle.std.specs.Prelude.{◌≡◌, ◌++◌, ◌∷◌, ℕ, List, Option, decimal, string_bytes}
 use Rattle.json.specs.Print.{quoted}
 use Rattle.cell_core.specs.MessageId.{IsMessageId}
 use Rattle.cell_core.specs.SiteName.{IsSiteName}
@@ -8,12 +8,19 @@ use Rattle.cata_core.specs.Entries.{Entries, Entry, EntryKey, IsAboveAll}
 use Rattle.row_docs.specs.Fields.{IsAfter, stamp_of}
 use Rattle.row_docs.specs.Values.{Row}
 use Rattle.site_docs.specs.declared.plain.rows.Front.{Front}
+use Rattle.site_docs.specs.declared.plain.rows.IdText.{IdText}
+use Rattle.site_docs.specs.declared.plain.rows.IdText.TheVariants.{Plain, Unescaped}
 use Rattle.site_docs.specs.declared.plain.rows.Spelled.{Spelled}
+
+-- the text of an id
+abbrev pub text_in : IdText → List ℕ
+text_in (Plain text) = text.now
+text_in (Unescaped text) = string_bytes text
 
 -- a row without its label
 abbrev pub row_in : Front → Row
 row_in front = record {
-  id = front.id.now;
+  id = text_in front.id;
   language = front.language.now;
   time = front.time;
   site = front.site.now;
@@ -22,7 +29,7 @@ row_in front = record {
 
 -- its key, as it is written
 abbrev pub key_in : Front → EntryKey
-key_in front = (front.id.now, front.language.now)
+key_in front = (text_in front.id, front.language.now)
 
 -- its entry with this label
 abbrev pub entry_in : Front → Option (List (List ℕ)) → Entry
@@ -30,10 +37,10 @@ entry_in front label = (key_in front, record { stamp = stamp_of (row_in front); 
 
 -- the values are those that the texts of the row spell
 pub record IsSpelled (row : Spelled) : Type 0 where
-  pub id : row.id ≡ row.front.id.now
+  pub id : row.id ≡ text_in row.front.id
   pub lang : row.languages ≡ row.front.language.now
   pub site : row.site ≡ row.front.site.now
-  pub is_id : IsMessageId row.front.id.now
+  pub is_id : IsMessageId (text_in row.front.id)
   pub is_lang : IsLang row.front.language.now
   pub is_site : IsSiteName row.front.site.now
 

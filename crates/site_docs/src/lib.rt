@@ -4,9 +4,10 @@
 //! [`write_delta`] and [`write_summary`] write one, and [`write_with_same_cells`] those of two
 //! sites with the same cells. [`site_at`], [`delta_at`] and [`summary_at`] read one document of
 //! several, which a refusal names.
-//! [`take_written_site`] gives the cells of a site to a [`TakeCells`], and builds no catalogue,
-//! where the document is in the form in which it is written; [`written_summary`] writes the summary
-//! of such a document as its rows are read.
+//! [`show_document`] shows the cells of a site's document to a [`CellSink`], which keeps what it
+//! needs of them, and builds no catalogue where the document is in the form in which it is written;
+//! [`show_catalogue`] shows those of a catalogue. [`written_summary`] writes the summary of a
+//! document as its rows are read.
 //!
 //! Callers find what they need in `docs_core`.
 #![tactic(auto)]
@@ -14,10 +15,12 @@
 mod document;
 pub mod laws;
 mod plain;
+mod showing;
+mod sink;
 
 pub use document::reading::{delta_at, read_delta, read_site, read_summary, site_at, summary_at};
 pub use document::shared_cells::write_with_same_cells;
 pub use document::writing::{write_delta, write_site, write_summary};
-pub use plain::documents::take_written_site;
 pub use plain::summaries::written_summary;
-pub use plain::taking::TakeCells;
+pub use showing::{show_catalogue, show_document};
+pub use sink::{CellRef, CellSink, LabelRef};

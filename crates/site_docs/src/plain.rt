@@ -1,11 +1,10 @@
-//! The form in which documents of sites and deltas are written, where no id in it has an escape:
-//! read byte by byte, with no token and no value between.
+//! The form in which documents of sites and deltas are written, read byte by byte, with no token
+//! and no value between.
 
 pub(crate) mod documents;
 pub(crate) mod labels;
 pub(crate) mod languages;
 pub(crate) mod rows;
 pub(crate) mod summaries;
-pub(crate) mod taking;
 pub(crate) mod texts;
 pub(crate) mod unread;

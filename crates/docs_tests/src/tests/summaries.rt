@@ -17,6 +17,19 @@ const SUMMARY: &str = concat!(
     "\n"
 );
 
+/// Ids with a quote and a backslash, which are written with escapes.
+const QUOTED: &str = concat!(
+    r#"{"cells":[["a\"b","en",1,"a",0,["x"]],["aB","en",1,"a",1,["w"]],"#,
+    r#"["a\\","en",2,"b",0,["y"]]],"kind":"site","site":"paris","version":2}"#,
+    "\n"
+);
+
+const OF_QUOTED: &str = concat!(
+    r#"{"kind":"summary","owner":"paris","stamps":[["a\"b","en",1,"a",0],["aB","en",1,"a",1],"#,
+    r#"["a\\","en",2,"b",0]],"version":2}"#,
+    "\n"
+);
+
 const EMPTY: &str = "{\"cells\":[],\"kind\":\"site\",\"site\":\"0-z\",\"version\":2}\n";
 
 const OF_EMPTY: &str = "{\"kind\":\"summary\",\"owner\":\"0-z\",\"stamps\":[],\"version\":2}\n";
@@ -33,6 +46,7 @@ fn is_summary(alloc: Global, site: &str, summary: &str) -> bool {
 fn of_a_site_as_it_is_written(rt: HostRuntime) {
     assert!(rt; is_summary(rt.alloc(), SITE, SUMMARY));
     assert!(rt; is_summary(rt.alloc(), SITE.trim_end(), SUMMARY));
+    assert!(rt; is_summary(rt.alloc(), QUOTED, OF_QUOTED));
     assert!(rt; is_summary(rt.alloc(), EMPTY, OF_EMPTY));
 }
 

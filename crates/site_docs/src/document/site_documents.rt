@@ -50,7 +50,7 @@ pub(crate) fn summary_from(alloc: Global, bytes: &[u8]) -> Result<Summary, DocCa
 }
 
 /// The site of a document in any form.
-fn site_of_members(alloc: Global, bytes: &[u8]) -> Result<Site, DocCause>
+pub(crate) fn site_of_members(alloc: Global, bytes: &[u8]) -> Result<Site, DocCause>
     ensures { MatchResult result (ReadsAsSite bytes.now)
         (OrMemory NoMemory (RefusesSite bytes.now)) }
 {

@@ -8,8 +8,8 @@ ghost use Rattle.site_docs.specs.Plain.{IsEnd, IsPlainText, last_members};
 ghost use Rattle.site_docs.specs.ReadsAs.{ReadsAsSite};
 
 use crate::plain::rows::next_cells;
-use crate::plain::taking::TakeCells;
 use crate::plain::texts::{after, after_text, member_after, text_after};
+use crate::sink::CellSink;
 use cata_core::Catalogue;
 use cell_core::SiteName;
 use json_docs::text_in;
@@ -17,7 +17,7 @@ use row_docs::Kind;
 use std::alloc::Global;
 
 /// The name and the cells of a document of this kind, where the bytes are the text that is written
-/// for them, with its last line feed or without, and no id in it has an escape.
+/// for them, with its last line feed or without.
 ///
 /// `None` says nothing of the document: it may be valid in another form, it may be refused, or
 /// memory ran out.
@@ -29,45 +29,44 @@ pub(crate) fn cells_of_plain(
     ensures { IfSome result (λ r. IsPlainText kind bytes.now r.0 r.1) }
 {
     let mut cells = Catalogue::new(alloc);
-    let name = take_plain(alloc, bytes, kind, &mut cells)?;
+    let name = show_plain(alloc, bytes, kind, &mut cells)?;
     Some((name, cells))
 }
 
-/// Gives the cells of a site's document to the taker, and answers the name of the site, where the
-/// bytes are the text that is written for them, with its last line feed or without, and no id in it
-/// has an escape.
+/// Shows the cells of a site's document to the sink, and answers the name of the site, where the
+/// bytes are the text that is written for them, with its last line feed or without.
 ///
-/// `None` says nothing of the document, and the taker may have taken some cells: the document may
-/// be valid in another form, it may be refused, or memory ran out.
-pub fn take_written_site<T: TakeCells>(
+/// `None` says nothing of the document, and the sink may have seen some cells: the document may be
+/// valid in another form, it may be refused, or memory ran out.
+pub(crate) fn show_written<'t, S: CellSink<'t>>(
     alloc: Global,
-    bytes: &[u8],
-    taker: &mut T,
+    bytes: &'t [u8],
+    sink: &mut S,
 ) -> Option<SiteName>
-    requires { T.Holds taker.old taker.old [] }
+    requires { (first : S) × S.Holds first sink.old [] }
     ensures { IfSome result (λ name. (cells : Entries)
         × ReadsAsSite bytes.now (record { name = name; cells = cells }) × IsMap key_cmp cells
-        × T.Holds taker.old taker.new cells) }
+        × ((first : S) → S.Holds first sink.old [] → S.Holds first sink.new cells)) }
 {
-    take_plain(alloc, bytes, Kind::Site, taker)
+    show_plain(alloc, bytes, Kind::Site, sink)
 }
 
-/// Gives the cells of a document of this kind to the taker, and answers its name.
-pub(crate) fn take_plain<T: TakeCells>(
+/// Shows the cells of a document of this kind to the sink, and answers its name.
+pub(crate) fn show_plain<'t, S: CellSink<'t>>(
     alloc: Global,
-    bytes: &[u8],
+    bytes: &'t [u8],
     kind: Kind,
-    taker: &mut T,
+    sink: &mut S,
 ) -> Option<SiteName>
-    requires { T.Holds taker.old taker.old [] }
+    requires { (first : S) × S.Holds first sink.old [] }
     ensures { IfSome result (λ name. (cells : Entries) × IsPlainText kind bytes.now name cells
-        × T.Holds taker.old taker.new cells) }
+        × ((first : S) → S.Holds first sink.old [] → S.Holds first sink.new cells)) }
 {
     let Ok(text) = text_in(bytes) else {
         return None;
     };
     let rest = member_after(text, "{", "cells")?;
-    let rest = next_cells(alloc, rest, taker)?;
+    let rest = next_cells(alloc, rest, sink)?;
     last_name(rest, kind)
 }
 

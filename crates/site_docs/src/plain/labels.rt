@@ -1,42 +1,55 @@
 //! The labels of rows.
-ghost use Rattle.std.specs.Prelude.{◌≡◌, ◌++◌, ◌∷◌, [], IfSome, string_bytes};
+ghost use Rattle.std.specs.Prelude.{◌≡◌, ◌++◌, ◌∷◌, [], IfSome, IsTrue, string_bytes};
 ghost use Rattle.json.specs.Print.{quoted};
 ghost use Rattle.serde_json.specs.Written.{compact_text};
 ghost use Rattle.cell_core.specs.Label.{IsLabel};
 ghost use Rattle.row_docs.specs.Fields.{IsLabelText};
 ghost use Rattle.row_docs.specs.Values.{label_value, texts_value};
+ghost use Rattle.site_docs.specs.Sink.{IsLabelRef, texts_of};
 
 use crate::plain::texts::{after, escaped_text, text_after, text_before};
+use crate::sink::LabelRef;
 use cell_core::Label;
 use std::alloc::Global;
 
+/// The most bytes of a text of a label.
+const MAX_BYTES: usize = 65_535;
+
 /// The label that the text begins with, none for null, and what comes after it.
 #[inline(always)]
-pub(crate) fn next_label(alloc: Global, text: &str) -> Option<(Option<Label>, &str)>
-    ensures text { IfSome result (λ r. text.now ≡ compact_text (label_value r.0) ++ r.1.now) }
-    ensures label { IfSome result (λ r. IsLabelText r.0) }
+pub(crate) fn next_label<'t>(alloc: Global, text: &'t str) -> Option<(LabelRef<'t>, &'t str)>
+    ensures text { IfSome result
+        (λ r. text.now ≡ compact_text (label_value (texts_of r.0)) ++ r.1.now) }
+    ensures kept { IfSome result (λ r. IsLabelText (texts_of r.0)) }
+    ensures label { IfSome result (λ r. IsLabelRef r.0) }
 {
     if let Some(rest) = after(text, "null") {
-        return Some((None, rest));
+        return Some((LabelRef::Deleted, rest));
     }
-    let (label, rest) = array_label(alloc, text)?;
-    Some((Some(label), rest))
+    match only_text(text) {
+        Some((only, rest)) if is_short(only) => Some((LabelRef::Text(only), rest)),
+        _ => made_label(alloc, text),
+    }
 }
 
-/// The label whose array the text begins with.
-#[inline(always)]
-fn array_label(alloc: Global, text: &str) -> Option<(Label, &str)>
-    ensures text { IfSome result (λ r. text.now ≡ compact_text (texts_value r.0) ++ r.1.now) }
-    ensures label { IfSome result (λ r. IsLabel r.0) }
+/// The label whose array the text begins with, made.
+#[cold]
+#[inline(never)]
+fn made_label<'t>(alloc: Global, text: &'t str) -> Option<(LabelRef<'t>, &'t str)>
+    ensures text { IfSome result
+        (λ r. text.now ≡ compact_text (label_value (texts_of r.0)) ++ r.1.now) }
+    ensures kept { IfSome result (λ r. IsLabelText (texts_of r.0)) }
+    ensures label { IfSome result (λ r. IsLabelRef r.0) }
 {
-    match only_text(text) {
-        Some((only, rest)) => {
-            let only = copy_of(alloc, only)?;
-            let label = one_text(only)?;
-            Some((label, rest))
-        }
-        None => written_label(alloc, text),
-    }
+    let (label, rest) = written_label(alloc, text)?;
+    Some((LabelRef::Made(label), rest))
+}
+
+/// Whether the text is no longer than one of a label may be.
+fn is_short(text: &str) -> bool
+    ensures { IsTrue result → IsLabel (text.now ∷ []) }
+{
+    text.len() <= MAX_BYTES
 }
 
 /// The text of an array of one text without escapes, and what comes after the array.

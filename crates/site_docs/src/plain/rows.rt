@@ -1,37 +1,39 @@
 //! The rows of sites and deltas.
 ghost use Rattle.std.specs.Prelude.{◌≡◌, ◌↔◌, ◌++◌, ◌∷◌, [], List, ℕ, IfSome, IsTrue, Option};
-ghost use Rattle.std.specs.Prelude.{IfErr, IfOk, MatchResult, OnOk, Some};
+ghost use Rattle.std.specs.Prelude.{IfErr, IfOk, MatchResult, OnOk, Some, string_bytes};
 ghost use Rattle.std.specs.Ordering.{ordering_then};
 ghost use Rattle.std.specs.declared.cmp.Ordering.TheVariants.{Less};
+ghost use Rattle.json.specs.Print.{quoted};
 ghost use Rattle.serde_json.specs.Written.{compact_text};
 ghost use Rattle.cell_core.specs.MessageId.{IsMessageId};
 ghost use Rattle.cell_core.specs.SiteName.{IsSiteName};
 ghost use Rattle.cata_core.specs.Entries.{Entries, Entry, IsAboveAll, text_cmp};
 ghost use Rattle.row_docs.specs.Entries.{entry_value};
-ghost use Rattle.row_docs.specs.EntriesSeen.{entry_by};
-ghost use Rattle.row_docs.specs.Fields.{IsAfter, IsLabelText};
+ghost use Rattle.row_docs.specs.Fields.{IsAfter, IsLabelText, stamp_of};
 ghost use Rattle.row_docs.specs.Valid.{AreKeptCells, IsKeptCell};
 ghost use Rattle.row_docs.specs.Values.{label_value};
 ghost use Rattle.site_docs.specs.Plain.{rows_text};
 ghost use Rattle.site_docs.specs.PlainRows.{IsLastOf, IsSpelled, entry_in, key_in, row_before};
-ghost use Rattle.site_docs.specs.PlainRows.{row_in};
+ghost use Rattle.site_docs.specs.PlainRows.{row_in, text_in};
+ghost use Rattle.site_docs.specs.Sink.{IsLabelRef, entry_of, texts_of};
 ghost use Rattle.site_docs.specs.Unread.{RefusesSpelling};
 
 use crate::plain::labels::next_label;
 use crate::plain::languages::KnownLanguages;
-use crate::plain::taking::TakeCells;
-use crate::plain::texts::{after, after_byte, number_before_comma, text_before, text_before_comma};
+use crate::plain::texts::{
+    after, after_byte, escaped_text, number_before_comma, text_before, text_before_comma,
+};
 use crate::plain::unread::Unread;
-use cell_core::{Cell, CellFault, Key, Label, MessageId, SiteName, Stamp};
-use row_docs::CellEntry;
+use crate::sink::{CellRef, CellSink, LabelRef};
+use cell_core::{CellFault, Key, MessageId, SiteName, Stamp};
 use std::alloc::Global;
 use std::cmp::Ordering;
 
 /// What a row has before its label, as it is written.
-#[derive(Clone, Copy)]
+#[derive(Drop)]
 struct Front<'t> {
     /// The id of the message.
-    id: &'t str,
+    id: IdText<'t>,
     /// The language.
     language: &'t str,
     /// The time of the stamp.
@@ -40,6 +42,15 @@ struct Front<'t> {
     site: &'t str,
     /// The count of the stamp.
     count: u32,
+}
+
+/// The text of an id.
+#[derive(Drop)]
+enum IdText<'t> {
+    /// As it stands in the document.
+    Plain(&'t str),
+    /// Of an id with escapes, without them.
+    Unescaped(String),
 }
 
 /// A row without its label, and what its texts spell.
@@ -55,33 +66,35 @@ struct Spelled<'t> {
     site: SiteName,
 }
 
-/// Gives the cells of the array of rows that the text begins with to the taker, and answers what
-/// comes after it. The keys rise.
-pub(crate) fn next_cells<'t, T: TakeCells>(
+/// Shows the cells of the array of rows that the text begins with to the sink, and answers what
+/// comes after it. The keys ascend.
+pub(crate) fn next_cells<'t, S: CellSink<'t>>(
     alloc: Global,
     text: &'t str,
-    taker: &mut T,
+    sink: &mut S,
 ) -> Option<&'t str>
-    requires { T.Holds taker.old taker.old [] }
+    requires { (first : S) × S.Holds first sink.old [] }
     ensures { IfSome result (λ rest. (cells : Entries) × (text.now ≡ rows_text cells ++ rest.now)
-        × AreKeptCells cells × T.Holds taker.old taker.new cells) }
+        × AreKeptCells cells
+        × ((first : S) → S.Holds first sink.old [] → S.Holds first sink.new cells)) }
 {
     match after(text, "[]") {
         Some(rest) => Some(rest),
-        None => some_cells(alloc, text, taker),
+        None => some_cells(alloc, text, sink),
     }
 }
 
-/// Gives the cells of the array of one row or more to the taker, and answers what comes after it.
-fn some_cells<'t, T: TakeCells>(alloc: Global, text: &'t str, taker: &mut T) -> Option<&'t str>
-    requires { T.Holds taker.old taker.old [] }
+/// Shows the cells of the array of one row or more to the sink, and answers what comes after it.
+fn some_cells<'t, S: CellSink<'t>>(alloc: Global, text: &'t str, sink: &mut S) -> Option<&'t str>
+    requires { (first : S) × S.Holds first sink.old [] }
     ensures { IfSome result (λ rest. (cells : Entries) × (text.now ≡ rows_text cells ++ rest.now)
-        × AreKeptCells cells × T.Holds taker.old taker.new cells) }
+        × AreKeptCells cells
+        × ((first : S) → S.Holds first sink.old [] → S.Holds first sink.new cells)) }
 {
     let rest = after(text, "[")?;
-    let (mut last, mut rest) = first_cell(alloc, rest, taker)?;
+    let (mut last, mut rest) = first_cell(alloc, rest, sink)?;
     while let Some(row) = after(rest, ",") {
-        let Some(left) = next_cell(alloc, row, &mut last, taker) else {
+        let Some(left) = next_cell(alloc, row, &mut last, sink) else {
             return None;
         };
         rest = left;
@@ -90,70 +103,69 @@ fn some_cells<'t, T: TakeCells>(alloc: Global, text: &'t str, taker: &mut T) -> 
     Some(rest)
 }
 
-/// Gives the cell of the first row to the taker.
-fn first_cell<'t, T: TakeCells>(
+/// Shows the cell of the first row to the sink.
+fn first_cell<'t, S: CellSink<'t>>(
     alloc: Global,
     text: &'t str,
-    taker: &mut T,
+    sink: &mut S,
 ) -> Option<(Spelled<'t>, &'t str)>
-    requires { T.Holds taker.old taker.old [] }
+    requires { (first : S) × S.Holds first sink.old [] }
     ensures { IfSome result (λ r. (e : Entry) × (e.0 ≡ key_in r.0.front) × IsKeptCell e
         × IsSpelled r.0 × (text.now ≡ compact_text (entry_value e) ++ r.1.now)
-        × T.Holds taker.old taker.new (e ∷ [])) }
+        × ((first : S) → S.Holds first sink.old [] → S.Holds first sink.new (e ∷ []))) }
 {
-    let (front, rest) = next_front(text)?;
+    let (front, rest) = next_front(alloc, text)?;
     let Ok(spelled) = Spelled::new(alloc, front) else {
         return None;
     };
-    let rest = give_cell(alloc, rest, &spelled, taker)?;
+    let rest = show_cell(alloc, rest, &spelled, sink)?;
     Some((spelled, rest))
 }
 
-/// Gives the cell of the row after the last one to the taker, where its key is greater.
-fn next_cell<'t, T: TakeCells>(
+/// Shows the cell of the row after the last one to the sink, where its key is greater.
+fn next_cell<'t, S: CellSink<'t>>(
     alloc: Global,
     text: &'t str,
     last: &mut Spelled<'t>,
-    taker: &mut T,
+    sink: &mut S,
 ) -> Option<&'t str>
     requires spelled { IsSpelled last.old }
-    requires holds { (first : T) × (before : Entries) × T.Holds first taker.old before
+    requires holds { (first : S) × (before : Entries) × S.Holds first sink.old before
         × IsLastOf (Some (key_in last.old.front)) before }
     ensures { IfSome result (λ rest. (e : Entry) × (e.0 ≡ key_in last.new.front) × IsKeptCell e
         × IsSpelled last.new × IsAfter (Some (key_in last.old.front)) e.0
         × (text.now ≡ compact_text (entry_value e) ++ rest.now)
-        × ((first : T) → (before : Entries) → T.Holds first taker.old before
-        → IsAboveAll e.0 before → T.Holds first taker.new (before ++ e ∷ []))) }
+        × ((first : S) → (before : Entries) → S.Holds first sink.old before
+        → IsAboveAll e.0 before → S.Holds first sink.new (before ++ e ∷ []))) }
 {
-    let (front, rest) = next_front(text)?;
+    let (front, rest) = next_front(alloc, text)?;
     let Ok(()) = last.follow(alloc, front) else {
         return None;
     };
-    let rest = give_cell(alloc, rest, last, taker)?;
+    let rest = show_cell(alloc, rest, last, sink)?;
     Some(rest)
 }
 
-/// Gives the cell of this row to the taker, with the label that the text begins with.
-fn give_cell<'t, T: TakeCells>(
+/// Shows the cell of this row to the sink, with the label that the text begins with.
+fn show_cell<'t, S: CellSink<'t>>(
     alloc: Global,
     text: &'t str,
-    row: &Spelled<'_>,
-    taker: &mut T,
+    row: &Spelled<'t>,
+    sink: &mut S,
 ) -> Option<&'t str>
     requires spelled { IsSpelled row.now }
-    requires holds { (first : T) × (before : Entries) × T.Holds first taker.old before
+    requires holds { (first : S) × (before : Entries) × S.Holds first sink.old before
         × IsAboveAll (key_in row.now.front) before }
     ensures { IfSome result (λ rest. (label : Option (List (List ℕ)))
         × IsKeptCell (entry_in row.now.front label)
         × (text.now ≡ compact_text (label_value label) ++ 93 ∷ rest.now)
-        × ((first : T) → (before : Entries) → T.Holds first taker.old before
+        × ((first : S) → (before : Entries) → S.Holds first sink.old before
         → IsAboveAll (key_in row.now.front) before
-        → T.Holds first taker.new (before ++ entry_in row.now.front label ∷ []))) }
+        → S.Holds first sink.new (before ++ entry_in row.now.front label ∷ []))) }
 {
     let (label, rest) = next_label(alloc, text)?;
     let rest = after(rest, "]")?;
-    let entry = row.entry(alloc, label)?;
-    match taker.take(alloc, entry) {
+    match sink.see(alloc, row.cell(label)) {
         Ok(()) => Some(rest),
         Err(_) => None,
     }
@@ -161,11 +173,10 @@ fn give_cell<'t, T: TakeCells>(
 
 /// What a row begins with, up to and including the comma after its count.
 #[inline(always)]
-fn next_front(text: &str) -> Option<(Front<'_>, &str)>
+fn next_front<'t>(alloc: Global, text: &'t str) -> Option<(Front<'t>, &'t str)>
     ensures { IfSome result (λ r. text.now ≡ row_before (row_in r.0) r.1.now) }
 {
-    let rest = after(text, "[\"")?;
-    let (id, rest) = text_before(rest, "\",\"")?;
+    let (id, rest) = next_id(alloc, text)?;
     let (language, rest) = text_before_comma(rest)?;
     let (time, rest) = number_before_comma(rest)?;
     let rest = after_byte(rest, b'"')?;
@@ -184,13 +195,61 @@ fn next_front(text: &str) -> Option<(Front<'_>, &str)>
     Some((front, rest))
 }
 
+/// The id that a row begins with, and what comes after the first quote of its language.
+#[inline(always)]
+fn next_id<'t>(alloc: Global, text: &'t str) -> Option<(IdText<'t>, &'t str)>
+    ensures { IfSome result
+        (λ r. text.now ≡ 91 ∷ (quoted (text_in r.0) ++ 44 ∷ 34 ∷ r.1.now)) }
+{
+    match plain_id(text) {
+        Some((id, rest)) => Some((IdText::Plain(id), rest)),
+        None => escaped_id(alloc, text),
+    }
+}
+
+/// The same of an id without escapes.
+#[inline(always)]
+fn plain_id(text: &str) -> Option<(&str, &str)>
+    ensures { IfSome result
+        (λ r. text.now ≡ 91 ∷ (quoted r.0.now ++ 44 ∷ 34 ∷ r.1.now)) }
+{
+    let rest = after(text, "[\"")?;
+    text_before(rest, "\",\"")
+}
+
+/// The same of an id that may have escapes.
+#[cold]
+#[inline(never)]
+fn escaped_id<'t>(alloc: Global, text: &'t str) -> Option<(IdText<'t>, &'t str)>
+    ensures { IfSome result
+        (λ r. text.now ≡ 91 ∷ (quoted (text_in r.0) ++ 44 ∷ 34 ∷ r.1.now)) }
+{
+    let rest = after(text, "[")?;
+    let (id, rest) = escaped_text(alloc, rest)?;
+    let rest = after(rest, ",\"")?;
+    Some((IdText::Unescaped(id), rest))
+}
+
+impl IdText<'_> {
+    /// The text itself.
+    #[inline(always)]
+    fn as_str(&self) -> &str
+        ensures { result.now ≡ text_in self.now }
+    {
+        match self {
+            IdText::Plain(text) => text,
+            IdText::Unescaped(text) => text.as_str(),
+        }
+    }
+}
+
 impl<'t> Spelled<'t> {
     /// What the texts of the row spell, where its language is in lower case.
     fn new(alloc: Global, front: Front<'t>) -> Result<Spelled<'t>, Unread>
         ensures spelled { IfOk result (λ spelled. IsSpelled spelled) }
         ensures front { IfOk result (λ spelled. row_in spelled.front ≡ row_in front.entry) }
     {
-        let id = spelled_id(alloc, front.id)?;
+        let id = spelled_id(alloc, front.id.as_str())?;
         let languages = KnownLanguages::new(alloc, front.language)?;
         let site = spelled_site(front.site)?;
         Ok(Spelled {
@@ -211,38 +270,45 @@ impl<'t> Spelled<'t> {
         ensures key { OnOk result
             (IsAfter (Some (key_in self.old.front)) (key_in self.new.front)) }
     {
-        let ids = self.front.id.cmp(front.id);
+        let ids = self.front.id.as_str().cmp(front.id.as_str());
         if !rises(ids, self.front.language, front.language) {
             return Err(Unread::NotWritten);
         }
-        set_id(alloc, &mut self.id, ids, front.id)?;
+        set_id(alloc, &mut self.id, ids, front.id.as_str())?;
         self.languages.follow(alloc, ids.is_eq(), front.language)?;
         set_site(&mut self.site, self.front.site, front.site)?;
         self.front = front;
         Ok(())
     }
 
-    /// The entry of the row with this label.
+    /// The cell of the row with this label.
     #[inline(always)]
-    fn entry(&self, alloc: Global, label: Option<Label>) -> Option<CellEntry>
+    fn cell(&self, label: LabelRef<'t>) -> CellRef<'_, 't>
         requires { IsSpelled self.now }
-        ensures entry { IfSome result (λ e. entry_by e ≡ entry_in self.now.front label) }
-        ensures kept { IfSome result
-            (λ e. IsLabelText label → IsKeptCell (entry_in self.now.front label)) }
+        ensures entry { entry_of result ≡ entry_in self.now.front (texts_of label.entry) }
+        ensures label { IsLabelRef label.entry → IsLabelRef result.label }
+        ensures kept { IsLabelText (texts_of label.entry)
+            → IsKeptCell (entry_in self.now.front (texts_of label.entry)) }
     {
-        let Ok(id) = self.id.copy(alloc) else {
-            return None;
-        };
-        let Ok(lang) = self.languages.last().copy(alloc) else {
-            return None;
-        };
-        let stamp = Stamp {
+        CellRef {
+            id: &self.id,
+            lang: self.languages.last(),
+            stamp: self.stamp(),
+            label,
+        }
+    }
+
+    /// The stamp of the row.
+    #[inline(always)]
+    fn stamp(&self) -> Stamp
+        requires { IsSpelled self.now }
+        ensures { result ≡ stamp_of (row_in self.now.front) }
+    {
+        Stamp {
             time: self.front.time,
             site: self.site,
             count: self.front.count,
-        };
-        let cell = Cell::new(stamp, label);
-        Some(CellEntry { id, lang, cell })
+        }
     }
 }
 

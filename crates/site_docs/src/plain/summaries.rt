@@ -2,21 +2,22 @@
 ghost use Rattle.std.specs.Prelude.{◌≡◌, ◌++◌, List, ℕ, IfSome, codes};
 ghost use Rattle.cata_core.specs.Delta.{summary_of};
 ghost use Rattle.cata_core.specs.Site.{SiteState};
-ghost use Rattle.site_docs.specs.Drafts.{HasStamps};
+ghost use Rattle.row_docs.specs.Entries.{stamps_values};
+ghost use Rattle.site_docs.specs.Drafts.{HoldsStamps};
 ghost use Rattle.site_docs.specs.Plain.{IsEnd, last_members};
 ghost use Rattle.site_docs.specs.ReadsAs.{IsSummaryText, ReadsAsSite};
 
 use crate::document::envelope::{close_summary, open_stamps};
-use crate::plain::documents::{last_name, take_plain};
-use crate::plain::taking::TakeCells;
+use crate::plain::documents::{last_name, show_plain};
+use crate::sink::{CellRef, CellSink};
 use cell_core::SiteName;
 use json::Writer;
 use json_docs::{Doc, text_in};
-use row_docs::{CellEntry, Kind, write_stamped};
+use row_docs::{Kind, write_stamped};
 use std::alloc::{AllocError, Global};
 
 /// The document of the summary of a site, where the bytes are the text that is written for the
-/// site, with its last line feed or without, and no id in it has an escape.
+/// site, with its last line feed or without.
 ///
 /// `None` says nothing of the document: it may be valid in another form, it may be refused, or
 /// memory ran out.
@@ -29,12 +30,12 @@ pub fn written_summary(alloc: Global, bytes: &[u8]) -> Option<Doc>
     let Ok(out) = open_stamps(alloc, owner.as_str()) else {
         return None;
     };
-    let mut stamps = StampRows { out };
-    let name = take_plain(alloc, bytes, Kind::Site, &mut stamps)?;
+    let mut stamps = StampRows { owner, out };
+    let name = show_plain(alloc, bytes, Kind::Site, &mut stamps)?;
     if name.as_str() != owner.as_str() {
         return None;
     }
-    let StampRows { out } = stamps;
+    let StampRows { out, .. } = stamps;
     match close_summary(out) {
         Ok(doc) => Some(doc),
         Err(_) => None,
@@ -44,16 +45,23 @@ pub fn written_summary(alloc: Global, bytes: &[u8]) -> Option<Doc>
 /// The document of a summary, open after some rows.
 #[derive(Drop)]
 struct StampRows {
+    owner: SiteName,
     out: Writer,
 }
 
 /// Writes the stamp of each cell.
-impl TakeCells for StampRows {
-    ghost Holds = { λ first stamps taken. HasStamps first.out stamps.out taken };
+impl<'t> CellSink<'t> for StampRows {
+    ghost Holds = { λ first stamps seen. HoldsStamps stamps.out first.owner
+        (stamps_values (summary_of seen)) };
 
-    fn take(&mut self, _alloc: Global, entry: CellEntry) -> Result<(), AllocError> {
-        let CellEntry { id, lang, cell } = entry;
-        write_stamped(&mut self.out, &id, &lang, cell.stamp())
+    fn begin(&self, alloc: Global) -> Result<StampRows, AllocError> {
+        let owner = self.owner;
+        let out = open_stamps(alloc, owner.as_str())?;
+        Ok(StampRows { owner, out })
+    }
+
+    fn see(&mut self, _alloc: Global, cell: CellRef<'_, 't>) -> Result<(), AllocError> {
+        write_stamped(&mut self.out, cell.id, cell.lang, cell.stamp)
     }
 }
 

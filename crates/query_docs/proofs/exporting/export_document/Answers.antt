@@ -1,13 +1,11 @@
-use Rattle.std.proofs.Common.{subst}
-use Rattle.cata_core.specs.Entries.{Entries}
-use Rattle.map_docs.specs.LangMapTexts.{IsTextOf}
 use Rattle.query_docs.specs.Exported.{live_labels}
+use Rattle.query_docs.proofs.LiveLemmas.{live-IsMap}
 use Rattle.query_docs.proofs.exporting.export_document.Goals as goal
 
+-- the labels are those of the site that was shown
 pub returns : goal.returns
-returns c = (
-  c.in_ok-site.site,
-  c.in_ok-site.ensures,
-  subst (λ (cells : Entries). IsTextOf
-      (live_labels cells) c.in_ok-doc.doc) c.catalogue.ensures c.in_ok-doc.ensures,
-)
+returns c =
+    let shown = c.in_ok-draft.ensures in
+    let cells = shown.0 in
+    let closed = c.in_ok-doc.ensures (live_labels cells) shown.3 (live-IsMap cells shown.2) in
+    (record { name = c.in_ok-draft.field-0-0; cells = cells }, shown.1, closed.0)

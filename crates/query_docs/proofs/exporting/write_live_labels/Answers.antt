@@ -1,9 +1,10 @@
-use Rattle.std.proofs.Common.{List, subst}
-use Rattle.map_docs.specs.LangMapTexts.{IsTextOf}
-use Rattle.map_docs.specs.LangMaps.{Labelled}
-use Rattle.query_docs.proofs.LiveLemmas.{all_chosen}
+use Rattle.query_docs.specs.Exported.{live_labels}
+use Rattle.query_docs.proofs.LiveLemmas.{live-IsMap}
 use Rattle.query_docs.proofs.exporting.write_live_labels.Goals as goal
 
+-- the labels are those of the catalogue that was shown
 pub returns : goal.returns
-returns c = subst (λ (labels : List Labelled). IsTextOf labels c.in_ok-written.written.0)
-    (all_chosen c.args.catalogue.now) c.in_ok-written.ensures.0
+returns c =
+    let cells = c.args.catalogue.now in
+    let shown = c.in_ok-draft.ensures in
+    (c.in_ok-doc.ensures (live_labels cells) shown.1 (live-IsMap cells shown.0)).0

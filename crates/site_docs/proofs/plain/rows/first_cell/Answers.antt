@@ -7,12 +7,13 @@ use Rattle.site_docs.proofs.PlainLemmas.{row_taken}
 use Rattle.site_docs.proofs.plain.rows.first_cell.Goals as goal
 
 -- there is no cell yet
-pub give_cell-requires-clause-holds : goal.give_cell-requires-clause-holds
-give_cell-requires-clause-holds g c =
+pub show_cell-requires : goal.show_cell-requires
+show_cell-requires g c = λ κs.
     let key = key_in c.in-Ok.spelled.front in
-    (c.args.taker.now, [], c.requires, All-nil (λ (e : Entry). key_cmp e.0 key ≡ Less))
+    let none = All-nil (λ (e : Entry). key_cmp e.0 key ≡ Less) in
+    ((refl, tt), (c.in-Ok.ensures.spelled, (c.requires.0, [], c.requires.1, none)))
 
--- The text begins with the row of an entry, which the taker took as its first: the parts in front
+-- The text begins with the row of an entry, which the sink saw as its first: the parts in front
 -- and the label that was given are that row.
 pub returns : goal.returns
 returns g c =
@@ -28,5 +29,5 @@ returns g c =
       given.1,
       spelled.ensures.spelled,
       row_taken (row_in front) given.0 c.args.text.now rest c.in_ok-rest.rest.now before given.2,
-      given.3 c.args.taker.now [] c.requires none,
+      λ first begun. given.3 first [] begun none,
     )

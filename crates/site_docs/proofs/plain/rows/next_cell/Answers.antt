@@ -4,13 +4,14 @@ use Rattle.site_docs.proofs.PlainLemmas.{row_taken}
 use Rattle.site_docs.proofs.plain.rows.next_cell.Goals as goal
 
 -- the key is greater than the last one, and so than all
-pub give_cell-requires-clause-holds : goal.give_cell-requires-clause-holds
-give_cell-requires-clause-holds g c =
+pub show_cell-requires : goal.show_cell-requires
+show_cell-requires g c = λ κs.
     let req = c.requires.holds in
-    (req.0, req.1, req.2, req.3 (key_in c.follow.new.self.front) c.in-Ok.ensures.key)
+    let above = req.3 (key_in c.follow.new.self.front) c.in-Ok.ensures.key in
+    ((refl, tt), (c.in-Ok.ensures.spelled, (req.0, req.1, req.2, above)))
 
--- The text begins with the row of an entry, whose key is above the last one, and which the taker
--- took after those before: the parts in front and the label that was given are that row.
+-- The text begins with the row of an entry, whose key is above the last one, and which the sink
+-- saw after those before: the parts in front and the label that was given are that row.
 pub returns : goal.returns
 returns g c =
     let front = c.follow.new.self.front in

@@ -45,12 +45,20 @@ loop-row-preserved g c =
         cells_kept cells new e inv.1 next.2 above refl,
         subst (λ (key : EntryKey). IsLastOf (Some key) new) next.1 (last_taken cells e above),
         is_later-push cells e,
-        next.6 c.args.taker.now cells inv.4 above,
+        λ first begun. next.6 first cells (inv.4 first begun) above,
         cell_taken cells new e c.args.text.now c.loop-row.rest.now left inv.5
             (c.in-Some.ensures ∙ ap (λ r. 44 ∷ r) next.5
             ∙ ap (λ b. comma_if b ++ (compact_text (entry_value e) ++ left)) (sym inv.3)) refl,
         next.3,
       ),
+    )
+
+-- the cells before this one were shown
+pub next_cell-requires : goal.next_cell-requires
+next_cell-requires g c = λ κs.
+    let inv = c.loop-row.invariant.1 in (
+      (refl, tt),
+      (inv.6, (c.requires.0, inv.0, inv.4 c.requires.0 c.requires.1, inv.2)),
     )
 
 -- all cells, and the bracket

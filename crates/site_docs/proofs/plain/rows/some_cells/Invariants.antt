@@ -1,4 +1,4 @@
-use Rattle.std.proofs.Common.{◌≡◌, ◌∷◌, ◌++◌, false, true, length}
+use Rattle.std.proofs.Common.{◌≡◌, [], ◌∷◌, ◌++◌, false, true, length}
 use Rattle.std.specs.Prelude.{Some}
 use denote.Text.{Utf8}
 use denote.Shadow.{shadow}
@@ -14,7 +14,8 @@ abbrev pub invariant-loop-row : goal.invariant-loop-row
 invariant-loop-row g l =
     shadow (Utf8 l.rest)
     × ((cells : Entries) × AreKeptCells cells × IsLastOf (Some (key_in l.last.front)) cells
-    × (is_later cells ≡ true) × g.T.TakeCells.Holds l.fn.taker l.taker cells
+    × (is_later cells ≡ true) × ((first : g.row.S.Denot) → g.S.CellSink.Holds first l.fn.sink []
+    → g.S.CellSink.Holds first l.sink cells)
     × (l.fn.text ≡ 91 ∷ (open_items false (cells_values cells) ++ l.rest)) × IsSpelled l.last)
 
 abbrev pub decreases-loop-row : goal.decreases-loop-row

@@ -1,0 +1,11 @@
+-- Cells that are shown one after another.
+use Rattle.std.proofs.Common.{◌≡◌, ◌++◌, ◌∷◌, subst, sym}
+use Rattle.cell_core.specs.Keyed.{IsMap}
+use Rattle.cata_core.specs.Entries.{Entries, Entry, IsAboveAll, key_cmp}
+use Rattle.cata_core.proofs.BehindLemmas.{front_below}
+
+-- A cell of a catalogue has a greater key than those before it.
+pub shown_above : (all done left : Entries) (e : Entry) → IsMap key_cmp all
+    → done ++ e ∷ left ≡ all → IsAboveAll e.0 done
+shown_above all done left e map is =
+    front_below done left e.0 e.1 (subst (IsMap key_cmp) (sym is) map)

@@ -1,0 +1,31 @@
+-- Cells that are seen where they are.
+use Rattle.std.specs.Prelude.{ℕ, List, [], ◌∷◌, None, Option, Some}
+use Rattle.cell_core.specs.Label.{IsLabel}
+use Rattle.cata_core.specs.Entries.{Entry}
+use Rattle.site_docs.specs.declared.sink.CellRef.{CellRef}
+use Rattle.site_docs.specs.declared.sink.LabelRef.{LabelRef}
+use Rattle.site_docs.specs.declared.sink.LabelRef.TheVariants.{Deleted, Held, Made, Text}
+
+-- the texts of a label; none of a deletion
+abbrev pub texts_of : LabelRef → Option (List (List ℕ))
+texts_of Deleted = None
+texts_of (Text text) = Some (text.now ∷ [])
+texts_of (Held label) = Some label.now
+texts_of (Made label) = Some label
+
+-- a text that stands alone is a label
+abbrev pub IsLabelRef : LabelRef → Type 0
+IsLabelRef Deleted = Unit {0}
+IsLabelRef (Text text) = IsLabel (text.now ∷ [])
+IsLabelRef (Held label) = Unit {0}
+IsLabelRef (Made label) = Unit {0}
+
+-- the key and the cell
+abbrev pub entry_of : CellRef → Entry
+entry_of cell = (
+  (cell.id.now, cell.lang.now),
+  record {
+    stamp = cell.stamp;
+    label = texts_of cell.label;
+  },
+)
