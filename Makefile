@@ -60,7 +60,7 @@ build/lib/libsilkwaram.a: $(SOURCES) include/silkwaram.h scripts/library
 browser: build/browser/silkwaram.wasm
 
 build/browser/silkwaram.wasm: $(SOURCES) include/silkwaram.h scripts/browser \
-		$(wildcard bindings/browser/*)
+		$(wildcard bindings/browser/* bindings/node/express.*)
 	RT='$(RT)' scripts/browser
 
 #: make test          the whole gate, from nothing: some 30 minutes on four processors, twice that on two

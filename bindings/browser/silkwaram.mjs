@@ -1,8 +1,9 @@
 // Silkwaram for pages and for Node: which language, and which label, a reader gets, and sites that are edited and
-// exchanged. silkwaram.d.ts says what each call takes and answers, docs/BROWSER.md leads in.
+// exchanged. calls.d.ts says what each call takes and answers, docs/BROWSER.md leads in.
 //
 // The calls are those of silkwaram.h, in a module of WebAssembly. Pointers and sizes have 64 bits there, so they are
 // BigInts here. A call may let the memory grow, which detaches every view of it: views are made where they are used.
+// The addon for Node makes the same calls of the library itself, by `over` and `refusalOf`.
 
 const EXTENDED = 1;
 const LENIENT = 2;
@@ -14,7 +15,9 @@ const NOTHING = 1;
 const USAGE = 2;
 
 const OUT_OF_MEMORY = 26;
+const NOT_JSON = 19;
 const SHAPE = 20;
+const NO_NAME = 'the document itself is wanted, not its name';
 // Written by scripts/refusal-tables, from docs/REFUSALS.md.
 const TEXTS = {
   1: 'tag is empty',
@@ -83,8 +86,20 @@ export class Refused extends Error {
   }
 }
 
+/** What is thrown where the library refuses a call of silkwaram.h. */
+export function refusalOf({ name, number, offset, row }) {
+  const isOfWhole = row === 0 && OF_WHOLE_TOO.includes(number);
+  const isOfRow = Object.hasOwn(DOCUMENTS, name) && IN_ROWS.includes(number) && !isOfWhole;
+  return new Refused(
+    number,
+    WITH_OFFSET.includes(number) ? offset : null,
+    isOfRow ? row : null,
+    number === SHAPE ? DOCUMENTS[name] : WANTED[number],
+  );
+}
+
 function wrongType(name, wanted) {
-  return new TypeError(`${name} must be ${wanted}`);
+  return Object.assign(new TypeError(`${name} must be ${wanted}`), { code: 'ERR_INVALID_ARG_TYPE' });
 }
 
 function optionsOf(options) {
@@ -114,6 +129,11 @@ function textOf(given, name) {
   throw wrongType(name, 'a string or a Uint8Array');
 }
 
+// Whether a document may be the name of one.
+function mayBeName(text) {
+  return typeof text === 'string' && /^[^{]{1,255}$/s.test(text);
+}
+
 // A request without the header has `*` as its field.
 function fieldOf(given) {
   return given === undefined || given === null ? '*' : textOf(given, 'field');
@@ -127,12 +147,14 @@ function defaultOf(options) {
 // A line for each tag. An LF in a tag would make two tags of it: it becomes a zero, which no tag has.
 function linesOf(tags) {
   if (!Array.isArray(tags)) throw wrongType('tags', 'an array of strings');
-  return tags
-    .map((tag, at) => {
-      if (typeof tag !== 'string') throw wrongType(`tags[${at}]`, 'a string');
-      return `${tag.replaceAll('\n', '\0')}\n`;
-    })
-    .join('');
+  let lines = '';
+  // (by its places, since an array may lack some)
+  for (let at = 0; at < tags.length; at++) {
+    const tag = tags[at];
+    if (typeof tag !== 'string') throw wrongType(`tags[${at}]`, 'a string');
+    lines += `${tag.replaceAll('\n', '\0')}\n`;
+  }
+  return lines;
 }
 
 function whole(given, name, largest) {
@@ -246,7 +268,7 @@ function mostBytes(text) {
 }
 
 // The module, and the calls that it exports.
-class Calls {
+class Module {
   #exports;
   #room;
   #failure = null;
@@ -258,7 +280,7 @@ class Calls {
 
   #allocated(bytes) {
     const at = this.#exports.allocate(BigInt(bytes));
-    if (at === 0n) throw this.#refused({ number: OUT_OF_MEMORY });
+    if (at === 0n) throw refusalOf({ number: OUT_OF_MEMORY });
     return Number(at);
   }
 
@@ -306,7 +328,7 @@ class Calls {
     const told = { name, status, ...this.#told() };
     if (status === FOUND || status === NOTHING) return told;
     if (status === USAGE) throw new Error('the site is closed, or the module does not know an option');
-    throw this.#refused(told);
+    throw refusalOf(told);
   }
 
   #told() {
@@ -367,17 +389,6 @@ class Calls {
     return this.#asked(name, words, (bytes) => bytes.slice())[1];
   }
 
-  #refused({ name, number, offset, row }) {
-    const isOfWhole = row === 0 && OF_WHOLE_TOO.includes(number);
-    const isOfRow = Object.hasOwn(DOCUMENTS, name) && IN_ROWS.includes(number) && !isOfWhole;
-    return new Refused(
-      number,
-      WITH_OFFSET.includes(number) ? offset : null,
-      isOfRow ? row : null,
-      number === SHAPE ? DOCUMENTS[name] : WANTED[number],
-    );
-  }
-
   // What a number of a refusal means, or null.
   meaning(number) {
     if (this.#failure || !this.#room) return null;
@@ -423,19 +434,24 @@ function siteClass(calls) {
     }
 
     static open(document) {
-      const site = new Site();
+      const site = new this();
       site.reload(document);
       return site;
     }
 
     static new(name) {
-      const site = new Site();
+      const site = new this();
       calls.done('sw_site_new', textOf(name, 'name'), site.#handle);
       return site;
     }
 
     reload(document) {
-      calls.done('sw_site_open', textOf(document, 'document'), this.#handle);
+      const text = textOf(document, 'document');
+      try {
+        calls.done('sw_site_open', text, this.#handle);
+      } catch (refused) {
+        throw refused.number === NOT_JSON && mayBeName(text) ? new Refused(NOT_JSON, null, null, NO_NAME) : refused;
+      }
     }
 
     share() {
@@ -579,10 +595,19 @@ async function bytesOf(source) {
   return response.arrayBuffer();
 }
 
+function seesEngine() {
+  if (typeof WebAssembly === 'object' && typeof BigInt === 'function') return;
+  throw new Error(`this engine cannot run silkwaram.wasm, which needs ${NEEDED}`);
+}
+
+// What an engine throws that cannot run the module says what is needed.
+function failureOf(cause) {
+  if (!(cause instanceof WebAssembly.CompileError)) return cause;
+  return new Error(`this engine cannot run silkwaram.wasm, which needs ${NEEDED}`, { cause });
+}
+
 async function instanceOf(source) {
-  if (typeof WebAssembly !== 'object' || typeof BigInt !== 'function') {
-    throw new Error(`this engine cannot run silkwaram.wasm, which needs ${NEEDED}`);
-  }
+  seesEngine();
   const isCompiled = source instanceof WebAssembly.Module;
   const given = isCompiled ? source : await bytesOf(source);
   try {
@@ -590,14 +615,12 @@ async function instanceOf(source) {
     const made = await WebAssembly.instantiate(given, {});
     return isCompiled ? made : made.instance;
   } catch (cause) {
-    if (!(cause instanceof WebAssembly.CompileError)) throw cause;
-    throw new Error(`this engine cannot run silkwaram.wasm, which needs ${NEEDED}`, { cause });
+    throw failureOf(cause);
   }
 }
 
-/** Loads the module: from beside this file, or from a URL, its bytes, or a compiled WebAssembly.Module. */
-export async function load(source = new URL('./silkwaram.wasm', import.meta.url)) {
-  const calls = new Calls((await instanceOf(source)).exports);
+/** The calls of the library, by what makes them: `Module`, or that of the addon for Node. */
+export function over(calls) {
   return {
     version: calls.version(),
     pick(field, tags, options) {
@@ -608,8 +631,28 @@ export async function load(source = new URL('./silkwaram.wasm', import.meta.url)
       const lines = calls.text('sw_filter', flagsOf(optionsOf(options)), fieldOf(field), linesOf(tags));
       return lines === null ? [] : linesIn(lines).map(pickedOf);
     },
-    refusal: (number) => calls.meaning(number),
-    memory: () => calls.memory(),
+    refusal: (number) => (Number.isInteger(number) && number >>> 0 === number ? calls.meaning(number) : null),
     Site: siteClass(calls),
   };
+}
+
+function callsOf(instance) {
+  const module = new Module(instance.exports);
+  return { ...over(module), memory: () => module.memory() };
+}
+
+/** Loads the module: from beside this file, or from a URL, its bytes, or a compiled WebAssembly.Module. */
+export async function load(source = new URL('./silkwaram.wasm', import.meta.url)) {
+  return callsOf(await instanceOf(source));
+}
+
+/** Loads the module at once, from its bytes or a compiled WebAssembly.Module. */
+export function loadSync(source) {
+  seesEngine();
+  try {
+    const module = source instanceof WebAssembly.Module ? source : new WebAssembly.Module(source);
+    return callsOf(new WebAssembly.Instance(module, {}));
+  } catch (cause) {
+    throw failureOf(cause);
+  }
 }

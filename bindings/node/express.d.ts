@@ -1,4 +1,4 @@
-import type { Label, Site } from './index.js';
+import type { Label, Site } from './node.js';
 
 export interface LanguagesOptions {
   /** The site whose labels `req.label` gives. */

@@ -1,4 +1,67 @@
-import express from './express.js';
+// Middleware of express's form, in the addon and in the package of the module alike.
+import { Site, pick } from './node.mjs';
 
-export const { languages } = express;
-export default express;
+// A refusal of the field: it is too long, or has a malformed element and `lenient` is false.
+const OF_FIELD = [8, 9];
+
+function isOfField(error) {
+  return OF_FIELD.includes(error.number);
+}
+
+// The tag of a reader. A field that is refused counts as none, as RFC 9110 section 12.4.1 lets a
+// server do.
+function pickFor(field, tags, options) {
+  try {
+    return pick(field, tags, options);
+  } catch (error) {
+    if (!isOfField(error)) throw error;
+    return pick(undefined, tags, options);
+  }
+}
+
+// Says to caches that the answer depends on the reader's header.
+function vary(res) {
+  const had = [res.getHeader('Vary') ?? []].flat().join(', ');
+  const names = had.split(',').map((name) => name.trim().toLowerCase());
+  if (names.includes('*') || names.includes('accept-language')) return;
+  res.setHeader('Vary', had ? `${had}, Accept-Language` : 'Accept-Language');
+}
+
+// The label of a message in the language that the reader got, or else in the default.
+function labelIn(site, id, language, options) {
+  return language === null ? null : site.lookup(id, language, options);
+}
+
+// Throws where the arguments cannot serve any reader.
+function check(site, offered, options, strict) {
+  if (!(site instanceof Site)) throw new TypeError('site must be a Site');
+  if (typeof strict !== 'boolean') throw new TypeError('strict must be a boolean');
+  if (!Array.isArray(offered)) throw new TypeError('tags must be an array of strings');
+  if (offered.includes('@none')) throw new RangeError('@none is no language that a page can be in');
+  if (pick(undefined, offered, options) === null) throw new RangeError('default must be one of tags');
+}
+
+/** Returns the middleware (express.d.ts). */
+export function languages({
+  site,
+  tags,
+  default: fallback = tags?.[0],
+  lenient = true,
+  widen = false,
+  strict = false,
+}) {
+  const options = { default: fallback, lenient, widen };
+  check(site, tags, options, strict);
+  const offered = [...tags];
+  const first = pick(undefined, offered, options);
+  return function readerLanguage(req, res, next) {
+    const found = pickFor(req.headers['accept-language'], offered, options);
+    // (a reader who refuses the default too may get it nevertheless: RFC 9110 section 12.5.4)
+    const language = found ?? (strict ? null : first);
+    req.language = language;
+    req.label = (id) => labelIn(site, id, language, { default: fallback, widen });
+    if (language !== null) res.setHeader('Content-Language', language);
+    vary(res);
+    next();
+  };
+}

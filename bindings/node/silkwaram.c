@@ -1,8 +1,9 @@
 /* Silkwaram for Node: the calls of silkwaram.h as functions of JavaScript, by Node-API 8 alone.
  *
- * index.js makes the package of them; they are not called by others. Each takes its arguments in the order of the
- * call, the flags as a number. It answers the text of the answer as a string; null where nothing is found; undefined
- * where the site is closed or a flag is unknown; and [number, offset, row] where something is refused.
+ * node.mjs makes the package of them; they are not called by others. Each call takes sites, which `make` makes, and
+ * texts in the order of the header, flags as a number and a time or place as a bigint; where these two stand is not
+ * looked at. It answers the text of the answer as a string; null where nothing is found; undefined where the site is
+ * closed or a flag is unknown; and [number, offset, row] where something is refused.
  *
  * There is no state but that of the objects, so each worker thread can load this. */
 #define NAPI_VERSION 8
@@ -14,10 +15,11 @@
 #include <string.h>
 
 #define FIRST_ROOM 1024
-#define MESSAGE_ROOM 160
 #define OUT_OF_MEMORY 26
 #define OUT_OF_MEMORY_TOLD ((sw_told){.number = OUT_OF_MEMORY})
 #define MOST_ARGUMENTS 6
+#define MOST_SITES 2
+#define MOST_TEXTS 3
 
 /* About how many bytes of memory an open site takes for a byte of its document, as the garbage collector is told. */
 #define MEMORY_FOR_BYTE 8
@@ -37,15 +39,27 @@ typedef struct {
     int64_t told_memory;
 } held;
 
-/* The arguments of a question; what a call does not take is 0. */
+/* The arguments of a call, and how many sites and texts there are. */
 typedef struct {
-    held *of;
+    napi_env env;
+    held *of[MOST_SITES];
+    text texts[MOST_TEXTS];
+    size_t sites_given, texts_given;
     uint32_t flags;
-    text id, field, tags, dflt;
-    int64_t place;
+    uint64_t number;
 } question;
 
+/* What asks a site or the library, and what changes a site and answers nothing. */
 typedef int32_t ask(const question *it, uint8_t *out, size_t room, sw_told *told);
+typedef int32_t edit(const question *it, sw_told *told);
+
+/* A call: its name in JavaScript, one of the two that makes it, and how many sites and texts it takes. */
+typedef struct {
+    const char *name;
+    ask *asked;
+    edit *edited;
+    size_t sites, texts;
+} call;
 
 /* Whether a call of Node went well. If it did not, an exception is pending after this. */
 static bool is_ok(napi_env env, napi_status status)
@@ -59,29 +73,10 @@ static bool is_ok(napi_env env, napi_status status)
     return false;
 }
 
-static const char *type_name(napi_valuetype type)
+/* Throws a TypeError, and returns false. */
+static bool wrong_argument(napi_env env, const char *what)
 {
-    switch (type) {
-    case napi_undefined: return "undefined";
-    case napi_null: return "null";
-    case napi_boolean: return "a boolean";
-    case napi_number: return "a number";
-    case napi_string: return "a string";
-    case napi_symbol: return "a symbol";
-    case napi_function: return "a function";
-    case napi_bigint: return "a bigint";
-    default: return "another object";
-    }
-}
-
-/* Throws a TypeError that names the argument, and returns false. */
-static bool wrong_type(napi_env env, napi_value value, const char *name, const char *wanted)
-{
-    napi_valuetype type;
-    char message[MESSAGE_ROOM];
-    if (!is_ok(env, napi_typeof(env, value, &type))) return false;
-    snprintf(message, sizeof message, "%s must be %s, not %s", name, wanted, type_name(type));
-    is_ok(env, napi_throw_type_error(env, "ERR_INVALID_ARG_TYPE", message));
+    is_ok(env, napi_throw_type_error(env, "ERR_INVALID_ARG_TYPE", what));
     return false;
 }
 
@@ -102,10 +97,7 @@ static void *room_for(napi_env env, size_t bytes)
 
 static void forget(question *it)
 {
-    free(it->id.bytes);
-    free(it->field.bytes);
-    free(it->tags.bytes);
-    free(it->dflt.bytes);
+    for (size_t at = 0; at < it->texts_given; at++) free(it->texts[at].bytes);
 }
 
 static bool is_high(char16_t unit) { return unit >= 0xd800 && unit < 0xdc00; }
@@ -186,125 +178,68 @@ static bool is_uint8_array(napi_env env, napi_value value, bool *is_it)
     return true;
 }
 
-/* Takes a string or a Uint8Array; where neither comes, a TypeError says what is wanted. */
-static bool take_text_or(napi_env env, napi_value value, const char *name, const char *wanted, text *it)
+static bool is_site(napi_env env, napi_value value, bool *is_it)
 {
-    napi_valuetype type;
-    bool has_bytes;
-    if (!is_ok(env, napi_typeof(env, value, &type))) return false;
-    if (type == napi_string) return take_string(env, value, it);
-    if (!is_uint8_array(env, value, &has_bytes)) return false;
-    return has_bytes ? take_bytes(env, value, it) : wrong_type(env, value, name, wanted);
-}
-
-static bool take_text(napi_env env, napi_value value, const char *name, text *it)
-{
-    return take_text_or(env, value, name, "a string or a Uint8Array", it);
-}
-
-/* Takes a text, and in place of undefined and null another one. */
-static bool take_text_if(napi_env env, napi_value value, const char *name, const char *without, text *it)
-{
-    napi_valuetype type;
-    if (!is_ok(env, napi_typeof(env, value, &type))) return false;
-    if (type != napi_undefined && type != napi_null)
-        return take_text_or(env, value, name, "a string, a Uint8Array, null or undefined", it);
-    it->len = strlen(without);
-    it->bytes = room_for(env, it->len);
-    if (it->bytes) memcpy(it->bytes, without, it->len);
-    return it->bytes;
-}
-
-/* A request without the header has `*` as its field. */
-static bool take_field(napi_env env, napi_value value, question *it)
-{
-    return take_text_if(env, value, "field", "*", &it->field);
-}
-
-static bool take_default(napi_env env, napi_value value, question *it)
-{
-    return take_text_if(env, value, "default", "", &it->dflt);
-}
-
-static bool take_flags(napi_env env, napi_value value, question *it)
-{
-    return is_ok(env, napi_get_value_uint32(env, value, &it->flags));
-}
-
-/* Appends a tag and an LF. An LF in the tag would make two tags of it: it becomes a zero byte, which no tag has. */
-static bool append_line(napi_env env, const text *tag, text *lines, size_t *room)
-{
-    size_t wanted = lines->len + tag->len + 1;
-    if (wanted > *room) {
-        uint8_t *larger = realloc(lines->bytes, 2 * wanted);
-        if (!larger) return no_memory(env);
-        lines->bytes = larger;
-        *room = 2 * wanted;
-    }
-    for (size_t at = 0; at < tag->len; at++)
-        lines->bytes[lines->len++] = tag->bytes[at] == '\n' ? 0 : tag->bytes[at];
-    lines->bytes[lines->len++] = '\n';
-    return true;
-}
-
-static bool take_tag(napi_env env, napi_value value, uint32_t at, text *it)
-{
-    napi_valuetype type;
-    char name[sizeof "tags[4294967295]"];
-    if (!is_ok(env, napi_typeof(env, value, &type))) return false;
-    if (type == napi_string) return take_string(env, value, it);
-    snprintf(name, sizeof name, "tags[%u]", at);
-    return wrong_type(env, value, name, "a string");
-}
-
-/* Appends the tag of an array at a place. */
-static bool append_tag(napi_env env, napi_value tags, uint32_t at, text *lines, size_t *room)
-{
-    napi_handle_scope scope;
-    napi_value value;
-    text tag = {0};
-    bool is_done;
-    if (!is_ok(env, napi_open_handle_scope(env, &scope))) return false;
-    is_done = is_ok(env, napi_get_element(env, tags, at, &value)) && take_tag(env, value, at, &tag) &&
-              append_line(env, &tag, lines, room);
-    free(tag.bytes);
-    return is_ok(env, napi_close_handle_scope(env, scope)) && is_done;
-}
-
-static bool take_tags(napi_env env, napi_value value, question *it)
-{
-    bool is_array;
-    uint32_t count;
-    size_t room = 0;
-    if (!is_ok(env, napi_is_array(env, value, &is_array))) return false;
-    if (!is_array) return wrong_type(env, value, "tags", "an array of strings");
-    if (!is_ok(env, napi_get_array_length(env, value, &count))) return false;
-    for (uint32_t at = 0; at < count; at++)
-        if (!append_tag(env, value, at, &it->tags, &room)) return false;
-    return true;
-}
-
-static bool take_place(napi_env env, napi_value value, question *it)
-{
-    return is_ok(env, napi_get_value_int64(env, value, &it->place));
+    return is_ok(env, napi_check_object_type_tag(env, value, &SITE_TAG, is_it));
 }
 
 /* Takes an object that `make` made. */
 static bool take_held(napi_env env, napi_value value, held **it)
 {
     napi_valuetype type;
-    bool is_site = false;
+    bool is_it = false;
     if (!is_ok(env, napi_typeof(env, value, &type))) return false;
-    if (type == napi_object && !is_ok(env, napi_check_object_type_tag(env, value, &SITE_TAG, &is_site))) return false;
-    if (!is_site) return wrong_type(env, value, "this", "a Site");
+    if (type == napi_object && !is_site(env, value, &is_it)) return false;
+    if (!is_it) return wrong_argument(env, "a site is wanted");
     return is_ok(env, napi_unwrap(env, value, (void **)it));
 }
 
-/* The arguments of a call; those that are not given are undefined. */
-static bool take_arguments(napi_env env, napi_callback_info info, napi_value given[MOST_ARGUMENTS])
+/* Takes the next text, of a string or of bytes. */
+static bool take_text(napi_env env, napi_value value, bool is_string, question *it)
 {
-    size_t count = MOST_ARGUMENTS;
-    return is_ok(env, napi_get_cb_info(env, info, &count, given, NULL, NULL));
+    text *taken = &it->texts[it->texts_given];
+    if (it->texts_given == MOST_TEXTS) return wrong_argument(env, "a text too many");
+    it->texts_given++;
+    return is_string ? take_string(env, value, taken) : take_bytes(env, value, taken);
+}
+
+/* Takes a site, or bytes. */
+static bool take_object(napi_env env, napi_value value, question *it)
+{
+    bool has_bytes;
+    if (!is_uint8_array(env, value, &has_bytes)) return false;
+    if (has_bytes) return take_text(env, value, false, it);
+    if (it->sites_given == MOST_SITES) return wrong_argument(env, "a site too many");
+    return take_held(env, value, &it->of[it->sites_given++]);
+}
+
+static bool take_number(napi_env env, napi_value value, question *it)
+{
+    bool is_whole;
+    if (!is_ok(env, napi_get_value_bigint_uint64(env, value, &it->number, &is_whole))) return false;
+    return is_whole || wrong_argument(env, "a number past 64 bits");
+}
+
+static bool take(napi_env env, napi_value value, question *it)
+{
+    napi_valuetype type;
+    if (!is_ok(env, napi_typeof(env, value, &type))) return false;
+    switch (type) {
+    case napi_string: return take_text(env, value, true, it);
+    case napi_object: return take_object(env, value, it);
+    case napi_number: return is_ok(env, napi_get_value_uint32(env, value, &it->flags));
+    case napi_bigint: return take_number(env, value, it);
+    default: return wrong_argument(env, "an argument of another type");
+    }
+}
+
+/* The arguments that were given; `count` is how many. */
+static bool take_arguments(napi_env env, napi_callback_info info, napi_value given[MOST_ARGUMENTS], size_t *count,
+                           void **data)
+{
+    *count = MOST_ARGUMENTS;
+    if (!is_ok(env, napi_get_cb_info(env, info, count, given, NULL, data))) return false;
+    return *count <= MOST_ARGUMENTS || wrong_argument(env, "an argument too many");
 }
 
 static napi_value undefined(napi_env env)
@@ -369,112 +304,74 @@ static napi_value answered(napi_env env, ask *asked, const question *it)
     return value;
 }
 
+#define TEXT(at) it->texts[at].bytes, it->texts[at].len
+#define SITE(at) (&it->of[at]->site)
+
 static int32_t ask_pick(const question *it, uint8_t *out, size_t room, sw_told *told)
 {
-    return sw_pick(it->flags, it->field.bytes, it->field.len, it->tags.bytes, it->tags.len, it->dflt.bytes,
-                   it->dflt.len, out, room, told);
+    return sw_pick(it->flags, TEXT(0), TEXT(1), TEXT(2), out, room, told);
 }
 
 static int32_t ask_filter_tags(const question *it, uint8_t *out, size_t room, sw_told *told)
 {
-    return sw_filter(it->flags, it->field.bytes, it->field.len, it->tags.bytes, it->tags.len, out, room, told);
+    return sw_filter(it->flags, TEXT(0), TEXT(1), out, room, told);
+}
+
+static int32_t ask_refusal(const question *it, uint8_t *out, size_t room, sw_told *told)
+{
+    return sw_refusal(it->flags, out, room, told);
 }
 
 static int32_t ask_lookup(const question *it, uint8_t *out, size_t room, sw_told *told)
 {
-    return sw_site_lookup(&it->of->site, it->flags, it->id.bytes, it->id.len, it->field.bytes, it->field.len,
-                          it->dflt.bytes, it->dflt.len, out, room, told);
+    return sw_site_lookup(SITE(0), it->flags, TEXT(0), TEXT(1), TEXT(2), out, room, told);
 }
 
 static int32_t ask_text(const question *it, uint8_t *out, size_t room, sw_told *told)
 {
-    return sw_site_text(&it->of->site, it->flags, it->id.bytes, it->id.len, it->field.bytes, it->field.len,
-                        it->dflt.bytes, it->dflt.len, (size_t)it->place, out, room, told);
+    return sw_site_text(SITE(0), it->flags, TEXT(0), TEXT(1), TEXT(2), (size_t)it->number, out, room, told);
 }
 
 static int32_t ask_filter(const question *it, uint8_t *out, size_t room, sw_told *told)
 {
-    return sw_site_filter(&it->of->site, it->flags, it->id.bytes, it->id.len, it->field.bytes, it->field.len, out,
-                          room, told);
+    return sw_site_filter(SITE(0), it->flags, TEXT(0), TEXT(1), out, room, told);
 }
 
 static int32_t ask_bundle(const question *it, uint8_t *out, size_t room, sw_told *told)
 {
-    return sw_site_bundle(&it->of->site, it->flags, it->field.bytes, it->field.len, it->dflt.bytes, it->dflt.len, out,
-                          room, told);
+    return sw_site_bundle(SITE(0), it->flags, TEXT(0), TEXT(1), out, room, told);
 }
 
-/* pick(flags, field, tags, default) */
-static napi_value call_pick(napi_env env, napi_callback_info info)
+/* The calls that answer a document of the site alone. */
+#define ASKS_DOCUMENT(name) \
+    static int32_t ask_##name(const question *it, uint8_t *out, size_t room, sw_told *told) \
+    { \
+        return sw_site_##name(SITE(0), out, room, told); \
+    }
+
+ASKS_DOCUMENT(write)
+ASKS_DOCUMENT(summary)
+ASKS_DOCUMENT(status)
+ASKS_DOCUMENT(export)
+
+static int32_t ask_delta(const question *it, uint8_t *out, size_t room, sw_told *told)
 {
-    napi_value given[MOST_ARGUMENTS], answer = NULL;
-    question it = {0};
-    if (take_arguments(env, info, given) && take_flags(env, given[0], &it) && take_field(env, given[1], &it) &&
-        take_tags(env, given[2], &it) && take_default(env, given[3], &it))
-        answer = answered(env, ask_pick, &it);
-    forget(&it);
-    return answer;
+    return sw_site_delta(SITE(0), TEXT(0), out, room, told);
 }
 
-/* filterTags(flags, field, tags): the lines of `pick --all`, each tag as it was given, or null */
-static napi_value call_filterTags(napi_env env, napi_callback_info info)
+static int32_t ask_missing(const question *it, uint8_t *out, size_t room, sw_told *told)
 {
-    napi_value given[MOST_ARGUMENTS], answer = NULL;
-    question it = {0};
-    if (take_arguments(env, info, given) && take_flags(env, given[0], &it) && take_field(env, given[1], &it) &&
-        take_tags(env, given[2], &it))
-        answer = answered(env, ask_filter_tags, &it);
-    forget(&it);
-    return answer;
+    return sw_site_missing(SITE(0), TEXT(0), out, room, told);
 }
 
-/* lookup(site, flags, id, field, default): the line of the command `lookup`, or null */
-static napi_value call_lookup(napi_env env, napi_callback_info info)
+static int32_t ask_outdated(const question *it, uint8_t *out, size_t room, sw_told *told)
 {
-    napi_value given[MOST_ARGUMENTS], answer = NULL;
-    question it = {0};
-    if (take_arguments(env, info, given) && take_held(env, given[0], &it.of) && take_flags(env, given[1], &it) &&
-        take_text(env, given[2], "id", &it.id) && take_field(env, given[3], &it) && take_default(env, given[4], &it))
-        answer = answered(env, ask_lookup, &it);
-    forget(&it);
-    return answer;
+    return sw_site_outdated(SITE(0), TEXT(0), TEXT(1), out, room, told);
 }
 
-/* text(site, flags, id, field, default, place) */
-static napi_value call_text(napi_env env, napi_callback_info info)
+static int32_t ask_changes(const question *it, uint8_t *out, size_t room, sw_told *told)
 {
-    napi_value given[MOST_ARGUMENTS], answer = NULL;
-    question it = {0};
-    if (take_arguments(env, info, given) && take_held(env, given[0], &it.of) && take_flags(env, given[1], &it) &&
-        take_text(env, given[2], "id", &it.id) && take_field(env, given[3], &it) &&
-        take_default(env, given[4], &it) && take_place(env, given[5], &it))
-        answer = answered(env, ask_text, &it);
-    forget(&it);
-    return answer;
-}
-
-/* filter(site, flags, id, field): the lines of the command `filter`, or null */
-static napi_value call_filter(napi_env env, napi_callback_info info)
-{
-    napi_value given[MOST_ARGUMENTS], answer = NULL;
-    question it = {0};
-    if (take_arguments(env, info, given) && take_held(env, given[0], &it.of) && take_flags(env, given[1], &it) &&
-        take_text(env, given[2], "id", &it.id) && take_field(env, given[3], &it))
-        answer = answered(env, ask_filter, &it);
-    forget(&it);
-    return answer;
-}
-
-/* bundle(site, flags, field, default): the JSON document of the command `bundle`, or null */
-static napi_value call_bundle(napi_env env, napi_callback_info info)
-{
-    napi_value given[MOST_ARGUMENTS], answer = NULL;
-    question it = {0};
-    if (take_arguments(env, info, given) && take_held(env, given[0], &it.of) && take_flags(env, given[1], &it) &&
-        take_field(env, given[2], &it) && take_default(env, given[3], &it))
-        answer = answered(env, ask_bundle, &it);
-    forget(&it);
-    return answer;
+    return sw_site_changes(SITE(0), SITE(1), out, room, told);
 }
 
 /* Tells the garbage collector how much memory a site takes from now on. */
@@ -484,6 +381,83 @@ static bool tell_memory(napi_env env, held *it, int64_t memory)
     int64_t change = memory - it->told_memory;
     it->told_memory = memory;
     return is_ok(env, napi_adjust_external_memory(env, change, &all));
+}
+
+static int32_t edit_new(const question *it, sw_told *told)
+{
+    return sw_site_new(TEXT(0), SITE(0), told);
+}
+
+static int32_t edit_open(const question *it, sw_told *told)
+{
+    int32_t status = sw_site_open(TEXT(0), SITE(0), told);
+    if (status == SW_FOUND) tell_memory(it->env, it->of[0], (int64_t)(MEMORY_FOR_BYTE * it->texts[0].len));
+    return status;
+}
+
+static int32_t edit_share(const question *it, sw_told *told)
+{
+    int32_t status = sw_site_share(SITE(0), SITE(1));
+    *told = status == SW_NO_MEMORY ? OUT_OF_MEMORY_TOLD : (sw_told){0};
+    return status;
+}
+
+static int32_t edit_put(const question *it, sw_told *told)
+{
+    return sw_site_put(SITE(0), it->number, TEXT(0), TEXT(1), TEXT(2), told);
+}
+
+static int32_t edit_delete(const question *it, sw_told *told)
+{
+    return sw_site_delete(SITE(0), it->number, TEXT(0), TEXT(1), told);
+}
+
+static int32_t edit_import(const question *it, sw_told *told)
+{
+    return sw_site_import(SITE(0), it->number, TEXT(0), told);
+}
+
+static int32_t edit_update(const question *it, sw_told *told)
+{
+    return sw_site_update(SITE(0), it->number, TEXT(0), TEXT(1), told);
+}
+
+static int32_t edit_take(const question *it, sw_told *told)
+{
+    return sw_site_take(SITE(0), TEXT(0), it->number, told);
+}
+
+static int32_t edit_merge(const question *it, sw_told *told)
+{
+    return sw_site_merge(SITE(0), SITE(1), told);
+}
+
+/* Makes a call with the arguments that were taken. */
+static napi_value made(napi_env env, const call *called, const question *it)
+{
+    sw_told told;
+    int32_t status;
+    if (it->sites_given != called->sites || it->texts_given != called->texts) {
+        wrong_argument(env, "an argument is missing, or one too many");
+        return NULL;
+    }
+    if (called->asked) return answered(env, called->asked, it);
+    status = called->edited(it, &told);
+    return value_of(env, status, (const uint8_t *)"", &told);
+}
+
+/* Any of `calls`. */
+static napi_value call_any(napi_env env, napi_callback_info info)
+{
+    napi_value given[MOST_ARGUMENTS], answer = NULL;
+    question it = {.env = env};
+    size_t count;
+    void *called;
+    bool is_taken = take_arguments(env, info, given, &count, &called);
+    for (size_t at = 0; is_taken && at < count; at++) is_taken = take(env, given[at], &it);
+    if (is_taken) answer = made(env, called, &it);
+    forget(&it);
+    return answer;
 }
 
 /* Frees what a JavaScript object held: when it is collected, or when its thread ends. */
@@ -514,45 +488,23 @@ static napi_value call_make(napi_env env, napi_callback_info info)
     return NULL;
 }
 
-/* open(site, document): null, or a refusal, which leaves the site as it was */
-static napi_value call_open(napi_env env, napi_callback_info info)
-{
-    napi_value given[MOST_ARGUMENTS];
-    held *it;
-    text document = {0};
-    sw_told told;
-    int32_t status;
-    if (!take_arguments(env, info, given) || !take_held(env, given[0], &it) ||
-        !take_text(env, given[1], "document", &document))
-        return NULL;
-    status = sw_site_open(document.bytes, document.len, &it->site, &told);
-    free(document.bytes);
-    if (status != SW_FOUND) return refusal(env, &told);
-    return tell_memory(env, it, (int64_t)(MEMORY_FOR_BYTE * document.len)) ? null(env) : NULL;
-}
-
-/* share(site, other): null; undefined where the site is closed; or a refusal */
-static napi_value call_share(napi_env env, napi_callback_info info)
-{
-    napi_value given[MOST_ARGUMENTS];
-    held *it, *other;
-    if (!take_arguments(env, info, given) || !take_held(env, given[0], &it) || !take_held(env, given[1], &other))
-        return NULL;
-    switch (sw_site_share(&it->site, &other->site)) {
-    case SW_FOUND: return null(env);
-    case SW_USAGE: return undefined(env);
-    default: return refusal(env, &OUT_OF_MEMORY_TOLD);
-    }
-}
-
 /* close(site) */
 static napi_value call_close(napi_env env, napi_callback_info info)
 {
     napi_value given[MOST_ARGUMENTS];
+    size_t count;
     held *it;
-    if (!take_arguments(env, info, given) || !take_held(env, given[0], &it)) return NULL;
+    if (!take_arguments(env, info, given, &count, NULL) || !take_held(env, given[0], &it)) return NULL;
     sw_site_free(&it->site);
     return tell_memory(env, it, 0) ? undefined(env) : NULL;
+}
+
+/* version() */
+static napi_value call_version(napi_env env, napi_callback_info info)
+{
+    napi_value value = NULL;
+    (void)info;
+    return is_ok(env, napi_create_uint32(env, sw_version(), &value)) ? value : NULL;
 }
 
 /* Whether the library is of the header's minor version; if not, an exception is pending. */
@@ -563,15 +515,47 @@ static bool has_version(napi_env env)
     return false;
 }
 
-#define CALL(name) {#name, NULL, call_##name, NULL, NULL, NULL, napi_enumerable, NULL}
+static const call CALLS[] = {
+    {"sw_pick", ask_pick, NULL, 0, 3},
+    {"sw_filter", ask_filter_tags, NULL, 0, 2},
+    {"sw_refusal", ask_refusal, NULL, 0, 0},
+    {"sw_site_lookup", ask_lookup, NULL, 1, 3},
+    {"sw_site_text", ask_text, NULL, 1, 3},
+    {"sw_site_filter", ask_filter, NULL, 1, 2},
+    {"sw_site_bundle", ask_bundle, NULL, 1, 2},
+    {"sw_site_write", ask_write, NULL, 1, 0},
+    {"sw_site_summary", ask_summary, NULL, 1, 0},
+    {"sw_site_status", ask_status, NULL, 1, 0},
+    {"sw_site_export", ask_export, NULL, 1, 0},
+    {"sw_site_delta", ask_delta, NULL, 1, 1},
+    {"sw_site_missing", ask_missing, NULL, 1, 1},
+    {"sw_site_outdated", ask_outdated, NULL, 1, 2},
+    {"sw_site_changes", ask_changes, NULL, 2, 0},
+    {"sw_site_new", NULL, edit_new, 1, 1},
+    {"sw_site_open", NULL, edit_open, 1, 1},
+    {"sw_site_share", NULL, edit_share, 2, 0},
+    {"sw_site_put", NULL, edit_put, 1, 3},
+    {"sw_site_delete", NULL, edit_delete, 1, 2},
+    {"sw_site_import", NULL, edit_import, 1, 1},
+    {"sw_site_update", NULL, edit_update, 1, 2},
+    {"sw_site_take", NULL, edit_take, 1, 1},
+    {"sw_site_merge", NULL, edit_merge, 2, 0},
+};
+
+/* Makes a function of JavaScript, of this name. */
+static bool add(napi_env env, napi_value exports, const char *name, napi_callback made_by, const call *called)
+{
+    napi_value function;
+    return is_ok(env, napi_create_function(env, name, NAPI_AUTO_LENGTH, made_by, (void *)called, &function)) &&
+           is_ok(env, napi_set_named_property(env, exports, name, function));
+}
 
 NAPI_MODULE_INIT()
 {
-    static const napi_property_descriptor calls[] = {
-        CALL(pick), CALL(filterTags), CALL(make), CALL(open), CALL(share), CALL(close), CALL(lookup), CALL(text),
-        CALL(filter), CALL(bundle),
-    };
-    if (!has_version(env)) return NULL;
-    if (!is_ok(env, napi_define_properties(env, exports, sizeof calls / sizeof *calls, calls))) return NULL;
+    if (!has_version(env) || !add(env, exports, "make", call_make, NULL) ||
+        !add(env, exports, "close", call_close, NULL) || !add(env, exports, "version", call_version, NULL))
+        return NULL;
+    for (size_t at = 0; at < sizeof CALLS / sizeof *CALLS; at++)
+        if (!add(env, exports, CALLS[at].name, call_any, &CALLS[at])) return NULL;
     return exports;
 }

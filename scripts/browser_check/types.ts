@@ -1,6 +1,6 @@
 // What scripts/browser-check has the TypeScript compiler read: uses of the module that are right, and after each
 // `@ts-expect-error` one that is wrong.
-import { Change, Label, LanguageMaps, Picked, Refused, Silkwaram, Site, Status, load } from 'silkwaram-wasm';
+import { Change, Label, LanguageMaps, Picked, Refused, Silkwaram, Site, Status, load } from 'silkwaram';
 
 export async function uses(): Promise<unknown[]> {
   const sw: Silkwaram = await load();

@@ -1,11 +1,11 @@
-// What scripts/node-check has the TypeScript compiler read: uses of the package that are right, and after
-// each `@ts-expect-error` one that is wrong.
-import { Bundle, Choice, Label, Refused, Site, TagChoice, filter, pick } from 'silkwaram';
+// What scripts/node-check and scripts/npm-check have the TypeScript compiler read: uses of the addon and of the package
+// in Node that are right, and after each `@ts-expect-error` one that is wrong.
+import { Change, Choice, Label, LanguageMaps, Picked, Refused, Site, Status, filter, pick, refusal, version } from 'silkwaram';
 import { languages } from 'silkwaram/express';
 
 const tag: string | null = pick('fr', ['en'] as const, { default: 'en', scheme: 'basic', lenient: true });
 pick(undefined, ['en'], { default: null, widen: true });
-const tags: TagChoice[] = filter('fr', ['en'], { lenient: true });
+const tags: Picked[] = filter('fr', ['en'], { lenient: true });
 // @ts-expect-error
 filter('fr', ['en'], { widen: true });
 // @ts-expect-error
@@ -17,20 +17,29 @@ pick('fr', ['en'], { defualt: 'en' });
 
 const site: Site = Site.open(new Uint8Array(2));
 const label: Label | null = site.lookup('greeting', null);
-const text: string | null = site.text('greeting', 'fr', { place: 1 });
+const text: string | null = site.text('greeting', 'fr', { place: 1n });
 const texts: string[] | null = site.texts('greeting', 'fr');
 const choices: Choice[] = site.filter('greeting', 'fr');
-const bundle: Bundle = site.bundle('fr', { default: 'en' });
+const bundle: LanguageMaps = site.bundle('fr', { default: 'en' });
 // @ts-expect-error
 site.filter('greeting', 'fr', { default: 'en' });
 // @ts-expect-error
 site.lookup('greeting');
 // @ts-expect-error
 Site.open(7);
+site.put('greeting', 'fr', 'Bonjour', { now: 5 });
+// @ts-expect-error
+site.put('greeting', 'fr');
+site.importMaps(bundle);
+const other: Site = Site.new('tokyo');
+site.take(other.deltaFor(site.summary()), { notAfter: Date.now() });
+const changes: Change[] = site.changes(other);
+const status: Status = site.status();
 site.share().close();
 site[Symbol.dispose]();
 
-const number = (error: unknown): number => (error as Refused).number;
+const number = (error: unknown): number | null => (error instanceof Refused ? error.number : null);
+const meaning: string | null = refusal(version);
 const use = languages({ site, tags: ['en'] });
 const req: Parameters<typeof use>[0] = { headers: {} };
 use(req, { getHeader: () => undefined, setHeader: () => 0 }, () => {});
@@ -46,4 +55,4 @@ const greet = (it: Express.Request): string => it.label(it.language ?? 'none')?.
 // @ts-expect-error
 const unknown = (it: Express.Request) => it.languages;
 
-export { bundle, choices, greet, label, language, number, tag, tags, text, texts };
+export { bundle, changes, choices, greet, label, language, meaning, number, status, tag, tags, text, texts };

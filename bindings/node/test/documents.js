@@ -1,5 +1,3 @@
-'use strict';
-
 // Returns the document of a site that has these labels (docs/FORMATS.md): { id: { tag: texts } }.
 function siteDocument(labels) {
   const keys = Object.entries(labels).flatMap(([id, byTag]) =>
@@ -22,4 +20,4 @@ const GREETINGS = siteDocument({
   farewell: { en: ['Bye'] },
 });
 
-module.exports = { GREETINGS, siteDocument };
+export { GREETINGS, siteDocument };

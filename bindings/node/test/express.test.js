@@ -1,12 +1,11 @@
-'use strict';
-
-const assert = require('node:assert/strict');
-const http = require('node:http');
-const { once } = require('node:events');
-const test = require('node:test');
-const { Site } = require('..');
-const { languages } = require('../express.js');
-const { GREETINGS, siteDocument } = require('./documents.js');
+import assert from 'node:assert/strict';
+import http from 'node:http';
+import { createRequire } from 'node:module';
+import { once } from 'node:events';
+import test from 'node:test';
+import { Site } from '../node.mjs';
+import { languages } from '../express.mjs';
+import { GREETINGS, siteDocument } from './documents.js';
 
 const TAGS = ['en', 'fr', 'de-CH'];
 
@@ -25,7 +24,7 @@ function respond(middleware, earlier) {
 
 function expressOrNull() {
   try {
-    return require('express');
+    return createRequire(import.meta.url)('express');
   } catch {
     return null;
   }

@@ -1,10 +1,8 @@
-'use strict';
-
-const assert = require('node:assert/strict');
-const test = require('node:test');
-const { setImmediate: nextTurn } = require('node:timers/promises');
-const { Site } = require('..');
-const { siteDocument } = require('./documents.js');
+import assert from 'node:assert/strict';
+import test from 'node:test';
+import { setImmediate as nextTurn } from 'node:timers/promises';
+import { Site } from '../node.mjs';
+import { siteDocument } from './documents.js';
 
 const MESSAGES = 2000;
 const COUNT = 200;

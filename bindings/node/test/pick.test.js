@@ -1,8 +1,6 @@
-'use strict';
-
-const assert = require('node:assert/strict');
-const test = require('node:test');
-const { filter, pick } = require('..');
+import assert from 'node:assert/strict';
+import test from 'node:test';
+import { filter, pick } from '../node.mjs';
 
 test('the header of RFC 9110 section 12.5.4 takes Danish, then British English', () => {
   const field = 'da, en-gb;q=0.8, en;q=0.7';
@@ -47,7 +45,7 @@ test('extended ranges', () => {
 
 test('malformed elements are refused, or skipped', () => {
   assert.throws(() => pick('fr;q=0.4,en;q=1.001', ['en']), {
-    name: 'Error',
+    name: 'Refused',
     message:
       'refused 9: field element at 9 (each element of a field is a range, with or without a weight)',
     number: 9,
@@ -137,12 +135,9 @@ test('an error of a getter among the tags is passed on', () => {
   assert.throws(() => pick('en', tags), { name: 'RangeError', message: 'of the getter' });
 });
 
-test('the package gives the same to import and to require', async () => {
-  const module = await import('../index.mjs');
-  assert.equal(module.pick, pick);
-  assert.equal(module.Site, require('..').Site);
-  assert.equal(module.default, require('..'));
-  assert.deepEqual(Object.keys(module).sort(), ['Site', 'default', 'filter', 'pick']);
+test('the package has the names of its types', async () => {
+  const names = Object.keys(await import('../node.mjs')).sort();
+  assert.deepEqual(names, ['Refused', 'Site', 'filter', 'pick', 'refusal', 'version']);
 });
 
 test('a language finds its regions where that is asked for', () => {

@@ -1,9 +1,7 @@
-'use strict';
-
-const assert = require('node:assert/strict');
-const test = require('node:test');
-const { Site, pick } = require('..');
-const { GREETINGS } = require('./documents.js');
+import assert from 'node:assert/strict';
+import test from 'node:test';
+import { Site, pick } from '../node.mjs';
+import { GREETINGS } from './documents.js';
 
 const MEBIBYTE = 2 ** 20;
 const TAGS = Array.from({ length: 1000 }, (_, at) => `en-x-${at}`);

@@ -1,11 +1,10 @@
-'use strict';
+import assert from 'node:assert/strict';
+import test from 'node:test';
+import { createRequire } from 'node:module';
+import { Refused, Site } from '../node.mjs';
+import { GREETINGS, siteDocument } from './documents.js';
 
-const assert = require('node:assert/strict');
-const test = require('node:test');
-const library = require('../library.js');
-const { Site } = require('..');
-const { GREETINGS, siteDocument } = require('./documents.js');
-
+const library = createRequire(import.meta.url)('../build/silkwaram.node');
 const CLOSED = { name: 'Error', message: 'the site is closed' };
 
 function opened(labels) {
@@ -94,7 +93,7 @@ test('documents are refused by number, offset and row', () => {
   const cell = ['m', 'en', 1, 'paris', 0, ['a']];
   const document = (...cells) => JSON.stringify({ cells, kind: 'site', site: 'paris', version: 2 });
   const refuses = (text, number, offset, row) =>
-    assert.throws(() => Site.open(text), { name: 'Error', number, offset, row });
+    assert.throws(() => Site.open(text), { name: 'Refused', number, offset, row });
   refuses(Buffer.from([0x7b, 0xff]), 18, 1, null);
   refuses('', 19, null, null);
   refuses(document(['@m', ...cell.slice(1)]), 10, null, 0);
@@ -171,9 +170,13 @@ test('wrong types are TypeErrors that name the argument', () => {
   assert.throws(() => site.filter('m', 1n), wrong('field'));
   assert.throws(() => site.bundle(() => 'en'), wrong('field'));
   assert.throws(() => site.text('m', 'en', { place: '1' }), wrong('place'));
-  for (const place of [-1, 0.5, NaN, Infinity, 2 ** 53]) {
+  for (const place of [-1, 0.5, NaN, Infinity, 2 ** 53, -1n, 2n ** 64n]) {
     assert.throws(() => site.text('m', 'en', { place }), { name: 'RangeError' });
   }
+  assert.throws(() => site.put('m', 'en', 7), wrong('text'));
+  assert.throws(() => site.put('m', 'en', 'a', { now: '7' }), wrong('now'));
+  assert.throws(() => site.take({}), wrong('delta'));
+  assert.throws(() => site.merge({}), wrong('other'));
 });
 
 test('another object is no site, in the package and in its compiled part', () => {
@@ -181,10 +184,60 @@ test('another object is no site, in the package and in its compiled part', () =>
   for (const other of [{}, Object.create(site), new Proxy(site, {}), undefined, 7, [], () => {}]) {
     assert.throws(() => Site.prototype.text.call(other, 'greeting', 'en'), TypeError);
     assert.throws(() => Site.prototype.close.call(other), TypeError);
-    const wrongThis = { name: 'TypeError', message: /^this must be a Site, not / };
-    assert.throws(() => library.lookup(other, 0, 'greeting', 'en'), wrongThis);
-    assert.throws(() => library.open(other, GREETINGS), wrongThis);
-    assert.throws(() => library.share(library.make(), other), wrongThis);
-    assert.throws(() => library.close(other), wrongThis);
+    assert.throws(() => library.sw_site_lookup(other, 0, 'greeting', 'en', ''), TypeError);
+    assert.throws(() => library.sw_site_open(GREETINGS, other), TypeError);
+    assert.throws(() => library.sw_site_share(library.make(), other), TypeError);
+    assert.throws(() => library.close(other), TypeError);
   }
+});
+
+test('the compiled part takes as many sites and texts as a call has, and no others', () => {
+  const site = library.make();
+  assert.throws(() => library.close(), TypeError);
+  assert.throws(() => library.sw_site_lookup(site, 0, 'm', 'en'), TypeError);
+  assert.throws(() => library.sw_pick(0, 'm', 'en', '', ''), TypeError);
+  assert.throws(() => library.sw_site_share(site, site, site), TypeError);
+  assert.throws(() => library.sw_site_put(site, 2n ** 64n, 'm', 'en', 'a'), TypeError);
+  assert.throws(() => library.sw_site_put(site, 1n, 'm', 'en', 'a', 'b', 'c'), TypeError);
+  assert.throws(() => library.sw_pick(0, null, '', ''), TypeError);
+});
+
+test('a site is made, edited and exchanged', () => {
+  const [paris, tokyo] = [Site.new('paris'), Site.new('tokyo')];
+  paris.put('greeting', 'fr', 'Bonjour', { now: 5 });
+  tokyo.importMaps({ greeting: { ja: ['こんにちは', 'やあ'] } }, { now: 2n ** 60n });
+  paris.take(tokyo.deltaFor(paris.summary()));
+  tokyo.merge(paris);
+  assert.deepEqual(paris.export(), tokyo.export());
+  assert.deepEqual(paris.changes(tokyo), []);
+  assert.deepEqual(paris.status(), {
+    site: 'paris',
+    cells: 2,
+    labels: 2,
+    last: { time: 2n ** 60n, site: 'tokyo', count: 0 },
+  });
+  const share = paris.share();
+  paris.update({ greeting: { ja: ['こんにちは', 'やあ'] } }, {}, { now: 2n ** 60n });
+  paris.delete('greeting', 'fr', { now: 6 });
+  assert.equal(share.text('greeting', 'fr'), 'Bonjour');
+  assert.deepEqual(paris.export(), {});
+  assert.deepEqual(share.missing('en'), share.export());
+  assert.deepEqual(share.outdated('fr', 'ja'), share.export());
+  assert.deepEqual(Site.open(share.toBytes()).write(), share.write());
+});
+
+test('an edit that is refused throws a Refused, and changes nothing', () => {
+  const site = Site.open(GREETINGS);
+  const before = site.write();
+  for (const [edit, number] of [
+    [() => site.put('@', 'en', 'a'), 10],
+    [() => site.put('a', 'e_', 'a'), 3],
+    [() => site.put('a', 'en', '\ud800'), 18],
+    [() => site.importMaps({ a: { en: 7 } }), 20],
+    [() => site.take('{}'), 20],
+    [() => Site.new('Paris'), 27],
+  ]) {
+    assert.throws(edit, (error) => error instanceof Refused && error.number === number);
+  }
+  assert.equal(site.write(), before);
 });

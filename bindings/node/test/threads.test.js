@@ -1,19 +1,18 @@
-'use strict';
-
-const assert = require('node:assert/strict');
-const { once } = require('node:events');
-const test = require('node:test');
-const { Worker } = require('node:worker_threads');
-const { GREETINGS } = require('./documents.js');
+import assert from 'node:assert/strict';
+import { once } from 'node:events';
+import test from 'node:test';
+import { Worker } from 'node:worker_threads';
+import { pick } from '../node.mjs';
+import { GREETINGS } from './documents.js';
 
 const THREADS = 8;
 const ROUNDS = 2000;
 
 // Asks in a thread of its own: each round opens, shares, asks and closes or forgets. It tells how many rounds were
 // right, and then ends, or works on for ever.
-function work({ document, rounds, isEndless, path }) {
+async function work({ document, rounds, isEndless, path }) {
   const { parentPort } = require('node:worker_threads');
-  const { Site, pick } = require(path);
+  const { Site, pick } = await import(path);
   const site = Site.open(document);
   let right = 0;
   for (let round = 0; isEndless || round < rounds; round++) {
@@ -28,9 +27,9 @@ function work({ document, rounds, isEndless, path }) {
 }
 
 // Recurses until the stack ends, and asks at each depth.
-function descend({ document, path }) {
+async function descend({ document, path }) {
   const { parentPort } = require('node:worker_threads');
-  const { Site, pick } = require(path);
+  const { Site, pick } = await import(path);
   function below(depth) {
     pick('fr-CA, en;q=0.5', ['en', 'fr']);
     Site.open(document).close();
@@ -45,7 +44,7 @@ function descend({ document, path }) {
 }
 
 function start(task, given, options) {
-  const data = { ...given, path: require.resolve('..') };
+  const data = { ...given, path: new URL('../node.mjs', import.meta.url).href };
   const code = `(${task})(require('node:worker_threads').workerData)`;
   return new Worker(code, { eval: true, workerData: data, ...options });
 }
@@ -71,7 +70,7 @@ test('a thread that is ended in the middle takes nothing else with it', async ()
   // (it goes on, and is ended in the middle of some later round)
   assert.deepEqual(await once(worker, 'message'), [ROUNDS]);
   assert.equal(await worker.terminate(), 1);
-  assert.equal(require('..').pick('fr', ['fr']), 'fr');
+  assert.equal(pick('fr', ['fr']), 'fr');
 });
 
 test('a call has stack enough where the stack of JavaScript ends', async () => {

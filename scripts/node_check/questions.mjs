@@ -1,15 +1,14 @@
-'use strict';
-
-// Compares the answers of the package with those of the command to the same questions.
+// Compares the answers of a package for Node with those of the command to the same questions.
 //
-// usage: node questions.js PACKAGE LEXICAT COUNT
+// usage: node questions.mjs MODULE LEXICAT COUNT
 //
 // It makes COUNT questions, always the same ones, a sixth for each call, over one site.
-const assert = require('node:assert/strict');
-const { spawnSync } = require('node:child_process');
+import assert from 'node:assert/strict';
+import { spawnSync } from 'node:child_process';
+import { pathToFileURL } from 'node:url';
 
-const [folder, lexicat, count] = process.argv.slice(2);
-const { Site, filter, pick } = require(folder);
+const [file, lexicat, count] = process.argv.slice(2);
+const { Site, filter, pick } = await import(pathToFileURL(file));
 
 const TAGS = ('en en-GB en-US fr fr-CA FR-ch de de-DE de-AT de-Latn-DE-1996 pt-BR pt sr-Latn zh-Hant-TW ' +
   'zh-Hans zh ja i-klingon x-private @none').split(' ');
