@@ -1,0 +1,122 @@
+// Asks a package for Node what hostile.py asked the command, and what no command can be asked: values of JavaScript.
+import assert from 'node:assert/strict';
+
+// One text for equal values, whatever the order of their members.
+function canonical(value) {
+  return JSON.stringify(value, (_, it) =>
+    it && typeof it === 'object' && !Array.isArray(it)
+      ? Object.fromEntries(Object.entries(it).sort(([a], [b]) => (a < b ? -1 : 1)))
+      : typeof it === 'bigint' ? `${it}n` : it,
+  );
+}
+
+function wordOf(it) {
+  if (it?.bytes !== undefined) return new Uint8Array(Buffer.from(it.bytes, 'base64'));
+  return it?.now !== undefined ? { now: BigInt(it.now) } : it;
+}
+
+function answered({ Refused }, call) {
+  try {
+    return call() ?? null;
+  } catch (error) {
+    if (!(error instanceof Refused)) throw error;
+    const { number, offset, row } = error;
+    return { number, offset, row };
+  }
+}
+
+function asked({ pick }, site, call, words) {
+  // (the command prints a tag in lower case)
+  return call === 'pick' ? pick(...words)?.toLowerCase() : site[call](...words);
+}
+
+/** Returns a line about all inputs; an Error lists those that differ. */
+export function hostile(calls, steps) {
+  const site = calls.Site.new('paris');
+  const faults = [];
+  let refused = 0;
+  for (const { call, words, wanted, document } of steps) {
+    const got = [answered(calls, () => asked(calls, site, call, words.map(wordOf)))];
+    const wants = [wanted];
+    if (document !== undefined) {
+      got.push(site.write());
+      wants.push(document);
+    }
+    if (wanted?.number !== undefined) refused++;
+    if (canonical(got) !== canonical(wants)) {
+      const lines = [[call, ...words], wants, got].map((it) => canonical(it).slice(0, 300));
+      faults.push(lines.join('\n  '));
+    }
+  }
+  if (faults.length > 0) throw new Error(`${faults.length} differ\n${faults.slice(0, 10).join('\n')}`);
+  return `${steps.length} inputs, ${refused} refused; 0 differ from the command's`;
+}
+
+const HALVES = ['\ud800', '\udfff', '\udc00\ud800', 'a\ud83d'];
+const NO_TIMES = [-1, 0.5, NaN, Infinity, 2 ** 53, 1e300, -1n, 2n ** 64n];
+const NO_TEXTS = [undefined, null, 7, 7n, true, Symbol('a'), {}, ['a'], () => 'a', new ArrayBuffer(1), new Uint16Array(1)];
+
+/** Returns a line about values that only JavaScript has. What is wanted of each is in docs/BROWSER.md and REFUSALS.md. */
+export function ofJavaScript({ Refused, Site, filter, pick, refusal }) {
+  let count = 0;
+  const refuses = (call, number) => {
+    count++;
+    assert.throws(call, (it) => it instanceof Refused && it instanceof Error && it.name === 'Refused' && it.number === number);
+  };
+  const throws = (call, kind) => {
+    count++;
+    assert.throws(call, kind);
+  };
+  const site = Site.new('paris');
+  site.put('a\ufffd', 'en', 'found', { now: 1 });
+  const before = site.write();
+  for (const half of HALVES) {
+    refuses(() => pick(half, ['en']), 9);
+    refuses(() => pick('en', [half]), 3);
+    refuses(() => pick('en', ['en'], { default: half }), 3);
+    refuses(() => site.put(half, 'en', 'a'), 10);
+    refuses(() => site.put('a', half, 'a'), 3);
+    refuses(() => site.put('a', 'en', half), 18);
+    refuses(() => site.lookup(half, 'en'), 10);
+    refuses(() => site.missing(half), 3);
+    refuses(() => Site.open(half), 18);
+    refuses(() => site.take(half), 18);
+    refuses(() => site.importMaps(half), 18);
+    refuses(() => site.importMaps({ a: { en: half } }), 19);
+  }
+  for (const now of NO_TIMES) {
+    throws(() => site.put('a', 'en', 'a', { now }), RangeError);
+    throws(() => site.delete('a', 'en', { now }), RangeError);
+    throws(() => site.importMaps({}, { now }), RangeError);
+    throws(() => site.take('{}', { notAfter: now }), RangeError);
+    throws(() => site.text('a', 'en', { place: now }), RangeError);
+  }
+  for (const it of NO_TEXTS) {
+    throws(() => site.put(it, 'en', 'a'), TypeError);
+    throws(() => site.put('a', it, 'a'), TypeError);
+    throws(() => site.put('a', 'en', it), TypeError);
+    throws(() => site.lookup(it, 'en'), TypeError);
+    throws(() => site.deltaFor(it), TypeError);
+    throws(() => Site.open(it), TypeError);
+    throws(() => site.merge(it), TypeError);
+    throws(() => site.changes(it), TypeError);
+    throws(() => pick('en', [it]), TypeError);
+    throws(() => filter('en', it), it instanceof Array ? Refused : TypeError);
+    if (it !== undefined && it !== null) throws(() => pick(it, ['en']), TypeError);
+  }
+  for (const options of [null, 7, 'en', { scheme: 'toString' }, { lenient: 1 }, { widen: 'yes' }, { default: 7 }]) {
+    throws(() => pick('en', ['en'], options), TypeError);
+  }
+  for (const number of [0, -1, 0.5, 2 ** 32 + 9, 1e300, NaN, '9', 9n, null, {}]) {
+    count++;
+    assert.equal(refusal(number), null);
+  }
+  assert.equal(typeof refusal(9), 'string');
+  // (nothing of all that changed the site, and U+FFFD is a text like others)
+  assert.equal(site.write(), before);
+  assert.equal(site.text('a\ufffd', 'en', { place: 0n }), 'found');
+  assert.equal(site.text('a\ufffd', 'en', { place: 2n ** 64n - 1n }), null);
+  site.close();
+  throws(() => site.text('a\ufffd', 'en'), /closed/);
+  return `${count} values`;
+}

@@ -1,0 +1,7 @@
+// A program for pages and for Node alike: it loads a module of its own.
+import { Refused, load } from 'silkwaram';
+
+const calls = await load();
+
+export { Refused };
+export const { Site, filter, memory, pick, refusal, version } = calls;
