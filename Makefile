@@ -55,7 +55,7 @@ library: build/lib/libsilkwaram.a
 build/lib/libsilkwaram.a: $(SOURCES) include/silkwaram.h scripts/library
 	RT='$(RT)' scripts/library
 
-#: make browser       the library for browsers and Node, as WebAssembly, in build/browser
+#: make browser       the package for Node and pages, as WebAssembly, in build/browser
 #:                    (docs/BROWSER.md): a minute or two more than the library
 browser: build/browser/silkwaram.wasm
 
@@ -166,8 +166,8 @@ uninstall:
 	rm -f "$(INCLUDE)/silkwaram.h" "$(LIB)/pkgconfig/silkwaram.pc"
 	rm -f "$(LIB)/libsilkwaram.a" "$(LIB)"/libsilkwaram.so*
 
-#: make dist          tarballs, one of them for browsers, Debian packages and a wheel for Python, for
-#:                    those who have no Rattle kit, in build/dist: some minutes more than the library.
+#: make dist          a tarball, Debian packages, a wheel for Python and a package for npm, for those
+#:                    who have no Rattle kit, in build/dist: some minutes more than the library.
 #:                    What `make` or `make test` proved serves it; after `make test` the statements
 #:                    of the libraries are packed too, for `make HINTS=FILE`.
 #:                    MAINTAINER='NAME <ADDRESS>' names the distributor, SIGN_KEY=FILE signs checksums

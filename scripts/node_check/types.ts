@@ -1,6 +1,7 @@
 // What scripts/node-check and scripts/npm-check have the TypeScript compiler read: uses of the addon and of the package
 // in Node that are right, and after each `@ts-expect-error` one that is wrong.
-import { Change, Choice, Label, LanguageMaps, Picked, Refused, Site, Status, filter, pick, refusal, version } from 'silkwaram';
+import { Change, Choice, Label, LanguageMaps, Picked, Refused, Site, Status } from 'silkwaram';
+import { filter, pick, refusal, version } from 'silkwaram';
 import { languages } from 'silkwaram/express';
 
 const tag: string | null = pick('fr', ['en'] as const, { default: 'en', scheme: 'basic', lenient: true });

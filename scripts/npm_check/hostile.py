@@ -12,9 +12,11 @@ sys.dont_write_bytecode = True
 sys.path.insert(0, os.path.join(os.path.dirname(os.path.realpath(__file__)), "../browser_check"))
 from edits import Command, line, status  # noqa: E402
 
-IDS = ["__proto__", "constructor", "toString", "hasOwnProperty", "valueOf", "then", "0", "length", "<script>", "'\"\\",
-       "\u202eabc", "\ufeffm", "\u2028", "😀" * 32, "😀" * 33, "x" * 128, "x" * 129, "", "@id", "a\u0000", "a\u009f", "a\nb"]
-LANGS = ["en", "EN-us", "@none", "__proto__", "", "a" * 256, "en-", "e\u0301", "en\n", "i-klingon", "x-" + "a-" * 40 + "b"]
+IDS = ["__proto__", "constructor", "toString", "hasOwnProperty", "valueOf", "then", "0", "length", "<script>",
+       "'\"\\", "\u202eabc", "\ufeffm", "\u2028", "😀" * 32, "😀" * 33, "x" * 128, "x" * 129, "", "@id", "a\u0000",
+       "a\u009f", "a\nb"]
+LANGS = ["en", "EN-us", "@none", "__proto__", "", "a" * 256, "en-", "e\u0301", "en\n", "i-klingon",
+         "x-" + "a-" * 40 + "b"]
 TEXTS = ["__proto__", "\ufeff", "\u0000", "\u2028\u2029", "18446744073709551616", '"],["m","en",', "\r\n", "😀",
          "é" * 32767, "é" * 32768, "x" * 65536]
 MOMENTS = [0, 1, 2**31, 2**32, 2**53 - 1, 2**53, 2**53 + 1, 2**63, 2**64 - 1]
@@ -24,8 +26,9 @@ FIELDS = ["", ",", ";q=1", "*", "*;q=0", "en;q=1.0000", "en;q=999999999999999999
 TAG_LISTS = [["en"], ["EN", "en", "En"], ["__proto__"], ["constructor", "en"], [""], ["en", ""], ["@none"],
              ["en-x-" + "-".join("abcdefgh")], ["x-" + "a" * 9], [f"en-x-{it}" for it in range(500)]]
 MAPS = ['{"__proto__":{"en":"a"}}', '{"a":{"__proto__":"b"}}', '{"a":{"en":"\\ud800"}}', '{"a":{"en":1e999}}',
-        '{"a":{"en":["x","y"]},"a":{"en":"z"}}', '{"a":{"en":"x","EN":"y"}}', "[" * 127, "[" * 200, "{}", "\ufeff{}", "null",
-        '{"constructor":{"en":["1","2"],"fr":"3"}}', '{"toString":{"en":[]}}', '{"a":null}', '{"a":{"en":null}}']
+        '{"a":{"en":["x","y"]},"a":{"en":"z"}}', '{"a":{"en":"x","EN":"y"}}', "[" * 127, "[" * 200, "{}",
+        "\ufeff{}", "null", '{"constructor":{"en":["1","2"],"fr":"3"}}',
+        '{"toString":{"en":[]}}', '{"a":null}', '{"a":{"en":null}}']
 CELL = '["m","en",{},"paris",{},["a"]]'
 SITE = '{{"cells":[{}],"kind":"site","site":"{}","version":{}}}'
 
@@ -45,7 +48,8 @@ def documents():
                                        plain.replace('"kind"', '"__proto__":{},"kind"'), "[" * 100000, '{"a":' * 100000,
                                        plain.replace('"m"', '"__proto__"'), plain.replace('["a"]', '["\\ud800"]'),
                                        plain.replace('["a"]', "[]"), plain.replace('["a"]', '["' + "x" * 65536 + '"]'),
-                                       plain.replace('["a"]', json.dumps(["a"] * 65)), plain.replace('"site"', '"sit\\u0065"')])
+                                       plain.replace('["a"]', json.dumps(["a"] * 65)),
+                                       plain.replace('"site"', '"sit\\u0065"')])
     for half in [b"\xed\xa0\x80", b"\xff", b"\xc0\x80", b"\xf4\x90\x80\x80", b"\xe3\x81"]:
         yield plain.encode().replace(b'"m"', b'"m' + half + b'"')
 
