@@ -85,6 +85,12 @@ export function ofJavaScript({ Refused, Site, filter, pick, refusal }) {
     refuses(() => site.importMaps(half), 18);
     refuses(() => site.importMaps({ a: { en: half } }), 19);
   }
+  // (a line feed would make two tags of one)
+  for (const tag of ['fr\nen', '\nen', 'en\n', 'en\0']) {
+    refuses(() => pick('en', [tag]), 3);
+    refuses(() => filter('en', ['fr', tag]), 3);
+  }
+  throws(() => pick('en', [, 'en']), TypeError);
   for (const now of NO_TIMES) {
     throws(() => site.put('a', 'en', 'a', { now }), RangeError);
     throws(() => site.delete('a', 'en', { now }), RangeError);
@@ -117,6 +123,12 @@ export function ofJavaScript({ Refused, Site, filter, pick, refusal }) {
   assert.equal(site.write(), before);
   assert.equal(site.text('a\ufffd', 'en', { place: 0n }), 'found');
   assert.equal(site.text('a\ufffd', 'en', { place: 2n ** 64n - 1n }), null);
+  // (a view is what it shows, and what is changed later was copied)
+  const bytes = new TextEncoder().encode('xxfrxx');
+  assert.equal(pick(bytes.subarray(2, 4), ['fr']), 'fr');
+  const written = site.toBytes();
+  written.fill(0);
+  assert.equal(site.write(), before);
   site.close();
   throws(() => site.text('a\ufffd', 'en'), /closed/);
   return `${count} values`;

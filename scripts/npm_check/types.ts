@@ -1,11 +1,15 @@
-// What scripts/browser-check has the TypeScript compiler read: uses of the module that are right, and after each
+// What scripts/npm-check has the TypeScript compiler read: uses of the module that are right, and after each
 // `@ts-expect-error` one that is wrong.
-import { Change, Label, LanguageMaps, Picked, Refused, Silkwaram, Site, Status, load } from 'silkwaram';
+import { Change, Label, LanguageMaps, Picked, Refused, Silkwaram, Site, Status, load, loadSync } from 'silkwaram';
 
 export async function uses(): Promise<unknown[]> {
   const sw: Silkwaram = await load();
   await load('silkwaram.wasm');
   await load(new Uint8Array(8));
+  await load(new URL('https://localhost/silkwaram.wasm'));
+  // @ts-expect-error
+  await load(7);
+  loadSync(new ArrayBuffer(8));
   const tag: string | null = sw.pick('fr', ['en'] as const, { default: 'en', scheme: 'basic', lenient: true, widen: true });
   // @ts-expect-error
   sw.pick('fr', 'en');
