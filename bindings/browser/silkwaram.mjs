@@ -433,14 +433,15 @@ function siteClass(calls) {
       forgotten.register(this, this.#handle);
     }
 
+    // (a class that extends this one makes its own; by itself, as what `map` is given, `open` makes a Site)
     static open(document) {
-      const site = new this();
+      const site = new (this ?? Site)();
       site.reload(document);
       return site;
     }
 
     static new(name) {
-      const site = new this();
+      const site = new (this ?? Site)();
       calls.done('sw_site_new', textOf(name, 'name'), site.#handle);
       return site;
     }

@@ -395,6 +395,14 @@ static int32_t edit_open(const question *it, sw_told *told)
     return status;
 }
 
+/* Passes on how an edit went. After one that took documents the site takes at least as much as one of their bytes. */
+static int32_t told_of(const question *it, int32_t status)
+{
+    int64_t memory = (int64_t)(MEMORY_FOR_BYTE * (it->texts[0].len + it->texts[1].len));
+    if (status == SW_FOUND && memory > it->of[0]->told_memory) tell_memory(it->env, it->of[0], memory);
+    return status;
+}
+
 static int32_t edit_share(const question *it, sw_told *told)
 {
     int32_t status = sw_site_share(SITE(0), SITE(1));
@@ -414,17 +422,17 @@ static int32_t edit_delete(const question *it, sw_told *told)
 
 static int32_t edit_import(const question *it, sw_told *told)
 {
-    return sw_site_import(SITE(0), it->number, TEXT(0), told);
+    return told_of(it, sw_site_import(SITE(0), it->number, TEXT(0), told));
 }
 
 static int32_t edit_update(const question *it, sw_told *told)
 {
-    return sw_site_update(SITE(0), it->number, TEXT(0), TEXT(1), told);
+    return told_of(it, sw_site_update(SITE(0), it->number, TEXT(0), TEXT(1), told));
 }
 
 static int32_t edit_take(const question *it, sw_told *told)
 {
-    return sw_site_take(SITE(0), TEXT(0), it->number, told);
+    return told_of(it, sw_site_take(SITE(0), TEXT(0), it->number, told));
 }
 
 static int32_t edit_merge(const question *it, sw_told *told)

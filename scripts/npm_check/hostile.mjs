@@ -123,6 +123,9 @@ export function ofJavaScript({ Refused, Site, filter, pick, refusal }) {
   assert.equal(site.write(), before);
   assert.equal(site.text('a\ufffd', 'en', { place: 0n }), 'found');
   assert.equal(site.text('a\ufffd', 'en', { place: 2n ** 64n - 1n }), null);
+  class Own extends Site {}
+  assert.ok(Own.open(before) instanceof Own && Own.new('rome') instanceof Own);
+  assert.ok([before].map(Site.open)[0] instanceof Site);
   // (a view is what it shows, and what is changed later was copied)
   const bytes = new TextEncoder().encode('xxfrxx');
   assert.equal(pick(bytes.subarray(2, 4), ['fr']), 'fr');

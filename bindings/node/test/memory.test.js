@@ -61,6 +61,17 @@ test('memory of forgotten sites is given back by itself', async () => {
   assert.ok(grown < 50, `${grown} MiB`);
 });
 
+test('memory of forgotten sites that took labels is given back by itself', async () => {
+  const maps = JSON.stringify(Site.open(LARGE).export());
+  const grown = await growth(async (count) => {
+    for (let at = 0; at < count; at++) {
+      Site.new('paris').importMaps(maps);
+      await nextTurn();
+    }
+  });
+  assert.ok(grown < 100, `${grown} MiB`);
+});
+
 // (so the tests above would have seen what is not given back. It comes last: memory that was freed once
 // is used again, and no growth is seen)
 test('memory of sites that stay open is seen', async () => {
