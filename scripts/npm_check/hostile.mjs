@@ -123,6 +123,13 @@ export function ofJavaScript({ Refused, Site, filter, pick, refusal }) {
   assert.equal(site.write(), before);
   assert.equal(site.text('a\ufffd', 'en', { place: 0n }), 'found');
   assert.equal(site.text('a\ufffd', 'en', { place: 2n ** 64n - 1n }), null);
+  // (names that objects have are names like others, and stay out of their prototypes)
+  const named = Site.new('rome');
+  named.importMaps(JSON.parse('{"__proto__":{"en":"a"},"constructor":{"en":["b","c"]}}'));
+  for (const maps of [named.export(), named.bundle('en'), named.missing('fr')]) {
+    assert.deepEqual(Object.entries(maps), [['__proto__', { en: 'a' }], ['constructor', { en: ['b', 'c'] }]]);
+  }
+  assert.equal({}.en, undefined);
   class Own extends Site {}
   assert.ok(Own.open(before) instanceof Own && Own.new('rome') instanceof Own);
   assert.ok([before].map(Site.open)[0] instanceof Site);
