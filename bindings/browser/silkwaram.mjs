@@ -152,7 +152,7 @@ function linesOf(tags) {
   for (let at = 0; at < tags.length; at++) {
     const tag = tags[at];
     if (typeof tag !== 'string') throw wrongType(`tags[${at}]`, 'a string');
-    lines += `${tag.replaceAll('\n', '\0')}\n`;
+    lines += `${tag.includes('\n') ? tag.replaceAll('\n', '\0') : tag}\n`;
   }
   return lines;
 }

@@ -15,6 +15,7 @@
 #include <string.h>
 
 #define FIRST_ROOM 1024
+#define SHORT_STRING 256
 #define OUT_OF_MEMORY 26
 #define OUT_OF_MEMORY_TOLD ((sw_told){.number = OUT_OF_MEMORY})
 #define MOST_ARGUMENTS 6
@@ -141,21 +142,35 @@ static size_t encode(const char16_t *units, size_t count, uint8_t *bytes)
     return (size_t)(to - bytes);
 }
 
-static bool take_string(napi_env env, napi_value value, text *it)
+/* Takes UTF-16 as UTF-8. */
+static bool take_units(napi_env env, const char16_t *units, size_t count, text *it)
+{
+    it->bytes = room_for(env, 3 * count);
+    if (it->bytes) it->len = encode(units, count, it->bytes);
+    return it->bytes;
+}
+
+static bool take_long_string(napi_env env, napi_value value, text *it)
 {
     size_t count;
     char16_t *units;
-    bool is_taken = false;
+    bool is_taken;
     if (!is_ok(env, napi_get_value_string_utf16(env, value, NULL, 0, &count))) return false;
     units = room_for(env, (count + 1) * sizeof *units);
     if (!units) return false;
-    if (is_ok(env, napi_get_value_string_utf16(env, value, units, count + 1, &count)) &&
-        (it->bytes = room_for(env, 3 * count))) {
-        it->len = encode(units, count, it->bytes);
-        is_taken = true;
-    }
+    is_taken = is_ok(env, napi_get_value_string_utf16(env, value, units, count + 1, &count)) &&
+               take_units(env, units, count, it);
     free(units);
     return is_taken;
+}
+
+/* (where this room is filled with all but its last unit, which is a zero, more may follow) */
+static bool take_string(napi_env env, napi_value value, text *it)
+{
+    char16_t units[SHORT_STRING];
+    size_t count;
+    if (!is_ok(env, napi_get_value_string_utf16(env, value, units, SHORT_STRING, &count))) return false;
+    return count < SHORT_STRING - 1 ? take_units(env, units, count, it) : take_long_string(env, value, it);
 }
 
 /* Takes a copy of the bytes, which nobody can change during the call. */

@@ -76,6 +76,16 @@ test('answers around the size of the first buffer', () => {
   }
 });
 
+test('texts around the size of the first room for them', () => {
+  const site = Site.new('paris');
+  for (let size = 252; size < 260; size++) {
+    const text = 'é'.repeat(size - 2) + '😀';
+    site.put('m', 'en', text);
+    assert.equal(site.text('m', 'en'), text);
+    assert.throws(() => site.put('m', 'en', text.slice(0, -1)), { number: 18, offset: 2 * (size - 2) });
+  }
+});
+
 test('a message may have the name of a property of objects', () => {
   const site = opened({ ['__proto__']: { en: ['a'] }, constructor: { en: ['b'] } });
   const bundle = site.bundle('en');
