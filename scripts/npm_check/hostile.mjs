@@ -57,7 +57,7 @@ const NO_TIMES = [-1, 0.5, NaN, Infinity, 2 ** 53, 1e300, -1n, 2n ** 64n];
 const NO_BYTES = [new ArrayBuffer(1), new Uint16Array(1)];
 const NO_TEXTS = [undefined, null, 7, 7n, true, Symbol('a'), {}, ['a'], () => 'a', ...NO_BYTES];
 
-/** Returns a line about values that only JavaScript has, of which calls.d.ts and docs/REFUSALS.md say what is wanted. */
+/** Returns a line about values that only JavaScript has. What is wanted is in calls.d.ts and docs/REFUSALS.md. */
 export function ofJavaScript({ Refused, Site, filter, pick, refusal }) {
   let count = 0;
   const refuses = (call, number) => {

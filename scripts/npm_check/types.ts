@@ -10,7 +10,7 @@ export async function uses(): Promise<unknown[]> {
   // @ts-expect-error
   await load(7);
   loadSync(new ArrayBuffer(8));
-  const tag: string | null = sw.pick('fr', ['en'] as const, { default: 'en', scheme: 'basic', lenient: true, widen: true });
+  const tag: string | null = sw.pick('fr', ['en'] as const, { default: 'en', scheme: 'basic', widen: true });
   // @ts-expect-error
   sw.pick('fr', 'en');
   // @ts-expect-error
