@@ -4,7 +4,7 @@ use Rattle.std.proofs.Common.{false, map}
 use Rattle.std.proofs.Common.{◌+◌, ◌<◌, add-one, drop, get_or, length, refl, subst, suc, sym, take}
 use Rattle.std.proofs.Common.{true, true≢false}
 use Rattle.std.proofs.Math.Seq.{drop-cons, take-suc}
-use Rattle.std.proofs.lemmas.List.{map-append, take-append-drop}
+use Rattle.std.proofs.lemmas.List.{map-append}
 use Rattle.std.specs.Prelude.{All, Bool, None, Option, Some, filter}
 use Rattle.std.specs.Option.{option_or}
 use Rattle.std.proofs.lemmas.List.Elements.{All-append, All-cons, All-head, All-nil, All-push}
@@ -14,11 +14,9 @@ use Rattle.std.specs.FinMap.Entries.{find}
 use Rattle.std.specs.Ordering.{is_eq, ordering_reverse, ordering_then}
 use Rattle.std.specs.declared.cmp.Ordering.{Ordering}
 use Rattle.std.specs.declared.cmp.Ordering.TheVariants.{Equal, Greater, Less}
-use Rattle.cell_core.specs.Keyed.{IsMap}
 use Rattle.cata_core.specs.Entries.{Entries, Entry, EntryKey, IsAboveAll, key_cmp, text_cmp}
 use Rattle.cata_core.specs.Live.{live, live_of}
 use Rattle.cata_core.proofs.Basics.{apart_first, append_nil, tied}
-use Rattle.cata_core.proofs.BehindLemmas.{IsMap-behind, front_below}
 use Rattle.cata_core.proofs.FlatLemmas.{find-append_lists}
 use Rattle.cata_core.proofs.NestedCataloguesLemmas.{text_exact}
 use Rattle.site_docs.specs.Sink.{IsLabelRef}
@@ -102,7 +100,6 @@ module _ {T : Type 0} (Holds : T → T → Entries → Type 0) (first sink : T) 
           own = All-cons (λ (x : Entry). x.0.0 ≡ e.0.0) e [] refl (All-nil (λ (x : Entry). x.0.0
               ≡ e.0.0));
           above = All-nil (λ (x : Entry). text_cmp x.0.0 e.0.0 ≡ Less);
-          map = IsMap-behind [] e.0 e.1 tt (All-nil (λ (x : Entry). key_cmp x.0 e.0 ≡ Less));
         };
         begun = λ no. refl;
         holds = subst (Holds first sink) none has.holds;
@@ -118,9 +115,6 @@ module _ {T : Type 0} (Holds : T → T → Entries → Type 0) (first sink : T) 
           id = next.id;
           own = All-push (λ (x : Entry). x.0.0 ≡ next.id) (c ∷ cs) e next.own (sym equal ∙ id);
           above = next.above;
-          map = IsMap-behind (c ∷ cs) e.0 e.1 next.map
-              (all_of_second (λ (x : Entry). key_cmp x.0 e.0 ≡ Less) has.given (c ∷ cs)
-              (subst (IsAboveAll e.0) has.all above));
         };
         begun = λ no. absurd (not_empty (c ∷ cs) e no);
         holds = has.holds;
@@ -144,7 +138,6 @@ module _ {T : Type 0} (Holds : T → T → Entries → Type 0) (first sink : T) 
           own = All-cons (λ (x : Entry). x.0.0 ≡ e.0.0) e [] refl (All-nil (λ (x : Entry). x.0.0
               ≡ e.0.0));
           above = All-nil (λ (x : Entry). text_cmp x.0.0 e.0.0 ≡ Less);
-          map = IsMap-behind [] e.0 e.1 tt (All-nil (λ (x : Entry). key_cmp x.0 e.0 ≡ Less));
         };
         begun = λ no. refl;
         holds =
@@ -180,7 +173,6 @@ module _ {T : Type 0} (Holds : T → T → Entries → Type 0) (first sink : T) 
           above = subst (All (λ (x : Entry). text_cmp x.0.0 e.0.0 ≡ Less)) (sym has.all)
               (All-append (λ (x : Entry). text_cmp x.0.0 e.0.0 ≡ Less) has.given (c ∷ cs)
               given_below own_below);
-          map = IsMap-behind [] e.0 e.1 tt (All-nil (λ (x : Entry). key_cmp x.0 e.0 ≡ Less));
         };
         begun = λ no. cc;
         holds = subst (Holds first new) (sym has.all) (gives has.given has.holds next);
@@ -207,12 +199,9 @@ pub seen_more : {T : Type 0} (Holds : T → T → Entries → Type 0) (first : T
 seen_more Holds first old new cell id e seen at same items own labels label given =
     let all = sym (pushed old new cell id e at same items own) in record {
       given = subst (λ (es : Entries). HasGiven Holds first new.sink es seen) all given;
-      message = record {
-        labels =
-            subst AreLabelRefs (sym items)
-            (All-push (λ (x : MessageCell). IsLabelRef x.label) old.cells.items cell labels label);
-        map = subst (IsMap key_cmp) all given.next.map;
-      };
+      labels =
+          subst AreLabelRefs (sym items)
+          (All-push (λ (x : MessageCell). IsLabelRef x.label) old.cells.items cell labels label);
     }
 
 -- ---- cells of other messages
@@ -314,16 +303,3 @@ cells_to id cells k c within is =
     rw (add-one, take-suc cells k c within)
     (map-append (cell_of id) (take k cells) (get_or cells k c ∷ [])
     ∙ ap (λ (x : MessageCell). cells_of id (take k cells) ++ cell_of id x ∷ []) (sym is))
-
--- The cells before a place have lesser keys than that at the place.
-pub cells_below : (id : List ℕ) (cells : List MessageCell) (k : ℕ) (c : MessageCell)
-    → k < length cells → c ≡ get_or cells k c → IsMap key_cmp (cells_of id cells)
-    → IsAboveAll (cell_of id c).0 (cells_of id (take k cells))
-cells_below id cells k c within is map =
-    let rest = drop (k + 1) cells in
-    let whole : cells_of id (take k cells) ++ cell_of id c ∷ cells_of id rest ≡ cells_of id cells =
-    sym (map-append (cell_of id) (take k cells) (c ∷ rest))
-    ∙ ap (cells_of id) (ap (λ (cs : List MessageCell). take k cells ++ cs)
-    (sym (cells_from cells k c within is)) ∙ take-append-drop k cells) in
-    front_below (cells_of id (take k cells)) (cells_of id rest) (cell_of id c).0 (cell_of id c).1
-    (subst (IsMap key_cmp) (sym whole) map)

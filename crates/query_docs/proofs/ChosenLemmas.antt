@@ -143,7 +143,8 @@ own_order Less e = absurd (cc)
 own_order Equal e = refl
 own_order Greater e = absurd (cc)
 
-same_text : (id : List ℕ) → text_cmp id id ≡ Equal
+-- A text is tied with itself.
+pub same_text : (id : List ℕ) → text_cmp id id ≡ Equal
 same_text id = own_order (text_cmp id id) (nat_list_cmp_total.antisymm id id)
 
 same_keys : (id lang other : List ℕ) → key_cmp (id, lang) (id, other) ≡ text_cmp lang other

@@ -6,5 +6,6 @@ pub mod ChosenLemmas
 pub mod CountedLemmas
 pub mod DraftLemmas
 pub mod LinesLemmas
+pub mod LiveCellsLemmas
 pub mod LiveLemmas
 pub mod OneMessageLemmas

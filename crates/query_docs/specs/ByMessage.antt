@@ -3,8 +3,7 @@ use Rattle.std.specs.Prelude.{◌≡◌, ◌++◌, [], ℕ, All, Bool, List, Non
 use Rattle.std.specs.Prelude.{map}
 use Rattle.std.specs.Ordering.{is_eq}
 use Rattle.std.specs.declared.cmp.Ordering.TheVariants.{Less}
-use Rattle.cell_core.specs.Keyed.{IsMap}
-use Rattle.cata_core.specs.Entries.{Entries, Entry, key_cmp, text_cmp}
+use Rattle.cata_core.specs.Entries.{Entries, Entry, text_cmp}
 use Rattle.site_docs.specs.Sink.{IsLabelRef, texts_of}
 use Rattle.query_docs.specs.declared.by_message.ByMessage.{ByMessage}
 use Rattle.query_docs.specs.declared.by_message.MessageCell.{MessageCell}
@@ -40,7 +39,6 @@ pub record IsNextMessage (before cells : Entries) : Type 0 where
   pub id : List ℕ
   pub own : All (λ e. e.0.0 ≡ id) cells
   pub above : All (λ e. text_cmp e.0.0 id ≡ Less) before
-  pub map : IsMap key_cmp cells
 
 -- what the sink became by the cells that were given to it, with which those of the message that is
 -- read are all that were seen
@@ -52,13 +50,9 @@ pub record HasGiven {T : Type 0} (Holds : T → T → Entries → Type 0) (first
   pub begun : cells ≡ [] → given ≡ []
   pub holds : Holds first sink given
 
--- the cells of the message that is read ascend, and each text that stands alone is a label
-pub record AreOfMessage {T : Type 0} (by : ByMessage T) : Type 0 where
-  pub labels : AreLabelRefs by.cells.items
-  pub map : IsMap key_cmp (entries_in by)
-
--- the same of what was seen, with the message that is read
+-- the same of what was seen, with the message that is read; each of its texts that stands alone is
+-- a label
 pub record HasSeen {T : Type 0} (Holds : T → T → Entries → Type 0) (first : T) (by : ByMessage T)
     (seen : Entries) : Type 0 where
   pub given : HasGiven Holds first by.sink (entries_in by) seen
-  pub message : AreOfMessage by
+  pub labels : AreLabelRefs by.cells.items

@@ -8,6 +8,7 @@ pub mod Counted
 pub mod Draft
 pub mod Exported
 pub mod Lines
+pub mod LiveCells
 pub mod LooksUp
 pub mod Missing
 pub mod OneMessage

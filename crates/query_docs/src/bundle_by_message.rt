@@ -1,19 +1,15 @@
 //! The labels of one reader, looked up message by message as a document is read.
-ghost use Rattle.std.specs.Prelude.{◌≡◌, IfOk, MatchResult, option_map};
-ghost use Rattle.cell_core.specs.Keyed.{IsMap};
-ghost use Rattle.cata_core.specs.Entries.{key_cmp};
+ghost use Rattle.std.specs.Prelude.{MatchResult, option_map};
 ghost use Rattle.json_docs.specs.Checks.{OrMemory};
 ghost use Rattle.row_docs.specs.Reading.{IsOfDocument, no_memory};
 ghost use Rattle.site_docs.specs.ReadsAs.{RefusesSite};
 ghost use Rattle.query_docs.specs.BundleByMessage.{HasBundled};
 ghost use Rattle.query_docs.specs.Bundled.{IsBundledBy};
-ghost use Rattle.query_docs.specs.ByMessage.{AreLabelRefs, cells_of};
 
-use crate::bundling::answered;
 use crate::by_message::{ByMessage, MessageCell, MessageSink};
 use crate::draft::Draft;
-use cata_core::Catalogue;
-use cell_core::{Cell, Key, MessageId};
+use crate::live_cells::LiveCells;
+use cell_core::MessageId;
 use json_docs::{Doc, DocFault};
 use lang_core::Lang;
 use nego_core::{PriorityList, Widening};
@@ -78,31 +74,10 @@ impl<'t> MessageSink<'t> for Bundle<'_> {
         if cells.is_empty() {
             return Ok(());
         }
-        let cells = catalogue_of(alloc, id, cells)?;
-        let reply = cells.ask_lookup_by(id, self.list, self.widening, self.default);
-        match answered(reply) {
-            Some((lang, label)) => self.draft.add(alloc, id, lang, label),
+        let live = LiveCells::new(cells);
+        match live.look_up(self.list, self.widening, self.default) {
+            Some(cell) => self.draft.add_seen(alloc, id, &cell.lang, &cell.label),
             None => Ok(()),
         }
     }
-}
-
-/// The catalogue of the cells of a message.
-fn catalogue_of(
-    alloc: Global,
-    id: &MessageId,
-    cells: &[MessageCell<'_>],
-) -> Result<Catalogue, AllocError>
-    requires labels { AreLabelRefs cells.now }
-    requires map { IsMap key_cmp (cells_of id.now cells.now) }
-    ensures { IfOk result (λ catalogue. catalogue ≡ cells_of id.now cells.now) }
-{
-    let mut catalogue = Catalogue::new(alloc);
-    for cell in cells {
-        let label = cell.label.to_label(alloc)?;
-        let id = id.copy(alloc)?;
-        let lang = cell.lang.copy(alloc)?;
-        catalogue.push(alloc, id, lang, Cell::new(cell.stamp, label))?;
-    }
-    Ok(catalogue)
 }

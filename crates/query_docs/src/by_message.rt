@@ -1,9 +1,7 @@
 //! Cells that are seen one after another, given on message by message.
 ghost use Rattle.std.specs.Prelude.{◌≡◌, ◌++◌, ◌∷◌, [], IfOk, OnOk, Some};
-ghost use Rattle.cell_core.specs.Keyed.{IsMap};
-ghost use Rattle.cata_core.specs.Entries.{Entries, Entry, IsAboveAll, key_cmp};
-ghost use Rattle.query_docs.specs.ByMessage.{AreLabelRefs, AreOfMessage, HasGiven, HasSeen};
-ghost use Rattle.query_docs.specs.ByMessage.{IsNextMessage};
+ghost use Rattle.cata_core.specs.Entries.{Entries, Entry, IsAboveAll};
+ghost use Rattle.query_docs.specs.ByMessage.{AreLabelRefs, HasGiven, HasSeen, IsNextMessage};
 ghost use Rattle.query_docs.specs.ByMessage.{cells_of, entries_in, is_of};
 
 use cell_core::{Key, MessageId, Stamp};
@@ -42,8 +40,7 @@ pub(crate) trait MessageSink<'t>: Sized + Drop {
         id: &MessageId,
         cells: &[MessageCell<'t>],
     ) -> Result<(), AllocError>
-        requires labels { AreLabelRefs cells.now }
-        requires map { IsMap key_cmp (cells_of id.now cells.now) }
+        requires { AreLabelRefs cells.now }
         ensures { OnOk result ((first : Self) → (before : Entries) → Holds first self.old before
             → IsNextMessage before (cells_of id.now cells.now)
             → Holds first self.new (before ++ cells_of id.now cells.now)) };
@@ -62,7 +59,7 @@ impl<'t, T: MessageSink<'t>> ByMessage<'t, T> {
     pub(crate) fn new(alloc: Global, sink: T) -> ByMessage<'t, T>
         ensures sink { result.sink ≡ sink }
         ensures cells { entries_in result ≡ [] }
-        ensures message { AreOfMessage result }
+        ensures labels { AreLabelRefs result.cells.items }
     {
         ByMessage {
             sink,
@@ -73,7 +70,7 @@ impl<'t, T: MessageSink<'t>> ByMessage<'t, T> {
 
     /// The sink after all cells, those of the last message among them.
     pub(crate) fn finish(self, alloc: Global) -> Result<T, AllocError>
-        requires { AreOfMessage self }
+        requires { AreLabelRefs self.cells.items }
         ensures { IfOk result (λ sink. (first : T) → (seen : Entries)
             → HasSeen T.Holds first self.entry seen → T.Holds first sink seen) }
     {
@@ -85,7 +82,7 @@ impl<'t, T: MessageSink<'t>> ByMessage<'t, T> {
 
     /// Gives the cells of the message that was read to the sink.
     fn end_message(&mut self, alloc: Global) -> Result<(), AllocError>
-        requires { AreOfMessage self.old }
+        requires { AreLabelRefs self.old.cells.items }
         ensures cells { OnOk result (self.new.cells.items ≡ []) }
         ensures given { OnOk result ((first : T) → (before : Entries)
             → T.Holds first self.old.sink before → IsNextMessage before (entries_in self.old)
@@ -101,9 +98,9 @@ impl<'t, T: MessageSink<'t>> ByMessage<'t, T> {
     /// Gives the cells of the message that was read to the sink, where this is another one; this is
     /// read from now on.
     fn reach(&mut self, alloc: Global, id: &MessageId) -> Result<(), AllocError>
-        requires { AreOfMessage self.old }
+        requires { AreLabelRefs self.old.cells.items }
         ensures id { OnOk result (self.new.id ≡ Some id.now) }
-        ensures message { OnOk result (AreOfMessage self.new) }
+        ensures labels { OnOk result (AreLabelRefs self.new.cells.items) }
         ensures given { OnOk result ((first : T) → (seen : Entries) → (e : Entry)
             → e.0.0 ≡ id.now → IsAboveAll e.0 seen
             → HasGiven T.Holds first self.old.sink (entries_in self.old) seen

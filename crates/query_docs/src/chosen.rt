@@ -8,7 +8,7 @@ ghost use Rattle.row_docs.specs.Reading.{IsOfDocument, no_memory};
 ghost use Rattle.site_docs.specs.ReadsAs.{RefusesSite};
 ghost use Rattle.map_docs.specs.LangMapTexts.{AreWritten};
 ghost use Rattle.map_docs.specs.LangMaps.{Labelled};
-ghost use Rattle.query_docs.specs.ByMessage.{AreLabelRefs, AreOfMessage, HasSeen, cell_of};
+ghost use Rattle.query_docs.specs.ByMessage.{AreLabelRefs, HasSeen, cell_of};
 ghost use Rattle.query_docs.specs.ByMessage.{cells_of};
 ghost use Rattle.query_docs.specs.Chosen.{AreChosenOf, HasChosen, chosen_labels, is_chosen};
 ghost use Rattle.query_docs.specs.Draft.{HasWritten};
@@ -105,7 +105,7 @@ fn begin<'t, 'a>(
 
 /// The document of the labels that were written, and whether there is one.
 fn close(alloc: Global, shown: ByMessage<'_, ChosenLabels<'_>>) -> Result<(Doc, bool), AllocError>
-    requires { AreOfMessage shown }
+    requires { AreLabelRefs shown.cells.items }
     ensures { IfOk result (λ written. (first : ChosenLabels) → (seen : Entries)
         → HasSeen HasChosen first shown.entry seen → IsMap key_cmp seen
         → AreWritten (chosen_labels first.messages seen) written.0 written.1) }

@@ -21,6 +21,7 @@ mod chosen;
 mod draft;
 mod exporting;
 mod lines;
+mod live_cells;
 mod messages;
 mod missing;
 mod one_message;

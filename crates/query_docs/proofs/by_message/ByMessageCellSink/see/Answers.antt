@@ -25,5 +25,5 @@ returns g c = λ first before has above.
     ap (λ l. ((id, l), record { stamp = cell.stamp; label = texts_of cell.label }))
     c.in_ok-lang.ensures.equal in
     seen_more g.T.MessageSink.Holds first.sink old new cell id e _ reached.id refl
-    c.in_ok-push.ensures.items own reached.message.labels c.requires.label
+    c.in_ok-push.ensures.items own reached.labels c.requires.label
     (reached.given first.sink before e refl above has.given)
