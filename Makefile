@@ -48,18 +48,18 @@ demo: build/lexicat
 	PATH="$$PWD/build:$$PATH" examples/newsroom/story
 	build/lexicat pick zh-Hant-CN-x-private1-private2 zh-Hant en
 
-#: make library       the library for C, static and shared, in build/lib (docs/LIBRARY.md): a minute or
+#: make library       the libraries for C, static and shared, in build/lib (docs/LIBRARY.md): a minute or
 #:                    two more than the command
 library: build/lib/libsilkwaram.a
 
-build/lib/libsilkwaram.a: $(SOURCES) include/silkwaram.h scripts/library
+build/lib/libsilkwaram.a: $(SOURCES) $(wildcard include/*) scripts/library
 	RT='$(RT)' scripts/library
 
 #: make browser       the package for Node and pages, as WebAssembly, in build/browser
 #:                    (docs/BROWSER.md): a minute or two more than the library
 browser: build/browser/silkwaram.wasm
 
-build/browser/silkwaram.wasm: $(SOURCES) include/silkwaram.h scripts/browser \
+build/browser/silkwaram.wasm: $(SOURCES) $(wildcard include/*) scripts/browser \
 		$(wildcard bindings/browser/* bindings/node/express.*)
 	RT='$(RT)' scripts/browser
 
@@ -144,8 +144,8 @@ install-command: build/lexicat
 # (the links are made by `scripts/library`, and lead to each other by their names alone)
 install-library: library
 	install -d "$(LIB)/pkgconfig" "$(INCLUDE)"
-	install -m 644 include/silkwaram.h "$(INCLUDE)/silkwaram.h"
-	install -m 644 build/lib/libsilkwaram.a "$(LIB)/libsilkwaram.a"
+	install -m 644 include/silkwaram.h include/silkwaram_command.h "$(INCLUDE)"
+	install -m 644 build/lib/libsilkwaram.a build/lib/libsilkwaram-command.a "$(LIB)"
 	cp -P build/lib/libsilkwaram.so* "$(LIB)"
 	scripts/pkg-config-file '$(PREFIX)' '$(LIBDIR)' > "$(LIB)/pkgconfig/silkwaram.pc"
 	chmod 644 "$(LIB)"/libsilkwaram.so.*.*.* "$(LIB)/pkgconfig/silkwaram.pc"
@@ -163,8 +163,8 @@ uninstall:
 	done
 	rm -rf "$(MODULES)"
 	-rmdir "$(SHARE)/silkwaram" 2> /dev/null
-	rm -f "$(INCLUDE)/silkwaram.h" "$(LIB)/pkgconfig/silkwaram.pc"
-	rm -f "$(LIB)/libsilkwaram.a" "$(LIB)"/libsilkwaram.so*
+	rm -f "$(INCLUDE)/silkwaram.h" "$(INCLUDE)/silkwaram_command.h" "$(LIB)/pkgconfig/silkwaram.pc"
+	rm -f "$(LIB)/libsilkwaram.a" "$(LIB)/libsilkwaram-command.a" "$(LIB)"/libsilkwaram.so*
 
 #: make dist          a tarball, Debian packages, a wheel for Python and a package for npm, for those
 #:                    who have no Rattle kit, in build/dist: some minutes more than the library.

@@ -3,7 +3,7 @@
 
 _lexicat() {
     local word=${COMP_WORDS[COMP_CWORD]} before=${COMP_WORDS[COMP_CWORD-1]} command='' i
-    local commands='pick new put delete status import update export missing outdated changes filter lookup bundle summary delta take sync replay explain'
+    local commands='pick new put delete status import update export missing outdated changes filter lookup bundle summary delta take sync replay explain merge'
     COMPREPLY=()
     # Bash cuts words at "=": `--scheme=b` comes as three.
     if [[ $word == '=' ]]; then
@@ -36,7 +36,7 @@ _lexicat() {
         filter) options='--id --scheme --lenient --help -h' ;;
         lookup) options='--id --scheme --lenient --widen --default --help -h' ;;
         bundle) options='--scheme --lenient --widen --default --help -h' ;;
-        take | sync) options='--not-after --help -h' ;;
+        take | sync | merge) options='--not-after --help -h' ;;
         explain) options='1 2 3 4 5 6 7 8 9 10 11 12 13 14 15 16 17 18 19 20 21 22 23 24 25 26 27 28 29 --help -h' ;;
         help) options=$commands ;;
         *) return ;;

@@ -2,7 +2,7 @@
 # Written by scripts/completions from the help of the command.
 
 complete -c lexicat -f
-set -l commands pick new put delete status import update export missing outdated changes filter lookup bundle summary delta take sync replay explain
+set -l commands pick new put delete status import update export missing outdated changes filter lookup bundle summary delta take sync replay explain merge
 set -l first "not __fish_seen_subcommand_from $commands"
 complete -c lexicat -s h -l help -d 'Print help'
 complete -c lexicat -n "$first" -s V -l version -d 'Print version'
@@ -26,6 +26,7 @@ complete -c lexicat -n "$first" -a take -d 'Joins a delta into the site that it 
 complete -c lexicat -n "$first" -a sync -d 'Merges two sites with one another, so that both have the same cells'
 complete -c lexicat -n "$first" -a replay -d 'Runs a script of sites from their beginning, and prints the answers'
 complete -c lexicat -n "$first" -a explain -d 'Prints what a refusal means, what causes it, and what to do'
+complete -c lexicat -n "$first" -a merge -d 'Merges any number of sites into the first of them'
 complete -c lexicat -n '__fish_seen_subcommand_from pick filter lookup bundle' -x -l scheme -a 'basic extended' -d 'How the ranges are read: with weights (basic), or with * anywhere (extended)'
 complete -c lexicat -n '__fish_seen_subcommand_from pick filter lookup bundle' -l lenient -d 'Skip malformed elements of the ranges, also one that would refuse a language, as de;q=0.0000'
 complete -c lexicat -n '__fish_seen_subcommand_from pick lookup bundle' -l widen -d 'Let a range also find the languages that it matches, as en finds en-us; RFC 4647 does not'
@@ -36,5 +37,5 @@ complete -c lexicat -n '__fish_seen_subcommand_from put delete import update' -x
 complete -c lexicat -n '__fish_seen_subcommand_from put delete filter lookup' -x -l id -d 'The message: 1 to 128 bytes, with no control character and no "@" first'
 complete -c lexicat -n '__fish_seen_subcommand_from put delete missing outdated' -x -l lang -d 'A language tag, or @none'
 complete -c lexicat -n '__fish_seen_subcommand_from outdated' -x -l source -d 'The language that was translated from, or @none'
-complete -c lexicat -n '__fish_seen_subcommand_from take sync' -x -l not-after -d 'Refuse to join a document that has a time after this, a whole number'
+complete -c lexicat -n '__fish_seen_subcommand_from take sync merge' -x -l not-after -d 'Refuse to join a document that has a time after this, a whole number'
 complete -c lexicat -n '__fish_seen_subcommand_from explain' -a '1 2 3 4 5 6 7 8 9 10 11 12 13 14 15 16 17 18 19 20 21 22 23 24 25 26 27 28 29'

@@ -11,9 +11,9 @@
  * `told->len` is the size that it needs; the status is the same as with room: call again.
  *
  * No call prints, waits, ends the process, or keeps a pointer that it was passed. Each call is proved to answer, to
- * write and to leave what is said here. Not proved: time, stack and memory, which are measured; which sentence
- * sw_refusal answers; that an edit through the only handle of a site makes no copy; that sw_site_share makes none, and
- * that the last handle of a site frees its memory, which are tried by counting and under valgrind.
+ * write and to leave what is said here. Not proved: time, stack and memory, which are measured; that an edit through
+ * the only handle of a site makes no copy; that sw_site_share makes none, and that the last handle of a site frees its
+ * memory, which are tried by counting and under valgrind.
  *
  * What the caller owes, which nothing checks:
  *
@@ -67,9 +67,15 @@ typedef struct sw_told {
   size_t len;      /* bytes of the answer, also where they did not fit */
   size_t offset;   /* of the refusals 3, 9 and 18: the place in the text that is refused, in bytes from 0 */
   size_t row;      /* of a refusal in a row of a document: the row, from 0 */
-  size_t count;    /* as the calls say */
+  size_t count;    /* as the calls say; of refusal 11 the place of the text in its label, from 0, of 12 how many texts
+                      the label has, of 13 the place of the cell in the receiving site, from 0 */
   uint32_t number; /* the number of the refusal (docs/REFUSALS.md), or 0 */
+  uint32_t given;  /* what a refusal has: the sum of some of these */
 } sw_told;
+#define SW_HAS_OFFSET 1u /* told->offset is one */
+#define SW_HAS_ROW 2u    /* told->row is one */
+#define SW_HAS_COUNT 4u  /* told->count is one */
+#define SW_OF_SECOND 8u  /* the refusal is of the second of two documents that the call reads */
 
 /* A site that was read, or none: a handle of zeros is not open. Questions to a handle that is not open are SW_USAGE. */
 typedef struct sw_site {
@@ -245,6 +251,11 @@ int32_t sw_filter(uint32_t flags, const uint8_t *field, size_t field_len, const 
  *   SW_FOUND     there is one
  *   SW_NOTHING   no refusal has this number; told->len is 0 */
 int32_t sw_refusal(uint32_t number, uint8_t *out, size_t out_len, sw_told *told);
+
+/* What the command prints of a refusal after `refused N: `, of at most 255 bytes, with OFFSET, INDEX, COUNT and PLACE
+ * where told->offset and told->count of the refused call belong: `subtag at OFFSET`. Of 13 it lacks the stamp, and of
+ * 15 the name of the site, which no call reports. Statuses as of sw_refusal. */
+int32_t sw_refusal_text(uint32_t number, uint8_t *out, size_t out_len, sw_told *told);
 
 /* ---- Handles. */
 

@@ -50,7 +50,7 @@ def words_of(line):
 
 def form_of(text):
     """Returns what a command takes, by its help."""
-    usage = re.search(r"^Usage: (?:cat [A-Z ]+ \| )?lexicat \w+(.*?)(?: < [A-Z]+)?$", text, re.M)[1]
+    usage = re.search(r"^Usage: (?:cat [A-Z. ]+ \| )?lexicat \w+(.*?)(?: < [A-Z]+)?$", text, re.M)[1]
     options, arguments = [], []
     for line in section(text, "Options"):
         words, line = words_of(line)

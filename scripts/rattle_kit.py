@@ -11,9 +11,6 @@ import sys
 from concurrent.futures import FIRST_COMPLETED, ThreadPoolExecutor, wait
 
 KITS = ("rattle-kit-13b logic dac8208d650f15bf", "rattle-kit-13f logic dac8208d650f15bf")
-# What is left in front_c's folder: the archive, the module of LLVM that clang made it of, from which
-# scripts/browser makes the module for browsers, and a sum of what both were made of.
-ARCHIVE, MODULE, MADE = "out/libfront_c.a", "out/front_c.bc", "out/front_c.made"
 # How a line begins that is a comment alone.
 COMMENTS = {".rt": b"//", ".antt": b"--"}
 # The kit's clang, as it is called for a folder that keeps what it is given.
@@ -106,10 +103,19 @@ def links_to(folder, to):
         os.symlink(f"{folder}/{name}", f"{to}/{name}")
 
 
+def archive_files(crate):
+    """Returns the paths of what is left of a static library: the archive, the module of LLVM that
+    clang made it of, from which scripts/browser makes one of WebAssembly, and a sum of what both
+    were made of."""
+    names = f"lib{crate.name}.a", f"{crate.name}.bc", f"{crate.name}.made"
+    return [f"{crate.folder}/out/{it}" for it in names]
+
+
 def keep_archive(crate, module):
-    """Puts the module of LLVM beside the archive of front_c, and of what both were made."""
-    shutil.copyfile(module, f"{crate.folder}/{MODULE}")
-    with open(f"{crate.folder}/{MADE}", "w", encoding="utf-8") as file:
+    """Puts the module of LLVM beside the archive of a static library, and of what both were made."""
+    _, kept, made = archive_files(crate)
+    shutil.copyfile(module, kept)
+    with open(made, "w", encoding="utf-8") as file:
         file.write(sum_made(crate))
 
 

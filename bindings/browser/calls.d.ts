@@ -125,13 +125,19 @@ export interface Status {
 export class Refused extends Error {
   /** The number of the refusal (docs/REFUSALS.md of the sources). 26 is out of memory: the call may be repeated. */
   readonly number: number;
-  /** The place in the refused text, in bytes of UTF-8 from 0: of 3, 9 and 18. */
+  /** The place in the refused text, in bytes of UTF-8 from 0, where the refusal has one. */
   readonly offset: number | null;
-  /**
-   * The row of the document, from 0, where a document is refused for one of its rows. 20 and 27 may concern the
-   * document itself, so of these row 0 is null too.
-   */
+  /** The row of the document, from 0, where a document is refused for one of its rows. */
   readonly row: number | null;
+  /**
+   * Of 11 the place of the text in its label, from 0; of 12 how many texts the label has; of 13 the place of the cell
+   * in the receiving site, from 0.
+   */
+  readonly count: number | null;
+  /** Whether the refusal is of the second of two documents, as the maps `after` of `update`. */
+  readonly ofSecond: boolean;
+  /** What was wanted. */
+  readonly wanted: string;
 }
 
 /**

@@ -13,49 +13,17 @@ const SCHEMES = { basic: 0, extended: EXTENDED };
 const FOUND = 0;
 const NOTHING = 1;
 const USAGE = 2;
+const NO_MEMORY = 5;
 
 const OUT_OF_MEMORY = 26;
 const NOT_JSON = 19;
 const SHAPE = 20;
 const NO_NAME = 'the document itself is wanted, not its name';
-// Written by scripts/refusal-tables, from docs/REFUSALS.md.
-const TEXTS = {
-  1: 'tag is empty',
-  2: 'tag is over 255 bytes',
-  3: 'subtag at OFFSET',
-  4: 'tag is not well-formed',
-  8: 'field is over 65535 bytes',
-  9: 'field element at OFFSET',
-  10: 'message id',
-  11: 'a text of a label is over 65535 bytes',
-  12: 'a label has no or too many texts',
-  13: 'one stamp is used for two different edits',
-  14: 'clock is spent',
-  15: 'the delta is for another site',
-  18: 'not UTF-8 at OFFSET',
-  19: 'not JSON',
-  20: 'shape',
-  21: 'cell order',
-  22: 'language repeated',
-  26: 'out of memory',
-  27: 'site name',
-  28: 'version unknown',
-  29: 'time is ahead',
-};
-const WANTED = {
-  3: 'each subtag is 1 to 8 letters or digits, with a hyphen between two',
-  4: 'a language comes first, then script, region, variants, extensions, private use',
-  9: 'each element of a field is a range, with or without a weight',
-  10: 'a message id has 1 to 128 bytes, no control character, and no @ first',
-  12: 'a label has 1 to 64 texts',
-  21: 'rows ascend by id and then by language, in byte order',
-  27: 'a site name has 1 to 16 bytes of a to z, 0 to 9 and -',
-  28: 'the version of a document is 1 or 2',
-};
-const WITH_OFFSET = [3, 9, 18];
-const IN_ROWS = [1, 2, 3, 4, 10, 11, 12, 20, 21, 22, 27, 29];
-const OF_WHOLE_TOO = [20, 27];
-// The end of what scripts/refusal-tables writes.
+// What a refusal has, in the record of the call that was refused.
+const HAS_OFFSET = 1;
+const HAS_ROW = 2;
+const HAS_COUNT = 4;
+const OF_SECOND = 8;
 // The calls that read a document, and which one is wanted.
 const DOCUMENTS = {
   sw_site_open: 'a site document is wanted',
@@ -75,27 +43,26 @@ const NEEDED = 'WebAssembly with SIMD and bulk memory, and BigInt at its border'
 
 /** What is thrown where something is refused. */
 export class Refused extends Error {
-  constructor(number, offset, row, wanted) {
-    const text = (TEXTS[number] ?? 'unknown').replace('OFFSET', offset);
-    const of = row === null ? '' : ` in row ${row}`;
-    super(`refused ${number}: ${text}${of}${wanted === undefined ? '' : ` (${wanted})`}`);
+  constructor(text, wanted, { number, given = 0, offset, row, count }) {
+    const at = given & HAS_OFFSET ? offset : null;
+    const place = given & HAS_COUNT ? count : null;
+    const filled = (text ?? 'unknown').replace('OFFSET', at ?? 'OFFSET').replace(/INDEX|COUNT|PLACE/, place ?? '$&');
+    const ofRow = given & HAS_ROW ? ` in row ${row}` : '';
+    const ofDocument = given & OF_SECOND ? ' of the second document' : '';
+    super(`refused ${number}: ${filled}${ofRow}${ofDocument}${wanted ? ` (${wanted})` : ''}`);
     this.name = 'Refused';
     this.number = number;
-    this.offset = offset;
-    this.row = row;
+    this.offset = at;
+    this.row = given & HAS_ROW ? row : null;
+    this.count = place;
+    this.ofSecond = (given & OF_SECOND) !== 0;
+    this.wanted = wanted ?? '';
   }
 }
 
-/** What is thrown where the library refuses a call of silkwaram.h. */
-export function refusalOf({ name, number, offset, row }) {
-  const isOfWhole = row === 0 && OF_WHOLE_TOO.includes(number);
-  const isOfRow = Object.hasOwn(DOCUMENTS, name) && IN_ROWS.includes(number) && !isOfWhole;
-  return new Refused(
-    number,
-    WITH_OFFSET.includes(number) ? offset : null,
-    isOfRow ? row : null,
-    number === SHAPE ? DOCUMENTS[name] : WANTED[number],
-  );
+/** What is thrown where these calls, `Module` or that of the addon, refuse a call of silkwaram.h. */
+export function refusalOf(calls, report, wanted = report.number === SHAPE ? DOCUMENTS[report.name] : undefined) {
+  return new Refused(calls.refusalText(report.number), wanted ?? calls.meaning(report.number), report);
 }
 
 function wrongType(name, wanted) {
@@ -262,6 +229,12 @@ function encodeHalves(text) {
   return Uint8Array.from(bytes);
 }
 
+/** A text in UTF-8, as the library takes it. */
+export function bytesIn(text) {
+  if (typeof text !== 'string') return text;
+  return isWellFormed(text) ? ENCODER.encode(text) : encodeHalves(text);
+}
+
 // The most bytes that a text takes.
 function mostBytes(text) {
   return typeof text === 'string' ? 3 * text.length : text.length;
@@ -280,7 +253,7 @@ class Module {
 
   #allocated(bytes) {
     const at = this.#exports.allocate(BigInt(bytes));
-    if (at === 0n) throw refusalOf({ number: OUT_OF_MEMORY });
+    if (at === 0n) throw refusalOf(this, { number: OUT_OF_MEMORY });
     return Number(at);
   }
 
@@ -325,16 +298,18 @@ class Module {
   // Makes a call, and returns what it reports; what is refused is thrown.
   #call(name, words) {
     const status = this.#status(name, words);
+    if (status === USAGE) throw new Error('the site is closed, or the module does not know an option');
+    // (sw_site_share reports nothing but its status)
+    if (status === NO_MEMORY) throw refusalOf(this, { number: OUT_OF_MEMORY });
     const told = { name, status, ...this.#told() };
     if (status === FOUND || status === NOTHING) return told;
-    if (status === USAGE) throw new Error('the site is closed, or the module does not know an option');
-    throw refusalOf(told);
+    throw refusalOf(this, told);
   }
 
   #told() {
     const view = new DataView(this.#exports.memory.buffer, this.#room, TOLD);
     const [length, offset, row, count] = [0, 8, 16, 24].map((at) => Number(view.getBigUint64(at, true)));
-    return { length, offset, row, count, number: view.getUint32(32, true) };
+    return { length, offset, row, count, number: view.getUint32(32, true), given: view.getUint32(36, true) };
   }
 
   // The words of a call with its texts in the module's memory, from `at`, and where these end.
@@ -389,12 +364,22 @@ class Module {
     return this.#asked(name, words, (bytes) => bytes.slice())[1];
   }
 
-  // What a number of a refusal means, or null.
-  meaning(number) {
+  // What a call says of a number of a refusal, or null.
+  #said(name, number) {
     if (this.#failure || !this.#room) return null;
     const at = this.#room + TOLD;
-    const status = this.#exports.sw_refusal(number, BigInt(at), BigInt(ROOM), BigInt(this.#room));
+    const status = this.#exports[name](number, BigInt(at), BigInt(ROOM), BigInt(this.#room));
     return status === FOUND ? DECODER.decode(this.#bytes(at, this.#told().length)) : null;
+  }
+
+  // What is wanted where this number refuses, or null.
+  meaning(number) {
+    return this.#said('sw_refusal', number);
+  }
+
+  // What the command prints of a refusal with this number, or null.
+  refusalText(number) {
+    return this.#said('sw_refusal_text', number);
   }
 
   version() {
@@ -451,7 +436,7 @@ function siteClass(calls) {
       try {
         calls.done('sw_site_open', text, this.#handle);
       } catch (refused) {
-        throw refused.number === NOT_JSON && mayBeName(text) ? new Refused(NOT_JSON, null, null, NO_NAME) : refused;
+        throw refused.number === NOT_JSON && mayBeName(text) ? refusalOf(calls, refused, NO_NAME) : refused;
       }
     }
 
@@ -607,7 +592,8 @@ function failureOf(cause) {
   return new Error(`this engine cannot run silkwaram.wasm, which needs ${NEEDED}`, { cause });
 }
 
-async function instanceOf(source) {
+/** The instance of a module, from wherever it is. */
+export async function instanceOf(source) {
   seesEngine();
   const isCompiled = source instanceof WebAssembly.Module;
   const given = isCompiled ? source : await bytesOf(source);
@@ -615,6 +601,17 @@ async function instanceOf(source) {
     // (never `new WebAssembly.Instance`, which a page may not do with a module of this size)
     const made = await WebAssembly.instantiate(given, {});
     return isCompiled ? made : made.instance;
+  } catch (cause) {
+    throw failureOf(cause);
+  }
+}
+
+/** The instance of a module at once, from its bytes or a compiled WebAssembly.Module. */
+export function instanceOfSync(source) {
+  seesEngine();
+  try {
+    const module = source instanceof WebAssembly.Module ? source : new WebAssembly.Module(source);
+    return new WebAssembly.Instance(module, {});
   } catch (cause) {
     throw failureOf(cause);
   }
@@ -649,11 +646,5 @@ export async function load(source = new URL('./silkwaram.wasm', import.meta.url)
 
 /** Loads the module at once, from its bytes or a compiled WebAssembly.Module. */
 export function loadSync(source) {
-  seesEngine();
-  try {
-    const module = source instanceof WebAssembly.Module ? source : new WebAssembly.Module(source);
-    return callsOf(new WebAssembly.Instance(module, {}));
-  } catch (cause) {
-    throw failureOf(cause);
-  }
+  return callsOf(instanceOfSync(source));
 }

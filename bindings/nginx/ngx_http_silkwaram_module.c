@@ -718,53 +718,72 @@ ngx_http_silkwaram_default(ngx_conf_t *cf, ngx_command_t *cmd, void *conf)
 }
 
 
-/* whether the library takes a tag; the texts are those of docs/REFUSALS.md */
+/* what the library says of a refusal, with its offset; the buffer has room */
+
+static u_char *
+ngx_http_silkwaram_refusal(u_char *to, u_char *last, sw_told *told)
+{
+    u_char   text[255], *word, *end;
+    sw_told  said;
+
+    if (sw_refusal_text(told->number, text, sizeof(text), &said) != SW_FOUND) {
+        return to;
+    }
+
+    end = text + said.len;
+    word = (told->given & SW_HAS_OFFSET)
+           ? ngx_strlcasestrn(text, end, (u_char *) "OFFSET", 6 - 1) : NULL;
+
+    if (word == NULL) {
+        return ngx_slprintf(to, last, "%*s", said.len, text);
+    }
+
+    return ngx_slprintf(to, last, "%*s%uz%*s", (size_t) (word - text), text,
+                        told->offset, (size_t) (end - word - 6), word + 6);
+}
+
+
+/* whether the library takes a tag */
 
 static char *
 ngx_http_silkwaram_check_tag(ngx_conf_t *cf, ngx_command_t *cmd,
     ngx_str_t *tag)
 {
+    u_char   text[255 + NGX_SIZE_T_LEN], *last;
     sw_told  told;
     int32_t  status;
 
     if (tag->len == 0) {
-        ngx_conf_log_error(NGX_LOG_EMERG, cf, 0,
-                           "\"%V\": refused 1: tag is empty", &cmd->name);
-        return NGX_CONF_ERROR;
+
+        /* as a tag, since an empty default is none */
+
+        status = sw_pick(0, NULL, 0, (u_char *) "\n", 1, NULL, 0, NULL, 0,
+                         &told);
+
+    } else {
+
+        /* as a default, since among tags an LF would make two of one */
+
+        status = sw_pick(0, NULL, 0, NULL, 0, tag->data, tag->len, NULL, 0,
+                         &told);
     }
-
-    /* as a default, since among tags an LF would make two of one */
-
-    status = sw_pick(0, NULL, 0, NULL, 0, tag->data, tag->len, NULL, 0, &told);
 
     if (status == SW_NOTHING) {
         return NGX_CONF_OK;
     }
 
-    switch (told.number) {
+    last = ngx_http_silkwaram_refusal(text, text + sizeof(text), &told);
 
-    case 2:
-        ngx_conf_log_error(NGX_LOG_EMERG, cf, 0,
-                           "\"%V\": refused 2: tag is over 255 bytes: \"%V\"",
-                           &cmd->name, tag);
-        break;
+    if (tag->len == 0) {
+        ngx_conf_log_error(NGX_LOG_EMERG, cf, 0, "\"%V\": refused %uD: %*s",
+                           &cmd->name, told.number, (size_t) (last - text),
+                           text);
 
-    case 3:
+    } else {
         ngx_conf_log_error(NGX_LOG_EMERG, cf, 0,
-                           "\"%V\": refused 3: subtag at %uz: \"%V\"",
-                           &cmd->name, told.offset, tag);
-        break;
-
-    case 4:
-        ngx_conf_log_error(NGX_LOG_EMERG, cf, 0,
-                           "\"%V\": refused 4: tag is not well-formed: \"%V\"",
-                           &cmd->name, tag);
-        break;
-
-    default:
-        ngx_conf_log_error(NGX_LOG_EMERG, cf, 0,
-                           "\"%V\": refused %uD: \"%V\"",
-                           &cmd->name, told.number, tag);
+                           "\"%V\": refused %uD: %*s: \"%V\"",
+                           &cmd->name, told.number, (size_t) (last - text),
+                           text, tag);
     }
 
     return NGX_CONF_ERROR;

@@ -23,8 +23,8 @@ const addon = {
     const answer = library[name](...words);
     if (answer === undefined) throw new Error('the site is closed');
     if (!Array.isArray(answer)) return answer;
-    const [number, offset, row] = answer;
-    throw refusalOf({ name, number, offset, row });
+    const [number, given, offset, row, count] = answer;
+    throw refusalOf(addon, { name, number, given, offset, row, count });
   },
 
   done(name, ...words) {
@@ -36,6 +36,7 @@ const addon = {
   },
 
   meaning: (number) => library.sw_refusal(number),
+  refusalText: (number) => library.sw_refusal_text(number),
   version: () => library.version(),
   handle: () => library.make(),
   letGo: (handle) => library.close(handle),

@@ -3,7 +3,7 @@
  * node.mjs makes the package of them; they are not called by others. Each call takes sites, which `make` makes, and
  * texts in the order of the header, flags as a number and a time or place as a bigint; where these two stand is not
  * looked at. It answers the text of the answer as a string; null where nothing is found; undefined where the site is
- * closed or a flag is unknown; and [number, offset, row] where something is refused.
+ * closed or a flag is unknown; and [number, given, offset, row, count] where something is refused.
  *
  * There is no state but that of the objects, so each worker thread can load this. */
 #define NAPI_VERSION 8
@@ -275,15 +275,16 @@ static bool append_number(napi_env env, napi_value list, uint32_t at, double num
     return is_ok(env, napi_create_double(env, number, &value)) && is_ok(env, napi_set_element(env, list, at, value));
 }
 
-/* A refusal, as [number, offset, row]. */
+/* A refusal, as [number, given, offset, row, count]. */
 static napi_value refusal(napi_env env, const sw_told *told)
 {
+    const double members[] = {told->number, told->given, (double)told->offset, (double)told->row, (double)told->count};
+    const uint32_t count = sizeof members / sizeof *members;
     napi_value list;
-    if (!is_ok(env, napi_create_array_with_length(env, 3, &list))) return NULL;
-    return append_number(env, list, 0, told->number) && append_number(env, list, 1, (double)told->offset) &&
-                   append_number(env, list, 2, (double)told->row)
-               ? list
-               : NULL;
+    if (!is_ok(env, napi_create_array_with_length(env, count, &list))) return NULL;
+    for (uint32_t at = 0; at < count; at++)
+        if (!append_number(env, list, at, members[at])) return NULL;
+    return list;
 }
 
 static napi_value string_of(napi_env env, const uint8_t *bytes, size_t len)
@@ -335,6 +336,11 @@ static int32_t ask_filter_tags(const question *it, uint8_t *out, size_t room, sw
 static int32_t ask_refusal(const question *it, uint8_t *out, size_t room, sw_told *told)
 {
     return sw_refusal(it->flags, out, room, told);
+}
+
+static int32_t ask_refusal_text(const question *it, uint8_t *out, size_t room, sw_told *told)
+{
+    return sw_refusal_text(it->flags, out, room, told);
 }
 
 static int32_t ask_lookup(const question *it, uint8_t *out, size_t room, sw_told *told)
@@ -542,6 +548,7 @@ static const call CALLS[] = {
     {"sw_pick", ask_pick, NULL, 0, 3},
     {"sw_filter", ask_filter_tags, NULL, 0, 2},
     {"sw_refusal", ask_refusal, NULL, 0, 0},
+    {"sw_refusal_text", ask_refusal_text, NULL, 0, 0},
     {"sw_site_lookup", ask_lookup, NULL, 1, 3},
     {"sw_site_text", ask_text, NULL, 1, 3},
     {"sw_site_filter", ask_filter, NULL, 1, 2},

@@ -4,16 +4,26 @@
 /** What is refused: the number is the code, docs/REFUSALS.md has each. */
 final class Refused extends RuntimeException
 {
-    /** The place in the refused text, in bytes from 0 (of 3, 9 and 18; else 0). */
-    public int $offset;
-    /** The row of a document, from 0, where the refusal is of a row (else 0). */
-    public int $row;
+    /** The place in the refused text, in bytes from 0, where the refusal has one. */
+    public ?int $offset;
+    /** The row of a document, from 0, where the refusal is of a row. */
+    public ?int $row;
+    /** Of 11 the place of the text, of 12 how many texts there are, of 13 the place of the cell. */
+    public ?int $count;
+    /** Whether it is of the second of two documents, as the new maps of update. */
+    public bool $ofSecond;
 
-    public function __construct(int $number, int $offset, int $row, string $meaning)
+    public function __construct(FFI\CData $told, string $text, string $wanted)
     {
-        parent::__construct("refused $number at $offset, row $row: $meaning", $number);
-        $this->offset = $offset;
-        $this->row = $row;
+        $this->offset = $told->given & 1 ? $told->offset : null;
+        $this->row = $told->given & 2 ? $told->row : null;
+        $this->count = $told->given & 4 ? $told->count : null;
+        $this->ofSecond = ($told->given & 8) !== 0;
+        $filled = str_replace('OFFSET', $this->offset ?? 'OFFSET', $text);
+        $filled = str_replace(['INDEX', 'COUNT', 'PLACE'], $this->count ?? '', $filled);
+        $where = $this->row === null ? '' : " in row $this->row";
+        $where .= $this->ofSecond ? ' of the second document' : '';
+        parent::__construct("refused $told->number: $filled$where ($wanted)", $told->number);
     }
 }
 
@@ -22,7 +32,7 @@ final class SilkwaramCalls
 {
     // (as silkwaram.h has them; FFI reads no preprocessor's lines)
     private const DECLARED = '
-        typedef struct { size_t len, offset, row, count; uint32_t number; } sw_told;
+        typedef struct { size_t len, offset, row, count; uint32_t number, given; } sw_told;
         typedef struct { void *held; } sw_site;
         uint32_t sw_version(void);
         int32_t sw_pick(uint32_t flags, const char *field, size_t field_len, const char *tags,
@@ -31,6 +41,7 @@ final class SilkwaramCalls
         int32_t sw_filter(uint32_t flags, const char *field, size_t field_len, const char *tags,
                         size_t tags_len, char *out, size_t out_len, sw_told *told);
         int32_t sw_refusal(uint32_t number, char *out, size_t out_len, sw_told *told);
+        int32_t sw_refusal_text(uint32_t number, char *out, size_t out_len, sw_told *told);
         int32_t sw_site_open(const char *text, size_t text_len, sw_site *site, sw_told *told);
         int32_t sw_site_new(const char *name, size_t name_len, sw_site *site, sw_told *told);
         int32_t sw_site_lookup(sw_site *site, uint32_t flags, const char *id, size_t id_len,
@@ -160,8 +171,10 @@ final class SilkwaramCalls
             throw new RuntimeException('out of memory');
         }
         if ($status > 1) {
-            [$number, $offset, $row] = [$this->told->number, $this->told->offset, $this->told->row];
-            throw new Refused($number, $offset, $row, $this->ask('sw_refusal', $number)[0]);
+            // (a copy, since the two calls report to the same place)
+            $told = clone $this->told;
+            $text = $this->ask('sw_refusal_text', $told->number)[0];
+            throw new Refused($told, $text, $this->ask('sw_refusal', $told->number)[0]);
         }
         return $status;
     }

@@ -27,22 +27,18 @@ static uint8_t *read_file(const char *name, size_t *len) {
   return bytes;
 }
 
-/* What a refusal means, in short. */
-static const char *meaning(uint32_t number) {
-  switch (number) {
-    case 1: case 2: case 3: case 4: return "a language tag is not well-formed";
-    case 8: return "the field is too long";
-    case 9: return "an element of the field is malformed";
-    case 10: return "a message id is malformed";
-    case 18: return "the document is not UTF-8";
-    case 19: return "the document is not JSON";
-    case 26: return "out of memory";
-    case 28: return "the document is of a later version";
-    default: return "this is no site document";
-  }
-}
-
 static const uint8_t *bytes(const char *text) { return (const uint8_t *)text; }
+
+/* Prints what a refusal means, and where it is. */
+static void print_refusal(const sw_told *refused) {
+  uint8_t wanted[255];
+  sw_told told;
+  sw_refusal(refused->number, wanted, sizeof wanted, &told);
+  fprintf(stderr, "refused %u", refused->number);
+  if (refused->given & SW_HAS_OFFSET) fprintf(stderr, " at byte %zu", refused->offset);
+  if (refused->given & SW_HAS_ROW) fprintf(stderr, " in row %zu", refused->row);
+  fprintf(stderr, ": %.*s\n", (int)told.len, (const char *)wanted);
+}
 
 /* Prints the first text of the label, in a block of memory of just its size where the buffer has no room. */
 static int32_t print_text(sw_site *site, const char *id, const char *field, const char *dflt, sw_told *told) {
@@ -77,9 +73,7 @@ int main(int count, char **words) {
   int32_t status = sw_site_open(document, len, &site, &told);
   free(document);
   if (status == SW_FOUND) status = print_text(&site, words[2], words[3], count == 5 ? words[4] : "", &told);
-  if (told.number)
-    fprintf(stderr, "refused %u: %s (byte %zu, row %zu; docs/REFUSALS.md)\n", told.number, meaning(told.number),
-            told.offset, told.row);
+  if (told.number) print_refusal(&told);
   sw_site_free(&site);
   return status;
 }

@@ -18,8 +18,8 @@ function answered(call) {
     return call();
   } catch (error) {
     if (error.name !== 'Refused') throw error;
-    const { number, offset, row } = error;
-    return { number, offset, row };
+    const { number, offset, row, count, ofSecond } = error;
+    return { number, offset, row, count, ofSecond };
   }
 }
 

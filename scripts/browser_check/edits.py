@@ -9,12 +9,11 @@ import concurrent.futures
 import json
 import os
 import random
-import re
 import subprocess
 import sys
 
 sys.dont_write_bytecode = True
-from questions import library_questions  # noqa: E402
+from questions import in_javascript, library_questions  # noqa: E402
 
 OF = library_questions()
 IDS, BAD_IDS = OF.IDS[:5], OF.BAD_IDS
@@ -23,12 +22,6 @@ BAD_TAGS = OF.BAD_TAGS
 TEXTS = OF.TEXTS + ["x" * 65535]
 BAD_MAPS = ["", "[]", "{", '{"m":{"en":1}}', '{"m":{"e_n":"x"}}', '{"@m":{"en":"x"}}', '{"m":{"en":["x",2]}}', '{"m":"x"}']
 MOMENTS = [0, 3, 5, 7, 7, 9, 20, 1764000000000, 2**53 + 1, 2**64 - 1]
-
-
-def row_in(number, line):
-    """The row that the command's line names. (Of 20 and 27 the library cannot tell row 0 from none.)"""
-    row = re.search(r" in row (\d+)", line)
-    return int(row[1]) if row and not (number in (20, 27) and row[1] == "0") else None
 
 
 class Command:
@@ -42,9 +35,9 @@ class Command:
         if ran.returncode in (0, 1):
             return ran.stdout
         line = ran.stderr.decode()
-        answer = OF.refused(ran.returncode, line)
-        return {"number": answer.number, "offset": answer.offset if answer.number in (3, 9, 18) else None,
-                "row": row_in(answer.number, line)}
+        # (`update` has the old maps as document 2, and the new ones as document 3)
+        of_second = words[0] == "update" and line.endswith(" of document 3\n")
+        return {**in_javascript(OF, OF.refused(ran.returncode, line)), "ofSecond": of_second}
 
 
 def line(text):

@@ -40,14 +40,17 @@ def choices(lines):
         yield {"language": language, "weight": int(weight), "texts": json.loads(texts)}
 
 
-def answer_in_javascript(asked, known):
+def in_javascript(of, known):
+    """What silkwaram.mjs throws, where the library refuses so."""
+    places = zip(("offset", "row", "count"), of.PLACES, (known.offset, known.row, known.count))
+    found = {name: it if known.given & bit else None for name, bit, it in places}
+    return {"number": known.number, **found, "ofSecond": False}
+
+
+def answer_in_javascript(of, asked, known):
     """What silkwaram.mjs has to answer where the library answers `known`."""
     if known.status > 2:
-        # (what is refused of a document is of a row, but for its text, its version and its own form)
-        has_row = asked.call == "open" and known.number not in (18, 19, 28)
-        is_of_whole = known.number in (20, 27) and known.row == 0
-        return {"number": known.number, "offset": known.offset if known.number in (3, 9, 18) else None,
-                "row": known.row if has_row and not is_of_whole else None}
+        return in_javascript(of, known)
     if asked.call == "open":
         return None
     if asked.call == "filter":
@@ -93,9 +96,7 @@ def tag_filter(of, lexicat, rng):
     words = ["pick", "--all", *of.options(asked, read.encode(), b""), *[it.encode() for it in tags]]
     status, lines, told = of.run(lexicat, words)
     if status > 1:
-        known = of.refused(status, told)
-        answer = {"number": known.number, "offset": known.offset if known.number in (3, 9) else None, "row": None}
-        return [["filterTags", read, tags, options], answer]
+        return [["filterTags", read, tags, options], in_javascript(of, of.refused(status, told))]
     rest, answer = list(tags), []
     for line in lines.decode().split("\n")[1:-1]:
         found, weight = line.split(" ")
@@ -124,7 +125,7 @@ def main(words):
         opened = dict(zip(opens, pool.map(lambda it: of.wanted(lexicat, it), opens)))
         asked = of.with_sites(asked, opened)
         known = list(pool.map(lambda it: opened.get(it) or of.wanted(lexicat, it), asked))
-    made = [[question(of, it), answer_in_javascript(it, its)] for it, its in zip(asked, known) if it.call in CALLS]
+    made = [[question(of, it), answer_in_javascript(of, it, its)] for it, its in zip(asked, known) if it.call in CALLS]
     rng = random.Random(2)
     made += [tag_filter(of, lexicat, rng) for _ in range(int(count))]
     json.dump(made, sys.stdout)

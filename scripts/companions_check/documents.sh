@@ -79,6 +79,7 @@ unchanged() {
 }
 
 merges() {
+    local site
     part merges
     a_site paris '["m","en",5,"paris",0,["a"]]'
     a_site tokyo '["m","en",7,"tokyo",0,["b"]]'
@@ -93,24 +94,33 @@ merges() {
     ends 0 lexicat-file paris.json merge --not-after 7 oslo.json 'tokyo laid out'
     cells '["m","en",7,"tokyo",0,["b"]]' '["n","en",6,"oslo",0,null]'
 
+    # What is too large for one input is merged by two.
+    cp kept/paris.json .
+    for site in tokyo oslo; do
+        head -c 40000000 /dev/zero | tr '\0' ' ' >> $site.json
+    done
+    ends 0 lexicat-file paris.json merge tokyo.json oslo.json
+    cells '["m","en",7,"tokyo",0,["b"]]' '["n","en",6,"oslo",0,null]'
+    cp kept/tokyo.json kept/oslo.json .
+
     # All or none.
     cp kept/paris.json .
     echo '{}' > none.json
     ends 3 lexicat-file paris.json merge tokyo.json none.json
-    remedy 20 'refused 20: shape of document 2'
-    reports 'none.json: is not merged, and paris.json is as it was'
+    remedy 20 'refused 20: shape of document 3'
+    reports 'paris.json is as it was: it is document 1, and tokyo.json document 2'
     ends 3 lexicat-file paris.json merge oslo.json tokyo.json --not-after 6
-    remedy 29 'refused 29: time is ahead in row 0 of document 2'
-    reports 'tokyo.json: is not merged'
+    remedy 29 'refused 29: time is ahead in row 0 of document 3'
+    reports 'it is document 1, and oslo.json document 2'
+    : > nothing.json
+    ends 3 lexicat-file paris.json merge tokyo.json nothing.json oslo.json
+    remedy 19 'refused 19: not JSON of document 3'
     ends 4 lexicat-file paris.json merge tokyo.json nowhere.json
     ends 2 lexicat-file paris.json merge
     ends 2 lexicat-file paris.json merge tokyo.json --no-limit --not-after 7
-    a_program sync '[ "$1" != sync ] || exit 4'
-    a_program counted 'if [ "$1" = sync ]; then
-    echo >> count; [ "$(wc -l < count)" -lt 2 ] || { echo "refused 25: write fault" >&2; exit 4; }
-fi
+    a_program faulty '[ "$1" != merge ] || { echo "refused 25: write fault" >&2; exit 4; }
 exec "$REAL" "$@"'
-    ends 4 env LEXICAT=programs/counted REAL="$LEXICAT" \
+    ends 4 env LEXICAT=programs/faulty REAL="$LEXICAT" \
         lexicat-file paris.json merge tokyo.json oslo.json
     unchanged paris.json tokyo.json oslo.json
     a_site paris '["m","en",5,"x",0,["a"]]'

@@ -3,7 +3,7 @@ import json
 import os
 import time
 
-from program import FORMATS, HAS_POLIB, end, fault, maps, run
+from program import FORMATS, end, fault, maps, run
 
 IDS = ["__proto__", "constructor", "=1+1", "+x", "-x", "'=1", '"', "'", "\\", "a\"b",
        "</resources>", "&amp;", "&lt;", "]]>", "-->", "*/", "//", "%#@a@", "#", "!", ":", "= a",
@@ -86,8 +86,6 @@ def of_format(kind):
 def ids_and_texts():
     """Each id, and each text, in each format."""
     for kind in FORMATS:
-        if kind == "po" and not HAS_POLIB:
-            continue
         labels = of_format(kind)
         usual = [it for it in IDS if not any(ord(sign) < 32 for sign in it)]
         kept = sum(there_and_back(kind, message, labels("x")) for message in usual)
@@ -141,7 +139,7 @@ def maps_that_are_none():
         for kind in FORMATS:
             status, output, errors = run(kind, "out", *words_of(kind), data=data)
             in_words(kind, status, output, errors, str(data[:30]))
-            if status != 3 and (kind != "po" or HAS_POLIB) and b"ud800" not in data:
+            if status != 3 and b"ud800" not in data:
                 fault(f"{kind} out of {data[:60]}: {status} {errors}")
 
 

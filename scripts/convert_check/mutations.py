@@ -76,7 +76,7 @@ for number in range(2500):
         ended(f"{name} {number} again", status, again, errors)
         if again != output:
             fault(f"{name} {number}: {output.decode()} came back as {again.decode()} by {went}")
-    other = chance.choice([it for it in FORMATS if HAS_POLIB or it != "po"])
+    other = chance.choice(FORMATS)
     words = ["--lang", lang] + ["--source", "en"] * (other in ("xliff", "xliff2", "po"))
     if words[0] != "--lang" or lang != "en" or len(words) == 2:
         asked = mutated(output) if number % 2 else output

@@ -13,8 +13,8 @@ import lexicat_convert  # noqa: E402
 lexicat_convert.COMPANIONS = os.path.dirname(CONVERT)
 from lexicat_convert import command  # noqa: E402
 
-FORMATS = list(command.MODULES)
 HAS_POLIB = command.po.polib is not None
+FORMATS = [kind for kind in command.MODULES if kind != "po" or HAS_POLIB]
 for _name in command.MODULES.values():
     importlib.import_module(f"lexicat_convert.{_name}")
 faults = []

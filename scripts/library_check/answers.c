@@ -68,7 +68,7 @@ static void answer(char **words) {
   uint8_t *out = block(first.len + after);
   if (ask(words, out, first.len + after, &told) != status || !same_told(&first, &told)) status = -3;
   if (!is_untouched(out + told.len, after)) status = -4;
-  printf("%d %u %zu %zu %zu ", status, told.number, told.offset, told.row, told.count);
+  printf("%d %u %u %zu %zu %zu ", status, told.number, told.given, told.offset, told.row, told.count);
   for (size_t at = 0; at < told.len; at++) printf("%02x", out[at]);
   printf("\n");
   free(out);

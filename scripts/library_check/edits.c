@@ -28,16 +28,16 @@ static sw_site site_a(void) {
 static void made_and_edited(void) {
   sw_site site = {0};
   text m = T("m"), en = T("en");
-  DONE(sw_site_new(BYTES(T("A")), &site, &told), refused(27, 0, 0));
+  DONE(sw_site_new(BYTES(T("A")), &site, &told), refused(27));
   HOLDS(!site.held);
   DONE(sw_site_new(BYTES(T("a")), &site, &told), done);
   DONE(sw_site_put(&site, 5, BYTES(m), BYTES(en), BYTES(T("Hello")), &told), done);
   HAS(&site, ENGLISH);
-  DONE(sw_site_put(&site, 6, BYTES(T("@")), BYTES(T("e n")), BYTES(T("\xff")), &told), refused(10, 0, 0));
-  DONE(sw_site_put(&site, 6, BYTES(m), BYTES(T("e n")), BYTES(T("\xff")), &told), refused(3, 0, 0));
-  DONE(sw_site_put(&site, 6, BYTES(m), BYTES(en), BYTES(T("a\xff")), &told), refused(18, 1, 0));
-  DONE(sw_site_delete(&site, 6, BYTES(T("@")), BYTES(T("e n")), &told), refused(10, 0, 0));
-  DONE(sw_site_delete(&site, 6, BYTES(m), BYTES(T("e n")), &told), refused(3, 0, 0));
+  DONE(sw_site_put(&site, 6, BYTES(T("@")), BYTES(T("e n")), BYTES(T("\xff")), &told), refused(10));
+  DONE(sw_site_put(&site, 6, BYTES(m), BYTES(T("e n")), BYTES(T("\xff")), &told), refused_at(3, 0));
+  DONE(sw_site_put(&site, 6, BYTES(m), BYTES(en), BYTES(T("a\xff")), &told), refused_at(18, 1));
+  DONE(sw_site_delete(&site, 6, BYTES(T("@")), BYTES(T("e n")), &told), refused(10));
+  DONE(sw_site_delete(&site, 6, BYTES(m), BYTES(T("e n")), &told), refused_at(3, 0));
   HAS(&site, ENGLISH);
   DONE(sw_site_delete(&site, 6, BYTES(m), BYTES(en), &told), done);
   ROW(ROOM, sw_site_status(&site, out, ROOM, &told), answers(SW_FOUND, 0, "site a cells 1 labels 0 last 6 a 0\n"));
@@ -49,7 +49,7 @@ static void long_texts(void) {
   size_t most = 65535;
   uint8_t *label = block(most + 1);
   memset(label, 'x', most + 1);
-  DONE(sw_site_put(&site, 6, BYTES(T("n")), BYTES(T("en")), label, most + 1, &told), refused(11, 0, 0));
+  DONE(sw_site_put(&site, 6, BYTES(T("n")), BYTES(T("en")), label, most + 1, &told), refused_with(11, 0));
   HAS(&site, ENGLISH);
   DONE(sw_site_put(&site, 6, BYTES(T("n")), BYTES(T("en")), label, most, &told), done);
   ROW(0, sw_site_text(&site, 0, BYTES(T("n")), BYTES(T("en")), NULL, 0, 0, NULL, 0, &told),
@@ -63,9 +63,14 @@ static void language_maps(void) {
   text english = T(ENGLISH), both = T(BOTH);
   DONE(sw_site_import(&site, 6, BYTES(T("{\"m\":{\"fr\":[\"Bonjour\"]}}")), &told), done);
   HAS(&site, BOTH);
-  DONE(sw_site_import(&site, 6, BYTES(T("[]")), &told), refused(20, 0, 0));
-  DONE(sw_site_update(&site, 6, BYTES(T("[]")), BYTES(T("{")), &told), refused(20, 0, 0));
-  DONE(sw_site_update(&site, 6, BYTES(both), BYTES(T("{")), &told), refused(19, 0, 0));
+  DONE(sw_site_import(&site, 6, BYTES(T("[]")), &told), refused(20));
+  DONE(sw_site_update(&site, 6, BYTES(T("[]")), BYTES(T("{")), &told), refused(20));
+  DONE(sw_site_update(&site, 6, BYTES(both), BYTES(T("{")), &told), REFUSED(19, .given = SW_OF_SECOND));
+  text wrong = T("{\"a\":{\"en\":\"x\"},\"m\":{\"en-f r\":\"y\"}}");
+  DONE(sw_site_update(&site, 6, BYTES(wrong), BYTES(both), &told),
+       REFUSED(3, .offset = 3, .row = 1, .given = SW_HAS_OFFSET | SW_HAS_ROW));
+  DONE(sw_site_update(&site, 6, BYTES(both), BYTES(wrong), &told),
+       REFUSED(3, .offset = 3, .row = 1, .given = SW_HAS_OFFSET | SW_HAS_ROW | SW_OF_SECOND));
   HAS(&site, BOTH);
   DONE(sw_site_update(&site, 6, BYTES(both), BYTES(english), &told), done);
   HAS(&site, ENGLISH);
@@ -75,10 +80,10 @@ static void language_maps(void) {
 static void deltas(void) {
   sw_site site = site_a();
   text delta = T(DELTA_OF_B), other = T("{\"cells\":[],\"kind\":\"delta\",\"to\":\"b\",\"version\":2}");
-  DONE(sw_site_take(&site, BYTES(delta), 6, &told), refused(29, 0, 0));
-  DONE(sw_site_take(&site, BYTES(other), 0, &told), refused(15, 0, 0));
-  DONE(sw_site_take(&site, BYTES(T(CLASH)), 0, &told), refused(13, 0, 0));
-  DONE(sw_site_take(&site, BYTES(T("{")), 0, &told), refused(19, 0, 0));
+  DONE(sw_site_take(&site, BYTES(delta), 6, &told), refused_in_row(29, 0));
+  DONE(sw_site_take(&site, BYTES(other), 0, &told), refused(15));
+  DONE(sw_site_take(&site, BYTES(T(CLASH)), 0, &told), refused_with(13, 0));
+  DONE(sw_site_take(&site, BYTES(T("{")), 0, &told), refused(19));
   HAS(&site, ENGLISH);
   DONE(sw_site_take(&site, BYTES(delta), 7, &told), done);
   HAS(&site, BOTH);
@@ -106,7 +111,7 @@ static void clashes(void) {
   sw_site site = site_a(), other = {0};
   DONE(sw_site_new(BYTES(T("a")), &other, &told), done);
   DONE(sw_site_put(&other, 5, BYTES(T("m")), BYTES(T("en")), BYTES(T("Hi")), &told), done);
-  DONE(sw_site_merge(&site, &other, &told), refused(13, 0, 0));
+  DONE(sw_site_merge(&site, &other, &told), refused_with(13, 0));
   HAS(&site, ENGLISH);
   sw_site_free(&site);
   sw_site_free(&other);
@@ -119,7 +124,7 @@ static void documents(void) {
   ROW(ROOM, sw_site_summary(&site, out, ROOM, &told), answers(SW_FOUND, 0, SUMMARY_OF_A));
   ROW(ROOM, sw_site_delta(&site, BYTES(summary), out, ROOM, &told),
       answers(SW_FOUND, 0, "{\"cells\":[],\"kind\":\"delta\",\"to\":\"a\",\"version\":2}\n"));
-  ROW(ROOM, sw_site_delta(&site, BYTES(T(SITE_A)), out, ROOM, &told), refused(20, 0, 0));
+  ROW(ROOM, sw_site_delta(&site, BYTES(T(SITE_A)), out, ROOM, &told), refused(20));
   for (size_t room = 0; room <= summary.len; room++)
     ROW(room, sw_site_summary(&site, room ? out : NULL, room, &told), answers(SW_FOUND, 0, SUMMARY_OF_A));
   sw_site_free(&site);
@@ -129,12 +134,12 @@ static void questions(void) {
   sw_site site = site_a();
   ROW(ROOM, sw_site_missing(&site, BYTES(T("fr")), out, ROOM, &told), answers(SW_FOUND, 0, ENGLISH));
   ROW(ROOM, sw_site_missing(&site, BYTES(T("en")), out, ROOM, &told), answers(SW_NOTHING, 0, "{}\n"));
-  ROW(ROOM, sw_site_missing(&site, BYTES(T("e n")), out, ROOM, &told), refused(3, 0, 0));
+  ROW(ROOM, sw_site_missing(&site, BYTES(T("e n")), out, ROOM, &told), refused_at(3, 0));
   ROW(ROOM, sw_site_outdated(&site, BYTES(T("en")), BYTES(T("fr")), out, ROOM, &told), answers(SW_NOTHING, 0, "{}\n"));
   DONE(sw_site_take(&site, BYTES(T(DELTA_OF_B)), 0, &told), done);
   ROW(ROOM, sw_site_outdated(&site, BYTES(T("en")), BYTES(T("fr")), out, ROOM, &told), answers(SW_FOUND, 0, BOTH));
-  ROW(ROOM, sw_site_outdated(&site, BYTES(T("e n")), BYTES(T("a")), out, ROOM, &told), refused(3, 0, 0));
-  ROW(ROOM, sw_site_outdated(&site, BYTES(T("en")), BYTES(T("a")), out, ROOM, &told), refused(4, 0, 0));
+  ROW(ROOM, sw_site_outdated(&site, BYTES(T("e n")), BYTES(T("a")), out, ROOM, &told), refused_at(3, 0));
+  ROW(ROOM, sw_site_outdated(&site, BYTES(T("en")), BYTES(T("a")), out, ROOM, &told), refused(4));
   sw_site_free(&site);
 }
 
@@ -167,14 +172,20 @@ static void without_a_site(void) {
   text en = T("en"), tags = T("EN\nde"), sentence = T("a site name has 1 to 16 bytes of a to z, 0 to 9 and -");
   ROW(ROOM, sw_filter(0, BYTES(en), BYTES(tags), out, ROOM, &told), answers(SW_FOUND, 0, "filter 1\nEN 1000\n"));
   ROW(ROOM, sw_filter(0, BYTES(T("ja")), BYTES(tags), out, ROOM, &told), answers(SW_NOTHING, 0, "filter 0\n"));
-  ROW(ROOM, sw_filter(0, BYTES(T("fr, e n")), BYTES(T("e n")), out, ROOM, &told), refused(9, 4, 0));
-  ROW(ROOM, sw_filter(0, BYTES(en), BYTES(T("en\n\n")), out, ROOM, &told), refused(1, 0, 0));
+  ROW(ROOM, sw_filter(0, BYTES(T("fr, e n")), BYTES(T("e n")), out, ROOM, &told), refused_at(9, 4));
+  ROW(ROOM, sw_filter(0, BYTES(en), BYTES(T("en\n\n")), out, ROOM, &told), refused(1));
   ROW(ROOM, sw_filter(SW_WIDEN, BYTES(en), BYTES(tags), out, ROOM, &told), usage);
   ROW(ROOM, sw_refusal(27, out, ROOM, &told), answers(SW_FOUND, 0, (const char *)sentence.bytes));
   ROW(sentence.len - 1, sw_refusal(27, out, sentence.len - 1, &told),
       answers(SW_FOUND, 0, (const char *)sentence.bytes));
-  ROW(ROOM, sw_refusal(30, out, ROOM, &told), nothing_told(SW_NOTHING));
-  ROW(ROOM, sw_refusal(0, out, ROOM, &told), nothing_told(SW_NOTHING));
+  ROW(ROOM, sw_refusal_text(3, out, ROOM, &told), answers(SW_FOUND, 0, "subtag at OFFSET"));
+  ROW(15, sw_refusal_text(3, out, 15, &told), answers(SW_FOUND, 0, "subtag at OFFSET"));
+  ROW(ROOM, sw_refusal_text(12, out, ROOM, &told), answers(SW_FOUND, 0, "label has COUNT texts"));
+  static const uint32_t none[] = {0, 30, 256 + 3, UINT32_MAX};
+  for (size_t it = 0; it < sizeof none / sizeof *none; it++) {
+    ROW(ROOM, sw_refusal(none[it], out, ROOM, &told), nothing_told(SW_NOTHING));
+    ROW(ROOM, sw_refusal_text(none[it], out, ROOM, &told), nothing_told(SW_NOTHING));
+  }
 }
 
 int main(void) {

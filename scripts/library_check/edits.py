@@ -5,7 +5,7 @@ usage: edits.py LEXICAT COUNT    (SILKWARAM_LIBRARY names the library, PYTHONPAT
 
 It makes COUNT sequences, always the same ones, of some steps at three open sites. After each step the
 document of the site that was edited has to be, byte for byte, what the command makes of the document
-before; where one refuses, the other has to refuse with the same number and row, and the site stays.
+before; where one refuses, the other has to refuse with the same number and places, and the site stays.
 Some edits are made in place, some beside a share, which has to keep its document. Now and then all
 that is asked of a site is compared with what the command prints.
 """
@@ -27,7 +27,11 @@ BAD_LANGUAGES = ["", "en_US", "toolongsubtag", "é", "a" * 256, "en-", "@NONE", 
 TEXTS = ["Hello", "", 'with "quotes"', "two\nlines", "こんにちは", "\\", "\u0001", "😀", "x" * 300]
 LAST_TIME = 2**64 - 1
 STEPS = ["put"] * 6 + ["delete"] * 2 + ["import", "update", "take", "take", "take_late", "merge", "merge"]
-FAULT = re.compile(rb"refused (\d+): .*?(?: in row (\d+))?(?: of document \d+)?\n$")
+FAULT = re.compile(
+    rb"refused (\d+): .*?(?: at (\d+))?(?: in row (\d+))?(?: of document (\d+))?\n$"
+)
+# The document that the command counts as the second one of a call: of `update`, after the site.
+SECOND = b"3"
 
 
 class Command:
@@ -37,13 +41,13 @@ class Command:
         self.program = program
 
     def __call__(self, *words, documents=b""):
-        """What it prints and its status, or (number, row) where it refuses."""
+        """What it prints, or (number, offset, row, whether it is of the second) where it refuses."""
         run = subprocess.run(
             [self.program, *words], input=documents, stdout=subprocess.PIPE, stderr=subprocess.PIPE, check=False
         )
         if run.returncode == 3:
-            number, row = FAULT.match(run.stderr).groups()
-            return int(number), None if row is None else int(row)
+            number, offset, row, document = FAULT.match(run.stderr).groups()
+            return int(number), offset and int(offset), row and int(row), document == SECOND
         if run.returncode > 1:
             sys.exit(f"{words} ended with {run.returncode}: {run.stderr.decode()}")
         return run.stdout
@@ -69,17 +73,12 @@ def maps_of(rng):
 
 
 def refusal_of(call):
-    """(number, row) where a call is refused, or None."""
+    """(number, offset, row, whether it is of the second) where a call is refused, or None."""
     try:
         call()
     except Refused as fault:
-        return fault.number, fault.row
+        return fault.number, fault.offset, fault.row, fault.of_second
     return None
-
-
-def agrees(refused, wanted):
-    """Whether a refusal is that of the command. (A row that no text names is 0 or none.)"""
-    return refused[0] == wanted[0] and (refused[1] or 0) == (wanted[1] or 0)
 
 
 def words_of(name, word):
@@ -109,7 +108,7 @@ class Sequence:
         refused = refusal_of(call)
         if refused is None and isinstance(wanted, bytes):
             self.documents[place] = wanted
-        elif refused is None or isinstance(wanted, bytes) or not agrees(refused, wanted):
+        elif refused != wanted:
             self.fault("wanted", wanted, "not", refused)
         if self.sites[place].to_bytes() != self.documents[place]:
             self.fault("another document:", self.sites[place].to_bytes(), self.documents[place])

@@ -36,7 +36,7 @@ static inline int is_untouched(const uint8_t *bytes, size_t len) {
 
 static inline int same_told(const sw_told *one, const sw_told *other) {
   return one->len == other->len && one->offset == other->offset && one->row == other->row &&
-         one->count == other->count && one->number == other->number;
+         one->count == other->count && one->number == other->number && one->given == other->given;
 }
 
 /* The whole file; ends the program where it cannot be read. */

@@ -41,7 +41,14 @@ TEXTS = [
 ]
 
 Question = collections.namedtuple("Question", "call flags texts place site")
-Answer = collections.namedtuple("Answer", "status number offset row count answer")
+Answer = collections.namedtuple("Answer", "status number given offset row count answer")
+# What the command's line of a refusal may have, in the order of an Answer, with its bit of `given`.
+HAS_OFFSET, HAS_ROW, HAS_COUNT = 1, 2, 4
+PLACES = {
+    HAS_OFFSET: re.compile(r" at (\d+)"),
+    HAS_ROW: re.compile(r" in row (\d+)"),
+    HAS_COUNT: re.compile(r": text (\d+)|label has (\d+)|, cell (\d+)"),
+}
 
 
 def site_document(rng):
@@ -169,10 +176,10 @@ def run(lexicat, words, document=b""):
 def refused(status, told):
     """The answer that a line of the command's refusals stands for."""
     number = int(re.match(r"refused (\d+): ", told)[1])
-    offset = re.search(r" at (\d+)", told) if number in (3, 9, 18) else None
-    row = re.search(r" in row (\d+)", told)
-    place = int(offset[1]) if offset else 0
-    return Answer(status, number, place, int(row[1]) if row else 0, 0, b"")
+    found = {bit: pattern.search(told) for bit, pattern in PLACES.items()}
+    given = sum(bit for bit, it in found.items() if it)
+    places = [int(next(filter(None, it.groups()))) if it else 0 for it in found.values()]
+    return Answer(status, number, given, *places, b"")
 
 
 def options(asked, read, dflt):
@@ -186,7 +193,7 @@ def wanted(lexicat, asked):
     """The command's answer to the question, as the library has to give it."""
     if asked.call == "open":
         status, _, told = run(lexicat, ["status"], asked.texts[0])
-        return refused(status, told) if status > 1 else Answer(0, 0, 0, 0, 0, b"")
+        return refused(status, told) if status > 1 else Answer(0, 0, 0, 0, 0, 0, b"")
     if asked.call == "pick":
         read, lines, dflt = asked.texts
         tags = re.sub(rb"\n\Z", b"", lines).split(b"\n")
@@ -195,7 +202,7 @@ def wanted(lexicat, asked):
             return refused(status, told)
         how, _, found = line.rstrip(b"\n").partition(b" ")
         tag = next((it for it in tags if it.lower() == found), b"")
-        return Answer(status, 0, 0, 0, int(how == b"default"), tag)
+        return Answer(status, 0, 0, 0, 0, int(how == b"default"), tag)
     if asked.call == "bundle":
         words = ["bundle", *options(asked, *asked.texts)]
     else:
@@ -206,11 +213,11 @@ def wanted(lexicat, asked):
     if status > 1:
         return refused(status, told)
     if asked.call != "text":
-        return Answer(status, 0, 0, 0, 0, line)
+        return Answer(status, 0, 0, 0, 0, 0, line)
     texts = [] if status else json.loads(line.split(b" ", 2)[2])
     if asked.place < len(texts):
-        return Answer(0, 0, 0, 0, len(texts), texts[asked.place].encode())
-    return Answer(1, 0, 0, 0, len(texts), b"")
+        return Answer(0, 0, 0, 0, 0, len(texts), texts[asked.place].encode())
+    return Answer(1, 0, 0, 0, 0, len(texts), b"")
 
 
 def with_sites(asked, all_wanted):

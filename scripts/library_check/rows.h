@@ -22,8 +22,21 @@ static inline wanted answers(int32_t status, size_t count, const char *answer) {
   return (wanted){status, {.len = strlen(answer), .count = count}, answer};
 }
 
-static inline wanted refused(uint32_t number, size_t offset, size_t row) {
-  return (wanted){SW_REFUSED, {.number = number, .offset = offset, .row = row}, ""};
+/* A refusal; more of its report may follow the number. */
+#define REFUSED(...) ((wanted){SW_REFUSED, {.number = __VA_ARGS__}, ""})
+
+static inline wanted refused(uint32_t number) { return REFUSED(number); }
+
+static inline wanted refused_at(uint32_t number, size_t offset) {
+  return REFUSED(number, .offset = offset, .given = SW_HAS_OFFSET);
+}
+
+static inline wanted refused_in_row(uint32_t number, size_t row) {
+  return REFUSED(number, .row = row, .given = SW_HAS_ROW);
+}
+
+static inline wanted refused_with(uint32_t number, size_t count) {
+  return REFUSED(number, .count = count, .given = SW_HAS_COUNT);
 }
 
 static inline wanted nothing_told(int32_t status) { return (wanted){status, {0}, ""}; }
@@ -32,8 +45,8 @@ static inline void holds_at(int line, int is_well) {
   rows++;
   if (is_well) return;
   faults++;
-  fprintf(stderr, "line %d: status or answer; len %zu offset %zu row %zu count %zu number %u\n", line, told.len,
-          told.offset, told.row, told.count, told.number);
+  fprintf(stderr, "line %d: status or answer; len %zu offset %zu row %zu count %zu number %u given %u\n", line,
+          told.len, told.offset, told.row, told.count, told.number, told.given);
 }
 
 /* Makes a buffer and a `told` that no call has written to. */

@@ -1,12 +1,13 @@
 /* Measures the stack of each call, with what a thread needs for itself. Then it makes each call once more, on a thread
- * that has no more than the header allows: under that stack is a page that nothing can touch, so a call that takes more
+ * that has no more than its header allows: under that stack is a page that nothing can touch, so a call that takes more
  * ends this program. */
 #include <pthread.h>
+#include <silkwaram_command.h>
 #include <sys/mman.h>
 
 #include "questions.h"
 
-enum { ALLOWED = 96 * 1024, MEASURED = 4 * ALLOWED, GUARD = 4096, LEVELS = 127, ROOM = 256 };
+enum { ALLOWED = 96 * 1024, COMMAND_ALLOWED = 160 * 1024, MEASURED = 4 * ALLOWED, GUARD = 4096, LEVELS = 127, ROOM = 256 };
 
 #define PARIS \
   "{\"cells\":[[\"m\",\"en\",5,\"paris\",0,[\"Hello\"]]],\"kind\":\"site\",\"site\":\"paris\",\"version\":2}\n"
@@ -48,6 +49,12 @@ static void refusal(void) {
   uint8_t out[ROOM];
   sw_told told;
   found(sw_refusal(18, out, ROOM, &told));
+}
+
+static void refusal_text(void) {
+  uint8_t out[ROOM];
+  sw_told told;
+  found(sw_refusal_text(18, out, ROOM, &told));
 }
 
 static void opened(text document) {
@@ -180,6 +187,14 @@ static size_t touched(void call(void), size_t size) {
 
 static size_t most;
 
+/* The stack of a call of the command, which is made again on one that has no more than is allowed. */
+static size_t of_command(void call(void)) {
+  size_t taken = touched(call, MEASURED);
+  if (taken > COMMAND_ALLOWED) exit(5);
+  touched(call, COMMAND_ALLOWED);
+  return taken;
+}
+
 /* The stack of a call, which is made again on one that has no more than is allowed. */
 static size_t stack_of(void call(void)) {
   size_t taken = touched(call, MEASURED);
@@ -228,14 +243,57 @@ static const struct {
     {update_deep, "", "{\"a\":1,\"b\":", "}", ""},
 };
 
+static const char *line[2];
+static text input;
+
+static void command(void) {
+  uint8_t out[ROOM];
+  sw_text words[2];
+  sw_command_told told;
+  size_t count = 0;
+  for (; count < 2 && line[count]; count++) words[count] = (sw_text){(const uint8_t *)line[count], strlen(line[count])};
+  sw_command(words, count, BYTES(input), out, ROOM, out, 0, &told);
+}
+
+/* The command line that reads such a document, and what comes before it in its input. */
+static const struct {
+  void (*call)(void);
+  const char *line[2], *before;
+} LINES[] = {
+    {open_deep, {"status"}, ""},      {open_deep, {"replay"}, ""},         {take_deep, {"take"}, PARIS},
+    {delta_deep, {"delta"}, PARIS},   {import_deep, {"import", "--now=9"}, PARIS},
+    {update_deep, {"update", "--now=9"}, PARIS "{}\n"}, {nothing, {"help", "put"}, ""},
+    {nothing, {"pick"}, ""},
+};
+
+/* The stack of the command line that takes the most, over this document and where that is none. */
+static size_t of_command_lines(void call(void)) {
+  size_t deepest = 0;
+  for (size_t it = 0; it < sizeof LINES / sizeof *LINES; it++) {
+    if (LINES[it].call != call && LINES[it].call != nothing) continue;
+    size_t before = strlen(LINES[it].before);
+    input = (text){block(before + deep.len), before + deep.len};
+    memcpy(input.bytes, LINES[it].before, before);
+    if (deep.len) memcpy(input.bytes + before, deep.bytes, deep.len);
+    memcpy(line, LINES[it].line, sizeof line);
+    size_t taken = of_command(command);
+    if (taken > deepest) deepest = taken;
+    free(input.bytes);
+  }
+  return deepest;
+}
+
+static size_t most_of_command;
+
 /* The stack of the document that takes the most: one that is nested as deep as is read, or nearly. */
 static size_t of_deep_documents(void) {
   size_t deepest = 0;
   for (size_t it = 0; it < sizeof DEEP / sizeof *DEEP; it++)
     for (unsigned levels = LEVELS - 4; levels <= LEVELS + 1; levels++) {
       deep = nested(DEEP[it].before, DEEP[it].begin, DEEP[it].end, DEEP[it].after, levels);
-      size_t taken = stack_of(DEEP[it].call);
+      size_t taken = stack_of(DEEP[it].call), of_lines = of_command_lines(DEEP[it].call);
       if (taken > deepest) deepest = taken;
+      if (of_lines > most_of_command) most_of_command = of_lines;
       free(deep.bytes);
     }
   return deepest;
@@ -249,6 +307,7 @@ static const struct {
     {"sw_pick", pick},
     {"sw_filter", filter_tags},
     {"sw_refusal", refusal},
+    {"sw_refusal_text", refusal_text},
     {"sw_site_open of version 1", open_version_1},
     {"of members in another order", open_reversed},
     {"as lexicat writes them", open_site},
@@ -279,7 +338,8 @@ int main(void) {
   printf("stacks:");
   for (size_t it = 0; it < sizeof CALLS / sizeof *CALLS; it++)
     printf(" %s %zu,", CALLS[it].name, stack_of(CALLS[it].call));
-  printf(" the deepest documents %zu; the header allows %d bytes\n", of_deep_documents(), ALLOWED);
+  printf(" the deepest documents %zu,", of_deep_documents());
+  printf(" sw_command %zu; the headers allow %d and %d bytes\n", most_of_command, ALLOWED, COMMAND_ALLOWED);
   sw_site_free(&site);
   sw_site_free(&other);
   return most > ALLOWED;

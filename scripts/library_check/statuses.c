@@ -60,7 +60,7 @@ static void picks(void) {
   PICK(0, T("en"), NO_TEXT, T("en"), nothing_told(SW_NOTHING));
   PICK(SW_EXTENDED, T("de-*-DE"), T("de\nde-DE"), NO_TEXT, answers(SW_FOUND, 0, "de-DE"));
   PICK(SW_LENIENT, T("en_US, fr;q=0.5"), T("en\nfr"), NO_TEXT, answers(SW_FOUND, 0, "fr"));
-  PICK(0, T("de-*-DE"), T("de"), NO_TEXT, refused(9, 0, 0));
+  PICK(0, T("de-*-DE"), T("de"), NO_TEXT, refused_at(9, 0));
   PICK(SW_EXTENDED, T("de-*-DE"), T("de"), NO_TEXT, answers(SW_FOUND, 0, "de"));
   PICK(SW_LENIENT, T("en_US, de-DE;q=0.5, en;q=0.1"), T("en\nde"), NO_TEXT, answers(SW_FOUND, 0, "de"));
   PICK(SW_EXTENDED | SW_LENIENT, T("en_US, de-DE;q=0.5, en;q=0.1"), T("en\nde"), NO_TEXT, nothing_told(SW_NOTHING));
@@ -68,18 +68,18 @@ static void picks(void) {
   PICK(SW_WIDEN, T("en"), T("en-US"), NO_TEXT, answers(SW_FOUND, 0, "en-US"));
   PICK(SW_EXTENDED | SW_LENIENT, T("de;q=0.5, fr"), T("de\nfr"), NO_TEXT, answers(SW_FOUND, 0, "fr"));
 
-  PICK(0, T("en"), T("\n"), NO_TEXT, refused(1, 0, 0));
-  PICK(0, T("en"), T("en\n\nfr"), NO_TEXT, refused(1, 0, 0));
-  PICK(0, T("en"), T("en\n\n"), NO_TEXT, refused(1, 0, 0));
-  PICK(0, T("en"), T("en\nfr-é\n"), NO_TEXT, refused(3, 3, 0));
-  PICK(0, T("en"), T("en\0"), NO_TEXT, refused(3, 0, 0));
-  PICK(0, T("en"), T("en\n\xff"), NO_TEXT, refused(3, 0, 0));
-  PICK(0, T("en"), T("en\r\nfr\r\n"), NO_TEXT, refused(3, 0, 0));
-  PICK(0, T("fr, e n"), T("e n"), NO_TEXT, refused(9, 4, 0));
-  PICK(0, T("en\0"), T("en"), NO_TEXT, refused(9, 0, 0));
-  PICK(0, T("fr,\xff"), T("en"), NO_TEXT, refused(9, 3, 0));
-  PICK(0, T("e n"), T("e n"), T("de-\xff"), refused(3, 3, 0));
-  PICK(0, T("e n"), T("e n"), T("a"), refused(4, 0, 0));
+  PICK(0, T("en"), T("\n"), NO_TEXT, refused(1));
+  PICK(0, T("en"), T("en\n\nfr"), NO_TEXT, refused(1));
+  PICK(0, T("en"), T("en\n\n"), NO_TEXT, refused(1));
+  PICK(0, T("en"), T("en\nfr-é\n"), NO_TEXT, refused_at(3, 3));
+  PICK(0, T("en"), T("en\0"), NO_TEXT, refused_at(3, 0));
+  PICK(0, T("en"), T("en\n\xff"), NO_TEXT, refused_at(3, 0));
+  PICK(0, T("en"), T("en\r\nfr\r\n"), NO_TEXT, refused_at(3, 0));
+  PICK(0, T("fr, e n"), T("e n"), NO_TEXT, refused_at(9, 4));
+  PICK(0, T("en\0"), T("en"), NO_TEXT, refused_at(9, 0));
+  PICK(0, T("fr,\xff"), T("en"), NO_TEXT, refused_at(9, 3));
+  PICK(0, T("e n"), T("e n"), T("de-\xff"), refused_at(3, 3));
+  PICK(0, T("e n"), T("e n"), T("a"), refused(4));
   PICK(SW_LENIENT, T("\xff, en"), T("en"), NO_TEXT, answers(SW_FOUND, 0, "en"));
 }
 
@@ -89,7 +89,7 @@ static void long_fields(void) {
   memset(field, ',', most + 1);
   for (uint32_t flags = 0; flags < 4; flags++) {
     PICK(flags, (text){field, most}, T("en"), T("en"), answers(SW_FOUND, 1, "en"));
-    PICK(flags, (text){field, most + 1}, T("en"), T("en"), refused(8, 0, 0));
+    PICK(flags, (text){field, most + 1}, T("en"), T("en"), refused(8));
   }
   free(field);
 }
@@ -113,7 +113,7 @@ static void closed_handles(void) {
   FILTER(&site, 0, T("m"), T("en"), nothing_told(SW_USAGE));
   BUNDLE(&site, 0, T("en"), NO_TEXT, nothing_told(SW_USAGE));
   HOLDS(sw_site_share(&site, &other) == SW_USAGE && !other.held && !site.held);
-  OPEN(&site, T("{"), refused(19, 0, 0));
+  OPEN(&site, T("{"), refused(19));
   HOLDS(!site.held);
   sw_site_free(&site);
   sw_site_free(&site);
@@ -125,11 +125,11 @@ static void questions(sw_site *site) {
   LOOKUP(site, 0, T("m"), T("ja"), T("EN"), answers(SW_FOUND, 0, "default en [\"Hello\",\"Hi\"]\n"));
   LOOKUP(site, 0, T("m"), T("ja"), NO_TEXT, answers(SW_NOTHING, 0, "nothing\n"));
   LOOKUP(site, 0, T("none"), T("en"), T("en"), answers(SW_NOTHING, 0, "nothing\n"));
-  LOOKUP(site, 0, T("\xff"), T("e n"), T("e n"), refused(10, 0, 0));
-  LOOKUP(site, 0, T("m\0"), T("en"), NO_TEXT, refused(10, 0, 0));
-  LOOKUP(site, 0, NO_TEXT, T("en"), NO_TEXT, refused(10, 0, 0));
-  LOOKUP(site, 0, T("m"), T("e n"), T("en-"), refused(3, 3, 0));
-  LOOKUP(site, 0, T("m"), T("fr, en;q=2"), T("en"), refused(9, 4, 0));
+  LOOKUP(site, 0, T("\xff"), T("e n"), T("e n"), refused(10));
+  LOOKUP(site, 0, T("m\0"), T("en"), NO_TEXT, refused(10));
+  LOOKUP(site, 0, NO_TEXT, T("en"), NO_TEXT, refused(10));
+  LOOKUP(site, 0, T("m"), T("e n"), T("en-"), refused_at(3, 3));
+  LOOKUP(site, 0, T("m"), T("fr, en;q=2"), T("en"), refused_at(9, 4));
 
   LABEL_TEXT(site, 0, T("m"), T("en"), NO_TEXT, 0, answers(SW_FOUND, 2, "Hello"));
   LABEL_TEXT(site, 0, T("m"), T("en"), NO_TEXT, 1, answers(SW_FOUND, 2, "Hi"));
@@ -138,19 +138,19 @@ static void questions(sw_site *site) {
   LABEL_TEXT(site, 0, T("n"), T("de"), NO_TEXT, 0, answers(SW_FOUND, 1, ""));
   LABEL_TEXT(site, 0, T("m"), T("ja"), T("fr"), 0, answers(SW_FOUND, 1, "Bonjour"));
   LABEL_TEXT(site, 0, T("m"), T("ja"), NO_TEXT, 0, nothing_told(SW_NOTHING));
-  LABEL_TEXT(site, 0, T("m"), T("e n"), NO_TEXT, 0, refused(9, 0, 0));
+  LABEL_TEXT(site, 0, T("m"), T("e n"), NO_TEXT, 0, refused_at(9, 0));
 
   FILTER(site, 0, T("m"), T("fr;q=0.5, en"),
          answers(SW_FOUND, 0, "filter 2\nen 1000 [\"Hello\",\"Hi\"]\nfr 500 [\"Bonjour\"]\n"));
   FILTER(site, 0, T("m"), T("ja"), answers(SW_NOTHING, 0, "filter 0\n"));
-  FILTER(site, 0, T("@"), T("e n"), refused(10, 0, 0));
-  FILTER(site, 0, T("m"), T("fr, en_US"), refused(9, 4, 0));
+  FILTER(site, 0, T("@"), T("e n"), refused(10));
+  FILTER(site, 0, T("m"), T("fr, en_US"), refused_at(9, 4));
 
   BUNDLE(site, 0, T("fr, de;q=0.5"), NO_TEXT,
          answers(SW_FOUND, 0, "{\"m\":{\"fr\":\"Bonjour\"},\"n\":{\"de\":\"\"}}\n"));
   BUNDLE(site, 0, T("ja"), NO_TEXT, answers(SW_NOTHING, 0, "{}\n"));
-  BUNDLE(site, 0, T("e n"), T("a"), refused(4, 0, 0));
-  BUNDLE(site, 0, T("fr, en_US"), NO_TEXT, refused(9, 4, 0));
+  BUNDLE(site, 0, T("e n"), T("a"), refused(4));
+  BUNDLE(site, 0, T("fr, en_US"), NO_TEXT, refused_at(9, 4));
 }
 
 static void rooms(sw_site *site) {
@@ -170,10 +170,10 @@ static void rooms(sw_site *site) {
 }
 
 static void reads_anew(sw_site *site) {
-  OPEN(site, T("not JSON"), refused(19, 0, 0));
-  OPEN(site, T("{\"a\xff"), refused(18, 3, 0));
-  OPEN(site, NO_TEXT, refused(19, 0, 0));
-  OPEN(site, T(UNSORTED), refused(21, 0, 1));
+  OPEN(site, T("not JSON"), refused(19));
+  OPEN(site, T("{\"a\xff"), refused_at(18, 3));
+  OPEN(site, NO_TEXT, refused(19));
+  OPEN(site, T(UNSORTED), refused_in_row(21, 1));
   LABEL_TEXT(site, 0, T("m"), T("en"), NO_TEXT, 0, answers(SW_FOUND, 2, "Hello"));
   OPEN(site, T(OSLO), nothing_told(SW_FOUND));
   LABEL_TEXT(site, 0, T("m"), T("en"), NO_TEXT, 0, answers(SW_FOUND, 1, "Good day"));

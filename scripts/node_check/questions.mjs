@@ -139,7 +139,8 @@ function wanted(question, document) {
   const { status, line, told } = run(wordsOf(question), isOfTags(question.call) ? '' : document);
   if (status < 2) return answerIn(question, line);
   const [, number, offset] = /^refused (\d+): .*?(?: at (\d+))?\n$/.exec(told);
-  return { number: Number(number), offset: offset === undefined ? null : Number(offset), row: null };
+  const place = offset === undefined ? null : Number(offset);
+  return { number: Number(number), offset: place, row: null, count: null, ofSecond: false };
 }
 
 function asked({ call, field, id, tags, ...options }, site) {
@@ -161,8 +162,8 @@ function got(question, site) {
     return asked(question, site);
   } catch (error) {
     if (error.number === undefined) throw error;
-    const { number, offset, row } = error;
-    return { number, offset, row };
+    const { number, offset, row, count, ofSecond } = error;
+    return { number, offset, row, count, ofSecond };
   }
 }
 

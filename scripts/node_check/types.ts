@@ -40,6 +40,8 @@ site.share().close();
 site[Symbol.dispose]();
 
 const number = (error: unknown): number | null => (error instanceof Refused ? error.number : null);
+const where = (it: Refused): (number | null)[] => [it.offset, it.row, it.count];
+const said = (it: Refused): string => (it.ofSecond ? it.message : it.wanted);
 const meaning: string | null = refusal(version);
 const use = languages({ site, tags: ['en'] });
 const req: Parameters<typeof use>[0] = { headers: {} };
@@ -56,4 +58,5 @@ const greet = (it: Express.Request): string => it.label(it.language ?? 'none')?.
 // @ts-expect-error
 const unknown = (it: Express.Request) => it.languages;
 
-export { bundle, changes, choices, greet, label, language, meaning, number, status, tag, tags, text, texts };
+export { bundle, changes, choices, greet, label, language, meaning, number, said, status, tag, tags, text, texts,
+  where };

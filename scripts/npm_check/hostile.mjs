@@ -20,8 +20,8 @@ function answered({ Refused }, call) {
     return call() ?? null;
   } catch (error) {
     if (!(error instanceof Refused)) throw error;
-    const { number, offset, row } = error;
-    return { number, offset, row };
+    const { number, offset, row, count, ofSecond } = error;
+    return { number, offset, row, count, ofSecond };
   }
 }
 

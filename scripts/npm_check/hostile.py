@@ -84,7 +84,8 @@ class Hostile:
             words = ["--now", str(at), f"--id={name}", f"--lang={lang}"]
             if "\0" in name:
                 # (no argument of a command can have a zero: FORMATS.md refuses such an id)
-                self.done("put", [name, lang, text, {"now": str(at)}], {"number": 10, "offset": None, "row": None})
+                refused = {"number": 10, "offset": None, "row": None, "count": None, "ofSecond": False}
+                self.done("put", [name, lang, text, {"now": str(at)}], refused)
             elif "\0" in text:
                 maps = json.dumps({name: {lang: text}}).encode()
                 made = self.command.run(["import", "--now", str(at)], self.site, maps)

@@ -1,6 +1,18 @@
 // What scripts/npm-check has the TypeScript compiler read: uses of the module that are right, and after each
 // `@ts-expect-error` one that is wrong.
 import { Change, Label, LanguageMaps, Picked, Refused, Silkwaram, Site, Status, load, loadSync } from 'silkwaram';
+import { Answer, AnswerInBytes, Lexicat, command, load as loadCommand } from 'silkwaram/command';
+
+export async function answers(): Promise<Answer> {
+  const lexicat: Lexicat = await loadCommand(new Uint8Array(8));
+  const { status, output, errors }: Answer = lexicat.command(['pick', new Uint8Array(2), 'en'] as const);
+  const bytes: AnswerInBytes = lexicat.bytes(['status'], new Uint8Array(2));
+  // @ts-expect-error
+  await command('status');
+  // @ts-expect-error
+  await command(['status'], 7);
+  return bytes.isRead && status === 0 ? command(['export'], bytes.output) : command([output, errors]);
+}
 
 export async function uses(): Promise<unknown[]> {
   const sw: Silkwaram = await load();

@@ -47,23 +47,26 @@ test('malformed elements are refused, or skipped', () => {
   assert.throws(() => pick('fr;q=0.4,en;q=1.001', ['en']), {
     name: 'Refused',
     message:
-      'refused 9: field element at 9 (each element of a field is a range, with or without a weight)',
+      'refused 9: field element at 9 (each element of a field is a range, with or without a weight' +
+      ' (RFC 9110 sections 12.4.2 and 12.5.4))',
     number: 9,
     offset: 9,
     row: null,
+    count: null,
   });
   assert.equal(pick('en_US, fr;q=0.5', ['en', 'fr'], { lenient: true }), 'fr');
 });
 
 test('a field has at most 65,535 bytes', () => {
   assert.equal(pick('en' + ' '.repeat(65_533), ['en']), 'en');
-  const refused = { message: 'refused 8: field is over 65535 bytes', number: 8, offset: null };
+  const message = 'refused 8: field is over 65535 bytes (a field has at most 65535 bytes)';
+  const refused = { message, number: 8, offset: null };
   assert.throws(() => pick('en' + ' '.repeat(65_534), ['en']), refused);
   assert.throws(() => pick('en' + ' '.repeat(65_534), ['en'], { lenient: true }), refused);
 });
 
 test('tags are refused by their number', () => {
-  assert.throws(() => pick('en', ['']), { message: 'refused 1: tag is empty' });
+  assert.throws(() => pick('en', ['']), { message: 'refused 1: tag is empty (a tag has at least one byte)' });
   assert.throws(() => pick('en', ['fr', 'a'.repeat(256)]), { number: 2 });
   assert.throws(() => pick('en', ['en_US']), { message: /^refused 3: subtag at 0 \(/, offset: 0 });
   assert.throws(() => pick('en', ['en-']), { number: 3, offset: 3 });

@@ -107,11 +107,58 @@ test('documents are refused by number, offset and row', () => {
   refuses(Buffer.from([0x7b, 0xff]), 18, 1, null);
   refuses('', 19, null, null);
   refuses(document(['@m', ...cell.slice(1)]), 10, null, 0);
+  refuses(document(cell.slice(1)), 20, null, 0);
+  refuses('[]', 20, null, null);
   refuses(document(cell, ['n', 'en-', ...cell.slice(2)]), 3, 3, 1);
   refuses(document(cell, cell), 21, null, 1);
   refuses(JSON.stringify({ cells: [], kind: 'site', site: 'paris', version: 3 }), 28, null, null);
   assert.throws(() => Site.open('site.json'), {
     message: 'refused 19: not JSON (the document itself is wanted, not its name)',
+  });
+});
+
+test('a refusal says what is wanted, and of which document', () => {
+  const site = Site.open(GREETINGS);
+  const wrong = { a: { en: 'x' }, m: { en: Array(65).fill('x') } };
+  const refused = { number: 12, offset: null, row: 1, count: 65, wanted: 'a label has 1 to 64 texts' };
+  assert.throws(() => site.update(wrong, {}), {
+    ...refused,
+    ofSecond: false,
+    message: 'refused 12: label has 65 texts in row 1 (a label has 1 to 64 texts)',
+  });
+  assert.throws(() => site.update({}, wrong), {
+    ...refused,
+    ofSecond: true,
+    message: 'refused 12: label has 65 texts in row 1 of the second document (a label has 1 to 64 texts)',
+  });
+  const other = Site.new('oslo');
+  assert.throws(() => other.take(site.deltaFor(site.summary())), {
+    number: 15,
+    message: 'refused 15: delta is for another site (a delta is taken by the site that it was made for)',
+  });
+  assert.throws(() => site.take(GREETINGS), {
+    number: 20,
+    row: null,
+    message: 'refused 20: shape (a delta document is wanted)',
+    wanted: 'a delta document is wanted',
+  });
+});
+
+test('one stamp of two labels', () => {
+  const of = (text) =>
+    JSON.stringify({
+      cells: [['a', 'en', 1, 'paris', 0, ['a']], ['m', 'en', 2, 'paris', 0, [text]]],
+      kind: 'site',
+      site: 'paris',
+      version: 2,
+    });
+  assert.throws(() => Site.open(of('x')).merge(Site.open(of('y'))), {
+    number: 13,
+    row: null,
+    count: 1,
+    message:
+      'refused 13: one stamp is used for two different edits, cell 1' +
+      ' (two different edits of a message in a language have two stamps)',
   });
 });
 

@@ -348,10 +348,17 @@ class Exchanges(unittest.TestCase):
         before = self.paris.to_bytes()
         fault = refusal(lambda: self.paris.take(delta, not_after=100))
         self.assertEqual((fault.number, fault.row), (29, 0))
-        self.assertEqual(str(fault), "refused 29: time is ahead in row 0")
+        self.assertEqual(
+            str(fault),
+            "refused 29: time is ahead in row 0 (no row has a time after the limit)",
+        )
         self.assertEqual(refusal(lambda: self.tokyo.take(delta, not_after=100)).number, 29)
         fault = refusal(lambda: self.tokyo.take(delta))
-        self.assertEqual(str(fault), "refused 15: the delta is for another site")
+        self.assertEqual(
+            str(fault),
+            "refused 15: delta is for another site"
+            " (a delta is taken by the site that it was made for)",
+        )
         self.assertEqual(self.paris.to_bytes(), before)
         self.paris.take(delta, not_after=101)
         self.assertEqual(self.paris.text("m", "ja"), "x")
@@ -361,8 +368,12 @@ class Exchanges(unittest.TestCase):
         with Site.open(other) as site:
             before = self.paris.to_bytes()
             fault = refusal(lambda: self.paris.merge(site))
-            self.assertEqual((fault.number, fault.row), (13, None))
-            self.assertEqual(str(fault), "refused 13: one stamp is used for two different edits")
+            self.assertEqual((fault.number, fault.row, fault.count), (13, None, 1))
+            self.assertEqual(
+                str(fault),
+                "refused 13: one stamp is used for two different edits, cell 1"
+                " (two different edits of a message in a language have two stamps)",
+            )
             self.assertEqual(self.paris.to_bytes(), before)
 
     def test_documents_of_another_kind(self):
@@ -374,8 +385,21 @@ class Exchanges(unittest.TestCase):
             (lambda: self.paris.reload(self.paris.summary()), "a site document is wanted"),
         ):
             fault = refusal(call)
-            self.assertEqual((fault.number, fault.row), (20, None))
-            self.assertEqual(str(fault), f"refused 20: shape ({wanted})")
+            self.assertEqual((fault.number, fault.row, fault.wanted), (20, None, wanted))
+            of = " of the second document" if fault.of_second else ""
+            self.assertEqual(str(fault), f"refused 20: shape{of} ({wanted})")
+
+    def test_which_maps_are_refused(self):
+        maps, wrong = {"m": {"en": "x"}}, {"a": {"en": "x"}, "m": {"en": ["x"] * 65}}
+        for old, new, of_second in ((wrong, maps, False), (maps, wrong, True)):
+            fault = refusal(lambda: self.paris.update(old, new))
+            self.assertEqual((fault.number, fault.row, fault.count), (12, 1, 65))
+            self.assertIs(fault.of_second, of_second)
+            of = " of the second document" if of_second else ""
+            self.assertEqual(
+                str(fault),
+                f"refused 12: label has 65 texts in row 1{of} (a label has 1 to 64 texts)",
+            )
 
     def test_a_language_that_is_repeated(self):
         maps = {"a": {"en": "x"}, "b": {"en": "x"}, "c": {"en": "x", "EN": "y"}}

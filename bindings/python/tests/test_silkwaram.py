@@ -83,7 +83,8 @@ class Picks(unittest.TestCase):
         self.assertEqual(
             str(it.exception),
             "refused 9: field element at 4"
-            " (each element of a field is a range, with or without a weight)",
+            " (each element of a field is a range, with or without a weight"
+            " (RFC 9110 sections 12.4.2 and 12.5.4))",
         )
 
     def test_a_malformed_element_that_is_passed_over(self):
@@ -348,6 +349,7 @@ class Handles(unittest.TestCase):
             (b"{", 19, None, None),
             (b'{"a\xff', 18, 3, None),
             (b"[]", 20, None, None),
+            (document(("a", "en", 5)), 20, None, 0),
             (document(("a", "en", ["x"]), ("b", "en", 5)), 20, None, 1),
             (document(site="Paris"), 27, None, None),
             (late, 21, None, 1),
@@ -413,7 +415,7 @@ class Handles(unittest.TestCase):
         for text in ("", '{"cells":', b"site.json", "x" * 1000):
             with self.subTest(text=text), self.assertRaises(Refused) as it:
                 Site.open(text)
-            self.assertEqual(str(it.exception), "refused 19: not JSON")
+            self.assertTrue(str(it.exception).startswith("refused 19: not JSON (a document is one"))
 
     def test_questions_do_not_wait_for_a_document_that_is_read(self):
         site, answers = Site.open(PARIS), []
@@ -549,19 +551,32 @@ class Libraries(unittest.TestCase):
 class Faults(unittest.TestCase):
     def test_what_a_refusal_says(self):
         subtag = "(each subtag is 1 to 8 letters or digits, with a hyphen between two)"
+        clash = "two different edits of a message in a language have two stamps"
         for fault, line in [
             (Refused(3, 2), f"refused 3: subtag at 2 {subtag}"),
             (Refused(3, 2, 0), f"refused 3: subtag at 2 in row 0 {subtag}"),
-            (Refused(11, None, 7), "refused 11: a text of a label is over 65535 bytes in row 7"),
             (
-                Refused(12, None, 0),
-                "refused 12: a label has no or too many texts in row 0 (a label has 1 to 64 texts)",
+                Refused(11, None, 7, count=1),
+                "refused 11: text 1 is over 65535 bytes in row 7"
+                " (each text of a label has at most 65535 bytes)",
             ),
-            (Refused(13), "refused 13: one stamp is used for two different edits"),
-            (Refused(15), "refused 15: the delta is for another site"),
             (
-                Refused(28),
-                "refused 28: version unknown (the version of a document is 1 or 2)",
+                Refused(12, row=0, count=0),
+                "refused 12: label has 0 texts in row 0 (a label has 1 to 64 texts)",
+            ),
+            (
+                Refused(13, count=5),
+                f"refused 13: one stamp is used for two different edits, cell 5 ({clash})",
+            ),
+            (
+                Refused(15),
+                "refused 15: delta is for another site"
+                " (a delta is taken by the site that it was made for)",
+            ),
+            (
+                Refused(28, of_second=True),
+                "refused 28: version unknown of the second document"
+                " (the version of a document is 1 or 2)",
             ),
             (Refused(99), "refused 99: unknown"),
         ]:
@@ -569,12 +584,20 @@ class Faults(unittest.TestCase):
                 self.assertEqual(str(fault), line)
 
     def test_a_refusal_that_is_pickled(self):
-        fault = pickle.loads(pickle.dumps(Refused(3, 2, 4)))
-        self.assertIs(type(fault), Refused)
-        self.assertEqual((fault.number, fault.offset, fault.row), (3, 2, 4))
-        self.assertTrue(str(fault).startswith("refused 3: subtag at 2 in row 4 ("))
-        fault = copy.copy(Refused(19, wanted="a document is wanted"))
-        self.assertEqual(str(fault), "refused 19: not JSON (a document is wanted)")
+        for fault in (
+            Refused(3, 2, 4),
+            Refused(13, count=7),
+            Refused(19, of_second=True),
+            Refused(20, wanted="a document is wanted"),
+        ):
+            for it in (pickle.loads(pickle.dumps(fault)), copy.copy(fault)):
+                self.assertIs(type(it), Refused)
+                self.assertEqual(vars(it), vars(fault))
+                self.assertEqual(str(it), str(fault))
+
+    def test_what_is_wanted(self):
+        self.assertEqual(Refused(12).wanted, "a label has 1 to 64 texts")
+        self.assertEqual(Refused(20, wanted="a document is wanted").wanted, "a document is wanted")
 
 
 if __name__ == "__main__":

@@ -17,7 +17,7 @@ use Rattle.map_docs.specs.LangMapChecks.{langmaps_checks}
 use Rattle.map_docs.specs.LangMaps.{Labelled}
 use Rattle.docs_core.proofs.FreeLineFeed.{free}
 use Rattle.row_docs.proofs.OneLine.{one_line}
-use Rattle.command_core.specs.Input.{AreDocuments}
+use Rattle.docs_core.specs.Lines.{AreDocuments}
 
 other : (b : ℕ) → b ≢ 10 → (b == 10) ≡ false
 other b h = grind (arith, nat_tests, h)

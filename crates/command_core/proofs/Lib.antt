@@ -1,11 +1,8 @@
 pub mod ActsLemmas
 pub mod AppLemmas
-pub mod EditsLemmas
 pub mod FaultLineLemmas
-pub mod FirstByteLemmas
 pub mod InputLemmas
 pub mod MatchesLemmas
 pub mod ProgramLemmas
 pub mod QuestionsLemmas
-pub mod ReadingLemmas
 pub mod TaskLemmas

@@ -3,27 +3,26 @@
 use Rattle.std.specs.Prelude.{◌≡◌, ◌⊎◌, ◌++◌, ℕ, Bool, List, [], Option, None, Some, Result}
 use Rattle.std.specs.Prelude.{MatchOption, MatchResult}
 use Rattle.clap.specs.Words.{Row, Text}
-use Rattle.cata_core.specs.Entries.{Entries}
 use Rattle.cata_core.specs.Site.{SiteState}
-use Rattle.cell_core.specs.Label.{IsLabel}
-use Rattle.cell_core.specs.MessageId.{IsMessageId}
 use Rattle.cell_core.specs.Fault.{RefusesName}
 use Rattle.cell_core.specs.SiteName.{IsSiteName}
-use Rattle.query_docs.specs.Missing as missing
-use Rattle.query_docs.specs.Outdated as outdated
 use Rattle.docs_core.specs.Calls as call
 use Rattle.site_docs.specs.ReadsAs.{IsSiteText, ReadsAsSite}
-use Rattle.row_docs.specs.Fields.{IsSpelled}
 use Rattle.json_docs.specs.declared.fault.DocFault.{DocFault}
 use Rattle.docs_core.specs.Replays.{RefusesReplay, Replays}
 use Rattle.docs_core.specs.TimeLimits.{AreSyncedUntil, RefusesSyncUntil}
-use Rattle.lang_core.specs.Lang.{RefusesLang, SpellsLang}
 use Rattle.front_core.specs.Picks.{AnswersPick, RefusesPick}
 use Rattle.front_core.specs.TagFilters.{IsLangFilter, RefusesTagFilter}
-use Rattle.front_core.specs.Questions.{AreBundleMaps, HasFilter, HasLookup, IsFilterLines}
-use Rattle.front_core.specs.Questions.{IsLookupLine, RefusesFilter, RefusesLookup}
-use Rattle.front_core.specs.Preferences.{HasPreferences, RefusesPreferences}
-use Rattle.front_core.specs.Faults.{IsOf, cell_fault, language_fault}
+use Rattle.front_core.specs.Ask.{HasQuestion, IsAnswer}
+use Rattle.front_core.specs.Changes.{IsDelete, IsPutOf, RefusesKey, RefusesPutOf}
+use Rattle.front_core.specs.Exchange.{ShowsView}
+use Rattle.front_core.specs.Questions.{AnswersBundle, AnswersFilter, AnswersLookup, IsFilter}
+use Rattle.front_core.specs.Questions.{IsLookup, RefusesFilter, RefusesLookup}
+use Rattle.front_core.specs.Preferences.{ArePreferences, RefusesPreferences}
+use Rattle.front_core.specs.Translate.{AnswersMissing, AnswersOutdated, IsMissing, IsOutdated}
+use Rattle.front_core.specs.Translate.{RefusesMissing, RefusesOutdated}
+use Rattle.front_core.specs.Faults.{IsOf, cell_fault}
+use Rattle.front_core.specs.declared.change.Change.{Change}
 use Rattle.front_core.specs.declared.answer.Answer.{Answer}
 use Rattle.front_core.specs.declared.fault.FrontFault.{FrontFault}
 use Rattle.front_core.specs.declared.fault.FrontFault.TheVariants.{NoMemory}
@@ -35,14 +34,13 @@ use Rattle.command_core.specs.EditWords.{EditWords}
 use Rattle.command_core.specs.Endings.{EndsRefused, TellsUsage, Writes, usage_line}
 use Rattle.command_core.specs.Explaining.{IsExplanation}
 use Rattle.command_core.specs.FieldWords.{PreferenceWords}
-use Rattle.command_core.specs.Input.{AreDocuments}
+use Rattle.docs_core.specs.Lines.{AreDocuments}
 use Rattle.command_core.specs.Reading.{AnswersInput, RefusesInput}
 use Rattle.command_core.specs.Status.{answer_status, found_status}
 use Rattle.command_core.specs.Streams.{IsUnread, IsUnwritten, Reader, Streams}
 use Rattle.command_core.specs.TaskWords.{GivesTask, TaskWords}
 use Rattle.command_core.specs.TaskWords as task
-use Rattle.command_core.specs.Parsing.{RefusesNothing, NoWords, RefusesKey, RefusesLabelWords}
-use Rattle.command_core.specs.Parsing.{RefusesTranslation}
+use Rattle.command_core.specs.Parsing.{NoWords, RefusesNothing}
 use Rattle.command_core.specs.declared.documents.DocumentTask.{DocumentTask}
 
 -- ---- `pick` and `new`
@@ -72,27 +70,23 @@ RefusesNew name fault =
 
 -- ---- `put` and `delete`
 
--- the texts are a label, or there are none
-abbrev pub IsLabelOrNone : Option (List Text) → Type 0
-IsLabelOrNone None = Unit {0}
-IsLabelOrNone (Some texts) = IsLabel texts
-
--- the words are a message id, a language, and a label or none
-abbrev pub HasEdit : EditWords → Type 0
-HasEdit words = IsMessageId words.id × IsSpelled words.lang × IsLabelOrNone words.texts
+-- the change that the words name: they put these texts, or delete
+abbrev pub IsChangeOf : EditWords → Change → Type 0
+IsChangeOf words change =
+    MatchOption words.texts (IsDelete words.id words.lang change)
+    (λ texts. IsPutOf words.id words.lang texts change)
 
 -- the id, the language and then the texts
-abbrev pub RefusesEditWords : EditWords → FrontFault → Type 0
-RefusesEditWords words fault =
-    RefusesKey words.id words.lang fault
-    ⊎ (IsMessageId words.id × IsSpelled words.lang
-    × IsOf cell_fault (RefusesLabelWords words.texts) fault)
+abbrev pub RefusesChangeOf : EditWords → FrontFault → Type 0
+RefusesChangeOf words fault =
+    MatchOption words.texts (RefusesKey words.id words.lang fault)
+    (λ texts. RefusesPutOf words.id words.lang texts fault)
 
 -- the document of the input's site with the edit of the words made
 abbrev pub IsEdit : EditWords → List ℕ → List ℕ → ℕ → Type 0
 IsEdit words input text answered =
-    (lang : List ℕ) × HasEdit words × SpellsLang words.lang lang
-    × call.IsEdited input words.now (words.id, lang) words.texts text × (answered ≡ 0)
+    (change : Change) × IsChangeOf words change
+    × call.IsEdited input words.now (change.id, change.lang) change.label text × (answered ≡ 0)
 
 -- the input is refused, or the edit
 abbrev pub RefusesEdit : EditWords → List ℕ → DocFault → Type 0
@@ -116,42 +110,30 @@ RefusesSync limit input fault =
     (first second : List ℕ) × AreDocuments input first second
     × RefusesSyncUntil first second limit fault
 
--- ---- `filter` and `lookup`
+-- ---- questions to a site
 
 -- what answers a question to the site of the input
-abbrev pub AnswersSite : (Entries → Answer → Type 0) → List ℕ → List ℕ → ℕ → Type 0
+abbrev pub AnswersSite : (SiteState → Answer → Type 0) → List ℕ → List ℕ → ℕ → Type 0
 AnswersSite Is input text answered =
-    (site : SiteState) × (answer : Answer) × ReadsAsSite input site × Is site.cells answer
+    (site : SiteState) × (answer : Answer) × ReadsAsSite input site × Is site answer
     × (text ≡ answer.text) × (answered ≡ answer_status answer.outcome)
 
--- the lines of the filter, over the site of the input
-abbrev pub IsFilter : FilterWords → List ℕ → List ℕ → ℕ → Type 0
-IsFilter words = AnswersSite (λ cells. IsFilterLines cells words.id words.field)
+-- the question that the words read as is answered over the site of the input
+abbrev pub AnswersQuestion : {R Q : Type 0} → (Q → Type 0) → (Q → SiteState → Answer → Type 0)
+    → Reader R → List ℕ → ℕ → Type 0
+AnswersQuestion Reads Is = AnswersInput (AnswersSite (IsAnswer Reads Is))
 
--- the line of the lookup, over the site of the input
-abbrev pub IsLookup : LookupWords → List ℕ → List ℕ → ℕ → Type 0
-IsLookup words =
-    AnswersSite
-    (λ cells. IsLookupLine cells words.id words.preferences.field words.preferences.default)
+-- the words are refused, or the input is no document of a site
+abbrev pub RefusesQuestion : {R Q : Type 0} → (Q → Type 0) → (FrontFault → Type 0) → Reader R
+    → FrontFault → Type 0
+RefusesQuestion Reads Refuses = RefusesInput (HasQuestion Reads) Refuses RefusesOnly
 
--- ---- `bundle`, `missing` and `outdated`
-
--- the language maps of what the reader finds in the site of the input
-abbrev pub IsBundle : PreferenceWords → List ℕ → List ℕ → ℕ → Type 0
-IsBundle words = AnswersSite (λ cells. AreBundleMaps cells words.field words.default)
-
--- the word reads as the language that these messages of the site lack
-abbrev pub IsMissing : Text → List ℕ → List ℕ → ℕ → Type 0
-IsMissing word input text answered =
-    (lang : List ℕ) × (found : Bool) × SpellsLang word lang
-    × missing.IsMissing input lang text found × (answered ≡ found_status found)
-
--- the words read as the two languages, and the messages of the site are these
-abbrev pub IsOutdated : OutdatedWords → List ℕ → List ℕ → ℕ → Type 0
-IsOutdated words input text answered =
-    (lang source : List ℕ) × (found : Bool) × SpellsLang words.lang lang
-    × SpellsLang words.source source × outdated.IsOutdated input lang source text found
-    × (answered ≡ found_status found)
+-- either of both
+abbrev pub Asks : {R Q : Type 0} → (Q → Type 0) → (FrontFault → Type 0)
+    → (Q → SiteState → Answer → Type 0) → Reader R → Result Answer FrontFault → Type 0
+Asks Reads Refuses Is reader answered = MatchResult answered
+    (λ answer. AnswersQuestion Reads Is reader answer.text (answer_status answer.outcome))
+    (RefusesQuestion Reads Refuses reader)
 
 -- ---- `changes`
 
@@ -186,17 +168,22 @@ Answers (task.New name) reader text answered = IsUnread reader × IsNew name tex
 Answers (task.Edit words) reader text answered = AnswersInput (IsEdit words) reader text answered
 Answers (task.Document task) reader text answered =
     AnswersInput (AnswersDocuments task) reader text answered
+Answers (task.View view) reader text answered =
+    AnswersQuestion (λ asked. asked ≡ view) ShowsView reader text answered
 Answers (task.Missing word) reader text answered =
-    AnswersInput (IsMissing word) reader text answered
+    AnswersQuestion (IsMissing word) AnswersMissing reader text answered
 Answers (task.Outdated words) reader text answered =
-    AnswersInput (IsOutdated words) reader text answered
+    AnswersQuestion (IsOutdated words.lang words.source) AnswersOutdated reader text answered
 Answers task.Changes reader text answered = AnswersInput AreChanges reader text answered
 Answers (task.Filter words) reader text answered =
-    AnswersInput (IsFilter words) reader text answered
+    AnswersQuestion (IsFilter words.id words.field) (λ asked site. AnswersFilter site.cells asked)
+    reader text answered
 Answers (task.Lookup words) reader text answered =
-    AnswersInput (IsLookup words) reader text answered
+    AnswersQuestion (IsLookup words.id words.preferences.field words.preferences.default)
+    (λ asked site. AnswersLookup site.cells asked) reader text answered
 Answers (task.Bundle words) reader text answered =
-    AnswersInput (IsBundle words) reader text answered
+    AnswersQuestion (ArePreferences words.field words.default)
+    (λ asked site. AnswersBundle site.cells asked) reader text answered
 Answers (task.Sync limit) reader text answered = AnswersInput (IsSync limit) reader text answered
 Answers task.Replay reader text answered = AnswersInput IsReplay reader text answered
 Answers (task.Explain number) reader text answered =
@@ -211,27 +198,28 @@ Refuses (task.PickAll words) reader refused =
     IsUnread reader × RefusesTagFilter words.field words.tags refused
 Refuses (task.New name) reader refused = IsUnread reader × RefusesNew name refused
 Refuses (task.Edit words) reader refused =
-    RefusesInput (HasEdit words) (RefusesEditWords words) (RefusesEdit words) reader refused
+    RefusesInput (HasQuestion (IsChangeOf words)) (RefusesChangeOf words) (RefusesEdit words) reader
+    refused
 Refuses (task.Document task) reader refused =
     RefusesInput NoWords RefusesNothing (RefusesDocuments task) reader refused
+Refuses (task.View view) reader refused =
+    RefusesQuestion (λ asked. asked ≡ view) RefusesNothing reader refused
 Refuses (task.Missing word) reader refused =
-    RefusesInput (IsSpelled word) (IsOf language_fault (RefusesLang word)) RefusesOnly reader
-    refused
+    RefusesQuestion (IsMissing word) (RefusesMissing word) reader refused
 Refuses (task.Outdated words) reader refused =
-    RefusesInput (IsSpelled words.lang × IsSpelled words.source)
-    (IsOf language_fault (RefusesTranslation words.lang words.source)) RefusesOnly reader refused
+    RefusesQuestion (IsOutdated words.lang words.source) (RefusesOutdated words.lang words.source)
+    reader refused
 Refuses task.Changes reader refused =
     RefusesInput NoWords RefusesNothing RefusesChanges reader refused
 Refuses (task.Filter words) reader refused =
-    RefusesInput (HasFilter words.id words.field) (RefusesFilter words.id words.field) RefusesOnly
-    reader refused
+    RefusesQuestion (IsFilter words.id words.field) (RefusesFilter words.id words.field) reader
+    refused
 Refuses (task.Lookup words) reader refused =
-    RefusesInput (HasLookup words.id words.preferences.field words.preferences.default)
-    (RefusesLookup words.id words.preferences.field words.preferences.default) RefusesOnly
-    reader refused
+    RefusesQuestion (IsLookup words.id words.preferences.field words.preferences.default)
+    (RefusesLookup words.id words.preferences.field words.preferences.default) reader refused
 Refuses (task.Bundle words) reader refused =
-    RefusesInput (HasPreferences words.field words.default)
-    (RefusesPreferences words.field words.default) RefusesOnly reader refused
+    RefusesQuestion (ArePreferences words.field words.default)
+    (RefusesPreferences words.field words.default) reader refused
 Refuses (task.Sync limit) reader refused =
     RefusesInput NoWords RefusesNothing (RefusesSync limit) reader refused
 Refuses task.Replay reader refused =

@@ -2,35 +2,31 @@
 -- (project rules).
 use Rattle.std.specs.Prelude.{ℕ, Bool, List}
 use Rattle.query_docs.specs.Changed.{IsChanged, RefusesChanged}
-use Rattle.query_docs.specs.Exported.{IsExported}
-use Rattle.query_docs.specs.Status.{IsStatus}
 use Rattle.docs_core.specs.Calls as call
 use Rattle.docs_core.specs.Exchange as exchange
 use Rattle.row_docs.specs.Reading.{IsOfDocument}
 use Rattle.site_docs.specs.ReadsAs.{RefusesSite}
+use Rattle.docs_core.specs.Merged.{IsMerged, RefusesMerge}
 use Rattle.docs_core.specs.TimeLimits.{IsTakenUntil, RefusesTakingUntil}
 use Rattle.docs_core.specs.Updated as updated
 use Rattle.json_docs.specs.declared.fault.DocFault.{DocFault}
-use Rattle.command_core.specs.Input.{AreDocuments, AreThreeDocuments}
+use Rattle.docs_core.specs.Lines.{AreDocuments, AreThreeDocuments}
 use Rattle.command_core.specs.declared.documents.DocumentTask.{DocumentTask}
-use Rattle.command_core.specs.declared.documents.DocumentTask.TheVariants.{Status, Import, Update}
-use Rattle.command_core.specs.declared.documents.DocumentTask.TheVariants.{Export, Summary, Delta}
-use Rattle.command_core.specs.declared.documents.DocumentTask.TheVariants.{Take}
+use Rattle.command_core.specs.declared.documents.DocumentTask.TheVariants.{Delta, Import, Merge}
+use Rattle.command_core.specs.declared.documents.DocumentTask.TheVariants.{Take, Update}
 
 -- the document that answers the documents of an input
 abbrev pub IsDocument : DocumentTask → List ℕ → List ℕ → Type 0
-IsDocument Status input text = IsStatus input text
 IsDocument (Import now) input text =
     (site maps : List ℕ) × AreDocuments input site maps × exchange.IsImported site now maps text
 IsDocument (Update now) input text =
     (site old new : List ℕ) × AreThreeDocuments input site old new
     × updated.IsUpdated site now old new text
-IsDocument Export input text = IsExported input text
-IsDocument Summary input text = call.IsSummarised input text
 IsDocument Delta input text =
     (site summary : List ℕ) × AreDocuments input site summary × call.IsDeltaFor site summary text
 IsDocument (Take limit) input text =
     (site delta : List ℕ) × AreDocuments input site delta × IsTakenUntil site delta limit text
+IsDocument (Merge limit) input text = IsMerged input limit text
 
 -- how the cells of the two sites of an input differ, and whether they do
 abbrev pub AreChangesOf : List ℕ → List ℕ → Bool → Type 0
@@ -59,4 +55,4 @@ RefusesDocuments Delta input fault =
 RefusesDocuments (Take limit) input fault =
     (site delta : List ℕ) × AreDocuments input site delta
     × RefusesTakingUntil site delta limit fault
-RefusesDocuments _ input fault = RefusesOnly input fault
+RefusesDocuments (Merge limit) input fault = RefusesMerge input limit fault

@@ -1,14 +1,14 @@
--- What explains a refusal (project rule). The texts are shown by tests alone.
-use Rattle.std.specs.Prelude.{◌≡◌, ◌++◌, ℕ, List, codes, decimal}
-use Rattle.front_core.specs.declared.refusal.Refusal.{Refusal}
+-- What explains a refusal (project rule).
+use Rattle.std.specs.Prelude.{◌≡◌, ◌++◌, ℕ, List, MatchOption, codes, decimal}
+use Rattle.front_core.specs.Refusals.{RefusalTexts, refusal_of}
 
 -- what is refused, why, and what to do, a line each
-abbrev pub explanation : ℕ → Refusal → List ℕ
-explanation number refusal =
-    codes "refusal " ++ decimal number ++ codes "\nrule: " ++ refusal.meaning.now
-    ++ codes "\ncause: " ++ refusal.cause.now ++ codes "\nwhat to do: " ++ refusal.remedy.now
-    ++ codes "\n"
+abbrev pub explanation : ℕ → RefusalTexts → List ℕ
+explanation number texts =
+    codes "refusal " ++ decimal number ++ codes "\nrule: " ++ texts.meaning
+    ++ codes "\ncause: " ++ texts.cause ++ codes "\nwhat to do: " ++ texts.remedy ++ codes "\n"
 
--- the text explains some refusal under this number; what it says of it is tried by tests alone
+-- the text explains the refusal of this number
 abbrev pub IsExplanation : ℕ → List ℕ → Type 0
-IsExplanation number text = (refusal : Refusal) × (text ≡ explanation number refusal)
+IsExplanation number text =
+    MatchOption (refusal_of number) ⊥ (λ texts. text ≡ explanation number texts)

@@ -7,7 +7,6 @@ pub mod Explaining
 pub mod FaultLine
 pub mod FieldWords
 pub mod Help
-pub mod Input
 pub mod Matches
 pub mod Parsing
 pub mod Program

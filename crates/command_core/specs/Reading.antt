@@ -1,12 +1,10 @@
 -- What a command does with its input: its words are read first, then the whole input, and what that
 -- holds is answered or refused (project rules).
 use Rattle.std.specs.Prelude.{◌⊎◌, ℕ, List}
-use Rattle.cata_core.specs.Site.{SiteState}
 use Rattle.json_docs.specs.Checks.{OrMemory}
 use Rattle.json_docs.specs.Sources.{IsReadFault, ReadsWhole}
 use Rattle.json_docs.specs.declared.fault.DocFault.{DocFault}
 use Rattle.row_docs.specs.Reading.{no_memory}
-use Rattle.query_docs.specs.OneMessage.{IsReadFor}
 use Rattle.front_core.specs.Faults.{IsOf, document_fault}
 use Rattle.front_core.specs.declared.fault.FrontFault.{FrontFault}
 use Rattle.command_core.specs.Streams.{IsUnread, Reader}
@@ -31,9 +29,3 @@ abbrev pub RefusesInput : {R : Type 0} → Type 0 → (FrontFault → Type 0)
 RefusesInput words refuses_words refuses reader fault =
     (refuses_words fault × IsUnread reader)
     ⊎ (words × IsOf document_fault (FailsInput refuses reader) fault)
-
--- the whole input was read, and this is its site as far as a question about a message needs it
-abbrev pub ReadsFor : {R : Type 0} → List ℕ → Reader R → SiteState → Type 0
-ReadsFor id reader part =
-    (input : List ℕ) × ReadsWhole reader.failed reader.remaining reader.old reader.new input
-    × IsReadFor input id part

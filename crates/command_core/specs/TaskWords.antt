@@ -3,6 +3,8 @@ use Rattle.std.specs.Prelude.{◌≡◌, ℕ, Bool, true, false, List, Option, N
 use Rattle.std.specs.Prelude.{option_and_then, option_map, if◌then◌else◌, MatchOption}
 use Rattle.std.specs.Str.{bytes_eq}
 use Rattle.clap.specs.Words.{Row, Text, first_of}
+use Rattle.front_core.specs.declared.exchange.View.{View as SiteView}
+use Rattle.front_core.specs.declared.exchange.View.TheVariants as view
 use Rattle.command_core.specs.AskWords.{FilterWords, LookupWords, OutdatedWords}
 use Rattle.command_core.specs.AskWords.{PickAllWords, PickWords}
 use Rattle.command_core.specs.AskWords.{filter_words, is_refusal, lookup_words, outdated_words}
@@ -21,6 +23,7 @@ pub data TaskWords : Type 0 where
   New : (name : Text) → TaskWords
   Edit : (words : EditWords) → TaskWords
   Document : (task : DocumentTask) → TaskWords
+  View : (view : SiteView) → TaskWords
   Missing : (word : Text) → TaskWords
   Outdated : (words : OutdatedWords) → TaskWords
   Changes : TaskWords
@@ -59,10 +62,10 @@ task_words name numbers rows =
     else (if bytes_eq name (codes "new") then option_map New (first_of (codes "site") rows)
     else (if bytes_eq name (codes "put") then option_map Edit (put_words numbers.now rows)
     else (if bytes_eq name (codes "delete") then option_map Edit (delete_words numbers.now rows)
-    else (if bytes_eq name (codes "status") then Some (Document document.Status)
+    else (if bytes_eq name (codes "status") then Some (View view.Status)
     else (if bytes_eq name (codes "import") then edit_task document.Import numbers.now
     else (if bytes_eq name (codes "update") then edit_task document.Update numbers.now
-    else (if bytes_eq name (codes "export") then Some (Document document.Export)
+    else (if bytes_eq name (codes "export") then Some (View view.Export)
     else (if bytes_eq name (codes "missing") then option_map Missing (first_of (codes "lang") rows)
     else (if bytes_eq name (codes "outdated") then option_map Outdated (outdated_words rows)
     else (if bytes_eq name (codes "changes") then Some Changes
@@ -70,13 +73,14 @@ task_words name numbers rows =
     else (if bytes_eq name (codes "lookup") then option_map Lookup (lookup_words rows)
     else (if bytes_eq name (codes "bundle") then
     option_map Bundle (preference_words (codes "field") rows)
-    else (if bytes_eq name (codes "summary") then Some (Document document.Summary)
+    else (if bytes_eq name (codes "summary") then Some (View view.Summary)
     else (if bytes_eq name (codes "delta") then Some (Document document.Delta)
     else (if bytes_eq name (codes "take") then Some (Document (document.Take numbers.not_after))
     else (if bytes_eq name (codes "sync") then Some (Sync numbers.not_after)
     else (if bytes_eq name (codes "replay") then Some Replay
     else (if bytes_eq name (codes "explain") then explain_task numbers.number
-    else None)))))))))))))))))))
+    else (if bytes_eq name (codes "merge") then Some (Document (document.Merge numbers.not_after))
+    else None))))))))))))))))))))
 
 -- the task of the matched subcommand, with the numbers that its arguments give
 abbrev pub GivesTask : Option (Text × List Row) → Option TaskWords → Type 0

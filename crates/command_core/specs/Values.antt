@@ -5,7 +5,7 @@ use Rattle.command_core.specs.EditWords.{EditWords}
 use Rattle.command_core.specs.FieldWords.{PreferenceWords}
 use Rattle.command_core.specs.TaskWords.{TaskWords, Pick, PickAll, New, Edit, Document, Missing}
 use Rattle.command_core.specs.TaskWords.{Outdated, Changes, Filter, Lookup, Bundle, Sync, Replay}
-use Rattle.command_core.specs.TaskWords.{Explain}
+use Rattle.command_core.specs.TaskWords.{Explain, View}
 use Rattle.command_core.specs.declared.edits.EditValues.{EditValues}
 use Rattle.command_core.specs.declared.matches.PreferenceValues.{PreferenceValues}
 use Rattle.command_core.specs.declared.task.Task.{Task}
@@ -38,7 +38,8 @@ task_values (task.PickAll field tags) =
 task_values (task.New name) = New name.now
 task_values (task.Edit values) = Edit (edit_values values)
 task_values (task.Document document) = Document document
-task_values (task.Missing word) = Missing word.now
+task_values (task.View view) = View view
+task_values (task.Missing lang) = Missing lang.now
 task_values (task.Outdated lang source) =
     Outdated (record { lang = lang.now; source = source.now })
 task_values task.Changes = Changes
@@ -48,4 +49,4 @@ task_values (task.Lookup id preferences) =
 task_values (task.Bundle preferences) = Bundle (preference_values preferences)
 task_values (task.Sync limit) = Sync limit
 task_values task.Replay = Replay
-task_values (task.Explain it) = Explain it.number
+task_values (task.Explain it) = Explain it

@@ -1,4 +1,4 @@
-//! The commands that take a number at most, `--now` or `--not-after`: all else comes in documents.
+//! The commands of several documents, with a number at most, `--now` or `--not-after`.
 ghost use Rattle.std.specs.Prelude.{◌≡◌, false, MatchResult};
 ghost use Rattle.json_docs.specs.Checks.{OrMemory};
 ghost use Rattle.row_docs.specs.Reading.{no_memory};
@@ -8,26 +8,23 @@ ghost use Rattle.command_core.specs.Documents.{RefusesDocuments};
 ghost use Rattle.command_core.specs.Streams.{reads};
 ghost use Rattle.command_core.specs.TaskWords.{Changes, Document};
 
-use crate::input::two_documents;
 use crate::output::Answered;
 use docs_core::{
-    Doc, DocFault, Source, changes_document, delta_document, export_document, import_document,
-    read_all, status_document, summary_document, take_document_until, update_document,
+    Doc, DocFault, Source, changes_document, delta_document, import_document, merge_documents,
+    read_all, take_document_until, two_documents, update_document,
 };
 use front_core::{Answer, Outcome};
 use std::alloc::Global;
 
-/// A command that reads documents, with its moment where it edits, and with the latest time that it
-/// takes, where there is one.
+/// A command that reads several documents, with its moment where it edits, and with the latest time
+/// that it takes, where there is one.
 #[derive(Clone, Copy)]
 pub(crate) enum DocumentTask {
-    Status,
     Import(u64),
     Update(u64),
-    Export,
-    Summary,
     Delta,
     Take(Option<u64>),
+    Merge(Option<u64>),
 }
 
 /// What answers the documents of the input.
@@ -66,7 +63,6 @@ fn document_of(alloc: Global, task: DocumentTask, input: &[u8]) -> Result<Doc, D
         (OrMemory no_memory (RefusesDocuments task input.now)) }
 {
     match task {
-        DocumentTask::Status => status_document(alloc, input),
         DocumentTask::Import(now) => {
             let (site, maps) = two_documents(input);
             import_document(alloc, site, now, maps)
@@ -76,8 +72,6 @@ fn document_of(alloc: Global, task: DocumentTask, input: &[u8]) -> Result<Doc, D
             let (old, new) = two_documents(maps);
             update_document(alloc, site, now, old, new)
         }
-        DocumentTask::Export => export_document(alloc, input),
-        DocumentTask::Summary => summary_document(alloc, input),
         DocumentTask::Delta => {
             let (site, summary) = two_documents(input);
             delta_document(alloc, site, summary)
@@ -86,5 +80,6 @@ fn document_of(alloc: Global, task: DocumentTask, input: &[u8]) -> Result<Doc, D
             let (site, delta) = two_documents(input);
             take_document_until(alloc, site, delta, not_after)
         }
+        DocumentTask::Merge(not_after) => merge_documents(alloc, input, not_after),
     }
 }

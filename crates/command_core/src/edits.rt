@@ -1,14 +1,13 @@
 //! The commands `put` and `delete`.
-ghost use Rattle.std.specs.Prelude.{◌≡◌, false};
-ghost use Rattle.command_core.specs.Acts.{Performs};
+ghost use Rattle.std.specs.Prelude.{◌≡◌, false, MatchResult};
+ghost use Rattle.command_core.specs.Acts.{IsChangeOf, Performs, RefusesChangeOf};
 ghost use Rattle.command_core.specs.Streams.{reads};
 ghost use Rattle.command_core.specs.TaskWords.{Edit};
 ghost use Rattle.command_core.specs.Values.{edit_values};
 
 use crate::output::Answered;
-use crate::parsing::{read_key, read_label};
-use docs_core::{Source, edit_document, read_all};
-use front_core::{Answer, Outcome};
+use docs_core::{Source, read_all};
+use front_core::{Answer, Change, FrontFault, Outcome};
 use std::alloc::Global;
 
 /// The values of an edit: it puts a label, or without texts deletes it.
@@ -34,10 +33,20 @@ pub(crate) fn answer_of<R: Source>(
     ensures { Performs (Edit (edit_values values.entry))
         (reads R.remaining R.failed reader.old reader.new) result }
 {
-    let key = read_key(alloc, values.id, values.lang)?;
-    let label = read_label(alloc, values.texts)?;
+    let change = change_of(alloc, values)?;
     let site = read_all(alloc, reader)?;
-    let label = label.as_ref();
-    let text = edit_document(alloc, site.bytes(), values.now, &key.id, &key.lang, label)?;
+    let text = change.make_in_document(alloc, site.bytes(), values.now)?;
     Ok(Answer::new(text, Outcome::Found))
+}
+
+/// The change that the values name.
+fn change_of(alloc: Global, values: EditValues<'_, '_>) -> Result<Change, FrontFault>
+    ensures { MatchResult result (IsChangeOf (edit_values values.entry))
+        (RefusesChangeOf (edit_values values.entry)) }
+{
+    let (id, lang) = (values.id.as_bytes(), values.lang.as_bytes());
+    match values.texts {
+        Some(texts) => Change::put_texts(alloc, id, lang, texts),
+        None => Change::delete(alloc, id, lang),
+    }
 }

@@ -1,6 +1,7 @@
 //! The command `explain`.
 ghost use Rattle.std.specs.Prelude.{◌≡◌, option_map, IfOk, MatchResult};
 ghost use Rattle.command_core.specs.Acts.{IsExplained, RefusesNever};
+ghost use Rattle.front_core.specs.Refusals.{refusal_texts};
 ghost use Rattle.command_core.specs.Explaining.{explanation};
 ghost use Rattle.command_core.specs.Status.{answer_status};
 ghost use Rattle.command_core.specs.TaskWords.{Explain, explain_task};
@@ -9,19 +10,29 @@ use crate::output::Answered;
 use docs_core::Doc;
 use front_core::{Answer, Outcome, Refusal, explain};
 use std::alloc::{AllocError, Global};
+use std::marker::Model;
 
-/// A refusal to explain.
-#[derive(Clone, Copy)]
+/// A refusal to explain, with its number.
+#[derive(Drop)]
 pub(crate) struct Explained {
-    /// Its number.
-    pub number: u64,
-    /// What it means, what causes it, and what to do.
-    pub refusal: Refusal,
+    number: u64,
+    refusal: Refusal,
+}
+
+impl Model for Explained {
+    ghost use Rattle.std.specs.Prelude.{◌≡◌, ℕ, Some};
+    ghost use Rattle.front_core.specs.Refusals.{refusal_of, refusal_texts};
+
+    ghost Value = { ℕ };
+
+    ghost view = { λ it. it.number };
+
+    ghost invariant = { λ it. refusal_of it.number ≡ Some (refusal_texts it.refusal) };
 }
 
 /// The refusal of this number, where there is one.
 pub(crate) fn refusal_of(number: Option<u64>) -> Option<Explained>
-    ensures { option_map (λ it. Explain it.number) result ≡ explain_task number }
+    ensures { option_map (λ it. Explain it) result ≡ explain_task number }
 {
     let number = number?;
     let refusal = explain(u8::try_from(number).ok()?)?;
@@ -31,21 +42,21 @@ pub(crate) fn refusal_of(number: Option<u64>) -> Option<Explained>
 /// The lines that explain it.
 pub(crate) fn answer_of(alloc: Global, it: Explained) -> Answered
     ensures { MatchResult result
-        (λ answer. IsExplained it.number answer.text (answer_status answer.outcome)) RefusesNever }
+        (λ answer. IsExplained it answer.text (answer_status answer.outcome)) RefusesNever }
 {
-    let text = lines_of(alloc, it)?;
+    let text = lines_of(alloc, it.number, it.refusal)?;
     Ok(Answer::new(text, Outcome::Found))
 }
 
-/// What is refused, why, and what to do, a line each. That these are of the table tests show.
-fn lines_of(alloc: Global, it: Explained) -> Result<Doc, AllocError>
-    ensures { IfOk result (λ text. text ≡ explanation it.number it.refusal) }
+/// What is refused, why, and what to do, a line each.
+fn lines_of(alloc: Global, number: u64, refusal: Refusal) -> Result<Doc, AllocError>
+    ensures { IfOk result (λ text. text ≡ explanation number (refusal_texts refusal)) }
 {
-    let Explained { number, refusal } = it;
     let Refusal {
         meaning,
         cause,
         remedy,
+        ..
     } = refusal;
     let text = format!(in alloc;
         "refusal {number}\nrule: {meaning}\ncause: {cause}\nwhat to do: {remedy}\n"

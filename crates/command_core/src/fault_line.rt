@@ -83,7 +83,7 @@ fn report<S: Sink, T: Display>(
     number: u8,
     text: &T,
     row: Option<usize>,
-    document: u8,
+    document: usize,
 )
     ensures { PrintsFault number (T.output text.now) row document
         (writes S.contents S.failed faults.old faults.new) }
@@ -96,7 +96,7 @@ fn report<S: Sink, T: Display>(
 }
 
 /// The line of a refusal, with its line feed.
-fn line_of(number: u8, text: &str, row: Option<usize>, document: u8) -> ArrayString<LINE_BYTES>
+fn line_of(number: u8, text: &str, row: Option<usize>, document: usize) -> ArrayString<LINE_BYTES>
     requires { length text.now ≤ 160 }
     ensures { result.bytes ≡ fault_line number text.now row document }
 {
@@ -123,11 +123,11 @@ fn push_number(line: &mut ArrayString<LINE_BYTES>, word: &str, number: Option<us
 }
 
 /// The document that is named, where it is one.
-fn document_meant(document: u8) -> Option<usize>
+fn document_meant(document: usize) -> Option<usize>
     ensures { result ≡ document_meant document }
 {
     match document {
         0 => None,
-        _ => Some(document as usize),
+        _ => Some(document),
     }
 }

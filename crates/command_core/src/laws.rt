@@ -5,7 +5,7 @@ ghost use Rattle.site_docs.specs.ReadsAs.{IsSiteText, ReadsAsSite};
 ghost use Rattle.row_docs.specs.Texts.{IsOneLine};
 ghost use Rattle.map_docs.specs.LangMapLabels.{AreLangMaps};
 ghost use Rattle.map_docs.specs.LangMaps.{Labelled};
-ghost use Rattle.command_core.specs.Input.{AreDocuments};
+ghost use Rattle.docs_core.specs.Lines.{AreDocuments};
 
 /// A text that was written may come before any other document in an input: the input is cut right
 /// after it, and its document reads as it does alone.

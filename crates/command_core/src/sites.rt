@@ -8,11 +8,10 @@ ghost use Rattle.command_core.specs.Streams.{reads, streams, writes};
 ghost use Rattle.command_core.specs.TaskWords.{Sync};
 
 use crate::fault_line::refuse;
-use crate::input::two_documents;
 use crate::output::{Answered, print_both};
 use cata_core::Site;
 use cell_core::SiteName;
-use docs_core::{Doc, Sink, Source, read_all, sync_documents_until, write_site};
+use docs_core::{Doc, Sink, Source, read_all, sync_documents_until, two_documents, write_site};
 use front_core::{Answer, FrontFault, Outcome};
 use std::alloc::Global;
 

@@ -15,11 +15,12 @@ use crate::matches::{
     PreferenceValues, field_of, is_given, numbers_of, preferences_of, text_bytes, text_of, texts_of,
 };
 use crate::output::finish;
-use crate::{documents, edits, explaining, questions, sites, status};
+use crate::questions::ask;
+use crate::{documents, edits, explaining, sites, status};
 use clap::ArgMatches;
 use docs_core::{Sink, Source};
 use front_core::words::{filter_answer, pick_answer};
-use front_core::{Field, FrontFault};
+use front_core::{Field, Filter, FrontFault, Lookup, Missing, Outdated, Preferences, View};
 use nego_core::Widening;
 use std::alloc::Global;
 
@@ -29,8 +30,8 @@ use std::alloc::Global;
 /// The arguments are processed in their order, before the input: one that is refused leaves the
 /// input unread, and `pick`, `new` and `explain` never read. Then the whole input is read, at most
 /// 67,108,864 bytes of it. Of two documents the first ends at the first LF, and of three the second
-/// at the second. A refusal has the status of its number; with 25 a prefix of the text is written,
-/// and with any other nothing.
+/// at the second; of the sites of `merge` each is one line. A refusal has the status of its number;
+/// with 25 a prefix of the text is written, and with any other nothing.
 ///
 /// Matches without a command of the program, without an argument that the command needs, or with
 /// two that do not go together (`pick --all` with `--default` or `--widen`), are a usage fault:
@@ -57,15 +58,16 @@ pub fn act<R: Source, W: Sink, F: Sink>(
 }
 
 /// A command of the program, with the values of its arguments.
-#[derive(Clone, Copy)]
+#[derive(Drop)]
 enum Task<'m, 'a> {
     Pick(PreferenceValues<'a>, &'m [&'a str]),
     PickAll(Field<'a>, &'m [&'a str]),
     New(&'a str),
     Edit(EditValues<'m, 'a>),
     Document(DocumentTask),
-    Missing(&'a str),
-    Outdated(&'a str, &'a str),
+    View(View),
+    Missing(&'a [u8]),
+    Outdated(&'a [u8], &'a [u8]),
     Changes,
     Filter(&'a [u8], Field<'a>),
     Lookup(&'a [u8], PreferenceValues<'a>),
@@ -95,12 +97,15 @@ fn task_of<'m, 'a>(name: &str, matches: &'m ArgMatches<'a>) -> Option<Task<'m, '
         "new" => Some(Task::New(text_of(matches, "site")?)),
         "put" => edit_of(numbers.now, Some(texts_of(matches, "texts")?), matches),
         "delete" => edit_of(numbers.now, None, matches),
-        "status" => Some(Task::Document(DocumentTask::Status)),
+        "status" => Some(Task::View(View::Status)),
         "import" => Some(Task::Document(DocumentTask::Import(numbers.now?))),
         "update" => Some(Task::Document(DocumentTask::Update(numbers.now?))),
-        "export" => Some(Task::Document(DocumentTask::Export)),
-        "missing" => Some(Task::Missing(text_of(matches, "lang")?)),
-        "outdated" => Some(Task::Outdated(text_of(matches, "lang")?, text_of(matches, "source")?)),
+        "export" => Some(Task::View(View::Export)),
+        "missing" => Some(Task::Missing(text_bytes(matches, "lang")?)),
+        "outdated" => Some(Task::Outdated(
+            text_bytes(matches, "lang")?,
+            text_bytes(matches, "source")?,
+        )),
         "changes" => Some(Task::Changes),
         "filter" => Some(Task::Filter(text_bytes(matches, "id")?, field_of(matches, "field")?)),
         "lookup" => Some(Task::Lookup(
@@ -108,12 +113,13 @@ fn task_of<'m, 'a>(name: &str, matches: &'m ArgMatches<'a>) -> Option<Task<'m, '
             preferences_of(matches, "field")?,
         )),
         "bundle" => Some(Task::Bundle(preferences_of(matches, "field")?)),
-        "summary" => Some(Task::Document(DocumentTask::Summary)),
+        "summary" => Some(Task::View(View::Summary)),
         "delta" => Some(Task::Document(DocumentTask::Delta)),
         "take" => Some(Task::Document(DocumentTask::Take(numbers.not_after))),
         "sync" => Some(Task::Sync(numbers.not_after)),
         "replay" => Some(Task::Replay),
         "explain" => Some(Task::Explain(refusal_of(numbers.number)?)),
+        "merge" => Some(Task::Document(DocumentTask::Merge(numbers.not_after))),
         _ => None,
     }
 }
@@ -176,12 +182,19 @@ fn perform<R: Source, W: Sink, F: Sink>(
         Task::New(name) => sites::new_site(alloc, name),
         Task::Edit(values) => edits::answer_of(alloc, values, reader),
         Task::Document(task) => documents::answer_of(alloc, task, reader),
-        Task::Missing(word) => questions::missing(alloc, word, reader),
-        Task::Outdated(lang, source) => questions::outdated(alloc, lang, source, reader),
+        Task::View(view) => ask(alloc, Ok(view), reader),
+        Task::Missing(lang) => ask(alloc, Missing::read(alloc, lang), reader),
+        Task::Outdated(lang, source) => ask(alloc, Outdated::read(alloc, lang, source), reader),
         Task::Changes => documents::changes(alloc, reader),
-        Task::Filter(id, field) => questions::filter(alloc, id, field, reader),
-        Task::Lookup(id, preferences) => questions::lookup(alloc, id, preferences, reader),
-        Task::Bundle(preferences) => questions::bundle(alloc, preferences, reader),
+        Task::Filter(id, field) => ask(alloc, Filter::read(alloc, id, field), reader),
+        Task::Lookup(id, values) => {
+            let asked = Lookup::read(alloc, id, values.field, values.default);
+            ask(alloc, asked, reader)
+        }
+        Task::Bundle(values) => {
+            let asked = Preferences::read(alloc, values.field, values.default);
+            ask(alloc, asked, reader)
+        }
         Task::Sync(not_after) => return sites::sync(alloc, not_after, reader, writer, faults),
         Task::Replay => return replay(alloc, reader, writer, faults),
         Task::Explain(it) => explaining::answer_of(alloc, it),

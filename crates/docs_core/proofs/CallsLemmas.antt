@@ -5,7 +5,6 @@ use Rattle.cata_core.specs.declared.cata_fault.CataFault.{CataFault}
 use Rattle.cata_core.specs.declared.cata_fault.CataFault.TheVariants as cata
 use Rattle.json_docs.specs.Checks.{OrMemory}
 use Rattle.json_docs.specs.Faults.{of_no_document, of_site}
-use Rattle.json_docs.specs.declared.fault.DocCause.TheVariants.{NoMemory}
 use Rattle.json_docs.specs.declared.fault.DocFault.{DocFault}
 use Rattle.site_docs.specs.Documents.{site_text}
 use Rattle.row_docs.specs.Reading.{no_memory}

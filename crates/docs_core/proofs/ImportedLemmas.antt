@@ -1,6 +1,8 @@
 -- One label more is put.
-use Rattle.std.proofs.Common.{◌≡◌, ℕ, List, [], ◌∷◌, append-nil, inl, inr, refl, subst}
+use Rattle.std.proofs.Common.{◌≡◌, ◌∙◌, ◌+◌, ◌<◌, ℕ, List, [], ◌∷◌, ◌++◌, ap, append-nil, drop}
+use Rattle.std.proofs.Common.{get_or, inl, inr, length, refl, subst, sym, take}
 use Rattle.std.specs.Prelude.{◌⊎◌, Some}
+use Rattle.std.proofs.lemmas.List.{map-append, take-append-drop, take_more}
 use Rattle.cell_core.specs.Stamp.{IsNext, NoNext}
 use Rattle.cell_core.specs.declared.stamp.Stamp.{Stamp}
 use Rattle.cata_core.specs.Entries.{Entries}
@@ -9,23 +11,64 @@ use Rattle.cata_core.specs.Site.{RefusesEdit, SiteState}
 use Rattle.cata_core.specs.declared.cata_fault.CataFault.{CataFault}
 use Rattle.cata_core.specs.declared.cata_fault.CataFault.TheVariants.{ClockSpent, NoMemory}
 use Rattle.cata_core.specs.declared.cata_fault.CataFault.TheVariants.{NotForMe, StampReused}
-use Rattle.map_docs.specs.LangMaps.{Labelled}
-use Rattle.docs_core.specs.Imported.{Imports, IsPut, SpendsImport}
-use Rattle.docs_core.specs.Made.{with_change}
+use Rattle.map_docs.specs.LangMaps.{Labelled, labels_of}
+use Rattle.map_docs.specs.declared.maps.KeyedLabel.{KeyedLabel}
+use Rattle.map_docs.proofs.LangMapMembersLemmas.{first_left}
+use Rattle.docs_core.specs.Imported.{Imports, IsPut, SpendsImport, puts_of}
+use Rattle.docs_core.specs.Made.{Change, Makes, SpendsClock, with_change}
+use Rattle.docs_core.proofs.MadeLemmas.{Makes-append, Spends-append}
 
-module _ (now : ℕ) (name : List ℕ) (e : Labelled) (es : List Labelled) (old mid : Entries)
-    (stamp : Stamp) (next : IsNext (latest_of old) now name stamp)
-    (is : mid ≡ with_change (e.0, Some e.1) stamp old) where
-  -- the others put after a label that was put are all put
-  pub Imports-next : (new : Entries) → Imports now name es mid new
-      → Imports now name (e ∷ es) old new
-  Imports-next new rest =
-      (stamp, next, subst (λ (cells : Entries). Imports now name es cells new) is rest)
+-- the labels before a place and those from it on are all
+front_and_rest : (items : List KeyedLabel) (i : ℕ)
+    → labels_of items ≡ labels_of (take i items) ++ labels_of (drop i items)
+front_and_rest items i =
+    ap labels_of (sym (take-append-drop i items))
+    ∙ map-append (λ (l : KeyedLabel). ((l.id, l.lang), l.label)) (take i items) (drop i items)
 
-  -- where the clock is spent among the others, it is among all
-  pub SpendsImport-next : SpendsImport now name es mid → SpendsImport now name (e ∷ es) old
-  SpendsImport-next rest =
-      inr (stamp, next, subst (λ (cells : Entries). SpendsImport now name es cells) is rest)
+module _ (now : ℕ) (name : List ℕ) (items : List KeyedLabel) (i : ℕ) (item : KeyedLabel)
+    (below : i < length items) (at : item ≡ get_or items i item) (old mid : Entries)
+    (before : Imports now name (labels_of (take i items)) old mid) where
+  -- one label more is put
+  pub Imports-push : (stamp : Stamp) (new : Entries) → IsNext (latest_of mid) now name stamp
+      → new ≡ with_change ((item.id, item.lang), Some item.label) stamp mid
+      → Imports now name (labels_of (take (i + 1) items)) old new
+  Imports-push stamp new next is =
+      let e : Labelled = ((item.id, item.lang), item.label) in
+      subst (λ (es : List Change). Makes now name es old new)
+      (sym (ap (λ (ls : List KeyedLabel). puts_of (labels_of ls))
+      (take_more items i item below ∙ ap (λ (l : KeyedLabel). take i items ++ l ∷ []) (sym at))
+      ∙ ap puts_of (map-append (λ (l : KeyedLabel). ((l.id, l.lang), l.label)) (take i items)
+      (item ∷ []))
+      ∙ map-append (λ (x : Labelled). (x.0, Some x.1)) (labels_of (take i items)) (e ∷ [])))
+      (Makes-append now name (puts_of (labels_of (take i items))) ((e.0, Some e.1) ∷ []) old mid new
+      before (stamp, next, is))
+
+  -- for this one there is no next stamp, so the clock is spent by all
+  pub SpendsImport-here : NoNext (latest_of mid) now name
+      → SpendsImport now name (labels_of items) old
+  SpendsImport-here none =
+      let rest : drop i items ≡ item ∷ drop (i + 1) items = first_left items i item below at in
+      let e : Labelled = ((item.id, item.lang), item.label) in
+      subst (λ (es : List Change). SpendsClock now name es old)
+      (sym (ap puts_of (front_and_rest items i)
+      ∙ map-append (λ (x : Labelled). (x.0, Some x.1)) (labels_of (take i items))
+      (labels_of (drop i items))))
+      (Spends-append now name (puts_of (labels_of (take i items)))
+      (puts_of (labels_of (drop i items))) old mid before
+      (subst (λ (ls : List KeyedLabel). SpendsClock now name (puts_of (labels_of ls)) mid)
+      (sym rest) (inl none)))
+
+-- where a label is refused those before it are put, and they and the others are all
+pub some_put : (now : ℕ) (name : List ℕ) (items : List KeyedLabel) (i : ℕ)
+    (labels : List Labelled) (old mid new : Entries) → labels_of items ≡ labels
+    → Imports now name (labels_of (take i items)) old mid → new ≡ mid
+    → (some more : List Labelled) × (labels ≡ some ++ more) × Imports now name some old new
+some_put now name items i labels old mid new are before same = (
+  labels_of (take i items),
+  labels_of (drop i items),
+  sym are ∙ front_and_rest items i,
+  subst (λ (es : Entries). Imports now name (labels_of (take i items)) old es) (sym same) before,
+)
 
 -- why a label is not put
 pub not_put : (site : SiteState) (now : ℕ) (fault : CataFault) → RefusesEdit site now fault

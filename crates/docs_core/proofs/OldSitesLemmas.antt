@@ -9,7 +9,6 @@ use Rattle.serde_json.specs.Data.{Data}
 use Rattle.serde_json.specs.Find.{as_str, get}
 use Rattle.cell_core.specs.Keyed.{IsMap}
 use Rattle.cell_core.specs.Migration.{IsOldStamp, OldCell, OldStamp, migrated_cell, migrated_stamp}
-use Rattle.cell_core.specs.SiteName.{padded_name}
 use Rattle.cata_core.specs.Entries.{Agree, Entries, EntryKey, joined, key_cmp}
 use Rattle.cata_core.specs.Migration.{AgreeOld, IsOldMap, OldDelta, OldEntries, OldEntry, OldSite}
 use Rattle.cata_core.specs.Migration.{OldStamps, OldSummary, joined_old, migrated_delta}
@@ -50,7 +49,7 @@ use Rattle.script_docs.specs.OldScripts.{IsOldStepOf, OldScript}
 use Rattle.script_docs.specs.OldScripts.{migrated_script}
 use Rattle.row_docs.specs.OldRows.{old_entry_in, old_entry_of, old_parts_in}
 use Rattle.row_docs.specs.OldRows.{old_stamped, old_stamped_in, old_stamped_of}
-use Rattle.docs_core.specs.OldSites.{AreOldStamps, IsOldDelta, IsOldScript, IsOldSite, IsOldStep}
+use Rattle.docs_core.specs.OldSites.{IsOldDelta, IsOldScript, IsOldSite, IsOldStep}
 use Rattle.docs_core.specs.OldSites.{IsOldSummary}
 use Rattle.row_docs.proofs.OldRowsLemmas.{old_parts_by}
 use Rattle.site_docs.proofs.OldDocumentsLemmas.{delta_migrated, site_migrated, summary_migrated}
@@ -209,7 +208,7 @@ fits checks Is IsOld Fits migrated becomes holds bytes d x json first reads =
     (old.0, holds d x old.0 pass (read_small bytes d json.1) is old.1 old.2, old.1, old.2)
 
 -- the tests of the rows of a document that passes
-document_rows : (kind : Kind) (checks : Version → List Data → Data → List Check) (d : Data)
+pub document_rows : (kind : Kind) (checks : Version → List Data → Data → List Check) (d : Data)
     → AllPass (document_checks kind checks d)
     → AllPass (rows_checks (checks (version_of d)) [] (rows_in kind d))
 document_rows kind checks d pass =

@@ -14,7 +14,7 @@ use Rattle.json.specs.Tree.{items_tokens, json_tokens, members_tokens}
 use Rattle.json.proofs.Unique.Spelling.{value-json_tokens_back}
 use Rattle.serde_json.specs.Data.{Data, Items, Members, array, boolean, item, member, no_members}
 use Rattle.serde_json.specs.Data.{null, number, object, put, string}
-use Rattle.serde_json.specs.Find.{get, get_member}
+use Rattle.serde_json.specs.Find.{get_member}
 use Rattle.serde_json.specs.Read.{max_depth, number_of, of_items, of_json, of_members, read}
 use Rattle.cata_core.specs.Entries.{EntryKey}
 use Rattle.cata_core.specs.Site.{SiteState}

@@ -1,6 +1,6 @@
 -- Changes from old labels to new ones, key by key.
 use Rattle.std.proofs.Common.{◌≡◌, ◌≢◌, ◌∙◌, ℕ, Bool, true, false, cond, List, [], ◌∷◌, ◌++◌, refl}
-use Rattle.std.proofs.Common.{sym, ap, subst, inl, inr}
+use Rattle.std.proofs.Common.{sym, ap, append-nil, append_assoc, subst, inl, inr}
 use Rattle.std.specs.Borrow.{Bor}
 use Rattle.std.specs.Prelude.{◌&&◌, None, Option, Some, T, is_some, option_map}
 use Rattle.std.specs.Bool.{Decides}
@@ -29,6 +29,7 @@ use Rattle.docs_core.specs.Revised.{IsFirstRevised, IsHead, IsRevised, NoStamp, 
 use Rattle.docs_core.specs.Revised.{old_of}
 use Rattle.docs_core.specs.Updated.{AreChanges, IsChangeAt, SpendsUpdate, Texts, Updates}
 use Rattle.docs_core.specs.declared.call.updating.Revised.{Revised}
+use Rattle.docs_core.proofs.MadeLemmas.{Makes-append, Spends-append}
 
 -- keys that tie are one
 pub one_key : (q k : EntryKey) → eq_by_cmp key_cmp q k ≡ true → q ≡ k
@@ -399,47 +400,70 @@ there_are_changes old new cells = (
 
 -- ---- one key more
 
-module _ (now : ℕ) (name : List ℕ) (r : Revised) (old new old_rest new_rest : List Labelled)
-    (first : IsFirstRevised r old new old_rest new_rest) (cells mid : Entries) where
-  -- with the first key done, and then the rest, all is done
-  pub Updates-next : IsRevised now name r cells mid → (final : Entries)
-      → Updates now name old_rest new_rest mid final → Updates now name old new cells final
-  Updates-next done final (changes, are, makes) = elim done [
-    | inl nothing ↦ (
-      changes,
-      skipped (key_of r) (old_of r) (new_of r) old new old_rest new_rest cells first.old_head
-          first.new_head nothing.0 changes
-          (subst (λ (es : Entries). AreChanges old_rest new_rest es changes) nothing.1 are),
-      subst (λ (es : Entries). Makes now name changes es final) nothing.1 makes,
-    )
-    | inr made ↦ (
-      (key_of r, new_of r) ∷ changes,
-      changed (key_of r) (old_of r) (new_of r) old new old_rest new_rest cells first.old_head
-          first.new_head made.0 made.1 changes
-          (subst (λ (es : Entries). AreChanges old_rest new_rest es changes) made.3 are),
-      (made.1, made.2, subst (λ (es : Entries). Makes now name changes es final) made.3 makes),
-    )
+-- some changes are made, and those of the keys that are left come after them
+pub record IsFront (now : ℕ) (name : List ℕ) (old new : List Labelled) (first : Entries)
+    (olds news : List Labelled) (cells : Entries) : Type 0 where
+  pub done : List Change
+  pub makes : Makes now name done first cells
+  pub rest : (changes : List Change) → AreChanges olds news cells changes
+      → AreChanges old new first (done ++ changes)
+
+module _ (now : ℕ) (name : List ℕ) (old new : List Labelled) (first : Entries)
+    (olds news : List Labelled) (cells : Entries)
+    (so : IsFront now name old new first olds news cells) where
+  -- with the least key done, the rest is left
+  pub front_next : (r : Revised) (old_rest new_rest : List Labelled) (mid : Entries)
+      → IsFirstRevised r olds news old_rest new_rest → IsRevised now name r cells mid
+      → IsFront now name old new first old_rest new_rest mid
+  front_next r old_rest new_rest mid least done = elim done [
+    | inl nothing ↦ record {
+      done = so.done;
+      makes = subst (λ (es : Entries). Makes now name so.done first es) (sym nothing.1) so.makes;
+      rest = λ changes are. so.rest changes (skipped (key_of r) (old_of r) (new_of r) olds news
+          old_rest new_rest cells least.old_head least.new_head nothing.0 changes
+          (subst (λ (es : Entries). AreChanges old_rest new_rest es changes) nothing.1 are));
+    }
+    | inr made ↦ record {
+      done = so.done ++ (key_of r, new_of r) ∷ [];
+      makes = Makes-append now name so.done ((key_of r, new_of r) ∷ []) first cells mid so.makes
+          (made.1, made.2, made.3);
+      rest = λ changes are. subst (AreChanges old new first)
+          (sym (append_assoc so.done ((key_of r, new_of r) ∷ []) changes))
+          (so.rest ((key_of r, new_of r) ∷ changes) (changed (key_of r) (old_of r) (new_of r) olds
+          news old_rest new_rest cells least.old_head least.new_head made.0 made.1 changes
+          (subst (λ (es : Entries). AreChanges old_rest new_rest es changes) made.3 are)));
+    }
   ]
 
+  -- where no key is left all is done
+  pub front_done : olds ≡ [] → news ≡ [] → Updates now name old new first cells
+  front_done no_olds no_news = (
+    so.done,
+    subst (AreChanges old new first) (append-nil so.done)
+        (so.rest [] (subst (λ (os : List Labelled). AreChanges os news cells []) (sym no_olds)
+        (subst (λ (ns : List Labelled). AreChanges [] ns cells []) (sym no_news)
+        (record { rising = tt; at = λ key. inl (inl refl, refl) })))),
+    so.makes,
+  )
+
   -- where the clock is spent in the rest, it is in all
-  pub SpendsUpdate-next : IsRevised now name r cells mid
-      → SpendsUpdate now name old_rest new_rest mid → SpendsUpdate now name old new cells
-  SpendsUpdate-next done (changes, are, spends) = elim done [
-    | inl nothing ↦ (
-      changes,
-      skipped (key_of r) (old_of r) (new_of r) old new old_rest new_rest cells first.old_head
-          first.new_head nothing.0 changes
-          (subst (λ (es : Entries). AreChanges old_rest new_rest es changes) nothing.1 are),
-      subst (λ (es : Entries). SpendsClock now name changes es) nothing.1 spends,
-    )
-    | inr made ↦ (
-      (key_of r, new_of r) ∷ changes,
-      changed (key_of r) (old_of r) (new_of r) old new old_rest new_rest cells first.old_head
-          first.new_head made.0 made.1 changes
-          (subst (λ (es : Entries). AreChanges old_rest new_rest es changes) made.3 are),
-      inr (made.1, made.2, subst (λ (es : Entries). SpendsClock now name changes es) made.3 spends),
-    )
-  ]
+  pub front_spends : SpendsUpdate now name olds news cells → SpendsUpdate now name old new first
+  front_spends (changes, are, spends) = (
+    so.done ++ changes,
+    so.rest changes are,
+    Spends-append now name so.done changes first cells so.makes spends,
+  )
+
+  -- some changes are made, and there are those of the rest
+  pub front_left : (left : Entries) → left ≡ cells → (some more : List Change)
+      × AreChanges old new first (some ++ more) × Makes now name some first left
+  front_left left same =
+      let there = there_are_changes olds news cells in (
+        so.done,
+        there.0,
+        so.rest there.0 there.1,
+        subst (λ (es : Entries). Makes now name so.done first es) (sym same) so.makes,
+      )
 
 -- a list in which something is found is not empty, so that its first change would be made
 spends_first : (now : ℕ) (name : List ℕ) (q : EntryKey) (changes : List Change) (cells : Entries)

@@ -1,7 +1,9 @@
 pub mod Calls
 pub mod Exchange
 pub mod Imported
+pub mod Lines
 pub mod Made
+pub mod Merged
 pub mod OldSites
 pub mod Replays
 pub mod Revised

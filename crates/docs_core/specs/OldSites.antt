@@ -1,6 +1,6 @@
 -- Data of version 1 whose numbers fit and whose keys ascend: times of 64 bits, sites and counts of
 -- 32. Project rule.
-use Rattle.std.specs.Prelude.{◌≡◌, ℕ, ◌<◌, ◌^◌, All, Some, ⊤}
+use Rattle.std.specs.Prelude.{◌≡◌, ◌<◌, ◌^◌, All, Some, ⊤}
 use Rattle.std.specs.FinMap.Entries.{find}
 use Rattle.cell_core.specs.Keyed.{IsMap}
 use Rattle.cell_core.specs.Migration.{IsOldStamp, OldStamp}

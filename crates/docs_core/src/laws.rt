@@ -1,7 +1,8 @@
 //! Laws over the definitions alone, each the contract of a function that does nothing.
 ghost use Rattle.std.specs.Prelude.{◌≡◌, ◌≤◌, ◌⊎◌, ◌↔◌, ◌∷◌, ◌++◌, ℕ, Bool, Contains, List, []};
-ghost use Rattle.std.specs.Prelude.{IsTrue, None, Option, Some, false};
+ghost use Rattle.std.specs.Prelude.{IsTrue, None, Option, Some, false, map};
 ghost use Rattle.std.specs.FinMap.Entries.{find};
+ghost use Rattle.cell_core.specs.Join.{IsJoinOf};
 ghost use Rattle.cell_core.specs.Keyed.{IsMap};
 ghost use Rattle.cell_core.specs.declared.cell.Cell.{Cell};
 ghost use Rattle.nego_core.specs.Item.{Item};
@@ -15,6 +16,7 @@ ghost use Rattle.cata_core.specs.declared.delta.Delta.{Delta};
 ghost use Rattle.json_docs.specs.declared.fault.DocCause.{DocCause};
 ghost use Rattle.json_docs.specs.declared.fault.DocFault.{DocFault};
 ghost use Rattle.row_docs.specs.Entries.{cells_values};
+ghost use Rattle.row_docs.specs.Reading.{IsOfDocument};
 ghost use Rattle.site_docs.specs.Documents.{site_text};
 ghost use Rattle.site_docs.specs.ReadsAs.{IsSiteText, ReadsAsDelta, ReadsAsSite, ReadsAsSummary};
 ghost use Rattle.site_docs.specs.ReadsAs.{RefusesDelta, RefusesSite, RefusesSummary};
@@ -25,18 +27,23 @@ ghost use Rattle.map_docs.specs.LangMaps.{Labelled};
 ghost use Rattle.script_docs.specs.ScriptReads.{ReadsAsScript, RefusesScript};
 ghost use Rattle.script_docs.specs.Scripts.{ScriptState};
 ghost use Rattle.query_docs.specs.Bundled.{IsBundleBy};
-ghost use Rattle.query_docs.specs.Changed.{IsChanged};
+ghost use Rattle.query_docs.specs.Changed.{IsChanged, RefusesChanged};
 ghost use Rattle.query_docs.specs.Exported.{label_at, live_labels};
 ghost use Rattle.query_docs.specs.Missing.{missing_labels};
 ghost use Rattle.query_docs.specs.Outdated.{IsOutdatedMessage, outdated_labels};
-ghost use Rattle.docs_core.specs.Calls.{AreSynced, IsDeltaFor, IsSummarised, IsTaken, RefusesSync};
+ghost use Rattle.docs_core.specs.Calls.{AreSynced, IsDeltaFor, IsEdited, IsSummarised, IsTaken};
+ghost use Rattle.docs_core.specs.Calls.{RefusesDeltaFor, RefusesEditing, RefusesSync};
 ghost use Rattle.docs_core.specs.Calls.{RefusesTaking};
+ghost use Rattle.docs_core.specs.Exchange.{IsImported, RefusesImport};
 ghost use Rattle.docs_core.specs.Imported.{Imports};
+ghost use Rattle.docs_core.specs.Lines.{documents_of};
 ghost use Rattle.docs_core.specs.Made.{Change};
+ghost use Rattle.docs_core.specs.Merged.{AllAgree, IsMerged, ReadAsSites, RefusesMerge};
+ghost use Rattle.docs_core.specs.Merged.{part_of_site};
 ghost use Rattle.docs_core.specs.Replays.{Replays};
 ghost use Rattle.docs_core.specs.TimeLimits.{AreInTime, AreSyncedUntil, IsTakenUntil};
 ghost use Rattle.docs_core.specs.TimeLimits.{RefusesSyncUntil, RefusesTakingUntil};
-ghost use Rattle.docs_core.specs.Updated.{AreChanges, IsUpdated, Updates};
+ghost use Rattle.docs_core.specs.Updated.{AreChanges, IsUpdated, RefusesUpdate, Updates};
 
 pub use row_docs::laws::a_written_text_is_one_line;
 pub use script_docs::laws::{a_written_field_is_the_shortest, one_script};
@@ -78,6 +85,62 @@ pub fn one_refusal()
         → RefusesLangMaps bytes b → a ≡ b }
 {}
 
+// ---- calls
+
+/// No documents are both answered and refused by a call, where out of memory is no refusal.
+pub fn what_is_answered_is_not_refused()
+    ensures edit { (bytes : List ℕ) (now : ℕ) (key : EntryKey) (label : Option (List (List ℕ)))
+        (text : List ℕ) (fault : DocFault)
+        → IsEdited bytes now key label text → ¬ RefusesEditing bytes now fault }
+    ensures sync { (a b x y : List ℕ) (fault : DocFault)
+        → AreSynced a b x y → ¬ RefusesSync a b fault }
+    ensures sync_until { (a b : List ℕ) (limit : Option ℕ) (x y : List ℕ) (fault : DocFault)
+        → AreSyncedUntil a b limit x y → ¬ RefusesSyncUntil a b limit fault }
+    ensures take { (a b text : List ℕ) (fault : DocFault)
+        → IsTaken a b text → ¬ RefusesTaking a b fault }
+    ensures take_until { (a b : List ℕ) (limit : Option ℕ) (text : List ℕ) (fault : DocFault)
+        → IsTakenUntil a b limit text → ¬ RefusesTakingUntil a b limit fault }
+    ensures merge { (input : List ℕ) (limit : Option ℕ) (text : List ℕ) (fault : DocFault)
+        → IsMerged input limit text → ¬ RefusesMerge input limit fault }
+    ensures delta { (a b text : List ℕ) (fault : DocFault)
+        → IsDeltaFor a b text → ¬ RefusesDeltaFor a b fault }
+    ensures changes { (a b text : List ℕ) (found : Bool) (fault : DocFault)
+        → IsChanged a b text found → ¬ RefusesChanged a b fault }
+    ensures import { (bytes : List ℕ) (now : ℕ) (maps text : List ℕ) (fault : DocFault)
+        → IsImported bytes now maps text → ¬ RefusesImport bytes now maps fault }
+    ensures update { (bytes : List ℕ) (now : ℕ) (old new text : List ℕ) (fault : DocFault)
+        → IsUpdated bytes now old new text → ¬ RefusesUpdate bytes now old new fault }
+    // Those that read one site answer where it is read.
+    ensures site { (bytes : List ℕ) (site : SiteState) (fault : DocFault)
+        → ReadsAsSite bytes site → ¬ IsOfDocument 1 (RefusesSite bytes) fault }
+{}
+
+/// A call refuses its documents by one fault: with one number, place, row and document.
+pub fn one_refusal_of_a_call()
+    ensures edit { (bytes : List ℕ) (now : ℕ) (x y : DocFault) → RefusesEditing bytes now x
+        → RefusesEditing bytes now y → x ≡ y }
+    ensures sync { (a b : List ℕ) (x y : DocFault) → RefusesSync a b x → RefusesSync a b y
+        → x ≡ y }
+    ensures sync_until { (a b : List ℕ) (limit : Option ℕ) (x y : DocFault)
+        → RefusesSyncUntil a b limit x → RefusesSyncUntil a b limit y → x ≡ y }
+    ensures take { (a b : List ℕ) (x y : DocFault) → RefusesTaking a b x → RefusesTaking a b y
+        → x ≡ y }
+    ensures take_until { (a b : List ℕ) (limit : Option ℕ) (x y : DocFault)
+        → RefusesTakingUntil a b limit x → RefusesTakingUntil a b limit y → x ≡ y }
+    ensures merge { (input : List ℕ) (limit : Option ℕ) (x y : DocFault)
+        → RefusesMerge input limit x → RefusesMerge input limit y → x ≡ y }
+    ensures delta { (a b : List ℕ) (x y : DocFault) → RefusesDeltaFor a b x
+        → RefusesDeltaFor a b y → x ≡ y }
+    ensures changes { (a b : List ℕ) (x y : DocFault) → RefusesChanged a b x
+        → RefusesChanged a b y → x ≡ y }
+    ensures import { (bytes : List ℕ) (now : ℕ) (maps : List ℕ) (x y : DocFault)
+        → RefusesImport bytes now maps x → RefusesImport bytes now maps y → x ≡ y }
+    ensures update { (bytes : List ℕ) (now : ℕ) (old new : List ℕ) (x y : DocFault)
+        → RefusesUpdate bytes now old new x → RefusesUpdate bytes now old new y → x ≡ y }
+    ensures site { (bytes : List ℕ) (x y : DocFault) → IsOfDocument 1 (RefusesSite bytes) x
+        → IsOfDocument 1 (RefusesSite bytes) y → x ≡ y }
+{}
+
 /// A delta suffices: made against a summary that the site has in full, by a sender that agrees with
 /// it, it leaves the document of the site with all cells of the sender.
 pub fn a_delta_document_suffices()
@@ -117,6 +180,52 @@ pub fn a_last_line_feed_is_free()
         → ReadsAsScript (bytes ++ 10 ∷ []) script ↔ ReadsAsScript bytes script }
     ensures labels { (bytes : List ℕ) (labels : List Labelled)
         → AreLangMaps (bytes ++ 10 ∷ []) labels ↔ AreLangMaps bytes labels }
+{}
+
+// ---- merges
+
+/// What many sites are merged to is the join of all: above each of them, and below all that is
+/// above each.
+pub fn a_merge_is_the_join_of_all()
+    ensures { (input text : List ℕ) (limit : Option ℕ) (sites : List SiteState) (after : SiteState)
+        → ReadAsSites (documents_of input) sites → IsMerged input limit text
+        → ReadsAsSite text after
+        → IsJoinOf Agree joined (map (λ (site : SiteState). site.cells) sites) after.cells }
+{}
+
+/// Where all agree, the documents after the first may come in any order, and each of them again;
+/// without a limit the first may come again too.
+pub fn the_order_of_a_merge_is_free()
+    ensures others { (a b text : List ℕ) (limit : Option ℕ) (first : List ℕ)
+        (rest more : List (List ℕ))
+        → documents_of a ≡ first ∷ rest → documents_of b ≡ first ∷ more
+        → ((d : List ℕ) → Contains rest d ↔ Contains more d) → AllAgree (first ∷ rest)
+        → IsMerged a limit text → IsMerged b limit text }
+    ensures first { (a b text : List ℕ) (first : List ℕ) (rest more : List (List ℕ))
+        → documents_of a ≡ first ∷ rest → documents_of b ≡ first ∷ more
+        → ((d : List ℕ) → Contains (first ∷ rest) d ↔ Contains (first ∷ more) d)
+        → AllAgree (first ∷ rest) → IsMerged a None text → IsMerged b None text }
+{}
+
+/// A merge of two sites gives what a sync of them prints first, and is refused as that is.
+pub fn a_merge_of_two_is_a_sync()
+    ensures until { (input a b x y : List ℕ) (limit : Option ℕ)
+        → documents_of input ≡ a ∷ b ∷ [] → AreSyncedUntil a b limit x y
+        → IsMerged input limit x }
+    ensures synced { (input a b x y : List ℕ) → documents_of input ≡ a ∷ b ∷ []
+        → AreSynced a b x y → IsMerged input None x }
+    ensures refused { (input a b : List ℕ) (fault : DocFault) → documents_of input ≡ a ∷ b ∷ []
+        → RefusesMerge input None fault ↔ RefusesSync a b fault }
+{}
+
+/// The merge of parts is the part of the merge.
+pub fn a_merge_of_parts_is_the_part_of_the_merge()
+    ensures { (messages : List ℕ → Bool) (whole parts text doc : List ℕ) (limit : Option ℕ)
+        (sites : List SiteState) (after : SiteState)
+        → ReadAsSites (documents_of whole) sites
+        → ReadAsSites (documents_of parts) (map (part_of_site messages) sites)
+        → IsMerged whole limit text → ReadsAsSite text after
+        → IsSiteText (part_of_site messages after) doc → IsMerged parts limit doc }
 {}
 
 // ---- limits on times

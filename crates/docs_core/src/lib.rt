@@ -5,9 +5,10 @@
 //!   [`write_langmaps`] write one.
 //! - [`edit_document`], [`import_document`], [`update_document`], [`export_document`],
 //!   [`bundle_document`], [`missing_document`], [`outdated_document`], [`changes_document`],
-//!   [`sync_documents`], [`summary_document`], [`delta_document`], [`take_document`],
-//!   [`ask_document`] and [`status_document`] work on whole documents, from bytes to bytes;
-//!   [`take_document_until`] and [`sync_documents_until`] under a limit on times.
+//!   [`sync_documents`], [`merge_documents`], [`summary_document`], [`delta_document`],
+//!   [`take_document`], [`ask_document`] and [`status_document`] work on whole documents, from
+//!   bytes to bytes; [`take_document_until`] and [`sync_documents_until`] under a limit on times.
+//!   [`two_documents`] and [`Lines`] cut an input into its documents.
 //! - [`read_message`] reads of a site what a question about one message needs.
 //! - [`filter_lines`], [`reply_line`], [`status_line`], [`changes_lines`], [`write_live_labels`],
 //!   [`write_missing`], [`write_outdated`] and [`write_bundle`] write the answers of a site in
@@ -26,9 +27,11 @@
 mod call;
 pub mod lang_map_laws;
 pub mod laws;
+mod lines;
 pub mod migration;
 
 pub use call::importing::{import_document, put_labels};
+pub use call::merging::merge_documents;
 pub use call::replaying::replay;
 pub use call::sites::{
     delta_document, edit_document, summary_document, sync_documents, take_document,
@@ -41,6 +44,7 @@ pub use json_docs::{
     Doc, DocCause, DocFault, FieldFault, Input, MOST_BYTES, Output, Sink, Source, Spot, read_all,
     write_out,
 };
+pub use lines::{Lines, two_documents};
 pub use map_docs::{KeyedLabel, LangMaps, read_langmaps, write_langmaps};
 pub use query_docs::{
     Ask, answer_lines, ask_document, bundle_document, bundle_document_by, changes_document,

@@ -9,6 +9,7 @@ mod documents;
 mod exchange;
 mod lang_maps;
 mod lines;
+mod merges;
 mod questions;
 mod reading;
 mod refusals;

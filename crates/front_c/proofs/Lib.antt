@@ -1,5 +1,4 @@
-pub mod AnswersLemmas
-pub mod EditingLemmas
+pub mod AskedLemmas
 pub mod HandleSteps
 pub mod Options
 pub mod Values

@@ -2,11 +2,9 @@
 use Rattle.std.specs.Prelude.{Option, None, Some}
 use Rattle.std.specs.Ptr.{Ptr}
 use Rattle.std_alloc.specs.Box.Ownership.{box_owns}
-use Rattle.std_alloc.specs.contracts.arc.Arc.{the_row as arc_row}
 use Rattle.std_heap.specs.declared.Global.{Global}
-use Rattle.std_heap.specs.contracts.Global.{the_row as global_row}
 use Rattle.std_heap.specs.contracts.GlobalAllocator.TheImpl.{ghosts}
-use Rattle.cata_core.specs.contracts.site.Site.{the_row as site_row}
+use Rattle.front_core.specs.contracts.edit.OpenSite.{the_row as open_row}
 use denote.RattleType.{RattleType}
 use denote.RawPtr.{null_ptr}
 use base.Fml.{Fml, feq}
@@ -14,7 +12,7 @@ use Rattle.std.specs.Coded.{Coded, coded_option}
 
 -- a share of a site
 abbrev pub share_row : RattleType
-share_row = arc_row site_row global_row ghosts
+share_row = open_row
 
 -- a share, as its site is seen
 abbrev pub Share : Type 0

@@ -1,7 +1,6 @@
-pub mod Answers
-pub mod Editing
+pub mod Calls
 pub mod Handles
 pub mod Held
 pub mod Questions
+pub mod Reporting
 pub mod Statuses
-pub mod Telling

@@ -5,7 +5,6 @@ use Rattle.nego_core.specs.declared.field.Malformed.TheVariants.{Refused, Passed
 use Rattle.nego_core.specs.declared.scheme.Scheme.{Scheme}
 use Rattle.nego_core.specs.declared.scheme.Scheme.TheVariants.{Basic, Extended}
 use Rattle.nego_core.specs.declared.widening.Widening.TheVariants.{By, Off}
-use Rattle.cata_core.specs.Site.{SiteState}
 use Rattle.front_core.specs.Fields.{FieldText}
 
 -- a field with its scheme and what malformed elements do, for a lookup that is not widened
@@ -45,9 +44,3 @@ default_of (byte ∷ rest) = Some (byte ∷ rest)
 -- a limit of 0 is none
 abbrev pub limit_of : ℕ → Option ℕ
 limit_of limit = if limit == 0 then None else Some limit
-
--- a question to a site can be asked where the handle is open and the flags are known
-abbrev pub asked : Option SiteState → Option FieldText → Option (SiteState × FieldText)
-asked None field = None
-asked (Some site) None = None
-asked (Some site) (Some field) = Some (site, field)

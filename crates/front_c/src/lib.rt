@@ -10,7 +10,7 @@
 //!   [`sw_site_update`] edit one, [`sw_site_take`] and [`sw_site_merge`] join edits of others, and
 //!   all of these leave the other handles of it as they are.
 //! - [`sw_site_write`], [`sw_site_summary`], [`sw_site_status`] and [`sw_site_delta`] write it.
-//! - [`sw_filter`] filters tags, [`sw_refusal`] says what a refusal means.
+//! - [`sw_filter`] filters tags, [`sw_refusal`] and [`sw_refusal_text`] explain a refusal.
 //! - [`sw_version`] is the version.
 //!
 //! Each of them returns a status, that of the command for the same question, and reports the rest
@@ -25,38 +25,37 @@
 //! handle that is not open, has status 2.
 #![tactic(auto)]
 
-ghost use Rattle.std.specs.Prelude.{◌≡◌, None, Some, IfSome};
+ghost use Rattle.std.specs.Prelude.{◌≡◌, None};
 ghost use denote.RawPtr.{null_ptr};
-ghost use Rattle.front_c.specs.Answers.{TellsBundle, TellsFilter, TellsLookup, TellsLookupText};
-ghost use Rattle.front_c.specs.Answers.{TellsOpened, TellsPick, TellsShared};
-ghost use Rattle.front_c.specs.Editing.{IsHeld, TellsChanges, TellsDeleted, TellsDelta};
-ghost use Rattle.front_c.specs.Editing.{TellsDocument, TellsExport, TellsImported, TellsMissing};
-ghost use Rattle.front_c.specs.Editing.{TellsOutdated, TellsUpdated};
-ghost use Rattle.front_c.specs.Editing.{TellsMeaning, TellsMerged, TellsNew, TellsPut, TellsStatus};
-ghost use Rattle.front_c.specs.Editing.{TellsSummary, TellsTagFilter, TellsTaken};
+ghost use Rattle.front_c.specs.Calls.{ReportsBundle, ReportsChanges, ReportsDeleted, ReportsDelta};
+ghost use Rattle.front_c.specs.Calls.{ReportsFilter, ReportsImported, ReportsLookup};
+ghost use Rattle.front_c.specs.Calls.{ReportsLookupText, ReportsMeaning, ReportsMerged};
+ghost use Rattle.front_c.specs.Calls.{ReportsMissing, ReportsNew, ReportsOpened, ReportsOutdated};
+ghost use Rattle.front_c.specs.Calls.{ReportsPick, ReportsPut, ReportsRefusalText};
+ghost use Rattle.front_c.specs.Calls.{ReportsShared, ReportsTagFilter};
+ghost use Rattle.front_c.specs.Calls.{ReportsTaken, ReportsUpdated, ReportsView};
 ghost use Rattle.front_c.specs.Handles.{site_of};
+ghost use Rattle.front_core.specs.declared.exchange.View.TheVariants.{Document, Export, Status};
+ghost use Rattle.front_core.specs.declared.exchange.View.TheVariants.{Summary};
 
-mod answers;
-mod editing;
 mod handles;
 mod question;
+mod reporting;
 mod status;
-mod telling;
 mod told;
 
-use crate::answers::{
-    tell_bundle, tell_changes, tell_delta, tell_document, tell_export, tell_filter, tell_lookup,
-    tell_lookup_text, tell_missing, tell_outdated, tell_pick, tell_status, tell_summary,
-    tell_tag_filter,
+use crate::question::{default_of, field_of, limit_of, lookup_field_of};
+use crate::reporting::{
+    ask, explained, hold, hold_share, report, report_edit, report_label_text, report_nothing,
+    report_pick, report_refusal, report_text, report_usage,
 };
-use crate::question::{field_of, limit_of, lookup_field_of};
-use crate::telling::{tell_done, tell_edit, tell_meaning, tell_refusal, tell_usage};
-use cata_core::Site;
-use front_core::{FrontFault, VERSION_NUMBER, new_site, open_site};
+use front_core::{
+    Filter, Lookup, Missing, OpenSite, Outdated, Preferences, VERSION_NUMBER, View, changes, delta,
+    filter_tags,
+};
 pub use handles::site_handle::{SiteBlock, SiteHandle};
-use std::alloc::Global;
+use std::alloc::{AllocError, Global};
 use std::mem;
-use std::sync::Arc;
 pub use told::Told;
 
 /// Picks a tag for a field: what lookup (RFC 4647 section 3.4) finds among the tags, as it was
@@ -75,12 +74,12 @@ pub extern "C" fn sw_pick(
     out: &mut [u8],
     told: &mut Told,
 ) -> i32
-    ensures { TellsPick flags field.now tags.now default.now out.old out.new told.new result }
+    ensures { ReportsPick flags field.now tags.now default.now out.old out.new told.new result }
 {
-    let Some(field) = lookup_field_of(flags, field) else {
-        return tell_usage(told);
-    };
-    tell_pick(alloc, field, tags, default, out, told)
+    match lookup_field_of(flags, field) {
+        Some(field) => report_pick(alloc, field, tags, default, out, told),
+        None => report_usage(told),
+    }
 }
 
 /// Reads a document of a site into a handle. Where the handle is open its old site is let go once
@@ -93,12 +92,9 @@ pub extern "C" fn sw_site_open(
     site: &mut SiteHandle,
     told: &mut Told,
 ) -> i32
-    ensures { TellsOpened text.now (site_of site.old) (site_of site.new) told.new result }
+    ensures { ReportsOpened text.now (site_of site.old) (site_of site.new) told.new result }
 {
-    match open_site(alloc, text) {
-        Ok(read) => hold(alloc, read, site, told),
-        Err(fault) => tell_refusal(&fault, told),
-    }
+    hold(alloc, OpenSite::read(alloc, text), site, told)
 }
 
 /// Makes the empty site of a name in a handle. Where the handle is open its old site is let go once
@@ -110,12 +106,9 @@ pub extern "C" fn sw_site_new(
     site: &mut SiteHandle,
     told: &mut Told,
 ) -> i32
-    ensures { TellsNew name.now (site_of site.old) (site_of site.new) told.new result }
+    ensures { ReportsNew name.now (site_of site.old) (site_of site.new) told.new result }
 {
-    match new_site(alloc, name) {
-        Ok(made) => hold(alloc, made, site, told),
-        Err(fault) => tell_refusal(&fault, told),
-    }
+    hold(alloc, OpenSite::new(alloc, name), site, told)
 }
 
 /// Puts a label of one text at the time `now`, in milliseconds since 1970 by custom. The other
@@ -133,14 +126,13 @@ pub extern "C" fn sw_site_put(
     text: &[u8],
     told: &mut Told,
 ) -> i32
-    ensures { TellsPut now id.now lang.now text.now (site_of site.old) (site_of site.new) told.new
+    ensures { ReportsPut now id.now lang.now text.now (site_of site.old) (site_of site.new) told.new
         result }
 {
-    if !site.is_open() {
-        return tell_usage(told);
+    match site.open() {
+        Some(held) => report_edit(held.put(alloc, now, id, lang, text), told),
+        None => report_usage(told),
     }
-    let held = site.site();
-    tell_edit(editing::put(alloc, held, now, id, lang, text), told)
 }
 
 /// Deletes a label at the time `now`. Refused as [`sw_site_put`] is, without the text.
@@ -153,14 +145,13 @@ pub extern "C" fn sw_site_delete(
     lang: &[u8],
     told: &mut Told,
 ) -> i32
-    ensures { TellsDeleted now id.now lang.now (site_of site.old) (site_of site.new) told.new
+    ensures { ReportsDeleted now id.now lang.now (site_of site.old) (site_of site.new) told.new
         result }
 {
-    if !site.is_open() {
-        return tell_usage(told);
+    match site.open() {
+        Some(held) => report_edit(held.delete(alloc, now, id, lang), told),
+        None => report_usage(told),
     }
-    let held = site.site();
-    tell_edit(editing::delete(alloc, held, now, id, lang), told)
 }
 
 /// Joins what the site of another handle has. The other handles of the site keep what they had.
@@ -175,18 +166,16 @@ pub extern "C" fn sw_site_merge(
     told: &mut Told,
 ) -> i32
     ensures other { other.new.value ≡ other.old.value }
-    ensures merged { TellsMerged (site_of other.old) (site_of site.old) (site_of site.new) told.new
-        result }
+    ensures merged { ReportsMerged (site_of other.old) (site_of site.old) (site_of site.new)
+        told.new result }
 {
-    if !other.is_open() {
-        return tell_usage(told);
+    let Some(cells) = other.open() else {
+        return report_usage(told);
+    };
+    match site.open() {
+        Some(held) => report_edit(held.merge(alloc, cells.site()), told),
+        None => report_usage(told),
     }
-    if !site.is_open() {
-        return tell_usage(told);
-    }
-    let cells = other.site();
-    let held = site.site();
-    tell_edit(editing::merge(alloc, held, cells), told)
 }
 
 /// Takes the document of a delta for the site. Where `not_after` is not 0 no time of the delta may
@@ -204,13 +193,13 @@ pub extern "C" fn sw_site_take(
     not_after: u64,
     told: &mut Told,
 ) -> i32
-    ensures { TellsTaken delta.now not_after (site_of site.old) (site_of site.new) told.new result }
+    ensures { ReportsTaken delta.now not_after (site_of site.old) (site_of site.new) told.new
+        result }
 {
-    if !site.is_open() {
-        return tell_usage(told);
+    match site.open() {
+        Some(held) => report_edit(held.take(alloc, delta, limit_of(not_after)), told),
+        None => report_usage(told),
     }
-    let held = site.site();
-    tell_edit(editing::take(alloc, held, delta, limit_of(not_after)), told)
 }
 
 /// Puts the labels of language maps at the time `now`, all or none, as the command `import` does.
@@ -225,13 +214,12 @@ pub extern "C" fn sw_site_import(
     maps: &[u8],
     told: &mut Told,
 ) -> i32
-    ensures { TellsImported now maps.now (site_of site.old) (site_of site.new) told.new result }
+    ensures { ReportsImported now maps.now (site_of site.old) (site_of site.new) told.new result }
 {
-    if !site.is_open() {
-        return tell_usage(told);
+    match site.open() {
+        Some(held) => report_edit(held.import(alloc, now, maps), told),
+        None => report_usage(told),
     }
-    let held = site.site();
-    tell_edit(editing::import(alloc, held, now, maps), told)
 }
 
 /// Makes the changes from old language maps to new ones at the time `now`, all or none, as the
@@ -245,14 +233,13 @@ pub extern "C" fn sw_site_update(
     new: &[u8],
     told: &mut Told,
 ) -> i32
-    ensures { TellsUpdated now old.now new.now (site_of site.old) (site_of site.new) told.new
+    ensures { ReportsUpdated now old.now new.now (site_of site.old) (site_of site.new) told.new
         result }
 {
-    if !site.is_open() {
-        return tell_usage(told);
+    match site.open() {
+        Some(held) => report_edit(held.update(alloc, now, old, new), told),
+        None => report_usage(told),
     }
-    let held = site.site();
-    tell_edit(editing::update(alloc, held, now, old, new), told)
 }
 
 /// Answers the document of the site, which [`sw_site_open`] reads as this site.
@@ -264,13 +251,9 @@ pub extern "C" fn sw_site_write(
     told: &mut Told,
 ) -> i32
     ensures site { site.new.value ≡ site.old.value }
-    ensures answer { TellsDocument (site_of site.old) out.old out.new told.new result }
+    ensures answer { ReportsView Document (site_of site.old) out.old out.new told.new result }
 {
-    if !site.is_open() {
-        return tell_usage(told);
-    }
-    let held = site.site();
-    tell_document(alloc, held, out, told)
+    ask(alloc, site, Ok(View::Document), out, told)
 }
 
 /// Answers the document of the site's summary, as the command `summary` prints it.
@@ -282,13 +265,9 @@ pub extern "C" fn sw_site_summary(
     told: &mut Told,
 ) -> i32
     ensures site { site.new.value ≡ site.old.value }
-    ensures answer { TellsSummary (site_of site.old) out.old out.new told.new result }
+    ensures answer { ReportsView Summary (site_of site.old) out.old out.new told.new result }
 {
-    if !site.is_open() {
-        return tell_usage(told);
-    }
-    let held = site.site();
-    tell_summary(alloc, held, out, told)
+    ask(alloc, site, Ok(View::Summary), out, told)
 }
 
 /// Answers the line of the command `status`.
@@ -300,13 +279,9 @@ pub extern "C" fn sw_site_status(
     told: &mut Told,
 ) -> i32
     ensures site { site.new.value ≡ site.old.value }
-    ensures answer { TellsStatus (site_of site.old) out.old out.new told.new result }
+    ensures answer { ReportsView Status (site_of site.old) out.old out.new told.new result }
 {
-    if !site.is_open() {
-        return tell_usage(told);
-    }
-    let held = site.site();
-    tell_status(alloc, held, out, told)
+    ask(alloc, site, Ok(View::Status), out, told)
 }
 
 /// Answers the document of the delta of what a summary lacks, as the command `delta` prints it.
@@ -321,13 +296,12 @@ pub extern "C" fn sw_site_delta(
     told: &mut Told,
 ) -> i32
     ensures site { site.new.value ≡ site.old.value }
-    ensures answer { TellsDelta (site_of site.old) summary.now out.old out.new told.new result }
+    ensures answer { ReportsDelta (site_of site.old) summary.now out.old out.new told.new result }
 {
-    if !site.is_open() {
-        return tell_usage(told);
+    match site.open() {
+        Some(held) => report(delta(alloc, held.site(), summary), out, told),
+        None => report_usage(told),
     }
-    let held = site.site();
-    tell_delta(alloc, held, summary, out, told)
 }
 
 /// Answers the language maps of all labels, as the command `export` prints them.
@@ -339,13 +313,9 @@ pub extern "C" fn sw_site_export(
     told: &mut Told,
 ) -> i32
     ensures site { site.new.value ≡ site.old.value }
-    ensures answer { TellsExport (site_of site.old) out.old out.new told.new result }
+    ensures answer { ReportsView Export (site_of site.old) out.old out.new told.new result }
 {
-    if !site.is_open() {
-        return tell_usage(told);
-    }
-    let held = site.site();
-    tell_export(alloc, held, out, told)
+    ask(alloc, site, Ok(View::Export), out, told)
 }
 
 /// Answers the language maps of the messages that lack a language, as the command `missing` prints
@@ -359,13 +329,9 @@ pub extern "C" fn sw_site_missing(
     told: &mut Told,
 ) -> i32
     ensures site { site.new.value ≡ site.old.value }
-    ensures answer { TellsMissing (site_of site.old) lang.now out.old out.new told.new result }
+    ensures answer { ReportsMissing (site_of site.old) lang.now out.old out.new told.new result }
 {
-    if !site.is_open() {
-        return tell_usage(told);
-    }
-    let held = site.site();
-    tell_missing(alloc, held, lang, out, told)
+    ask(alloc, site, Missing::read(alloc, lang), out, told)
 }
 
 /// Answers the language maps of the messages whose label in a language is older than that in the
@@ -381,14 +347,10 @@ pub extern "C" fn sw_site_outdated(
     told: &mut Told,
 ) -> i32
     ensures site { site.new.value ≡ site.old.value }
-    ensures answer { TellsOutdated (site_of site.old) lang.now source.now out.old out.new told.new
+    ensures answer { ReportsOutdated (site_of site.old) lang.now source.now out.old out.new told.new
         result }
 {
-    if !site.is_open() {
-        return tell_usage(told);
-    }
-    let held = site.site();
-    tell_outdated(alloc, held, lang, source, out, told)
+    ask(alloc, site, Outdated::read(alloc, lang, source), out, told)
 }
 
 /// Answers what changed from the site to that of another handle, as the command `changes` prints
@@ -403,18 +365,16 @@ pub extern "C" fn sw_site_changes(
 ) -> i32
     ensures site { site.new.value ≡ site.old.value }
     ensures other { other.new.value ≡ other.old.value }
-    ensures answer { TellsChanges (site_of site.old) (site_of other.old) out.old out.new told.new
+    ensures answer { ReportsChanges (site_of site.old) (site_of other.old) out.old out.new told.new
         result }
 {
-    if !other.is_open() {
-        return tell_usage(told);
+    let Some(after) = other.open() else {
+        return report_usage(told);
+    };
+    match site.open() {
+        Some(before) => report(changes(alloc, before.site(), after.site()), out, told),
+        None => report_usage(told),
     }
-    if !site.is_open() {
-        return tell_usage(told);
-    }
-    let after = other.site();
-    let before = site.site();
-    tell_changes(alloc, before, after, out, told)
 }
 
 /// Filters tags, one on a line, by a field (RFC 4647, sections 3.3.1 and 3.3.2): `filter N`, then N
@@ -430,21 +390,37 @@ pub extern "C" fn sw_filter(
     out: &mut [u8],
     told: &mut Told,
 ) -> i32
-    ensures { TellsTagFilter flags field.now tags.now out.old out.new told.new result }
+    ensures { ReportsTagFilter flags field.now tags.now out.old out.new told.new result }
 {
-    let Some(field) = field_of(flags, field) else {
-        return tell_usage(told);
-    };
-    tell_tag_filter(alloc, field, tags, out, told)
+    match field_of(flags, field) {
+        Some(field) => report(filter_tags(alloc, field, tags), out, told),
+        None => report_usage(told),
+    }
 }
 
 /// Answers in a sentence, without an end mark, what was wanted where this refusal comes; nothing
-/// for a number that no refusal has. Which sentence it is no clause says.
+/// for a number that no refusal has.
 #[unsafe(no_mangle)]
 pub extern "C" fn sw_refusal(number: u32, out: &mut [u8], told: &mut Told) -> i32
-    ensures { TellsMeaning number out.old out.new told.new result }
+    ensures { ReportsMeaning number out.old out.new told.new result }
 {
-    tell_meaning(number, out, told)
+    match explained(number) {
+        Some(refusal) => report_text(refusal.meaning.as_bytes(), 0, status::FOUND, out, told),
+        None => report_nothing(0, told),
+    }
+}
+
+/// Answers the text that the command prints of this refusal after its number, with `OFFSET`,
+/// `INDEX`, `COUNT` and `PLACE` for what [`Told`] reports, but of 13 without the stamp and of 15
+/// without the site; nothing for a number that no refusal has.
+#[unsafe(no_mangle)]
+pub extern "C" fn sw_refusal_text(number: u32, out: &mut [u8], told: &mut Told) -> i32
+    ensures { ReportsRefusalText number out.old out.new told.new result }
+{
+    match explained(number) {
+        Some(refusal) => report_text(refusal.text.as_bytes(), 0, status::FOUND, out, told),
+        None => report_nothing(0, told),
+    }
 }
 
 /// Looks up the label of a message for a field (RFC 4647 section 3.4), or that of the default, and
@@ -463,17 +439,16 @@ pub extern "C" fn sw_site_lookup(
     told: &mut Told,
 ) -> i32
     ensures site { site.new.value ≡ site.old.value }
-    ensures answer { TellsLookup (site_of site.old) flags id.now field.now default.now out.old
+    ensures answer { ReportsLookup (site_of site.old) flags id.now field.now default.now out.old
         out.new told.new result }
 {
-    let Some(field) = lookup_field_of(flags, field) else {
-        return tell_usage(told);
-    };
-    if !site.is_open() {
-        return tell_usage(told);
+    match lookup_field_of(flags, field) {
+        Some(field) => {
+            let asked = Lookup::read(alloc, id, field, default_of(default));
+            ask(alloc, site, asked, out, told)
+        }
+        None => report_usage(told),
     }
-    let held = site.site();
-    tell_lookup(alloc, held, id, field, default, out, told)
 }
 
 /// Answers, as it is, the text at a place, from 0, of the label that [`sw_site_lookup`] finds.
@@ -493,17 +468,19 @@ pub extern "C" fn sw_site_text(
     told: &mut Told,
 ) -> i32
     ensures site { site.new.value ≡ site.old.value }
-    ensures answer { TellsLookupText (site_of site.old) flags id.now field.now default.now place
+    ensures answer { ReportsLookupText (site_of site.old) flags id.now field.now default.now place
         out.old out.new told.new result }
 {
     let Some(field) = lookup_field_of(flags, field) else {
-        return tell_usage(told);
+        return report_usage(told);
     };
-    if !site.is_open() {
-        return tell_usage(told);
+    let Some(held) = site.open() else {
+        return report_usage(told);
+    };
+    match Lookup::read(alloc, id, field, default_of(default)) {
+        Ok(asked) => report_label_text(asked.text(held.site(), place), out, told),
+        Err(fault) => report_refusal(&fault, told),
     }
-    let held = site.site();
-    tell_lookup_text(alloc, held, id, field, default, place, out, told)
 }
 
 /// Finds the labels of a message whose languages fit a field (RFC 4647, sections 3.3.1 and 3.3.2),
@@ -521,17 +498,13 @@ pub extern "C" fn sw_site_filter(
     told: &mut Told,
 ) -> i32
     ensures site { site.new.value ≡ site.old.value }
-    ensures answer { TellsFilter (site_of site.old) flags id.now field.now out.old out.new told.new
-        result }
+    ensures answer { ReportsFilter (site_of site.old) flags id.now field.now out.old out.new
+        told.new result }
 {
-    let Some(field) = field_of(flags, field) else {
-        return tell_usage(told);
-    };
-    if !site.is_open() {
-        return tell_usage(told);
+    match field_of(flags, field) {
+        Some(field) => ask(alloc, site, Filter::read(alloc, id, field), out, told),
+        None => report_usage(told),
     }
-    let held = site.site();
-    tell_filter(alloc, held, id, field, out, told)
 }
 
 /// Looks up the one label of each message for a field, or that of the default, and answers the
@@ -549,17 +522,16 @@ pub extern "C" fn sw_site_bundle(
     told: &mut Told,
 ) -> i32
     ensures site { site.new.value ≡ site.old.value }
-    ensures answer { TellsBundle (site_of site.old) flags field.now default.now out.old out.new
+    ensures answer { ReportsBundle (site_of site.old) flags field.now default.now out.old out.new
         told.new result }
 {
-    let Some(field) = lookup_field_of(flags, field) else {
-        return tell_usage(told);
-    };
-    if !site.is_open() {
-        return tell_usage(told);
+    match lookup_field_of(flags, field) {
+        Some(field) => {
+            let asked = Preferences::read(alloc, field, default_of(default));
+            ask(alloc, site, asked, out, told)
+        }
+        None => report_usage(told),
     }
-    let held = site.site();
-    tell_bundle(alloc, held, field, default, out, told)
 }
 
 /// Makes the other handle one more handle of the same site, for another thread: both share the
@@ -568,20 +540,16 @@ pub extern "C" fn sw_site_bundle(
 #[unsafe(no_mangle)]
 pub extern "C" fn sw_site_share(alloc: Global, site: &mut SiteHandle, other: &mut SiteHandle) -> i32
     ensures site { site.new.value ≡ site.old.value }
-    ensures shared { TellsShared (site_of site.old) (site_of other.old) (site_of other.new) result }
+    ensures shared { ReportsShared (site_of site.old) (site_of other.old) (site_of other.new)
+        result }
 {
-    if !site.is_open() {
+    let Some(held) = site.open() else {
         return status::USAGE;
+    };
+    match held.share() {
+        Ok(share) => hold_share(alloc, share, other),
+        Err(AllocError) => status::OUT_OF_MEMORY,
     }
-    let held = site.site();
-    let Ok(share) = held.clone() else {
-        return status::OUT_OF_MEMORY;
-    };
-    let Some(shared) = handle_of_share(alloc, share) else {
-        return status::OUT_OF_MEMORY;
-    };
-    mem::replace(other, shared).close(alloc);
-    status::FOUND
 }
 
 /// Lets the site of a handle go and leaves the handle closed, of zeros. The last handle of a site
@@ -600,49 +568,4 @@ pub extern "C" fn sw_version() -> u32
     ensures { result ≡ VERSION_NUMBER }
 {
     VERSION_NUMBER
-}
-
-/// A handle may go to another thread.
-pub fn crosses(handle: SiteHandle) -> SiteHandle
-    ensures { result.value ≡ handle.value }
-{
-    crossed(handle)
-}
-
-/// Puts a site into a handle, and lets the old one of the handle go.
-fn hold(alloc: Global, held: Site, site: &mut SiteHandle, told: &mut Told) -> i32
-    ensures { IsHeld held (site_of site.old) (site_of site.new) told.new result }
-{
-    let Some(opened) = handle_of(alloc, held) else {
-        return tell_refusal(&FrontFault::NoMemory, told);
-    };
-    mem::replace(site, opened).close(alloc);
-    tell_done(told)
-}
-
-/// A handle of this site, or none where memory ends.
-fn handle_of(alloc: Global, site: Site) -> Option<SiteHandle>
-    ensures { IfSome result (λ handle. site_of handle ≡ Some site) }
-{
-    match Arc::new(alloc, site) {
-        Ok(share) => handle_of_share(alloc, share),
-        Err(_) => None,
-    }
-}
-
-/// A handle of this share, or none where memory ends.
-fn handle_of_share(alloc: Global, share: Arc<Site>) -> Option<SiteHandle>
-    ensures { IfSome result (λ handle. site_of handle ≡ Some share.value) }
-{
-    match Box::new(alloc, share) {
-        Ok(boxed) => Some(SiteHandle::of(boxed)),
-        Err(_) => None,
-    }
-}
-
-/// The value, whose type may go to another thread.
-fn crossed<T: Send>(value: T) -> T
-    ensures { result ≡ value }
-{
-    value
 }

@@ -1,6 +1,6 @@
 //! What a call reports beside its status.
-ghost use Rattle.std.specs.Prelude.{◌≡◌};
-ghost use Rattle.front_c.specs.Telling.{answered, refused};
+ghost use Rattle.std.specs.Prelude.{◌≡◌, ◌≤◌};
+ghost use Rattle.front_c.specs.Reporting.{answered, bit_of, given_of, refused};
 
 use front_core::FrontFault;
 
@@ -14,10 +14,14 @@ pub struct Told {
     pub offset: usize,
     /// The row of a document's refusal, from 0.
     pub row: usize,
-    /// What the call counts.
+    /// What the call counts. Of refusal 11 the place of the text in its label, from 0; of 12 how
+    /// many texts the label has; of 13 the place of the cell in the receiving site, from 0.
     pub count: usize,
     /// The number of the refusal, or 0.
     pub number: u32,
+    /// What a refusal has: the sum of 1 where it has an offset, 2 a row, 4 a count, and 8 where it
+    /// is of the second of two documents that the call reads.
+    pub given: u32,
 }
 
 impl Told {
@@ -31,6 +35,7 @@ impl Told {
             row: 0,
             count,
             number: 0,
+            given: 0,
         }
     }
 
@@ -42,8 +47,28 @@ impl Told {
             len: 0,
             offset: fault.offset().unwrap_or(0),
             row: fault.row().unwrap_or(0),
-            count: 0,
+            count: fault.count().unwrap_or(0),
             number: u32::from(fault.number()),
+            given: given_of(fault),
         }
     }
+}
+
+/// What a refusal has.
+fn given_of(fault: &FrontFault) -> u32
+    ensures { result ≡ given_of fault.now }
+{
+    bit_of(fault.offset().is_some(), 1)
+        + bit_of(fault.row().is_some(), 2)
+        + bit_of(fault.count().is_some(), 4)
+        + bit_of(fault.document() == 2, 8)
+}
+
+/// The bit where something is there, else 0.
+fn bit_of(is_there: bool, bit: u32) -> u32
+    requires { bit ≤ 8 }
+    ensures bit { result ≡ bit_of is_there bit }
+    ensures small { result ≤ 8 }
+{
+    if is_there { bit } else { 0 }
 }

@@ -1,7 +1,8 @@
+pub mod EditLemmas
 pub mod EditingLemmas
-pub mod LinesLemmas
 pub mod PickLaws
 pub mod PickLemmas
+pub mod RefusalLemmas
 pub mod TagFiltersLemmas
 pub mod TagsLemmas
 pub mod WholeEditsLemmas

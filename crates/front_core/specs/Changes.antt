@@ -1,11 +1,13 @@
 -- Changes of one label: how they are read, and what they make of a site (project rules).
-use Rattle.std.specs.Prelude.{◌≡◌, ◌⊎◌, ◌∷◌, [], ℕ, None, Some}
+use Rattle.std.specs.Prelude.{◌≡◌, ◌⊎◌, ◌∷◌, [], ℕ, List, None, Some}
 use Rattle.std.specs.FinMap.Entries.{put}
 use Rattle.std.specs.Str.{IsUtf8}
 use Rattle.std.specs.Str.Lossy.{utf8_valid_len}
 use Rattle.lang_core.specs.Lang.{SpellsLang, RefusesLang}
 use Rattle.cell_core.specs.Label.{IsLabel}
-use Rattle.cell_core.specs.Fault.{RefusesLabel}
+use Rattle.cell_core.specs.Fault.{RefusesLabel, RefusesTexts}
+use Rattle.cell_core.specs.declared.fault.CellFault.{CellFault}
+use Rattle.cell_core.specs.declared.fault.CellFault.TheVariants as cell
 use Rattle.cell_core.specs.Stamp.{IsNext}
 use Rattle.cell_core.specs.declared.stamp.Stamp.{Stamp}
 use Rattle.cata_core.specs.Entries.{EntryKey, key_cmp}
@@ -61,6 +63,21 @@ IsPut id lang text change = IsKey id lang (change.id, change.lang) × HasLabel t
 abbrev pub RefusesPut : Text → Text → Text → FrontFault → Type 0
 RefusesPut id lang text fault = RefusesKey id lang fault
     ⊎ (HasKey id lang × RefusesLabelText text fault)
+
+-- these texts as the label, at the key that the bytes spell
+abbrev pub IsPutOf : Text → Text → List Text → Change → Type 0
+IsPutOf id lang texts change = IsKey id lang (change.id, change.lang) × IsLabel texts
+    × (change.label ≡ Some texts)
+
+-- why the texts are no label; they are copied first, so memory may end before
+abbrev pub RefusesLabelTexts : List Text → CellFault → Type 0
+RefusesLabelTexts texts cell.NoMemory = Unit {0}
+RefusesLabelTexts texts fault = RefusesTexts texts fault
+
+-- the id is refused first, then the language, and then the texts
+abbrev pub RefusesPutOf : Text → Text → List Text → FrontFault → Type 0
+RefusesPutOf id lang texts fault = RefusesKey id lang fault
+    ⊎ (HasKey id lang × IsOf cell_fault (RefusesLabelTexts texts) fault)
 
 -- no label, at the key that the bytes spell
 abbrev pub IsDelete : Text → Text → Change → Type 0

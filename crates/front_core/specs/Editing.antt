@@ -14,6 +14,11 @@ use Rattle.front_core.specs.Faults.{IsOf, document_fault, site_fault}
 use Rattle.front_core.specs.Fields.{Text}
 use Rattle.front_core.specs.declared.change.Change.{Change}
 use Rattle.front_core.specs.declared.fault.FrontFault.{FrontFault}
+use Rattle.front_core.specs.declared.fault.FrontFault.TheVariants.{NoMemory}
+
+-- it is refused so, or memory ended
+abbrev pub OrNoMemory : (FrontFault → Type 0) → FrontFault → Type 0
+OrNoMemory Refuses fault = Refuses fault ⊎ (fault ≡ NoMemory)
 
 -- what an edit makes of a site
 abbrev pub Edits : Type 1

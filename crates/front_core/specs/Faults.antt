@@ -1,7 +1,7 @@
 -- The refusals of this crate: each is one of the crates below, and out of memory has one form
 -- (project rule).
-use Rattle.std.specs.Prelude.{◌≡◌, ℕ, Option, None, Some}
-use Rattle.lang_core.specs.Fault.{number_of as lang_number}
+use Rattle.std.specs.Prelude.{◌≡◌, ◌^◌, ℕ, Option, None, Some, if◌then◌else◌, nat_lt}
+use Rattle.lang_core.specs.Fault.{number_of as lang_number, offset_of as lang_offset}
 use Rattle.lang_core.specs.declared.fault.LangFault.{LangFault}
 use Rattle.lang_core.specs.declared.fault.LangFault.TheVariants as lang
 use Rattle.nego_core.specs.Fault.{number_of as nego_number}
@@ -11,6 +11,7 @@ use Rattle.cell_core.specs.Fault.{number_of as cell_number}
 use Rattle.cell_core.specs.declared.fault.CellFault.{CellFault}
 use Rattle.cell_core.specs.declared.fault.CellFault.TheVariants as cell
 use Rattle.cata_core.specs.declared.cata_fault.CataFault.{CataFault}
+use Rattle.cata_core.specs.declared.cata_fault.CataFault.TheVariants as cata
 use Rattle.json_docs.specs.Faults as doc
 use Rattle.json_docs.specs.declared.fault.DocCause.{DocCause}
 use Rattle.json_docs.specs.declared.fault.DocCause.TheVariants as cause
@@ -28,12 +29,6 @@ number_of (Language fault) = lang_number fault
 number_of (Field fault) = nego_number fault
 number_of (Document fault) = doc.number_of fault.cause
 number_of NoMemory = 26
-
--- where in a tag or a range the subtag begins that is refused
-abbrev pub lang_offset : LangFault → Option ℕ
-lang_offset (lang.TagSubtag offset) = Some offset
-lang_offset (lang.RangeSubtag offset) = Some offset
-lang_offset _ = None
 
 -- where in a field the element begins that is refused
 abbrev pub nego_offset : NegoFault → Option ℕ
@@ -59,6 +54,35 @@ offset_of (Language fault) = lang_offset fault
 offset_of (Field fault) = nego_offset fault
 offset_of (Document fault) = cause_offset fault.cause
 offset_of NoMemory = None
+
+-- the place of a text in its label, or how many texts it has
+abbrev pub cell_count : CellFault → Option ℕ
+cell_count (cell.TextTooLong index) = Some index
+cell_count (cell.LabelCount count) = Some count
+cell_count _ = None
+
+-- the count in the field of a row
+abbrev pub row_count : FieldFault → Option ℕ
+row_count (row.Cell fault) = cell_count fault
+row_count _ = None
+
+-- the place of the cell whose stamp is used twice, as far as 64 bits count
+abbrev pub site_count : CataFault → Option ℕ
+site_count (cata.StampReused place stamp) = if nat_lt place (2 ^ 64) then Some place else None
+site_count _ = None
+
+-- the count in a document
+abbrev pub cause_count : DocCause → Option ℕ
+cause_count (cause.Field row fault) = row_count fault
+cause_count (cause.Site fault) = site_count fault
+cause_count _ = None
+
+-- the number that the text of a refusal counts: of 11 the place of the text in its label, of 12 how
+-- many texts the label has, of 13 the place of the cell in the receiving site
+abbrev pub count_of : FrontFault → Option ℕ
+count_of (Cell fault) = cell_count fault
+count_of (Document fault) = cause_count fault.cause
+count_of _ = None
 
 -- the row of the document that is refused, from 0
 abbrev pub row_of : FrontFault → Option ℕ

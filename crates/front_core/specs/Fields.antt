@@ -6,7 +6,7 @@ use Rattle.nego_core.specs.declared.fault.NegoFault.{NegoFault}
 use Rattle.nego_core.specs.declared.field.Malformed.{Malformed}
 use Rattle.nego_core.specs.declared.scheme.Scheme.{Scheme}
 use Rattle.nego_core.specs.declared.widening.Widening.{Widening}
-use Rattle.front_core.specs.declared.field.Field.{Field}
+use Rattle.front_core.specs.declared.preferences.Field.{Field}
 
 -- the bytes of a text that is passed in
 abbrev pub Text : Type 0

@@ -1,9 +1,9 @@
+pub mod Ask
 pub mod Changes
-pub mod Documents
 pub mod Editing
+pub mod Exchange
 pub mod Faults
 pub mod Fields
-pub mod Lines
 pub mod Picks
 pub mod Preferences
 pub mod Questions
@@ -11,5 +11,5 @@ pub mod Refusals
 pub mod Site
 pub mod TagFilters
 pub mod Tags
+pub mod Translate
 pub mod WholeEdits
-pub mod Work

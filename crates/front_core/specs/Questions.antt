@@ -1,4 +1,4 @@
--- Questions to an open site, and what answers them (project rules).
+-- Questions to a site, and what answers them over its cells (project rules).
 use Rattle.std.specs.Prelude.{◌≡◌, ◌≤◌, ◌⊎◌, ℕ, Bool, List, Option, None, Some, false, true, length}
 use Rattle.std.specs.Prelude.{option_map, slice_get}
 use Rattle.std.specs.Str.{IsUtf8}
@@ -16,17 +16,16 @@ use Rattle.query_docs.specs.Lines.{reply_line}
 use Rattle.query_docs.specs.LooksUp.{answered}
 use Rattle.query_docs.specs.declared.asking.Ask.TheVariants as ask
 use Rattle.front_core.specs.Faults.{IsOf, cell_fault, field_fault}
-use Rattle.front_core.specs.Fields.{FieldText, HasList, ReadsAs, RefusesRanges, Text}
-use Rattle.front_core.specs.Preferences.{ArePreferences, HasPreferences, RefusesPreferences}
+use Rattle.front_core.specs.Fields.{FieldText, ReadsAs, RefusesRanges, Text}
+use Rattle.front_core.specs.Preferences.{ArePreferences, RefusesPreferences}
 use Rattle.front_core.specs.declared.answer.Answer.{Answer}
 use Rattle.front_core.specs.declared.answer.LabelText.{LabelText}
 use Rattle.front_core.specs.declared.answer.LabelText.TheVariants as label
 use Rattle.front_core.specs.declared.answer.Outcome.{Outcome}
 use Rattle.front_core.specs.declared.answer.Outcome.TheVariants.{Found, Nothing}
 use Rattle.front_core.specs.declared.fault.FrontFault.{FrontFault}
-use Rattle.front_core.specs.declared.fault.FrontFault.TheVariants.{NoMemory}
-use Rattle.front_core.specs.declared.filter.Filter.{Filter}
-use Rattle.front_core.specs.declared.lookup.Lookup.{Lookup}
+use Rattle.front_core.specs.declared.ask.Filter.{Filter}
+use Rattle.front_core.specs.declared.ask.Lookup.{Lookup}
 use Rattle.front_core.specs.declared.preferences.Preferences.{Preferences}
 
 -- whether anything was found
@@ -57,10 +56,6 @@ abbrev pub IsLookup : Text → FieldText → Option Text → Lookup → Type 0
 IsLookup id field word asked = IsId id × (asked.id ≡ id)
     × ArePreferences field word asked.preferences
 
--- the id is one, and the field and the default give some preferences
-abbrev pub HasLookup : Text → FieldText → Option Text → Type 0
-HasLookup id field word = IsId id × HasPreferences field word
-
 -- the id is refused first, then the default, and then the field
 abbrev pub RefusesLookup : Text → FieldText → Option Text → FrontFault → Type 0
 RefusesLookup id field word fault = RefusesId id fault
@@ -70,10 +65,6 @@ RefusesLookup id field word fault = RefusesId id fault
 abbrev pub IsFilter : Text → FieldText → Filter → Type 0
 IsFilter id field asked = IsId id × (asked.id ≡ id) × (asked.scheme ≡ field.scheme)
     × ReadsAs field asked.list
-
--- the id is one, and the field is read as some list
-abbrev pub HasFilter : Text → FieldText → Type 0
-HasFilter id field = IsId id × HasList field
 
 -- the id is refused first, and then the field
 abbrev pub RefusesFilter : Text → FieldText → FrontFault → Type 0
@@ -123,39 +114,7 @@ AnswersBundle cells asked answer =
     × IsBundleBy asked.widening cells asked.list asked.default labels
     × AreWritten labels answer.text (is_found answer.outcome)
 
--- ---- question and answer at once: memory may end before the answer is written
-
--- the line of the lookup that is asked
-abbrev pub IsLookupLine : Entries → Text → FieldText → Option Text → Answer → Type 0
-IsLookupLine cells id field word answer = (asked : Lookup) × IsLookup id field word asked
-    × AnswersLookup cells asked answer
-
 -- the text at a place of the label that the lookup asked finds
 abbrev pub IsLookupText : Entries → Text → FieldText → Option Text → ℕ → LabelText → Type 0
 IsLookupText cells id field word place text = (asked : Lookup) × IsLookup id field word asked
     × AnswersText cells asked place text
-
--- the question is refused, or memory ended
-abbrev pub RefusesLookupLine : Text → FieldText → Option Text → FrontFault → Type 0
-RefusesLookupLine id field word fault = RefusesLookup id field word fault
-    ⊎ (HasLookup id field word × (fault ≡ NoMemory))
-
--- the lines of the filter that is asked
-abbrev pub IsFilterLines : Entries → Text → FieldText → Answer → Type 0
-IsFilterLines cells id field answer = (asked : Filter) × IsFilter id field asked
-    × AnswersFilter cells asked answer
-
--- the question is refused, or memory ended
-abbrev pub RefusesFilterLines : Text → FieldText → FrontFault → Type 0
-RefusesFilterLines id field fault = RefusesFilter id field fault
-    ⊎ (HasFilter id field × (fault ≡ NoMemory))
-
--- the language maps of what the preferences that are asked find
-abbrev pub AreBundleMaps : Entries → FieldText → Option Text → Answer → Type 0
-AreBundleMaps cells field word answer = (asked : Preferences) × ArePreferences field word asked
-    × AnswersBundle cells asked answer
-
--- the preferences are refused, or memory ended
-abbrev pub RefusesBundle : FieldText → Option Text → FrontFault → Type 0
-RefusesBundle field word fault = RefusesPreferences field word fault
-    ⊎ (HasPreferences field word × (fault ≡ NoMemory))

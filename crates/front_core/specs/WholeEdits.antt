@@ -13,9 +13,10 @@ use Rattle.front_core.specs.Fields.{Text}
 use Rattle.front_core.specs.declared.fault.FrontFault.{FrontFault}
 use Rattle.front_core.specs.declared.fault.FrontFault.TheVariants.{NoMemory}
 
--- the bytes are no language maps
-abbrev pub RefusesMaps : Text → FrontFault → Type 0
-RefusesMaps maps = IsOf document_fault (OrMemory no_memory (IsOfDocument 1 (RefusesLangMaps maps)))
+-- the bytes, which are the document of this number, are no language maps
+abbrev pub RefusesMaps : ℕ → Text → FrontFault → Type 0
+RefusesMaps document maps =
+    IsOf document_fault (OrMemory no_memory (IsOfDocument document (RefusesLangMaps maps)))
 
 -- the site with each label of the language maps put at this time, in ascending order of key
 abbrev pub IsImported : ℕ → Text → SiteState → SiteState → Type 0
@@ -26,7 +27,7 @@ IsImported now maps old new =
 -- the language maps are refused, then a label for which there is no next stamp; or memory ended
 abbrev pub RefusesImport : ℕ → Text → SiteState → FrontFault → Type 0
 RefusesImport now maps site fault =
-    RefusesMaps maps fault
+    RefusesMaps 1 maps fault
     ⊎ ((labels : List Labelled) × AreLangMaps maps labels
     × ((fault ≡ NoMemory)
     ⊎ (SpendsImport now site.name labels site.cells × (fault ≡ site_fault ClockSpent))))
@@ -42,8 +43,8 @@ AreUpdated now old new site updated =
 -- stamp; or memory ended
 abbrev pub RefusesUpdates : ℕ → Text → Text → SiteState → FrontFault → Type 0
 RefusesUpdates now old new site fault =
-    RefusesMaps old fault
-    ⊎ ((before : List Labelled) × AreLangMaps old before × RefusesMaps new fault)
+    RefusesMaps 1 old fault
+    ⊎ ((before : List Labelled) × AreLangMaps old before × RefusesMaps 2 new fault)
     ⊎ ((before after : List Labelled) × AreLangMaps old before × AreLangMaps new after
     × ((fault ≡ NoMemory)
     ⊎ (SpendsUpdate now site.name before after site.cells × (fault ≡ site_fault ClockSpent))))

@@ -46,11 +46,22 @@ pub struct Answer {
 }
 
 impl Answer {
+    ghost use Rattle.front_core.specs.Questions.{is_found};
+
     /// The answer of this text.
     pub fn new(text: Doc, outcome: Outcome) -> Answer
         ensures { result ≡ record { text = text; outcome = outcome } }
     {
         Answer { text, outcome }
+    }
+
+    /// The answer of a text that has found something if `written.1`.
+    pub(crate) fn of(written: (Doc, bool)) -> Answer
+        ensures text { result.text ≡ written.0 }
+        ensures found { is_found result.outcome ≡ written.1 }
+    {
+        let (text, found) = written;
+        Answer::new(text, Outcome::of(found))
     }
 }
 

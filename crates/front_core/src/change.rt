@@ -1,14 +1,15 @@
 //! Changes of one label.
-ghost use Rattle.std.specs.Prelude.{◌≡◌, ◌∷◌, [], MatchResult};
+ghost use Rattle.std.specs.Prelude.{◌≡◌, ◌∷◌, [], map, IfOk, MatchResult};
+ghost use Rattle.cell_core.specs.Label.{texts_of};
 ghost use Rattle.front_core.specs.Changes.{HasLabel, IsKey, RefusesKey, RefusesLabelText, not_utf8};
 
+use crate::ask::read_id;
 use crate::fault::FrontFault;
-use crate::id::read_id;
 use cata_core::Site;
 use cell_core::{Label, MessageId};
-use docs_core::{DocCause, DocFault};
+use docs_core::{Doc, DocCause, DocFault, edit_document};
 use lang_core::Lang;
-use std::alloc::Global;
+use std::alloc::{AllocError, Global};
 
 /// What an edit makes of the label of a message in a language.
 #[derive(Drop)]
@@ -22,9 +23,13 @@ pub struct Change {
 }
 
 impl Change {
-    ghost use Rattle.std.specs.Prelude.{◌≡◌, IfErr, MatchResult, OnErr, OnOk};
-    ghost use Rattle.front_core.specs.Changes.{IsChanged, IsDelete, IsPut, RefusesChange};
-    ghost use Rattle.front_core.specs.Changes.{RefusesKey, RefusesPut};
+    ghost use Rattle.std.specs.Prelude.{◌≡◌, map, IfErr, MatchResult, OnErr, OnOk};
+    ghost use Rattle.json_docs.specs.Checks.{OrMemory};
+    ghost use Rattle.row_docs.specs.Reading.{no_memory};
+    ghost use Rattle.docs_core.specs.Calls.{IsEdited, RefusesEditing};
+    ghost use Rattle.front_core.specs.Changes.{IsChanged, IsDelete, IsPut, IsPutOf};
+    ghost use Rattle.front_core.specs.Changes.{RefusesChange, RefusesKey, RefusesPut};
+    ghost use Rattle.front_core.specs.Changes.{RefusesPutOf};
 
     /// The change that puts a label of one text.
     ///
@@ -36,6 +41,29 @@ impl Change {
     {
         let key = read_key(alloc, id, lang)?;
         let label = read_label(alloc, text)?;
+        Ok(Change {
+            id: key.id,
+            lang: key.lang,
+            label: Some(label),
+        })
+    }
+
+    /// The change that puts a label of these texts.
+    ///
+    /// Refused are the id first (10), then the language (1 to 4), then the texts (11, 12). Out of
+    /// memory (26) may come before a later refusal.
+    pub fn put_texts(
+        alloc: Global,
+        id: &[u8],
+        lang: &[u8],
+        texts: &[&str],
+    ) -> Result<Change, FrontFault>
+        ensures { let words = map (λ s. s.now) texts.now in
+            MatchResult result (IsPutOf id.now lang.now words)
+            (RefusesPutOf id.now lang.now words) }
+    {
+        let key = read_key(alloc, id, lang)?;
+        let label = Label::from_texts(owned(alloc, texts)?)?;
         Ok(Change {
             id: key.id,
             lang: key.lang,
@@ -74,6 +102,19 @@ impl Change {
         };
         Ok(())
     }
+
+    /// The document of a site after the change at the time `now`: [`edit_document`].
+    ///
+    /// Refused as the document is by its reader, with document 1, then where the site has no next
+    /// stamp (14), and by 26.
+    pub fn make_in_document(&self, alloc: Global, site: &[u8], now: u64) -> Result<Doc, DocFault>
+        ensures { MatchResult result
+            (IsEdited site.now now (self.now.id, self.now.lang) self.now.label)
+            (OrMemory no_memory (RefusesEditing site.now now)) }
+    {
+        let Change { id, lang, label } = self;
+        edit_document(alloc, site, now, id, lang, label.as_ref())
+    }
 }
 
 /// A message and a language.
@@ -103,6 +144,17 @@ fn read_label(alloc: Global, text: &[u8]) -> Result<Label, FrontFault>
         Err(error) => return Err(not_utf8(error.valid_up_to())),
     };
     Ok(Label::from_texts(vec![in alloc; text]?)?)
+}
+
+/// The texts in memory of their own.
+fn owned(alloc: Global, texts: &[&str]) -> Result<Vec<String>, AllocError>
+    ensures { IfOk result (λ copies. texts_of copies.items ≡ map (λ s. s.now) texts.now) }
+{
+    let mut copies = Vec::with_capacity(alloc, texts.len())?;
+    for text in texts {
+        copies.push(String::from_str(alloc, text)?)?;
+    }
+    Ok(copies)
 }
 
 /// The refusal of a text whose first fault lies at this offset.

@@ -1,6 +1,7 @@
 //! Why a question or a command is refused.
 ghost use Rattle.std.specs.Prelude.{◌≡◌};
-ghost use Rattle.front_core.specs.Faults.{cause_offset, lang_offset, nego_offset, row_offset};
+ghost use Rattle.front_core.specs.Faults.{cause_count, cause_offset, cell_count, nego_offset};
+ghost use Rattle.front_core.specs.Faults.{row_offset};
 
 use cata_core::CataFault;
 use cell_core::CellFault;
@@ -32,7 +33,8 @@ pub enum FrontFault {
 }
 
 impl FrontFault {
-    ghost use Rattle.front_core.specs.Faults.{document_of, number_of, offset_of, row_of};
+    ghost use Rattle.front_core.specs.Faults.{count_of, document_of, number_of, offset_of};
+    ghost use Rattle.front_core.specs.Faults.{row_of};
 
     /// The number of the refusal.
     pub fn number(&self) -> u8
@@ -53,10 +55,22 @@ impl FrontFault {
         ensures { result ≡ offset_of self.now }
     {
         match self {
-            FrontFault::Language(fault) => lang_offset(*fault),
+            FrontFault::Language(fault) => fault.offset(),
             FrontFault::Field(fault) => nego_offset(*fault),
             FrontFault::Document(fault) => cause_offset(fault.cause),
             FrontFault::Cell(_) | FrontFault::NoMemory => None,
+        }
+    }
+
+    /// What the text of the refusal counts: of 11 the place of the text in its label, from 0; of 12
+    /// how many texts the label has; of 13 the place of the cell in the receiving site, from 0.
+    pub fn count(&self) -> Option<usize>
+        ensures { result ≡ count_of self.now }
+    {
+        match self {
+            FrontFault::Cell(fault) => cell_count(*fault),
+            FrontFault::Document(fault) => cause_count(fault.cause),
+            _ => None,
         }
     }
 
@@ -71,7 +85,7 @@ impl FrontFault {
     }
 
     /// The input document that is refused, counted from 1; 0 where none is named.
-    pub fn document(&self) -> u8
+    pub fn document(&self) -> usize
         ensures { result ≡ document_of self.now }
     {
         match self {
@@ -170,16 +184,6 @@ impl<T: Drop> From<AllocFailed<T>> for FrontFault {
     }
 }
 
-/// The offset of a fault of a tag or a range.
-fn lang_offset(fault: LangFault) -> Option<usize>
-    ensures { result ≡ lang_offset fault }
-{
-    match fault {
-        LangFault::TagSubtag { offset } | LangFault::RangeSubtag { offset } => Some(offset),
-        _ => None,
-    }
-}
-
 /// The offset of a fault of a field.
 fn nego_offset(fault: NegoFault) -> Option<usize>
     ensures { result ≡ nego_offset fault }
@@ -195,7 +199,7 @@ fn row_offset(fault: FieldFault) -> Option<usize>
     ensures { result ≡ row_offset fault }
 {
     match fault {
-        FieldFault::Language(fault) => lang_offset(fault),
+        FieldFault::Language(fault) => fault.offset(),
         FieldFault::Cell(_) => None,
         FieldFault::Priorities(fault) => nego_offset(fault),
     }
@@ -208,6 +212,31 @@ fn cause_offset(cause: DocCause) -> Option<usize>
     match cause {
         DocCause::NotUtf8 { offset } => Some(offset),
         DocCause::Field { fault, .. } => row_offset(fault),
+        _ => None,
+    }
+}
+
+/// The count of a fault of a cell.
+fn cell_count(fault: CellFault) -> Option<usize>
+    ensures { result ≡ cell_count fault }
+{
+    match fault {
+        CellFault::TextTooLong { index } => Some(index),
+        CellFault::LabelCount { count } => Some(count),
+        _ => None,
+    }
+}
+
+/// The count of a document's refusal.
+fn cause_count(cause: DocCause) -> Option<usize>
+    ensures { result ≡ cause_count cause }
+{
+    match cause {
+        DocCause::Field {
+            fault: FieldFault::Cell(fault),
+            ..
+        } => cell_count(fault),
+        DocCause::Site(CataFault::StampReused { place, .. }) => usize::try_from(place).ok(),
         _ => None,
     }
 }

@@ -1,9 +1,11 @@
 //! Laws about the definitions alone: each function's contract is the law.
-ghost use Rattle.std.specs.Prelude.{◌≡◌, ◌≢◌, ℕ, List, Option};
+ghost use Rattle.std.specs.Prelude.{◌≡◌, ◌≢◌, ℕ, List, Option, true};
+ghost use Rattle.std.specs.List.{list_all};
 ghost use Rattle.cata_core.specs.Site.{SiteState};
 ghost use Rattle.front_core.specs.Editing.{IsMerged, IsTaken, LeavesMerge, LeavesTake};
 ghost use Rattle.front_core.specs.Fields.{FieldText, Text};
 ghost use Rattle.front_core.specs.Picks.{IsPickLine, RefusesPick};
+ghost use Rattle.front_core.specs.Refusals.{are_lines, refusals};
 ghost use Rattle.front_core.specs.declared.fault.FrontFault.{FrontFault};
 ghost use Rattle.front_core.specs.declared.fault.FrontFault.TheVariants.{NoMemory};
 
@@ -28,4 +30,9 @@ pub fn a_join_can_be_repeated()
     ensures take { (bytes : Text) (limit : Option ℕ) (old new made : SiteState)
         → LeavesTake bytes limit old new → IsTaken bytes limit old made
         → IsTaken bytes limit new made }
+{}
+
+/// Each text of a refusal is one line; the printed text and the meaning have at most 255 bytes.
+pub fn each_refusal_is_of_lines()
+    ensures { list_all are_lines refusals ≡ true }
 {}

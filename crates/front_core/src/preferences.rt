@@ -1,15 +1,40 @@
-//! What a reader prefers.
+//! What a reader prefers: the ranges of a field, and a default where there is one.
 ghost use Rattle.std.specs.Prelude.{MatchResult, option_map};
+ghost use Rattle.front_core.specs.Fields.{ReadsAs, RefusesRanges, field_text};
 ghost use Rattle.front_core.specs.Preferences.{IsDefault, RefusesDefault};
 
-use crate::answer::{Answer, Outcome};
+use crate::answer::Answer;
+use crate::ask::{Question, SiteIn};
 use crate::fault::FrontFault;
-use crate::field::Field;
-use cata_core::Site;
-use docs_core::write_bundle_by;
+use docs_core::{bundle_document_by, write_bundle_by};
 use lang_core::{Lang, LangFault};
-use nego_core::{PriorityList, Widening};
-use std::alloc::{AllocError, Global};
+use nego_core::{Malformed, NegoFault, PriorityList, Scheme, Widening};
+use std::alloc::Global;
+
+/// The text of a field, how it is read, and what its ranges find.
+#[derive(Clone, Copy)]
+pub struct Field<'a> {
+    /// An Accept-Language field (RFC 9110, section 12.5.4), or extended ranges without weights
+    /// (RFC 4647, section 2.2).
+    pub scheme: Scheme,
+    /// What becomes of malformed elements.
+    pub malformed: Malformed,
+    /// Whether a lookup lets a range find the languages that it matches. A filter has no use for
+    /// it.
+    pub widening: Widening,
+    /// Its bytes.
+    pub text: &'a [u8],
+}
+
+impl Field<'_> {
+    /// The priority list of the field. Refused as [`PriorityList::parse`] refuses it: 8, 9, 26.
+    pub fn read(self, alloc: Global) -> Result<PriorityList, NegoFault>
+        ensures { MatchResult result (ReadsAs (field_text self.entry))
+            (RefusesRanges (field_text self.entry)) }
+    {
+        PriorityList::parse(alloc, self.scheme, self.malformed, self.text)
+    }
+}
 
 /// What a reader prefers: ranges, and a default for where none of them fits.
 #[derive(Drop)]
@@ -23,8 +48,6 @@ pub struct Preferences {
 }
 
 impl Preferences {
-    ghost use Rattle.std.specs.Prelude.{IfOk};
-    ghost use Rattle.front_core.specs.Questions.{AnswersBundle};
     ghost use Rattle.front_core.specs.Fields.{field_text};
     ghost use Rattle.front_core.specs.Preferences.{ArePreferences, RefusesPreferences};
 
@@ -49,21 +72,34 @@ impl Preferences {
             default,
         })
     }
+}
 
-    /// The language maps of the labels that the reader gets: of each message of the site the one
-    /// that its lookup finds (RFC 4647, section 3.4), or its widened lookup, matched or as the
-    /// default. A message for which nothing is found is left out; `{}` where none is left.
-    pub fn bundle(&self, alloc: Global, site: &Site) -> Result<Answer, AllocError>
-        ensures { IfOk result (AnswersBundle site.now.cells self.now) }
-    {
+/// The language maps of the labels that the reader gets: of each message of the site the one that
+/// its lookup finds (RFC 4647, section 3.4), or its widened lookup, matched or as the default. A
+/// message for which nothing is found is left out; `{}` where none is left.
+impl Question for Preferences {
+    ghost use Rattle.front_core.specs.Questions.{AnswersBundle};
+
+    ghost Answers = { λ asked site. AnswersBundle site.cells asked };
+
+    fn answer(&self, alloc: Global, site: SiteIn<'_>) -> Result<Answer, FrontFault> {
         let Preferences {
             list,
             widening,
             default,
         } = self;
-        let cells = site.catalogue();
-        let (text, found) = write_bundle_by(alloc, cells, list, *widening, default.as_ref())?;
-        Ok(Answer::new(text, Outcome::of(found)))
+        let default = default.as_ref();
+        match site {
+            SiteIn::Document(bytes) => {
+                let found = bundle_document_by(alloc, bytes, list, *widening, default)?;
+                Ok(Answer::of(found))
+            }
+            SiteIn::Open(site) => {
+                let cells = site.catalogue();
+                let found = write_bundle_by(alloc, cells, list, *widening, default)?;
+                Ok(Answer::of(found))
+            }
+        }
     }
 }
 

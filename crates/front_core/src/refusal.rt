@@ -1,57 +1,74 @@
 //! The table of refusals: what each number means, what causes it, and what to do.
-ghost use Rattle.std.specs.Prelude.{◌↔◌, ◌≤◌, IsSome};
-ghost use Rattle.front_core.specs.Refusals.{IsRefusalNumber};
+ghost use Rattle.std.specs.Prelude.{◌≡◌, ◌↔◌, ◌≤◌, IsSome, Some, option_map};
+ghost use Rattle.front_core.specs.Refusals.{IsRefusalNumber, refusal_of, refusal_texts};
 
 use lang_core::LangFault;
 
-/// A refusal, explained, each text without an end mark. `docs/REFUSALS.md` has the same texts.
+/// A refusal, explained, each text a line without an end mark. Words in capitals are values of the
+/// refusal. `docs/REFUSALS.md` has the same texts.
 #[derive(Clone, Copy)]
 pub struct Refusal {
+    /// What the command prints after `refused N: `, but of 13 without the stamp, and of 15 without
+    /// the site.
+    pub text: &'static str,
     /// What is wanted.
     pub meaning: &'static str,
-    /// What there is instead, and where it mostly comes from. Words in capitals are values of the
-    /// refusal.
+    /// What there is instead, and where it mostly comes from.
     pub cause: &'static str,
     /// What to do.
     pub remedy: &'static str,
 }
 
-/// The refusal of a number, from 1 to 29; other numbers have none. Its texts are tested, and no
-/// clause says them.
+/// The refusal of a number, from 1 to 29; other numbers have none.
 ///
 /// ```text
 /// explain(27)?.meaning  "a site name has 1 to 16 bytes of a to z, 0 to 9 and -"
 /// explain(30)           None
 /// ```
 pub fn explain(number: u8) -> Option<Refusal>
-    ensures { IsSome result ↔ IsRefusalNumber number }
+    ensures number { IsSome result ↔ IsRefusalNumber number }
+    ensures texts { option_map refusal_texts result ≡ refusal_of number }
 {
     match number {
-        1..=7 => Some(of_tag_or_range(number)),
-        8..=12 => Some(of_field_or_label(number)),
-        13..=17 => Some(of_exchange(number)),
-        18..=22 => Some(of_document(number)),
-        23..=29 => Some(of_run_or_name(number)),
+        1..=29 => Some(refusal_at(number)),
         _ => None,
+    }
+}
+
+/// The refusal of a number that has one.
+fn refusal_at(number: u8) -> Refusal
+    requires { (1 ≤ number) × (number ≤ 29) }
+    ensures { Some (refusal_texts result) ≡ refusal_of number }
+{
+    match number {
+        1..=7 => of_tag_or_range(number),
+        8..=12 => of_field_or_label(number),
+        13..=17 => of_exchange(number),
+        18..=22 => of_document(number),
+        _ => of_run_or_name(number),
     }
 }
 
 /// Of a tag or a range.
 fn of_tag_or_range(number: u8) -> Refusal
     requires { (1 ≤ number) × (number ≤ 7) }
+    ensures { Some (refusal_texts result) ≡ refusal_of number }
 {
     match number {
         1 => Refusal {
+            text: "tag is empty",
             meaning: LangFault::TagEmpty.meaning(),
             cause: "the tag is empty",
             remedy: "write a tag, or @none where a language may be none",
         },
         2 => Refusal {
+            text: "tag is over 255 bytes",
             meaning: LangFault::TagTooLong.meaning(),
             cause: "the tag is longer, which is our limit",
             remedy: "shorten it; no real tag is this long",
         },
         3 => Refusal {
+            text: "subtag at OFFSET",
             meaning: LangFault::TagSubtag { offset: 0 }.meaning(),
             cause: "the subtag that begins at OFFSET is empty, longer, or has another byte: mostly \
                 an underscore (fr_CA), a blank, a doubled or a last hyphen",
@@ -59,21 +76,25 @@ fn of_tag_or_range(number: u8) -> Refusal
                 belongs",
         },
         4 => Refusal {
+            text: "tag is not well-formed",
             meaning: LangFault::TagNotWellFormed.meaning(),
             cause: "each subtag is one, but their order is not that of RFC 5646 section 2.1",
             remedy: "put them in that order",
         },
         5 => Refusal {
+            text: "range is empty",
             meaning: LangFault::RangeEmpty.meaning(),
             cause: "the range is empty",
             remedy: "write a range; * is any language",
         },
         6 => Refusal {
+            text: "range is over 255 bytes",
             meaning: LangFault::RangeTooLong.meaning(),
             cause: "the range is longer, which is our limit",
             remedy: "shorten it; no real range is this long",
         },
         7 => Refusal {
+            text: "range subtag at OFFSET",
             meaning: LangFault::RangeSubtag { offset: 0 }.meaning(),
             cause: "the subtag that begins at OFFSET may not be at its place",
             remedy: "look there; extended ranges take * at any place",
@@ -85,15 +106,18 @@ fn of_tag_or_range(number: u8) -> Refusal
 /// Of a field, an id or a label.
 fn of_field_or_label(number: u8) -> Refusal
     requires { (8 ≤ number) × (number ≤ 12) }
+    ensures { Some (refusal_texts result) ≡ refusal_of number }
 {
     match number {
         8 => Refusal {
+            text: "field is over 65535 bytes",
             meaning: "a field has at most 65535 bytes",
             cause: "an Accept-Language field or a list of ranges is longer, which is our limit; no \
                 browser sends one this long",
             remedy: "refuse the request, or go on as with the field *",
         },
         9 => Refusal {
+            text: "field element at OFFSET",
             meaning: "each element of a field is a range, with or without a weight (RFC 9110 \
                 sections 12.4.2 and 12.5.4)",
             cause: "the element that begins at OFFSET is none: mostly a weight over 1, with four \
@@ -102,17 +126,20 @@ fn of_field_or_label(number: u8) -> Refusal
                 malformed with --lenient",
         },
         10 => Refusal {
+            text: "message id",
             meaning: "a message id has 1 to 128 bytes, no control character, and no @ first",
             cause: "the id is empty, longer, not UTF-8, or has such a character; often a whole \
                 text is used as an id",
             remedy: "name the message otherwise",
         },
         11 => Refusal {
+            text: "text INDEX is over 65535 bytes",
             meaning: "each text of a label has at most 65535 bytes",
             cause: "the text INDEX is longer, which is our limit",
             remedy: "cut the text in two",
         },
         12 => Refusal {
+            text: "label has COUNT texts",
             meaning: "a label has 1 to 64 texts",
             cause: "it has COUNT",
             remedy: "put at most 64; a message without text is deleted, not put",
@@ -124,9 +151,11 @@ fn of_field_or_label(number: u8) -> Refusal
 /// Of an edit or an exchange.
 fn of_exchange(number: u8) -> Refusal
     requires { (13 ≤ number) × (number ≤ 17) }
+    ensures { Some (refusal_texts result) ≡ refusal_of number }
 {
     match number {
         13 => Refusal {
+            text: "one stamp is used for two different edits, cell PLACE",
             meaning: "two different edits of a message in a language have two stamps",
             cause: "two have one, first at PLACE, counted in the cells of the receiving site: two \
                 sites have one name, or a site was put back to an older copy",
@@ -134,22 +163,26 @@ fn of_exchange(number: u8) -> Refusal
                 clash; let a site that was put back send its summary anew",
         },
         14 => Refusal {
+            text: "clock is spent",
             meaning: "an edit has a stamp later than all that its site has",
             cause: "no later stamp is left: a time far ahead was merged",
             remedy: "drop the cells of that time from all sites at once, as docs/RECIPES.md says \
                 under A time far ahead",
         },
         15 => Refusal {
+            text: "delta is for another site",
             meaning: "a delta is taken by the site that it was made for",
             cause: "it was made for the site ADDRESSEE",
             remedy: "bring it to that site",
         },
         16 => Refusal {
+            text: "step STEP names no site",
             meaning: "a step of a script names a site of the script",
             cause: "step STEP names a site that is not there",
             remedy: "count sites from 0",
         },
         17 => Refusal {
+            text: "step STEP names no post",
             meaning: "a step of a script names what an earlier step sent or posted",
             cause: "step STEP names a summary that was not sent before it, or a post that was not \
                 made before it",
@@ -162,14 +195,17 @@ fn of_exchange(number: u8) -> Refusal
 /// Of a document.
 fn of_document(number: u8) -> Refusal
     requires { (18 ≤ number) × (number ≤ 22) }
+    ensures { Some (refusal_texts result) ≡ refusal_of number }
 {
     match number {
         18 => Refusal {
+            text: "not UTF-8 at OFFSET",
             meaning: "a document is UTF-8 (RFC 3629)",
             cause: "the bytes from OFFSET on are not, which counts from the document's first byte",
             remedy: "look there, or convert the file (iconv -f LATIN1 -t UTF-8, -f UTF-16)",
         },
         19 => Refusal {
+            text: "not JSON",
             meaning: "a document is one JSON text (RFC 8259) of at most 127 levels, without a \
                 number too large for a float",
             cause: "mostly a document that was forgotten or cut, two documents where one is read, \
@@ -178,6 +214,7 @@ fn of_document(number: u8) -> Refusal
                 where the command reads it",
         },
         20 => Refusal {
+            text: "shape",
             meaning: "a document and its rows have the form of the kind that is read",
             cause: "mostly language maps where a site is read; or a missing or further member, a \
                 number where a string belongs, a fraction",
@@ -185,11 +222,13 @@ fn of_document(number: u8) -> Refusal
                 maps have none), then compare it with docs/FORMATS.md",
         },
         21 => Refusal {
+            text: "cell order",
             meaning: "rows ascend by id and then by language, in byte order",
             cause: "the key of the row does not come after that of the row before",
             remedy: "sort the rows, and keep one of each key",
         },
         22 => Refusal {
+            text: "language repeated",
             meaning: "the languages of a message differ, without regard to case",
             cause: "two keys of one language map are equal without case",
             remedy: "keep one of them",
@@ -201,43 +240,51 @@ fn of_document(number: u8) -> Refusal
 /// Of input, output or memory; of the name of a site, a version or a time.
 fn of_run_or_name(number: u8) -> Refusal
     requires { (23 ≤ number) × (number ≤ 29) }
+    ensures { Some (refusal_texts result) ≡ refusal_of number }
 {
     match number {
         23 => Refusal {
+            text: "document is over 67108864 bytes",
             meaning: "a command reads at most 67108864 bytes, all its documents together",
             cause: "the input is longer, which is our limit",
             remedy: "split language maps; where sync of two sites is refused, exchange deltas; \
                 keep a large site in parts (docs/SCALING.md)",
         },
         24 => Refusal {
+            text: "read fault",
             meaning: "the input is read to its end",
             cause: "it gave an error: it is a folder or closed, a disk or network fails, or it is \
                 a non-blocking pipe with nothing in it yet",
             remedy: "cat < FILE says why",
         },
         25 => Refusal {
+            text: "write fault",
             meaning: "the output takes all that is written",
             cause: "it gave an error or took no byte: the disk is full, the reader went away, or \
                 it is a non-blocking pipe that is full; a first part of the text may be written",
             remedy: "cat FILE > OUT says why",
         },
         26 => Refusal {
+            text: "out of memory",
             meaning: "there is memory for what is asked",
             cause: "an allocation was refused",
             remedy: "try again with more memory, or a higher ulimit -v; nothing was lost",
         },
         27 => Refusal {
+            text: "site name",
             meaning: "a site name has 1 to 16 bytes of a to z, 0 to 9 and -",
             cause: "the name is empty, longer, or has another byte, as a capital, a dot or an \
                 underscore",
             remedy: "name the site otherwise",
         },
         28 => Refusal {
+            text: "version unknown",
             meaning: "the version of a document is 1 or 2",
             cause: "the document is of the right kind, and of a later program",
             remedy: "use that program",
         },
         29 => Refusal {
+            text: "time is ahead",
             meaning: "no row has a time after the limit",
             cause: "the time of row R is after that of --not-after: a clock that runs ahead, or a \
                 time that somebody made",

@@ -3,16 +3,15 @@ ghost use Rattle.std.specs.Prelude.{◌≡◌, ◌<◌, ◌++◌, ◌∷◌, [],
 ghost use Rattle.std.specs.Prelude.{IfOk, MatchResult};
 ghost use Rattle.query_docs.specs.Lines.{line};
 ghost use Rattle.front_core.specs.Fields.{field_text};
-ghost use Rattle.front_core.specs.Lines.{lines_of};
+ghost use Rattle.docs_core.specs.Lines.{lines_of};
 ghost use Rattle.front_core.specs.TagFilters.{HaveNames, IsTagFilter, RefusesTagFilter};
 ghost use Rattle.front_core.specs.TagFilters.{ShowsTaken, texts_of};
 
 use crate::answer::{Answer, Outcome};
 use crate::fault::FrontFault;
-use crate::field::Field;
-use crate::lines::Lines;
+use crate::preferences::Field;
 use crate::tags::read_lines;
-use docs_core::Doc;
+use docs_core::{Doc, Lines};
 use itoa::Buffer;
 use nego_core::{Picks, filter};
 use std::alloc::{AllocError, Global};

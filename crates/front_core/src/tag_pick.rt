@@ -1,14 +1,13 @@
 //! Picking one of several tags, one on a line.
 ghost use Rattle.std.specs.Prelude.{◌≡◌, ◌<◌, length, option_map, slice_get, MatchResult, Some};
 ghost use Rattle.front_core.specs.Fields.{field_text};
-ghost use Rattle.front_core.specs.Lines.{lines_of};
+ghost use Rattle.docs_core.specs.Lines.{lines_of};
 ghost use Rattle.front_core.specs.Picks.{HasPlace, IsPickedTag, IsTagAt, RefusesPick};
 
 use crate::fault::FrontFault;
-use crate::field::Field;
-use crate::lines::Lines;
-use crate::preferences::Preferences;
+use crate::preferences::{Field, Preferences};
 use crate::tags::read_lines;
+use docs_core::Lines;
 use nego_core::{Found, lookup_by};
 use std::alloc::Global;
 

@@ -1,9 +1,9 @@
 //! The languages that tags spell.
 ghost use Rattle.std.specs.Prelude.{map, MatchResult};
-ghost use Rattle.front_core.specs.Lines.{lines_of};
+ghost use Rattle.docs_core.specs.Lines.{lines_of};
 ghost use Rattle.front_core.specs.Tags.{RefusesTags, SpellLangs};
 
-use crate::lines::Lines;
+use docs_core::Lines;
 use lang_core::{Lang, LangFault};
 use std::alloc::Global;
 use std::convert::AsStr;

@@ -7,8 +7,7 @@ ghost use Rattle.front_core.specs.TagFilters.{IsLangFilter, RefusesTagFilter, te
 
 use crate::answer::{Answer, Outcome};
 use crate::fault::FrontFault;
-use crate::field::Field;
-use crate::preferences::Preferences;
+use crate::preferences::{Field, Preferences};
 use crate::tag_filter::taken;
 use crate::tags::read_words;
 use docs_core::Doc;

@@ -176,7 +176,7 @@ impl<T: Drop> From<AllocFailed<T>> for DocCause {
 #[error("refused {number}: {cause}{row}{document}", number = .cause.number(), row = InRow(.cause.row()), document = OfDocument(*.document))]
 pub struct DocFault {
     /// The input document, from 1; 0 means none.
-    pub document: u8,
+    pub document: usize,
     /// Why it is refused.
     pub cause: DocCause,
 }
@@ -192,7 +192,7 @@ impl DocFault {
     }
 
     /// The refusal of this input document by its reader; out of memory names none.
-    pub fn of_document(document: u8, cause: DocCause) -> DocFault
+    pub fn of_document(document: usize, cause: DocCause) -> DocFault
         ensures { result ≡ of_document document cause }
     {
         match cause {
@@ -276,7 +276,7 @@ impl fmt::Display for InRow {
 
 /// The end of a refusal's line: the input document, where it names one.
 #[derive(Clone, Copy)]
-struct OfDocument(u8);
+struct OfDocument(usize);
 
 impl fmt::Display for OfDocument {
     fn fmt<W: fmt::Write>(&self, f: &mut fmt::Formatter<W>) -> fmt::Result {

@@ -37,7 +37,11 @@ pub fn read_langmaps(alloc: Global, bytes: &[u8]) -> Result<LangMaps, DocFault>
 }
 
 /// The labels of the input document with this number.
-pub fn langmaps_of_document(alloc: Global, document: u8, bytes: &[u8]) -> Result<LangMaps, DocFault>
+pub fn langmaps_of_document(
+    alloc: Global,
+    document: usize,
+    bytes: &[u8],
+) -> Result<LangMaps, DocFault>
     ensures { MatchResult result (AreLangMaps bytes.now)
         (OrMemory no_memory (IsOfDocument document (RefusesLangMaps bytes.now))) }
 {
@@ -54,7 +58,7 @@ pub fn langmaps_of_document(alloc: Global, document: u8, bytes: &[u8]) -> Result
 /// Refused as [`read_langmaps`] is, with this document.
 pub fn take_langmaps<T: TakeLabels>(
     alloc: Global,
-    document: u8,
+    document: usize,
     bytes: &[u8],
     taker: &mut T,
 ) -> Result<Option<LangMaps>, DocFault>

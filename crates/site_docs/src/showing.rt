@@ -21,7 +21,7 @@ use std::alloc::{AllocError, Global};
 /// Refused as the document is by its reader, with its number, or since memory ran out (26).
 pub fn show_document<'t, S: CellSink<'t>>(
     alloc: Global,
-    document: u8,
+    document: usize,
     bytes: &'t [u8],
     start: &S,
 ) -> Result<(SiteName, S), DocFault>
@@ -69,7 +69,7 @@ pub fn show_catalogue<'t, S: CellSink<'t>>(
 /// cells are read into a catalogue first.
 fn show_in_any_form<'t, S: CellSink<'t>>(
     alloc: Global,
-    document: u8,
+    document: usize,
     bytes: &[u8],
     start: &S,
 ) -> Result<(SiteName, S), DocFault>

@@ -9,10 +9,12 @@ FIRST_ROOM = 1024
 
 FOUND, NOTHING, USAGE, REFUSED, NO_MEMORY = 0, 1, 2, 3, 5
 EXTENDED, LENIENT, WIDEN = 1, 2, 4
+# What a refusal has, in `Told.given`.
+HAS_OFFSET, HAS_ROW, HAS_COUNT, OF_SECOND = 1, 2, 4, 8
 
 
 class Told(ctypes.Structure):
-    """What a call tells beside its status."""
+    """What a call reports beside its status."""
 
     _fields_ = [
         ("len", c_size_t),
@@ -20,6 +22,7 @@ class Told(ctypes.Structure):
         ("row", c_size_t),
         ("count", c_size_t),
         ("number", c_uint32),
+        ("given", c_uint32),
     ]
 
 
@@ -50,6 +53,7 @@ _CALLS = {
     "sw_pick": (c_int32, [c_uint32, *_TEXT * 3, *_OUT]),
     "sw_filter": (c_int32, [c_uint32, *_TEXT * 2, *_OUT]),
     "sw_refusal": (c_int32, [c_uint32, *_OUT]),
+    "sw_refusal_text": (c_int32, [c_uint32, *_OUT]),
     "sw_site_open": (c_int32, [*_TEXT, *_SITE, *_TOLD]),
     "sw_site_new": (c_int32, [*_TEXT, *_SITE, *_TOLD]),
     "sw_site_lookup": (c_int32, [*_SITE, c_uint32, *_TEXT * 3, *_OUT]),

@@ -1,61 +1,55 @@
 """Refusals: docs/REFUSALS.md has each with its cause and what to do."""
+import ctypes
+import functools
+import re
 from typing import Any, Optional, Tuple
 
-from ._library import NO_MEMORY, REFUSED, Answer
+from ._library import (
+    FOUND,
+    HAS_COUNT,
+    HAS_OFFSET,
+    HAS_ROW,
+    NO_MEMORY,
+    OF_SECOND,
+    REFUSED,
+    Answer,
+    Told,
+    answered,
+    library,
+)
 
-# Written by scripts/refusal-tables, from docs/REFUSALS.md.
-TEXTS = {
-    1: "tag is empty",
-    2: "tag is over 255 bytes",
-    3: "subtag at OFFSET",
-    4: "tag is not well-formed",
-    8: "field is over 65535 bytes",
-    9: "field element at OFFSET",
-    10: "message id",
-    11: "a text of a label is over 65535 bytes",
-    12: "a label has no or too many texts",
-    13: "one stamp is used for two different edits",
-    14: "clock is spent",
-    15: "the delta is for another site",
-    18: "not UTF-8 at OFFSET",
-    19: "not JSON",
-    20: "shape",
-    21: "cell order",
-    22: "language repeated",
-    26: "out of memory",
-    27: "site name",
-    28: "version unknown",
-    29: "time is ahead",
-}
-WANTED = {
-    3: "each subtag is 1 to 8 letters or digits, with a hyphen between two",
-    4: "a language comes first, then script, region, variants, extensions, private use",
-    9: "each element of a field is a range, with or without a weight",
-    10: "a message id has 1 to 128 bytes, no control character, and no @ first",
-    12: "a label has 1 to 64 texts",
-    21: "rows ascend by id and then by language, in byte order",
-    27: "a site name has 1 to 16 bytes of a to z, 0 to 9 and -",
-    28: "the version of a document is 1 or 2",
-}
-WITH_OFFSET = (3, 9, 18)
-IN_ROWS = (1, 2, 3, 4, 10, 11, 12, 20, 21, 22, 27, 29)
-OF_WHOLE_TOO = (20, 27)
-# The end of what scripts/refusal-tables writes.
+# What a call that reads a document says of these by the kind of document that it wants.
 NOT_JSON = 19
 SHAPE = 20
 
 
-def _text(number: int, offset: Optional[int]) -> str:
-    return TEXTS.get(number, "unknown").replace("OFFSET", str(offset))
+@functools.lru_cache(maxsize=None)
+def _said(name: str, number: int) -> str:
+    """What a call of the library says of the number of a refusal; empty where it is none."""
+
+    def asked(out: "ctypes.Array[ctypes.c_char]", room: int, told: Told) -> int:
+        status: int = getattr(library, name)(number, out, room, told)
+        return status
+
+    answer = answered(asked)
+    return answer.text.decode() if answer.status == FOUND else ""
+
+
+def _text(number: int, offset: Optional[int], count: Optional[int]) -> str:
+    text = _said("sw_refusal_text", number) or "unknown"
+    if offset is not None:
+        text = text.replace("OFFSET", str(offset))
+    return text if count is None else re.sub("INDEX|COUNT|PLACE", str(count), text)
 
 
 class Refused(ValueError):
     """An argument is refused, by `number`.
 
-    `offset` is the place in the refused text, in bytes from 0 (of 3, 9 and 18, else None). `row` is
-    the row of a document, from 0, where a document was read and its refusal is of a row (else
-    None). 20 and 27 may concern the document itself, so of these row 0 is None too. `wanted` says
-    what was wanted, where the text does not, or is empty.
+    `offset` is the place in the refused text, in bytes from 0, and `row` the row of a document,
+    from 0. `count` is of 11 the place of the text in its label, of 12 how many texts the label has,
+    of 13 the place of the cell in the receiving site. They are None where the refusal has none.
+    `of_second` says that it is of the second of two documents, as the new maps of `Site.update`.
+    `wanted` says what was wanted.
     """
 
     def __init__(
@@ -64,15 +58,20 @@ class Refused(ValueError):
         offset: Optional[int] = None,
         row: Optional[int] = None,
         wanted: str = "",
+        count: Optional[int] = None,
+        of_second: bool = False,
     ) -> None:
-        self.number, self.offset, self.row = number, offset, row
-        self.wanted = wanted or WANTED.get(number, "")
+        self.number, self.offset, self.row, self.count = number, offset, row, count
+        self.of_second = of_second
+        self.wanted = wanted or _said("sw_refusal", number)
         of = "" if row is None else f" in row {row}"
+        document = " of the second document" if of_second else ""
         hint = f" ({self.wanted})" if self.wanted else ""
-        super().__init__(f"refused {number}: {_text(number, offset)}{of}{hint}")
+        super().__init__(f"refused {number}: {_text(number, offset, count)}{of}{document}{hint}")
 
     def __reduce__(self) -> Tuple[Any, ...]:
-        return type(self), (self.number, self.offset, self.row, self.wanted)
+        given = (self.number, self.offset, self.row, self.wanted, self.count, self.of_second)
+        return type(self), given
 
 
 def _wanted(document: str) -> str:
@@ -84,15 +83,16 @@ def checked(answer: Answer, document: str = "") -> Answer:
 
     `document` is the kind of document that the call read, if it read one.
     """
-    number, row = answer.told.number, answer.told.row
+    told = answer.told
     if answer.status == NO_MEMORY:
         raise MemoryError("out of memory")
     if answer.status == REFUSED:
-        is_of_row = document and number in IN_ROWS and not (row == 0 and number in OF_WHOLE_TOO)
         raise Refused(
-            number,
-            answer.told.offset if number in WITH_OFFSET else None,
-            row if is_of_row else None,
-            _wanted(document) if number == SHAPE else "",
+            told.number,
+            told.offset if told.given & HAS_OFFSET else None,
+            told.row if told.given & HAS_ROW else None,
+            _wanted(document) if told.number == SHAPE and document else "",
+            told.count if told.given & HAS_COUNT else None,
+            bool(told.given & OF_SECOND),
         )
     return answer

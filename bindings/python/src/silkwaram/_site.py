@@ -262,7 +262,7 @@ class Site:
         A label that `new` has, and `old` has not or has otherwise, is put; one that only `old` has
         is deleted. All else stays, so what others have edited since is not overridden.
 
-        Refused: as by `import_maps`, the old ones before the new ones.
+        Refused: as by `import_maps`, the old ones before the new ones (`of_second`).
         """
         texts = words(old=_json_text(old), new=_json_text(new))
         self._edit(library.sw_site_update, moment(now), *texts, document=LANGUAGE_MAPS)

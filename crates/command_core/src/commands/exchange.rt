@@ -1,9 +1,9 @@
 //! The commands by which sites exchange their cells, `replay`, which runs a script of them, and
-//! `explain`, which says what a refusal means.
+//! `explain`, which says what a refusal means; last `merge`, the exchange of many sites at once.
 ghost use Rattle.std.specs.Prelude.{◌≡◌, IfOk};
 ghost use Rattle.clap.specs.Words.{app_of};
-ghost use Rattle.command_core.specs.Words.{IsCommand, exchange_app, explain_app, sync_app};
-ghost use Rattle.command_core.specs.Words.{take_app};
+ghost use Rattle.command_core.specs.Words.{IsCommand, exchange_app, explain_app, merge_app};
+ghost use Rattle.command_core.specs.Words.{sync_app, take_app};
 
 use crate::arguments::{self, described, reading, with_command};
 use clap::Command;
@@ -49,7 +49,8 @@ pub(crate) fn with_exchange<'a>(
             replay",
     );
     let program = with_command(program, Ok(replay));
-    with_command(program, explain(alloc, numbers))
+    let program = with_command(program, explain(alloc, numbers));
+    with_command(program, merge(alloc))
 }
 
 /// `take [--not-after N]`
@@ -98,4 +99,23 @@ fn explain<'a>(alloc: Global, numbers: &'a [&'a str]) -> Result<Command<'a>, All
             Example: lexicat explain 21",
     )
     .arg(arguments::number(alloc, numbers))
+}
+
+/// `merge [--not-after N]`
+fn merge<'a>(alloc: Global) -> Result<Command<'a>, AllocError>
+    ensures { IfOk result (IsCommand merge_app) }
+{
+    reading(
+        alloc,
+        "merge",
+        "cat SITE OTHER.. | lexicat merge [OPTIONS]",
+        "Merges any number of sites into the first of them",
+        "Reads one site document or more, each on one line, and prints the first after it took the \
+            cells of all others in their order. With --not-after a later time in another than the \
+            first refuses the whole.\n\
+            Document 1 is the first line of the input, document 2 the second, and so on; a LF at \
+            the end begins no further one.\n\
+            Example: cat three.json both.json | lexicat merge > merged.json",
+    )
+    .arg(arguments::not_after(alloc))
 }

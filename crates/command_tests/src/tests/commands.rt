@@ -46,6 +46,8 @@ const DOCUMENTS: &str =
 3|take --not-after 4|{"cells":[],"kind":"site","site":"b","version":2} / {"cells":[["m","en",5,"a",0,["a"]]],"kind":"delta","to":"b","version":2}|refused 29: time is ahead in row 0 of document 2
 0|sync|{"cells":[["m","en",5,"a",0,["a"]]],"kind":"site","site":"a","version":2} / {"cells":[],"kind":"site","site":"b","version":2}|{"cells":[["m","en",5,"a",0,["a"]]],"kind":"site","site":"a","version":2} / {"cells":[["m","en",5,"a",0,["a"]]],"kind":"site","site":"b","version":2}
 3|sync|{"cells":[["m","en",5,"a",0,["a"]]],"kind":"site","site":"a","version":2}|refused 19: not JSON of document 2
+0|merge|{"cells":[],"kind":"site","site":"b","version":2} / {"cells":[["m","en",5,"a",0,["a"]]],"kind":"site","site":"a","version":2}|{"cells":[["m","en",5,"a",0,["a"]]],"kind":"site","site":"b","version":2}
+3|merge --not-after 4|{"cells":[],"kind":"site","site":"b","version":2} / {"cells":[["m","en",5,"a",0,["a"]]],"kind":"site","site":"a","version":2}|refused 29: time is ahead in row 0 of document 2
 3|status|{"cells":[["m","en",5,"A",0,["a"]]],"kind":"site","site":"a","version":2}|refused 27: site name in row 0 of document 1
 4|replay|-|refused 24: read fault"#;
 

@@ -1,9 +1,10 @@
 //! Labels put into a site.
-ghost use Rattle.std.specs.Prelude.{◌≡◌, ℕ, List, IfErr, MatchResult, OnOk};
+ghost use Rattle.std.specs.Prelude.{◌≡◌, ◌++◌, ℕ, List, IfErr, MatchResult, OnErr, OnOk};
 ghost use Rattle.cata_core.specs.declared.cata_fault.CataFault.TheVariants.{ClockSpent, NoMemory};
 ghost use Rattle.json_docs.specs.Checks.{OrMemory};
 ghost use Rattle.row_docs.specs.Reading.{no_memory};
 ghost use Rattle.map_docs.specs.LangMapLabels.{AreLangMaps};
+ghost use Rattle.map_docs.specs.LangMaps.{Labelled};
 ghost use Rattle.docs_core.specs.Exchange.{IsImported, RefusesImport};
 ghost use Rattle.docs_core.specs.Imported.{Imports, IsPut, SpendsImport};
 
@@ -50,7 +51,7 @@ pub fn import_document(
 /// greatest that it then has. A label that the site has already is put again.
 ///
 /// Refused by `ClockSpent` (14) where there is no next stamp for a label, and by `NoMemory` (26);
-/// the site may then have some of the labels.
+/// the labels before that one are then put, and no other cell is changed.
 pub fn put_labels(
     alloc: Global,
     site: &mut Site,
@@ -61,6 +62,8 @@ pub fn put_labels(
     ensures ok { OnOk result (Imports now site.old.name maps.now site.old.cells site.new.cells) }
     ensures err { IfErr result (OrMemory NoMemory (λ fault. (fault ≡ ClockSpent)
         × SpendsImport now site.old.name maps.now site.old.cells)) }
+    ensures left { OnErr result ((some more : List Labelled) × (maps.now ≡ some ++ more)
+        × Imports now site.old.name some site.old.cells site.new.cells) }
 {
     for found in maps.labels() {
         match site.put(alloc, now, &found.id, &found.lang, &found.label) {

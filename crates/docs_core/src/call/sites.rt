@@ -1,5 +1,5 @@
 //! Calls on whole documents, from bytes to bytes.
-ghost use Rattle.std.specs.Prelude.{◌≡◌, option_map, IfErr, IfOk, MatchResult};
+ghost use Rattle.std.specs.Prelude.{◌≡◌, option_map, IfErr, IfOk, MatchResult, OnErr};
 ghost use Rattle.std.specs.FinMap.Entries.{put};
 ghost use Rattle.cell_core.specs.Stamp.{IsNext};
 ghost use Rattle.cata_core.specs.Entries.{key_cmp};
@@ -62,6 +62,7 @@ pub(crate) fn edit(
               site.old.cells;
         })) }
     ensures err { IfErr result (RefusesEdit site.old now) }
+    ensures left { OnErr result (site.new ≡ site.old) }
 {
     match label {
         Some(label) => site.put(alloc, now, id, lang, label),

@@ -79,8 +79,9 @@ pub fn read_delta_until(
     delta_until(alloc, 1, bytes, not_after)
 }
 
-/// The first row whose time is greater than `not_after`, counted from 0 in rising order of key;
-/// none where no time is. The rows of a document are counted so.
+/// Of fewer than 2^64 cells ([`Catalogue::len`]) the first row whose time is greater than
+/// `not_after`, counted from 0 in rising order of key; none where no time is. The rows of a
+/// document are counted so.
 pub fn first_row_ahead(cells: &Catalogue, not_after: u64) -> Option<usize>
     ensures { length cells.now < 2 ^ 64
         → MatchOption result (AreInTime (Some not_after) cells.now)
@@ -99,7 +100,7 @@ pub fn first_row_ahead(cells: &Catalogue, not_after: u64) -> Option<usize>
 /// The delta of the input document with this number, where its times are in the limit.
 fn delta_until(
     alloc: Global,
-    document: u8,
+    document: usize,
     bytes: &[u8],
     not_after: Option<u64>,
 ) -> Result<Delta, DocFault>
@@ -112,7 +113,11 @@ fn delta_until(
 }
 
 /// Whether the times of the document's cells are in the limit, where there is one.
-fn check_times(document: u8, cells: &Catalogue, not_after: Option<u64>) -> Result<(), DocFault>
+pub(crate) fn check_times(
+    document: usize,
+    cells: &Catalogue,
+    not_after: Option<u64>,
+) -> Result<(), DocFault>
     requires { length cells.now < 2 ^ 64 }
     ensures ok { OnOk result (AreInTime not_after cells.now) }
     ensures err { IfErr result (IsTimeAhead document not_after cells.now) }

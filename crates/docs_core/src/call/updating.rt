@@ -1,6 +1,6 @@
 //! What an editor changed in language maps, applied to a site.
-ghost use Rattle.std.specs.Prelude.{◌≡◌, ◌+◌, ◌<◌, [], IfErr, IfSome, MatchOption, MatchResult};
-ghost use Rattle.std.specs.Prelude.{None, OnOk, Some, length, option_map};
+ghost use Rattle.std.specs.Prelude.{◌≡◌, ◌+◌, ◌++◌, ◌<◌, [], IfErr, IfSome, List, MatchOption};
+ghost use Rattle.std.specs.Prelude.{MatchResult, None, OnErr, OnOk, Some, length, option_map};
 ghost use Rattle.std.specs.Bool.{Decides};
 ghost use Rattle.cell_core.specs.Keyed.{IsMap};
 ghost use Rattle.cata_core.specs.Entries.{key_cmp};
@@ -8,9 +8,11 @@ ghost use Rattle.cata_core.specs.declared.cata_fault.CataFault.TheVariants.{Cloc
 ghost use Rattle.json_docs.specs.Checks.{OrMemory};
 ghost use Rattle.row_docs.specs.Reading.{no_memory};
 ghost use Rattle.map_docs.specs.LangMaps.{labels_of};
+ghost use Rattle.docs_core.specs.Made.{Change, Makes};
 ghost use Rattle.docs_core.specs.Revised.{IsFirstRevised, IsRevised, NoStamp, key_of, new_of};
 ghost use Rattle.docs_core.specs.Revised.{old_of};
-ghost use Rattle.docs_core.specs.Updated.{IsUpdated, RefusesUpdate, SpendsUpdate, Updates};
+ghost use Rattle.docs_core.specs.Updated.{AreChanges, IsUpdated, RefusesUpdate, SpendsUpdate};
+ghost use Rattle.docs_core.specs.Updated.{Updates};
 
 use crate::call::sites::edit;
 use cata_core::{CataFault, Site};
@@ -57,7 +59,7 @@ pub fn update_document(
 /// as [`update_document`] makes them in the document of a site.
 ///
 /// Refused by `ClockSpent` (14) where there is no next stamp for a change, and by `NoMemory` (26);
-/// the site may then have some of the changes.
+/// the changes before that one are then made, and no other.
 pub fn update_labels(
     alloc: Global,
     site: &mut Site,
@@ -65,11 +67,14 @@ pub fn update_labels(
     old: &LangMaps,
     new: &LangMaps,
 ) -> Result<(), CataFault>
-    ensures name { OnOk result (site.new.name ≡ site.old.name) }
+    ensures name { site.new.name ≡ site.old.name }
     ensures ok { OnOk result (Updates now site.old.name old.now new.now site.old.cells
         site.new.cells) }
     ensures err { IfErr result (OrMemory NoMemory (λ fault. (fault ≡ ClockSpent)
         × SpendsUpdate now site.old.name old.now new.now site.old.cells)) }
+    ensures left { OnErr result ((some more : List Change)
+        × AreChanges old.now new.now site.old.cells (some ++ more)
+        × Makes now site.old.name some site.old.cells site.new.cells) }
 {
     let mut olds = old.labels();
     let mut news = new.labels();
@@ -165,11 +170,12 @@ fn kept<'a>(was: &'a KeyedLabel, is: &'a KeyedLabel) -> Revised<'a>
 
 /// Makes the change of a key, unless nothing was changed or the site has it already.
 fn revise(alloc: Global, site: &mut Site, now: u64, revised: &Revised<'_>) -> Result<(), CataFault>
-    ensures name { OnOk result (site.new.name ≡ site.old.name) }
+    ensures name { site.new.name ≡ site.old.name }
     ensures ok { OnOk result (IsRevised now site.old.name revised.now site.old.cells
         site.new.cells) }
     ensures err { IfErr result (OrMemory NoMemory (λ fault. (fault ≡ ClockSpent)
         × NoStamp now site.old.name revised.now site.old.cells)) }
+    ensures left { OnErr result (site.new ≡ site.old) }
 {
     let key = revised.key;
     if are_equal(revised.old, revised.new) {

@@ -6,7 +6,7 @@ use nego_core::NegoFault;
 use std::fmt::InlineText;
 
 /// Whether the fault has this number and this line.
-fn says(document: u8, cause: DocCause, number: u8, line: &str) -> bool {
+fn says(document: usize, cause: DocCause, number: u8, line: &str) -> bool {
     let fault = DocFault { document, cause };
     fault.number() == number && InlineText::<80>::of(&fault).as_str() == line
 }

@@ -1,16 +1,23 @@
-use Rattle.std.proofs.Common.{rules}
-use Rattle.front_core.specs.Questions.{IsFilterLines, RefusesFilterLines}
+use Rattle.std.proofs.Common.{◌≡◌, rules, of_z, to_z, w32}
 use Rattle.front_core.specs.Fields.{field_text}
-use Rattle.front_c.specs.Answers.{TellsAnswer}
+use Rattle.front_core.specs.Questions.{AnswersFilter, IsFilter, RefusesFilter}
+use Rattle.front_c.specs.Calls.{ReportsQuestion}
 use Rattle.front_c.specs.Handles.{site_of}
 use Rattle.front_c.specs.Questions.{field_of}
-use Rattle.front_c.proofs.AnswersLemmas.{is_asked}
+use Rattle.front_c.proofs.AskedLemmas.{asked_as, field_as}
 use Rattle.front_c.proofs.sw_site_filter.Goals as goal
 
-pub returns-clause-answer : goal.returns-clause-answer
-returns-clause-answer c =
-    is_asked (site_of c.args.site.now) (field_of c.args.flags c.args.field.now)
-    (λ s read. IsFilterLines s.cells c.args.id.now read)
-    (λ read. RefusesFilterLines c.args.id.now read) TellsAnswer c.deref.result.now
-    (field_text c.in-Some.field) c.args.out.now c.tell_filter.new.out c.tell_filter.new.told _
-    (search rules) (search rules) (search rules)
+pub returns-in-Some-clause-answer : goal.returns-in-Some-clause-answer
+returns-in-Some-clause-answer c =
+    let site = site_of c.args.site.now in
+    let id = c.args.id.now in
+    let read = field_text c.in-Some.field in
+    let same : to_z w32 (of_z w32 c.ask.result) ≡ c.ask.result = search rules in
+    rw same
+    (field_as (field_of c.args.flags c.args.field.now)
+    (λ f. ReportsQuestion site (IsFilter id f) (RefusesFilter id f)
+    (λ asked s. AnswersFilter s.cells asked))
+    read c.args.out.now c.ask.new.out c.ask.new.told _ (search rules)
+    (asked_as c.read.result (IsFilter id read) (RefusesFilter id read)
+    (λ asked s. AnswersFilter s.cells asked) site c.args.out.now c.ask.new.out c.ask.new.told _
+    c.read.ensures c.ask.ensures.answer))

@@ -1,11 +1,16 @@
-use Rattle.std.proofs.Common.{rules}
+use Rattle.std.proofs.Common.{◌≡◌, Some, of_z, rules, to_z, w32}
+use Rattle.front_core.specs.Editing.{IsMerged, LeavesMerge, RefusesMerge}
 use Rattle.front_c.specs.Handles.{site_of}
-use Rattle.front_c.proofs.EditingLemmas.{merge_reported}
+use Rattle.front_c.proofs.AskedLemmas.{edited_as}
 use Rattle.front_c.proofs.sw_site_merge.Goals as goal
 
-pub returns-clause-merged : goal.returns-clause-merged
-returns-clause-merged c =
-    merge_reported (site_of c.args.other.now) (site_of c.args.site.now) c.deref.result.now
-    c.site-held.result.now.value c.merge.new.held.value c.merge.result c.tell_edit.new.told _
-    (search rules) (search rules) (search rules) (search rules) (search rules) (search rules)
-    (search rules)
+pub returns-in-Some-open-clause-merged : goal.returns-in-Some-open-clause-merged
+returns-in-Some-open-clause-merged c =
+    let cells = c.site.result.now in
+    let same : to_z w32 (of_z w32 c.report_edit.result) ≡ c.report_edit.result = search rules in
+    let other : site_of c.args.other.now ≡ Some c.in-Some.cells.now = search rules in
+    rw (same, other, ← c.site.ensures)
+    (edited_as (IsMerged cells) (LeavesMerge cells) (RefusesMerge cells)
+    (site_of c.args.site.now) c.in-Some-open.held.now c.merge.new.self c.merge.result
+    c.report_edit.new.told _ (search rules) c.merge.ensures.ok c.merge.ensures.err
+    c.merge.ensures.left c.merge.ensures.kept c.report_edit.ensures)

@@ -1,11 +1,14 @@
-use Rattle.std.proofs.Common.{rules}
-use Rattle.front_core.specs.Work.{IsMissing, RefusesMissing}
+use Rattle.std.proofs.Common.{◌≡◌, rules, of_z, to_z, w32}
+use Rattle.front_core.specs.Translate.{AnswersMissing, IsMissing, RefusesMissing}
 use Rattle.front_c.specs.Handles.{site_of}
-use Rattle.front_c.proofs.EditingLemmas.{is_of}
+use Rattle.front_c.proofs.AskedLemmas.{asked_as}
 use Rattle.front_c.proofs.sw_site_missing.Goals as goal
 
 pub returns-clause-answer : goal.returns-clause-answer
 returns-clause-answer c =
-    is_of (site_of c.args.site.now) (λ s. IsMissing s c.args.lang.now)
-    (RefusesMissing c.args.lang.now) c.deref.result.now c.args.out.now c.tell_missing.new.out
-    c.tell_missing.new.told _ (search rules) (search rules)
+    let lang = c.args.lang.now in
+    let same : to_z w32 (of_z w32 c.ask.result) ≡ c.ask.result = search rules in
+    rw same
+    (asked_as c.read.result (IsMissing lang) (RefusesMissing lang) AnswersMissing
+    (site_of c.args.site.now) c.args.out.now c.ask.new.out c.ask.new.told _ c.read.ensures
+    c.ask.ensures.answer)

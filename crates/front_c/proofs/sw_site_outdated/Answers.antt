@@ -1,12 +1,13 @@
 use Rattle.std.proofs.Common.{rules}
-use Rattle.front_core.specs.Work.{IsOutdated, RefusesOutdated}
+use Rattle.front_core.specs.Translate.{AnswersOutdated, IsOutdated, RefusesOutdated}
 use Rattle.front_c.specs.Handles.{site_of}
-use Rattle.front_c.proofs.EditingLemmas.{is_of}
+use Rattle.front_c.proofs.AskedLemmas.{asked_as}
 use Rattle.front_c.proofs.sw_site_outdated.Goals as goal
 
 pub returns-clause-answer : goal.returns-clause-answer
 returns-clause-answer c =
-    is_of (site_of c.args.site.now) (λ s. IsOutdated s c.args.lang.now c.args.source.now)
-    (RefusesOutdated c.args.lang.now c.args.source.now) c.deref.result.now c.args.out.now
-    c.tell_outdated.new.out
-    c.tell_outdated.new.told _ (search rules) (search rules)
+    let lang = c.args.lang.now in
+    let source = c.args.source.now in
+    asked_as c.read.result (IsOutdated lang source) (RefusesOutdated lang source) AnswersOutdated
+    (site_of c.args.site.now) c.args.out.now c.ask.new.out c.ask.new.told _ c.read.ensures
+    (search rules)

@@ -1,16 +1,16 @@
 //! Handles of sites, as C has them.
-ghost use Rattle.std.specs.Prelude.{◌≡◌, Option, Some, None, IsSome, is_some};
-ghost use Rattle.std.specs.Borrow.{sem};
+ghost use Rattle.std.specs.Prelude.{◌≡◌, Option, Some, None, IfSome, IsSome, is_some};
+ghost use Rattle.std.specs.Option.{option_copied_mut};
+ghost use Rattle.std.specs.Borrow.{LendsIf, sem};
 ghost use Rattle.std_heap.specs.declared.Global.{Global as GlobalValue};
 ghost use denote.RawPtr.{null_ptr};
 ghost use Rattle.front_c.specs.Held.{Share, share_code, site_held};
 
 use crate::handles::raw_box::RawBox;
-use cata_core::Site;
+use front_core::OpenSite;
 use std::alloc::Global;
 use std::marker::{Model, Send};
 use std::ptr::null_mut;
-use std::sync::Arc;
 
 /// What C sees at the pointer of an open handle: nothing.
 #[repr(C)]
@@ -36,13 +36,18 @@ impl Model for SiteHandle {
 unsafe impl Send for SiteHandle {}
 
 impl SiteHandle {
-    ghost use Rattle.front_c.specs.Handles.{LendsSite};
+    ghost use Rattle.front_c.specs.Handles.{LendsSite, with_site};
+    ghost use Rattle.front_c.specs.Held.{share_row};
+    ghost use Rattle.front_c.specs.contracts.handles.site_handle.SiteHandle.{the_row};
 
-    /// An open handle of the share in this box.
-    pub(crate) fn of(share: Box<Arc<Site>, Global>) -> SiteHandle
-        ensures { result.value ≡ Some share.value }
+    /// An open handle of this share of a site, or none where memory ends.
+    pub(crate) fn new(alloc: Global, share: OpenSite) -> Option<SiteHandle>
+        ensures { IfSome result (λ handle. handle.value ≡ Some share) }
     {
-        SiteHandle::of_raw_box(RawBox::of(share))
+        match Box::new(alloc, share) {
+            Ok(boxed) => Some(SiteHandle::of_raw_box(RawBox::of(boxed))),
+            Err(_) => None,
+        }
     }
 
     /// A handle that is not open.
@@ -52,20 +57,17 @@ impl SiteHandle {
         SiteHandle { at: null_mut() }
     }
 
-    /// Whether the handle is open.
-    pub(crate) fn is_open(&mut self) -> bool
-        ensures { (result ≡ is_some self.old.value) × (self.new ≡ self.old) }
+    /// The share of an open handle, borrowed; none of one that is not open.
+    pub(crate) fn open(&mut self) -> Option<&mut OpenSite>
+        ensures* lends { sem 𝓛 (LendsIf the_row share_row self.entry result (with_site self.old)
+            self.old) }
+        ensures value { option_copied_mut result ≡ self.old.value }
     {
-        !self.at.is_null()
-    }
-
-    /// The share of an open handle, borrowed.
-    pub(crate) fn site(&mut self) -> &mut Arc<Site>
-        requires { IsSome self.old.value }
-        ensures* writes_back { sem 𝓛 (LendsSite self.entry result) }
-        ensures value { self.old.value ≡ Some result.now }
-    {
-        unsafe { &mut *(self.at as *mut Arc<Site>) }
+        if self.is_open() {
+            Some(self.site())
+        } else {
+            None
+        }
     }
 
     /// Drops the share of a handle, where it is open.
@@ -77,8 +79,24 @@ impl SiteHandle {
         }
     }
 
+    /// Whether the handle is open.
+    fn is_open(&mut self) -> bool
+        ensures { (result ≡ is_some self.old.value) × (self.new ≡ self.old) }
+    {
+        !self.at.is_null()
+    }
+
+    /// The share of an open handle, borrowed.
+    fn site(&mut self) -> &mut OpenSite
+        requires { IsSome self.old.value }
+        ensures* writes_back { sem 𝓛 (LendsSite self.entry result) }
+        ensures value { self.old.value ≡ Some result.now }
+    {
+        unsafe { &mut *(self.at as *mut OpenSite) }
+    }
+
     /// An open handle of this share.
-    fn of_raw_box(share: RawBox<Arc<Site>, Global>) -> SiteHandle
+    fn of_raw_box(share: RawBox<OpenSite, Global>) -> SiteHandle
         ensures { result.value ≡ Some share.value }
     {
         let RawBox { at, alloc: _ } = share;
@@ -88,13 +106,13 @@ impl SiteHandle {
     }
 
     /// The share of an open handle.
-    fn into_raw_box(self, alloc: Global) -> RawBox<Arc<Site>, Global>
+    fn into_raw_box(self, alloc: Global) -> RawBox<OpenSite, Global>
         requires { IsSome self.value }
         ensures { self.value ≡ Some result.value }
     {
         let SiteHandle { at } = self;
         RawBox {
-            at: at as *mut Arc<Site>,
+            at: at as *mut OpenSite,
             alloc,
         }
     }

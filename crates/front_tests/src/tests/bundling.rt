@@ -1,6 +1,6 @@
 //! Bundles for readers with priorities.
 
-use front_core::{Answer, Field, FrontFault, Outcome, bundle, open_site};
+use front_core::{Answer, Field, FrontFault, OpenSite, Outcome, Preferences, Question, SiteIn};
 use nego_core::{Malformed, Scheme, Widening};
 use std::alloc::Global;
 use std::process::Abort;
@@ -22,12 +22,23 @@ fn accept(text: &str) -> Field<'_> {
     }
 }
 
-fn bundled(alloc: Global, field: Field<'_>, default: Option<&[u8]>) -> Result<Answer, FrontFault> {
-    let site = open_site(alloc, SITE)?;
-    bundle(alloc, &site, field, default)
+fn bundled(
+    alloc: Global,
+    site: SiteIn<'_>,
+    field: Field<'_>,
+    default: Option<&[u8]>,
+) -> Result<Answer, FrontFault> {
+    Preferences::read(alloc, field, default)?.answer(alloc, site)
 }
 
-/// What a reader with this field and this default gets.
+fn is_answer(answer: Result<Answer, FrontFault>, text: &str, outcome: Outcome) -> bool {
+    match answer {
+        Ok(answer) => answer.text.bytes() == text.as_bytes() && answer.outcome == outcome,
+        Err(_) => false,
+    }
+}
+
+/// What a reader with this field and this default gets, of the document and of the open site.
 fn assert_bundle(
     rt: &impl Abort,
     alloc: Global,
@@ -36,11 +47,13 @@ fn assert_bundle(
     text: &str,
     outcome: Outcome,
 ) {
-    let is = match bundled(alloc, field, default) {
-        Ok(answer) => answer.text.bytes() == text.as_bytes() && answer.outcome == outcome,
-        Err(_) => false,
+    let written = bundled(alloc, SiteIn::Document(SITE), field, default);
+    assert!(rt; is_answer(written, text, outcome), "{text}");
+    let open = match OpenSite::read(alloc, SITE) {
+        Ok(site) => bundled(alloc, SiteIn::Open(site.site()), field, default),
+        Err(fault) => Err(fault),
     };
-    assert!(rt; is, "{text}");
+    assert!(rt; is_answer(open, text, outcome), "{text}");
 }
 
 #[test]

@@ -1,9 +1,7 @@
 //! Questions to a site: the lines and the texts that answer them.
 
-use cata_core::Site;
 use front_core::{
-    Answer, Field, FrontFault, LabelText, Outcome, filter_lines, lookup_line, lookup_text,
-    open_site,
+    Answer, Field, Filter, FrontFault, LabelText, Lookup, OpenSite, Outcome, Question, SiteIn,
 };
 use nego_core::{Malformed, Scheme, Widening};
 use std::alloc::Global;
@@ -16,8 +14,8 @@ const SITE: &[u8] = b"{\"cells\":[\
       [\"m\",\"fr\",1,1,2,[\"Bonjour\",\"Salut\"]]],\
       \"kind\":\"site\",\"site\":1,\"version\":1}";
 
-fn questions(alloc: Global) -> Result<Site, FrontFault> {
-    open_site(alloc, SITE)
+fn questions(alloc: Global) -> Result<OpenSite, FrontFault> {
+    OpenSite::read(alloc, SITE)
 }
 
 fn accept(text: &str) -> Field<'_> {
@@ -36,17 +34,23 @@ fn is_answer(answer: Result<Answer, FrontFault>, text: &str, outcome: Outcome) -
     }
 }
 
+fn looked_up(alloc: Global, field: &str, site: SiteIn<'_>) -> Result<Answer, FrontFault> {
+    Lookup::read(alloc, b"m", accept(field), Some(b"fr"))?.answer(alloc, site)
+}
+
 /// A lookup of `m` by this field, with `fr` as its default, has this line.
 fn assert_line(
     rt: &impl Abort,
     alloc: Global,
-    site: &Site,
+    site: &OpenSite,
     field: &str,
     line: &str,
     outcome: Outcome,
 ) {
-    let answer = lookup_line(alloc, site, b"m", accept(field), Some(b"fr"));
-    assert!(rt; is_answer(answer, line, outcome), "{field}");
+    for site in [SiteIn::Open(site.site()), SiteIn::Document(SITE)] {
+        let answer = looked_up(alloc, field, site);
+        assert!(rt; is_answer(answer, line, outcome), "{field}");
+    }
 }
 
 #[test]
@@ -70,7 +74,7 @@ fn a_line_of_a_lookup(rt: HostRuntime) -> Result<(), Fail> {
 
 /// A lookup of a message by a field.
 #[derive(Clone, Copy)]
-struct Question<'q> {
+struct Asked<'q> {
     id: &'q str,
     field: &'q str,
     default: Option<&'q [u8]>,
@@ -80,14 +84,16 @@ struct Question<'q> {
 fn assert_text(
     rt: &impl Abort,
     alloc: Global,
-    site: &Site,
-    asked: Question<'_>,
+    site: &OpenSite,
+    asked: Asked<'_>,
     place: usize,
     wanted: LabelText<'_>,
 ) {
     let id = asked.id.as_bytes();
-    let found = lookup_text(alloc, site, id, accept(asked.field), asked.default, place);
-    assert_eq!(rt; found, Ok(wanted));
+    match Lookup::read(alloc, id, accept(asked.field), asked.default) {
+        Ok(lookup) => assert_eq!(rt; lookup.text(site.site(), place), wanted),
+        Err(fault) => panic!(rt; "{fault}"),
+    }
 }
 
 fn found(text: &str, count: usize) -> LabelText<'_> {
@@ -98,7 +104,7 @@ fn found(text: &str, count: usize) -> LabelText<'_> {
 fn a_text_of_a_lookup(rt: HostRuntime) -> Result<(), Fail> {
     let alloc = rt.alloc();
     let site = questions(alloc)?;
-    let asked = Question {
+    let asked = Asked {
         id: "m",
         field: "fr",
         default: None,
@@ -112,7 +118,7 @@ fn a_text_of_a_lookup(rt: HostRuntime) -> Result<(), Fail> {
 #[test]
 fn a_text_of_a_default(rt: HostRuntime) -> Result<(), Fail> {
     let site = questions(rt.alloc())?;
-    let asked = Question {
+    let asked = Asked {
         id: "m",
         field: "ja",
         default: Some(b"@none"),
@@ -127,10 +133,10 @@ fn no_text_of_a_lookup(rt: HostRuntime) -> Result<(), Fail> {
     let site = questions(alloc)?;
     let (id, default) = ("m", None);
     let field = "ja";
-    let asked = Question { id, field, default };
+    let asked = Asked { id, field, default };
     assert_text(&rt, alloc, &site, asked, 0, LabelText::Nothing);
     let (id, field) = ("z", "fr");
-    let asked = Question { id, field, default };
+    let asked = Asked { id, field, default };
     assert_text(&rt, alloc, &site, asked, 0, LabelText::Nothing);
     Ok(())
 }
@@ -144,9 +150,12 @@ fn assert_lines(
     lines: &str,
     outcome: Outcome,
 ) -> Result<(), Fail> {
-    let site = questions(alloc)?;
-    let answer = filter_lines(alloc, &site, id.as_bytes(), field);
-    assert!(rt; is_answer(answer, lines, outcome), "{lines}");
+    let open = questions(alloc)?;
+    let asked = Filter::read(alloc, id.as_bytes(), field)?;
+    for site in [SiteIn::Open(open.site()), SiteIn::Document(SITE)] {
+        let answer = asked.answer(alloc, site);
+        assert!(rt; is_answer(answer, lines, outcome), "{lines}");
+    }
     Ok(())
 }
 

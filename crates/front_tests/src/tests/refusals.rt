@@ -1,20 +1,16 @@
 //! What is refused, in which order, and how it is reported.
 
-use cata_core::Site;
 use cell_core::CellFault;
 use docs_core::{DocCause, DocFault, FieldFault, Spot};
 use front_core::{
-    Field, Filter, FrontFault, Lookup, Preferences, filter_lines, lookup_line, lookup_text,
-    open_site, pick,
+    Field, Filter, FrontFault, Lookup, Missing, OpenSite, Outdated, Preferences, Question, SiteIn,
+    View, pick,
 };
 use lang_core::LangFault;
 use nego_core::{Malformed, NegoFault, Scheme, Widening};
 use std::alloc::Global;
 use std::fmt::InlineText;
 use std::process::Abort;
-use std::test::Fail;
-
-const SITE: &[u8] = br#"{"cells":[],"kind":"site","site":"a","version":2}"#;
 
 const MALFORMED: NegoFault = NegoFault::FieldMalformed { offset: 9 };
 
@@ -84,47 +80,45 @@ fn an_id_before_all_else(rt: HostRuntime) {
     assert_refused(&rt, Filter::read(alloc, b"@m", malformed()), ID);
 }
 
-/// A lookup of this message, with this default, by a malformed field.
-fn assert_lookup_refused(
-    rt: &impl Abort,
-    alloc: Global,
-    site: &Site,
-    id: &[u8],
-    default: Option<&[u8]>,
-    fault: &FrontFault,
-) {
-    assert_refused(
-        rt,
-        lookup_line(alloc, site, id, malformed(), default),
-        *fault,
-    );
-    assert_refused(
-        rt,
-        lookup_text(alloc, site, id, malformed(), default, 0),
-        *fault,
-    );
-}
-
 #[test]
-fn a_lookup_in_order(rt: HostRuntime) -> Result<(), Fail> {
+fn a_lookup_in_order(rt: HostRuntime) {
     let alloc = rt.alloc();
-    let site = open_site(alloc, SITE)?;
-    assert_lookup_refused(&rt, alloc, &site, b"@m", Some(b"e"), &ID);
-    assert_lookup_refused(&rt, alloc, &site, b"m", Some(b"e"), &LANGUAGE);
-    assert_lookup_refused(&rt, alloc, &site, b"m", None, &FIELD);
-    Ok(())
+    for (id, default, fault) in [
+        (b"@m".as_slice(), Some(b"e".as_slice()), ID),
+        (b"m", Some(b"e"), LANGUAGE),
+        (b"m", None, FIELD),
+    ] {
+        assert_refused(&rt, Lookup::read(alloc, id, malformed(), default), fault);
+    }
 }
 
 #[test]
-fn an_id_that_is_no_text(rt: HostRuntime) -> Result<(), Fail> {
-    let site = open_site(rt.alloc(), SITE)?;
-    let answer = filter_lines(rt.alloc(), &site, b"m\xff", accept(b"fr"));
-    assert_refused(&rt, answer, ID);
-    Ok(())
+fn an_id_that_is_no_text(rt: HostRuntime) {
+    assert_refused(&rt, Filter::read(rt.alloc(), b"m\xff", accept(b"fr")), ID);
 }
+
+#[test]
+fn a_translation_in_order(rt: HostRuntime) {
+    let alloc = rt.alloc();
+    assert_refused(&rt, Missing::read(alloc, b""), EMPTY);
+    assert_refused(&rt, Outdated::read(alloc, b"", b"e"), EMPTY);
+    assert_refused(&rt, Outdated::read(alloc, b"fr", b"e"), LANGUAGE);
+}
+
+#[test]
+fn a_document_that_is_no_site(rt: HostRuntime) {
+    let answer = View::Status.answer(rt.alloc(), SiteIn::Document(b"{}"));
+    let shape = DocCause::Shape {
+        spot: Spot::Document,
+    };
+    assert_refused(&rt, answer, of_document(shape));
+    assert_refused(&rt, OpenSite::new(rt.alloc(), b"A"), SITE_NAME);
+}
+
+const SITE_NAME: FrontFault = FrontFault::Cell(CellFault::SiteName);
 
 /// The number, the place, the row and the text of the fault.
-fn assert_tells(
+fn assert_reported(
     rt: &impl Abort,
     fault: FrontFault,
     number: u8,
@@ -144,47 +138,48 @@ fn of_document(cause: DocCause) -> FrontFault {
 #[test]
 fn of_words(rt: HostRuntime) {
     let id = FrontFault::from(CellFault::IdRefused);
-    assert_tells(&rt, id, 10, None, None, "message id");
+    assert_reported(&rt, id, 10, None, None, "message id");
     let language = FrontFault::from(LangFault::TagEmpty);
-    assert_tells(&rt, language, 1, None, None, "tag is empty");
+    assert_reported(&rt, language, 1, None, None, "tag is empty");
     let language = FrontFault::from(LangFault::TagSubtag { offset: 3 });
-    assert_tells(&rt, language, 3, Some(3), None, "subtag at 3");
+    assert_reported(&rt, language, 3, Some(3), None, "subtag at 3");
     let language = FrontFault::from(LangFault::RangeSubtag { offset: 2 });
-    assert_tells(&rt, language, 7, Some(2), None, "range subtag at 2");
+    assert_reported(&rt, language, 7, Some(2), None, "range subtag at 2");
     let field = FrontFault::from(NegoFault::FieldTooLong);
-    assert_tells(&rt, field, 8, None, None, "field is over 65535 bytes");
+    assert_reported(&rt, field, 8, None, None, "field is over 65535 bytes");
     let field = FrontFault::from(MALFORMED);
-    assert_tells(&rt, field, 9, Some(9), None, "field element at 9");
+    assert_reported(&rt, field, 9, Some(9), None, "field element at 9");
 }
 
 #[test]
 fn of_documents(rt: HostRuntime) {
     let fault = of_document(DocCause::NotUtf8 { offset: 7 });
-    assert_tells(&rt, fault, 18, Some(7), None, "not UTF-8 at 7");
+    assert_reported(&rt, fault, 18, Some(7), None, "not UTF-8 at 7");
     let fault = of_document(DocCause::NotJson);
-    assert_tells(&rt, fault, 19, None, None, "not JSON");
+    assert_reported(&rt, fault, 19, None, None, "not JSON");
     let fault = of_document(DocCause::Shape { spot: Spot::Row(2) });
-    assert_tells(&rt, fault, 20, None, Some(2), "shape");
+    assert_reported(&rt, fault, 20, None, Some(2), "shape");
     let fault = of_document(DocCause::CellOrder { row: 4 });
-    assert_tells(&rt, fault, 21, None, Some(4), "cell order");
+    assert_reported(&rt, fault, 21, None, Some(4), "cell order");
     let language = FieldFault::Language(LangFault::TagSubtag { offset: 3 });
     let fault = of_document(DocCause::Field {
         row: 5,
         fault: language,
     });
-    assert_tells(&rt, fault, 3, Some(3), Some(5), "subtag at 3");
+    assert_reported(&rt, fault, 3, Some(3), Some(5), "subtag at 3");
     let field = FieldFault::Priorities(MALFORMED);
     let fault = of_document(DocCause::Field {
         row: 6,
         fault: field,
     });
-    assert_tells(&rt, fault, 9, Some(9), Some(6), "field element at 9");
+    assert_reported(&rt, fault, 9, Some(9), Some(6), "field element at 9");
     let label = FieldFault::Cell(CellFault::LabelCount { count: 0 });
     let fault = of_document(DocCause::Field {
         row: 0,
         fault: label,
     });
-    assert_tells(&rt, fault, 12, None, Some(0), "label has 0 texts");
+    assert_reported(&rt, fault, 12, None, Some(0), "label has 0 texts");
+    assert_eq!(rt; fault.count(), Some(0));
 }
 
 #[test]
@@ -197,6 +192,6 @@ fn out_of_memory_has_one_form(rt: HostRuntime) {
         FrontFault::from(std::alloc::AllocError),
     ] {
         assert_eq!(rt; fault, FrontFault::NoMemory);
-        assert_tells(&rt, fault, 26, None, None, "out of memory");
+        assert_reported(&rt, fault, 26, None, None, "out of memory");
     }
 }

@@ -1,13 +1,13 @@
 //! Sites that are opened, and documents that are refused.
 
-use front_core::open_site;
+use front_core::OpenSite;
 use std::alloc::Global;
 use std::process::Abort;
 use std::test::Fail;
 
 /// What refuses the document: its number, place and row.
 fn refusal(alloc: Global, document: &[u8]) -> Option<(u8, Option<usize>, Option<usize>)> {
-    let fault = open_site(alloc, document).err()?;
+    let fault = OpenSite::read(alloc, document).err()?;
     Some((fault.number(), fault.offset(), fault.row()))
 }
 
@@ -26,7 +26,8 @@ fn assert_refused(
 fn a_site(rt: HostRuntime) -> Result<(), Fail> {
     let document =
         br#"{"cells":[["m","en",5,"a",0,["Hello"]]],"kind":"site","site":"paris","version":2}"#;
-    let site = open_site(rt.alloc(), document.as_slice())?;
+    let open = OpenSite::read(rt.alloc(), document.as_slice())?;
+    let site = open.site();
     assert_eq!(rt; site.name().as_str(), "paris");
     assert_eq!(rt; site.catalogue().len(), 1);
     Ok(())

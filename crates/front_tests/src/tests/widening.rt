@@ -1,7 +1,8 @@
 //! Lookups that are widened, by the rows of the specification.
 
 use front_core::{
-    Answer, Field, FrontFault, Outcome, Picked, bundle, lookup_line, open_site, pick,
+    Answer, Field, FrontFault, Lookup, OpenSite, Outcome, Picked, Preferences, Question, SiteIn,
+    pick,
 };
 use nego_core::{Malformed, Scheme, Widening};
 use std::process::Abort;
@@ -46,11 +47,15 @@ fn lines_of_tags(rt: HostRuntime) {
 #[test]
 fn a_site(rt: HostRuntime) -> Result<(), Fail> {
     let alloc = rt.alloc();
-    let site = open_site(alloc, SITE)?;
+    let open = OpenSite::read(alloc, SITE)?;
     let field = widened(Scheme::Basic, "en, fr;q=0.5");
-    let answer = lookup_line(alloc, &site, b"m", field, None);
-    assert_line(&rt, answer, "matched en-us [\"Hi\"]\n", Outcome::Found);
+    let line = "matched en-us [\"Hi\"]\n";
     let maps = "{\"m\":{\"en-us\":\"Hi\"},\"n\":{\"fr\":\"Non\"}}\n";
-    assert_line(&rt, bundle(alloc, &site, field, None), maps, Outcome::Found);
+    let lookup = Lookup::read(alloc, b"m", field, None)?;
+    let bundle = Preferences::read(alloc, field, None)?;
+    for site in [SiteIn::Open(open.site()), SiteIn::Document(SITE)] {
+        assert_line(&rt, lookup.answer(alloc, site), line, Outcome::Found);
+        assert_line(&rt, bundle.answer(alloc, site), maps, Outcome::Found);
+    }
     Ok(())
 }

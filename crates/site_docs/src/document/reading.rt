@@ -42,7 +42,7 @@ pub fn read_summary(alloc: Global, bytes: &[u8]) -> Result<Summary, DocFault>
 }
 
 /// The site of the input document with this number.
-pub fn site_at(alloc: Global, document: u8, bytes: &[u8]) -> Result<Site, DocFault>
+pub fn site_at(alloc: Global, document: usize, bytes: &[u8]) -> Result<Site, DocFault>
     ensures { MatchResult result (ReadsAsSite bytes.now)
         (OrMemory no_memory (IsOfDocument document (RefusesSite bytes.now))) }
 {
@@ -54,7 +54,11 @@ pub fn site_at(alloc: Global, document: u8, bytes: &[u8]) -> Result<Site, DocFau
 
 /// The same where the document is known not to be of the form in which it is written, which is not
 /// tried again.
-pub(crate) fn site_in_any_form(alloc: Global, document: u8, bytes: &[u8]) -> Result<Site, DocFault>
+pub(crate) fn site_in_any_form(
+    alloc: Global,
+    document: usize,
+    bytes: &[u8],
+) -> Result<Site, DocFault>
     ensures { MatchResult result (ReadsAsSite bytes.now)
         (OrMemory no_memory (IsOfDocument document (RefusesSite bytes.now))) }
 {
@@ -65,7 +69,7 @@ pub(crate) fn site_in_any_form(alloc: Global, document: u8, bytes: &[u8]) -> Res
 }
 
 /// The delta of the input document with this number.
-pub fn delta_at(alloc: Global, document: u8, bytes: &[u8]) -> Result<Delta, DocFault>
+pub fn delta_at(alloc: Global, document: usize, bytes: &[u8]) -> Result<Delta, DocFault>
     ensures { MatchResult result (ReadsAsDelta bytes.now)
         (OrMemory no_memory (IsOfDocument document (RefusesDelta bytes.now))) }
 {
@@ -76,7 +80,7 @@ pub fn delta_at(alloc: Global, document: u8, bytes: &[u8]) -> Result<Delta, DocF
 }
 
 /// The summary of the input document with this number.
-pub fn summary_at(alloc: Global, document: u8, bytes: &[u8]) -> Result<Summary, DocFault>
+pub fn summary_at(alloc: Global, document: usize, bytes: &[u8]) -> Result<Summary, DocFault>
     ensures { MatchResult result (ReadsAsSummary bytes.now)
         (OrMemory no_memory (IsOfDocument document (RefusesSummary bytes.now))) }
 {

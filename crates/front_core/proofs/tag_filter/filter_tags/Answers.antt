@@ -2,7 +2,7 @@ use Rattle.std.proofs.Common.{◌∙◌, ap, inr, length, sym}
 use Rattle.std.proofs.lemmas.Result.{err_from_is_err_and}
 use Rattle.lang_core.specs.declared.fault.LangFault.TheVariants as lang
 use Rattle.front_core.specs.Faults.{field_fault}
-use Rattle.front_core.specs.Lines.{lines_of}
+use Rattle.docs_core.specs.Lines.{lines_of}
 use Rattle.front_core.proofs.PickLemmas.{as_many}
 use Rattle.front_core.proofs.TagFiltersLemmas.{as_many_texts, enough_names}
 use Rattle.front_core.proofs.tag_filter.filter_tags.Goals as goal

@@ -1,5 +1,5 @@
 use Rattle.std.proofs.Common.{◌≡◌, slice_get}
-use Rattle.front_core.specs.Lines.{lines_left, lines_of}
+use Rattle.docs_core.specs.Lines.{lines_left, lines_of}
 use Rattle.front_core.proofs.tag_pick.line_at.Given as goal
 
 -- the line that is sought is so far ahead

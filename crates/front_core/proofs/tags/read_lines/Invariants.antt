@@ -1,4 +1,4 @@
-use Rattle.front_core.specs.Lines.{lines_left, lines_of}
+use Rattle.docs_core.specs.Lines.{lines_left, lines_of}
 use Rattle.front_core.proofs.TagsLemmas.{IsReadTo}
 use Rattle.front_core.proofs.tags.read_lines.Given as goal
 

@@ -2,7 +2,7 @@ use Rattle.std.proofs.Common.{Ok, refl}
 use Rattle.command_core.proofs.AppLemmas.{with_command}
 use Rattle.command_core.proofs.commands.exchange.with_exchange.Goals as goal
 
--- The program has these six subcommands after those that it had: each was added to what the one
+-- The program has these seven subcommands after those that it had: each was added to what the one
 -- before it gave, and where memory ended nothing is promised.
 pub returns : goal.returns
 returns c =
@@ -22,5 +22,8 @@ returns c =
     with_command _ _ c.with_command-program-4.result (Ok c.reading-replay.result)
     c.with_command-program-5.result with_sync c.reading-replay.ensures
     c.with_command-program-5.ensures in
-    with_command _ _ c.with_command-program-5.result c.explain.result c.with_command.result
-    with_replay c.explain.ensures c.with_command.ensures
+    let with_explain = with_command _ _ c.with_command-program-5.result c.explain.result
+    c.with_command-program-6.result with_replay c.explain.ensures
+    c.with_command-program-6.ensures in
+    with_command _ _ c.with_command-program-6.result c.merge.result c.with_command.result
+    with_explain c.merge.ensures c.with_command.ensures

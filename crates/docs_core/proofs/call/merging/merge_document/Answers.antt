@@ -1,0 +1,10 @@
+use Rattle.std.proofs.Common.{◌<◌, ◌^◌, arith, length, subst, sym}
+use Rattle.cata_core.specs.Entries.{Entries}
+use Rattle.docs_core.proofs.RowsFit.{site_fits}
+use Rattle.docs_core.proofs.call.merging.merge_document.Goals as goal
+
+pub check_times-requires : goal.check_times-requires
+check_times-requires c =
+    let few = site_fits c.args.bytes.now c.in_ok-other.other c.in_ok-other.ensures in
+    subst (λ (cells : Entries). length cells < 2 ^ 64) (sym c.catalogue.ensures) (omega
+    (arith, few))

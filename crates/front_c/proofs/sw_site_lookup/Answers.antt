@@ -1,0 +1,22 @@
+use Rattle.std.proofs.Common.{rules}
+use Rattle.front_core.specs.Fields.{field_text}
+use Rattle.front_core.specs.Questions.{AnswersLookup, IsLookup, RefusesLookup}
+use Rattle.front_c.specs.Calls.{ReportsQuestion}
+use Rattle.front_c.specs.Handles.{site_of}
+use Rattle.front_c.specs.Questions.{default_of, lookup_field_of}
+use Rattle.front_c.proofs.AskedLemmas.{asked_as, field_as}
+use Rattle.front_c.proofs.sw_site_lookup.Goals as goal
+
+pub returns-in-Some-clause-answer : goal.returns-in-Some-clause-answer
+returns-in-Some-clause-answer c =
+    let site = site_of c.args.site.now in
+    let id = c.args.id.now in
+    let default = default_of c.args.default.now in
+    let read = field_text c.in-Some.field in
+    field_as (lookup_field_of c.args.flags c.args.field.now)
+    (λ f. ReportsQuestion site (IsLookup id f default) (RefusesLookup id f default)
+    (λ asked s. AnswersLookup s.cells asked))
+    read c.args.out.now c.ask.new.out c.ask.new.told _ (search rules)
+    (asked_as c.read-asked.result (IsLookup id read default) (RefusesLookup id read default)
+    (λ asked s. AnswersLookup s.cells asked) site c.args.out.now c.ask.new.out c.ask.new.told _
+    (rw (← c.default_of.ensures) c.read-asked.ensures) (search rules))

@@ -1,0 +1,235 @@
+-- What each call makes of its handles, its buffer, its record and its status (project rules).
+use Rattle.std.specs.Prelude.{◌≡◌, ◌≢◌, ◌⊎◌, ℕ, ℤ, None, Option, Some, MatchOption, MatchResult}
+use Rattle.std.specs.Prelude.{Result, option_map}
+use Rattle.cata_core.specs.Site.{SiteState}
+use Rattle.site_docs.specs.ReadsAs.{ReadsAsSite}
+use Rattle.front_core.specs.Ask.{IsAnswer, IsNoMemory, RefusesAnswer, RefusesDocument}
+use Rattle.front_core.specs.Editing.{Edits, IsDeleted, IsMerged, IsPutInto, IsTaken, LeavesMerge}
+use Rattle.front_core.specs.Editing.{LeavesTake, OrNoMemory, RefusesDelete, RefusesMerge}
+use Rattle.front_core.specs.Editing.{RefusesPutInto, RefusesTake}
+use Rattle.front_core.specs.Exchange.{IsDelta, RefusesDelta, ShowsView}
+use Rattle.front_core.specs.Fields.{FieldText}
+use Rattle.docs_core.specs.Lines.{lines_of}
+use Rattle.front_core.specs.Picks.{IsPickedTag, RefusesPick}
+use Rattle.front_core.specs.Preferences.{ArePreferences, RefusesPreferences}
+use Rattle.front_core.specs.Questions.{AnswersBundle, AnswersFilter, AnswersLookup, IsFilter}
+use Rattle.front_core.specs.Questions.{IsLookup, IsLookupText, RefusesFilter, RefusesLookup}
+use Rattle.front_core.specs.Refusals.{refusal_of}
+use Rattle.front_core.specs.Site.{IsNewSite, RefusesNewSite}
+use Rattle.front_core.specs.TagFilters.{IsTagFilter, RefusesTagFilter}
+use Rattle.front_core.specs.Translate.{AnswersMissing, AnswersOutdated, AreChangeLines, IsMissing}
+use Rattle.front_core.specs.Translate.{IsOutdated, RefusesMissing, RefusesOutdated}
+use Rattle.front_core.specs.WholeEdits.{AreUpdated, IsImported, RefusesImport, RefusesUpdates}
+use Rattle.front_core.specs.declared.answer.Answer.{Answer}
+use Rattle.front_core.specs.declared.exchange.View.{View}
+use Rattle.front_core.specs.declared.fault.FrontFault.{FrontFault}
+use Rattle.front_core.specs.declared.fault.FrontFault.TheVariants.{NoMemory}
+use Rattle.front_c.specs.Questions.{default_of, field_of, limit_of, lookup_field_of}
+use Rattle.front_c.specs.Reporting.{Ends, Reports, ReportsAnswer, ReportsDone, ReportsEither}
+use Rattle.front_c.specs.Reporting.{ReportsFault, ReportsLabelText, ReportsNothing, ReportsPicked}
+use Rattle.front_c.specs.Reporting.{ReportsText, ReportsUsage, Text, answered}
+use Rattle.front_c.specs.Statuses.{found, out_of_memory, usage}
+
+-- ---- tags
+
+-- what a call with a field makes of it; unknown flags are reported as usage
+abbrev pub ReportsField : Option FieldText → (FieldText → Ends) → Ends
+ReportsField field As old new told status =
+    MatchOption field (ReportsUsage old new told status) (λ read. As read old new told status)
+
+-- the tag that is picked
+abbrev pub ReportsPick : ℕ → Text → Text → Text → Ends
+ReportsPick flags field tags default =
+    ReportsField (lookup_field_of flags field)
+    (λ read. ReportsEither (IsPickedTag read (default_of default) (lines_of tags))
+    (RefusesPick read (default_of default) (lines_of tags)) ReportsPicked)
+
+-- the lines of the tags that the field takes
+abbrev pub ReportsTagFilter : ℕ → Text → Text → Ends
+ReportsTagFilter flags field tags =
+    ReportsField (field_of flags field)
+    (λ read. ReportsEither (IsTagFilter read (lines_of tags))
+    (RefusesTagFilter read (lines_of tags)) ReportsAnswer)
+
+-- ---- questions to a site
+
+-- what a call makes of the site of a handle; usage is reported where the handle is not open
+abbrev pub ReportsOpen : Option SiteState → (SiteState → Ends) → Ends
+ReportsOpen site As old new told status =
+    MatchOption site (ReportsUsage old new told status) (λ s. As s old new told status)
+
+-- what is answered of a site, where the handle is open
+abbrev pub ReportsAsked : Option SiteState → (SiteState → Answer → Type 0)
+    → (FrontFault → Type 0) → Ends
+ReportsAsked site Is Refuses =
+    ReportsOpen site (λ s. ReportsEither (Is s) Refuses ReportsAnswer)
+
+-- the answer to the question that the arguments read as
+abbrev pub ReportsQuestion : {Q : Type 0} → Option SiteState → (Q → Type 0)
+    → (FrontFault → Type 0) → (Q → SiteState → Answer → Type 0) → Ends
+ReportsQuestion site Reads Refuses Answers =
+    ReportsAsked site (IsAnswer Reads Answers) (RefusesAnswer Reads Refuses)
+
+-- the line of a lookup in the handle's site
+abbrev pub ReportsLookup : Option SiteState → ℕ → Text → Text → Text → Ends
+ReportsLookup site flags id field default =
+    ReportsField (lookup_field_of flags field)
+    (λ read. ReportsQuestion site (IsLookup id read (default_of default))
+    (RefusesLookup id read (default_of default)) (λ asked s. AnswersLookup s.cells asked))
+
+-- the text at a place of the label that a lookup in the handle's site finds
+abbrev pub ReportsLookupText : Option SiteState → ℕ → Text → Text → Text → ℕ → Ends
+ReportsLookupText site flags id field default place =
+    ReportsField (lookup_field_of flags field)
+    (λ read. ReportsOpen site
+    (λ s. ReportsEither (IsLookupText s.cells id read (default_of default) place)
+    (RefusesLookup id read (default_of default)) ReportsLabelText))
+
+-- the lines of a filter of the handle's site
+abbrev pub ReportsFilter : Option SiteState → ℕ → Text → Text → Ends
+ReportsFilter site flags id field =
+    ReportsField (field_of flags field)
+    (λ read. ReportsQuestion site (IsFilter id read) (RefusesFilter id read)
+    (λ asked s. AnswersFilter s.cells asked))
+
+-- the language maps of what a reader finds in the handle's site
+abbrev pub ReportsBundle : Option SiteState → ℕ → Text → Text → Ends
+ReportsBundle site flags field default =
+    ReportsField (lookup_field_of flags field)
+    (λ read. ReportsQuestion site (ArePreferences read (default_of default))
+    (RefusesPreferences read (default_of default)) (λ asked s. AnswersBundle s.cells asked))
+
+-- the messages of the handle's site that lack the language
+abbrev pub ReportsMissing : Option SiteState → Text → Ends
+ReportsMissing site lang =
+    ReportsQuestion site (IsMissing lang) (RefusesMissing lang) AnswersMissing
+
+-- the messages of the handle's site whose label in the language is older than in the source
+abbrev pub ReportsOutdated : Option SiteState → Text → Text → Ends
+ReportsOutdated site lang source =
+    ReportsQuestion site (IsOutdated lang source) (RefusesOutdated lang source) AnswersOutdated
+
+-- a text of the handle's whole site
+abbrev pub ReportsView : View → Option SiteState → Ends
+ReportsView view site = ReportsAsked site (ShowsView view) IsNoMemory
+
+-- the cells of the handle's site that the summary lacks, for its owner
+abbrev pub ReportsDelta : Option SiteState → Text → Ends
+ReportsDelta site summary = ReportsAsked site (λ s. IsDelta s summary) (RefusesDelta summary)
+
+-- the lines of what changed from the handle's site to another handle's, where both are open
+abbrev pub ReportsChanges : Option SiteState → Option SiteState → Ends
+ReportsChanges site other old new told status =
+    MatchOption other (ReportsUsage old new told status)
+    (λ after. ReportsAsked site (λ before. AreChangeLines before after) IsNoMemory old new told
+    status)
+
+-- a line on a refusal, or nothing where there is none
+abbrev pub ReportsLine : Option Text → Ends
+ReportsLine line old new told status =
+    MatchOption line (ReportsNothing 0 old new told status)
+    (λ text. ReportsText text 0 found old new told status)
+
+-- what is wanted where a refusal has this number
+abbrev pub ReportsMeaning : ℕ → Ends
+ReportsMeaning number = ReportsLine (option_map (λ texts. texts.meaning) (refusal_of number))
+
+-- what the command prints of the refusal of this number
+abbrev pub ReportsRefusalText : ℕ → Ends
+ReportsRefusalText number = ReportsLine (option_map (λ texts. texts.text) (refusal_of number))
+
+-- ---- handles
+
+-- the handle has the site that was made; or it is as it was, since none was made or memory ended
+abbrev pub IsHeld : Result SiteState FrontFault → Option SiteState → Option SiteState → Reports
+IsHeld made old new told status =
+    MatchResult made
+    (λ site. ((new ≡ Some site) × ReportsDone told status)
+    ⊎ ((new ≡ old) × ReportsFault NoMemory told status))
+    (λ fault. (new ≡ old) × ReportsFault fault told status)
+
+-- the handle has such a site, or is as it was
+abbrev pub ReportsHeld : (SiteState → Type 0) → (FrontFault → Type 0) → Option SiteState
+    → Option SiteState → Reports
+ReportsHeld Is Refuses old new told status =
+    ((site : SiteState) × Is site × (new ≡ Some site) × ReportsDone told status)
+    ⊎ ((fault : FrontFault) × OrNoMemory Refuses fault × (new ≡ old)
+    × ReportsFault fault told status)
+
+-- the handle holds the site of the document
+abbrev pub ReportsOpened : Text → Option SiteState → Option SiteState → Reports
+ReportsOpened text = ReportsHeld (ReadsAsSite text) (RefusesDocument text)
+
+-- the handle has the empty site of this name
+abbrev pub ReportsNew : Text → Option SiteState → Option SiteState → Reports
+ReportsNew name = ReportsHeld (IsNewSite name) (RefusesNewSite name)
+
+-- the other handle is of this site, or is as it was where memory ended
+abbrev pub IsShared : SiteState → Option SiteState → Option SiteState → ℤ → Type 0
+IsShared site old new status = ((new ≡ Some site) × (status ≡ found))
+    ⊎ ((new ≡ old) × (status ≡ out_of_memory))
+
+-- the other handle is of the same site, or is as it was where there is none to share or memory
+-- ended
+abbrev pub ReportsShared : Option SiteState → Option SiteState → Option SiteState → ℤ → Type 0
+ReportsShared site old new status =
+    MatchOption site ((new ≡ old) × (status ≡ usage)) (λ s. IsShared s old new status)
+
+-- ---- edits
+
+-- why an edit of a site is refused, and the site that it leaves
+abbrev pub Refusing : Type 1
+Refusing = SiteState → SiteState → FrontFault → Type 0
+
+-- the site is as it was
+abbrev pub Keeps : (SiteState → FrontFault → Type 0) → Refusing
+Keeps Refuses old new fault = (new ≡ old) × OrNoMemory (Refuses old) fault
+
+-- the site is as it was, but after out of memory one that the edit may leave
+abbrev pub Leaving : Edits → (SiteState → FrontFault → Type 0) → Refusing
+Leaving Leaves Refuses old new fault =
+    Leaves old new × (fault ≢ NoMemory → new ≡ old) × OrNoMemory (Refuses old) fault
+
+-- a handle that is not open is reported as usage; else it has the site that the edit makes, or the
+-- one that a refused edit leaves
+abbrev pub ReportsEdited : Edits → Refusing → Option SiteState → Option SiteState → Reports
+ReportsEdited Is Refuses old new told status =
+    MatchOption old ((new ≡ None) × (status ≡ usage) × (told ≡ answered 0 0))
+    (λ before.
+    ((after : SiteState) × (new ≡ Some after) × Is before after × ReportsDone told status)
+    ⊎ ((fault : FrontFault) × (after : SiteState) × (new ≡ Some after)
+    × Refuses before after fault × ReportsFault fault told status))
+
+-- the site with this text put at the key; a refused put leaves it as it was
+abbrev pub ReportsPut : ℕ → Text → Text → Text → Option SiteState → Option SiteState → Reports
+ReportsPut now id lang text = ReportsEdited (IsPutInto now id lang text)
+    (Keeps (RefusesPutInto now id lang text))
+
+-- the site with the key's label deleted; a refused deletion leaves it as it was
+abbrev pub ReportsDeleted : ℕ → Text → Text → Option SiteState → Option SiteState → Reports
+ReportsDeleted now id lang =
+    ReportsEdited (IsDeleted now id lang) (Keeps (RefusesDelete now id lang))
+
+-- the site with a delta for it taken; out of memory may leave it partly joined
+abbrev pub ReportsTaken : Text → ℕ → Option SiteState → Option SiteState → Reports
+ReportsTaken delta limit =
+    ReportsEdited (IsTaken delta (limit_of limit))
+    (Leaving (LeavesTake delta (limit_of limit)) (RefusesTake delta (limit_of limit)))
+
+-- the site joined to that of another handle; where that is not open it is reported as usage
+abbrev pub ReportsMerged : Option SiteState → Option SiteState → Option SiteState → Reports
+ReportsMerged other old new told status =
+    MatchOption other ((new ≡ old) × (status ≡ usage) × (told ≡ answered 0 0))
+    (λ cells. ReportsEdited (IsMerged cells) (Leaving (LeavesMerge cells) (RefusesMerge cells)) old
+    new told status)
+
+-- the site with each label of the language maps put; a refused import leaves it as it was
+abbrev pub ReportsImported : ℕ → Text → Option SiteState → Option SiteState → Reports
+ReportsImported now maps =
+    ReportsEdited (IsImported now maps) (Keeps (RefusesImport now maps))
+
+-- the site with what changed between two states of language maps; a refused update leaves it as it
+-- was
+abbrev pub ReportsUpdated : ℕ → Text → Text → Option SiteState → Option SiteState → Reports
+ReportsUpdated now before after =
+    ReportsEdited (AreUpdated now before after) (Keeps (RefusesUpdates now before after))

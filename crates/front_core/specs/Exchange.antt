@@ -1,0 +1,50 @@
+-- The texts of a whole site, and the delta that another site lacks (project rules).
+use Rattle.std.specs.Prelude.{◌≡◌}
+use Rattle.cata_core.specs.Delta.{delta_of, summary_of}
+use Rattle.cata_core.specs.Site.{SiteState}
+use Rattle.cata_core.specs.Summary.{SummaryState}
+use Rattle.json_docs.specs.Checks.{OrMemory}
+use Rattle.map_docs.specs.LangMapTexts.{IsTextOf}
+use Rattle.row_docs.specs.Reading.{IsOfDocument, no_memory}
+use Rattle.site_docs.specs.ReadsAs.{IsDeltaText, IsSiteText, IsSummaryText}
+use Rattle.site_docs.specs.ReadsAs.{ReadsAsSite, ReadsAsSummary, RefusesSummary}
+use Rattle.query_docs.specs.Exported.{live_labels}
+use Rattle.query_docs.specs.Status.{status_line}
+use Rattle.front_core.specs.Faults.{IsOf, document_fault}
+use Rattle.front_core.specs.Fields.{Text}
+use Rattle.front_core.specs.declared.answer.Answer.{Answer}
+use Rattle.front_core.specs.declared.answer.Outcome.TheVariants.{Found}
+use Rattle.front_core.specs.declared.exchange.View.{View}
+use Rattle.front_core.specs.declared.exchange.View.TheVariants as view
+use Rattle.front_core.specs.declared.fault.FrontFault.{FrontFault}
+
+-- the text of the site
+abbrev pub IsView : View → SiteState → Text → Type 0
+IsView view.Document site = IsSiteText site
+IsView view.Summary site =
+    IsSummaryText (record { owner = site.name; stamps = summary_of site.cells })
+IsView view.Status site = λ text. text ≡ status_line site
+IsView view.Export site = IsTextOf (live_labels site.cells)
+
+-- the text of the site of a document
+abbrev pub IsViewOf : View → Text → Text → Type 0
+IsViewOf asked bytes text = (site : SiteState) × ReadsAsSite bytes site × IsView asked site text
+
+-- the text, which counts as found
+abbrev pub ShowsView : View → SiteState → Answer → Type 0
+ShowsView asked site answer = IsView asked site answer.text × (answer.outcome ≡ Found)
+
+-- the cells that the summary lacks, for its owner
+abbrev pub IsDelta : SiteState → Text → Answer → Type 0
+IsDelta site bytes answer =
+    (summary : SummaryState) × ReadsAsSummary bytes summary
+    × IsDeltaText (record {
+      addressee = summary.owner;
+      cells =
+          delta_of site.cells summary.stamps;
+    }) answer.text × (answer.outcome ≡ Found)
+
+-- the bytes are no document of a summary, or memory ran out
+abbrev pub RefusesDelta : Text → FrontFault → Type 0
+RefusesDelta bytes = IsOf document_fault (OrMemory no_memory
+    (IsOfDocument 1 (RefusesSummary bytes)))

@@ -1,0 +1,270 @@
+//! Sites in memory that are edited and shared.
+ghost use Rattle.std.specs.Prelude.{◌≡◌, ◌≢◌, IfErr, MatchResult, OnErr, OnOk};
+ghost use Rattle.front_core.specs.Changes.{IsChanged, RefusesChange};
+ghost use Rattle.front_core.specs.Editing.{IsTakenDelta, LeavesTakeDelta, OrNoMemory};
+ghost use Rattle.front_core.specs.Editing.{RefusesTakeDelta};
+ghost use Rattle.front_core.specs.Site.{IsName, RefusesNewSite};
+ghost use Rattle.front_core.specs.declared.fault.FrontFault.TheVariants.{NoMemory};
+
+use crate::change::Change;
+use crate::fault::FrontFault;
+use cata_core::{Delta, Site};
+use cell_core::{CellFault, SiteName};
+use docs_core::{put_labels, read_delta_until, read_langmaps, read_site, update_labels};
+use map_docs::langmaps_of_document;
+use std::alloc::{AllocError, Global};
+use std::marker::Model;
+use std::sync::Arc;
+
+/// A site in memory, which shares may have in common: an edit is made in place where this is the
+/// only share of it, and else in a copy, so that the other shares keep what they had.
+#[derive(Drop)]
+pub struct OpenSite {
+    share: Arc<Site>,
+}
+
+impl Model for OpenSite {
+    ghost use Rattle.cata_core.specs.Site.{SiteState};
+
+    ghost Value = { SiteState };
+
+    ghost view = { λ s. s.share.value };
+}
+
+impl OpenSite {
+    ghost use Rattle.std.specs.Prelude.{◌≡◌, ◌≢◌, IfErr, IfOk, MatchResult, OnErr, OnOk};
+    ghost use Rattle.site_docs.specs.ReadsAs.{ReadsAsSite};
+    ghost use Rattle.front_core.specs.Ask.{RefusesDocument};
+    ghost use Rattle.front_core.specs.Editing.{IsDeleted, IsMerged, IsPutInto, IsTaken};
+    ghost use Rattle.front_core.specs.Editing.{LeavesMerge, LeavesTake, OrNoMemory};
+    ghost use Rattle.front_core.specs.Editing.{RefusesDelete, RefusesMerge, RefusesPutInto};
+    ghost use Rattle.front_core.specs.Editing.{RefusesTake};
+    ghost use Rattle.front_core.specs.Site.{IsNewSite, RefusesNewSite};
+    ghost use Rattle.front_core.specs.WholeEdits.{AreUpdated, IsImported, RefusesImport};
+    ghost use Rattle.front_core.specs.WholeEdits.{RefusesUpdates};
+    ghost use Rattle.front_core.specs.declared.fault.FrontFault.TheVariants.{NoMemory};
+
+    /// The site of a document of version 1 or 2. Refused as [`read_site`] refuses it, by document
+    /// 1, or since memory ran out (26).
+    pub fn read(alloc: Global, text: &[u8]) -> Result<OpenSite, FrontFault>
+        ensures { MatchResult result (ReadsAsSite text.now) (RefusesDocument text.now) }
+    {
+        let site = read_site(alloc, text)?;
+        OpenSite::of(alloc, site)
+    }
+
+    /// The empty site of this name. Bytes that are no site name are refused (27).
+    pub fn new(alloc: Global, name: &[u8]) -> Result<OpenSite, FrontFault>
+        ensures { MatchResult result (IsNewSite name.now) (OrNoMemory (RefusesNewSite name.now)) }
+    {
+        let name = read_name(name)?;
+        OpenSite::of(alloc, Site::new(alloc, name))
+    }
+
+    /// One more share of the same site. Its one refusal is out of memory (26).
+    pub fn share(&self) -> Result<OpenSite, AllocError>
+        ensures { IfOk result (λ shared. shared ≡ self.now) }
+    {
+        Ok(OpenSite {
+            share: self.share.clone()?,
+        })
+    }
+
+    /// The site.
+    pub fn site(&self) -> &Site
+        ensures { result.now ≡ self.now }
+    {
+        &self.share
+    }
+
+    /// Puts a label of one text at the time `now`: [`Change::put`], [`Change::make`].
+    ///
+    /// Refused, and then the site is unchanged, are the id first (10), then the language (1 to 4),
+    /// then the text (18, 11); then an edit for which there is no next stamp (14). Out of memory
+    /// (26) may come before a later refusal.
+    pub fn put(
+        &mut self,
+        alloc: Global,
+        now: u64,
+        id: &[u8],
+        lang: &[u8],
+        text: &[u8],
+    ) -> Result<(), FrontFault>
+        ensures ok { OnOk result (IsPutInto now id.now lang.now text.now self.old self.new) }
+        ensures err { IfErr result
+            (OrNoMemory (RefusesPutInto now id.now lang.now text.now self.old)) }
+        ensures left { OnErr result (self.new ≡ self.old) }
+    {
+        let change = Change::put(alloc, id, lang, text)?;
+        make_in(alloc, &mut self.share, now, &change)
+    }
+
+    /// Deletes a label at the time `now`: [`Change::delete`], [`Change::make`].
+    ///
+    /// Refused, and then the site is unchanged, as [`OpenSite::put`] is, without the text.
+    pub fn delete(
+        &mut self,
+        alloc: Global,
+        now: u64,
+        id: &[u8],
+        lang: &[u8],
+    ) -> Result<(), FrontFault>
+        ensures ok { OnOk result (IsDeleted now id.now lang.now self.old self.new) }
+        ensures err { IfErr result (OrNoMemory (RefusesDelete now id.now lang.now self.old)) }
+        ensures left { OnErr result (self.new ≡ self.old) }
+    {
+        let change = Change::delete(alloc, id, lang)?;
+        make_in(alloc, &mut self.share, now, &change)
+    }
+
+    /// Joins the cells of another site: [`Site::merge`].
+    ///
+    /// Refused, and then the site is unchanged, where one stamp has two labels (13). After 26 each
+    /// key has its old cell, or none as before, or that of the join, so that a repeat gives the
+    /// join.
+    pub fn merge(&mut self, alloc: Global, other: &Site) -> Result<(), FrontFault>
+        ensures ok { OnOk result (IsMerged other.now self.old self.new) }
+        ensures err { IfErr result (OrNoMemory (RefusesMerge other.now self.old)) }
+        // Two clauses: by one of them, by cases of the fault, callers' proofs are not found.
+        ensures left { OnErr result (LeavesMerge other.now self.old self.new) }
+        ensures kept { IfErr result (λ fault. fault ≢ NoMemory → self.new ≡ self.old) }
+    {
+        if let Some(site) = Arc::get_mut(&mut self.share) {
+            site.merge(alloc, other.catalogue())?;
+            return Ok(());
+        }
+        let mut site = self.share.copy(alloc)?;
+        site.merge(alloc, other.catalogue())?;
+        self.share = Arc::new(alloc, site)?;
+        Ok(())
+    }
+
+    /// Joins the cells of a delta for this site, as its document has them: [`Site::take`]. Where
+    /// there is a limit no time of the delta may be greater.
+    ///
+    /// Refused, and then the site is unchanged, are the delta as [`read_delta_until`] refuses it,
+    /// by document 1 (29 with the first row whose time is greater), then one for another site (15),
+    /// then one stamp with two labels (13). After 26 each key has its old cell, or none as before,
+    /// or that of the join, so that a repeat gives the join.
+    pub fn take(
+        &mut self,
+        alloc: Global,
+        delta: &[u8],
+        not_after: Option<u64>,
+    ) -> Result<(), FrontFault>
+        ensures ok { OnOk result (IsTaken delta.now not_after self.old self.new) }
+        ensures err { IfErr result (OrNoMemory (RefusesTake delta.now not_after self.old)) }
+        ensures left { OnErr result (LeavesTake delta.now not_after self.old self.new) }
+        ensures kept { IfErr result (λ fault. fault ≢ NoMemory → self.new ≡ self.old) }
+    {
+        let delta = read_delta_until(alloc, delta, not_after)?;
+        take_in(alloc, &mut self.share, &delta)
+    }
+
+    /// Puts each label of the language maps at the time `now`, in ascending order of id and
+    /// language, all or none. A label that the site has already is put again.
+    ///
+    /// Refused, and then the site is unchanged, are the maps as [`read_langmaps`] refuses them, by
+    /// document 1, then a label for which there is no next stamp (14), and by 26.
+    pub fn import(&mut self, alloc: Global, now: u64, maps: &[u8]) -> Result<(), FrontFault>
+        ensures ok { OnOk result (IsImported now maps.now self.old self.new) }
+        ensures err { IfErr result (OrNoMemory (RefusesImport now maps.now self.old)) }
+        ensures left { OnErr result (self.new ≡ self.old) }
+    {
+        let maps = read_langmaps(alloc, maps)?;
+        let mut edited = self.share.copy(alloc)?;
+        put_labels(alloc, &mut edited, now, &maps)?;
+        self.share = Arc::new(alloc, edited)?;
+        Ok(())
+    }
+
+    /// Makes the changes from the old language maps to the new ones at the time `now`, as the
+    /// command `update` does, all or none.
+    ///
+    /// Refused, and then the site is unchanged, are the old maps, by document 1, then the new ones,
+    /// by document 2, as [`read_langmaps`] refuses each, then a change for which there is no next
+    /// stamp (14). Out of memory (26) may come before a later refusal.
+    pub fn update(
+        &mut self,
+        alloc: Global,
+        now: u64,
+        old: &[u8],
+        new: &[u8],
+    ) -> Result<(), FrontFault>
+        ensures ok { OnOk result (AreUpdated now old.now new.now self.old self.new) }
+        ensures err { IfErr result (OrNoMemory (RefusesUpdates now old.now new.now self.old)) }
+        ensures left { OnErr result (self.new ≡ self.old) }
+    {
+        let before = langmaps_of_document(alloc, 1, old)?;
+        let after = langmaps_of_document(alloc, 2, new)?;
+        let mut edited = self.share.copy(alloc)?;
+        update_labels(alloc, &mut edited, now, &before, &after)?;
+        self.share = Arc::new(alloc, edited)?;
+        Ok(())
+    }
+
+    /// The only share of a site. Its one refusal is out of memory (26).
+    fn of(alloc: Global, site: Site) -> Result<OpenSite, FrontFault>
+        ensures { MatchResult result (λ made. made ≡ site) (λ fault. fault ≡ NoMemory) }
+    {
+        Ok(OpenSite {
+            share: Arc::new(alloc, site)?,
+        })
+    }
+}
+
+/// The site's name of these bytes.
+fn read_name(name: &[u8]) -> Result<SiteName, FrontFault>
+    ensures { MatchResult result (IsName name.now) (RefusesNewSite name.now) }
+{
+    match std::str::from_utf8(name) {
+        Ok(text) => Ok(SiteName::new(text)?),
+        Err(_) => Err(FrontFault::Cell(CellFault::SiteName)),
+    }
+}
+
+/// Makes a change in place where this is the only share, and else in a copy.
+fn make_in(
+    alloc: Global,
+    share: &mut Arc<Site>,
+    now: u64,
+    change: &Change,
+) -> Result<(), FrontFault>
+    ensures ok { OnOk result (IsChanged now change.now share.old.value share.new.value) }
+    ensures err { IfErr result (OrNoMemory (RefusesChange share.old.value now)) }
+    ensures left { OnErr result (share.new.value ≡ share.old.value) }
+{
+    if let Some(site) = Arc::get_mut(share) {
+        return change.make(alloc, site, now);
+    }
+    let site = changed(alloc, share, now, change)?;
+    *share = Arc::new(alloc, site)?;
+    Ok(())
+}
+
+/// A copy of the site with the change made.
+fn changed(alloc: Global, site: &Site, now: u64, change: &Change) -> Result<Site, FrontFault>
+    ensures { MatchResult result (IsChanged now change.now site.now)
+        (OrNoMemory (RefusesChange site.now now)) }
+{
+    let mut site = site.copy(alloc)?;
+    change.make(alloc, &mut site, now)?;
+    Ok(site)
+}
+
+/// Joins the cells of a delta in place where this is the only share, and else in a copy.
+fn take_in(alloc: Global, share: &mut Arc<Site>, delta: &Delta) -> Result<(), FrontFault>
+    ensures ok { OnOk result (IsTakenDelta delta.now share.old.value share.new.value) }
+    ensures err { IfErr result (OrNoMemory (RefusesTakeDelta delta.now share.old.value)) }
+    ensures left { OnErr result (LeavesTakeDelta delta.now share.old.value share.new.value) }
+    ensures kept { IfErr result (λ fault. fault ≢ NoMemory → share.new.value ≡ share.old.value) }
+{
+    if let Some(site) = Arc::get_mut(share) {
+        site.take(alloc, delta)?;
+        return Ok(());
+    }
+    let mut site = share.copy(alloc)?;
+    site.take(alloc, delta)?;
+    *share = Arc::new(alloc, site)?;
+    Ok(())
+}

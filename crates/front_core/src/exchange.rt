@@ -1,0 +1,98 @@
+//! What a site shows of itself as a whole, and the delta that another site lacks.
+ghost use Rattle.std.specs.Prelude.{MatchResult};
+ghost use Rattle.front_core.specs.Exchange.{IsDelta, RefusesDelta};
+
+use crate::answer::{Answer, Outcome};
+use crate::ask::{Question, SiteIn};
+use crate::fault::FrontFault;
+use cata_core::Site;
+use docs_core::{
+    Doc, DocFault, export_document, read_site, read_summary, status_document, status_line,
+    summary_document, write_delta, write_live_labels, write_site, write_summary,
+};
+use std::alloc::{AllocError, Global};
+
+/// A text that is made of a whole site.
+#[derive(Clone, Copy, Debug, PartialEq, Eq)]
+pub enum View {
+    /// Its document, which reads as this site.
+    Document,
+    /// The document of its summary: the stamps of its cells, deletions among them.
+    Summary,
+    /// Its status line: how many cells and labels it has, and its latest stamp.
+    Status,
+    /// The language maps of all its labels.
+    Export,
+}
+
+impl View {
+    ghost use Rattle.std.specs.Prelude.{IfOk, MatchResult};
+    ghost use Rattle.json_docs.specs.Checks.{OrMemory};
+    ghost use Rattle.row_docs.specs.Reading.{IsOfDocument, no_memory};
+    ghost use Rattle.site_docs.specs.ReadsAs.{ReadsAsSite, RefusesSite};
+    ghost use Rattle.front_core.specs.Exchange.{IsView, IsViewOf};
+
+    /// The text of the site of a document.
+    fn of_document(self, alloc: Global, bytes: &[u8]) -> Result<Doc, DocFault>
+        ensures { MatchResult result (IsViewOf self bytes.now)
+            (OrMemory no_memory (IsOfDocument 1 (RefusesSite bytes.now))) }
+    {
+        match self {
+            View::Document => {
+                let site = read_site(alloc, bytes)?;
+                let text = write_site(alloc, &site)?;
+                Ok(text)
+            }
+            View::Summary => summary_document(alloc, bytes),
+            View::Status => status_document(alloc, bytes),
+            View::Export => export_document(alloc, bytes),
+        }
+    }
+
+    /// The text of a site in memory.
+    fn of_site(self, alloc: Global, site: &Site) -> Result<Doc, AllocError>
+        ensures { IfOk result (IsView self site.now) }
+    {
+        match self {
+            View::Document => write_site(alloc, site),
+            View::Summary => {
+                let summary = site.summary(alloc)?;
+                write_summary(alloc, &summary)
+            }
+            View::Status => status_line(alloc, site),
+            View::Export => write_live_labels(alloc, site.catalogue()),
+        }
+    }
+}
+
+/// The text, which counts as found.
+impl Question for View {
+    ghost use Rattle.front_core.specs.Exchange.{ShowsView};
+
+    ghost Answers = { ShowsView };
+
+    fn answer(&self, alloc: Global, site: SiteIn<'_>) -> Result<Answer, FrontFault> {
+        match site {
+            SiteIn::Document(bytes) => {
+                let text = self.of_document(alloc, bytes)?;
+                Ok(Answer::new(text, Outcome::Found))
+            }
+            SiteIn::Open(site) => {
+                let text = self.of_site(alloc, site)?;
+                Ok(Answer::new(text, Outcome::Found))
+            }
+        }
+    }
+}
+
+/// The document of the delta of what a summary lacks, for the summary's owner.
+///
+/// Refused as [`read_summary`] refuses the summary, by document 1, or since memory ran out (26).
+pub fn delta(alloc: Global, site: &Site, summary: &[u8]) -> Result<Answer, FrontFault>
+    ensures { MatchResult result (IsDelta site.now summary.now) (RefusesDelta summary.now) }
+{
+    let summary = read_summary(alloc, summary)?;
+    let delta = site.delta_for(alloc, &summary)?;
+    let text = write_delta(alloc, &delta)?;
+    Ok(Answer::new(text, Outcome::Found))
+}
