@@ -42,11 +42,11 @@ def load_rt():
 def in_lanes(tasks):
     """Runs tasks side by side, each once those that it waits for have ended, first those with the
     most work after them, and returns what each gave. A task is what it waits for, its work in lines,
-    its memory in bytes, and a call that gets what was given so far and how many jobs it may use: a
-    task gets the processors that no other one is ready for."""
+    its memory in bytes, and a call that gets what was given so far and how many jobs it may use: the
+    processors that no other task is ready for that others wait for, but one for the rest."""
     # (of what rt plans for a check at most half was seen to be taken)
     lanes, memory = len(os.sched_getaffinity(0)), 2 * 0.85 * free_memory()
-    after = {key: 0 for key in tasks}
+    after, awaited = {key: 0 for key in tasks}, {it for waits, *_ in tasks.values() for it in waits}
     for key in reversed([*tasks]):
         after[key] += tasks[key][1]
         for it in tasks[key][0]:
@@ -61,7 +61,9 @@ def in_lanes(tasks):
                 room = memory - sum(used for _, used, _ in running.values())
                 if idle < 1 or running and needs > room:
                     break
-                share = -(-idle // (len(ready) - at))
+                rivals = [it for it in ready[at:] if it in awaited or key not in awaited]
+                rest = idle > 1 and len(rivals) < len(ready) - at
+                share = -(-(idle - rest) // len(rivals))
                 jobs = max(1, min(4, share, 1 + int((room / needs - 1) / 0.6)))
                 used = needs * (1 + 0.6 * (jobs - 1))
                 running[pool.submit(call, given, jobs)] = key, used, jobs
