@@ -1,6 +1,4 @@
-pub mod Answering
+pub mod Answer
 pub mod Memory
-pub mod Reading
-pub mod Telling
-pub mod Texts
+pub mod Report
 pub mod Words

@@ -2,9 +2,9 @@
 ghost use Rattle.std.specs.Prelude.{◌≡◌, false, map, string_bytes, unwrap_or, IfSome, MatchOption};
 ghost use Rattle.std_io.specs.IoError.{error_kind};
 ghost use Rattle.command_core.specs.Streams.{reads};
-ghost use Rattle.command_c.specs.Answering.{Answers, AnswersTexts, IsRefused, Runs, out_of_memory};
+ghost use Rattle.command_c.specs.Answer.{Answers, AnswersTexts, IsRefused, Runs, out_of_memory};
+ghost use Rattle.command_c.specs.Answer.{is_read};
 ghost use Rattle.command_c.specs.Memory.{took};
-ghost use Rattle.command_c.specs.Reading.{is_read};
 
 use crate::memory::{Absent, Given, Kept};
 use crate::words::{Word, texts_of};
@@ -27,7 +27,7 @@ pub(crate) struct Ended {
 
 /// It is seen as the status and the two texts.
 impl Model for Ended {
-    ghost use Rattle.command_c.specs.Answering.{Ended as Texts};
+    ghost use Rattle.command_c.specs.Answer.{Ended as Texts};
 
     ghost Value = { Texts };
 

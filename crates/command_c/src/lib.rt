@@ -12,7 +12,7 @@
 #![tactic(auto)]
 
 ghost use Rattle.std.specs.Prelude.{map};
-ghost use Rattle.command_c.specs.Telling.{TellsCommand};
+ghost use Rattle.command_c.specs.Report.{ReportsCommand};
 
 mod answer;
 mod memory;
@@ -20,7 +20,7 @@ mod report;
 mod words;
 
 use crate::answer::answer_to;
-use crate::report::tell;
+use crate::report::report;
 pub use report::CommandTold;
 use std::alloc::Global;
 pub use words::Word;
@@ -43,8 +43,8 @@ pub extern "C" fn sw_command(
     err: &mut [u8],
     told: &mut CommandTold,
 ) -> i32
-    ensures { TellsCommand (map (λ word. word.text.now) words.now) input.now out.old out.new
+    ensures { ReportsCommand (map (λ word. word.text.now) words.now) input.now out.old out.new
         err.old err.new told.new result }
 {
-    tell(&answer_to(alloc, words, input), out, err, told)
+    report(&answer_to(alloc, words, input), out, err, told)
 }

@@ -1,9 +1,7 @@
 //! What the command answers, reported to C.
 ghost use Rattle.std.specs.Prelude.{◌≡◌, ◌≤◌, ◌++◌, length, drop, unwrap_or};
-ghost use Rattle.command_c.specs.Answering.{out_of_memory};
-ghost use Rattle.command_c.specs.Reading.{is_read};
-ghost use Rattle.command_c.specs.Telling.{IsPutInto, Tells, read_number};
-ghost use Rattle.command_c.specs.Texts.{texts_now};
+ghost use Rattle.command_c.specs.Answer.{out_of_memory, is_read};
+ghost use Rattle.command_c.specs.Report.{IsPutInto, Reports, read_number, texts_now};
 
 use crate::answer::{Answer, Ended, Reading};
 use command_core::status;
@@ -24,8 +22,8 @@ pub struct CommandTold {
 }
 
 /// Reports what the command answers, and gives its status.
-pub(crate) fn tell(answer: &Answer, out: &mut [u8], err: &mut [u8], told: &mut CommandTold) -> i32
-    ensures { Tells (unwrap_or answer.now.ended out_of_memory) (is_read answer.now.reading) out.old
+pub(crate) fn report(answer: &Answer, out: &mut [u8], err: &mut [u8], told: &mut CommandTold) -> i32
+    ensures { Reports (unwrap_or answer.now.ended out_of_memory) (is_read answer.now.reading) out.old
         out.new err.old err.new told.new result }
 {
     let texts = texts_of(&answer.ended);

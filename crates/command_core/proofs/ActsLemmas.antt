@@ -18,7 +18,7 @@ use Rattle.command_core.specs.Status.{answer_status, status_of}
 use Rattle.command_core.specs.Streams.{IsUnwritten, Streams}
 use Rattle.command_core.specs.TaskWords.{TaskWords, Replay}
 use Rattle.front_core.specs.declared.answer.Answer.{Answer}
-use Rattle.front_core.specs.Faults.{document_fault, number_of}
+use Rattle.front_core.specs.Fault.{document_fault, number_of}
 use Rattle.front_core.specs.declared.fault.FrontFault.{FrontFault}
 
 -- the answer is written, or nothing

@@ -11,27 +11,26 @@ use Rattle.site_docs.specs.ReadsAs.{IsSiteText, ReadsAsSite}
 use Rattle.json_docs.specs.declared.fault.DocFault.{DocFault}
 use Rattle.docs_core.specs.Replays.{RefusesReplay, Replays}
 use Rattle.docs_core.specs.TimeLimits.{AreSyncedUntil, RefusesSyncUntil}
-use Rattle.front_core.specs.Picks.{AnswersPick, RefusesPick}
-use Rattle.front_core.specs.TagFilters.{IsLangFilter, RefusesTagFilter}
-use Rattle.front_core.specs.Ask.{HasQuestion, IsAnswer}
-use Rattle.front_core.specs.Changes.{IsDelete, IsPutOf, RefusesKey, RefusesPutOf}
+use Rattle.front_core.specs.TagPick.{AnswersPick, RefusesPick}
+use Rattle.front_core.specs.TagFilter.{IsLangFilter, RefusesTagFilter}
+use Rattle.front_core.specs.Ask.{HasQuestion, IsAnswer, AnswersBundle, AnswersFilter, AnswersLookup}
+use Rattle.front_core.specs.Ask.{IsFilter, IsLookup, RefusesFilter, RefusesLookup}
+use Rattle.front_core.specs.Change.{IsDelete, IsPutOf, RefusesKey, RefusesPutOf}
 use Rattle.front_core.specs.Exchange.{ShowsView}
-use Rattle.front_core.specs.Questions.{AnswersBundle, AnswersFilter, AnswersLookup, IsFilter}
-use Rattle.front_core.specs.Questions.{IsLookup, RefusesFilter, RefusesLookup}
 use Rattle.front_core.specs.Preferences.{ArePreferences, RefusesPreferences}
 use Rattle.front_core.specs.Translate.{AnswersMissing, AnswersOutdated, IsMissing, IsOutdated}
 use Rattle.front_core.specs.Translate.{RefusesMissing, RefusesOutdated}
-use Rattle.front_core.specs.Faults.{IsOf, cell_fault}
+use Rattle.front_core.specs.Fault.{IsOf, cell_fault}
 use Rattle.front_core.specs.declared.change.Change.{Change}
 use Rattle.front_core.specs.declared.answer.Answer.{Answer}
 use Rattle.front_core.specs.declared.fault.FrontFault.{FrontFault}
 use Rattle.front_core.specs.declared.fault.FrontFault.TheVariants.{NoMemory}
-use Rattle.command_core.specs.AskWords.{FilterWords, LookupWords, OutdatedWords}
-use Rattle.command_core.specs.AskWords.{PickAllWords, PickWords}
-use Rattle.command_core.specs.Documents.{AreChangesOf, IsDocument, RefusesChanges}
-use Rattle.command_core.specs.Documents.{RefusesDocuments, RefusesOnly}
+use Rattle.command_core.specs.AskWords.{FilterWords, LookupWords, OutdatedWords, PickAllWords}
+use Rattle.command_core.specs.AskWords.{PickWords}
+use Rattle.command_core.specs.Documents.{AreChangesOf, IsDocument, RefusesChanges, RefusesDocuments}
+use Rattle.command_core.specs.Documents.{RefusesOnly}
 use Rattle.command_core.specs.EditWords.{EditWords}
-use Rattle.command_core.specs.Endings.{EndsRefused, TellsUsage, Writes, usage_line}
+use Rattle.command_core.specs.Endings.{EndsRefused, ReportsUsage, Writes, usage_line}
 use Rattle.command_core.specs.Explaining.{IsExplanation}
 use Rattle.command_core.specs.FieldWords.{PreferenceWords}
 use Rattle.docs_core.specs.Lines.{AreDocuments}
@@ -40,7 +39,7 @@ use Rattle.command_core.specs.Status.{answer_status, found_status}
 use Rattle.command_core.specs.Streams.{IsUnread, IsUnwritten, Reader, Streams}
 use Rattle.command_core.specs.TaskWords.{GivesTask, TaskWords}
 use Rattle.command_core.specs.TaskWords as task
-use Rattle.command_core.specs.Parsing.{NoWords, RefusesNothing}
+use Rattle.command_core.specs.Reading.{NoWords, RefusesNothing}
 use Rattle.command_core.specs.declared.documents.DocumentTask.{DocumentTask}
 
 -- ---- `pick` and `new`
@@ -243,7 +242,7 @@ Treats asked run status =
 -- a usage fault, which was reported: nothing was read or written
 abbrev pub IsMisused : {R W F : Type 0} → Streams R W F → ℕ → Type 0
 IsMisused run status =
-    IsUnread run.reader × IsUnwritten run.writer × TellsUsage usage_line run.faults status
+    IsUnread run.reader × IsUnwritten run.writer × ReportsUsage usage_line run.faults status
 
 -- the task of the matched command is done
 abbrev pub ActsBy : {R W F : Type 0} → Option (Text × List Row) → Streams R W F → ℕ → Type 0

@@ -2,7 +2,7 @@
 use Rattle.std.specs.Prelude.{◌&&◌, ℕ, Bool, List, None, Option, Some, codes, nat_lt}
 use Rattle.std.specs.Prelude.{option_and_then, option_map}
 use Rattle.clap.specs.Words.{Row, Text, all_of, first_of}
-use Rattle.front_core.specs.Fields.{FieldText}
+use Rattle.front_core.specs.Preferences.{FieldText}
 use Rattle.nego_core.specs.declared.widening.Widening.{Widening}
 use Rattle.nego_core.specs.declared.widening.Widening.TheVariants.{By, Off}
 use Rattle.command_core.specs.FieldWords.{PreferenceWords, field_of, preference_words}

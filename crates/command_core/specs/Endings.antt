@@ -6,7 +6,7 @@ use Rattle.std_io.specs.declared.io.kind.ErrorKind.TheVariants.{OutOfMemory}
 use Rattle.json_docs.specs.Faults.{of_no_document}
 use Rattle.json_docs.specs.Sinks.{AppendsFront}
 use Rattle.json_docs.specs.declared.fault.DocCause.TheVariants.{WriteFault}
-use Rattle.front_core.specs.Faults.{number_of}
+use Rattle.front_core.specs.Fault.{number_of}
 use Rattle.front_core.specs.declared.fault.FrontFault.{FrontFault}
 use Rattle.front_core.specs.declared.fault.FrontFault.TheVariants.{Document, NoMemory}
 use Rattle.command_core.specs.FaultLine.{PrintsLine, PrintsRefusal}
@@ -18,14 +18,14 @@ abbrev pub write_fault : FrontFault
 write_fault = Document (of_no_document WriteFault)
 
 -- a usage fault, which this line reports to the sink
-abbrev pub TellsUsage : {F : Type 0} → List ℕ → Writer F → ℕ → Type 0
-TellsUsage line faults status = (status ≡ 2) × PrintsLine line faults
+abbrev pub ReportsUsage : {F : Type 0} → List ℕ → Writer F → ℕ → Type 0
+ReportsUsage line faults status = (status ≡ 2) × PrintsLine line faults
 
 -- why the words of a process can't be had: memory ran out, or else a word is no UTF-8, which is a
 -- usage fault
 abbrev pub LacksWords : {F : Type 0} → ErrorKind → Writer F → ℕ → Type 0
 LacksWords OutOfMemory faults status = (status ≡ 5) × PrintsRefusal NoMemory faults
-LacksWords _ faults status = TellsUsage (codes "error: a word is not UTF-8\n") faults status
+LacksWords _ faults status = ReportsUsage (codes "error: a word is not UTF-8\n") faults status
 
 -- the report where no command takes the words together
 abbrev pub usage_line : List ℕ

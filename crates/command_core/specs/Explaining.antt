@@ -1,6 +1,6 @@
 -- What explains a refusal (project rule).
 use Rattle.std.specs.Prelude.{◌≡◌, ◌++◌, ℕ, List, MatchOption, codes, decimal}
-use Rattle.front_core.specs.Refusals.{RefusalTexts, refusal_of}
+use Rattle.front_core.specs.Refusal.{RefusalTexts, refusal_of}
 
 -- what is refused, why, and what to do, a line each
 abbrev pub explanation : ℕ → RefusalTexts → List ℕ

@@ -1,10 +1,10 @@
 -- The line that reports a refusal, and what a sink takes of it (project rule).
-use Rattle.std.specs.Prelude.{◌≡◌, ◌==◌, ◌≤◌, ℕ, false, List, ◌++◌, length, Option, None}
-use Rattle.std.specs.Prelude.{Some, [], codes, decimal, if◌then◌else◌, IfSome, MatchBool}
+use Rattle.std.specs.Prelude.{◌≡◌, ◌==◌, ◌≤◌, ℕ, false, List, ◌++◌, length, Option, None, Some, []}
+use Rattle.std.specs.Prelude.{codes, decimal, if◌then◌else◌, IfSome, MatchBool}
 use Rattle.std.specs.Fmt.Cut.{IsTextOrCut}
 use Rattle.std.specs.Io.KnownBytes.{Appends}
 use Rattle.json_docs.specs.Sinks.{AppendsFront}
-use Rattle.front_core.specs.Faults.{document_of, number_of, row_of}
+use Rattle.front_core.specs.Fault.{document_of, number_of, row_of}
 use Rattle.front_core.specs.declared.fault.FrontFault.{FrontFault}
 use Rattle.command_core.specs.Streams.{IsUnwritten, Writer}
 

@@ -8,7 +8,6 @@ pub mod FaultLine
 pub mod FieldWords
 pub mod Help
 pub mod Matches
-pub mod Parsing
 pub mod Program
 pub mod Reading
 pub mod Status

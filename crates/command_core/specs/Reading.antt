@@ -5,9 +5,17 @@ use Rattle.json_docs.specs.Checks.{OrMemory}
 use Rattle.json_docs.specs.Sources.{IsReadFault, ReadsWhole}
 use Rattle.json_docs.specs.declared.fault.DocFault.{DocFault}
 use Rattle.row_docs.specs.Reading.{no_memory}
-use Rattle.front_core.specs.Faults.{IsOf, document_fault}
+use Rattle.front_core.specs.Fault.{IsOf, document_fault}
 use Rattle.front_core.specs.declared.fault.FrontFault.{FrontFault}
 use Rattle.command_core.specs.Streams.{IsUnread, Reader}
+
+-- a command without words that the product reads
+abbrev pub NoWords : Type 0
+NoWords = Unit {0}
+
+-- no fault is a refusal of them
+abbrev pub RefusesNothing : FrontFault → Type 0
+RefusesNothing _ = ⊥
 
 -- the whole input was read, and this text with this status answers it
 abbrev pub AnswersInput : {R : Type 0} → (List ℕ → List ℕ → ℕ → Type 0) → Reader R → List ℕ → ℕ

@@ -1,6 +1,6 @@
 -- What the program ends with (project rule).
 use Rattle.std.specs.Prelude.{ℕ, Bool, ◌==◌, ◌||◌, if◌then◌else◌}
-use Rattle.front_core.specs.Questions.{is_found}
+use Rattle.front_core.specs.Ask.{is_found}
 use Rattle.front_core.specs.declared.answer.Outcome.{Outcome}
 
 -- the status of a refusal, by its number: 24 and 25 are faults of a stream, 26 is out of memory

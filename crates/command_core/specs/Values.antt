@@ -1,6 +1,6 @@
 -- What a task holds of its words.
 use Rattle.std.specs.Prelude.{map, option_map}
-use Rattle.front_core.specs.Fields.{field_text}
+use Rattle.front_core.specs.Preferences.{field_text}
 use Rattle.command_core.specs.EditWords.{EditWords}
 use Rattle.command_core.specs.FieldWords.{PreferenceWords}
 use Rattle.command_core.specs.TaskWords.{TaskWords, Pick, PickAll, New, Edit, Document, Missing}

@@ -1,7 +1,7 @@
 //! The command `explain`.
 ghost use Rattle.std.specs.Prelude.{◌≡◌, option_map, IfOk, MatchResult};
 ghost use Rattle.command_core.specs.Acts.{IsExplained, RefusesNever};
-ghost use Rattle.front_core.specs.Refusals.{refusal_texts};
+ghost use Rattle.front_core.specs.Refusal.{refusal_texts};
 ghost use Rattle.command_core.specs.Explaining.{explanation};
 ghost use Rattle.command_core.specs.Status.{answer_status};
 ghost use Rattle.command_core.specs.TaskWords.{Explain, explain_task};
@@ -21,7 +21,7 @@ pub(crate) struct Explained {
 
 impl Model for Explained {
     ghost use Rattle.std.specs.Prelude.{◌≡◌, ℕ, Some};
-    ghost use Rattle.front_core.specs.Refusals.{refusal_of, refusal_texts};
+    ghost use Rattle.front_core.specs.Refusal.{refusal_of, refusal_texts};
 
     ghost Value = { ℕ };
 

@@ -3,9 +3,9 @@
 ghost use Rattle.std.specs.Prelude.{◌≡◌, ◌+◌, ◌≤◌, ◌++◌, false, length};
 ghost use Rattle.std_io.specs.IoError.{error_kind};
 ghost use Rattle.arrayvec.specs.ArrayString.{array_string_len};
-ghost use Rattle.front_core.specs.Faults.{number_of};
+ghost use Rattle.front_core.specs.Fault.{number_of};
 ghost use Rattle.front_core.specs.declared.fault.FrontFault.TheVariants.{NoMemory};
-ghost use Rattle.command_core.specs.Endings.{LacksWords, TellsUsage, usage_line};
+ghost use Rattle.command_core.specs.Endings.{LacksWords, ReportsUsage, usage_line};
 ghost use Rattle.command_core.specs.FaultLine.{PrintsFault, PrintsRefusal, counted, document_meant};
 ghost use Rattle.command_core.specs.FaultLine.{fault_line};
 ghost use Rattle.command_core.specs.Status.{status_of};
@@ -46,15 +46,15 @@ pub fn refuse_words<S: Sink>(faults: &mut S, error: &io::Error) -> u8
     if error.kind() == io::ErrorKind::OutOfMemory {
         return refuse_for_memory(faults);
     }
-    tell_usage(faults, b"error: a word is not UTF-8\n")
+    write_usage(faults, b"error: a word is not UTF-8\n")
 }
 
 /// Reports that no command takes the arguments, and gives the status.
 pub(crate) fn refuse_arguments<S: Sink>(faults: &mut S) -> u8
     requires { S.failed faults.old ≡ false }
-    ensures { TellsUsage usage_line (writes S.contents S.failed faults.old faults.new) result }
+    ensures { ReportsUsage usage_line (writes S.contents S.failed faults.old faults.new) result }
 {
-    tell_usage(
+    write_usage(
         faults,
         b"error: no command takes these arguments together\n\nFor more information, try '--help'.\n",
     )
@@ -69,9 +69,9 @@ pub(crate) fn refuse_for_memory<S: Sink>(faults: &mut S) -> u8
 }
 
 /// Writes what is wrong with the arguments, and gives the status.
-fn tell_usage<S: Sink>(faults: &mut S, line: &[u8]) -> u8
+fn write_usage<S: Sink>(faults: &mut S, line: &[u8]) -> u8
     requires { S.failed faults.old ≡ false }
-    ensures { TellsUsage line.now (writes S.contents S.failed faults.old faults.new) result }
+    ensures { ReportsUsage line.now (writes S.contents S.failed faults.old faults.new) result }
 {
     let _ = write_out(faults, line);
     status::USAGE

@@ -2,7 +2,7 @@
 ghost use Rattle.std.specs.Prelude.{◌≡◌, map, option_map};
 ghost use Rattle.std.specs.Option.{option_copied};
 ghost use Rattle.clap.specs.Words.{all_of, first_of, found_of, rows_of};
-ghost use Rattle.front_core.specs.Fields.{field_text};
+ghost use Rattle.front_core.specs.Preferences.{field_text};
 ghost use Rattle.command_core.specs.FieldWords as spec;
 ghost use Rattle.command_core.specs.Matches.{GivesNumber, GivesNumbers};
 ghost use Rattle.command_core.specs.Values.{preference_values};

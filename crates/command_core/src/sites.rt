@@ -1,8 +1,7 @@
 //! The commands `new` and `sync`.
 ghost use Rattle.std.specs.Prelude.{◌≡◌, ◌++◌, false, MatchResult};
 ghost use Rattle.command_core.specs.Acts.{RefusesNew, IsNew, IsSync, RefusesSync, Treats};
-ghost use Rattle.command_core.specs.Parsing.{NoWords, RefusesNothing};
-ghost use Rattle.command_core.specs.Reading.{AnswersInput, RefusesInput};
+ghost use Rattle.command_core.specs.Reading.{NoWords, RefusesNothing, AnswersInput, RefusesInput};
 ghost use Rattle.command_core.specs.Status.{answer_status};
 ghost use Rattle.command_core.specs.Streams.{reads, streams, writes};
 ghost use Rattle.command_core.specs.TaskWords.{Sync};

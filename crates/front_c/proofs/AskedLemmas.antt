@@ -7,17 +7,15 @@ use Rattle.front_core.specs.Exchange.{ShowsView}
 use Rattle.front_core.specs.declared.answer.Answer.{Answer}
 use Rattle.front_core.specs.declared.exchange.View.{View}
 use Rattle.front_core.specs.declared.fault.FrontFault.{FrontFault}
-use Rattle.front_core.specs.Fields.{FieldText}
-use Rattle.front_core.specs.Editing.{Edits, OrNoMemory}
+use Rattle.front_core.specs.Preferences.{FieldText}
+use Rattle.front_core.specs.OpenSite.{Edits, OrNoMemory}
 use Rattle.front_core.specs.declared.fault.FrontFault.TheVariants.{NoMemory}
 use Rattle.front_c.specs.Calls.{IsHeld, IsShared, Keeps, Leaving, ReportsHeld, ReportsLine}
-use Rattle.front_c.specs.Calls.{ReportsShared}
-use Rattle.front_c.specs.Calls.{ReportsAsked, ReportsEdited, ReportsField, ReportsOpen}
-use Rattle.front_c.specs.Calls.{ReportsQuestion, ReportsView}
-use Rattle.front_c.specs.Statuses.{found}
-use Rattle.front_c.specs.Reporting.{ReportsAnswer, ReportsText}
-use Rattle.front_c.specs.Reporting.{Ends, ReportsDone, ReportsEither, ReportsFault}
-use Rattle.front_c.specs.Reporting.{ReportsRefusal, Text}
+use Rattle.front_c.specs.Calls.{ReportsShared, ReportsAsked, ReportsEdited, ReportsField}
+use Rattle.front_c.specs.Calls.{ReportsOpen, ReportsQuestion, ReportsView}
+use Rattle.front_c.specs.Status.{found}
+use Rattle.front_c.specs.Reporting.{ReportsAnswer, ReportsText, Ends, ReportsDone, ReportsEither}
+use Rattle.front_c.specs.Reporting.{ReportsFault, ReportsRefusal, Text}
 use Rattle.front_c.specs.declared.told.Told.{Told}
 
 module _ {Q : Type 0} (question : Result Q FrontFault) (Reads : Q → Type 0)

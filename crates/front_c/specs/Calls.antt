@@ -4,31 +4,29 @@ use Rattle.std.specs.Prelude.{Result, option_map}
 use Rattle.cata_core.specs.Site.{SiteState}
 use Rattle.site_docs.specs.ReadsAs.{ReadsAsSite}
 use Rattle.front_core.specs.Ask.{IsAnswer, IsNoMemory, RefusesAnswer, RefusesDocument}
-use Rattle.front_core.specs.Editing.{Edits, IsDeleted, IsMerged, IsPutInto, IsTaken, LeavesMerge}
-use Rattle.front_core.specs.Editing.{LeavesTake, OrNoMemory, RefusesDelete, RefusesMerge}
-use Rattle.front_core.specs.Editing.{RefusesPutInto, RefusesTake}
+use Rattle.front_core.specs.Ask.{AnswersBundle, AnswersFilter, AnswersLookup, IsFilter, IsLookup}
+use Rattle.front_core.specs.Ask.{IsLookupText, RefusesFilter, RefusesLookup}
+use Rattle.front_core.specs.OpenSite.{Edits, IsDeleted, IsMerged, IsPutInto, IsTaken, LeavesMerge}
+use Rattle.front_core.specs.OpenSite.{LeavesTake, OrNoMemory, RefusesDelete, RefusesMerge}
+use Rattle.front_core.specs.OpenSite.{RefusesPutInto, RefusesTake, IsNewSite, RefusesNewSite}
+use Rattle.front_core.specs.OpenSite.{AreUpdated, IsImported, RefusesImport, RefusesUpdates}
 use Rattle.front_core.specs.Exchange.{IsDelta, RefusesDelta, ShowsView}
-use Rattle.front_core.specs.Fields.{FieldText}
+use Rattle.front_core.specs.Preferences.{FieldText, ArePreferences, RefusesPreferences}
 use Rattle.docs_core.specs.Lines.{lines_of}
-use Rattle.front_core.specs.Picks.{IsPickedTag, RefusesPick}
-use Rattle.front_core.specs.Preferences.{ArePreferences, RefusesPreferences}
-use Rattle.front_core.specs.Questions.{AnswersBundle, AnswersFilter, AnswersLookup, IsFilter}
-use Rattle.front_core.specs.Questions.{IsLookup, IsLookupText, RefusesFilter, RefusesLookup}
-use Rattle.front_core.specs.Refusals.{refusal_of}
-use Rattle.front_core.specs.Site.{IsNewSite, RefusesNewSite}
-use Rattle.front_core.specs.TagFilters.{IsTagFilter, RefusesTagFilter}
+use Rattle.front_core.specs.TagPick.{IsPickedTag, RefusesPick}
+use Rattle.front_core.specs.Refusal.{refusal_of}
+use Rattle.front_core.specs.TagFilter.{IsTagFilter, RefusesTagFilter}
 use Rattle.front_core.specs.Translate.{AnswersMissing, AnswersOutdated, AreChangeLines, IsMissing}
 use Rattle.front_core.specs.Translate.{IsOutdated, RefusesMissing, RefusesOutdated}
-use Rattle.front_core.specs.WholeEdits.{AreUpdated, IsImported, RefusesImport, RefusesUpdates}
 use Rattle.front_core.specs.declared.answer.Answer.{Answer}
 use Rattle.front_core.specs.declared.exchange.View.{View}
 use Rattle.front_core.specs.declared.fault.FrontFault.{FrontFault}
 use Rattle.front_core.specs.declared.fault.FrontFault.TheVariants.{NoMemory}
-use Rattle.front_c.specs.Questions.{default_of, field_of, limit_of, lookup_field_of}
+use Rattle.front_c.specs.Question.{default_of, field_of, limit_of, lookup_field_of}
 use Rattle.front_c.specs.Reporting.{Ends, Reports, ReportsAnswer, ReportsDone, ReportsEither}
 use Rattle.front_c.specs.Reporting.{ReportsFault, ReportsLabelText, ReportsNothing, ReportsPicked}
 use Rattle.front_c.specs.Reporting.{ReportsText, ReportsUsage, Text, answered}
-use Rattle.front_c.specs.Statuses.{found, out_of_memory, usage}
+use Rattle.front_c.specs.Status.{found, out_of_memory, usage}
 
 -- ---- tags
 

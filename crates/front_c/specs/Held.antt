@@ -4,7 +4,7 @@ use Rattle.std.specs.Ptr.{Ptr}
 use Rattle.std_alloc.specs.Box.Ownership.{box_owns}
 use Rattle.std_heap.specs.declared.Global.{Global}
 use Rattle.std_heap.specs.contracts.GlobalAllocator.TheImpl.{ghosts}
-use Rattle.front_core.specs.contracts.edit.OpenSite.{the_row as open_row}
+use Rattle.front_core.specs.contracts.open_site.OpenSite.{the_row as open_row}
 use denote.RattleType.{RattleType}
 use denote.RawPtr.{null_ptr}
 use base.Fml.{Fml, feq}

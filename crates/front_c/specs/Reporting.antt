@@ -1,7 +1,7 @@
 -- How an answer or a refusal is reported to C (project rules).
 use Rattle.std.specs.Prelude.{◌≡◌, ◌==◌, ◌≤◌, ◌<◌, ◌+◌, ◌++◌, ◌⊎◌, ℕ, ℤ, Bool, List, Option, None}
 use Rattle.std.specs.Prelude.{Some, drop, if◌then◌else◌, is_some, length}
-use Rattle.front_core.specs.Faults.{count_of, document_of, number_of, offset_of, row_of}
+use Rattle.front_core.specs.Fault.{count_of, document_of, number_of, offset_of, row_of}
 use Rattle.front_core.specs.declared.answer.Answer.{Answer}
 use Rattle.front_core.specs.declared.answer.LabelText.{LabelText}
 use Rattle.front_core.specs.declared.answer.LabelText.TheVariants as label
@@ -9,7 +9,7 @@ use Rattle.front_core.specs.declared.fault.FrontFault.{FrontFault}
 use Rattle.front_core.specs.declared.tag_pick.Picked.{Picked}
 use Rattle.front_core.specs.declared.tag_pick.Picked.TheVariants as picked
 use Rattle.front_c.specs.declared.told.Told.{Told}
-use Rattle.front_c.specs.Statuses.{found, nothing, status_of_outcome, status_of_refusal, usage}
+use Rattle.front_c.specs.Status.{found, nothing, status_of_outcome, status_of_refusal, usage}
 
 -- the bytes of a text that C passes, or of a buffer
 abbrev pub Text : Type 0

@@ -1,7 +1,7 @@
 //! The parts of a question that C asks.
 ghost use Rattle.std.specs.Prelude.{◌≡◌, option_map};
-ghost use Rattle.front_core.specs.Fields.{field_text};
-ghost use Rattle.front_c.specs.Questions.{default_of, field_of, limit_of, lookup_field_of};
+ghost use Rattle.front_core.specs.Preferences.{field_text};
+ghost use Rattle.front_c.specs.Question.{default_of, field_of, limit_of, lookup_field_of};
 
 use front_core::Field;
 use nego_core::{Malformed, Scheme, Widening};

@@ -1,18 +1,18 @@
 //! What a call comes to, reported to C: its status, its record and the buffer of its answer.
 ghost use Rattle.std.specs.Prelude.{◌≡◌, ◌≤◌, ◌++◌, Err, MatchResult, Ok, drop, length, option_map};
 ghost use Rattle.front_core.specs.Ask.{IsAnswer, RefusesAnswer};
-ghost use Rattle.front_core.specs.Fields.{field_text};
+ghost use Rattle.front_core.specs.Preferences.{field_text};
 ghost use Rattle.docs_core.specs.Lines.{lines_of};
-ghost use Rattle.front_core.specs.Picks.{IsPickedTag, RefusesPick};
-ghost use Rattle.front_core.specs.Refusals.{refusal_of, refusal_texts};
+ghost use Rattle.front_core.specs.TagPick.{IsPickedTag, RefusesPick};
+ghost use Rattle.front_core.specs.Refusal.{refusal_of, refusal_texts};
 ghost use Rattle.front_c.specs.Calls.{IsHeld, IsShared, ReportsAsked};
 ghost use Rattle.front_c.specs.Handles.{site_of};
-ghost use Rattle.front_c.specs.Questions.{default_of};
+ghost use Rattle.front_c.specs.Question.{default_of};
 ghost use Rattle.front_c.specs.Reporting.{IsWrittenTo, ReportsAnswer, ReportsDone, ReportsEither};
 ghost use Rattle.front_c.specs.Reporting.{ReportsFault, ReportsLabelText, ReportsPicked};
-ghost use Rattle.front_c.specs.Reporting.{ReportsRefusal};
-ghost use Rattle.front_c.specs.Reporting.{ReportsText, ReportsUsage, answered, refused};
-ghost use Rattle.front_c.specs.Statuses.{nothing, usage};
+ghost use Rattle.front_c.specs.Reporting.{ReportsRefusal, ReportsText, ReportsUsage, answered};
+ghost use Rattle.front_c.specs.Reporting.{refused};
+ghost use Rattle.front_c.specs.Status.{nothing, usage};
 
 use crate::handles::site_handle::SiteHandle;
 use crate::question::default_of;

@@ -1,6 +1,6 @@
 //! The statuses of calls: those of the command.
 ghost use Rattle.std.specs.Prelude.{◌≡◌};
-ghost use Rattle.front_c.specs.Statuses.{status_of_outcome, status_of_refusal};
+ghost use Rattle.front_c.specs.Status.{status_of_outcome, status_of_refusal};
 
 use front_core::{FrontFault, Outcome};
 

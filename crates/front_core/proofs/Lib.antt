@@ -1,8 +1,6 @@
-pub mod EditLemmas
-pub mod EditingLemmas
+pub mod OpenSiteLemmas
 pub mod PickLaws
-pub mod PickLemmas
 pub mod RefusalLemmas
-pub mod TagFiltersLemmas
+pub mod TagFilterLemmas
+pub mod TagPickLemmas
 pub mod TagsLemmas
-pub mod WholeEditsLemmas

@@ -25,12 +25,12 @@ use Rattle.nego_core.specs.declared.field.Malformed.TheVariants.{Refused, Passed
 use Rattle.nego_core.specs.declared.scheme.Scheme.{Scheme}
 use Rattle.nego_core.specs.declared.fault.NegoFault.TheVariants as nego
 use Rattle.nego_core.specs.Field.{IsField, RefusesField}
-use Rattle.front_core.specs.Faults.{field_fault, language_fault}
-use Rattle.front_core.specs.Fields.{FieldText, ReadsAs, RefusesRanges, Text}
-use Rattle.front_core.specs.Picks.{Finds, IsPicked, IsPickLine, LooksUp, RefusesPick, pick_line}
-use Rattle.front_core.specs.Preferences.{IsDefault, RefusesDefault}
+use Rattle.front_core.specs.Fault.{field_fault, language_fault}
+use Rattle.front_core.specs.Preferences.{FieldText, ReadsAs, RefusesRanges, Text, IsDefault}
+use Rattle.front_core.specs.Preferences.{RefusesDefault}
+use Rattle.front_core.specs.TagPick.{Finds, IsPicked, IsPickLine, LooksUp, RefusesPick, pick_line}
 use Rattle.front_core.specs.Tags.{HasNoLang, RefusesTags, SpellLangs}
-use Rattle.front_core.proofs.PickLemmas.{one_lang}
+use Rattle.front_core.proofs.TagPickLemmas.{one_lang}
 use Rattle.front_core.specs.declared.words.Finding.{Finding}
 use Rattle.front_core.specs.declared.words.Finding.TheVariants.{Matched, Default, Nothing}
 use Rattle.front_core.specs.declared.fault.FrontFault.{FrontFault}

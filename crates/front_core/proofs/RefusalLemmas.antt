@@ -3,7 +3,7 @@ use Rattle.std.proofs.Common.{◌≡◌, ◌≤◌, ◌<◌, ◌-◌, ◌==◌, 
 use Rattle.std.specs.Prelude.{None}
 use Rattle.std.proofs.lemmas.Bool.Decides.{nat_tests}
 use Rattle.std.proofs.lemmas.Option.{slice_get_past}
-use Rattle.front_core.specs.Refusals.{refusal_of, refusals}
+use Rattle.front_core.specs.Refusal.{refusal_of, refusals}
 
 -- there are 29
 count : length refusals ≡ 29

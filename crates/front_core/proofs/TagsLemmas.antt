@@ -6,7 +6,7 @@ use Rattle.std.proofs.Math.Seq.{drop-cons}
 use Rattle.lang_core.specs.Lang.{SpellsLang, RefusesLang}
 use Rattle.lang_core.specs.declared.fault.LangFault.{LangFault}
 use Rattle.lang_core.specs.declared.fault.LangFault.TheVariants as lang
-use Rattle.front_core.specs.Fields.{Text}
+use Rattle.front_core.specs.Preferences.{Text}
 use Rattle.front_core.specs.Tags.{HasNoLang, RefusesTags, SpellLangs}
 
 SpellLangs-snoc : (words : List Text) (langs : List (List ℕ)) (word : Text) (lang : List ℕ)

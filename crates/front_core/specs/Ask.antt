@@ -1,16 +1,40 @@
--- What a question to a site is answered, whether the site is open or the text of its document
+-- Questions to a site, whether it is open or the text of its document, and what answers them
 -- (project rules).
-use Rattle.std.specs.Prelude.{◌≡◌, ◌⊎◌, List, ℕ}
+use Rattle.std.specs.Prelude.{◌≡◌, ◌⊎◌, List, ℕ, ◌≤◌, Bool, Option, None, Some, false, true, length}
+use Rattle.std.specs.Prelude.{option_map, slice_get}
+use Rattle.std.specs.Str.{IsUtf8}
+use Rattle.cell_core.specs.MessageId.{IsMessageId}
+use Rattle.cell_core.specs.declared.fault.CellFault.{CellFault}
+use Rattle.cell_core.specs.declared.fault.CellFault.TheVariants as cell
 use Rattle.cata_core.specs.Site.{SiteState}
+use Rattle.cata_core.specs.Asking.{IsLookupAnswerBy}
+use Rattle.cata_core.specs.Entries.{Entries}
+use Rattle.cata_core.specs.declared.reply.Reply.{Reply}
 use Rattle.json_docs.specs.Checks.{OrMemory}
 use Rattle.row_docs.specs.Reading.{IsOfDocument, no_memory}
 use Rattle.site_docs.specs.ReadsAs.{ReadsAsSite, RefusesSite}
-use Rattle.front_core.specs.Faults.{IsOf, document_fault}
+use Rattle.map_docs.specs.LangMapTexts.{AreWritten}
+use Rattle.map_docs.specs.LangMaps.{Labelled}
+use Rattle.query_docs.specs.Asks.{Answers, is_found as is_reply}
+use Rattle.query_docs.specs.Bundled.{IsBundleBy}
+use Rattle.query_docs.specs.Lines.{reply_line}
+use Rattle.query_docs.specs.LooksUp.{answered}
+use Rattle.query_docs.specs.declared.asking.Ask.TheVariants as ask
+use Rattle.front_core.specs.Fault.{IsOf, document_fault, cell_fault, field_fault}
+use Rattle.front_core.specs.Preferences.{FieldText, ReadsAs, RefusesRanges, Text, ArePreferences}
+use Rattle.front_core.specs.Preferences.{RefusesPreferences}
 use Rattle.front_core.specs.declared.answer.Answer.{Answer}
 use Rattle.front_core.specs.declared.ask.SiteIn.{SiteIn}
 use Rattle.front_core.specs.declared.ask.SiteIn.TheVariants.{Document, Open}
 use Rattle.front_core.specs.declared.fault.FrontFault.{FrontFault}
 use Rattle.front_core.specs.declared.fault.FrontFault.TheVariants.{NoMemory}
+use Rattle.front_core.specs.declared.answer.LabelText.{LabelText}
+use Rattle.front_core.specs.declared.answer.Outcome.{Outcome}
+use Rattle.front_core.specs.declared.answer.Outcome.TheVariants.{Found, Nothing}
+use Rattle.front_core.specs.declared.ask.Filter.{Filter}
+use Rattle.front_core.specs.declared.ask.Lookup.{Lookup}
+use Rattle.front_core.specs.declared.preferences.Preferences.{Preferences}
+use Rattle.front_core.specs.declared.answer.LabelText.TheVariants as label
 
 -- why bytes are no document of a site; or memory ended
 abbrev pub RefusesDocument : List ℕ → FrontFault → Type 0
@@ -49,3 +73,94 @@ IsAnswer {Q} Reads Answers site answer = (asked : Q) × Reads asked × Answers a
 -- the arguments are refused, or memory ended before the answer
 abbrev pub RefusesAnswer : {Q : Type 0} → (Q → Type 0) → (FrontFault → Type 0) → FrontFault → Type 0
 RefusesAnswer Reads Refuses fault = Refuses fault ⊎ (HasQuestion Reads × (fault ≡ NoMemory))
+
+-- whether anything was found
+abbrev pub is_found : Outcome → Bool
+is_found Found = true
+is_found Nothing = false
+
+-- ---- ids
+
+-- the bytes are the text of a message id
+abbrev pub IsId : Text → Type 0
+IsId id = IsUtf8 id × IsMessageId id
+
+-- the bytes are no message id, or they are one and memory ended
+abbrev pub RefusesIdText : Text → CellFault → Type 0
+RefusesIdText id cell.IdRefused = ¬ IsId id
+RefusesIdText id cell.NoMemory = IsId id
+RefusesIdText id _ = ⊥
+
+-- the same, in the form that refusals have here
+abbrev pub RefusesId : Text → FrontFault → Type 0
+RefusesId id = IsOf cell_fault (RefusesIdText id)
+
+-- ---- the questions
+
+-- the question of a lookup: this message, and these preferences
+abbrev pub IsLookup : Text → FieldText → Option Text → Lookup → Type 0
+IsLookup id field word asked = IsId id × (asked.id ≡ id)
+    × ArePreferences field word asked.preferences
+
+-- the id is refused first, then the default, and then the field
+abbrev pub RefusesLookup : Text → FieldText → Option Text → FrontFault → Type 0
+RefusesLookup id field word fault = RefusesId id fault
+    ⊎ (IsId id × RefusesPreferences field word fault)
+
+-- the question of a filter: this message, the field's scheme, and its list
+abbrev pub IsFilter : Text → FieldText → Filter → Type 0
+IsFilter id field asked = IsId id × (asked.id ≡ id) × (asked.scheme ≡ field.scheme)
+    × ReadsAs field asked.list
+
+-- the id is refused first, and then the field
+abbrev pub RefusesFilter : Text → FieldText → FrontFault → Type 0
+RefusesFilter id field fault = RefusesId id fault
+    ⊎ (IsId id × IsOf field_fault (RefusesRanges field) fault)
+
+-- ---- what answers it, over the cells of a site
+
+-- what lookup (RFC 4647 section 3.4), or widened lookup, finds among the live labels of the message
+abbrev pub IsReply : Entries → Lookup → Reply → Type 0
+IsReply cells asked reply =
+    IsLookupAnswerBy asked.preferences.widening cells asked.id asked.preferences.list
+    asked.preferences.default reply
+
+-- its line
+abbrev pub AnswersLookup : Entries → Lookup → Answer → Type 0
+AnswersLookup cells asked answer =
+    (reply : Reply) × IsReply cells asked reply × (answer.text ≡ reply_line reply)
+    × (is_found answer.outcome ≡ is_reply reply)
+
+-- the texts of the label that was answered
+abbrev pub texts_of : Reply → Option (List Text)
+texts_of reply = option_map (λ found. found.1) (answered reply)
+
+-- what is at a place of these texts
+abbrev pub IsTextAt : ℕ → Option (List Text) → LabelText → Type 0
+IsTextAt place None label.Nothing = Unit {0}
+IsTextAt place (Some texts) (label.Found text count) = (slice_get texts place ≡ Some text.now)
+    × (count ≡ length texts)
+IsTextAt place (Some texts) (label.PastEnd count) = (length texts ≤ place) × (count ≡ length texts)
+IsTextAt _ _ _ = ⊥
+
+-- the text at a place of the label that lookup finds
+abbrev pub AnswersText : Entries → Lookup → ℕ → LabelText → Type 0
+AnswersText cells asked place text =
+    (reply : Reply) × IsReply cells asked reply × IsTextAt place (texts_of reply) text
+
+-- the lines of the live labels of the message that the list takes (RFC 4647 section 3.3)
+abbrev pub AnswersFilter : Entries → Filter → Answer → Type 0
+AnswersFilter cells asked answer = Answers cells asked.id (ask.Filter asked.scheme asked.list)
+    answer.text (is_found answer.outcome)
+
+-- the language maps of the labels that lookup finds, one for each message at most
+abbrev pub AnswersBundle : Entries → Preferences → Answer → Type 0
+AnswersBundle cells asked answer =
+    (labels : List Labelled)
+    × IsBundleBy asked.widening cells asked.list asked.default labels
+    × AreWritten labels answer.text (is_found answer.outcome)
+
+-- the text at a place of the label that the lookup asked finds
+abbrev pub IsLookupText : Entries → Text → FieldText → Option Text → ℕ → LabelText → Type 0
+IsLookupText cells id field word place text = (asked : Lookup) × IsLookup id field word asked
+    × AnswersText cells asked place text

@@ -6,12 +6,12 @@ use Rattle.cata_core.specs.Summary.{SummaryState}
 use Rattle.json_docs.specs.Checks.{OrMemory}
 use Rattle.map_docs.specs.LangMapTexts.{IsTextOf}
 use Rattle.row_docs.specs.Reading.{IsOfDocument, no_memory}
-use Rattle.site_docs.specs.ReadsAs.{IsDeltaText, IsSiteText, IsSummaryText}
-use Rattle.site_docs.specs.ReadsAs.{ReadsAsSite, ReadsAsSummary, RefusesSummary}
+use Rattle.site_docs.specs.ReadsAs.{IsDeltaText, IsSiteText, IsSummaryText, ReadsAsSite}
+use Rattle.site_docs.specs.ReadsAs.{ReadsAsSummary, RefusesSummary}
 use Rattle.query_docs.specs.Exported.{live_labels}
 use Rattle.query_docs.specs.Status.{status_line}
-use Rattle.front_core.specs.Faults.{IsOf, document_fault}
-use Rattle.front_core.specs.Fields.{Text}
+use Rattle.front_core.specs.Fault.{IsOf, document_fault}
+use Rattle.front_core.specs.Preferences.{Text}
 use Rattle.front_core.specs.declared.answer.Answer.{Answer}
 use Rattle.front_core.specs.declared.answer.Outcome.TheVariants.{Found}
 use Rattle.front_core.specs.declared.exchange.View.{View}

@@ -3,7 +3,7 @@ use Rattle.std.specs.Prelude.{◌≡◌, ℕ, List, [], ◌∷◌, ◌++◌}
 use Rattle.lang_core.specs.Lang.{SpellsLang, RefusesLang}
 use Rattle.lang_core.specs.declared.fault.LangFault.{LangFault}
 use Rattle.lang_core.specs.declared.fault.LangFault.TheVariants as lang
-use Rattle.front_core.specs.Fields.{Text}
+use Rattle.front_core.specs.Preferences.{Text}
 
 -- each word spells the language at its place
 abbrev pub SpellLangs : List Text → List (List ℕ) → Type 0

@@ -8,9 +8,9 @@ use Rattle.query_docs.specs.Changed.{changes_lines, has_change}
 use Rattle.query_docs.specs.Missing.{missing_labels}
 use Rattle.query_docs.specs.Outdated.{outdated_labels}
 use Rattle.row_docs.specs.Fields.{IsSpelled}
-use Rattle.front_core.specs.Faults.{IsOf, language_fault}
-use Rattle.front_core.specs.Fields.{Text}
-use Rattle.front_core.specs.Questions.{is_found}
+use Rattle.front_core.specs.Fault.{IsOf, language_fault}
+use Rattle.front_core.specs.Preferences.{Text}
+use Rattle.front_core.specs.Ask.{is_found}
 use Rattle.front_core.specs.declared.answer.Answer.{Answer}
 use Rattle.front_core.specs.declared.fault.FrontFault.{FrontFault}
 use Rattle.front_core.specs.declared.translate.Missing.{Missing}

@@ -7,6 +7,7 @@ use docs_core::Doc;
 /// Whether an answer has found anything.
 #[derive(Clone, Copy, Debug, PartialEq, Eq)]
 pub enum Outcome {
+    /// The answer has a tag, a label or a line, or it is one of a whole site.
     Found,
     /// The answer is `nothing`, `filter 0` or `{}`.
     Nothing,
@@ -15,7 +16,7 @@ pub enum Outcome {
 impl Outcome {
     ghost use Rattle.cata_core.specs.Reply.{reply_of};
     ghost use Rattle.query_docs.specs.Asks.{is_found as is_reply};
-    ghost use Rattle.front_core.specs.Questions.{is_found};
+    ghost use Rattle.front_core.specs.Ask.{is_found};
 
     /// `Found` if `found`, else `Nothing`.
     pub fn of(found: bool) -> Outcome
@@ -46,7 +47,7 @@ pub struct Answer {
 }
 
 impl Answer {
-    ghost use Rattle.front_core.specs.Questions.{is_found};
+    ghost use Rattle.front_core.specs.Ask.{is_found};
 
     /// The answer of this text.
     pub fn new(text: Doc, outcome: Outcome) -> Answer

@@ -2,8 +2,8 @@
 //! about one message.
 ghost use Rattle.std.specs.Prelude.{◌≡◌, option_map, slice_get, MatchResult};
 ghost use Rattle.cata_core.specs.Site.{SiteState};
-ghost use Rattle.front_core.specs.Ask.{IsAnsweredIn, RefusesIn};
-ghost use Rattle.front_core.specs.Questions.{IsId, IsTextAt, RefusesIdText, texts_of};
+ghost use Rattle.front_core.specs.Ask.{IsAnsweredIn, RefusesIn, IsId, IsTextAt, RefusesIdText};
+ghost use Rattle.front_core.specs.Ask.{texts_of};
 
 use crate::answer::{Answer, LabelText, Outcome};
 use crate::fault::FrontFault;
@@ -51,9 +51,9 @@ pub struct Lookup {
 impl Lookup {
     ghost use Rattle.std.specs.Prelude.{IfOk, MatchResult};
     ghost use Rattle.cata_core.specs.Reply.{reply_of};
-    ghost use Rattle.front_core.specs.Questions.{AnswersLookup, AnswersText, IsLookup, IsReply};
-    ghost use Rattle.front_core.specs.Questions.{RefusesLookup};
-    ghost use Rattle.front_core.specs.Fields.{field_text};
+    ghost use Rattle.front_core.specs.Ask.{AnswersLookup, AnswersText, IsLookup, IsReply};
+    ghost use Rattle.front_core.specs.Ask.{RefusesLookup};
+    ghost use Rattle.front_core.specs.Preferences.{field_text};
 
     /// Reads a lookup from these bytes.
     ///
@@ -111,7 +111,7 @@ impl Lookup {
 /// The line of the label that is found, with its LF: `matched LANGUAGE LABEL`, `default LANGUAGE
 /// LABEL` or `nothing`, where a label is the compact JSON array of its texts.
 impl Question for Lookup {
-    ghost use Rattle.front_core.specs.Questions.{AnswersLookup};
+    ghost use Rattle.front_core.specs.Ask.{AnswersLookup};
 
     ghost Answers = { λ asked site. AnswersLookup site.cells asked };
 
@@ -140,8 +140,8 @@ pub struct Filter {
 
 impl Filter {
     ghost use Rattle.std.specs.Prelude.{IfOk, MatchResult};
-    ghost use Rattle.front_core.specs.Questions.{AnswersFilter, IsFilter, RefusesFilter};
-    ghost use Rattle.front_core.specs.Fields.{field_text};
+    ghost use Rattle.front_core.specs.Ask.{AnswersFilter, IsFilter, RefusesFilter};
+    ghost use Rattle.front_core.specs.Preferences.{field_text};
 
     /// Reads a filter from these bytes, under the scheme of the field.
     ///
@@ -175,7 +175,7 @@ impl Filter {
 /// The lines of the labels whose languages fit, best first: `filter N`, then N lines `LANGUAGE
 /// WEIGHT LABEL`, with the weight in thousandths; a label is the compact JSON array of its texts.
 impl Question for Filter {
-    ghost use Rattle.front_core.specs.Questions.{AnswersFilter};
+    ghost use Rattle.front_core.specs.Ask.{AnswersFilter};
 
     ghost Answers = { λ asked site. AnswersFilter site.cells asked };
 

@@ -1,7 +1,7 @@
 //! Changes of one label.
 ghost use Rattle.std.specs.Prelude.{◌≡◌, ◌∷◌, [], map, IfOk, MatchResult};
 ghost use Rattle.cell_core.specs.Label.{texts_of};
-ghost use Rattle.front_core.specs.Changes.{HasLabel, IsKey, RefusesKey, RefusesLabelText, not_utf8};
+ghost use Rattle.front_core.specs.Change.{HasLabel, IsKey, RefusesKey, RefusesLabelText, not_utf8};
 
 use crate::ask::read_id;
 use crate::fault::FrontFault;
@@ -27,9 +27,8 @@ impl Change {
     ghost use Rattle.json_docs.specs.Checks.{OrMemory};
     ghost use Rattle.row_docs.specs.Reading.{no_memory};
     ghost use Rattle.docs_core.specs.Calls.{IsEdited, RefusesEditing};
-    ghost use Rattle.front_core.specs.Changes.{IsChanged, IsDelete, IsPut, IsPutOf};
-    ghost use Rattle.front_core.specs.Changes.{RefusesChange, RefusesKey, RefusesPut};
-    ghost use Rattle.front_core.specs.Changes.{RefusesPutOf};
+    ghost use Rattle.front_core.specs.Change.{IsChanged, IsDelete, IsPut, IsPutOf, RefusesChange};
+    ghost use Rattle.front_core.specs.Change.{RefusesKey, RefusesPut, RefusesPutOf};
 
     /// The change that puts a label of one text.
     ///

@@ -1,7 +1,7 @@
 //! Why a question or a command is refused.
 ghost use Rattle.std.specs.Prelude.{◌≡◌};
-ghost use Rattle.front_core.specs.Faults.{cause_count, cause_offset, cell_count, nego_offset};
-ghost use Rattle.front_core.specs.Faults.{row_offset};
+ghost use Rattle.front_core.specs.Fault.{cause_count, cause_offset, cell_count, nego_offset};
+ghost use Rattle.front_core.specs.Fault.{row_offset};
 
 use cata_core::CataFault;
 use cell_core::CellFault;
@@ -33,8 +33,7 @@ pub enum FrontFault {
 }
 
 impl FrontFault {
-    ghost use Rattle.front_core.specs.Faults.{count_of, document_of, number_of, offset_of};
-    ghost use Rattle.front_core.specs.Faults.{row_of};
+    ghost use Rattle.front_core.specs.Fault.{count_of, document_of, number_of, offset_of, row_of};
 
     /// The number of the refusal.
     pub fn number(&self) -> u8
@@ -97,7 +96,7 @@ impl FrontFault {
 
 /// The refusal is kept, and out of memory has one form.
 impl From<CellFault> for FrontFault {
-    ghost use Rattle.front_core.specs.Faults.{cell_fault};
+    ghost use Rattle.front_core.specs.Fault.{cell_fault};
 
     ghost from_gives = { λ refused fault. fault ≡ cell_fault refused };
 
@@ -111,7 +110,7 @@ impl From<CellFault> for FrontFault {
 
 /// The refusal is kept, and out of memory has one form.
 impl From<LangFault> for FrontFault {
-    ghost use Rattle.front_core.specs.Faults.{language_fault};
+    ghost use Rattle.front_core.specs.Fault.{language_fault};
 
     ghost from_gives = { λ refused fault. fault ≡ language_fault refused };
 
@@ -125,7 +124,7 @@ impl From<LangFault> for FrontFault {
 
 /// The refusal is kept, and out of memory has one form.
 impl From<NegoFault> for FrontFault {
-    ghost use Rattle.front_core.specs.Faults.{field_fault};
+    ghost use Rattle.front_core.specs.Fault.{field_fault};
 
     ghost from_gives = { λ refused fault. fault ≡ field_fault refused };
 
@@ -139,7 +138,7 @@ impl From<NegoFault> for FrontFault {
 
 /// The refusal is kept, with its row and its document, and out of memory has one form.
 impl From<DocFault> for FrontFault {
-    ghost use Rattle.front_core.specs.Faults.{document_fault};
+    ghost use Rattle.front_core.specs.Fault.{document_fault};
 
     ghost from_gives = { λ refused fault. fault ≡ document_fault refused };
 
@@ -153,7 +152,7 @@ impl From<DocFault> for FrontFault {
 
 /// The refusal is kept, names no document, and out of memory has one form.
 impl From<CataFault> for FrontFault {
-    ghost use Rattle.front_core.specs.Faults.{site_fault};
+    ghost use Rattle.front_core.specs.Fault.{site_fault};
 
     ghost from_gives = { λ refused fault. fault ≡ site_fault refused };
 

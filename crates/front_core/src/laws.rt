@@ -2,10 +2,10 @@
 ghost use Rattle.std.specs.Prelude.{◌≡◌, ◌≢◌, ℕ, List, Option, true};
 ghost use Rattle.std.specs.List.{list_all};
 ghost use Rattle.cata_core.specs.Site.{SiteState};
-ghost use Rattle.front_core.specs.Editing.{IsMerged, IsTaken, LeavesMerge, LeavesTake};
-ghost use Rattle.front_core.specs.Fields.{FieldText, Text};
-ghost use Rattle.front_core.specs.Picks.{IsPickLine, RefusesPick};
-ghost use Rattle.front_core.specs.Refusals.{are_lines, refusals};
+ghost use Rattle.front_core.specs.OpenSite.{IsMerged, IsTaken, LeavesMerge, LeavesTake};
+ghost use Rattle.front_core.specs.Preferences.{FieldText, Text};
+ghost use Rattle.front_core.specs.TagPick.{IsPickLine, RefusesPick};
+ghost use Rattle.front_core.specs.Refusal.{are_lines, refusals};
 ghost use Rattle.front_core.specs.declared.fault.FrontFault.{FrontFault};
 ghost use Rattle.front_core.specs.declared.fault.FrontFault.TheVariants.{NoMemory};
 

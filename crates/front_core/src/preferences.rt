@@ -1,7 +1,7 @@
 //! What a reader prefers: the ranges of a field, and a default where there is one.
 ghost use Rattle.std.specs.Prelude.{MatchResult, option_map};
-ghost use Rattle.front_core.specs.Fields.{ReadsAs, RefusesRanges, field_text};
-ghost use Rattle.front_core.specs.Preferences.{IsDefault, RefusesDefault};
+ghost use Rattle.front_core.specs.Preferences.{ReadsAs, RefusesRanges, field_text, IsDefault};
+ghost use Rattle.front_core.specs.Preferences.{RefusesDefault};
 
 use crate::answer::Answer;
 use crate::ask::{Question, SiteIn};
@@ -48,8 +48,7 @@ pub struct Preferences {
 }
 
 impl Preferences {
-    ghost use Rattle.front_core.specs.Fields.{field_text};
-    ghost use Rattle.front_core.specs.Preferences.{ArePreferences, RefusesPreferences};
+    ghost use Rattle.front_core.specs.Preferences.{field_text, ArePreferences, RefusesPreferences};
 
     /// Reads preferences from a field and a default.
     ///
@@ -78,7 +77,7 @@ impl Preferences {
 /// its lookup finds (RFC 4647, section 3.4), or its widened lookup, matched or as the default. A
 /// message for which nothing is found is left out; `{}` where none is left.
 impl Question for Preferences {
-    ghost use Rattle.front_core.specs.Questions.{AnswersBundle};
+    ghost use Rattle.front_core.specs.Ask.{AnswersBundle};
 
     ghost Answers = { λ asked site. AnswersBundle site.cells asked };
 

@@ -1,6 +1,6 @@
 //! The table of refusals: what each number means, what causes it, and what to do.
 ghost use Rattle.std.specs.Prelude.{◌≡◌, ◌↔◌, ◌≤◌, IsSome, Some, option_map};
-ghost use Rattle.front_core.specs.Refusals.{IsRefusalNumber, refusal_of, refusal_texts};
+ghost use Rattle.front_core.specs.Refusal.{IsRefusalNumber, refusal_of, refusal_texts};
 
 use lang_core::LangFault;
 

@@ -1,11 +1,11 @@
 //! Filtering several tags, one on a line.
-ghost use Rattle.std.specs.Prelude.{◌≡◌, ◌<◌, ◌++◌, ◌∷◌, [], decimal, get_or, length};
-ghost use Rattle.std.specs.Prelude.{IfOk, MatchResult};
+ghost use Rattle.std.specs.Prelude.{◌≡◌, ◌<◌, ◌++◌, ◌∷◌, [], decimal, get_or, length, IfOk};
+ghost use Rattle.std.specs.Prelude.{MatchResult};
 ghost use Rattle.query_docs.specs.Lines.{line};
-ghost use Rattle.front_core.specs.Fields.{field_text};
+ghost use Rattle.front_core.specs.Preferences.{field_text};
 ghost use Rattle.docs_core.specs.Lines.{lines_of};
-ghost use Rattle.front_core.specs.TagFilters.{HaveNames, IsTagFilter, RefusesTagFilter};
-ghost use Rattle.front_core.specs.TagFilters.{ShowsTaken, texts_of};
+ghost use Rattle.front_core.specs.TagFilter.{HaveNames, IsTagFilter, RefusesTagFilter, ShowsTaken};
+ghost use Rattle.front_core.specs.TagFilter.{texts_of};
 
 use crate::answer::{Answer, Outcome};
 use crate::fault::FrontFault;

@@ -1,8 +1,8 @@
 //! Picking one of several tags, one on a line.
 ghost use Rattle.std.specs.Prelude.{◌≡◌, ◌<◌, length, option_map, slice_get, MatchResult, Some};
-ghost use Rattle.front_core.specs.Fields.{field_text};
+ghost use Rattle.front_core.specs.Preferences.{field_text};
 ghost use Rattle.docs_core.specs.Lines.{lines_of};
-ghost use Rattle.front_core.specs.Picks.{HasPlace, IsPickedTag, IsTagAt, RefusesPick};
+ghost use Rattle.front_core.specs.TagPick.{HasPlace, IsPickedTag, IsTagAt, RefusesPick};
 
 use crate::fault::FrontFault;
 use crate::preferences::{Field, Preferences};

@@ -1,9 +1,9 @@
 //! Picking and filtering languages among the arguments of a command (RFC 4647, sections 3.3, 3.4).
 ghost use Rattle.std.specs.Prelude.{◌≡◌, map, option_map, string_bytes, IfOk, MatchResult, None};
-ghost use Rattle.front_core.specs.Fields.{FieldText, field_text};
-ghost use Rattle.front_core.specs.Picks.{AnswersPick, Finds, IsPicked, IsPickLine, RefusesPick};
-ghost use Rattle.front_core.specs.Picks.{pick_line, pick_outcome};
-ghost use Rattle.front_core.specs.TagFilters.{IsLangFilter, RefusesTagFilter, texts_of};
+ghost use Rattle.front_core.specs.Preferences.{FieldText, field_text};
+ghost use Rattle.front_core.specs.TagPick.{AnswersPick, Finds, IsPicked, IsPickLine, RefusesPick};
+ghost use Rattle.front_core.specs.TagPick.{pick_line, pick_outcome};
+ghost use Rattle.front_core.specs.TagFilter.{IsLangFilter, RefusesTagFilter, texts_of};
 
 use crate::answer::{Answer, Outcome};
 use crate::fault::FrontFault;

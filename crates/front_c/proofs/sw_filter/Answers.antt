@@ -1,8 +1,8 @@
 use Rattle.std.proofs.Common.{◌≡◌, rules, of_z, to_z, w32}
 use Rattle.docs_core.specs.Lines.{lines_of}
-use Rattle.front_core.specs.Fields.{field_text}
-use Rattle.front_core.specs.TagFilters.{IsTagFilter, RefusesTagFilter}
-use Rattle.front_c.specs.Questions.{field_of}
+use Rattle.front_core.specs.Preferences.{field_text}
+use Rattle.front_core.specs.TagFilter.{IsTagFilter, RefusesTagFilter}
+use Rattle.front_c.specs.Question.{field_of}
 use Rattle.front_c.specs.Reporting.{ReportsAnswer, ReportsEither}
 use Rattle.front_c.proofs.AskedLemmas.{field_as, report_as}
 use Rattle.front_c.proofs.sw_filter.Goals as goal

@@ -1,8 +1,8 @@
 use Rattle.std.proofs.Common.{◌≡◌, rules, of_z, to_z, w32}
 use Rattle.docs_core.specs.Lines.{lines_of}
-use Rattle.front_core.specs.Fields.{field_text}
-use Rattle.front_core.specs.Picks.{IsPickedTag, RefusesPick}
-use Rattle.front_c.specs.Questions.{default_of, lookup_field_of}
+use Rattle.front_core.specs.Preferences.{field_text}
+use Rattle.front_core.specs.TagPick.{IsPickedTag, RefusesPick}
+use Rattle.front_c.specs.Question.{default_of, lookup_field_of}
 use Rattle.front_c.specs.Reporting.{ReportsEither, ReportsPicked}
 use Rattle.front_c.proofs.AskedLemmas.{field_as}
 use Rattle.front_c.proofs.sw_pick.Goals as goal

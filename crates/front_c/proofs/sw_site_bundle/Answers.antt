@@ -1,10 +1,9 @@
 use Rattle.std.proofs.Common.{rules}
-use Rattle.front_core.specs.Fields.{field_text}
-use Rattle.front_core.specs.Preferences.{ArePreferences, RefusesPreferences}
-use Rattle.front_core.specs.Questions.{AnswersBundle}
+use Rattle.front_core.specs.Preferences.{field_text, ArePreferences, RefusesPreferences}
+use Rattle.front_core.specs.Ask.{AnswersBundle}
 use Rattle.front_c.specs.Calls.{ReportsQuestion}
 use Rattle.front_c.specs.Handles.{site_of}
-use Rattle.front_c.specs.Questions.{default_of, lookup_field_of}
+use Rattle.front_c.specs.Question.{default_of, lookup_field_of}
 use Rattle.front_c.proofs.AskedLemmas.{asked_as, field_as}
 use Rattle.front_c.proofs.sw_site_bundle.Goals as goal
 

@@ -1,9 +1,9 @@
 use Rattle.std.proofs.Common.{◌≡◌, rules, of_z, to_z, w32}
-use Rattle.front_core.specs.Fields.{field_text}
-use Rattle.front_core.specs.Questions.{AnswersFilter, IsFilter, RefusesFilter}
+use Rattle.front_core.specs.Preferences.{field_text}
+use Rattle.front_core.specs.Ask.{AnswersFilter, IsFilter, RefusesFilter}
 use Rattle.front_c.specs.Calls.{ReportsQuestion}
 use Rattle.front_c.specs.Handles.{site_of}
-use Rattle.front_c.specs.Questions.{field_of}
+use Rattle.front_c.specs.Question.{field_of}
 use Rattle.front_c.proofs.AskedLemmas.{asked_as, field_as}
 use Rattle.front_c.proofs.sw_site_filter.Goals as goal
 

@@ -1,5 +1,5 @@
 use Rattle.std.proofs.Common.{rules}
-use Rattle.front_core.specs.Editing.{IsTaken, LeavesTake, RefusesTake}
+use Rattle.front_core.specs.OpenSite.{IsTaken, LeavesTake, RefusesTake}
 use Rattle.front_c.specs.Handles.{site_of}
 use Rattle.front_c.proofs.AskedLemmas.{edited_as}
 use Rattle.front_c.proofs.sw_site_take.Goals as goal

@@ -1,9 +1,9 @@
 use Rattle.std.proofs.Common.{inl, inr, rules}
-use Rattle.front_core.specs.Fields.{field_text}
-use Rattle.front_core.specs.Questions.{IsLookupText, RefusesLookup}
+use Rattle.front_core.specs.Preferences.{field_text}
+use Rattle.front_core.specs.Ask.{IsLookupText, RefusesLookup}
 use Rattle.front_c.specs.Calls.{ReportsOpen}
 use Rattle.front_c.specs.Handles.{site_of}
-use Rattle.front_c.specs.Questions.{default_of, lookup_field_of}
+use Rattle.front_c.specs.Question.{default_of, lookup_field_of}
 use Rattle.front_c.specs.Reporting.{ReportsEither, ReportsLabelText}
 use Rattle.front_c.proofs.AskedLemmas.{field_as, open_as}
 use Rattle.front_c.proofs.sw_site_text.Goals as goal

@@ -1,14 +1,13 @@
 use Rattle.std.proofs.Common.{◌≡◌, refl, rules}
 use Rattle.std.specs.Prelude.{Ok, option_map}
 use Rattle.front_core.specs.Exchange.{ShowsView}
-use Rattle.front_core.specs.Fields.{field_text}
-use Rattle.front_core.specs.Preferences.{ArePreferences, RefusesPreferences}
-use Rattle.front_core.specs.Questions.{AnswersBundle, AnswersFilter, AnswersLookup, IsFilter}
-use Rattle.front_core.specs.Questions.{IsLookup, RefusesFilter, RefusesLookup}
+use Rattle.front_core.specs.Preferences.{field_text, ArePreferences, RefusesPreferences}
+use Rattle.front_core.specs.Ask.{AnswersBundle, AnswersFilter, AnswersLookup, IsFilter, IsLookup}
+use Rattle.front_core.specs.Ask.{RefusesFilter, RefusesLookup}
 use Rattle.front_core.specs.Translate.{AnswersMissing, AnswersOutdated, IsMissing, IsOutdated}
 use Rattle.front_core.specs.Translate.{RefusesMissing, RefusesOutdated}
 use Rattle.command_core.specs.Acts.{Performs}
-use Rattle.command_core.specs.Parsing.{RefusesNothing}
+use Rattle.command_core.specs.Reading.{RefusesNothing}
 use Rattle.command_core.specs.Streams.{reads, streams, writes}
 use Rattle.command_core.specs.Values.{task_values}
 use Rattle.command_core.proofs.ActsLemmas.{treated}

@@ -1,4 +1,4 @@
-use Rattle.front_core.proofs.EditingLemmas.{merged_again, taken_again}
+use Rattle.front_core.proofs.OpenSiteLemmas.{merged_again, taken_again}
 use Rattle.front_core.proofs.laws.a_join_can_be_repeated.Goals as goal
 
 pub returns-clause-merge : goal.returns-clause-merge

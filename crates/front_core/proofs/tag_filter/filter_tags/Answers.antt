@@ -1,10 +1,10 @@
 use Rattle.std.proofs.Common.{◌∙◌, ap, inr, length, sym}
 use Rattle.std.proofs.lemmas.Result.{err_from_is_err_and}
 use Rattle.lang_core.specs.declared.fault.LangFault.TheVariants as lang
-use Rattle.front_core.specs.Faults.{field_fault}
+use Rattle.front_core.specs.Fault.{field_fault}
 use Rattle.docs_core.specs.Lines.{lines_of}
-use Rattle.front_core.proofs.PickLemmas.{as_many}
-use Rattle.front_core.proofs.TagFiltersLemmas.{as_many_texts, enough_names}
+use Rattle.front_core.proofs.TagPickLemmas.{as_many}
+use Rattle.front_core.proofs.TagFilterLemmas.{as_many_texts, enough_names}
 use Rattle.front_core.proofs.tag_filter.filter_tags.Goals as goal
 
 pub returns-in_err-picks : goal.returns-in_err-picks

@@ -1,5 +1,5 @@
 use Rattle.std.specs.Option.{option_copied}
-use Rattle.front_core.proofs.PickLemmas.{found_by, found_within, picked_tag}
+use Rattle.front_core.proofs.TagPickLemmas.{found_by, found_within, picked_tag}
 use Rattle.front_core.proofs.tag_pick.pick.Goals as goal
 
 pub tag_at-requires : goal.tag_at-requires

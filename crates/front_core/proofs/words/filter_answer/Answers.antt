@@ -1,8 +1,8 @@
 use Rattle.std.proofs.Common.{◌∙◌, ap, inr, sym}
 use Rattle.std.proofs.lemmas.Result.{err_from_is_err_and}
 use Rattle.lang_core.specs.declared.fault.LangFault.TheVariants as lang
-use Rattle.front_core.specs.Faults.{field_fault}
-use Rattle.front_core.proofs.TagFiltersLemmas.{as_many_texts, enough_names}
+use Rattle.front_core.specs.Fault.{field_fault}
+use Rattle.front_core.proofs.TagFilterLemmas.{as_many_texts, enough_names}
 use Rattle.front_core.proofs.words.filter_answer.Goals as goal
 
 pub returns-in_err-picks : goal.returns-in_err-picks

@@ -1,4 +1,4 @@
-use Rattle.front_core.proofs.PickLemmas.{picked_among}
+use Rattle.front_core.proofs.TagPickLemmas.{picked_among}
 use Rattle.front_core.proofs.words.find.Goals as goal
 
 pub returns : goal.returns

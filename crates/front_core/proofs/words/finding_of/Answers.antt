@@ -1,5 +1,5 @@
 use Rattle.std.specs.Option.{option_copied}
-use Rattle.front_core.proofs.PickLemmas.{found_by, found_default, found_lang, found_nothing}
+use Rattle.front_core.proofs.TagPickLemmas.{found_by, found_default, found_lang, found_nothing}
 use Rattle.front_core.proofs.words.finding_of.Goals as goal
 
 pub returns-in-Matched : goal.returns-in-Matched

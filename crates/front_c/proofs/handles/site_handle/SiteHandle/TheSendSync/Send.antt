@@ -10,7 +10,7 @@ use denote.Param.Send.{IsSend, AllSend, owning_send, struct_send, sendable}
 use Rattle.std.proofs.Crossing as heap
 use Rattle.std_alloc.proofs.SendSync.{quiet, lies}
 use Rattle.std_heap.specs.declared.Global.{Global}
-use Rattle.front_core.proofs.edit.OpenSite.TheSendSync as site
+use Rattle.front_core.proofs.open_site.OpenSite.TheSendSync as site
 use Rattle.front_c.specs.Held.{Share, share_row, site_held}
 use Rattle.front_c.specs.contracts.handles.site_handle.SiteHandle.{the_row, the_type}
 

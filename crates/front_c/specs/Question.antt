@@ -5,7 +5,7 @@ use Rattle.nego_core.specs.declared.field.Malformed.TheVariants.{Refused, Passed
 use Rattle.nego_core.specs.declared.scheme.Scheme.{Scheme}
 use Rattle.nego_core.specs.declared.scheme.Scheme.TheVariants.{Basic, Extended}
 use Rattle.nego_core.specs.declared.widening.Widening.TheVariants.{By, Off}
-use Rattle.front_core.specs.Fields.{FieldText}
+use Rattle.front_core.specs.Preferences.{FieldText}
 
 -- a field with its scheme and what malformed elements do, for a lookup that is not widened
 abbrev pub field : Scheme → Malformed → List ℕ → FieldText

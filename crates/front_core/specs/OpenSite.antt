@@ -1,20 +1,40 @@
--- Edits of an open site: what each makes of it, why it is refused, and what a refusal leaves
--- (project rules).
-use Rattle.std.specs.Prelude.{◌≡◌, ◌⊎◌, ℕ, Option}
+-- Open sites: how one is made, what each edit makes of it, why it is refused, and what a refusal
+-- leaves (project rules).
+use Rattle.std.specs.Prelude.{◌≡◌, [], ℕ, List, ◌⊎◌, Option}
+use Rattle.std.specs.Str.{IsUtf8}
+use Rattle.cell_core.specs.SiteName.{IsSiteName}
+use Rattle.cell_core.specs.declared.fault.CellFault.TheVariants.{SiteName}
+use Rattle.cata_core.specs.Site.{SiteState, RefusesDelta}
 use Rattle.cata_core.specs.CataFault.{IsRefusal}
 use Rattle.cata_core.specs.Entries.{Agree, Between, Entries, joined}
-use Rattle.cata_core.specs.Site.{RefusesDelta, SiteState}
 use Rattle.cata_core.specs.declared.delta.Delta.{Delta}
+use Rattle.cata_core.specs.declared.cata_fault.CataFault.TheVariants.{ClockSpent}
 use Rattle.json_docs.specs.Checks.{OrMemory}
-use Rattle.row_docs.specs.Reading.{no_memory}
+use Rattle.row_docs.specs.Reading.{no_memory, IsOfDocument}
+use Rattle.map_docs.specs.LangMapLabels.{AreLangMaps, RefusesLangMaps}
+use Rattle.map_docs.specs.LangMaps.{Labelled}
 use Rattle.docs_core.specs.TimeLimits.{ReadsInTime, RefusesDeltaUntil}
-use Rattle.front_core.specs.Changes.{HasKey, HasLabel, IsChanged, IsDelete, IsPut}
-use Rattle.front_core.specs.Changes.{RefusesChange, RefusesKey, RefusesPut}
-use Rattle.front_core.specs.Faults.{IsOf, document_fault, site_fault}
-use Rattle.front_core.specs.Fields.{Text}
-use Rattle.front_core.specs.declared.change.Change.{Change}
+use Rattle.docs_core.specs.Imported.{Imports, SpendsImport}
+use Rattle.docs_core.specs.Updated.{SpendsUpdate, Updates}
+use Rattle.front_core.specs.Change.{HasKey, HasLabel, IsChanged, IsDelete, IsPut, RefusesChange}
+use Rattle.front_core.specs.Change.{RefusesKey, RefusesPut}
+use Rattle.front_core.specs.Fault.{IsOf, document_fault, site_fault}
+use Rattle.front_core.specs.Preferences.{Text}
 use Rattle.front_core.specs.declared.fault.FrontFault.{FrontFault}
-use Rattle.front_core.specs.declared.fault.FrontFault.TheVariants.{NoMemory}
+use Rattle.front_core.specs.declared.fault.FrontFault.TheVariants.{Cell, NoMemory}
+use Rattle.front_core.specs.declared.change.Change.{Change}
+
+-- the empty site of this name
+abbrev pub IsNewSite : List ℕ → SiteState → Type 0
+IsNewSite name site = IsUtf8 name × IsSiteName name × (site ≡ record { name = name; cells = [] })
+
+-- the name that the bytes are
+abbrev pub IsName : List ℕ → List ℕ → Type 0
+IsName bytes name = IsUtf8 bytes × IsSiteName bytes × (name ≡ bytes)
+
+-- the bytes are no name of a site
+abbrev pub RefusesNewSite : List ℕ → FrontFault → Type 0
+RefusesNewSite name fault = (¬ (IsUtf8 name × IsSiteName name)) × (fault ≡ Cell SiteName)
 
 -- it is refused so, or memory ended
 abbrev pub OrNoMemory : (FrontFault → Type 0) → FrontFault → Type 0
@@ -99,3 +119,39 @@ LeavesTake bytes limit old new =
     (new ≡ old)
     ⊎ ((delta : Delta) × ReadsInTime limit bytes delta × (old.name ≡ delta.addressee)
     × IsPartlyJoined delta.cells old new)
+
+-- the bytes, which are the document of this number, are no language maps
+abbrev pub RefusesMaps : ℕ → Text → FrontFault → Type 0
+RefusesMaps document maps =
+    IsOf document_fault (OrMemory no_memory (IsOfDocument document (RefusesLangMaps maps)))
+
+-- the site with each label of the language maps put at this time, in ascending order of key
+abbrev pub IsImported : ℕ → Text → SiteState → SiteState → Type 0
+IsImported now maps old new =
+    (labels : List Labelled) × AreLangMaps maps labels × (new.name ≡ old.name)
+    × Imports now old.name labels old.cells new.cells
+
+-- the language maps are refused, then a label for which there is no next stamp; or memory ended
+abbrev pub RefusesImport : ℕ → Text → SiteState → FrontFault → Type 0
+RefusesImport now maps site fault =
+    RefusesMaps 1 maps fault
+    ⊎ ((labels : List Labelled) × AreLangMaps maps labels
+    × ((fault ≡ NoMemory)
+    ⊎ (SpendsImport now site.name labels site.cells × (fault ≡ site_fault ClockSpent))))
+
+-- the site with the changes from the old language maps to the new ones, at this time
+abbrev pub AreUpdated : ℕ → Text → Text → SiteState → SiteState → Type 0
+AreUpdated now old new site updated =
+    (before after : List Labelled) × AreLangMaps old before × AreLangMaps new after
+    × (updated.name ≡ site.name)
+    × Updates now site.name before after site.cells updated.cells
+
+-- the old language maps are refused, then the new ones, then a change for which there is no next
+-- stamp; or memory ended
+abbrev pub RefusesUpdates : ℕ → Text → Text → SiteState → FrontFault → Type 0
+RefusesUpdates now old new site fault =
+    RefusesMaps 1 old fault
+    ⊎ ((before : List Labelled) × AreLangMaps old before × RefusesMaps 2 new fault)
+    ⊎ ((before after : List Labelled) × AreLangMaps old before × AreLangMaps new after
+    × ((fault ≡ NoMemory)
+    ⊎ (SpendsUpdate now site.name before after site.cells × (fault ≡ site_fault ClockSpent))))

@@ -4,27 +4,26 @@ use Rattle.std.specs.Prelude.{◌≡◌, ◌<◌, ◌⊎◌, ℕ, List, ◌++◌
 use Rattle.std.specs.Prelude.{slice_get}
 use Rattle.lang_core.specs.Lang.{SpellsLang}
 use Rattle.lang_core.specs.Text.{pieces}
-use Rattle.nego_core.specs.Choosing.{HasOpenDefault, IsOpenDefault}
+use Rattle.nego_core.specs.Choosing.{HasOpenDefault, IsOpenDefault, IsFirst, IsLookedUp}
 use Rattle.nego_core.specs.LangSet.{is_among}
 use Rattle.nego_core.specs.Item.{Item}
-use Rattle.nego_core.specs.Choosing.{IsFirst, IsLookedUp}
 use Rattle.nego_core.specs.Widening.{IsLookedUpWidened}
 use Rattle.nego_core.specs.declared.widening.Widening.{Widening}
 use Rattle.nego_core.specs.declared.widening.Widening.TheVariants.{Off, By}
 use Rattle.nego_core.specs.declared.lookup_places.Found.{Found}
-use Rattle.nego_core.specs.declared.lookup_places.Found.TheVariants as found
-use Rattle.front_core.specs.Faults.{IsOf, language_fault}
-use Rattle.front_core.specs.Fields.{FieldText, ReadsAs, Text}
-use Rattle.front_core.specs.Preferences.{HasPreferences, IsDefault, RefusesPreferences}
+use Rattle.front_core.specs.Fault.{IsOf, language_fault}
+use Rattle.front_core.specs.Preferences.{FieldText, ReadsAs, Text, HasPreferences, IsDefault}
+use Rattle.front_core.specs.Preferences.{RefusesPreferences}
 use Rattle.front_core.specs.Tags.{RefusesTags, SpellLangs}
 use Rattle.front_core.specs.declared.answer.Answer.{Answer}
 use Rattle.front_core.specs.declared.answer.Outcome.{Outcome}
-use Rattle.front_core.specs.declared.answer.Outcome.TheVariants as outcome
 use Rattle.front_core.specs.declared.fault.FrontFault.{FrontFault}
 use Rattle.front_core.specs.declared.tag_pick.Picked.{Picked}
-use Rattle.front_core.specs.declared.tag_pick.Picked.TheVariants as picked
 use Rattle.front_core.specs.declared.words.Finding.{Finding}
 use Rattle.front_core.specs.declared.words.Finding.TheVariants.{Matched, Default, Nothing}
+use Rattle.nego_core.specs.declared.lookup_places.Found.TheVariants as found
+use Rattle.front_core.specs.declared.answer.Outcome.TheVariants as outcome
+use Rattle.front_core.specs.declared.tag_pick.Picked.TheVariants as picked
 
 -- what lookup (RFC 4647 section 3.4), or widened lookup (project rule), finds over languages
 abbrev pub LooksUp : Widening → List Item → List (List ℕ) → Option (List (List ℕ)) → Type 0

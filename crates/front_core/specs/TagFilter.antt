@@ -7,9 +7,9 @@ use Rattle.nego_core.specs.Filtering.{IsFiltered}
 use Rattle.nego_core.specs.Item.{Item}
 use Rattle.nego_core.specs.declared.filtering.Pick.{Pick}
 use Rattle.query_docs.specs.Lines.{line, listed}
-use Rattle.front_core.specs.Faults.{IsOf, field_fault, language_fault}
-use Rattle.front_core.specs.Fields.{FieldText, HasList, ReadsAs, RefusesRanges, Text}
-use Rattle.front_core.specs.Questions.{is_found}
+use Rattle.front_core.specs.Fault.{IsOf, field_fault, language_fault}
+use Rattle.front_core.specs.Preferences.{FieldText, HasList, ReadsAs, RefusesRanges, Text}
+use Rattle.front_core.specs.Ask.{is_found}
 use Rattle.front_core.specs.Tags.{RefusesTags, SpellLangs}
 use Rattle.front_core.specs.declared.answer.Answer.{Answer}
 use Rattle.front_core.specs.declared.fault.FrontFault.{FrontFault}

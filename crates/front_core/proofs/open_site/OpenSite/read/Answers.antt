@@ -1,5 +1,5 @@
-use Rattle.front_core.proofs.EditLemmas.{opened}
-use Rattle.front_core.proofs.edit.OpenSite.read.Goals as goal
+use Rattle.front_core.proofs.OpenSiteLemmas.{opened}
+use Rattle.front_core.proofs.open_site.OpenSite.read.Goals as goal
 
 pub returns : goal.returns
 returns c =

@@ -1,8 +1,8 @@
 -- The statuses of a call, which are the command's (project rule).
 use Rattle.std.specs.Prelude.{ℤ, pos}
 use Rattle.front_core.specs.declared.fault.FrontFault.{FrontFault}
-use Rattle.front_core.specs.declared.fault.FrontFault.TheVariants as fault
 use Rattle.front_core.specs.declared.answer.Outcome.{Outcome}
+use Rattle.front_core.specs.declared.fault.FrontFault.TheVariants as fault
 use Rattle.front_core.specs.declared.answer.Outcome.TheVariants as outcome
 
 -- the call is done, and found something where it asks

@@ -3,8 +3,8 @@ use Rattle.std.specs.Prelude.{◌≡◌, ◌==◌, ◌&&◌, ◌≤◌, ◌-◌,
 use Rattle.std.specs.Prelude.{codes, if◌then◌else◌, length, nat_lt, not, slice_get}
 use Rattle.std.specs.List.{list_all}
 use Rattle.lang_core.specs.Fault.{meaning_of}
-use Rattle.lang_core.specs.declared.fault.LangFault.TheVariants as lang
 use Rattle.front_core.specs.declared.refusal.Refusal.{Refusal}
+use Rattle.lang_core.specs.declared.fault.LangFault.TheVariants as lang
 
 -- a refusal has the number: each from 1 to 29 is one
 abbrev pub IsRefusalNumber : ℕ → Type 0

@@ -1,13 +1,20 @@
 -- What the command answers to arguments and an input in memory (project rules).
-use Rattle.std.specs.Prelude.{◌≡◌, ◌⊎◌, ℕ, Bool, true, false, List, [], codes}
-use Rattle.clap.specs.Words.{Text}
+use Rattle.std.specs.Prelude.{Bool, true, false, ◌≡◌, ◌⊎◌, ℕ, List, [], codes}
 use Rattle.std_io.specs.declared.io.kind.ErrorKind.{ErrorKind}
+use Rattle.clap.specs.Words.{Text}
 use Rattle.command_core.specs.Endings.{LacksWords}
 use Rattle.command_core.specs.Help.{words_meant}
 use Rattle.command_core.specs.Program.{RunsBy}
 use Rattle.command_core.specs.Streams.{Reader, streams}
 use Rattle.command_c.specs.Memory.{absent, given, keeps}
 use Rattle.command_c.specs.Words.{AreUtf8, LacksTexts}
+use Rattle.command_c.specs.declared.answer.Reading.{Reading}
+use Rattle.command_c.specs.declared.answer.Reading.TheVariants.{Read, Unread}
+
+-- whether the input is read
+abbrev pub is_read : Reading → Bool
+is_read Unread = false
+is_read Read = true
 
 -- what the command leaves: its status, what it wrote to its output, and what it reported
 pub record Ended : Type 0 where

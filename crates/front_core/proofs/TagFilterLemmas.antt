@@ -11,8 +11,8 @@ use Rattle.nego_core.specs.Filtering.{IsFiltered, Key, pick_of}
 use Rattle.nego_core.specs.Item.{Item}
 use Rattle.nego_core.specs.declared.filtering.Pick.{Pick}
 use Rattle.nego_core.specs.declared.scheme.Scheme.{Scheme}
-use Rattle.front_core.specs.Fields.{Text}
-use Rattle.front_core.specs.TagFilters.{HaveNames, texts_of}
+use Rattle.front_core.specs.Preferences.{Text}
+use Rattle.front_core.specs.TagFilter.{HaveNames, texts_of}
 
 key_within : (scheme : Scheme) (items : List Item) (langs : List (List ℕ)) (key : Key)
     → IsKeyFrom scheme items 0 langs key → key.place < length langs

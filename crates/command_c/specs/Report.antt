@@ -2,8 +2,17 @@
 use Rattle.std.specs.Prelude.{◌≡◌, ◌≤◌, ◌<◌, ◌++◌, ◌⊎◌, ℕ, ℤ, pos, Bool, true, false, List, length}
 use Rattle.std.specs.Prelude.{drop}
 use Rattle.clap.specs.Words.{Text}
-use Rattle.command_c.specs.Answering.{Answers, Ended}
+use Rattle.command_c.specs.Answer.{Ended, Answers}
+use Rattle.command_c.specs.declared.report.Texts.{Texts}
 use Rattle.command_c.specs.declared.report.CommandTold.{CommandTold}
+
+-- the status and the two texts
+abbrev pub texts_now : Texts → Ended
+texts_now texts = record {
+  status = texts.status;
+  output = texts.output.now;
+  errors = texts.errors.now;
+}
 
 -- the text is at the front of the buffer, and the rest of it is as it was; or there is no room,
 -- and all of it is
@@ -25,14 +34,14 @@ report_of ended is_read = record {
 }
 
 -- what the command leaves is in the buffers, as far as they have room, and reported
-abbrev pub Tells : Ended → Bool → List ℕ → List ℕ → List ℕ → List ℕ → CommandTold → ℤ → Type 0
-Tells ended is_read old_out new_out old_err new_err told status =
+abbrev pub Reports : Ended → Bool → List ℕ → List ℕ → List ℕ → List ℕ → CommandTold → ℤ → Type 0
+Reports ended is_read old_out new_out old_err new_err told status =
     IsPutInto ended.output old_out new_out × IsPutInto ended.errors old_err new_err
     × (told ≡ report_of ended is_read) × (status ≡ pos ended.status)
 
 -- the same of what it answers to these words and this input
-abbrev pub TellsCommand : List Text → List ℕ → List ℕ → List ℕ → List ℕ → List ℕ → CommandTold → ℤ
+abbrev pub ReportsCommand : List Text → List ℕ → List ℕ → List ℕ → List ℕ → List ℕ → CommandTold → ℤ
     → Type 0
-TellsCommand words input old_out new_out old_err new_err told status =
+ReportsCommand words input old_out new_out old_err new_err told status =
     (ended : Ended) × (is_read : Bool) × Answers words input is_read ended
-    × Tells ended is_read old_out new_out old_err new_err told status
+    × Reports ended is_read old_out new_out old_err new_err told status

@@ -1,7 +1,7 @@
 use Rattle.std.proofs.Common.{◌≡◌, inl, rules}
 use Rattle.std.proofs.lemmas.Result.{err_from_is_err_and}
-use Rattle.front_core.proofs.WholeEditsLemmas.{not_updated}
-use Rattle.front_core.proofs.edit.OpenSite.update.Goals as goal
+use Rattle.front_core.proofs.OpenSiteLemmas.{not_updated}
+use Rattle.front_core.proofs.open_site.OpenSite.update.Goals as goal
 
 pub returns-in_err-update_labels-clause-err : goal.returns-in_err-update_labels-clause-err
 returns-in_err-update_labels-clause-err c =

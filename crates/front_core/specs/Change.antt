@@ -7,7 +7,6 @@ use Rattle.lang_core.specs.Lang.{SpellsLang, RefusesLang}
 use Rattle.cell_core.specs.Label.{IsLabel}
 use Rattle.cell_core.specs.Fault.{RefusesLabel, RefusesTexts}
 use Rattle.cell_core.specs.declared.fault.CellFault.{CellFault}
-use Rattle.cell_core.specs.declared.fault.CellFault.TheVariants as cell
 use Rattle.cell_core.specs.Stamp.{IsNext}
 use Rattle.cell_core.specs.declared.stamp.Stamp.{Stamp}
 use Rattle.cata_core.specs.Entries.{EntryKey, key_cmp}
@@ -15,12 +14,13 @@ use Rattle.cata_core.specs.Latest.{latest_of}
 use Rattle.cata_core.specs.Site.{RefusesEdit, SiteState}
 use Rattle.json_docs.specs.Faults.{of_no_document}
 use Rattle.json_docs.specs.declared.fault.DocCause.TheVariants.{NotUtf8}
-use Rattle.front_core.specs.Faults.{IsOf, cell_fault, language_fault, site_fault}
-use Rattle.front_core.specs.Fields.{Text}
-use Rattle.front_core.specs.Questions.{IsId, RefusesId}
+use Rattle.front_core.specs.Fault.{IsOf, cell_fault, language_fault, site_fault}
+use Rattle.front_core.specs.Preferences.{Text}
+use Rattle.front_core.specs.Ask.{IsId, RefusesId}
 use Rattle.front_core.specs.declared.change.Change.{Change}
 use Rattle.front_core.specs.declared.fault.FrontFault.{FrontFault}
 use Rattle.front_core.specs.declared.fault.FrontFault.TheVariants.{Document, NoMemory}
+use Rattle.cell_core.specs.declared.fault.CellFault.TheVariants as cell
 
 -- ---- keys and texts
 

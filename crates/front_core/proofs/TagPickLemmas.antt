@@ -8,22 +8,20 @@ use Rattle.std.specs.Prelude.{slice_get}
 use Rattle.std.specs.Str.{bytes_eq, str_to_ascii_lowercase}
 use Rattle.lang_core.specs.Lang.{SpellsLang}
 use Rattle.lang_core.specs.Text.{pieces}
-use Rattle.nego_core.specs.Choosing.{HasOpenDefault, IsOpenDefault}
+use Rattle.nego_core.specs.Choosing.{HasOpenDefault, IsOpenDefault, IsFirst}
 use Rattle.nego_core.specs.LookupPlaces.{least_place}
 use Rattle.nego_core.specs.LangSet.{is_among}
 use Rattle.nego_core.specs.Item.{Item}
-use Rattle.nego_core.specs.Choosing.{IsFirst}
 use Rattle.nego_core.specs.Widening.{IsFoundBy}
 use Rattle.nego_core.specs.declared.widening.Widening.{Widening}
 use Rattle.nego_core.specs.declared.widening.Widening.TheVariants.{Off, By}
 use Rattle.nego_core.specs.declared.lookup_places.Found.{Found}
-use Rattle.nego_core.specs.declared.lookup_places.Found.TheVariants as found
-use Rattle.front_core.specs.Fields.{FieldText, ReadsAs, Text}
-use Rattle.front_core.specs.Picks.{Finds, HasPlace, IsPicked, IsPickedTag, IsTagAt, LooksUp}
+use Rattle.front_core.specs.Preferences.{FieldText, ReadsAs, Text, IsDefault}
+use Rattle.front_core.specs.TagPick.{Finds, HasPlace, IsPicked, IsPickedTag, IsTagAt, LooksUp}
 use Rattle.front_core.specs.declared.words.Finding.{Finding}
-use Rattle.front_core.specs.Preferences.{IsDefault}
 use Rattle.front_core.specs.Tags.{SpellLangs}
 use Rattle.front_core.specs.declared.tag_pick.Picked.{Picked}
+use Rattle.nego_core.specs.declared.lookup_places.Found.TheVariants as found
 use Rattle.front_core.specs.declared.tag_pick.Picked.TheVariants as picked
 
 -- what is found at a place, by what is looked up

@@ -2,10 +2,10 @@ use Rattle.std.proofs.Common.{◌≡◌, rules, subst}
 use Rattle.std.specs.Prelude.{IfErr}
 use Rattle.std.proofs.lemmas.Result.{IfErr-weaker}
 use Rattle.cata_core.specs.Site.{SiteState}
-use Rattle.front_core.specs.Changes.{RefusesChange}
-use Rattle.front_core.specs.Editing.{OrNoMemory, RefusesPutInto}
-use Rattle.front_core.proofs.EditLemmas.{put_refused}
-use Rattle.front_core.proofs.edit.OpenSite.put.Goals as goal
+use Rattle.front_core.specs.Change.{RefusesChange}
+use Rattle.front_core.specs.OpenSite.{OrNoMemory, RefusesPutInto}
+use Rattle.front_core.proofs.OpenSiteLemmas.{put_refused}
+use Rattle.front_core.proofs.open_site.OpenSite.put.Goals as goal
 
 pub returns-clause-err : goal.returns-clause-err
 returns-clause-err c =

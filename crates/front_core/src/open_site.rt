@@ -1,9 +1,8 @@
 //! Sites in memory that are edited and shared.
 ghost use Rattle.std.specs.Prelude.{◌≡◌, ◌≢◌, IfErr, MatchResult, OnErr, OnOk};
-ghost use Rattle.front_core.specs.Changes.{IsChanged, RefusesChange};
-ghost use Rattle.front_core.specs.Editing.{IsTakenDelta, LeavesTakeDelta, OrNoMemory};
-ghost use Rattle.front_core.specs.Editing.{RefusesTakeDelta};
-ghost use Rattle.front_core.specs.Site.{IsName, RefusesNewSite};
+ghost use Rattle.front_core.specs.Change.{IsChanged, RefusesChange};
+ghost use Rattle.front_core.specs.OpenSite.{IsTakenDelta, LeavesTakeDelta, OrNoMemory};
+ghost use Rattle.front_core.specs.OpenSite.{RefusesTakeDelta, IsName, RefusesNewSite};
 ghost use Rattle.front_core.specs.declared.fault.FrontFault.TheVariants.{NoMemory};
 
 use crate::change::Change;
@@ -35,13 +34,11 @@ impl OpenSite {
     ghost use Rattle.std.specs.Prelude.{◌≡◌, ◌≢◌, IfErr, IfOk, MatchResult, OnErr, OnOk};
     ghost use Rattle.site_docs.specs.ReadsAs.{ReadsAsSite};
     ghost use Rattle.front_core.specs.Ask.{RefusesDocument};
-    ghost use Rattle.front_core.specs.Editing.{IsDeleted, IsMerged, IsPutInto, IsTaken};
-    ghost use Rattle.front_core.specs.Editing.{LeavesMerge, LeavesTake, OrNoMemory};
-    ghost use Rattle.front_core.specs.Editing.{RefusesDelete, RefusesMerge, RefusesPutInto};
-    ghost use Rattle.front_core.specs.Editing.{RefusesTake};
-    ghost use Rattle.front_core.specs.Site.{IsNewSite, RefusesNewSite};
-    ghost use Rattle.front_core.specs.WholeEdits.{AreUpdated, IsImported, RefusesImport};
-    ghost use Rattle.front_core.specs.WholeEdits.{RefusesUpdates};
+    ghost use Rattle.front_core.specs.OpenSite.{IsDeleted, IsMerged, IsPutInto, IsTaken};
+    ghost use Rattle.front_core.specs.OpenSite.{LeavesMerge, LeavesTake, OrNoMemory, RefusesDelete};
+    ghost use Rattle.front_core.specs.OpenSite.{RefusesMerge, RefusesPutInto, RefusesTake};
+    ghost use Rattle.front_core.specs.OpenSite.{IsNewSite, RefusesNewSite, AreUpdated, IsImported};
+    ghost use Rattle.front_core.specs.OpenSite.{RefusesImport, RefusesUpdates};
     ghost use Rattle.front_core.specs.declared.fault.FrontFault.TheVariants.{NoMemory};
 
     /// The site of a document of version 1 or 2. Refused as [`read_site`] refuses it, by document

@@ -1,0 +1,92 @@
+-- What is read, copied or partly joined, of the site that it is of.
+use Rattle.std.proofs.Common.{◌≡◌, ℕ, inl, inr, refl, subst, sym, ◌∙◌, Option, ap₂, List, ap}
+use Rattle.std.specs.Prelude.{Err, MatchResult, Ok, Result}
+use Rattle.cata_core.specs.Site.{SiteState}
+use Rattle.cata_core.specs.Entries.{Agree, Entries, catalogue_laws, joined}
+use Rattle.cata_core.specs.declared.delta.Delta.{Delta}
+use Rattle.cata_core.specs.declared.cata_fault.CataFault.{CataFault}
+use Rattle.cata_core.specs.declared.cata_fault.CataFault.TheVariants as cata
+use Rattle.json_docs.specs.Checks.{OrMemory}
+use Rattle.row_docs.specs.Reading.{no_memory}
+use Rattle.site_docs.specs.ReadsAs.{ReadsAsSite}
+use Rattle.site_docs.proofs.OneDocument.{one_delta}
+use Rattle.map_docs.specs.LangMapLabels.{AreLangMaps}
+use Rattle.map_docs.specs.LangMaps.{Labelled}
+use Rattle.docs_core.specs.Updated.{SpendsUpdate}
+use Rattle.front_core.specs.Ask.{RefusesDocument}
+use Rattle.front_core.specs.Change.{IsPut, RefusesChange}
+use Rattle.front_core.specs.OpenSite.{OrNoMemory, RefusesPutInto, IsMerged, IsPartlyJoined, IsTaken}
+use Rattle.front_core.specs.OpenSite.{LeavesMerge, LeavesTake, RefusesUpdates}
+use Rattle.front_core.specs.Preferences.{Text}
+use Rattle.front_core.specs.Fault.{site_fault}
+use Rattle.front_core.specs.declared.change.Change.{Change}
+use Rattle.front_core.specs.declared.fault.FrontFault.{FrontFault}
+use Rattle.front_core.specs.declared.fault.FrontFault.TheVariants.{NoMemory}
+
+-- A document that is read is opened, or memory ended.
+pub opened : (text : Text) (site : SiteState) (made : Result SiteState FrontFault)
+    → ReadsAsSite text site → MatchResult made (λ s. s ≡ site) (λ fault. fault ≡ NoMemory)
+    → MatchResult made (ReadsAsSite text) (RefusesDocument text)
+opened text site (Ok made) reads is =
+    subst (λ (s : SiteState). ReadsAsSite text s) (sym is) reads
+opened text site (Err fault) reads is = (no_memory, inl refl, is)
+
+-- A put whose change is refused is refused.
+pub put_refused : (now : ℕ) (id lang text : Text) (site : SiteState) (change : Change)
+    (fault : FrontFault) → IsPut id lang text change → OrNoMemory (RefusesChange site now) fault
+    → OrNoMemory (RefusesPutInto now id lang text site) fault
+put_refused now id lang text site change fault asked (inl refused) =
+    inl (inr ((asked.0.0, change.lang, asked.0.2), asked.1, refused))
+put_refused now id lang text site change fault asked (inr none) = inr none
+
+-- a site that is partly joined agrees with the cells, and has the same join with them
+rejoined : (cells : Entries) (old new made : SiteState) → IsPartlyJoined cells old new
+    → made ≡ record { name = old.name; cells = joined old.cells cells }
+    → Agree new.cells cells
+    × (made ≡ record { name = new.name; cells = joined new.cells cells })
+rejoined cells old new made part is =
+    let site : Text → Entries → SiteState = λ n c. record { name = n; cells = c } in
+    let join = catalogue_laws.between_joins old.cells new.cells cells part.agree part.between in (
+      catalogue_laws.between_agrees old.cells new.cells cells part.agree part.between,
+      is ∙ ap₂ site (sym part.name) (sym join),
+    )
+
+-- a merge that is repeated gives what it would have given
+pub merged_again : (other old new made : SiteState) → LeavesMerge other old new
+    → IsMerged other old made → IsMerged other new made
+merged_again other old new made (inl same) is =
+    subst (λ (s : SiteState). IsMerged other s made) (sym same) is
+merged_again other old new made (inr part) is = rejoined other.cells old new made part is.1
+
+-- and so does a take
+pub taken_again : (bytes : Text) (limit : Option ℕ) (old new made : SiteState)
+    → LeavesTake bytes limit old new → IsTaken bytes limit old made → IsTaken bytes limit new made
+taken_again bytes limit old new made (inl same) is =
+    subst (λ (s : SiteState). IsTaken bytes limit s made) (sym same) is
+taken_again bytes limit old new made (inr left) is =
+    let one = one_delta bytes left.0 is.0 left.1.0 is.1.0 in
+    let part = subst (λ (d : Delta). IsPartlyJoined d.cells old new) one left.3 in
+    let again = rejoined is.0.cells old new made part is.2.2 in
+    (is.0, is.1, (part.name ∙ is.2.0, again.0, again.1))
+
+-- An update that is refused of a copy is refused of the site.
+pub not_updated : (now : ℕ) (old new : Text) (site copied : SiteState)
+    (before after : List Labelled) (refused : CataFault) (fault : FrontFault) → copied ≡ site
+    → AreLangMaps old before → AreLangMaps new after
+    → OrMemory cata.NoMemory
+    (λ f. (f ≡ cata.ClockSpent) × SpendsUpdate now copied.name before after copied.cells)
+    refused
+    → fault ≡ site_fault refused → RefusesUpdates now old new site fault
+not_updated now old new site copied before after refused fault same olds news (inl none) is =
+    inr (inr (before, after, olds, news, inl (is ∙ ap site_fault none)))
+not_updated now old new site copied before after refused fault same olds news (inr spent) is =
+    inr (inr (
+      before,
+      after,
+      olds,
+      news,
+      inr (
+        subst (λ (s : SiteState). SpendsUpdate now s.name before after s.cells) same spent.1,
+        is ∙ ap site_fault spent.0,
+      ),
+    ))
