@@ -16,8 +16,8 @@ texts_now texts = record {
 
 -- the text is at the front of the buffer, and the rest of it is as it was; or there is no room,
 -- and all of it is
-abbrev pub IsPutInto : List ℕ → List ℕ → List ℕ → Type 0
-IsPutInto text old new = ((length text ≤ length old) × (new ≡ text ++ drop (length text) old))
+abbrev pub IsWrittenTo : List ℕ → List ℕ → List ℕ → Type 0
+IsWrittenTo text old new = ((length text ≤ length old) × (new ≡ text ++ drop (length text) old))
     ⊎ ((length old < length text) × (new ≡ old))
 
 -- 1 where the input is read, else 0
@@ -36,7 +36,7 @@ report_of ended is_read = record {
 -- what the command leaves is in the buffers, as far as they have room, and reported
 abbrev pub Reports : Ended → Bool → List ℕ → List ℕ → List ℕ → List ℕ → CommandTold → ℤ → Type 0
 Reports ended is_read old_out new_out old_err new_err told status =
-    IsPutInto ended.output old_out new_out × IsPutInto ended.errors old_err new_err
+    IsWrittenTo ended.output old_out new_out × IsWrittenTo ended.errors old_err new_err
     × (told ≡ report_of ended is_read) × (status ≡ pos ended.status)
 
 -- the same of what it answers to these words and this input

@@ -1,7 +1,7 @@
 //! What the command answers, reported to C.
 ghost use Rattle.std.specs.Prelude.{◌≡◌, ◌≤◌, ◌++◌, length, drop, unwrap_or};
 ghost use Rattle.command_c.specs.Answer.{out_of_memory, is_read};
-ghost use Rattle.command_c.specs.Report.{IsPutInto, Reports, read_number, texts_now};
+ghost use Rattle.command_c.specs.Report.{IsWrittenTo, Reports, read_number, texts_now};
 
 use crate::answer::{Answer, Ended, Reading};
 use command_core::status;
@@ -23,12 +23,12 @@ pub struct CommandTold {
 
 /// Reports what the command answers, and gives its status.
 pub(crate) fn report(answer: &Answer, out: &mut [u8], err: &mut [u8], told: &mut CommandTold) -> i32
-    ensures { Reports (unwrap_or answer.now.ended out_of_memory) (is_read answer.now.reading) out.old
-        out.new err.old err.new told.new result }
+    ensures { Reports (unwrap_or answer.now.ended out_of_memory) (is_read answer.now.reading)
+        out.old out.new err.old err.new told.new result }
 {
     let texts = texts_of(&answer.ended);
-    put_into(texts.output, out);
-    put_into(texts.errors, err);
+    write_to(texts.output, out);
+    write_to(texts.errors, err);
     *told = CommandTold {
         out_len: texts.output.len(),
         err_len: texts.errors.len(),
@@ -74,8 +74,8 @@ fn read_number(reading: Reading) -> u32
 }
 
 /// Writes a text to the start of the buffer, where there is room for all of it.
-fn put_into(text: &[u8], out: &mut [u8])
-    ensures { IsPutInto text.now out.old out.new }
+fn write_to(text: &[u8], out: &mut [u8])
+    ensures { IsWrittenTo text.now out.old out.new }
 {
     if text.len() <= out.len() {
         copy_to_front(text, out);

@@ -77,9 +77,9 @@ task_words name numbers rows =
     else (if bytes_eq name (codes "delta") then Some (Document document.Delta)
     else (if bytes_eq name (codes "take") then Some (Document (document.Take numbers.not_after))
     else (if bytes_eq name (codes "sync") then Some (Sync numbers.not_after)
+    else (if bytes_eq name (codes "merge") then Some (Document (document.Merge numbers.not_after))
     else (if bytes_eq name (codes "replay") then Some Replay
     else (if bytes_eq name (codes "explain") then explain_task numbers.number
-    else (if bytes_eq name (codes "merge") then Some (Document (document.Merge numbers.not_after))
     else None))))))))))))))))))))
 
 -- the task of the matched subcommand, with the numbers that its arguments give

@@ -208,6 +208,10 @@ take_app = with_rule (new_app (codes "take")) not_after_rule
 abbrev pub sync_app : App
 sync_app = with_rule (new_app (codes "sync")) not_after_rule
 
+-- `merge [--not-after N]`
+abbrev pub merge_app : App
+merge_app = with_rule (new_app (codes "merge")) not_after_rule
+
 -- `replay`, without arguments
 abbrev pub replay_app : App
 replay_app = new_app (codes "replay")
@@ -215,10 +219,6 @@ replay_app = new_app (codes "replay")
 -- `explain NUMBER`
 abbrev pub explain_app : Numerals → App
 explain_app numbers = with_rule (new_app (codes "explain")) (number_rule numbers)
-
--- `merge [--not-after N]`
-abbrev pub merge_app : App
-merge_app = with_rule (new_app (codes "merge")) not_after_rule
 
 -- the words do not begin with the program's name, and one of them names a subcommand
 abbrev pub bare_app : App
@@ -257,13 +257,11 @@ abbrev pub questions_app : App → Schemes → App
 questions_app app schemes =
     under (under (under app (filter_app schemes)) (lookup_app schemes)) (bundle_app schemes)
 
--- with what two sites exchange, with a replay of what they did, with what a refusal is, and with
--- the merge of many sites
+-- with what sites exchange, with a replay of what they did, and with what a refusal is
 abbrev pub exchange_app : App → Numerals → App
 exchange_app app numbers =
     under (under (under (under (under (under (under app summary_app) delta_app) take_app) sync_app)
-    replay_app)
-    (explain_app numbers)) merge_app
+    merge_app) replay_app) (explain_app numbers)
 
 -- the program with all its subcommands
 abbrev pub lexicat_app : Schemes → Numerals → App

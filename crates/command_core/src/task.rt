@@ -117,9 +117,9 @@ fn task_of<'m, 'a>(name: &str, matches: &'m ArgMatches<'a>) -> Option<Task<'m, '
         "delta" => Some(Task::Document(DocumentTask::Delta)),
         "take" => Some(Task::Document(DocumentTask::Take(numbers.not_after))),
         "sync" => Some(Task::Sync(numbers.not_after)),
+        "merge" => Some(Task::Document(DocumentTask::Merge(numbers.not_after))),
         "replay" => Some(Task::Replay),
         "explain" => Some(Task::Explain(refusal_of(numbers.number)?)),
-        "merge" => Some(Task::Document(DocumentTask::Merge(numbers.not_after))),
         _ => None,
     }
 }

@@ -1,5 +1,5 @@
 //! The commands by which sites exchange their cells, `replay`, which runs a script of them, and
-//! `explain`, which says what a refusal means; last `merge`, the exchange of many sites at once.
+//! `explain`, which says what a refusal means.
 ghost use Rattle.std.specs.Prelude.{◌≡◌, IfOk};
 ghost use Rattle.clap.specs.Words.{app_of};
 ghost use Rattle.command_core.specs.Words.{IsCommand, exchange_app, explain_app, merge_app};
@@ -38,6 +38,7 @@ pub(crate) fn with_exchange<'a>(
     let program = with_command(program, Ok(delta));
     let program = with_command(program, take(alloc));
     let program = with_command(program, sync(alloc));
+    let program = with_command(program, merge(alloc));
     let replay = reading(
         alloc,
         "replay",
@@ -49,8 +50,7 @@ pub(crate) fn with_exchange<'a>(
             replay",
     );
     let program = with_command(program, Ok(replay));
-    let program = with_command(program, explain(alloc, numbers));
-    with_command(program, merge(alloc))
+    with_command(program, explain(alloc, numbers))
 }
 
 /// `take [--not-after N]`
@@ -87,20 +87,6 @@ fn sync<'a>(alloc: Global) -> Result<Command<'a>, AllocError>
     .arg(arguments::not_after(alloc))
 }
 
-/// `explain NUMBER`
-fn explain<'a>(alloc: Global, numbers: &'a [&'a str]) -> Result<Command<'a>, AllocError>
-    ensures { IfOk result (IsCommand (explain_app numbers.entry)) }
-{
-    described(
-        alloc,
-        "explain",
-        "Prints what a refusal means, what causes it, and what to do",
-        "A refusal is a line 'refused N: TEXT'; standard input is not read.\n\
-            Example: lexicat explain 21",
-    )
-    .arg(arguments::number(alloc, numbers))
-}
-
 /// `merge [--not-after N]`
 fn merge<'a>(alloc: Global) -> Result<Command<'a>, AllocError>
     ensures { IfOk result (IsCommand merge_app) }
@@ -118,4 +104,18 @@ fn merge<'a>(alloc: Global) -> Result<Command<'a>, AllocError>
             Example: cat three.json both.json | lexicat merge > merged.json",
     )
     .arg(arguments::not_after(alloc))
+}
+
+/// `explain NUMBER`
+fn explain<'a>(alloc: Global, numbers: &'a [&'a str]) -> Result<Command<'a>, AllocError>
+    ensures { IfOk result (IsCommand (explain_app numbers.entry)) }
+{
+    described(
+        alloc,
+        "explain",
+        "Prints what a refusal means, what causes it, and what to do",
+        "A refusal is a line 'refused N: TEXT'; standard input is not read.\n\
+            Example: lexicat explain 21",
+    )
+    .arg(arguments::number(alloc, numbers))
 }

@@ -18,12 +18,12 @@ returns c =
     let with_sync = with_command _ _ c.with_command-program-3.result c.sync.result
     c.with_command-program-4.result with_take c.sync.ensures
     c.with_command-program-4.ensures in
-    let with_replay =
-    with_command _ _ c.with_command-program-4.result (Ok c.reading-replay.result)
-    c.with_command-program-5.result with_sync c.reading-replay.ensures
+    let with_merge = with_command _ _ c.with_command-program-4.result c.merge.result
+    c.with_command-program-5.result with_sync c.merge.ensures
     c.with_command-program-5.ensures in
-    let with_explain = with_command _ _ c.with_command-program-5.result c.explain.result
-    c.with_command-program-6.result with_replay c.explain.ensures
+    let with_replay =
+    with_command _ _ c.with_command-program-5.result (Ok c.reading-replay.result)
+    c.with_command-program-6.result with_merge c.reading-replay.ensures
     c.with_command-program-6.ensures in
-    with_command _ _ c.with_command-program-6.result c.merge.result c.with_command.result
-    with_explain c.merge.ensures c.with_command.ensures
+    with_command _ _ c.with_command-program-6.result c.explain.result c.with_command.result
+    with_replay c.explain.ensures c.with_command.ensures
