@@ -42,8 +42,8 @@ def load_rt():
 def in_lanes(tasks):
     """Runs tasks side by side, each once those that it waits for have ended, first those with the
     most work after them, and returns what each gave. A task is what it waits for, its work in lines,
-    its memory in bytes, and a call that gets what was given so far and how many jobs it may use: the
-    processors that no other task is ready for that others wait for, but one for the rest."""
+    its memory in bytes, and a call that gets what was given so far and how many jobs it may use. Where
+    others wait for a task, it leaves no processors to those for which none does."""
     # (of what rt plans for a check at most half was seen to be taken)
     lanes, memory = len(os.sched_getaffinity(0)), 2 * 0.85 * free_memory()
     after, awaited = {key: 0 for key in tasks}, {it for waits, *_ in tasks.values() for it in waits}
@@ -61,9 +61,8 @@ def in_lanes(tasks):
                 room = memory - sum(used for _, used, _ in running.values())
                 if idle < 1 or running and needs > room:
                     break
-                rivals = [it for it in ready[at:] if it in awaited or key not in awaited]
-                rest = idle > 1 and len(rivals) < len(ready) - at
-                share = -(-(idle - rest) // len(rivals))
+                rivals = sum(it in awaited or key not in awaited for it in ready[at:])
+                share = -(-idle // rivals)
                 jobs = max(1, min(4, share, 1 + int((room / needs - 1) / 0.6)))
                 used = needs * (1 + 0.6 * (jobs - 1))
                 running[pool.submit(call, given, jobs)] = key, used, jobs
