@@ -42,8 +42,8 @@ def load_rt():
 def in_lanes(tasks):
     """Runs tasks side by side, each once those that it waits for have ended, first those with the
     most work after them, and returns what each gave. A task is what it waits for, its work in lines,
-    its memory in bytes, and a call that gets what was given so far and how many jobs it may use. Where
-    others wait for a task, it leaves no processors to those for which none does."""
+    its memory in bytes, and a call that gets what was given so far and how many jobs it may use. A task
+    that others wait for gets processors as if those were not there for which none waits."""
     # (of what rt plans for a check at most half was seen to be taken)
     lanes, memory = len(os.sched_getaffinity(0)), 2 * 0.85 * free_memory()
     after, awaited = {key: 0 for key in tasks}, {it for waits, *_ in tasks.values() for it in waits}
@@ -52,17 +52,17 @@ def in_lanes(tasks):
         for it in tasks[key][0]:
             after[it] = max(after[it], after[key])
     given, running, left = {}, {}, sorted(tasks, key=lambda it: -after[it])
-    with ThreadPoolExecutor(lanes) as pool:
+    with ThreadPoolExecutor(2 * lanes) as pool:
         while left or running:
             ready = [it for it in left if all(below in given for below in tasks[it][0])]
             for at, key in enumerate(ready):
                 _, _, needs, call = tasks[key]
-                idle = lanes - sum(jobs for _, _, jobs in running.values())
+                is_rival = lambda it: it in awaited or key not in awaited
+                idle = lanes - sum(jobs for it, _, jobs in running.values() if is_rival(it))
                 room = memory - sum(used for _, used, _ in running.values())
                 if idle < 1 or running and needs > room:
                     break
-                rivals = sum(it in awaited or key not in awaited for it in ready[at:])
-                share = -(-idle // rivals)
+                share = -(-idle // sum(map(is_rival, ready[at:])))
                 jobs = max(1, min(4, share, 1 + int((room / needs - 1) / 0.6)))
                 used = needs * (1 + 0.6 * (jobs - 1))
                 running[pool.submit(call, given, jobs)] = key, used, jobs
