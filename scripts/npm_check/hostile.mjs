@@ -55,6 +55,9 @@ export function hostile(calls, steps) {
 const HALVES = ['\ud800', '\udfff', '\udc00\ud800', 'a\ud83d'];
 const NO_TIMES = [-1, 0.5, NaN, Infinity, 2 ** 53, 1e300, -1n, 2n ** 64n];
 const NO_BYTES = [new ArrayBuffer(1), new Uint16Array(1)];
+// What JSON has no members of: no maps to import, and for `update` no wish to delete each label.
+const NO_OBJECTS = [undefined, null, 7, true, () => ({})];
+const NO_MAPS = [...NO_OBJECTS, new Map([['a', {}]]), new Set(), Promise.resolve({}), ...NO_BYTES];
 const NO_TEXTS = [undefined, null, 7, 7n, true, Symbol('a'), {}, ['a'], () => 'a', ...NO_BYTES];
 
 /** Returns a line about values that only JavaScript has. What is wanted is in calls.d.ts and docs/REFUSALS.md. */
@@ -110,6 +113,12 @@ export function ofJavaScript({ Refused, Site, filter, pick, refusal }) {
     throws(() => pick('en', [it]), TypeError);
     throws(() => filter('en', it), it instanceof Array ? Refused : TypeError);
     if (it !== undefined && it !== null) throws(() => pick(it, ['en']), TypeError);
+  }
+  refuses(() => site.importMaps({ a: { en: NaN } }), 20);
+  for (const it of NO_MAPS) {
+    throws(() => site.importMaps(it), TypeError);
+    throws(() => site.update(site.export(), it), TypeError);
+    throws(() => site.update(it, site.export()), TypeError);
   }
   for (const options of [null, 7, 'en', { scheme: 'toString' }, { lenient: 1 }, { widen: 'yes' }, { default: 7 }]) {
     throws(() => pick('en', ['en'], options), TypeError);

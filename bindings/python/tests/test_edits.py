@@ -186,6 +186,7 @@ class Edits(unittest.TestCase):
 
     def test_wrong_types(self):
         site, wanted = self.site, "must be str or bytes-like, not"
+        key = "an id or a language must be str, not"
         for ask, message in [
             (lambda: site.put(None, "en", "x"), f"id {wanted} NoneType"),
             (lambda: site.put("m", 5, "x"), f"lang {wanted} int"),
@@ -195,6 +196,8 @@ class Edits(unittest.TestCase):
             (lambda: site.delete("m", None), f"lang {wanted} NoneType"),
             (lambda: site.import_maps(["m"]), f"maps {wanted} list"),
             (lambda: site.update({}, 5), f"new {wanted} int"),
+            (lambda: site.import_maps({"m": {None: "x"}}), f"{key} NoneType"),
+            (lambda: site.update({}, {7: {"en": "x"}}), f"{key} int"),
             (lambda: site.take(5), f"delta {wanted} int"),
             (lambda: site.merge(5), "other must be Site, not int"),
             (lambda: site.take("", not_after="1"), "not_after must be int, not str"),
@@ -481,8 +484,9 @@ class Files(unittest.TestCase):
     def test_a_lock_that_another_holds(self):
         with open(self.path + ".lock", "ab") as lock:
             fcntl.flock(lock, fcntl.LOCK_EX)
-            with self.assertRaises(TimeoutError), edit(self.path, wait=0.05):
-                pass
+            for wait in (0.05, float("nan")):
+                with self.assertRaises(TimeoutError), edit(self.path, wait=wait):
+                    pass
         with edit(self.path, wait=0.05):
             pass
 
