@@ -1,28 +1,10 @@
 // Asks a package for Node what hostile.py asked the command, and what no command can be asked: values of JavaScript.
 import assert from 'node:assert/strict';
-
-// One text for equal values, whatever the order of their members.
-function canonical(value) {
-  return JSON.stringify(value, (_, it) =>
-    it && typeof it === 'object' && !Array.isArray(it)
-      ? Object.fromEntries(Object.entries(it).sort(([a], [b]) => (a < b ? -1 : 1)))
-      : typeof it === 'bigint' ? `${it}n` : it,
-  );
-}
+import { answered, canonical } from './answers.mjs';
 
 function wordOf(it) {
   if (it?.bytes !== undefined) return new Uint8Array(Buffer.from(it.bytes, 'base64'));
   return it?.now !== undefined ? { now: BigInt(it.now) } : it;
-}
-
-function answered({ Refused }, call) {
-  try {
-    return call() ?? null;
-  } catch (error) {
-    if (!(error instanceof Refused)) throw error;
-    const { number, offset, row, count, ofSecond } = error;
-    return { number, offset, row, count, ofSecond };
-  }
 }
 
 function asked({ pick }, site, call, words) {
@@ -36,7 +18,7 @@ export function hostile(calls, steps) {
   const faults = [];
   let refused = 0;
   for (const { call, words, wanted, document } of steps) {
-    const got = [answered(calls, () => asked(calls, site, call, words.map(wordOf)))];
+    const got = [answered(() => asked(calls, site, call, words.map(wordOf)))];
     const wants = [wanted];
     if (document !== undefined) {
       got.push(site.write());
