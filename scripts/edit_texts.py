@@ -42,10 +42,13 @@ class Edit:
         self.name, self.path = os.path.basename(path)[: -len(".edit")], path
         self.is_admitted, self.file, self.function = is_admitted, None, None
         files, self.pairs, unread = read_edit(path)
+        self.fault = rattle_kit.load_rt().read_edit(path, folder)[1]
         # (of a text of several lines only the first would be read)
-        self.is_idle = bool(unread) or any(old == new for old, new in self.pairs)
-        is_readable = not rattle_kit.load_rt().read_edit(path, folder)[1]
-        if is_readable and len(files) == 1 and next(iter(files)).startswith("src/"):
+        if unread:
+            self.fault = f"no line of an edit: {unread[0]}"
+        elif any(old == new for old, new in self.pairs):
+            self.fault = "a text is replaced by itself"
+        if not self.fault and len(files) == 1 and next(iter(files)).startswith("src/"):
             self.file = files.pop()
             self.function = self.one_function(f"{folder}/{self.file}")
 
@@ -76,16 +79,17 @@ class Edit:
 
 
 def edits_of(crate):
-    """Returns the crate's edits, those that contracts admit too, and what is beside them and is
-    no edit."""
+    """Returns the crate's edits, those that contracts admit too, and what is no edit, or no longer
+    fits its source: each path with the reason."""
     here = SimpleNamespace(folder=f"{ROOT}/crates/{crate.name}")
-    good, bad = rattle_kit.load_rt().edits_of(here)
+    good, others = rattle_kit.load_rt().edits_of(here)
     folder = f"{ROOT}/scripts/admitted/{crate.name}"
     names = sorted(os.listdir(folder)) if os.path.isdir(folder) else []
     edits = [Edit(it, crate.folder, False) for it in good]
     edits += [Edit(f"{folder}/{it}", crate.folder, True) for it in names]
-    bad += [it.path for it in edits if it.is_idle]
-    return [it for it in edits if not it.is_idle], bad
+    bad = [(it, "it is no edit") for it in others]
+    bad += [(it.path, it.fault) for it in edits if it.fault]
+    return [it for it in edits if not it.fault], bad
 
 
 def without_body(text, function):

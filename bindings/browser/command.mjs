@@ -3,7 +3,7 @@
 //
 // The call is that of silkwaram_command.h. As in silkwaram.mjs, pointers and sizes are BigInts, and views of the memory
 // are made where they are used.
-import { bytesIn, instanceOf, instanceOfSync } from './silkwaram.mjs';
+import { bytesIn, exportsOf, exportsOfSync } from './silkwaram.mjs';
 
 // Bytes of `sw_command_told` and of `sw_text`; and how much longer than the input an output may be before the command
 // is asked once more.
@@ -36,7 +36,6 @@ function sizeOf(texts) {
 /** The module that has the command. */
 class Lexicat {
   #exports;
-  #failure = null;
 
   constructor(exports) {
     this.#exports = exports;
@@ -58,77 +57,67 @@ class Lexicat {
   // What the command answers with so much room for its outputs; an output that has too little is left out.
   #within(texts, input, outputRoom, errorsRoom) {
     const most = TOLD + WORD * texts.length + sizeOf(texts) + input.length + outputRoom + errorsRoom;
-    const block = Number(this.#exports.allocate(BigInt(most)));
+    const block = this.#exports.allocate(most);
     if (block === 0) return { status: 5, output: bytesIn(''), errors: bytesIn(OUT_OF_MEMORY), isRead: false };
     try {
       return this.#asked(block, texts, input, outputRoom, errorsRoom);
     } finally {
-      if (!this.#failure) this.#exports.release(BigInt(block));
+      this.#exports.release(block);
     }
   }
 
   #asked(told, texts, input, outputRoom, errorsRoom) {
     const words = told + TOLD;
     const at = this.#put(texts, words, words + WORD * texts.length);
-    this.#view(at, input.length).set(input);
+    this.#exports.bytes(at, input.length).set(input);
     const output = at + input.length;
     const errors = output + outputRoom;
     const sized = [[words, texts.length], [at, input.length], [output, outputRoom], [errors, errorsRoom]];
-    const status = this.#run([...sized.flat(), told].map(BigInt));
-    const report = new DataView(this.#exports.memory.buffer, told, TOLD);
+    const status = this.#exports.run('sw_command', ...[...sized.flat(), told].map(BigInt));
+    const report = new DataView(this.#exports.memory, told, TOLD);
     const [outputLength, errorsLength] = [0, 8].map((it) => Number(report.getBigUint64(it, true)));
     return {
       status,
-      output: outputLength <= outputRoom ? this.#view(output, outputLength).slice() : null,
-      errors: errorsLength <= errorsRoom ? this.#view(errors, errorsLength).slice() : null,
+      output: outputLength <= outputRoom ? this.#exports.bytes(output, outputLength).slice() : null,
+      errors: errorsLength <= errorsRoom ? this.#exports.bytes(errors, errorsLength).slice() : null,
       outputLength,
       errorsLength,
       isRead: report.getUint32(16, true) === 1,
     };
   }
 
-  #view(at, count) {
-    return new Uint8Array(this.#exports.memory.buffer, at, count);
-  }
-
   // Writes texts, and where each of them is; returns where they end.
   #put(texts, words, at) {
-    const places = new DataView(this.#exports.memory.buffer, words, WORD * texts.length);
+    const places = new DataView(this.#exports.memory, words, WORD * texts.length);
     texts.forEach((text, count) => {
       places.setBigUint64(WORD * count, BigInt(at), true);
       places.setBigUint64(WORD * count + 8, BigInt(text.length), true);
-      this.#view(at, text.length).set(text);
+      this.#exports.bytes(at, text.length).set(text);
       at += text.length;
     });
     return at;
-  }
-
-  #run(words) {
-    if (this.#failure) throw new Error('the module has stopped: load it again', { cause: this.#failure });
-    try {
-      return this.#exports.sw_command(...words);
-    } catch (failure) {
-      // (a trap: what it left in memory is not known)
-      this.#failure = failure;
-      throw failure;
-    }
   }
 }
 
 /** Loads the module: from beside this file, or from a URL, its bytes, or a compiled WebAssembly.Module. */
 export async function load(source = new URL('./lexicat.wasm', import.meta.url)) {
-  return new Lexicat((await instanceOf(source)).exports);
+  return new Lexicat(await exportsOf(source));
 }
 
 /** Loads the module at once, from its bytes or a compiled WebAssembly.Module. */
 export function loadSync(source) {
-  return new Lexicat(instanceOfSync(source).exports);
+  return new Lexicat(exportsOfSync(source));
 }
 
 let loaded = null;
 
-/** What the command answers, by a module that is loaded with the first call. */
+/** What the command answers, by a module that is loaded with the first call, and anew where it failed. */
 export async function command(words, input) {
   loaded ??= load();
-  return (await loaded).command(words, input);
+  try {
+    return (await loaded).command(words, input);
+  } catch (failure) {
+    if (failure.code !== 'ERR_INVALID_ARG_TYPE') loaded = null;
+    throw failure;
+  }
 }

@@ -17,6 +17,12 @@ const ERRORS = 2;
 // The arguments that ask for help and for the version.
 const SHOWN = ['--help', '-h', '--version', '-V'];
 
+// (Node would end with 1, which says that nothing was found)
+process.on('uncaughtException', (failure) => {
+  console.error(failure);
+  process.exitCode = 70;
+});
+
 const lexicat = loadSync(readFileSync(new URL('./lexicat.wasm', import.meta.url)));
 
 // What a file or a pipe holds, piece by piece. (Node's own stream of standard input takes a folder for an empty file.)

@@ -143,10 +143,15 @@ function placeOf({ place = 0 }) {
   return whole(place, 'place', LARGEST_MOMENT);
 }
 
+// What JSON has the members of. It has none of a Map, an ArrayBuffer or a Promise: `update` to one would delete all.
+const WITH_MEMBERS = /^\[object (?:Object|Array|Module)\]$/;
+
 // Language maps: an object as `export` answers it, or their text.
 function mapsOf(given, name) {
   if (typeof given === 'string' || given instanceof Uint8Array) return given;
-  if (given !== null && typeof given === 'object') return JSON.stringify(given);
+  // (a number is refused: of NaN JSON would make null, which is no label)
+  const numbered = (_, it) => (typeof it === 'number' ? 0 : it);
+  if (WITH_MEMBERS.test(Object.prototype.toString.call(given))) return JSON.stringify(given, numbered);
   throw wrongType(name, 'an object, a string or a Uint8Array');
 }
 
@@ -240,11 +245,53 @@ function mostBytes(text) {
   return typeof text === 'string' ? 3 * text.length : text.length;
 }
 
-// The module, and the calls that it exports.
+// What a module exports. After a trap, or at the end of the stack, it runs no more: what is in its memory is not known.
+class Exports {
+  #exports;
+  #failure = null;
+
+  constructor({ exports }) {
+    this.#exports = exports;
+  }
+
+  get hasStopped() {
+    return this.#failure !== null;
+  }
+
+  run(name, ...words) {
+    const call = this.#exports[name];
+    if (call === undefined) throw new Error(`this module has no ${name}`);
+    if (this.#failure) throw new Error('the module has stopped: load it again', { cause: this.#failure });
+    try {
+      return call(...words);
+    } catch (failure) {
+      this.#failure = failure;
+      throw failure;
+    }
+  }
+
+  // Where there is room for so many bytes; 0 where there is none.
+  allocate(bytes) {
+    return Number(this.run('allocate', BigInt(bytes)));
+  }
+
+  release(at) {
+    if (!this.#failure) this.run('release', BigInt(at));
+  }
+
+  get memory() {
+    return this.#exports.memory.buffer;
+  }
+
+  bytes(at, count) {
+    return new Uint8Array(this.memory, at, count);
+  }
+}
+
+// The calls of the module, and the room that is kept for them.
 class Module {
   #exports;
   #room;
-  #failure = null;
 
   constructor(exports) {
     this.#exports = exports;
@@ -252,22 +299,18 @@ class Module {
   }
 
   #allocated(bytes) {
-    const at = this.#exports.allocate(BigInt(bytes));
-    if (at === 0n) throw refusalOf(this, { number: OUT_OF_MEMORY });
-    return Number(at);
-  }
-
-  #bytes(at, count) {
-    return new Uint8Array(this.#exports.memory.buffer, at, count);
+    const at = this.#exports.allocate(bytes);
+    if (at === 0) throw refusalOf(this, { number: OUT_OF_MEMORY });
+    return at;
   }
 
   // Writes a text, and returns how many bytes it has.
   #put(text, at) {
     if (typeof text === 'string') {
-      if (isWellFormed(text)) return ENCODER.encodeInto(text, this.#bytes(at, mostBytes(text))).written;
+      if (isWellFormed(text)) return ENCODER.encodeInto(text, this.#exports.bytes(at, mostBytes(text))).written;
       text = encodeHalves(text);
     }
-    this.#bytes(at, text.length).set(text);
+    this.#exports.bytes(at, text.length).set(text);
     return text.length;
   }
 
@@ -278,26 +321,13 @@ class Module {
     try {
       return used(at, bytes);
     } finally {
-      this.#exports.release(BigInt(at));
-    }
-  }
-
-  #status(name, words) {
-    const call = this.#exports[name];
-    if (call === undefined) throw new Error(`this silkwaram.wasm has no ${name}`);
-    if (this.#failure) throw new Error('the module has stopped: load it again', { cause: this.#failure });
-    try {
-      return call(...words, BigInt(this.#room));
-    } catch (failure) {
-      // (a trap: what it left in memory is not known)
-      this.#failure = failure;
-      throw failure;
+      this.#exports.release(at);
     }
   }
 
   // Makes a call, and returns what it reports; what is refused is thrown.
   #call(name, words) {
-    const status = this.#status(name, words);
+    const status = this.#exports.run(name, ...words, BigInt(this.#room));
     if (status === USAGE) throw new Error('the site is closed, or the module does not know an option');
     // (sw_site_share reports nothing but its status)
     if (status === NO_MEMORY) throw refusalOf(this, { number: OUT_OF_MEMORY });
@@ -307,7 +337,7 @@ class Module {
   }
 
   #told() {
-    const view = new DataView(this.#exports.memory.buffer, this.#room, TOLD);
+    const view = new DataView(this.#exports.memory, this.#room, TOLD);
     const [length, offset, row, count] = [0, 8, 16, 24].map((at) => Number(view.getBigUint64(at, true)));
     return { length, offset, row, count, number: view.getUint32(32, true), given: view.getUint32(36, true) };
   }
@@ -345,10 +375,10 @@ class Module {
       const [placed, end] = this.#placed(words, at);
       const room = at + bytes - end;
       const told = this.#call(name, [...placed, BigInt(end), BigInt(room)]);
-      if (told.length <= room) return [told, read(this.#bytes(end, told.length))];
+      if (told.length <= room) return [told, read(this.#exports.bytes(end, told.length))];
       return this.#within(told.length, (out, size) => {
         const again = this.#call(name, [...placed, BigInt(out), BigInt(size)]);
-        return [again, read(this.#bytes(out, again.length))];
+        return [again, read(this.#exports.bytes(out, again.length))];
       });
     });
   }
@@ -366,10 +396,10 @@ class Module {
 
   // What a call says of a number of a refusal, or null.
   #said(name, number) {
-    if (this.#failure || !this.#room) return null;
+    if (this.#exports.hasStopped || !this.#room) return null;
     const at = this.#room + TOLD;
-    const status = this.#exports[name](number, BigInt(at), BigInt(ROOM), BigInt(this.#room));
-    return status === FOUND ? DECODER.decode(this.#bytes(at, this.#told().length)) : null;
+    const status = this.#exports.run(name, number, BigInt(at), BigInt(ROOM), BigInt(this.#room));
+    return status === FOUND ? DECODER.decode(this.#exports.bytes(at, this.#told().length)) : null;
   }
 
   // What is wanted where this number refuses, or null.
@@ -383,26 +413,25 @@ class Module {
   }
 
   version() {
-    return this.#exports.sw_version();
+    return this.#exports.run('sw_version');
   }
 
   memory() {
-    return { used: Number(this.#exports.bytes_in_use()), whole: this.#exports.memory.buffer.byteLength };
+    return { used: Number(this.#exports.run('bytes_in_use')), whole: this.#exports.memory.byteLength };
   }
 
   // A handle of no site.
   handle() {
     const at = this.#allocated(HANDLE);
-    this.#bytes(at, HANDLE).fill(0);
+    this.#exports.bytes(at, HANDLE).fill(0);
     return BigInt(at);
   }
 
   letGo(handle) {
-    this.#exports.sw_site_free(handle);
+    if (!this.#exports.hasStopped) this.#exports.run('sw_site_free', handle);
   }
 
   forget(handle) {
-    if (this.#failure) return;
     this.letGo(handle);
     this.#exports.release(handle);
   }
@@ -592,26 +621,26 @@ function failureOf(cause) {
   return new Error(`this engine cannot run silkwaram.wasm, which needs ${NEEDED}`, { cause });
 }
 
-/** The instance of a module, from wherever it is. */
-export async function instanceOf(source) {
+/** What a module exports, from wherever it is. */
+export async function exportsOf(source) {
   seesEngine();
   const isCompiled = source instanceof WebAssembly.Module;
   const given = isCompiled ? source : await bytesOf(source);
   try {
     // (never `new WebAssembly.Instance`, which a page may not do with a module of this size)
     const made = await WebAssembly.instantiate(given, {});
-    return isCompiled ? made : made.instance;
+    return new Exports(isCompiled ? made : made.instance);
   } catch (cause) {
     throw failureOf(cause);
   }
 }
 
-/** The instance of a module at once, from its bytes or a compiled WebAssembly.Module. */
-export function instanceOfSync(source) {
+/** What a module exports, at once, from its bytes or a compiled WebAssembly.Module. */
+export function exportsOfSync(source) {
   seesEngine();
   try {
     const module = source instanceof WebAssembly.Module ? source : new WebAssembly.Module(source);
-    return new WebAssembly.Instance(module, {});
+    return new Exports(new WebAssembly.Instance(module, {}));
   } catch (cause) {
     throw failureOf(cause);
   }
@@ -634,17 +663,17 @@ export function over(calls) {
   };
 }
 
-function callsOf(instance) {
-  const module = new Module(instance.exports);
+function callsOf(exports) {
+  const module = new Module(exports);
   return { ...over(module), memory: () => module.memory() };
 }
 
 /** Loads the module: from beside this file, or from a URL, its bytes, or a compiled WebAssembly.Module. */
 export async function load(source = new URL('./silkwaram.wasm', import.meta.url)) {
-  return callsOf(await instanceOf(source));
+  return callsOf(await exportsOf(source));
 }
 
 /** Loads the module at once, from its bytes or a compiled WebAssembly.Module. */
 export function loadSync(source) {
-  return callsOf(instanceOfSync(source));
+  return callsOf(exportsOfSync(source));
 }

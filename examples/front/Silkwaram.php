@@ -367,7 +367,7 @@ final class Silkwaram
     /** Joins a delta; a cell after the time `notAfter` refuses it, where that is not 0. */
     public function take(string $delta, int $notAfter = 0): void
     {
-        $this->calls->act('sw_site_take', $this->site, $delta, $notAfter);
+        $this->calls->act('sw_site_take', $this->site, $delta, self::moment($notAfter));
     }
 
     public function merge(self $other): void
@@ -377,14 +377,19 @@ final class Silkwaram
         }
     }
 
+    /** A time from 0: of less the library would see a time far ahead, after which no edit comes. */
     private static function moment(?int $now): int
     {
+        if ($now < 0) {
+            throw new InvalidArgumentException('a time counts from 0');
+        }
         return $now ?? (int) (microtime(true) * 1000);
     }
 
     private static function lines(array $tags): string
     {
-        return $tags ? implode("\n", $tags) . "\n" : '';
+        // (an LF would make two tags of one: a zero is refused as the LF would be)
+        return implode('', array_map(fn (string $tag) => strtr($tag, "\n", "\0") . "\n", $tags));
     }
 
     /** The lines after the first, each in its parts. */
@@ -398,9 +403,23 @@ final class Silkwaram
 
     private static function json(array $maps): string
     {
-        // (an empty array would be a list)
-        $made = (object) array_map(fn ($labels) => (object) $labels, $maps);
-        return json_encode($made, JSON_UNESCAPED_UNICODE | JSON_THROW_ON_ERROR);
+        return self::object($maps, fn ($labels) => is_array($labels)
+            ? self::object($labels, [self::class, 'encoded']) : self::encoded($labels));
+    }
+
+    /** An object of JSON. (Of an empty array `json_encode` makes a list, and it leaves out names with a zero.) */
+    private static function object(array $members, callable $encoded): string
+    {
+        $made = [];
+        foreach ($members as $name => $it) {
+            $made[] = self::encoded((string) $name) . ':' . $encoded($it);
+        }
+        return '{' . implode(',', $made) . '}';
+    }
+
+    private static function encoded($value): string
+    {
+        return json_encode($value, JSON_UNESCAPED_UNICODE | JSON_THROW_ON_ERROR);
     }
 
     private function maps(string $name, ...$given): array

@@ -4,8 +4,8 @@ function bytesOf(base64) {
   return Uint8Array.from(atob(base64), (it) => it.charCodeAt(0));
 }
 
-// One text for equal values, whatever the order of their members.
-function canonical(value) {
+/** One text for equal values, whatever the order of their members. */
+export function canonical(value) {
   return JSON.stringify(value, (_, it) =>
     it && typeof it === 'object' && !Array.isArray(it)
       ? Object.fromEntries(Object.entries(it).sort(([a], [b]) => (a < b ? -1 : 1)))
@@ -13,9 +13,10 @@ function canonical(value) {
   );
 }
 
-function answered(call) {
+/** What a call answers, or by what it is refused. */
+export function answered(call) {
   try {
-    return call();
+    return call() ?? null;
   } catch (error) {
     if (error.name !== 'Refused') throw error;
     const { number, offset, row, count, ofSecond } = error;

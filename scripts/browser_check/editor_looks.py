@@ -90,8 +90,7 @@ def states(room):
         ["greeting", "x-note", ["On the first page"]],
     )
     anna.exchange()
-    anna.language("#source", "en")
-    anna.language("#language", "ar")
+    anna.languages("en", "ar")
     anna.choose("#page-language", "en")
     anna.go("search")
     yield "work", anna

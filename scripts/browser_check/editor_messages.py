@@ -11,8 +11,7 @@ def whole_messages(room):
     )
     anna = room.editor("anna")
     anna.exchanged()
-    anna.language("#source", "en")
-    anna.language("#language", "fr")
+    anna.languages("en", "fr")
 
     def open_dialog(name):
         anna.go(name)

@@ -32,8 +32,7 @@ def work_seen(room):
     anna, ben = room.editor("anna"), room.editor("ben")
     for editor in (anna, ben):
         editor.exchanged()
-        editor.language("#source", "en")
-        editor.language("#language", "fr")
+        editor.languages("en", "fr")
     expect(
         anna.said("#progress-text") == "2 of 7", f"the progress is {anna.said('#progress-text')}"
     )
@@ -268,8 +267,7 @@ with silkwaram.edit(sys.argv[1]) as site: site.import_maps(maps)
     )
     anna = room.editor("anna")
     anna.exchanged()
-    anna.language("#source", "en")
-    anna.language("#language", "fr")
+    anna.languages("en", "fr")
     anna.kept()
     anna.page.ask("Performance.enable", timeDomain="threadTicks")
 

@@ -200,6 +200,10 @@ class Editor:
         self.page.key("Enter")
         self.page.until("!document.querySelector('#language-dialog').open")
 
+    def languages(self, source, into):
+        self.language("#source", source)
+        self.language("#language", into)
+
     def show(self, kind):
         self.run(f"document.querySelector('#shown input[value={kind}]').click()")
 

@@ -66,8 +66,7 @@ def any_id(room):
     room.server.put(["__proto__", "de", ["<b onmouseover=window.pwned=1>x</b>"]])
     anna = room.editor("anna")
     anna.exchanged()
-    anna.language("#source", "en")
-    anna.language("#language", "fr")
+    anna.languages("en", "fr")
     expect(
         anna.count("all") == len(HOSTILE),
         f"of {len(HOSTILE)} messages {anna.count('all')} are counted",
@@ -208,8 +207,7 @@ def no_edit_undone(room):
     anna, ben = room.editor("anna"), room.editor("ben")
     for editor in (anna, ben):
         editor.exchanged()
-        editor.language("#source", "en")
-        editor.language("#language", "fr")
+        editor.languages("en", "fr")
     # of a label of two texts each changes one
     anna.go("items")
     anna.page.type("un ANNA")
@@ -342,8 +340,7 @@ def in_parallel(room):
         anna.add(name, f"{name} in English")
     anna.exchange()
     badr.exchange()
-    badr.language("#source", "en")
-    badr.language("#language", "ar")
+    badr.languages("en", "ar")
     room.server.stop(is_killed=True)
     anna.write("greeting", "Hello")
     badr.write("title", "الفهرس اليومي")

@@ -245,8 +245,7 @@ def in_long_list(room):
     for before in (OBSERVED, OBSERVED + NO_ANCHOR):
         editor = Editor(room.browser(), room.address, "long", before, 360, 640)
         editor.exchanged()
-        editor.language("#source", "en")
-        editor.language("#language", "fr")
+        editor.languages("en", "fr")
         if before != OBSERVED:
             editor.run("document.documentElement.style.overflowAnchor = 'none'")
         editor.run("scrollTo(0, document.body.scrollHeight / 2)")
@@ -294,8 +293,7 @@ def nothing_jumps(room):
             editor.exchanged()
             shifts = editor.run("shifts.map(({ what }) => what)")
             expect(not shifts, f"{name}: as the page is opened this moves: {shifts[:4]}")
-            editor.language("#source", "en")
-            editor.language("#language", into)
+            editor.languages("en", into)
             still = Still(room, editor, f"{language}, {width} wide")
             typing(still, into)
             arriving(still, into)

@@ -43,13 +43,14 @@ function tryHeap(exports, rounds) {
   return refused;
 }
 
-function refusal(call) {
+// What a call throws.
+function thrown(call) {
   try {
     call();
   } catch (error) {
-    return error.number;
+    return error;
   }
-  return 0;
+  return {};
 }
 
 function largeDocument(rows) {
@@ -66,11 +67,11 @@ async function tryLimit(load, bytes) {
   // (of these the first has no room as a text, and the second none as a site)
   const large = [largeDocument(40000), largeDocument(9000)];
   const middle = largeDocument(400);
-  for (const it of large) assert(refusal(() => site.reload(it)) === 26, 'a large document is not refused by 26');
+  for (const it of large) assert(thrown(() => site.reload(it)).number === 26, 'a large document is not refused by 26');
   const { used, whole } = sw.memory();
   for (let round = 0; round < 20; round++) {
-    for (const it of large) assert(refusal(() => site.reload(it)) === 26, 'it is not refused again');
-    assert(refusal(() => sw.pick('en', [`en-${'x'.repeat(20e6)}`])) === 26, 'a large text is not refused by 26');
+    for (const it of large) assert(thrown(() => site.reload(it)).number === 26, 'it is not refused again');
+    assert(thrown(() => sw.pick('en', [`en-${'x'.repeat(20e6)}`])).number === 26, 'a large text is not refused by 26');
     assert(site.text('greeting', 'en') === 'Hello', 'the site is not as it was');
     assert(sw.pick('fr, en;q=0.5', ['en']) === 'en', 'no other question is answered');
     const other = sw.Site.open(middle);
@@ -90,7 +91,7 @@ async function tryLongRun(load, bytes, rounds) {
     const other = site.share();
     site.bundle('en');
     edit(sw, site);
-    refusal(() => site.text('@', 'en'));
+    thrown(() => site.text('@', 'en'));
     site.close();
     other.close();
   };
@@ -110,6 +111,34 @@ function edit(sw, site) {
   other.close();
 }
 
+// A module of which every export traps from some time on: after the first trap none is called again.
+async function tryTrap(load, bytes) {
+  const { instantiate } = WebAssembly;
+  let [isOver, trapped] = [false, 0];
+  WebAssembly.instantiate = async (...given) => {
+    const { instance } = await instantiate.apply(WebAssembly, given);
+    const run = (it) => (...words) => {
+      if (!isOver) return it(...words);
+      trapped++;
+      throw new WebAssembly.RuntimeError('a trap');
+    };
+    const exports = Object.entries(instance.exports).map(([name, it]) => [name, it instanceof Function ? run(it) : it]);
+    return { instance: { exports: Object.fromEntries(exports) } };
+  };
+  const sw = await load(bytes);
+  WebAssembly.instantiate = instantiate;
+  const site = sw.Site.open(SMALL);
+  const large = largeDocument(9000);
+  isOver = true;
+  assert(thrown(() => site.reload(large)).message === 'a trap', 'a trap is not passed on');
+  const calls = [() => site.text('greeting', 'en'), () => sw.Site.open(large), () => sw.pick('en', ['en']), sw.memory];
+  for (const call of calls) {
+    assert(/has stopped/.test(thrown(call).message), `after a trap: ${thrown(call).message}`);
+  }
+  site.close();
+  assert(trapped === 1, `${trapped} calls were made after a trap`);
+}
+
 /** Returns a line about what was tried; an Error says what went wrong. `bytes` are the module, and `limited` too. */
 export async function tryMemory(load, bytes, limited) {
   const { exports } = new WebAssembly.Instance(await WebAssembly.compile(bytes), {});
@@ -117,6 +146,7 @@ export async function tryMemory(load, bytes, limited) {
   const small = new WebAssembly.Instance(await WebAssembly.compile(limited), {}).exports;
   const refused = tryHeap(small, 12000);
   assert(refused > 0, 'no growth was refused');
+  await tryTrap(load, bytes);
   const whole = await tryLimit(load, limited);
   const [first, last] = await tryLongRun(load, bytes, 400);
   assert(last <= first, `memory grew from ${first} to ${last} bytes`);

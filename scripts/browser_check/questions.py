@@ -35,9 +35,8 @@ def label(line):
 
 
 def choices(lines):
-    for line in lines.decode().split("\n")[1:-1]:
-        language, weight, texts = line.split(" ", 2)
-        yield {"language": language, "weight": int(weight), "texts": json.loads(texts)}
+    rows = [it.split(" ", 2) for it in lines.decode().split("\n")[1:-1]]
+    return [{"language": it, "weight": int(weight), "texts": json.loads(texts)} for it, weight, texts in rows]
 
 
 def in_javascript(of, known):
@@ -54,7 +53,7 @@ def answer_in_javascript(of, asked, known):
     if asked.call == "open":
         return None
     if asked.call == "filter":
-        return list(choices(known.answer))
+        return choices(known.answer)
     if asked.call == "bundle":
         return json.loads(known.answer)
     if known.status == 1:

@@ -52,6 +52,7 @@ documents() {
     ends 4 lexicat-file paris.json import nowhere
     reports 'nowhere: no such file'
     ends 4 lexicat-file paris.json import .
+    ends 4 lexicat-file paris.json import ''
     ends 4 lexicat-file paris.json delta nowhere
     ends 2 lexicat-file paris.json import maps new
     ends 2 lexicat-file paris.json update old
@@ -115,6 +116,9 @@ merges() {
     : > nothing.json
     ends 3 lexicat-file paris.json merge tokyo.json nothing.json oslo.json
     remedy 19 'refused 19: not JSON of document 3'
+    lexicat-file 'a site' new --site none
+    ends 3 lexicat-file 'a site' merge none.json
+    remedy 20 'refused 20: shape of document 2'
     ends 4 lexicat-file paris.json merge tokyo.json nowhere.json
     ends 2 lexicat-file paris.json merge
     ends 2 lexicat-file paris.json merge tokyo.json --no-limit --not-after 7
@@ -123,6 +127,14 @@ exec "$REAL" "$@"'
     ends 4 env LEXICAT=programs/faulty REAL="$LEXICAT" \
         lexicat-file paris.json merge tokyo.json oslo.json
     unchanged paris.json tokyo.json oslo.json
+
+    # A file is read once: what is written to it meanwhile comes too late.
+    a_program cmp 'echo >> calls
+[ "$(wc -l < calls)" -ne 2 ] || : > tokyo.json
+exec /usr/bin/cmp "$@"'
+    PATH=$PWD/programs:$PATH ends 0 lexicat-file paris.json merge tokyo.json oslo.json
+    cells '["m","en",7,"tokyo",0,["b"]]' '["n","en",6,"oslo",0,null]'
+
     a_site paris '["m","en",5,"x",0,["a"]]'
     a_site tokyo
     a_site oslo '["m","en",5,"x",0,["c"]]'
@@ -142,6 +154,7 @@ exec "$REAL" "$@"'
         reports 'lexicat-file NEW new --site NAME'
     done
     ends 3 lexicat-file oslo.json merge laptop.json paris.json
+    reports 'laptop.json and paris.json are both site paris'
     unchanged paris.json laptop.json
     # What is said to do does it.
     lexicat-file new.json new --site paris-laptop

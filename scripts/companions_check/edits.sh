@@ -3,6 +3,9 @@
 
 deletions() {
     part deletions
+    # (an empty text is a text, and no request for help)
+    ends 0 lexicat-file paris.json put --now 4 --id hi --lang en ''
+    cells '["hi","en",4,"paris",0,[""]]'
     lexicat-file paris.json put --now 5 --id hi --lang en Hello
     cp paris.json before
     ends 1 lexicat-file paris.json delete --id hj --lang en

@@ -5,6 +5,7 @@ import json
 import os
 import random
 
+from mutating import mutated
 from program import FORMATS, HAS_POLIB, end, fault, run
 
 CASES = os.path.join(os.path.dirname(os.path.abspath(__file__)), "cases")
@@ -16,27 +17,6 @@ TOKENS = [b'"', b"'", b"\\", b"\n", b"\r\n", b"=", b"{", b"}", b"{ $n ->", b"[on
           b"\xe2\x80\xae", b"null", b"[", b"]", b"1e999", b"<b>", b"</b>", b"<item>",
           b'quantity="few"', b"\x0c", b"\xc2\x85", b"-", b" ", b"\t", b"    ", b"x" * 70000,
           b"<!DOCTYPE a>", b'xml:lang="de"', b"msgid", b"1"]
-
-
-def mutated(data):
-    """A file that was mutated some times."""
-    for _ in range(chance.choice([1, 1, 1, 2, 5])):
-        at, lines = chance.randrange(len(data) + 1), data.split(b"\n")
-        one, other = chance.randrange(len(lines)), chance.randrange(len(lines))
-        kind = chance.randrange(7)
-        if kind == 0:
-            data = data[:at] + data[at + chance.randrange(20):]
-        elif kind == 1:
-            data = data[:at] + bytes([chance.randrange(256)]) + data[at + 1:]
-        elif kind == 2:
-            lines[one], lines[other] = lines[other], lines[one]
-            data = b"\n".join(lines)
-        elif kind == 3:
-            lines[one:one + chance.randrange(2)] = [lines[other]]
-            data = b"\n".join(lines)
-        else:
-            data = data[:at] + chance.choice(TOKENS) + data[at:]
-    return data
 
 
 def ended(what, status, output, errors):
@@ -57,7 +37,7 @@ for number in range(2500):
     if kind in ("xliff", "xliff2", "arb"):
         words = []
     with open(path, "rb") as file:
-        data = mutated(file.read())
+        data = mutated(chance, file.read(), TOKENS)
     status, output, errors = run(kind, "in", *words, data=data)
     ended(f"{name} {number} {data[-3000:]}", status, output, errors)
     if status not in (0, 7) or output == b"{}\n":
@@ -79,7 +59,7 @@ for number in range(2500):
     other = chance.choice(FORMATS)
     words = ["--lang", lang] + ["--source", "en"] * (other in ("xliff", "xliff2", "po"))
     if words[0] != "--lang" or lang != "en" or len(words) == 2:
-        asked = mutated(output) if number % 2 else output
+        asked = mutated(chance, output, TOKENS) if number % 2 else output
         status, went, errors = run(other, "out", *words, data=asked)
         ended(f"{name} {number} as {other}", status, went, errors)
 if set(counts) != {0, 3, 7}:

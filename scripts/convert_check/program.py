@@ -3,7 +3,8 @@ import importlib
 import json
 import os
 import sys
-import traceback
+
+import in_children
 
 sys.dont_write_bytecode = True
 CONVERT = os.environ["CONVERT"]
@@ -40,26 +41,7 @@ def skip(what, lacks):
 
 def run(*words, data=b""):
     """The status, what is printed, and what is written to standard error."""
-    with open("input", "wb") as file:
-        file.write(data)
-    child = os.fork()
-    if child == 0:
-        os.dup2(os.open("input", os.O_RDONLY), 0)
-        for number, name in ((1, "output"), (2, "errors")):
-            os.dup2(os.open(name, os.O_WRONLY | os.O_CREAT | os.O_TRUNC), number)
-        status = 1
-        try:
-            status = command.main(list(words))
-        except SystemExit as why:
-            status = why.code
-        except BaseException:
-            traceback.print_exc()
-        sys.stdout.flush()
-        sys.stderr.flush()
-        os._exit(status or 0)
-    status = os.WEXITSTATUS(os.waitpid(child, 0)[1])
-    with open("output", "rb") as output, open("errors", errors="replace") as errors:
-        return status, output.read(), errors.read()
+    return in_children.ended(lambda: command.main(list(words)), words, data)
 
 
 def maps(value):

@@ -3,6 +3,7 @@ import random
 import sys
 
 import children
+from mutating import mutated
 
 TOKENS = [b'"', b"\\", b"{", b"}", b"[", b"]", b",", b"null", b"1e400", b"\\ud800", b"\xff", b"\0",
           b'"x-note"', b'"max 1"', b"%", b"{name}", b"<", b"0" * 30, b"\xef\xbb\xbf", b"[" * 300]
@@ -10,17 +11,7 @@ chance, counted, faults = random.Random(5), {}, 0
 with open("site.json", "rb") as file:
     whole = file.read()
 for turn in range(1500):
-    data = whole
-    for _ in range(chance.randint(0, 3)):
-        at, kind = chance.randrange(len(data) + 1), chance.randrange(4)
-        if kind == 0:
-            data = data[:at]
-        elif kind == 1:
-            data = data[:at] + data[at + chance.randrange(20):]
-        elif kind == 2:
-            data = data[:at] + chance.choice(TOKENS) + data[at:]
-        else:
-            data = data[:at] + bytes([chance.randrange(256)]) + data[at + 1:]
+    data = mutated(chance, whole, TOKENS)
     with open("mutated.json", "wb") as file:
         file.write(data)
     status, output, errors = children.run("--source", "en", "mutated.json")

@@ -36,7 +36,7 @@ MOMENTS = ["0", "5", "9", "+7", "005", str(2**64 - 1)]
 BAD_MOMENTS = ["-1", str(2**64), "x", "", "1.0"]
 COMMANDS = (
     "pick pick new put put delete import update export missing outdated changes filter lookup lookup bundle"
-    " summary delta take sync status replay explain help"
+    " summary delta take sync merge status replay explain help"
 ).split()
 HELP = ["--help", "-h", "--version", "-V", "help"]
 # Words that no command knows where they come, and bytes that are no text.
@@ -146,7 +146,7 @@ def arguments(rng, command):
         return [*key, *options(rng, ["scheme", "lenient", "widen", "default"]), "--", field]
     if command == "bundle":
         return [*options(rng, ["scheme", "lenient", "widen", "default"]), "--", field]
-    if command in ("take", "sync"):
+    if command in ("take", "sync", "merge"):
         return [f"--not-after={one_of(rng, MOMENTS, BAD_MOMENTS)}"] if rng.random() < 0.4 else []
     if command == "explain":
         return [str(rng.randrange(-1, 31))]
@@ -179,6 +179,9 @@ def input_of(rng, command, sites):
     site = rng.choice(sites)
     if command in ("changes", "sync"):
         return site + rng.choice(sites)
+    if command == "merge":
+        lines = site + b"".join(rng.choice(sites) for _ in range(rng.randrange(5)))
+        return lines if rng.random() < 0.8 else lines[:-1]
     if command == "replay":
         return script_of(rng)
     more = {"import": maps_of, "delta": summary_of, "take": delta_of}.get(command)

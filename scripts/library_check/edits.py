@@ -17,14 +17,11 @@ import re
 import subprocess
 import sys
 
+from commands import maps_of
+from questions import BAD_IDS, BAD_TAGS, IDS, TAGS, TEXTS, one_of
 from silkwaram import Refused, Site
 
 NAMES = ["paris", "tokyo", "a-1"]
-IDS = ["greeting", "news.title", "größe", "-x", "x" * 33, "x" * 128, "m 1"]
-BAD_IDS = ["", "@context", "x" * 129, "a\tb"]
-LANGUAGES = "en en-GB fr fr-CA de-Latn-DE-1996 zh-Hant ja @none i-klingon x-a".split()
-BAD_LANGUAGES = ["", "en_US", "toolongsubtag", "é", "a" * 256, "en-", "@NONE", "x"]
-TEXTS = ["Hello", "", 'with "quotes"', "two\nlines", "こんにちは", "\\", "\u0001", "😀", "x" * 300]
 LAST_TIME = 2**64 - 1
 STEPS = ["put"] * 6 + ["delete"] * 2 + ["import", "update", "take", "take", "take_late", "merge", "merge"]
 FAULT = re.compile(
@@ -51,25 +48,6 @@ class Command:
         if run.returncode > 1:
             sys.exit(f"{words} ended with {run.returncode}: {run.stderr.decode()}")
         return run.stdout
-
-
-def one_of(rng, good, bad):
-    return rng.choice(bad) if rng.random() < 0.03 else rng.choice(good)
-
-
-def text_of(rng):
-    return rng.choice(TEXTS)
-
-
-def maps_of(rng):
-    """Language maps, of which some are refused."""
-    maps = {}
-    for _ in range(rng.randrange(4)):
-        labels = maps.setdefault(one_of(rng, IDS, BAD_IDS[1:]), {})
-        for _ in range(rng.randrange(1, 4)):
-            label = [text_of(rng) for _ in range(rng.choice([1, 1, 2, 3]))]
-            labels[one_of(rng, LANGUAGES, BAD_LANGUAGES)] = label[0] if len(label) == 1 else label
-    return json.dumps(maps, ensure_ascii=False)
 
 
 def refusal_of(call):
@@ -126,22 +104,20 @@ class Sequence:
         other = (place + rng.randrange(1, 3)) % 3
         site, document, now = self.sites[place], self.documents[place], self.moment()
         if kind == "put":
-            name, lang, text = one_of(rng, IDS, BAD_IDS), one_of(rng, LANGUAGES, BAD_LANGUAGES), text_of(rng)
+            name, lang, text = one_of(rng, IDS, BAD_IDS), one_of(rng, TAGS, BAD_TAGS), rng.choice(TEXTS)
             words = ["put", f"--now={now}", words_of("id", name), words_of("lang", lang), "--", text]
             self.edited(place, lambda: site.put(name, lang, text, now), self.command(*words, documents=document))
         elif kind == "delete":
-            name, lang = one_of(rng, IDS, BAD_IDS), one_of(rng, LANGUAGES, BAD_LANGUAGES)
+            name, lang = one_of(rng, IDS, BAD_IDS), one_of(rng, TAGS, BAD_TAGS)
             words = ["delete", f"--now={now}", words_of("id", name), words_of("lang", lang)]
             self.edited(place, lambda: site.delete(name, lang, now), self.command(*words, documents=document))
         elif kind == "import":
             maps = maps_of(rng)
-            wanted = self.command("import", f"--now={now}", documents=document + maps.encode())
+            wanted = self.command("import", f"--now={now}", documents=document + maps)
             self.edited(place, lambda: site.import_maps(maps, now), wanted)
         elif kind == "update":
             old, new = maps_of(rng), maps_of(rng)
-            wanted = self.command(
-                "update", f"--now={now}", documents=document + old.encode() + b"\n" + new.encode()
-            )
+            wanted = self.command("update", f"--now={now}", documents=document + old + new)
             self.edited(place, lambda: site.update(old, new, now), wanted)
         elif kind == "merge":
             wanted = self.command("sync", documents=document + self.documents[other])
@@ -160,7 +136,7 @@ class Sequence:
         """All that is asked of a site and of two."""
         one, other = self.rng.sample(range(3), 2)
         site, document = self.sites[one], self.documents[one]
-        lang, source = self.rng.choice(LANGUAGES), self.rng.choice(LANGUAGES)
+        lang, source = self.rng.choice(TAGS), self.rng.choice(TAGS)
         with site.share() as share:
             pairs = [
                 ("summary", share.summary(), ["summary"], document),

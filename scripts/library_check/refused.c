@@ -1,162 +1,317 @@
-/* Refuses each allocation of each call in turn, alone and with all that come after it. A call has to answer as with
- * ample memory, or with status 5 and 26, nothing written and its handles as they were; and a repeat has to answer.
- * It is linked with the archive, so that malloc and realloc are those of this file (--wrap). */
-#include <errno.h>
-#include <limits.h>
-
+/* Refuses each allocation of each call in turn, alone and with all that come after it. A call has to end as with ample
+ * memory, or with status 5 and 26, nothing written and its handles as they were; a take or a merge in place may leave
+ * each cell as it was or as it was to be. A repeat then makes the whole. A share that was taken before keeps what it
+ * held. */
 #include "questions.h"
+#include "refusing.h"
 
+#define PARIS                                                                                                        \
+  "{\"cells\":[[\"m\",\"en\",6,\"paris\",0,[\"Hello\",\"Hi\"]],[\"m\",\"zh-hant-cn-x-private1-private2\",5,\"paris\"," \
+  "1,[\"a\"]],[\"n\",\"de\",5,\"paris\",2,[\"b\"]]],\"kind\":\"site\",\"site\":\"paris\",\"version\":2}\n"
+#define OSLO                                                                                                     \
+  "{\"cells\":[[\"" LONG_ID "\",\"nb\",7,\"oslo\",0,[\"x\"]],[\"m\",\"en\",8,\"oslo\",0,[\"Good day\"]]],\"kind\":" \
+  "\"site\",\"site\":\"oslo\",\"version\":2}\n"
 #define LONG_TAG "zh-Hant-CN-x-private1-private2"
-#define PARIS                                                                                                         \
-  "{\"cells\":[[\"m\",\"en\",5,\"paris\",0,[\"Hello\",\"Hi\"]],[\"m\",\"" LONG_TAG                                    \
-  "\",5,\"paris\",1,[\"a\"]],[\"n\",\"de\",5,\"paris\",2,[\"b\"]]],\"kind\":\"site\",\"site\":\"paris\",\"version\":" \
-  "2}\n"
-#define OSLO \
-  "{\"cells\":[[\"m\",\"en\",6,\"oslo\",0,[\"Good day\"]]],\"kind\":\"site\",\"site\":\"oslo\",\"version\":2}\n"
+#define LONG_ID "a-message-id-that-has-more-than-32-bytes"
+#define DELTA                                                                                                    \
+  "{\"cells\":[[\"" LONG_ID "\",\"nb\",7,\"oslo\",0,[\"x\"]],[\"m\",\"en\",8,\"oslo\",0,[\"Good day\"]]],\"kind\":" \
+  "\"delta\",\"to\":\"paris\",\"version\":2}\n"
+#define SUMMARY "{\"kind\":\"summary\",\"owner\":\"oslo\",\"stamps\":[[\"m\",\"en\",5,\"paris\",0]],\"version\":2}\n"
+#define MAPS "{\"" LONG_ID "\":{\"nb\":\"x\"},\"m\":{\"en\":[\"one\",\"two\"],\"fr\":\"Bonjour\"}}"
 
-enum { ROOM = 256 };
+enum { ROOM = 1024 };
 
-static unsigned long allocations, first_refused = ULONG_MAX, last_refused;
-/* How many allocations all calls make. */
 static unsigned long all_allocations;
 
-void *__real_malloc(size_t size);
-void *__real_realloc(void *held, size_t size);
-
-static int is_refused(void) {
-  allocations++;
-  if (allocations < first_refused || allocations > last_refused) return 0;
-  errno = ENOMEM;
-  return 1;
-}
-
-void *__wrap_malloc(size_t size) { return is_refused() ? NULL : __real_malloc(size); }
-
-void *__wrap_realloc(void *held, size_t size) { return is_refused() ? NULL : __real_realloc(held, size); }
-
-/* What a call is asked of, and what it answered. `other` is what sw_site_share writes to. */
+/* A site, a share of it, another site twice, and what a call ended with. `given` is what sw_site_share writes to. */
 typedef struct {
-  sw_site site, other;
+  sw_site site, share, other, given;
   int32_t status;
   sw_told told;
   uint8_t out[ROOM];
 } trial;
 
-static void pick(trial *it) {
+/* A document, as sw_site_write has it. */
+typedef struct {
+  uint8_t bytes[ROOM];
+  size_t len;
+} document;
+
+typedef void act(trial *);
+
+static void makes(trial *it) { it->status = sw_site_new(BYTES(T("lyon")), &it->site, &it->told); }
+
+static void puts_long(trial *it) {
+  it->status = sw_site_put(&it->site, 9, BYTES(T(LONG_ID)), BYTES(T(LONG_TAG)), BYTES(T("some text")),
+                           &it->told);
+}
+
+static void puts_held(trial *it) {
+  it->status = sw_site_put(&it->site, 9, BYTES(T("m")), BYTES(T("en")), BYTES(T("Good day")), &it->told);
+}
+
+static void deletes(trial *it) {
+  it->status = sw_site_delete(&it->site, 9, BYTES(T(LONG_ID)), BYTES(T("en")), &it->told);
+}
+
+static void imports(trial *it) { it->status = sw_site_import(&it->site, 9, BYTES(T(MAPS)), &it->told); }
+
+static void updates(trial *it) {
+  it->status = sw_site_update(&it->site, 9, BYTES(T("{\"m\":{\"en\":[\"Hello\",\"Hi\"]}}")), BYTES(T(MAPS)), &it->told);
+}
+
+static void takes(trial *it) { it->status = sw_site_take(&it->site, BYTES(T(DELTA)), 100, &it->told); }
+
+static void merges(trial *it) { it->status = sw_site_merge(&it->site, &it->other, &it->told); }
+
+static void writes(trial *it) { it->status = sw_site_write(&it->site, it->out, ROOM, &it->told); }
+
+static void exports(trial *it) { it->status = sw_site_export(&it->site, it->out, ROOM, &it->told); }
+
+static void sums_up(trial *it) { it->status = sw_site_summary(&it->site, it->out, ROOM, &it->told); }
+
+static void reports(trial *it) { it->status = sw_site_status(&it->site, it->out, ROOM, &it->told); }
+
+static void misses(trial *it) {
+  it->status = sw_site_missing(&it->site, BYTES(T("fr")), it->out, ROOM, &it->told);
+}
+
+static void dates(trial *it) {
+  it->status = sw_site_outdated(&it->site, BYTES(T(LONG_TAG)), BYTES(T("en")), it->out, ROOM, &it->told);
+}
+
+static void answers_summary(trial *it) {
+  it->status = sw_site_delta(&it->site, BYTES(T(SUMMARY)), it->out, ROOM, &it->told);
+}
+
+static void compares(trial *it) { it->status = sw_site_changes(&it->site, &it->other, it->out, ROOM, &it->told); }
+
+static void filters(trial *it) {
+  it->status = sw_filter(0, BYTES(T("da, " LONG_TAG ";q=0.8")), BYTES(T("da\n" LONG_TAG "-more\n")), it->out, ROOM,
+                         &it->told);
+}
+
+static void picks(trial *it) {
   it->status = sw_pick(0, BYTES(T("da, " LONG_TAG ";q=0.8")), BYTES(T("en\n" LONG_TAG)), BYTES(T(LONG_TAG)), it->out,
                        ROOM, &it->told);
 }
 
-static void open_first(trial *it) {
-  sw_site_free(&it->site);
-  it->status = sw_site_open(BYTES(T(OSLO)), &it->site, &it->told);
+static void widens(trial *it) {
+  it->status =
+      sw_pick(SW_WIDEN, BYTES(T("de, zh")), BYTES(T("en\n" LONG_TAG)), BYTES(T("en")), it->out, ROOM, &it->told);
 }
 
-static void open_anew(trial *it) { it->status = sw_site_open(BYTES(T(OSLO)), &it->site, &it->told); }
+static void opens(trial *it) { it->status = sw_site_open(BYTES(T(OSLO)), &it->site, &it->told); }
 
-static void lookup(trial *it) {
+/* A handle that is not open stays so. (No status is -1.) */
+static void opens_first(trial *it) {
+  sw_site first = {0};
+  it->status = sw_site_open(BYTES(T(OSLO)), &first, &it->told);
+  if (!first.held != (it->status != SW_FOUND)) it->status = -1;
+  sw_site_free(&first);
+}
+
+/* (it reports nothing but its status) */
+static void shares(trial *it) {
+  it->status = sw_site_share(&it->site, &it->given);
+  it->told.number = it->status == SW_NO_MEMORY ? 26 : 0;
+}
+
+static void looks_up(trial *it) {
   it->status = sw_site_lookup(&it->site, 0, BYTES(T("m")), BYTES(T("da, " LONG_TAG)), BYTES(T(LONG_TAG "-more")),
                               it->out, ROOM, &it->told);
 }
 
-static void label_text(trial *it) {
+static void finds_text(trial *it) {
   it->status = sw_site_text(&it->site, SW_EXTENDED, BYTES(T("m")), BYTES(T("*-de, zh-*-CN-x-private1-private2, en")),
                             BYTES(T("en")), 0, it->out, ROOM, &it->told);
 }
 
-static void filter(trial *it) {
+static void filters_labels(trial *it) {
   it->status = sw_site_filter(&it->site, 0, BYTES(T("m")), BYTES(T("en;q=0.5, zh-hant-cn-x-private1")), it->out, ROOM,
                               &it->told);
 }
 
-static void bundle(trial *it) {
+static void bundles(trial *it) {
   it->status =
       sw_site_bundle(&it->site, SW_LENIENT, BYTES(T("en_US, " LONG_TAG)), BYTES(T("de")), it->out, ROOM, &it->told);
 }
 
-static void share(trial *it) { it->status = sw_site_share(&it->site, &it->other); }
+/* Whether a call leaves the site, changes it, or joins cells to it, in part where memory ends. */
+enum kind { ASKS, EDITS, JOINS };
 
-/* Whether the handle's label of m in English is this one. */
-static int holds(sw_site *site, const char *label) {
-  uint8_t out[ROOM];
+static const struct {
+  const char *name;
+  act *call;
+  enum kind kind;
+} CALLS[] = {
+    {"sw_site_new", makes, EDITS},
+    {"sw_site_put, new", puts_long, EDITS},
+    {"sw_site_put", puts_held, EDITS},
+    {"sw_site_delete", deletes, EDITS},
+    {"sw_site_import", imports, EDITS},
+    {"sw_site_update", updates, EDITS},
+    {"sw_site_take", takes, JOINS},
+    {"sw_site_merge", merges, JOINS},
+    {"sw_site_write", writes, ASKS},
+    {"sw_site_export", exports, ASKS},
+    {"sw_site_summary", sums_up, ASKS},
+    {"sw_site_status", reports, ASKS},
+    {"sw_site_missing", misses, ASKS},
+    {"sw_site_outdated", dates, ASKS},
+    {"sw_site_delta", answers_summary, ASKS},
+    {"sw_site_changes", compares, ASKS},
+    {"sw_filter", filters, ASKS},
+    {"sw_pick", picks, ASKS},
+    {"sw_pick, widened", widens, ASKS},
+    {"sw_site_open, open", opens, EDITS},
+    {"sw_site_open, closed", opens_first, ASKS},
+    {"sw_site_share", shares, ASKS},
+    {"sw_site_lookup", looks_up, ASKS},
+    {"sw_site_text", finds_text, ASKS},
+    {"sw_site_filter", filters_labels, ASKS},
+    {"sw_site_bundle", bundles, ASKS},
+};
+
+/* Whether the sites are shared, so that an edit makes a copy. */
+enum { ALONE, SHARED, WAYS };
+
+static document written(sw_site *site) {
+  document it;
   sw_told told;
-  return sw_site_text(site, 0, BYTES(T("m")), BYTES(T("en")), NULL, 0, 0, out, ROOM, &told) == SW_FOUND &&
-         told.len == strlen(label) && !memcmp(out, label, told.len);
+  if (sw_site_write(site, it.bytes, ROOM, &told) != SW_FOUND || told.len > ROOM) exit(3);
+  it.len = told.len;
+  return it;
 }
 
-static void begin(trial *it) {
+static int equal(const document *one, const document *other) {
+  return one->len == other->len && !memcmp(one->bytes, other->bytes, one->len);
+}
+
+/* A row of a document of a site, and how much of it is its key. */
+typedef struct {
+  const uint8_t *at;
+  size_t len, key;
+} row;
+
+/* The row that begins at or after this place; one of no length after the last. (No text here has a quote.) */
+static row row_after(const document *it, size_t place) {
+  row found = {it->bytes + place, 0, 0};
+  int depth = 0, commas = 0, quoted = 0;
+  while (place < it->len && memcmp(it->bytes + place, "[\"", 2)) place++;
+  found.at = it->bytes + place;
+  for (size_t at = place; at < it->len; at++) {
+    uint8_t byte = it->bytes[at];
+    if (byte == '"') quoted = !quoted;
+    if (quoted) continue;
+    depth += (byte == '[') - (byte == ']');
+    if (byte == ',' && ++commas == 2) found.key = at + 1 - place;
+    if (depth == 0) {
+      found.len = at + 1 - place;
+      break;
+    }
+  }
+  return found;
+}
+
+static int has(const document *it, const uint8_t *bytes, size_t len) {
+  return memmem(it->bytes, it->len, bytes, len) != NULL;
+}
+
+/* Whether each cell is that of one document or of the other, and no key of the first is lacking. */
+static int is_between(const document *now, const document *old, const document *wanted) {
+  row it;
+  for (size_t at = 0; (it = row_after(now, at)).len; at = (size_t)(it.at - now->bytes) + it.len)
+    if (!has(old, it.at, it.len) && !has(wanted, it.at, it.len)) return 0;
+  for (size_t at = 0; (it = row_after(old, at)).len; at = (size_t)(it.at - old->bytes) + it.len)
+    if (!has(now, it.at, it.key)) return 0;
+  return 1;
+}
+
+static void begin(trial *it, int way) {
+  sw_told told;
   memset(it, 0, sizeof *it);
-  if (sw_site_open(BYTES(T(PARIS)), &it->site, &it->told) || sw_site_open(BYTES(T(OSLO)), &it->other, &it->told))
+  if (sw_site_open(BYTES(T(PARIS)), &it->site, &told) || sw_site_open(BYTES(T(OSLO)), &it->other, &told) ||
+      sw_site_open(BYTES(T(OSLO)), &it->given, &told))
     exit(3);
-  memset(&it->told, 0, sizeof it->told);
+  if (way == SHARED && sw_site_share(&it->site, &it->share)) exit(3);
   memset(it->out, UNTOUCHED, ROOM);
 }
 
 static void end(trial *it) {
   sw_site_free(&it->site);
+  sw_site_free(&it->share);
   sw_site_free(&it->other);
+  sw_site_free(&it->given);
+}
+
+/* Makes the call with the allocations from the n-th on refused, up to the last-th. */
+static void try(act *call, trial *it, unsigned long n, unsigned long last) {
+  memset(&it->told, 0, sizeof it->told);
+  refuse(n, last);
+  call(it);
+  refuse_none();
 }
 
 static int same(const trial *one, const trial *other) {
   return one->status == other->status && same_told(&one->told, &other->told) && !memcmp(one->out, other->out, ROOM);
 }
 
-/* Makes the call with the allocations from the n-th on refused, up to the last-th. */
-static void try(void call(trial *), trial *it, unsigned long n, unsigned long last) {
-  allocations = 0;
-  first_refused = n;
-  last_refused = last;
-  call(it);
-  first_refused = ULONG_MAX;
+/* Whether the sites that no edit is of are as they were; after a call that is not refused `given` has what it gave. */
+static int others_are_kept(trial *it, const document *paris, const document *oslo) {
+  document share, other = written(&it->other), given = written(&it->given);
+  if (it->share.held) {
+    share = written(&it->share);
+    if (!equal(&share, paris)) return 0;
+  }
+  return equal(&other, oslo) && (it->status != SW_NO_MEMORY || equal(&given, oslo));
 }
 
-/* Whether a refused call left everything alone; one that is no question tells nothing but its status. */
-static int left_alone(trial *it, void call(trial *)) {
-  sw_told none = {.number = call == share ? 0 : 26};
-  int is_kept = call == open_first ? !it->site.held : holds(&it->site, "Hello");
-  return same_told(&it->told, &none) && is_untouched(it->out, ROOM) && is_kept && holds(&it->other, "Good day");
-}
-
-static unsigned refuse_each(const char *name, void call(trial *)) {
+static unsigned refuse_each(unsigned of, int way) {
   trial ample, it;
-  begin(&ample);
-  try(call, &ample, ULONG_MAX, 0);
-  unsigned long count = allocations, answered = 0;
-  unsigned wrong = ample.status != SW_FOUND;
+  begin(&ample, way);
+  document paris = written(&ample.site), oslo = written(&ample.other);
+  try(CALLS[of].call, &ample, ULONG_MAX, 0);
+  unsigned long count = allocations;
+  document wanted = written(&ample.site);
+  unsigned wrong = ample.status != SW_FOUND || equal(&wanted, &paris) != (CALLS[of].kind == ASKS);
   for (unsigned long n = 1; n <= count; n++)
     for (int all = 0; all < 2; all++) {
-      begin(&it);
-      try(call, &it, n, all ? ULONG_MAX : n);
-      int is_well = it.status == SW_NO_MEMORY ? left_alone(&it, call) : same(&it, &ample);
-      answered += it.status != SW_NO_MEMORY;
-      memset(&it.told, 0, sizeof it.told);
-      try(call, &it, ULONG_MAX, 0);
-      if (is_well && same(&it, &ample)) {
-        end(&it);
-        continue;
+      begin(&it, way);
+      try(CALLS[of].call, &it, n, all ? ULONG_MAX : n);
+      int32_t status = it.status;
+      sw_told none = {.number = 26};
+      document now = written(&it.site);
+      int is_well = others_are_kept(&it, &paris, &oslo);
+      int may_join = CALLS[of].kind == JOINS && way == ALONE;
+      if (status == SW_NO_MEMORY)
+        is_well = is_well && same_told(&it.told, &none) && is_untouched(it.out, ROOM) &&
+                  (may_join ? is_between(&now, &paris, &wanted) : equal(&now, &paris));
+      else
+        is_well = is_well && same(&it, &ample) && equal(&now, &wanted);
+      try(CALLS[of].call, &it, ULONG_MAX, 0);
+      now = written(&it.site);
+      /* (an edit that was made already takes a further stamp, so a repeat counts where it was refused) */
+      if (it.status != SW_FOUND || (status == SW_NO_MEMORY && !equal(&now, &wanted))) is_well = 0;
+      if (!is_well) {
+        wrong++;
+        fprintf(stderr, "refused: %s%s: allocation %lu%s: status %d\n", CALLS[of].name,
+                way == SHARED ? ", shared" : "", n, all ? " and on" : "", status);
       }
-      wrong++;
-      fprintf(stderr, "refused: %s: allocation %lu%s: status %d number %u\n", name, n, all ? " and on" : "", it.status,
-              it.told.number);
       end(&it);
     }
   if (count == 0) wrong++;
+  if (wrong) fprintf(stderr, "refused: %s: status %d, %lu allocations\n", CALLS[of].name, ample.status, count);
   all_allocations += count;
-  printf("refused: %s: %lu allocations (%lu of %lu refusals answered all the same), %u wrong\n", name, count, answered,
-         2 * count, wrong);
   end(&ample);
   return wrong;
 }
 
 int main(void) {
-  unsigned wrong = refuse_each("sw_pick", pick);
-  wrong += refuse_each("sw_site_open, closed", open_first);
-  wrong += refuse_each("sw_site_open, open", open_anew);
-  wrong += refuse_each("sw_site_lookup", lookup);
-  wrong += refuse_each("sw_site_text", label_text);
-  wrong += refuse_each("sw_site_filter", filter);
-  wrong += refuse_each("sw_site_bundle", bundle);
-  wrong += refuse_each("sw_site_share", share);
-  printf("refused: %lu allocations, each alone and with all after it; %u wrong\n", all_allocations, wrong);
+  unsigned wrong = 0;
+  for (unsigned of = 0; of < sizeof CALLS / sizeof *CALLS; of++)
+    for (int way = 0; way < WAYS; way++) wrong += refuse_each(of, way);
+  printf("refused: %lu allocations of %zu calls, each alone and with all after it; %u wrong\n", all_allocations,
+         sizeof CALLS / sizeof *CALLS, wrong);
   return wrong != 0;
 }

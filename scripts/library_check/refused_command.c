@@ -1,12 +1,11 @@
 /* Refuses each allocation of sw_command in turn, alone and with all that come after it, for some lines of each command.
  * It has to answer as with ample memory, or with status 5, nothing in `out` and the line of refusal 26 in `err`; and a
- * repeat has to answer. It is linked with the archive, so that malloc and realloc are those of this file (--wrap). */
-#include <errno.h>
-#include <limits.h>
+ * repeat has to answer. */
 #include <silkwaram_command.h>
 #include <stdio.h>
-#include <stdlib.h>
 #include <string.h>
+
+#include "refusing.h"
 
 enum { WORDS = 10, ROOM = 4096, UNTOUCHED = 0xA5 };
 
@@ -26,6 +25,7 @@ static const struct {
 } LINES[] = {
     {{"pick", "de-CH, en;q=0.5", "en", "de"}, ""},
     {{"pick", "--lenient", "--default", "en", "de_CH, fr;q=0.5", "en", "de"}, ""},
+    {{"pick", "--widen", "--default", "en", "de-CH, en;q=0.5", "en-US", "de-AT"}, ""},
     {{"pick", "--all", "de, en;q=0.5", "en-US", "de-AT"}, ""},
     {{"pick", "en", "e"}, ""},
     {{"explain", "9"}, ""},
@@ -37,6 +37,7 @@ static const struct {
     {{"pick", "en", "\xff"}, ""},
     {{NULL}, ""},
     {{"put", "--now", "9", "--id", "m", "--lang", "fr", "a", "b"}, ONE},
+    {{"put", "--now", "9", "--id", "@m", "--lang", "fr", "a"}, ONE},
     {{"delete", "--now", "9", "--id", "m", "--lang", "en"}, ONE},
     {{"import", "--now", "9"}, ONE MAPS},
     {{"update", "--now", "9"}, ONE "{\"m\":{\"en\":\"a\"}}\n" MAPS},
@@ -52,26 +53,15 @@ static const struct {
     {{"take", "--not-after", "8"}, ONE DELTA},
     {{"take", "--not-after", "7"}, ONE DELTA},
     {{"sync"}, ONE TWO},
+    {{"merge"}, ONE TWO ONE},
+    {{"merge", "--not-after", "7"}, ONE TWO},
+    {{"merge", "--not-after", "6"}, ONE TWO},
     {{"status"}, ONE},
     {{"status"}, "{"},
     {{"replay"}, SCRIPT},
 };
 
-static unsigned long allocations, first_refused = ULONG_MAX, last_refused, all;
-
-void *__real_malloc(size_t size);
-void *__real_realloc(void *held, size_t size);
-
-static int is_refused(void) {
-  allocations++;
-  if (allocations < first_refused || allocations > last_refused) return 0;
-  errno = ENOMEM;
-  return 1;
-}
-
-void *__wrap_malloc(size_t size) { return is_refused() ? NULL : __real_malloc(size); }
-
-void *__wrap_realloc(void *held, size_t size) { return is_refused() ? NULL : __real_realloc(held, size); }
+static unsigned long all;
 
 typedef struct {
   int32_t status;
@@ -87,12 +77,10 @@ static void ask(size_t line, answer *it, unsigned long n, unsigned long last) {
     words[count] = (sw_text){(const uint8_t *)LINES[line].words[count], strlen(LINES[line].words[count])};
   memset(it, UNTOUCHED, sizeof *it);
   memset(&it->told, 0, sizeof it->told);
-  allocations = 0;
-  first_refused = n;
-  last_refused = last;
+  refuse(n, last);
   it->status = sw_command(words, count, (const uint8_t *)LINES[line].input, strlen(LINES[line].input), it->out, ROOM,
                           it->err, ROOM, &it->told);
-  first_refused = ULONG_MAX;
+  refuse_none();
 }
 
 static int same(const answer *one, const answer *other) {

@@ -3,20 +3,18 @@
 
 usage: server.py SITE.json
 """
-import collections
 import concurrent.futures
 import errno
-import http.client
 import os
 import shutil
 import subprocess
 import sys
 import tempfile
 import time
-import urllib.parse
+
+from served import MOST_SECONDS, Server
 
 SERVER = os.path.join(os.path.dirname(os.path.realpath(__file__)), "../../examples/front/server.py")
-MOST_SECONDS = 120
 READERS = [
     ("fr-CA,fr;q=0.9,en;q=0.8", "fr-ca", '<h1 lang="fr-ca" dir="auto">Le Catalogue quotidien</h1>'),
     ("ar,en;q=0.9", "ar", '<p lang="ar" dir="auto">صباح الخير</p>'),
@@ -35,30 +33,9 @@ WITHOUT = [
     ("/", "é" * 40000, 431),
 ]
 
-Answer = collections.namedtuple("Answer", "status headers body")
 
-
-class Server:
-    def __init__(self, address):
-        self.address = urllib.parse.urlsplit(address).netloc
-
-    def ask(self, *fields, path="/", method="GET"):
-        """Returns the answer to a request with these Accept-Language headers, or status 0."""
-        asked = http.client.HTTPConnection(self.address, timeout=MOST_SECONDS)
-        try:
-            asked.putrequest(method, path)
-            for field in fields:
-                asked.putheader("Accept-Language", field.encode("latin-1"))
-            asked.endheaders()
-            answer = asked.getresponse()
-            return Answer(answer.status, dict(answer.headers), answer.read().decode())
-        except (OSError, http.client.HTTPException) as fault:
-            return Answer(0, {}, f"no answer: {fault!r}")
-        finally:
-            asked.close()
-
-    def has(self, line, *fields):
-        return line in self.ask(*fields).body.split("\n")
+def has(server, line, *fields):
+    return line in server.ask(*fields).body.split("\n")
 
 
 def write(path, text):
@@ -77,7 +54,7 @@ def faults_of_readers(server):
             yield f"{field}: {got}"
         elif len(got.body.encode()) != int(got.headers["Content-Length"]):
             yield f"{field}: length: {got}"
-    if not server.has('<p lang="de-ch" dir="auto">Grüezi</p>', "fr;q=0.5", "de-CH"):
+    if not has(server, '<p lang="de-ch" dir="auto">Grüezi</p>', "fr;q=0.5", "de-CH"):
         yield "two headers are not one field"
     if server.ask("fr", path="/?a=/b").status != 200:
         yield "a query is no part of the path"
@@ -108,13 +85,13 @@ def faults_of_head(server):
 def faults_of_new_states(server, path, text):
     good_evening = '<p lang="en" dir="auto">Good evening</p>'
     write(path, text.replace("Good morning", "Good evening"))
-    if not server.has(good_evening, "en"):
+    if not has(server, good_evening, "en"):
         yield "a new state is not read"
     write(path, "no document")
-    if not server.has(good_evening, "en"):
+    if not has(server, good_evening, "en"):
         yield "the old state did not stay"
     os.remove(path)
-    if not server.has(good_evening, "en"):
+    if not has(server, good_evening, "en"):
         yield "the old state did not stay without its file"
 
 

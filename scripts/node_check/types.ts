@@ -31,9 +31,18 @@ Site.open(7);
 site.put('greeting', 'fr', 'Bonjour', { now: 5 });
 // @ts-expect-error
 site.put('greeting', 'fr');
+// @ts-expect-error
+site.put('greeting', 'fr', 'Bonjour', { now: '5' });
+site.delete('greeting', 'fr', { now: 2n ** 63n });
 site.importMaps(bundle);
+site.importMaps({ greeting: { fr: ['Bonjour', 'Salut'] } });
+site.update(site.missing('de'), site.export());
 const other: Site = Site.new('tokyo');
 site.take(other.deltaFor(site.summary()), { notAfter: Date.now() });
+site.merge(other);
+// @ts-expect-error
+site.merge(site.write());
+const bytes: Uint8Array = site.toBytes();
 const changes: Change[] = site.changes(other);
 const status: Status = site.status();
 site.share().close();
@@ -58,5 +67,5 @@ const greet = (it: Express.Request): string => it.label(it.language ?? 'none')?.
 // @ts-expect-error
 const unknown = (it: Express.Request) => it.languages;
 
-export { bundle, changes, choices, greet, label, language, meaning, number, said, status, tag, tags, text, texts,
+export { bundle, bytes, changes, choices, greet, label, language, meaning, number, said, status, tag, tags, text, texts,
   where };

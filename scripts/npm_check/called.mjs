@@ -1,8 +1,14 @@
 // What is of JavaScript in the call of the command: words and inputs as strings and bytes, wrong types, an answer that is
 // longer than its input, and an input for which there is no memory. Its last line counts.
 import assert from 'node:assert/strict';
+import { renameSync } from 'node:fs';
 import { command, load } from 'silkwaram/command';
 
+// (a load that fails is made again by the next call)
+const [module, away] = ['lexicat.wasm', 'away'].map((it) => new URL(`node_modules/silkwaram/${it}`, import.meta.url));
+renameSync(module, away);
+await assert.rejects(command(['pick', 'en', 'en']), { code: 'ENOENT' });
+renameSync(away, module);
 const lexicat = await load();
 const matched = { status: 0, output: 'matched en\n', errors: '' };
 const wrong = { name: 'TypeError', code: 'ERR_INVALID_ARG_TYPE' };

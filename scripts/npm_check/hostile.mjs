@@ -1,28 +1,10 @@
 // Asks a package for Node what hostile.py asked the command, and what no command can be asked: values of JavaScript.
 import assert from 'node:assert/strict';
-
-// One text for equal values, whatever the order of their members.
-function canonical(value) {
-  return JSON.stringify(value, (_, it) =>
-    it && typeof it === 'object' && !Array.isArray(it)
-      ? Object.fromEntries(Object.entries(it).sort(([a], [b]) => (a < b ? -1 : 1)))
-      : typeof it === 'bigint' ? `${it}n` : it,
-  );
-}
+import { answered, canonical } from './answers.mjs';
 
 function wordOf(it) {
   if (it?.bytes !== undefined) return new Uint8Array(Buffer.from(it.bytes, 'base64'));
   return it?.now !== undefined ? { now: BigInt(it.now) } : it;
-}
-
-function answered({ Refused }, call) {
-  try {
-    return call() ?? null;
-  } catch (error) {
-    if (!(error instanceof Refused)) throw error;
-    const { number, offset, row, count, ofSecond } = error;
-    return { number, offset, row, count, ofSecond };
-  }
 }
 
 function asked({ pick }, site, call, words) {
@@ -36,7 +18,7 @@ export function hostile(calls, steps) {
   const faults = [];
   let refused = 0;
   for (const { call, words, wanted, document } of steps) {
-    const got = [answered(calls, () => asked(calls, site, call, words.map(wordOf)))];
+    const got = [answered(() => asked(calls, site, call, words.map(wordOf)))];
     const wants = [wanted];
     if (document !== undefined) {
       got.push(site.write());
@@ -55,6 +37,9 @@ export function hostile(calls, steps) {
 const HALVES = ['\ud800', '\udfff', '\udc00\ud800', 'a\ud83d'];
 const NO_TIMES = [-1, 0.5, NaN, Infinity, 2 ** 53, 1e300, -1n, 2n ** 64n];
 const NO_BYTES = [new ArrayBuffer(1), new Uint16Array(1)];
+// What JSON has no members of: no maps to import, and for `update` no wish to delete each label.
+const NO_OBJECTS = [undefined, null, 7, true, () => ({})];
+const NO_MAPS = [...NO_OBJECTS, new Map([['a', {}]]), new Set(), Promise.resolve({}), ...NO_BYTES];
 const NO_TEXTS = [undefined, null, 7, 7n, true, Symbol('a'), {}, ['a'], () => 'a', ...NO_BYTES];
 
 /** Returns a line about values that only JavaScript has. What is wanted is in calls.d.ts and docs/REFUSALS.md. */
@@ -110,6 +95,12 @@ export function ofJavaScript({ Refused, Site, filter, pick, refusal }) {
     throws(() => pick('en', [it]), TypeError);
     throws(() => filter('en', it), it instanceof Array ? Refused : TypeError);
     if (it !== undefined && it !== null) throws(() => pick(it, ['en']), TypeError);
+  }
+  refuses(() => site.importMaps({ a: { en: NaN } }), 20);
+  for (const it of NO_MAPS) {
+    throws(() => site.importMaps(it), TypeError);
+    throws(() => site.update(site.export(), it), TypeError);
+    throws(() => site.update(it, site.export()), TypeError);
   }
   for (const options of [null, 7, 'en', { scheme: 'toString' }, { lenient: 1 }, { widen: 'yes' }, { default: 7 }]) {
     throws(() => pick('en', ['en'], options), TypeError);

@@ -11,6 +11,7 @@ import sys
 sys.dont_write_bytecode = True
 sys.path.insert(0, os.path.join(os.path.dirname(os.path.realpath(__file__)), "../browser_check"))
 from edits import Command, line, status  # noqa: E402
+from questions import choices, label  # noqa: E402
 
 IDS = ["__proto__", "constructor", "toString", "hasOwnProperty", "valueOf", "then", "0", "length", "<script>",
        "'\"\\", "\u202eabc", "\ufeffm", "\u2028", "😀" * 32, "😀" * 33, "x" * 128, "x" * 129, "", "@id", "a\u0000",
@@ -104,7 +105,7 @@ class Hostile:
         for name in IDS:
             if "\0" in name:
                 continue
-            self.asked("lookup", [name, "en"], run(["lookup", f"--id={name}", "en"], self.site), label)
+            self.asked("lookup", [name, "en"], run(["lookup", f"--id={name}", "en"], self.site), found)
             self.asked("filter", [name, "*"], run(["filter", f"--id={name}", "--", "*"], self.site), choices)
         for field in FIELDS:
             if "\0" in field:
@@ -132,19 +133,8 @@ class Hostile:
             self.asked("export", [], self.command.run(["export"], self.site), json.loads)
 
 
-def label(text):
-    if text == b"nothing\n":
-        return None
-    how, language, texts = text.decode().rstrip("\n").split(" ", 2)
-    return {"language": language, "texts": json.loads(texts), "isDefault": how == "default"}
-
-
-def choices(text):
-    made = []
-    for it in text.decode().split("\n")[1:-1]:
-        language, weight, texts = it.split(" ", 2)
-        made.append({"language": language, "weight": int(weight), "texts": json.loads(texts)})
-    return made
+def found(text):
+    return None if text == b"nothing\n" else label(text)
 
 
 def picked(text):

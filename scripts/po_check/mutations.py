@@ -3,6 +3,7 @@ import random
 import sys
 
 import children
+from mutating import mutated
 
 chance, faults, counted = random.Random(20261127), 0, {}
 TOKENS = [b'"', b"\\", b"\n", b"#", b"#~ ", b"#| ", b"#, fuzzy\n", b"msgid ", b"msgctxt ", b"\r",
@@ -11,33 +12,10 @@ TOKENS = [b'"', b"\\", b"\n", b"#", b"#~ ", b"#| ", b"#, fuzzy\n", b"msgid ", b"
           b"nplurals=9", b"Language: pt_BR\\n", b"#: a:b%3A\n", b"#, " + b"x," * 100 + b"\n",
           b"\\x", b"\\777", b"\\v", b'domain "x"\n', b"\xed\xa0\x80", b"(" * 60, b"# \x0b\x85 y\n"]
 
-
-def mutated(data):
-    for _ in range(chance.choice([1, 1, 1, 2, 5])):
-        lines, at = data.split(b"\n"), chance.randrange(len(data) + 1)
-        one, other = chance.randrange(len(lines)), chance.randrange(len(lines))
-        kind = chance.randrange(6)
-        if kind == 0:
-            data = data[:at]
-        elif kind == 1:
-            data = data[:at] + data[at + chance.randrange(30):]
-        elif kind == 2:
-            data = data[:at] + chance.choice(TOKENS) + data[at:]
-        elif kind == 3:
-            data = data[:at] + bytes([chance.randrange(256)]) + data[at + 1:]
-        elif kind == 4:
-            lines[one], lines[other] = lines[other], lines[one]
-            data = b"\n".join(lines)
-        else:
-            lines[one:one + chance.randrange(2)] = [lines[other]]
-            data = b"\n".join(lines)
-    return data
-
-
 for _ in range(4000):
     name = chance.choice(["sent.po", "wrapped.po"])
     with open(name, "rb") as file:
-        data = mutated(file.read())
+        data = mutated(chance, file.read(), TOKENS)
     with open("mutated.po", "wb") as file:
         file.write(data)
     words = chance.choice([

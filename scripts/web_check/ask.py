@@ -3,16 +3,14 @@
 
 usage: ask.py KIND
 """
-import collections
-import http.client
 import os
 import subprocess
 import sys
 import tempfile
 import time
-import urllib.parse
 
 from serve import document
+from served import Server
 
 SERVE = os.path.join(os.path.dirname(os.path.realpath(__file__)), "serve.py")
 MOST_SECONDS = 20
@@ -40,30 +38,6 @@ OF_DJANGO = [
     (["zh-Hant-HK"], "zh-hans"),
 ]
 REFUSES_ALL = ["*;q=0", "ja, *;q=0", "ja, en;q=0"]
-
-Answer = collections.namedtuple("Answer", "status headers body")
-
-
-class Server:
-    def __init__(self, address):
-        self.address = urllib.parse.urlsplit(address).netloc
-
-    def ask(self, *fields, path="/", method="GET", cookie=None):
-        """Returns the answer to a request with these Accept-Language headers, or status 0."""
-        asked = http.client.HTTPConnection(self.address, timeout=MOST_SECONDS)
-        try:
-            asked.putrequest(method, path)
-            for field in fields:
-                asked.putheader("Accept-Language", field.encode("latin-1"))
-            if cookie:
-                asked.putheader("Cookie", cookie)
-            asked.endheaders()
-            got = asked.getresponse()
-            return Answer(got.status, got.headers, got.read().decode())
-        except (OSError, http.client.HTTPException) as fault:
-            return Answer(0, http.client.HTTPMessage(), f"no answer: {fault!r}")
-        finally:
-            asked.close()
 
 
 def differs(what, got, status, body, language, vary="Accept-Language"):

@@ -95,16 +95,10 @@ class Picks(unittest.TestCase):
             pick("," * 65536, ["en"])
         self.assertEqual((it.exception.number, it.exception.offset), (8, None))
 
-    def test_tags_that_are_refused(self):
-        for tag, number, offset in [
-            ("", 1, None),
-            ("a" * 256, 2, None),
-            ("en-\n", 3, 3),
-            ("a", 4, None),
-        ]:
-            with self.subTest(tag=tag), self.assertRaises(Refused) as it:
-                pick("en", ["en", tag])
-            self.assertEqual((it.exception.number, it.exception.offset), (number, offset))
+    def test_a_line_feed_in_a_tag(self):
+        with self.assertRaises(Refused) as it:
+            pick("en", ["en", "en-\n"])
+        self.assertEqual((it.exception.number, it.exception.offset), (3, 3))
 
     def test_a_text_with_half_a_pair(self):
         with self.assertRaises(Refused) as it:
@@ -240,17 +234,6 @@ class Questions(unittest.TestCase):
         self.assertEqual(self.site.bundle("fr"), {})
         self.assertEqual(self.site.bundle("fr", default="en"), {"greeting": {"en": "Hello"}})
 
-    def test_refusals_come_in_order(self):
-        for name, default, number in [
-            ("@m", "e n", 10),
-            (b"\xff", "e n", 10),
-            ("m", "e n", 3),
-            ("m", None, 9),
-        ]:
-            with self.subTest(number=number), self.assertRaises(Refused) as it:
-                self.site.lookup(name, "e n", default=default)
-            self.assertEqual(it.exception.number, number)
-
     def test_an_answer_that_is_longer_than_the_first_room(self):
         text = "a" * 65535
         site = Site.open(document(("m", "en", [text] * 3)))
@@ -343,17 +326,9 @@ class Handles(unittest.TestCase):
             self.assertEqual(before.text("greeting", "en"), "Hello")
 
     def test_a_document_that_is_refused_leaves_the_old_site(self):
-        late = document(("b", "en", ["x"]), ("a", "en", ["y"]))
         cases = [
-            (b"", 19, None, None),
-            (b"{", 19, None, None),
             (b'{"a\xff', 18, 3, None),
-            (b"[]", 20, None, None),
-            (document(("a", "en", 5)), 20, None, 0),
             (document(("a", "en", ["x"]), ("b", "en", 5)), 20, None, 1),
-            (document(site="Paris"), 27, None, None),
-            (late, 21, None, 1),
-            (document(version=3), 28, None, None),
             (document(("a", "e-", ["x"])), 3, 2, 0),
         ]
         with Site.open(PARIS) as site:
@@ -561,17 +536,8 @@ class Faults(unittest.TestCase):
                 " (each text of a label has at most 65535 bytes)",
             ),
             (
-                Refused(12, row=0, count=0),
-                "refused 12: label has 0 texts in row 0 (a label has 1 to 64 texts)",
-            ),
-            (
                 Refused(13, count=5),
                 f"refused 13: one stamp is used for two different edits, cell 5 ({clash})",
-            ),
-            (
-                Refused(15),
-                "refused 15: delta is for another site"
-                " (a delta is taken by the site that it was made for)",
             ),
             (
                 Refused(28, of_second=True),
@@ -594,10 +560,6 @@ class Faults(unittest.TestCase):
                 self.assertIs(type(it), Refused)
                 self.assertEqual(vars(it), vars(fault))
                 self.assertEqual(str(it), str(fault))
-
-    def test_what_is_wanted(self):
-        self.assertEqual(Refused(12).wanted, "a label has 1 to 64 texts")
-        self.assertEqual(Refused(20, wanted="a document is wanted").wanted, "a document is wanted")
 
 
 if __name__ == "__main__":

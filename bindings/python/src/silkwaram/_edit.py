@@ -95,7 +95,8 @@ def _locked(path: str, wait: Optional[float]) -> Iterator[None]:
         else:
             end = time.monotonic() + wait
             while not _is_taken(lock):
-                if time.monotonic() >= end:
+                # (so NaN is no wait)
+                if not time.monotonic() < end:
                     raise TimeoutError(f"{path} is in use by another after {wait} seconds")
                 time.sleep(SECONDS_BETWEEN_TRIES)
         yield

@@ -7,7 +7,7 @@ from typing import Any, List, Mapping, NoReturn, Optional, Type, Union
 
 from . import _answers
 from ._answers import Change, Choice, Label, LanguageMaps, Status
-from ._arguments import Text, flags, given_or, limit, moment, words
+from ._arguments import Text, flags, given_or, limit, moment, words, wrong_type
 from ._arguments import place as counted_place
 from ._library import FIRST_ROOM, NOTHING, USAGE, Answer, Handle, Told, answered, library
 from ._refusals import NOT_JSON, Refused, checked
@@ -26,7 +26,14 @@ def _may_be_name(document: Text) -> bool:
 
 def _json_text(maps: Maps) -> Text:
     """The text of language maps."""
-    return json.dumps(maps, ensure_ascii=False) if isinstance(maps, Mapping) else maps
+    if not isinstance(maps, Mapping):
+        return maps
+    for it in (maps, *(labels for labels in maps.values() if isinstance(labels, Mapping))):
+        for name in it:
+            # (`json.dumps` would make "null" of None, which is a language)
+            if not isinstance(name, str):
+                raise wrong_type("an id or a language", "str", name)
+    return json.dumps(maps, ensure_ascii=False)
 
 
 class _Held(Handle):

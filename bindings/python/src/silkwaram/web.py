@@ -31,6 +31,7 @@ from typing import (
     Awaitable,
     Callable,
     Dict,
+    Generic,
     Iterable,
     List,
     MutableMapping,
@@ -58,6 +59,7 @@ Receive = Callable[[], Awaitable[MutableMapping[str, Any]]]
 Send = Callable[[MutableMapping[str, Any]], Awaitable[None]]
 ASGIApp = Callable[[Scope, Receive, Send], Awaitable[None]]
 Found = TypeVar("Found")
+App = TypeVar("App")
 
 
 class _Reader(NamedTuple):
@@ -154,12 +156,12 @@ def _with_language(headers: Headers, status: int, language: Optional[str]) -> He
     return headers + [("Content-Language", str(language))]
 
 
-class WSGILanguageMiddleware:
-    """A WSGI application that gives another one the language of its reader; see the module."""
+class _LanguageMiddleware(Generic[App]):
+    """An application that gives another one the language of its reader; see the module."""
 
     def __init__(
         self,
-        app: WSGIApp,
+        app: App,
         *,
         tags: Optional[Iterable[str]] = None,
         site: Optional[Site] = None,
@@ -186,6 +188,10 @@ class WSGILanguageMiddleware:
             widen=widen,
             strict=strict,
         )
+
+
+class WSGILanguageMiddleware(_LanguageMiddleware[WSGIApp]):
+    """A WSGI application that gives another one the language of its reader; see the module."""
 
     def __call__(
         self, environ: Dict[str, Any], start_response: Callable[..., Any]
@@ -202,42 +208,12 @@ class WSGILanguageMiddleware:
         return self.app(environ, start)
 
 
-class ASGILanguageMiddleware:
+class ASGILanguageMiddleware(_LanguageMiddleware[ASGIApp]):
     """An ASGI application that gives another one the language of its reader; see the module.
 
     A websocket has it in its scope alone: there is no header to add, unless it is answered by an
     HTTP response. Any other scope, as lifespan, passes as it is.
     """
-
-    def __init__(
-        self,
-        app: ASGIApp,
-        *,
-        tags: Optional[Iterable[str]] = None,
-        site: Optional[Site] = None,
-        path: Optional[Path] = None,
-        message: Optional[str] = None,
-        default: Optional[str],
-        lenient: bool = True,
-        widen: bool = False,
-        strict: bool = False,
-    ) -> None:
-        """Takes `tags`, a `site`, or the `path` of one. `default` may be None.
-
-        Refused: the default and the tags (1 to 4), the message (10), the file as by `Site.open`. A
-        file that cannot be read is an OSError.
-        """
-        self.app = app
-        self._languages = _Languages(
-            tags=tags,
-            site=site,
-            path=path,
-            message=message,
-            default=default,
-            lenient=lenient,
-            widen=widen,
-            strict=strict,
-        )
 
     async def __call__(self, scope: Scope, receive: Receive, send: Send) -> None:
         """Passes the request on, and what the application sends."""
