@@ -3,7 +3,7 @@
 
 _lexicat() {
     local word=${COMP_WORDS[COMP_CWORD]} before=${COMP_WORDS[COMP_CWORD-1]} command='' i
-    local commands='pick new put delete status import update export missing outdated changes filter lookup bundle summary delta take sync replay explain merge'
+    local commands='pick new put delete status import update export missing outdated changes filter lookup bundle summary delta take sync merge replay explain'
     COMPREPLY=()
     # Bash cuts words at "=": `--scheme=b` comes as three.
     if [[ $word == '=' ]]; then

@@ -2,7 +2,7 @@
 # Written by scripts/completions from the help of the command.
 
 complete -c lexicat -f
-set -l commands pick new put delete status import update export missing outdated changes filter lookup bundle summary delta take sync replay explain merge
+set -l commands pick new put delete status import update export missing outdated changes filter lookup bundle summary delta take sync merge replay explain
 set -l first "not __fish_seen_subcommand_from $commands"
 complete -c lexicat -s h -l help -d 'Print help'
 complete -c lexicat -n "$first" -s V -l version -d 'Print version'
@@ -24,9 +24,9 @@ complete -c lexicat -n "$first" -a summary -d 'Prints the stamps of a site'\''s 
 complete -c lexicat -n "$first" -a delta -d 'Prints the cells of a site that the owner of a summary lacks'
 complete -c lexicat -n "$first" -a take -d 'Joins a delta into the site that it is for'
 complete -c lexicat -n "$first" -a sync -d 'Merges two sites with one another, so that both have the same cells'
+complete -c lexicat -n "$first" -a merge -d 'Merges any number of sites into the first of them'
 complete -c lexicat -n "$first" -a replay -d 'Runs a script of sites from their beginning, and prints the answers'
 complete -c lexicat -n "$first" -a explain -d 'Prints what a refusal means, what causes it, and what to do'
-complete -c lexicat -n "$first" -a merge -d 'Merges any number of sites into the first of them'
 complete -c lexicat -n '__fish_seen_subcommand_from pick filter lookup bundle' -x -l scheme -a 'basic extended' -d 'How the ranges are read: with weights (basic), or with * anywhere (extended)'
 complete -c lexicat -n '__fish_seen_subcommand_from pick filter lookup bundle' -l lenient -d 'Skip malformed elements of the ranges, also one that would refuse a language, as de;q=0.0000'
 complete -c lexicat -n '__fish_seen_subcommand_from pick lookup bundle' -l widen -d 'Let a range also find the languages that it matches, as en finds en-us; RFC 4647 does not'

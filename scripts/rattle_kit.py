@@ -8,6 +8,7 @@ import re
 import shutil
 import subprocess
 import sys
+import threading
 from concurrent.futures import FIRST_COMPLETED, ThreadPoolExecutor, wait
 
 KITS = ("rattle-kit-13b logic dac8208d650f15bf", "rattle-kit-13f logic dac8208d650f15bf")
@@ -36,7 +37,27 @@ def load_rt():
     rt = importlib.util.module_from_spec(importlib.util.spec_from_loader("rt", loader))
     loader.exec_module(rt)
     rt.version = version
+    rt.rtlib.Crate.stamp = once_a_crate(rt.rtlib.Crate.stamp)
     return rt
+
+
+def once_a_crate(stamp):
+    """Returns the kit's function that sums up a crate and all below it, so that one call sums up each
+    crate once. (The kit's own does so once for each chain of crates: 8,000 times for the last.)"""
+    known = threading.local()
+
+    def stamp_once(crate):
+        if not hasattr(known, "stamps"):
+            known.stamps = {}
+            try:
+                return stamp(crate)
+            finally:
+                del known.stamps
+        if crate.folder not in known.stamps:
+            known.stamps[crate.folder] = stamp(crate)
+        return known.stamps[crate.folder]
+
+    return stamp_once
 
 
 def in_lanes(tasks):
