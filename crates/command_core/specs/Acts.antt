@@ -1,6 +1,6 @@
 -- What each command does (project rules). The answers and refusals of documents are those of the
 -- document calls.
-use Rattle.std.specs.Prelude.{◌≡◌, ◌⊎◌, ◌++◌, ℕ, Bool, List, [], Option, None, Some, Result}
+use Rattle.std.specs.Prelude.{◌≡◌, ◌⊎◌, ◌++◌, ℕ, Bool, List, [], Option, Result}
 use Rattle.std.specs.Prelude.{MatchOption, MatchResult}
 use Rattle.clap.specs.Words.{Row, Text}
 use Rattle.cata_core.specs.Site.{SiteState}
@@ -25,14 +25,13 @@ use Rattle.front_core.specs.declared.change.Change.{Change}
 use Rattle.front_core.specs.declared.answer.Answer.{Answer}
 use Rattle.front_core.specs.declared.fault.FrontFault.{FrontFault}
 use Rattle.front_core.specs.declared.fault.FrontFault.TheVariants.{NoMemory}
-use Rattle.command_core.specs.AskWords.{FilterWords, LookupWords, OutdatedWords, PickAllWords}
+use Rattle.command_core.specs.AskWords.{PickAllWords}
 use Rattle.command_core.specs.AskWords.{PickWords}
 use Rattle.command_core.specs.Documents.{AreChangesOf, IsDocument, RefusesChanges, RefusesDocuments}
 use Rattle.command_core.specs.Documents.{RefusesOnly}
 use Rattle.command_core.specs.EditWords.{EditWords}
 use Rattle.command_core.specs.Endings.{EndsRefused, ReportsUsage, Writes, usage_line}
 use Rattle.command_core.specs.Explaining.{IsExplanation}
-use Rattle.command_core.specs.FieldWords.{PreferenceWords}
 use Rattle.docs_core.specs.Lines.{AreDocuments}
 use Rattle.command_core.specs.Reading.{AnswersInput, RefusesInput}
 use Rattle.command_core.specs.Status.{answer_status, found_status}
