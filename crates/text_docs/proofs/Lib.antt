@@ -1,0 +1,6 @@
+pub mod BorderLemmas
+pub mod ListLemmas
+pub mod MessageLemmas
+pub mod OrderLemmas
+pub mod PartLemmas
+pub mod States

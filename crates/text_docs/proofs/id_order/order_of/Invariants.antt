@@ -1,0 +1,15 @@
+use Rattle.std.proofs.Common.{◌≡◌, List, ℕ, length}
+use Rattle.std.specs.List.{All}
+use Rattle.json.specs.Print.{escape}
+use Rattle.cata_core.specs.Entries.{text_cmp}
+use Rattle.text_docs.proofs.OrderLemmas.{IsIdByte}
+use Rattle.text_docs.proofs.id_order.order_of.Given as goal
+
+-- what is left of both is ordered as both are
+abbrev pub invariant-loop-byte : goal.invariant-loop-byte
+invariant-loop-byte l = (text : List ℕ) → All IsIdByte text → l.fn.written ≡ escape text
+    → (more : List ℕ) × All IsIdByte more × (l.left ≡ escape more)
+    × (text_cmp text l.fn.id ≡ text_cmp more l.right)
+
+abbrev pub decreases-loop-byte : goal.decreases-loop-byte
+decreases-loop-byte l = length l.left

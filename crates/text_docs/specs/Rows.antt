@@ -1,0 +1,35 @@
+-- Where the rows of a written document lie. Project rule.
+use Rattle.std.specs.Prelude.{◌≡◌, ◌≤◌, ◌∷◌, ◌++◌, [], ℕ, List, codes, drop, false, length}
+use Rattle.json.specs.Print.{quoted}
+use Rattle.cell_core.specs.SiteName.{IsSiteName}
+use Rattle.cata_core.specs.Entries.{Entries}
+use Rattle.row_docs.specs.Entries.{cells_values}
+use Rattle.row_docs.specs.Valid.{AreKeptCells}
+use Rattle.site_docs.specs.Plain.{IsEnd, last_members, open_items}
+
+-- `{"cells":[`
+abbrev pub opening : List ℕ
+opening = 123 ∷ (quoted (codes "cells") ++ 58 ∷ 91 ∷ [])
+
+-- the bracket after all rows, and the members of a site after it
+pub record IsTail (tail : List ℕ) : Type 0 where
+  pub name : List ℕ
+  pub end : List ℕ
+  pub is_name : IsSiteName name
+  pub is_end : IsEnd end
+  pub tail_is : tail ≡ 93 ∷ last_members (codes "site") (codes "site") name end
+
+-- the text is the rows of these cells, with what comes before and after them
+pub record AreRows (text : List ℕ) (cells : Entries) (tail : List ℕ) : Type 0 where
+  pub whole : text ≡ opening ++ (open_items false (cells_values cells) ++ tail)
+  pub is_tail : IsTail tail
+  pub kept : AreKeptCells cells
+
+-- all rows of the text lie between these places, where it is that of some cells
+pub record AreRowsAt (text : List ℕ) (start end : ℕ) : Type 0 where
+  pub ordered : start ≤ end
+  pub within : end ≤ length text
+  pub begin : (cells : Entries) (tail : List ℕ) → AreRows text cells tail
+      → drop start text ≡ open_items false (cells_values cells) ++ tail
+  pub finish : (cells : Entries) (tail : List ℕ) → AreRows text cells tail
+      → drop end text ≡ tail

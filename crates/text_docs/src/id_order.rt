@@ -1,0 +1,53 @@
+//! The order of ids, of which one stands as it is written.
+ghost use Rattle.std.specs.Prelude.{◌≡◌, ◌<◌, ◌∷◌, [], List, ℕ, All, IfSome, IsTrue, MatchOption};
+ghost use Rattle.std.specs.Prelude.{length};
+ghost use Rattle.json.specs.Print.{escape};
+ghost use Rattle.cell_core.specs.MessageId.{is_id_byte};
+ghost use Rattle.cata_core.specs.Entries.{text_cmp};
+
+use crate::row::split;
+use std::cmp::Ordering;
+
+/// How an id, as it is written between its quotes, is ordered to another one. Of the bytes of an id
+/// only quotes and backslashes have an escape, which is a backslash before them.
+pub(crate) fn order_of(written: &[u8], id: &[u8]) -> Ordering
+    ensures { (text : List ℕ) → All (λ b. IsTrue (is_id_byte b)) text → written.now ≡ escape text
+        → result ≡ text_cmp text id.now }
+{
+    let mut left = written;
+    let mut right = id;
+    while let Some((byte, rest)) = unescaped(left) {
+        let Some((other, others)) = split(right) else {
+            return Ordering::Greater;
+        };
+        if byte != other {
+            return byte.cmp(&other);
+        }
+        left = rest;
+        right = others;
+    }
+    if right.is_empty() {
+        Ordering::Equal
+    } else {
+        Ordering::Less
+    }
+}
+
+/// The first byte of an id of which this is written, and what is written for the rest.
+fn unescaped(written: &[u8]) -> Option<(u8, &[u8])>
+    ensures shorter { IfSome result (λ r. length r.1.now < length written.now) }
+    ensures is { (text : List ℕ) → All (λ b. IsTrue (is_id_byte b)) text → written.now ≡ escape text
+        → MatchOption result (text ≡ []) (λ r. (more : List ℕ) × (text ≡ r.0 ∷ more)
+        × (r.1.now ≡ escape more)) }
+{
+    let Some((first, rest)) = split(written) else {
+        return None;
+    };
+    if first != b'\\' {
+        return Some((first, rest));
+    }
+    match split(rest) {
+        Some((byte, left)) => Some((byte, left)),
+        None => None,
+    }
+}
