@@ -4,3 +4,4 @@ pub mod RefusalLemmas
 pub mod TagFilterLemmas
 pub mod TagPickLemmas
 pub mod TagsLemmas
+pub mod WrittenLemmas

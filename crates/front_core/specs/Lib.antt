@@ -9,3 +9,4 @@ pub mod TagFilter
 pub mod TagPick
 pub mod Tags
 pub mod Translate
+pub mod Written

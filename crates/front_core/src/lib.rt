@@ -7,6 +7,9 @@
 //!   calls edit it. A refused edit leaves it as it was, but for what [`OpenSite::merge`] and
 //!   [`OpenSite::take`] say of out of memory. A [`Change`] is the edit of one label, of such a site
 //!   or of a document. [`delta`] and [`changes`] compare a site in memory with another.
+//! - [`Lookup::answer_in`] and [`Filter::answer_in`] ask the document of a site, as it is written,
+//!   where it lies: of a text of any length they read the rows of one message, which
+//!   [`message_in`] finds by bisection.
 //! - [`pick`] finds a tag for a [`Field`] among tags, one on a line (RFC 4647, section 3.4), and
 //!   [`filter_tags`] finds all that the field takes (section 3.3); [`words`] has both of the
 //!   arguments of a command.
@@ -44,6 +47,7 @@ mod tags;
 mod translate;
 mod version;
 pub mod words;
+mod written;
 
 pub use answer::{Answer, LabelText, Outcome};
 pub use ask::{Filter, Lookup, Question, SiteIn};
@@ -57,3 +61,4 @@ pub use tag_filter::filter_tags;
 pub use tag_pick::{Picked, pick};
 pub use translate::{Missing, Outdated, changes};
 pub use version::{VERSION, VERSION_NUMBER};
+pub use written::message_in;

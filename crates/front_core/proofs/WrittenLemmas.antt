@@ -1,0 +1,59 @@
+-- What answers a question about a message depends on its live labels alone.
+use Rattle.std.proofs.Common.{◌≡◌, List, ℕ, subst}
+use Rattle.nego_core.specs.declared.widening.Widening.{Widening}
+use Rattle.cata_core.specs.Asking.{IsLookedUpBy}
+use Rattle.cata_core.specs.Entries.{Entries}
+use Rattle.cata_core.specs.Live.{Labelled, live}
+use Rattle.cata_core.specs.declared.reply.Reply.{Reply}
+use Rattle.query_docs.proofs.OneMessageLemmas.{same_answers}
+use Rattle.query_docs.specs.declared.asking.Ask.TheVariants as ask
+use Rattle.std.specs.Prelude.{Err, MatchResult, Ok, Result}
+use Rattle.cata_core.specs.Site.{SiteState}
+use Rattle.front_core.specs.Ask.{AnswersFilter, AnswersLookup, AnswersText, IsNoMemory, IsReply}
+use Rattle.front_core.specs.Ask.{is_found}
+use Rattle.front_core.specs.declared.fault.FrontFault.{FrontFault}
+use Rattle.front_core.specs.declared.answer.Answer.{Answer}
+use Rattle.front_core.specs.declared.answer.LabelText.{LabelText}
+use Rattle.front_core.specs.declared.ask.Filter.{Filter}
+use Rattle.front_core.specs.declared.ask.Lookup.{Lookup}
+
+-- a reply of one catalogue is that of another with the same live labels of the message
+same_reply : (cells other : Entries) (asked : Lookup) (reply : Reply)
+    → live cells asked.id ≡ live other asked.id → IsReply cells asked reply
+    → IsReply other asked reply
+same_reply cells other asked reply same answer =
+    subst (λ (labels : Labelled). IsLookedUpBy asked.preferences.widening labels
+    asked.preferences.list asked.preferences.default reply) same answer
+
+-- the line of a lookup
+pub same_lookup : (cells other : Entries) (asked : Lookup) (answer : Answer)
+    → live cells asked.id ≡ live other asked.id → AnswersLookup cells asked answer
+    → AnswersLookup other asked answer
+same_lookup cells other asked answer same (reply, is, text, found) =
+    (reply, same_reply cells other asked reply same is, text, found)
+
+-- the text of a label that a lookup finds
+pub same_text : (cells other : Entries) (asked : Lookup) (place : ℕ) (text : LabelText)
+    → live cells asked.id ≡ live other asked.id → AnswersText cells asked place text
+    → AnswersText other asked place text
+same_text cells other asked place text same (reply, is, at) =
+    (reply, same_reply cells other asked reply same is, at)
+
+-- the lines of a filter
+pub same_filter : (cells other : Entries) (asked : Filter) (answer : Answer)
+    → live cells asked.id ≡ live other asked.id → AnswersFilter cells asked answer
+    → AnswersFilter other asked answer
+same_filter cells other asked answer same answers =
+    same_answers cells other asked.id (ask.Filter asked.scheme asked.list) answer.text
+    (is_found answer.outcome) same answers
+
+-- the answer of a part that has the live labels of the message
+pub filter_in : (result : Result Answer FrontFault) (part site : SiteState) (asked : Filter)
+    → live part.cells asked.id ≡ live site.cells asked.id
+    → MatchResult result
+    (λ answer. (s : SiteState) × (s ≡ part) × AnswersFilter s.cells asked answer) IsNoMemory
+    → MatchResult result (AnswersFilter site.cells asked) IsNoMemory
+filter_in (Ok answer) part site asked same (s, is, answers) =
+    same_filter part.cells site.cells asked answer same
+    (subst (λ (t : SiteState). AnswersFilter t.cells asked answer) is answers)
+filter_in (Err fault) part site asked same memory = memory
