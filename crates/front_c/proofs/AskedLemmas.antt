@@ -2,7 +2,11 @@
 use Rattle.std.proofs.Common.{◌≡◌, ◌≢◌, ℤ, None, Option, Some, inl, inr, refl, subst}
 use Rattle.std.specs.Prelude.{Err, IfErr, MatchResult, Ok, OnErr, OnOk, Result, ⊤}
 use Rattle.cata_core.specs.Site.{SiteState}
-use Rattle.front_core.specs.Ask.{IsAnswer, RefusesAnswer}
+use Rattle.std.specs.Prelude.{ℕ}
+use Rattle.cell_core.specs.declared.fault.CellFault.TheVariants as cell
+use Rattle.front_core.specs.Ask.{AnswersText, IsAnswer, IsLookup, IsLookupText, IsNoMemory}
+use Rattle.front_core.specs.Ask.{RefusesAnswer, RefusesLookup}
+use Rattle.front_core.specs.declared.ask.Lookup.{Lookup}
 use Rattle.front_core.specs.Exchange.{ShowsView}
 use Rattle.front_core.specs.declared.answer.Answer.{Answer}
 use Rattle.front_core.specs.declared.exchange.View.{View}
@@ -15,7 +19,8 @@ use Rattle.front_c.specs.Calls.{ReportsShared, ReportsAsked, ReportsEdited, Repo
 use Rattle.front_c.specs.Calls.{ReportsOpen, ReportsQuestion, ReportsView}
 use Rattle.front_c.specs.Status.{found}
 use Rattle.front_c.specs.Reporting.{ReportsAnswer, ReportsText, Ends, ReportsDone, ReportsEither}
-use Rattle.front_c.specs.Reporting.{ReportsFault, ReportsRefusal, Text}
+use Rattle.front_c.specs.Reporting.{ReportsFault, ReportsLabelText, ReportsRefusal, ReportsSome}
+use Rattle.front_c.specs.Reporting.{Text}
 use Rattle.front_c.specs.declared.told.Told.{Told}
 
 module _ {Q : Type 0} (question : Result Q FrontFault) (Reads : Q → Type 0)
@@ -132,3 +137,33 @@ pub shared_as : (site : Option SiteState) (s share : SiteState) (old new : Optio
     → ReportsShared site old new status
 shared_as site s share old new status is same ends =
     rw is (subst (λ (x : SiteState). IsShared x old new status) same ends)
+
+-- What answers a question that was read answers the arguments, and its one refusal is one of them.
+pub written_as : {Q : Type 0} (Reads : Q → Type 0) (Refuses : FrontFault → Type 0)
+    (Answers : Q → SiteState → Answer → Type 0) (asked : Q) (site : SiteState)
+    (answer : Result Answer FrontFault) → Reads asked
+    → MatchResult answer (Answers asked site) IsNoMemory
+    → MatchResult answer (IsAnswer Reads Answers site) (RefusesAnswer Reads Refuses)
+written_as Reads Refuses Answers asked site (Ok answer) reads is = (asked, reads, is)
+written_as Reads Refuses Answers asked site (Err fault) reads none = inr ((asked, reads), none)
+
+-- The text that is reported is that of the label which the arguments find.
+pub text_as : (site : SiteState) (asked : Lookup) (id : Text) (read : FieldText)
+    (default : Option Text) (place : ℕ) (old new : Text) (told : Told) (status : ℤ)
+    → IsLookup id read default asked
+    → ReportsEither (AnswersText site.cells asked place) IsNoMemory ReportsLabelText old new told
+    status
+    → ReportsEither (IsLookupText site.cells id read default place)
+    (RefusesLookup id read default) ReportsLabelText old new told status
+text_as site asked id read default place old new told status reads (inl (text, is, ends)) =
+    inl (text, (asked, reads, is), ends)
+text_as site asked id read default place old new told status reads (inr (fault, none, ends)) =
+    inr (fault, inl (cell.NoMemory, reads.0, none), ends)
+
+-- Whatever a question comes to is reported.
+pub some_as : (answer : Result Answer FrontFault) (old new : Text) (told : Told) (status : ℤ)
+    → MatchResult answer (λ found. ReportsAnswer found old new told status)
+    (λ fault. ReportsRefusal fault old new told status)
+    → ReportsSome ReportsAnswer old new told status
+some_as (Ok answer) old new told status ends = inl (answer, tt, ends)
+some_as (Err fault) old new told status ends = inr (fault, tt, ends)

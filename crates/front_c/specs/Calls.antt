@@ -17,6 +17,7 @@ use Rattle.front_core.specs.TagPick.{IsPickedTag, RefusesPick}
 use Rattle.front_core.specs.Refusal.{refusal_of}
 use Rattle.front_core.specs.TagFilter.{IsTagFilter, RefusesTagFilter}
 use Rattle.front_core.specs.Translate.{AnswersMissing, AnswersOutdated, AreChangeLines, IsMissing}
+use Rattle.front_core.specs.Written.{IsWritten}
 use Rattle.front_core.specs.Translate.{IsOutdated, RefusesMissing, RefusesOutdated}
 use Rattle.front_core.specs.declared.answer.Answer.{Answer}
 use Rattle.front_core.specs.declared.exchange.View.{View}
@@ -135,6 +136,13 @@ ReportsMeaning number = ReportsLine (option_map (λ texts. texts.meaning) (refus
 -- what the command prints of the refusal of this number
 abbrev pub ReportsRefusalText : ℕ → Ends
 ReportsRefusalText number = ReportsLine (option_map (λ texts. texts.text) (refusal_of number))
+
+-- ---- questions to a written document
+
+-- where the text is what is written for some site, the call ends as it does over this site
+abbrev pub ReportsWritten : Text → (Option SiteState → Ends) → Ends
+ReportsWritten text As old new told status = (site : SiteState) → IsWritten text site
+    → As (Some site) old new told status
 
 -- ---- handles
 

@@ -113,3 +113,7 @@ abbrev pub ReportsEither : {A : Type 0} → (A → Type 0) → (FrontFault → T
 ReportsEither {A} Is Refuses As old new told status =
     ((answer : A) × Is answer × As answer old new told status)
     ⊎ ((fault : FrontFault) × Refuses fault × ReportsRefusal fault old new told status)
+
+-- an answer or a refusal is reported, whatever it is
+abbrev pub ReportsSome : {A : Type 0} → (A → Ends) → Ends
+ReportsSome As = ReportsEither (λ _. Unit {0}) (λ _. Unit {0}) As

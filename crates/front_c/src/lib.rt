@@ -6,6 +6,8 @@
 //!   and [`sw_site_free`] lets it go.
 //! - [`sw_site_lookup`], [`sw_site_text`], [`sw_site_filter`] and [`sw_site_bundle`] put questions
 //!   to a site.
+//! - [`sw_text_lookup`], [`sw_text_text`] and [`sw_text_filter`] put them to the document of a site
+//!   where it lies.
 //! - [`sw_site_new`] makes a site; [`sw_site_put`], [`sw_site_delete`], [`sw_site_import`] and
 //!   [`sw_site_update`] edit one, [`sw_site_take`] and [`sw_site_merge`] join edits of others, and
 //!   all of these leave the other handles of it as they are.
@@ -32,8 +34,10 @@ ghost use Rattle.front_c.specs.Calls.{ReportsFilter, ReportsImported, ReportsLoo
 ghost use Rattle.front_c.specs.Calls.{ReportsLookupText, ReportsMeaning, ReportsMerged};
 ghost use Rattle.front_c.specs.Calls.{ReportsMissing, ReportsNew, ReportsOpened, ReportsOutdated};
 ghost use Rattle.front_c.specs.Calls.{ReportsPick, ReportsPut, ReportsRefusalText};
-ghost use Rattle.front_c.specs.Calls.{ReportsShared, ReportsTagFilter};
-ghost use Rattle.front_c.specs.Calls.{ReportsTaken, ReportsUpdated, ReportsView};
+ghost use Rattle.front_c.specs.Calls.{ReportsField, ReportsShared, ReportsTagFilter};
+ghost use Rattle.front_c.specs.Calls.{ReportsTaken, ReportsUpdated, ReportsView, ReportsWritten};
+ghost use Rattle.front_c.specs.Question.{field_of, lookup_field_of};
+ghost use Rattle.front_c.specs.Reporting.{ReportsAnswer, ReportsLabelText, ReportsSome};
 ghost use Rattle.front_c.specs.Handles.{site_of};
 ghost use Rattle.front_core.specs.declared.exchange.View.TheVariants.{Document, Export, Status};
 ghost use Rattle.front_core.specs.declared.exchange.View.TheVariants.{Summary};
@@ -47,7 +51,7 @@ mod told;
 use crate::question::{default_of, field_of, limit_of, lookup_field_of};
 use crate::reporting::{
     ask, explained, hold, hold_share, report, report_edit, report_label_text, report_nothing,
-    report_pick, report_refusal, report_text, report_usage,
+    report_pick, report_refusal, report_text, report_text_in, report_usage,
 };
 use front_core::{
     Filter, Lookup, Missing, OpenSite, Outdated, Preferences, VERSION_NUMBER, View, changes, delta,
@@ -531,6 +535,92 @@ pub extern "C" fn sw_site_bundle(
             ask(alloc, site, asked, out, told)
         }
         None => report_usage(told),
+    }
+}
+
+/// Looks up the one label of a message for a field in the document of a site, as it is written,
+/// where it lies, and answers the line of the command `lookup`.
+///
+/// Where the text is what is written for a site, with its last line feed or without, the call ends
+/// as [`sw_site_lookup`] does over that site. What is answered or refused for any other text is not
+/// said.
+#[unsafe(no_mangle)]
+pub extern "C" fn sw_text_lookup(
+    alloc: Global,
+    text: &[u8],
+    flags: u32,
+    id: &[u8],
+    field: &[u8],
+    default: &[u8],
+    out: &mut [u8],
+    told: &mut Told,
+) -> i32
+    ensures written { ReportsWritten text.now (λ site. ReportsLookup site flags id.now field.now
+        default.now) out.old out.new told.new result }
+    ensures some { ReportsField (lookup_field_of flags field.now) (λ _. ReportsSome ReportsAnswer)
+        out.old out.new told.new result }
+{
+    let Some(field) = lookup_field_of(flags, field) else {
+        return report_usage(told);
+    };
+    match Lookup::read(alloc, id, field, default_of(default)) {
+        Ok(asked) => report(asked.answer_in(alloc, text), out, told),
+        Err(fault) => report_refusal(&fault, told),
+    }
+}
+
+/// Answers, as it is, the text at a place, from 0, of the label that [`sw_text_lookup`] finds, as
+/// [`sw_site_text`] does over the site of the text.
+#[unsafe(no_mangle)]
+pub extern "C" fn sw_text_text(
+    alloc: Global,
+    text: &[u8],
+    flags: u32,
+    id: &[u8],
+    field: &[u8],
+    default: &[u8],
+    place: usize,
+    out: &mut [u8],
+    told: &mut Told,
+) -> i32
+    ensures written { ReportsWritten text.now (λ site. ReportsLookupText site flags id.now field.now
+        default.now place) out.old out.new told.new result }
+    ensures some { ReportsField (lookup_field_of flags field.now)
+        (λ _. ReportsSome ReportsLabelText) out.old out.new told.new result }
+{
+    let Some(field) = lookup_field_of(flags, field) else {
+        return report_usage(told);
+    };
+    match Lookup::read(alloc, id, field, default_of(default)) {
+        Ok(asked) => report_text_in(alloc, text, &asked, place, out, told),
+        Err(fault) => report_refusal(&fault, told),
+    }
+}
+
+/// Finds the labels of a message whose languages fit a field in the document of a site, as it is
+/// written, where it lies, and answers the lines of the command `filter`, as [`sw_site_filter`]
+/// does over the site of the text.
+#[unsafe(no_mangle)]
+pub extern "C" fn sw_text_filter(
+    alloc: Global,
+    text: &[u8],
+    flags: u32,
+    id: &[u8],
+    field: &[u8],
+    out: &mut [u8],
+    told: &mut Told,
+) -> i32
+    ensures written { ReportsWritten text.now (λ site. ReportsFilter site flags id.now field.now)
+        out.old out.new told.new result }
+    ensures some { ReportsField (field_of flags field.now) (λ _. ReportsSome ReportsAnswer)
+        out.old out.new told.new result }
+{
+    let Some(field) = field_of(flags, field) else {
+        return report_usage(told);
+    };
+    match Filter::read(alloc, id, field) {
+        Ok(asked) => report(asked.answer_in(alloc, text), out, told),
+        Err(fault) => report_refusal(&fault, told),
     }
 }
 

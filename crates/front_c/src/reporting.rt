@@ -1,6 +1,8 @@
 //! What a call comes to, reported to C: its status, its record and the buffer of its answer.
 ghost use Rattle.std.specs.Prelude.{◌≡◌, ◌≤◌, ◌++◌, Err, MatchResult, Ok, drop, length, option_map};
-ghost use Rattle.front_core.specs.Ask.{IsAnswer, RefusesAnswer};
+ghost use Rattle.cata_core.specs.Site.{SiteState};
+ghost use Rattle.front_core.specs.Ask.{AnswersText, IsAnswer, IsNoMemory, RefusesAnswer};
+ghost use Rattle.front_core.specs.Written.{IsWritten};
 ghost use Rattle.front_core.specs.Preferences.{field_text};
 ghost use Rattle.docs_core.specs.Lines.{lines_of};
 ghost use Rattle.front_core.specs.TagPick.{IsPickedTag, RefusesPick};
@@ -10,7 +12,8 @@ ghost use Rattle.front_c.specs.Handles.{site_of};
 ghost use Rattle.front_c.specs.Question.{default_of};
 ghost use Rattle.front_c.specs.Reporting.{IsWrittenTo, ReportsAnswer, ReportsDone, ReportsEither};
 ghost use Rattle.front_c.specs.Reporting.{ReportsFault, ReportsLabelText, ReportsPicked};
-ghost use Rattle.front_c.specs.Reporting.{ReportsRefusal, ReportsText, ReportsUsage, answered};
+ghost use Rattle.front_c.specs.Reporting.{ReportsRefusal, ReportsSome, ReportsText, ReportsUsage};
+ghost use Rattle.front_c.specs.Reporting.{answered};
 ghost use Rattle.front_c.specs.Reporting.{refused};
 ghost use Rattle.front_c.specs.Status.{nothing, usage};
 
@@ -19,8 +22,8 @@ use crate::question::default_of;
 use crate::status;
 use crate::told::Told;
 use front_core::{
-    Answer, Field, FrontFault, LabelText, OpenSite, Picked, Question, Refusal, SiteIn, explain,
-    pick,
+    Answer, Field, FrontFault, LabelText, Lookup, OpenSite, Picked, Question, Refusal, SiteIn,
+    explain, message_in, pick,
 };
 use std::alloc::Global;
 use std::mem;
@@ -126,6 +129,26 @@ pub(crate) fn report_label_text(text: LabelText<'_>, out: &mut [u8], told: &mut 
         }
         LabelText::PastEnd { count } => report_nothing(count, told),
         LabelText::Nothing => report_nothing(0, told),
+    }
+}
+
+/// Reports a text of the label that a lookup finds in the document of a site, as it is written.
+pub(crate) fn report_text_in(
+    alloc: Global,
+    text: &[u8],
+    asked: &Lookup,
+    place: usize,
+    out: &mut [u8],
+    told: &mut Told,
+) -> i32
+    ensures written { (site : SiteState) → IsWritten text.now site
+        → ReportsEither (AnswersText site.cells asked.now place) IsNoMemory ReportsLabelText
+        out.old out.new told.new result }
+    ensures some { ReportsSome ReportsLabelText out.old out.new told.new result }
+{
+    match message_in(alloc, text, &asked.id) {
+        Ok(part) => report_label_text(asked.text(&part, place), out, told),
+        Err(fault) => report_refusal(&fault, told),
     }
 }
 
