@@ -49,10 +49,10 @@ extern "C" {
  * usable); without it they are refused (9). */
 #define SW_EXTENDED 1u
 #define SW_LENIENT 2u
-/* With SW_WIDEN, which is of sw_pick, sw_site_lookup, sw_site_text and sw_site_bundle alone, a range also finds the
- * languages that it matches, as `en` finds en-us, before the next range is tried; the default is not widened. This is
- * the project's own, and no part of RFC 4647. Each language is asked once; with SW_EXTENDED a field costs its ranges
- * times the languages (SECURITY.md, "What bounds a call"). */
+/* With SW_WIDEN, which is of sw_pick, sw_site_lookup, sw_site_text, sw_site_bundle, sw_text_lookup and sw_text_text
+ * alone, a range also finds the languages that it matches, as `en` finds en-us, before the next range is tried; the
+ * default is not widened. This is the project's own, and no part of RFC 4647. Each language is asked once; with
+ * SW_EXTENDED a field costs its ranges times the languages (SECURITY.md, "What bounds a call"). */
 #define SW_WIDEN 4u
 
 /* The statuses, which are those of the command `lexicat`. */
@@ -137,6 +137,24 @@ int32_t sw_site_text(sw_site *site, uint32_t flags, const uint8_t *id, size_t id
  *   SW_USAGE, SW_REFUSED   as sw_site_lookup, without the default */
 int32_t sw_site_filter(sw_site *site, uint32_t flags, const uint8_t *id, size_t id_len, const uint8_t *field,
                        size_t field_len, uint8_t *out, size_t out_len, sw_told *told);
+
+/* The same three questions to the document of a site where it lies, which is not opened: `text` is what sw_site_write or
+ * `lexicat` writes for the site, with its last LF or without, of any length, for example a file that is mapped. The rows
+ * of the message are found by bisection: of a million messages a text takes some microseconds, and the pages that some
+ * thirty places of the document are on. Memory: what the field takes, and the rows of the message.
+ *   SW_FOUND, SW_NOTHING, SW_USAGE, SW_REFUSED   as sw_site_lookup, sw_site_text and sw_site_filter for the site
+ * What is answered for other bytes is not said, and a document in another form may be read whole or refused
+ * (sw_site_open is for these); no call reads outside of `text`, whatever its bytes are.
+ * A mapped file has to be replaced by another (a new file that is renamed to it, as lexicat-file does), and never
+ * written in place: if a file is cut short while it is mapped, the system ends the process (SIGBUS). */
+int32_t sw_text_lookup(const uint8_t *text, size_t text_len, uint32_t flags, const uint8_t *id, size_t id_len,
+                       const uint8_t *field, size_t field_len, const uint8_t *dflt, size_t dflt_len, uint8_t *out,
+                       size_t out_len, sw_told *told);
+int32_t sw_text_text(const uint8_t *text, size_t text_len, uint32_t flags, const uint8_t *id, size_t id_len,
+                     const uint8_t *field, size_t field_len, const uint8_t *dflt, size_t dflt_len, size_t place,
+                     uint8_t *out, size_t out_len, sw_told *told);
+int32_t sw_text_filter(const uint8_t *text, size_t text_len, uint32_t flags, const uint8_t *id, size_t id_len,
+                       const uint8_t *field, size_t field_len, uint8_t *out, size_t out_len, sw_told *told);
 
 /* All labels of one reader: of each message the label that sw_site_lookup finds, under its language. The answer is the
  * JSON document of the command `bundle` with its LF: language maps, as {"greeting":{"fr":"Bonjour"}}.

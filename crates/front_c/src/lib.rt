@@ -564,7 +564,7 @@ pub extern "C" fn sw_text_lookup(
         return report_usage(told);
     };
     match Lookup::read(alloc, id, field, default_of(default)) {
-        Ok(asked) => report(asked.answer_in(alloc, text), out, told),
+        Ok(lookup) => report(lookup.answer_in(alloc, text), out, told),
         Err(fault) => report_refusal(&fault, told),
     }
 }
@@ -619,7 +619,7 @@ pub extern "C" fn sw_text_filter(
         return report_usage(told);
     };
     match Filter::read(alloc, id, field) {
-        Ok(asked) => report(asked.answer_in(alloc, text), out, told),
+        Ok(filter) => report(filter.answer_in(alloc, text), out, told),
         Err(fault) => report_refusal(&fault, told),
     }
 }

@@ -33,8 +33,8 @@ impl Lookup {
         ensures { (site : SiteState) → IsWritten text.now site
             → MatchResult result (AnswersLookup site.cells self.now) IsNoMemory }
     {
-        let part = message_in(alloc, text, &self.id)?;
-        self.answer(alloc, SiteIn::Open(&part))
+        let message = message_in(alloc, text, &self.id)?;
+        self.answer(alloc, SiteIn::Open(&message))
     }
 }
 

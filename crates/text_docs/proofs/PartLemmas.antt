@@ -200,7 +200,7 @@ escape_byte_unclosed b more =
     ] refl
 
 -- what is written for a string has no quote that ends it
-escape_unclosed : (text : List ℕ) → is_unclosed (escape text) ≡ true
+pub escape_unclosed : (text : List ℕ) → is_unclosed (escape text) ≡ true
 escape_unclosed [] = refl
 escape_unclosed (b ∷ text) = escape_byte_unclosed b (escape text) ∙ escape_unclosed text
 
@@ -218,7 +218,8 @@ no_tail more tail is same = by (ap (head_or 0) (same ∙ is.tail_is))
     by : ◌≡◌ {A = ℕ} 44 93 → ⊥
     by e = omega (arith, e)
 
-drop_more : (n k : ℕ) (text bs : List ℕ) → drop n text ≡ bs → drop (n + k) text ≡ drop k bs
+-- what comes after some bytes more
+pub drop_more : (n k : ℕ) (text bs : List ℕ) → drop n text ≡ bs → drop (n + k) text ≡ drop k bs
 drop_more n k text bs is = sym (drop-drop k n text) ∙ ap (drop k) is
 
 -- what reads as a row is one

@@ -1,8 +1,8 @@
 -- Where the rows of a written document lie. Project rule.
-use Rattle.std.specs.Prelude.{◌≡◌, ◌≤◌, ◌∷◌, ◌++◌, [], ℕ, List, codes, drop, false, length}
+use Rattle.std.specs.Prelude.{◌≡◌, ◌≤◌, ◌∷◌, ◌++◌, [], ℕ, List, codes, drop, false, length, true}
 use Rattle.json.specs.Print.{quoted}
 use Rattle.cell_core.specs.SiteName.{IsSiteName}
-use Rattle.cata_core.specs.Entries.{Entries}
+use Rattle.cata_core.specs.Entries.{Entries, Entry}
 use Rattle.row_docs.specs.Entries.{cells_values}
 use Rattle.row_docs.specs.Valid.{AreKeptCells}
 use Rattle.site_docs.specs.Plain.{IsEnd, last_members, open_items}
@@ -24,6 +24,16 @@ pub record AreRows (text : List ℕ) (cells : Entries) (tail : List ℕ) : Type 
   pub whole : text ≡ opening ++ (open_items false (cells_values cells) ++ tail)
   pub is_tail : IsTail tail
   pub kept : AreKeptCells cells
+
+-- the bracket at this place ends a row of the written document, and these last rows come after it
+pub record IsRowEnd (text name : List ℕ) (cells : Entries) (place : ℕ) : Type 0 where
+  pub before : Entries
+  pub entry : Entry
+  pub after : Entries
+  pub end : List ℕ
+  pub cells_are : cells ≡ before ++ entry ∷ after
+  pub text_is : drop place text ≡ 93 ∷ (open_items true (cells_values (entry ∷ after))
+      ++ 93 ∷ last_members (codes "site") (codes "site") name end)
 
 -- all rows of the text lie between these places, where it is that of some cells
 pub record AreRowsAt (text : List ℕ) (start end : ℕ) : Type 0 where

@@ -8,6 +8,7 @@
 #![tactic(auto)]
 
 mod id_order;
+pub mod laws;
 mod message;
 mod part;
 mod row;

@@ -23,7 +23,7 @@ returns-in-Ok-clause-written c = λ site written.
     (RefusesAnswer (IsFilter id read) (RefusesFilter id read))
     c.args.out.now c.report.new.out c.report.new.told _
     (written_as (IsFilter id read) (RefusesFilter id read)
-    (λ asked s. AnswersFilter s.cells asked) c.in-Ok.asked site c.answer_in.result
+    (λ asked s. AnswersFilter s.cells asked) c.in-Ok.filter site c.answer_in.result
     c.in-Ok.ensures (c.answer_in.ensures site written))
     c.report.ensures))
 

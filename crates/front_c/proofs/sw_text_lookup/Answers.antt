@@ -24,7 +24,7 @@ returns-in-Ok-clause-written c = λ site written.
     (RefusesAnswer (IsLookup id read default) (RefusesLookup id read default))
     c.args.out.now c.report.new.out c.report.new.told _
     (written_as (IsLookup id read default) (RefusesLookup id read default)
-    (λ asked s. AnswersLookup s.cells asked) c.in-Ok.asked site c.answer_in.result
+    (λ asked s. AnswersLookup s.cells asked) c.in-Ok.lookup site c.answer_in.result
     (rw (← c.default_of.ensures) c.in-Ok.ensures) (c.answer_in.ensures site written))
     c.report.ensures))
 

@@ -1,0 +1,127 @@
+-- Rows begin where they read so, and nowhere else.
+use Rattle.std.proofs.Common.{◌≡◌, ◌∙◌, ◌+◌, ◌<◌, ◌≤◌, ◌++◌, ◌∷◌, [], ℕ, List, Bool, true, false, cond}
+use Rattle.std.proofs.Common.{◌&&◌, ◌||◌, ◌==◌, IsTrue, inl, inr, refl, ap, sym, subst, arith, drop}
+use Rattle.std.proofs.Common.{append_assoc, codes, decimal, length}
+use Rattle.std.specs.Prelude.{◌↔◌, nat_le, nat_lt}
+use Rattle.std.specs.List.{All, join_with_byte, list_all}
+use Rattle.std.proofs.lemmas.Bool.Decides.{nat_tests}
+use Rattle.std.proofs.lemmas.List.Elements.{All-head}
+use Rattle.json.specs.Print.{escape, escape_byte, escape_letter, quoted}
+use Rattle.lang_core.specs.Grammar.{are_allowed, is_alphanum, is_private_piece, is_run, tag_piece}
+use Rattle.lang_core.specs.Lang.{IsLang, none_text}
+use Rattle.lang_core.specs.Tag.{HasSubtags, IsTag}
+use Rattle.lang_core.specs.Text.{pieces}
+use Rattle.lang_core.proofs.PiecesLemmas.{joined-pieces, some_pieces}
+use Rattle.cata_core.specs.Entries.{Entries, Entry}
+use Rattle.cata_core.proofs.Basics.{first_so, second_so}
+use Rattle.row_docs.specs.Entries.{cells_values, row_of}
+use Rattle.row_docs.specs.Valid.{IsKeptCell}
+use Rattle.row_docs.specs.declared.kind.Kind.TheVariants.{Site}
+use Rattle.site_docs.specs.Plain.{IsPlainText, last_members, open_items}
+use Rattle.site_docs.specs.PlainRows.{row_before}
+use Rattle.text_docs.specs.Row.{ReadsAsRow, begins_language}
+use Rattle.text_docs.specs.Rows.{AreRows, IsRowEnd}
+use Rattle.text_docs.proofs.BorderLemmas.{closed_row, rows_step}
+use Rattle.text_docs.proofs.ListLemmas.{All-back, head_or, tail_of}
+use Rattle.text_docs.proofs.MessageLemmas.{rows_of_text}
+use Rattle.text_docs.proofs.PartLemmas.{drop_more, escape_unclosed, row_of_place}
+
+-- ---- the first byte of a language
+
+-- a text that begins with a byte of a language
+abbrev Begins : List ℕ → Type 0
+Begins text = (b : ℕ) × (rest : List ℕ) × (text ≡ b ∷ rest) × (begins_language b ≡ true)
+
+letter_or_digit : (b : ℕ) → is_alphanum b ≡ true → begins_language b ≡ true
+letter_or_digit b is = grind (arith, nat_tests)
+
+first_letter : (b : ℕ) (s : List ℕ) → is_private_piece (b ∷ s) ≡ true → begins_language b ≡ true
+unfolding is_private_piece is_run
+first_letter b s is =
+    let sized = nat_le 1 (length (b ∷ s)) && nat_le (length (b ∷ s)) 8 in
+    letter_or_digit b
+    (first_so (is_alphanum b) (list_all is_alphanum s)
+    (second_so sized (is_alphanum b && list_all is_alphanum s) is))
+
+joined_begins : (s : List ℕ) (more : List (List ℕ)) → is_private_piece s ≡ true
+    → Begins (join_with_byte 45 (s ∷ more))
+unfolding is_private_piece is_run
+joined_begins [] more is = cc
+joined_begins (b ∷ s) [] is = (b, s, refl, first_letter b s is)
+joined_begins (b ∷ s) (t ∷ more) is =
+    (b, s ++ 45 ∷ join_with_byte 45 (t ∷ more), refl, first_letter b s is)
+
+tag_begins : (text : List ℕ) → IsTag text → Begins text
+tag_begins text is = by (pieces text) refl (some_pieces text) is.1
+  where
+    by : (ps : List (List ℕ)) → pieces text ≡ ps → 0 < length (pieces text)
+        → IsTrue (are_allowed tag_piece 0 (pieces text)) → Begins text
+    by [] none some allowed = absurd (omega (arith, some, ap length none))
+    by (s ∷ more) same some allowed =
+        let first : is_private_piece s ≡ true =
+        first_so (is_private_piece s) (are_allowed tag_piece 1 more)
+        (subst (λ (ps : List (List ℕ)). are_allowed tag_piece 0 ps ≡ true) same allowed) in
+        subst Begins (ap (join_with_byte 45) (sym same) ∙ joined-pieces text)
+        (joined_begins s more first)
+
+lang_begins : (text : List ℕ) → IsLang text → Begins text
+lang_begins text (inl none) = subst Begins (sym none) (64, codes "none", refl, refl)
+lang_begins text (inr tag) = tag_begins text tag
+
+plain_byte : (b : ℕ) → begins_language b ≡ true → escape_byte b ≡ b ∷ []
+unfolding escape_byte
+plain_byte b begins = grind (arith, nat_tests)
+
+-- ---- a row reads as one
+
+row_reads : (e : Entry) (es : Entries) (tail : List ℕ) → IsLang e.0.1
+    → ReadsAsRow (93 ∷ (open_items true (cells_values (e ∷ es)) ++ tail)) (escape e.0.0)
+row_reads e es tail lang =
+    let begins = lang_begins e.0.1 lang in
+    let last = closed_row e.1.label (open_items true (cells_values es) ++ tail) in
+    let left = 44 ∷ (decimal e.1.stamp.time ++ 44 ∷ (quoted e.1.stamp.site ++ 44 ∷ (decimal e.1.stamp.count ++ 44 ∷ last))) in
+    let language : escape e.0.1 ≡ begins.0 ∷ escape begins.1 =
+    ap escape begins.2 ∙ ap (λ bs. bs ++ escape begins.1) (plain_byte begins.0 begins.3) in record {
+      first = begins.0;
+      rest = (escape begins.1 ++ 34 ∷ []) ++ left;
+      text_is =
+          ap (λ bs. 93 ∷ bs) (rows_step true e es tail)
+          ∙ ap (λ bs. 93 ∷ 44 ∷ 91 ∷ 34 ∷ bs)
+          (append_assoc (escape e.0.0) (34 ∷ []) (44 ∷ (quoted e.0.1 ++ left))
+          ∙ ap (λ bs. escape e.0.0 ++ 34 ∷ 44 ∷ 34 ∷ ((bs ++ 34 ∷ []) ++ left)) language);
+      unclosed = escape_unclosed e.0.0;
+      language = begins.3;
+    }
+
+-- a row but the first begins exactly where it reads so
+pub where_it_reads_so : (text name : List ℕ) (cells : Entries) (place : ℕ)
+    → IsPlainText Site text name cells
+    → IsRowEnd text name cells place ↔ ((id : List ℕ) × ReadsAsRow (drop place text) id)
+where_it_reads_so text name cells place plain = (reads, begins)
+  where
+    reads : IsRowEnd text name cells place → (id : List ℕ) × ReadsAsRow (drop place text) id
+    reads row =
+        let one =
+        (All-head IsKeptCell row.entry row.after
+        (All-back IsKeptCell row.before (row.entry ∷ row.after)
+        (subst (λ (es : Entries). All IsKeptCell es) row.cells_are plain.kept.each))).0 in (
+          escape row.entry.0.0,
+          subst (λ (bs : List ℕ). ReadsAsRow bs (escape row.entry.0.0)) (sym row.text_is)
+              (row_reads row.entry row.after
+              (93 ∷ last_members (codes "site") (codes "site") name row.end) one.lang),
+        )
+
+    begins : (id : List ℕ) × ReadsAsRow (drop place text) id → IsRowEnd text name cells place
+    begins (id, is) =
+        let rows = rows_of_text text name cells plain in
+        let tail = 93 ∷ last_members (codes "site") (codes "site") name rows.0 in
+        let row = row_of_place text id cells tail place rows.2 is in record {
+          before = row.before;
+          entry = row.entry;
+          after = row.after;
+          end = rows.0;
+          cells_are = row.cells_are;
+          text_is =
+              is.text_is
+              ∙ ap (λ bs. 93 ∷ bs) (sym (drop_more place 1 text _ is.text_is) ∙ row.comma_is);
+        }
