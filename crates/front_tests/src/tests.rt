@@ -8,3 +8,4 @@ mod tag_filter;
 mod tag_pick;
 mod widening;
 mod words;
+mod written;

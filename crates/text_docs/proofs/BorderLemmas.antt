@@ -2,13 +2,12 @@
 -- within a row no `]` outside of strings comes before a comma, and since a string is followed by no
 -- language.
 use Rattle.std.proofs.Common.{◌≡◌, ◌∙◌, ◌^◌, ◌<◌, ◌++◌, ◌∷◌, [], ℕ, List, Bool, true, false, cond, not}
-use Rattle.std.proofs.Common.{◌&&◌, ◌||◌, ◌==◌, ◌⊎◌, inl, inr, ⊎_elim, refl, ap, sym, subst, arith}
-use Rattle.std.proofs.Common.{append_assoc, append-nil, decimal, drop, take, true≢false, codes, map}
-use Rattle.std.proofs.Common.{take-append-drop}
+use Rattle.std.proofs.Common.{◌==◌, ◌⊎◌, inl, inr, ⊎_elim, refl, ap, sym, subst, arith}
+use Rattle.std.proofs.Common.{append_assoc, decimal, true≢false, map}
 use Rattle.std.specs.Prelude.{None, Option, Some}
 use Rattle.std.proofs.lemmas.Bool.Decides.{nat_tests}
 use Rattle.std.proofs.lemmas.List.Elements.{All-head, All-tail}
-use Rattle.json.specs.Print.{escape, quoted}
+use Rattle.json.specs.Print.{quoted}
 use Rattle.serde_json.specs.Data.{Data, array, string}
 use Rattle.serde_json.specs.View.{items_of}
 use Rattle.serde_json.specs.Written.{comma_if, compact_text}
@@ -16,16 +15,15 @@ use Rattle.cata_core.specs.Entries.{Entries, Entry}
 use Rattle.cata_core.proofs.Basics.{first_so, second_so}
 use Rattle.row_docs.specs.Entries.{cells_values, entry_value, row_of}
 use Rattle.row_docs.specs.Valid.{IsKeptCell}
-use Rattle.row_docs.specs.Values.{Row, cell_value, label_value, texts_value}
-use Rattle.site_docs.specs.Plain.{IsEnd, last_members, open_items}
+use Rattle.row_docs.specs.Values.{Row, label_value}
+use Rattle.site_docs.specs.Plain.{open_items}
 use Rattle.site_docs.specs.PlainRows.{row_before}
 use Rattle.site_docs.proofs.PlainLemmas.{array_taken, row_taken}
 use Rattle.std.specs.List.{All}
 use Rattle.text_docs.specs.Row.{ReadsAsRow, begins_language, is_unclosed, is_unclosed_from}
-use Rattle.text_docs.specs.Rows.{AreRows, IsTail, opening}
 use Rattle.text_docs.proofs.ListLemmas.{head_or}
 use Rattle.text_docs.proofs.States.{Fit, Piece, State, append, closed, decimal_piece, each, escaped}
-use Rattle.text_docs.proofs.States.{fit-append, fits, inside, is_free, outside, quoted_piece, run}
+use Rattle.text_docs.proofs.States.{fit-append, fits, inside, is_free, outside, quoted_piece}
 use Rattle.text_docs.proofs.States.{step}
 
 -- ---- brackets outside of strings

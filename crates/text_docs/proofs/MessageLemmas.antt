@@ -1,7 +1,7 @@
 -- A document of some rows of a written one: those of a message are all there.
-use Rattle.std.proofs.Common.{◌≡◌, ◌≢◌, ◌∙◌, ◌+◌, ◌<◌, ◌≤◌, ◌++◌, ◌∷◌, [], ℕ, List, Bool, true}
-use Rattle.std.proofs.Common.{false, cond, ◌⊎◌, inl, inr, ⊎_elim, refl, ap, sym, subst, true≢false}
-use Rattle.std.proofs.Common.{arith, append_assoc, codes, decimal, drop, take, take-append-drop}
+use Rattle.std.proofs.Common.{◌≡◌, ◌∙◌, ◌<◌, ◌≤◌, ◌++◌, ◌∷◌, [], ℕ, List, Bool, true}
+use Rattle.std.proofs.Common.{false, cond, ◌⊎◌, inl, inr, refl, ap, sym, subst}
+use Rattle.std.proofs.Common.{arith, append_assoc, codes, drop, take, take-append-drop}
 use Rattle.std.specs.Prelude.{Err, MatchResult, Ok, Result}
 use Rattle.cata_core.specs.Site.{SiteState}
 use Rattle.json_docs.specs.Checks.{OrMemory}
@@ -16,7 +16,7 @@ use Rattle.std.proofs.Common.{IsUtf8, append-nil, get_or, length, length-append,
 use Rattle.std.specs.Prelude.{filter}
 use Rattle.std.specs.List.{All, slice_range}
 use Rattle.std.specs.Ordering.{is_eq, ordering_reverse}
-use Rattle.std.specs.declared.cmp.Ordering.TheVariants.{Equal, Greater, Less}
+use Rattle.std.specs.declared.cmp.Ordering.TheVariants.{Greater, Less}
 use Rattle.std.specs.Cmp.Lexicographic.{nat_list_cmp_total}
 use Rattle.std.proofs.lemmas.List.{append_cancel_right, map-append}
 use Rattle.std.proofs.lemmas.List.Elements.{All-head, All-tail, All-weaker, filter-append}
@@ -26,18 +26,17 @@ use Rattle.std.proofs.lemmas.Str.{IsCharBoundary-before_ascii, IsUtf8-append, Is
 use Rattle.std.proofs.lemmas.Str.{IsUtf8-take}
 use Rattle.std.proofs.Common.{drop_at, take_at}
 use Rattle.std.proofs.Math.Seq.{get_or-append_seam}
-use Rattle.json.specs.Print.{escape_byte, quoted}
+use Rattle.json.specs.Print.{quoted}
 use Rattle.serde_json.specs.Data.{Data}
 use Rattle.serde_json.specs.Written.{compact_text}
 use Rattle.cata_core.specs.Entries.{Entries, Entry, key_cmp, text_cmp}
 use Rattle.cata_core.specs.Live.{live, live_of}
-use Rattle.row_docs.specs.Entries.{cells_values, entry_value, row_of}
-use Rattle.row_docs.specs.Texts.{text}
+use Rattle.row_docs.specs.Entries.{cells_values, entry_value}
 use Rattle.row_docs.specs.Valid.{AreKeptCells, IsKeptCell}
 use Rattle.row_docs.specs.declared.kind.Kind.TheVariants.{Site}
 use Rattle.site_docs.specs.Plain.{IsEnd, IsPlainText, IsTextOf, cells_document, last_members}
 use Rattle.site_docs.specs.Plain.{open_items, rows_text}
-use Rattle.site_docs.proofs.PlainLemmas.{array_taken, document_taken}
+use Rattle.site_docs.proofs.PlainLemmas.{document_taken}
 use Rattle.text_docs.specs.Part.{BeginsAt, BeginsBefore, EndsAfter, EndsAt}
 use Rattle.text_docs.specs.Rows.{AreRows, AreRowsAt, IsTail, opening}
 use Rattle.text_docs.proofs.BorderLemmas.{array_is, rows_step}

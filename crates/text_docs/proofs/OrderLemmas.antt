@@ -1,12 +1,11 @@
 -- Ids as they are written between quotes.
 use Rattle.std.proofs.Common.{◌≡◌, ◌≢◌, ◌∙◌, ◌++◌, ◌∷◌, [], ℕ, List, Bool, true, false, cond, ◌||◌}
 use Rattle.std.proofs.Common.{◌==◌, ◌⊎◌, inl, inr, IsTrue, refl, ap, sym, subst, true≢false}
-use Rattle.std.specs.Prelude.{nat_lt}
 use Rattle.std.specs.List.{All}
 use Rattle.std.proofs.lemmas.Bool.Decides.{nat_tests}
 use Rattle.std.proofs.Common.{arith}
 use Rattle.std.proofs.lemmas.List.Elements.{All-head, All-tail}
-use Rattle.json.specs.Print.{escape, escape_byte, escape_letter}
+use Rattle.json.specs.Print.{escape, escape_byte}
 use Rattle.cell_core.specs.MessageId.{is_id_byte}
 use Rattle.cata_core.specs.Entries.{text_cmp}
 use Rattle.std.specs.Cmp.{nat_cmp_total}

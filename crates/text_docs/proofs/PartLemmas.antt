@@ -1,6 +1,6 @@
 -- Where the rows of a message lie among all rows of a written document.
-use Rattle.std.proofs.Common.{◌≡◌, ◌≢◌, ◌∙◌, ◌+◌, ◌^◌, ◌<◌, ◌≤◌, ◌++◌, ◌∷◌, [], ℕ, List, Bool, true}
-use Rattle.std.proofs.Common.{false, cond, ◌&&◌, ◌==◌, ◌⊎◌, inl, inr, ⊎_elim, refl, ap, sym, subst}
+use Rattle.std.proofs.Common.{◌≡◌, ◌∙◌, ◌+◌, ◌<◌, ◌≤◌, ◌++◌, ◌∷◌, [], ℕ, List, Bool, true}
+use Rattle.std.proofs.Common.{false, cond, ◌==◌, ◌⊎◌, inl, inr, ⊎_elim, refl, ap, sym, subst}
 use Rattle.std.proofs.Common.{arith, append_assoc, codes, decimal, drop, take, take-append-drop}
 use Rattle.std.proofs.Common.{append-nil, ap₂, drop_at, length, length-drop, drop-drop, true≢false, T, ◌/◌, ◌%◌}
 use Rattle.std.specs.List.{All}
@@ -9,15 +9,14 @@ use Rattle.std.specs.declared.cmp.Ordering.{Ordering}
 use Rattle.std.specs.declared.cmp.Ordering.TheVariants.{Equal, Greater, Less}
 use Rattle.std.specs.Cmp.Lexicographic.{nat_list_cmp_total}
 use Rattle.std.specs.FinMap.Entries.{below_all, is_sorted}
-use Rattle.std.proofs.lemmas.List.Elements.{All-cons, All-head, All-nil, All-tail, All-weaker}
+use Rattle.std.proofs.lemmas.List.Elements.{All-cons, All-head, All-nil, All-weaker}
 use Rattle.std.proofs.lemmas.Map.Lookups.{exact_bytes}
 use Rattle.json.specs.Print.{escape, escape_byte, escape_letter, quoted}
 use Rattle.std.specs.Char.{digit_char}
 use Rattle.std.specs.Prelude.{nat_lt}
 use Rattle.std.proofs.lemmas.Bool.Decides.{nat_tests}
 use Rattle.cell_core.specs.Keyed.{IsMap}
-use Rattle.cell_core.specs.MessageId.{IsMessageId}
-use Rattle.cata_core.specs.Entries.{Entries, Entry, EntryKey, IsAboveAll, key_cmp, text_cmp}
+use Rattle.cata_core.specs.Entries.{Entries, Entry, EntryKey, key_cmp, text_cmp}
 use Rattle.cata_core.proofs.Basics.{both_parts, first_part, second_part, less_than}
 use Rattle.cata_core.proofs.BehindLemmas.{front_below}
 use Rattle.row_docs.specs.Entries.{cells_values, row_of}
@@ -33,8 +32,8 @@ use Rattle.text_docs.proofs.BorderLemmas.{rows_step, skip}
 use Rattle.text_docs.proofs.ListLemmas.{All-back, head_or, tail_of}
 use Rattle.text_docs.proofs.OrderLemmas.{IsIdByte}
 use Rattle.text_docs.proofs.States.{digit_is, no_letter}
-use Rattle.text_docs.proofs.States.{Fit, Piece, append, closed, decimal_piece, each, escape_piece, fit-append, fits}
-use Rattle.text_docs.proofs.States.{inside, outside, quoted_piece, run}
+use Rattle.text_docs.proofs.States.{Fit, Piece, append, closed, decimal_piece, each, fit-append, fits}
+use Rattle.text_docs.proofs.States.{inside, outside, quoted_piece}
 
 -- ---- the text as a whole
 

@@ -1,28 +1,27 @@
 -- Rows begin where they read so, and nowhere else.
-use Rattle.std.proofs.Common.{◌≡◌, ◌∙◌, ◌+◌, ◌<◌, ◌≤◌, ◌++◌, ◌∷◌, [], ℕ, List, Bool, true, false, cond}
-use Rattle.std.proofs.Common.{◌&&◌, ◌||◌, ◌==◌, IsTrue, inl, inr, refl, ap, sym, subst, arith, drop}
+use Rattle.std.proofs.Common.{◌≡◌, ◌∙◌, ◌<◌, ◌++◌, ◌∷◌, [], ℕ, List, true}
+use Rattle.std.proofs.Common.{◌&&◌, IsTrue, inl, inr, refl, ap, sym, subst, arith, drop}
 use Rattle.std.proofs.Common.{append_assoc, codes, decimal, length}
-use Rattle.std.specs.Prelude.{◌↔◌, nat_le, nat_lt}
+use Rattle.std.specs.Prelude.{◌↔◌, nat_le}
 use Rattle.std.specs.List.{All, join_with_byte, list_all}
 use Rattle.std.proofs.lemmas.Bool.Decides.{nat_tests}
 use Rattle.std.proofs.lemmas.List.Elements.{All-head}
-use Rattle.json.specs.Print.{escape, escape_byte, escape_letter, quoted}
+use Rattle.json.specs.Print.{escape, escape_byte, quoted}
 use Rattle.lang_core.specs.Grammar.{are_allowed, is_alphanum, is_private_piece, is_run, tag_piece}
-use Rattle.lang_core.specs.Lang.{IsLang, none_text}
-use Rattle.lang_core.specs.Tag.{HasSubtags, IsTag}
+use Rattle.lang_core.specs.Lang.{IsLang}
+use Rattle.lang_core.specs.Tag.{IsTag}
 use Rattle.lang_core.specs.Text.{pieces}
 use Rattle.lang_core.proofs.PiecesLemmas.{joined-pieces, some_pieces}
 use Rattle.cata_core.specs.Entries.{Entries, Entry}
 use Rattle.cata_core.proofs.Basics.{first_so, second_so}
-use Rattle.row_docs.specs.Entries.{cells_values, row_of}
+use Rattle.row_docs.specs.Entries.{cells_values}
 use Rattle.row_docs.specs.Valid.{IsKeptCell}
 use Rattle.row_docs.specs.declared.kind.Kind.TheVariants.{Site}
 use Rattle.site_docs.specs.Plain.{IsPlainText, last_members, open_items}
-use Rattle.site_docs.specs.PlainRows.{row_before}
 use Rattle.text_docs.specs.Row.{ReadsAsRow, begins_language}
-use Rattle.text_docs.specs.Rows.{AreRows, IsRowEnd}
+use Rattle.text_docs.specs.Rows.{IsRowEnd}
 use Rattle.text_docs.proofs.BorderLemmas.{closed_row, rows_step}
-use Rattle.text_docs.proofs.ListLemmas.{All-back, head_or, tail_of}
+use Rattle.text_docs.proofs.ListLemmas.{All-back}
 use Rattle.text_docs.proofs.MessageLemmas.{rows_of_text}
 use Rattle.text_docs.proofs.PartLemmas.{drop_more, escape_unclosed, row_of_place}
 
