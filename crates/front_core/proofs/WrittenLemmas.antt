@@ -1,6 +1,5 @@
 -- What answers a question about a message depends on its live labels alone.
-use Rattle.std.proofs.Common.{◌≡◌, List, ℕ, subst}
-use Rattle.nego_core.specs.declared.widening.Widening.{Widening}
+use Rattle.std.proofs.Common.{◌≡◌, ℕ, subst}
 use Rattle.cata_core.specs.Asking.{IsLookedUpBy}
 use Rattle.cata_core.specs.Entries.{Entries}
 use Rattle.cata_core.specs.Live.{Labelled, live}
@@ -16,28 +15,6 @@ use Rattle.front_core.specs.declared.answer.Answer.{Answer}
 use Rattle.front_core.specs.declared.answer.LabelText.{LabelText}
 use Rattle.front_core.specs.declared.ask.Filter.{Filter}
 use Rattle.front_core.specs.declared.ask.Lookup.{Lookup}
-
--- a reply of one catalogue is that of another with the same live labels of the message
-same_reply : (cells other : Entries) (asked : Lookup) (reply : Reply)
-    → live cells asked.id ≡ live other asked.id → IsReply cells asked reply
-    → IsReply other asked reply
-same_reply cells other asked reply same answer =
-    subst (λ (labels : Labelled). IsLookedUpBy asked.preferences.widening labels
-    asked.preferences.list asked.preferences.default reply) same answer
-
--- the line of a lookup
-pub same_lookup : (cells other : Entries) (asked : Lookup) (answer : Answer)
-    → live cells asked.id ≡ live other asked.id → AnswersLookup cells asked answer
-    → AnswersLookup other asked answer
-same_lookup cells other asked answer same (reply, is, text, found) =
-    (reply, same_reply cells other asked reply same is, text, found)
-
--- the text of a label that a lookup finds
-pub same_text : (cells other : Entries) (asked : Lookup) (place : ℕ) (text : LabelText)
-    → live cells asked.id ≡ live other asked.id → AnswersText cells asked place text
-    → AnswersText other asked place text
-same_text cells other asked place text same (reply, is, at) =
-    (reply, same_reply cells other asked reply same is, at)
 
 -- the lines of a filter
 pub same_filter : (cells other : Entries) (asked : Filter) (answer : Answer)

@@ -1,5 +1,5 @@
 -- The refusals: their numbers, and the texts that explain each (project rules).
-use Rattle.std.specs.Prelude.{◌≡◌, ◌==◌, ◌&&◌, ◌≤◌, ◌-◌, ◌++◌, ◌∷◌, [], ℕ, Bool, List, None, Option}
+use Rattle.std.specs.Prelude.{◌==◌, ◌&&◌, ◌≤◌, ◌-◌, ◌++◌, ◌∷◌, [], ℕ, Bool, List, None, Option}
 use Rattle.std.specs.Prelude.{codes, if◌then◌else◌, length, nat_lt, not, slice_get}
 use Rattle.std.specs.List.{list_all}
 use Rattle.lang_core.specs.Fault.{meaning_of}

@@ -1,7 +1,7 @@
--- A place of a written document that reads as the start of a row is one: after the `]` of a row, since
--- within a row no `]` outside of strings comes before a comma, and since a string is followed by no
--- language.
-use Rattle.std.proofs.Common.{◌≡◌, ◌∙◌, ◌^◌, ◌<◌, ◌++◌, ◌∷◌, [], ℕ, List, Bool, true, false, cond, not}
+-- A place of a written document that reads as the start of a row is one, after the `]` of a row: in
+-- a row no `]` outside of strings comes before a comma, and no string has a language after it.
+use Rattle.std.proofs.Common.{◌≡◌, ◌∙◌, ◌^◌, ◌<◌, ◌++◌, ◌∷◌, [], ℕ, List, Bool, true, false}
+use Rattle.std.proofs.Common.{cond, not}
 use Rattle.std.proofs.Common.{◌==◌, ◌⊎◌, inl, inr, ⊎_elim, refl, ap, sym, subst, arith}
 use Rattle.std.proofs.Common.{append_assoc, decimal, true≢false, map}
 use Rattle.std.specs.Prelude.{None, Option, Some}
@@ -132,15 +132,19 @@ kind_unfit left rest is fit =
 
 -- ---- the pieces of a row
 
+-- the comma after a string
 pub byte_44 : Piece closed outside (44 ∷ [])
 byte_44 = record { fit = refl; free = refl; end = refl }
 
+-- the colon after a name
 pub byte_58 : Piece closed outside (58 ∷ [])
 byte_58 = record { fit = refl; free = refl; end = refl }
 
+-- a comma elsewhere
 pub comma : Piece outside outside (44 ∷ [])
 comma = record { fit = refl; free = refl; end = refl }
 
+-- the bracket that begins a row or the texts of a label
 pub open_bracket : Piece outside outside (91 ∷ [])
 open_bracket = record { fit = refl; free = refl; end = refl }
 
@@ -162,7 +166,8 @@ closed_row label left = compact_text (label_value label) ++ 93 ∷ left
 -- the array of a label's texts
 pub array_is : (ds : List Data) (left : List ℕ)
     → compact_text (array (items_of ds)) ++ left ≡ 91 ∷ (open_items false ds ++ 93 ∷ left)
-array_is ds left = sym (array_taken ds (91 ∷ (open_items false ds ++ 93 ∷ left)) (93 ∷ left) left refl refl)
+array_is ds left =
+    sym (array_taken ds (91 ∷ (open_items false ds ++ 93 ∷ left)) (93 ∷ left) left refl refl)
 
 fit_label : (label : Option (List (List ℕ))) (left : List ℕ) → Fit outside left
     → Fit outside (closed_row label left)
@@ -307,6 +312,7 @@ cut_comma false left tail cut = cut
 count_fits : (n : ℕ) → n < 2 ^ 32 → n < 2 ^ 64
 count_fits n small = omega arith
 
+-- rows fit where what comes after them does
 pub fit_rows : (later : Bool) (es : Entries) (tail : List ℕ) → All IsKeptCell es
     → Fit outside tail → Fit outside (open_items later (cells_values es) ++ tail)
 fit_rows later [] tail kept fit = fit
@@ -335,6 +341,7 @@ one_more e es tail left border = record {
   left_is = border.left_is;
 }
 
+-- a `]` outside of strings with a comma after it ends a row, or is after all rows
 pub cut_rows : (later : Bool) (es : Entries) (tail left more : List ℕ) → All IsKeptCell es
     → left ≡ 44 ∷ more → IsCut outside (open_items later (cells_values es) ++ tail) left
     → IsBorder es tail left ⊎ IsCut outside tail left

@@ -78,7 +78,13 @@ rows_of_text bytes name cells plain = by plain.text
       is,
       record {
         whole = whole;
-        is_tail = record { name = name; end = end; is_name = plain.is_name; is_end = is; tail_is = refl };
+        is_tail = record {
+          name = name;
+          end = end;
+          is_name = plain.is_name;
+          is_end = is;
+          tail_is = refl;
+        };
         kept = plain.kept;
       },
     )
@@ -120,8 +126,10 @@ ascii_cut xs bs ys b low is utf8 =
     let border =
     IsCharBoundary-before_ascii (xs ++ bs) (length xs)
     (omega (arith, length-append xs bs, ap length is)) (omega (arith, first)) in (
-      subst IsUtf8 (take_at xs bs (length xs) refl) (IsUtf8-take (xs ++ bs) (length xs) utf8 border),
-      subst IsUtf8 (drop_at xs bs (length xs) refl) (IsUtf8-drop (xs ++ bs) (length xs) utf8 border),
+      subst IsUtf8 (take_at xs bs (length xs) refl)
+          (IsUtf8-take (xs ++ bs) (length xs) utf8 border),
+      subst IsUtf8 (drop_at xs bs (length xs) refl)
+          (IsUtf8-drop (xs ++ bs) (length xs) utf8 border),
     )
 
 -- what begins with a byte of ASCII
@@ -284,12 +292,12 @@ part_between id slice from to cells tail kept begins ends split =
         ends.others)))
 
 -- the document of the rows between two places, of which no others are of the message
-pub part_is_text : (bytes document name id : List ℕ) (cells : Entries) (first start end last : ℕ)
-    → IsPlainText Site bytes name cells → AreRowsAt bytes first last → BeginsBefore bytes id start
+pub part_is_text : (bytes document name id : List ℕ) (cells : Entries) (top start end last : ℕ)
+    → IsPlainText Site bytes name cells → AreRowsAt bytes top last → BeginsBefore bytes id start
     → EndsAfter bytes id end → start ≤ end
     → document ≡ opening ++ (slice_range bytes start end ++ drop last bytes)
     → (middle : Entries) × IsPlainText Site document name middle × (live middle id ≡ live cells id)
-part_is_text bytes document name id cells first start end last plain rows_at begins ends ordered is =
+part_is_text bytes document name id cells top start end last plain rows_at begins ends ordered is =
     by (rows_of_text bytes name cells plain)
   where
     by : (close : List ℕ) × IsEnd close

@@ -121,11 +121,11 @@ pub one_byte_more : (text id right others more left : List ℕ) (byte other : �
     → (next : List ℕ) × (more ≡ byte ∷ next) × (left ≡ escape next)
     → (next : List ℕ) × All IsIdByte next × (left ≡ escape next)
     × (text_cmp text id ≡ text_cmp next others)
-one_byte_more text id right others more left byte other all so_far same first (next, is, left_is) = (
+one_byte_more text id right others more left byte other all so_far same head (next, is, left_is) = (
   next,
   All-tail IsIdByte byte next (subst (λ (bs : List ℕ). All IsIdByte bs) is all),
   left_is,
   so_far ∙ ap (λ bs. text_cmp bs right) is
-      ∙ ap (λ bs. text_cmp (byte ∷ next) bs) (first ∙ ap (λ b. b ∷ others) (sym same))
+      ∙ ap (λ bs. text_cmp (byte ∷ next) bs) (head ∙ ap (λ b. b ∷ others) (sym same))
       ∙ same_first byte next others,
 )

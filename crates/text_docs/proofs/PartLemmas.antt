@@ -2,7 +2,8 @@
 use Rattle.std.proofs.Common.{◌≡◌, ◌∙◌, ◌+◌, ◌<◌, ◌≤◌, ◌++◌, ◌∷◌, [], ℕ, List, Bool, true}
 use Rattle.std.proofs.Common.{false, cond, ◌==◌, ◌⊎◌, inl, inr, ⊎_elim, refl, ap, sym, subst}
 use Rattle.std.proofs.Common.{arith, append_assoc, codes, decimal, drop, take, take-append-drop}
-use Rattle.std.proofs.Common.{append-nil, ap₂, drop_at, length, length-drop, drop-drop, true≢false, T, ◌/◌, ◌%◌}
+use Rattle.std.proofs.Common.{append-nil, ap₂, drop_at, length, length-drop, drop-drop}
+use Rattle.std.proofs.Common.{true≢false, T, ◌/◌, ◌%◌}
 use Rattle.std.specs.List.{All}
 use Rattle.std.specs.Ordering.{is_gt, is_lt, ordering_reverse, ordering_then}
 use Rattle.std.specs.declared.cmp.Ordering.{Ordering}
@@ -32,7 +33,8 @@ use Rattle.text_docs.proofs.BorderLemmas.{rows_step, skip}
 use Rattle.text_docs.proofs.ListLemmas.{All-back, head_or, tail_of}
 use Rattle.text_docs.proofs.OrderLemmas.{IsIdByte}
 use Rattle.text_docs.proofs.States.{digit_is, no_letter}
-use Rattle.text_docs.proofs.States.{Fit, Piece, append, closed, decimal_piece, each, fit-append, fits}
+use Rattle.text_docs.proofs.States.{Fit, Piece, append, closed, decimal_piece, each, fit-append}
+use Rattle.text_docs.proofs.States.{fits}
 use Rattle.text_docs.proofs.States.{inside, outside, quoted_piece}
 
 -- ---- the text as a whole
@@ -99,7 +101,8 @@ cut_tail tail left is cut =
 
     by : IsCut outside (93 ∷ members) left → 93 ∷ left ≡ tail
     by (inl here) = ap (λ bs. 93 ∷ bs) (sym here.1) ∙ sym is.tail_is
-    by (inr later) = absurd (nothing_left members left (members_piece is.name is.end is.is_end) later)
+    by (inr later) =
+        absurd (nothing_left members left (members_piece is.name is.end is.is_end) later)
 
 -- ---- places
 
@@ -246,13 +249,16 @@ row_of_place text id cells tail place rows reads =
         ≡ open_items true (cells_values after) ++ tail
         → IsRowOf text id cells tail place
     row_of_border before [] whole is =
-        absurd (no_tail (91 ∷ 34 ∷ (id ++ 34 ∷ 44 ∷ 34 ∷ reads.first ∷ reads.rest)) tail rows.is_tail is)
+        absurd (no_tail (91 ∷ 34 ∷ (id ++ 34 ∷ 44 ∷ 34 ∷ reads.first ∷ reads.rest)) tail
+        rows.is_tail is)
     row_of_border before (e ∷ after) whole is =
         let last = closed_row e.1.label (open_items true (cells_values after) ++ tail) in
         let row = row_before (row_of e) last in
         let rest = id ++ 34 ∷ 44 ∷ 34 ∷ reads.first ∷ reads.rest in
         let written : 44 ∷ 91 ∷ 34 ∷ rest ≡ 44 ∷ row = is ∙ rows_step true e after tail in
-        let strings : rest ≡ (escape e.0.0 ++ 34 ∷ []) ++ 44 ∷ (quoted e.0.1 ++ 44 ∷ (decimal e.1.stamp.time ++ 44 ∷ (quoted e.1.stamp.site ++ 44 ∷ (decimal e.1.stamp.count ++ 44 ∷ last)))) =
+        let stamp = decimal e.1.stamp.time ++ 44 ∷ (quoted e.1.stamp.site
+        ++ 44 ∷ (decimal e.1.stamp.count ++ 44 ∷ last)) in
+        let strings : rest ≡ (escape e.0.0 ++ 34 ∷ []) ++ 44 ∷ (quoted e.0.1 ++ 44 ∷ stamp) =
         ap (λ bs. tail_of (tail_of (tail_of bs))) written in record {
           before = before;
           entry = e;
@@ -383,7 +389,8 @@ ends_at_row text written id cells tail place rows row greater =
           (λ (e : Entry). text_cmp e.0.0 id ≡ Greater)
           (λ e above. greater_id row.entry.0 e.0 id above greater) row.after
           (all_above row.entry.0 row.after
-          (first_part (below_all key_cmp row.entry.0 row.after) (is_sorted key_cmp row.after) map)));
+          (first_part (below_all key_cmp row.entry.0 row.after) (is_sorted key_cmp row.after)
+          map)));
     }
 
 -- ---- what the order of ids tells
@@ -431,17 +438,6 @@ ends_at_greater text written id place order reads is greater = λ cells tail row
     ends_at_row text written id cells tail place rows row
     (sym (is row.entry.0.0 (row_id text written cells tail place rows row) row.id_is)
     ∙ greater_is order greater)
-
--- no row is before all rows
-pub begins_at_first : (text id : List ℕ) (start end : ℕ) → AreRowsAt text start end
-    → BeginsBefore text id start
-begins_at_first text id start end at = λ cells tail rows. record {
-  before = [];
-  after = cells;
-  cells_are = refl;
-  rest_is = at.begin cells tail rows;
-  others = All-nil (λ (e : Entry). text_cmp e.0.0 id ≡ Less);
-}
 
 -- no row is after all rows
 pub ends_at_last : (text id : List ℕ) (start end : ℕ) → AreRowsAt text start end

@@ -78,7 +78,8 @@ row_reads : (e : Entry) (es : Entries) (tail : List ℕ) → IsLang e.0.1
 row_reads e es tail lang =
     let begins = lang_begins e.0.1 lang in
     let last = closed_row e.1.label (open_items true (cells_values es) ++ tail) in
-    let left = 44 ∷ (decimal e.1.stamp.time ++ 44 ∷ (quoted e.1.stamp.site ++ 44 ∷ (decimal e.1.stamp.count ++ 44 ∷ last))) in
+    let left = 44 ∷ (decimal e.1.stamp.time ++ 44 ∷ (quoted e.1.stamp.site
+    ++ 44 ∷ (decimal e.1.stamp.count ++ 44 ∷ last))) in
     let language : escape e.0.1 ≡ begins.0 ∷ escape begins.1 =
     ap escape begins.2 ∙ ap (λ bs. bs ++ escape begins.1) (plain_byte begins.0 begins.3) in record {
       first = begins.0;

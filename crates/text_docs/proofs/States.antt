@@ -1,4 +1,4 @@
--- Where each byte of a document stands: outside of its strings, in one, after a backslash in one, or
+-- Where each byte of a document is: outside of its strings, in one, after a backslash in one, or
 -- just after one. Strings and numbers take one such state to another.
 use Rattle.std.proofs.Common.{◌≡◌, ◌∙◌, ◌+◌, ◌/◌, ◌%◌, ◌^◌, ◌<◌, ◌++◌, ◌∷◌, [], ℕ, List}
 use Rattle.std.proofs.Common.{Bool, true, false, cond, not, ◌&&◌, ◌||◌, ◌==◌, refl}
@@ -10,6 +10,7 @@ use Rattle.std.proofs.lemmas.Fmt.{decimal_by_steps}
 use Rattle.json.specs.Print.{escape, escape_byte, escape_letter, quoted}
 use Rattle.cata_core.proofs.Basics.{first_so, second_so}
 
+-- outside of strings, in one, after a backslash in one, or just after one
 pub data State : Type 0 where
   outside : State
   inside : State
@@ -102,7 +103,8 @@ digit_steps d small =
     one_byte (digit_char d) (digit_is d small 34 refl) (digit_is d small 92 refl)
 
 -- a byte that has no letter is none that ends a string or begins an escape
-pub no_letter : (b : ℕ) → nat_lt 0 (escape_letter b) ≡ false → ((b == 34) ≡ false) × ((b == 92) ≡ false)
+pub no_letter : (b : ℕ) → nat_lt 0 (escape_letter b) ≡ false
+    → ((b == 34) ≡ false) × ((b == 92) ≡ false)
 no_letter b none = (grind (arith, nat_tests), grind (arith, nat_tests))
 
 byte_piece : (b : ℕ) → step inside b ≡ inside → Piece inside inside (b ∷ [])

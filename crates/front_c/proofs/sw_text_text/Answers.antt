@@ -13,7 +13,8 @@ returns-in-Ok-clause-written c = λ site written.
     let id = c.args.id.now in
     let default = default_of c.args.default.now in
     let read = field_text c.in-Some.field in
-    let same : to_z w32 (of_z w32 c.report_text_in.result) ≡ c.report_text_in.result = search rules in
+    let same : to_z w32 (of_z w32 c.report_text_in.result) ≡ c.report_text_in.result = search rules
+    in
     rw same
     (field_as (lookup_field_of c.args.flags c.args.field.now)
     (λ f. ReportsOpen (Some site) (λ s. ReportsEither (IsLookupText s.cells id f default

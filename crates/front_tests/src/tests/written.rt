@@ -41,7 +41,14 @@ fn looked_up(alloc: Global, text: &[u8], id: &str, field: &str) -> Result<Answer
 }
 
 /// A lookup has this line, with the last line feed of the document and without.
-fn assert_line(rt: &impl Abort, alloc: Global, id: &str, field: &str, line: &str, outcome: Outcome) {
+fn assert_line(
+    rt: &impl Abort,
+    alloc: Global,
+    id: &str,
+    field: &str,
+    line: &str,
+    outcome: Outcome,
+) {
     for text in [TEXT, &TEXT[..TEXT.len() - 1]] {
         let answer = looked_up(alloc, text, id, field);
         assert!(rt; is_line(answer, line, outcome), "{id}");

@@ -1,10 +1,12 @@
 use Rattle.std.proofs.Common.{◌∙◌, ◌∷◌, ap, sym}
-use Rattle.text_docs.proofs.OrderLemmas.{byte_after, no_backslash_last, nothing_written, plain_front}
+use Rattle.text_docs.proofs.OrderLemmas.{byte_after, no_backslash_last, nothing_written}
+use Rattle.text_docs.proofs.OrderLemmas.{plain_front}
 use Rattle.text_docs.proofs.id_order.unescaped.Goals as goal
 
 -- nothing is written for an empty text
 pub returns-in_default-clause-is : goal.returns-in_default-clause-is
-returns-in_default-clause-is c = λ text all is. nothing_written text all (sym c.in_default.ensures ∙ is)
+returns-in_default-clause-is c = λ text all is.
+    nothing_written text all (sym c.in_default.ensures ∙ is)
 
 -- the first byte is written as it is
 pub returns-then-first-ne92-clause-is : goal.returns-then-first-ne92-clause-is
@@ -15,10 +17,14 @@ returns-then-first-ne92-clause-is c = λ text all is.
 -- the first byte is written after a backslash
 pub returns-in-Some-split-clause-is : goal.returns-in-Some-split-clause-is
 returns-in-Some-split-clause-is c = λ text all is.
-    byte_after text c.in-Some.rest.now c.in-Some-split.left.now c.in-Some-split.byte all
-    (sym (c.in-Some.ensures ∙ ap (λ b. b ∷ c.in-Some.rest.now) c.if-first-ne92.false) ∙ is) c.in-Some-split.ensures
+    let rest = c.in-Some.rest.now in
+    let backslash = c.in-Some.ensures ∙ ap (λ b. b ∷ rest) c.if-first-ne92.false in
+    byte_after text rest c.in-Some-split.left.now c.in-Some-split.byte all
+    (sym backslash ∙ is) c.in-Some-split.ensures
 
 -- a backslash is not written last
 pub returns-in-None-clause-is : goal.returns-in-None-clause-is
 returns-in-None-clause-is c = λ text all is.
-    no_backslash_last text c.in-Some.rest.now all (sym (c.in-Some.ensures ∙ ap (λ b. b ∷ c.in-Some.rest.now) c.if-first-ne92.false) ∙ is) c.in-None.ensures
+    let rest = c.in-Some.rest.now in
+    let backslash = c.in-Some.ensures ∙ ap (λ b. b ∷ rest) c.if-first-ne92.false in
+    no_backslash_last text rest all (sym backslash ∙ is) c.in-None.ensures
