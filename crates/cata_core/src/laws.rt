@@ -27,7 +27,9 @@ ghost use Rattle.nego_core.specs.declared.widening.Widening.{Widening};
 ghost use Rattle.nego_core.specs.declared.widening.Widening.TheVariants.{Off};
 ghost use Rattle.cata_core.specs.declared.answer.Answer.{Answer};
 ghost use Rattle.cata_core.specs.declared.reply.Reply.{Reply};
-ghost use Rattle.cata_core.specs.Live.{Labelled};
+ghost use Rattle.cata_core.specs.Live.{Labelled, languages, live};
+ghost use Rattle.cata_core.specs.Languages.{AreLanguages, LanguageMap, texts_in};
+ghost use Rattle.nego_core.specs.Shortlist.{AreAmong};
 ghost use Rattle.cata_core.specs.LiveMessages.{LiveMessage, AreMessages};
 ghost use Rattle.cata_core.specs.Asking.{Weighed, IsFilterAnswer, IsLookedUpBy};
 ghost use Rattle.cata_core.specs.Asking.{IsLookupAnswer, IsLookupAnswerBy};
@@ -408,6 +410,13 @@ pub fn a_part_of_changes()
         → AreChanges before after changes
         → AreChanges (part_of messages before) (part_of messages after)
         (part_of messages changes) }
+{}
+
+/// The live languages of each message are among the languages of the catalogue: what
+/// [`Message::lookup_within`](crate::Message::lookup_within) asks of a shortlist.
+pub fn languages_serve_each_message()
+    ensures { (cells : Entries) (langs : LanguageMap) → AreLanguages cells langs → (id : List ℕ)
+        → AreAmong (languages (live cells id)) (texts_in langs) }
 {}
 
 // ---- that premises are needed
