@@ -168,9 +168,12 @@ int32_t sw_site_bundle(sw_site *site, uint32_t flags, const uint8_t *field, size
 
 /* ---- Sites that are made and edited.
  *
- * An edit changes the site in place where its handle is the only one of it. Where the site is shared, the handle gets a
- * copy of its own first, in the time and memory of the site, and the others keep what they had: no edit is seen through
- * another handle. So a server publishes a new state by sharing the edited handle anew.
+ * An edit changes the site in place where its handle is the only one of it. Where the site is shared, the edit is made
+ * in another that is equal, and the other handles keep what they had: no edit is seen through another handle. So a
+ * server publishes a new state by sharing the edited handle anew. The first such edit makes a copy, in the time and
+ * memory of the site, and the handle keeps the state before beside its own. If no other handle has that state any more,
+ * the next such edit takes it up, in the time of what was changed since. If one has, or if more than some thousand
+ * labels were changed since, it makes a copy again.
  * `now` is the time of an edit, by custom in milliseconds since 1970. The stamp of an edit is later than all that the
  * site has, so a clock that is set back does no harm; a time far ahead does (docs/RECIPES.md).
  * A refused call leaves the site as it was, but for 26 of sw_site_take and sw_site_merge: after it each label is the one
@@ -213,7 +216,7 @@ int32_t sw_site_merge(sw_site *site, sw_site *other, sw_told *told);
 int32_t sw_site_take(sw_site *site, const uint8_t *delta, size_t delta_len, uint64_t not_after, sw_told *told);
 
 /* Puts the labels of language maps, as {"greeting":{"fr":"Bonjour"}}, all or none: as the command `import`. A label may
- * have several texts, and one that the site has already is put again. The site is copied for it.
+ * have several texts, and one that the site has already is put again. It is made as an edit of a shared site.
  *   SW_FOUND     done
  *   SW_USAGE     the handle is not open
  *   SW_REFUSED   the maps (18 to 20, 22; 1 to 4, 10 to 12 in a row of them), then a label for which no stamp is left
@@ -221,7 +224,7 @@ int32_t sw_site_take(sw_site *site, const uint8_t *delta, size_t delta_len, uint
 int32_t sw_site_import(sw_site *site, uint64_t now, const uint8_t *maps, size_t maps_len, sw_told *told);
 
 /* Makes the changes from old language maps to new ones, all or none: as the command `update`. What the new maps leave
- * out is deleted, what both have alike stays. The site is copied for it.
+ * out is deleted, what both have alike stays. It is made as an edit of a shared site.
  *   SW_FOUND, SW_USAGE, SW_REFUSED   as sw_site_import, the old maps first */
 int32_t sw_site_update(sw_site *site, uint64_t now, const uint8_t *old_maps, size_t old_len, const uint8_t *new_maps,
                        size_t new_len, sw_told *told);

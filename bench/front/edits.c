@@ -1,10 +1,11 @@
 /* Makes edits of an open site, and prints the nanoseconds of processor time of each.
  *
- * usage: edits SITE.json put|take|write TURNS
+ * usage: edits SITE.json put|take|write|put-shared|import TURNS
  *
- * The site has MESSAGES messages, named as `id_of` does, each in the languages below. A turn of `put` puts a new state
- * of a cell, one of `take` takes a delta of CELLS cells that are new states, and one of `write` writes the document.
- * The handle is the only one of the site. */
+ * The site has MESSAGES messages or more, named as `id_of` does, each in the languages below. A turn of `put` puts a
+ * new state of a cell, one of `take` takes a delta of CELLS cells that are new states, one of `write` writes the
+ * document, and one of `import` imports a label. The handle is the only one of the site, but for `put-shared`: a turn
+ * of it puts, and then shares the handle anew and frees the share of the turn before. */
 #include <inttypes.h>
 #include <silkwaram.h>
 #include <stdio.h>
@@ -77,6 +78,35 @@ static double puts_each(unsigned turns) {
   return now() - start;
 }
 
+/* (the first puts copy the site, and look for its latest stamp) */
+static double puts_shared(unsigned turns) {
+  enum { FIRST = 3 };
+  sw_site reader = {0};
+  double start = 0;
+  for (unsigned turn = 0; turn < FIRST + turns; turn++) {
+    if (turn == FIRST) start = now();
+    put(turn);
+    done(sw_site_share(&site, &reader));
+  }
+  double took = now() - start;
+  sw_site_free(&reader);
+  return took;
+}
+
+static double imports_each(unsigned turns) {
+  enum { FIRST = 3 };
+  double start = 0;
+  for (unsigned turn = 0; turn < FIRST + turns; turn++) {
+    if (turn == FIRST) start = now();
+    char id[ID_ROOM], maps[ROOM];
+    sw_told told;
+    id_of(id, turn * 6151u);
+    size_t len = (size_t)snprintf(maps, sizeof maps, "{\"%s\":{\"%s\":\"a new text\"}}", id, LANGS[turn % LANGUAGES]);
+    done(sw_site_import(&site, 2 + turn, (const uint8_t *)maps, len, &told));
+  }
+  return now() - start;
+}
+
 static double write_each(unsigned turns, size_t room) {
   uint8_t *out = malloc(room);
   if (!out) exit(2);
@@ -111,6 +141,10 @@ int main(int count, char **words) {
     took = take(turns);
   else if (!strcmp(words[2], "write"))
     took = write_each(turns, len);
+  else if (!strcmp(words[2], "put-shared"))
+    took = puts_shared(turns);
+  else if (!strcmp(words[2], "import"))
+    took = imports_each(turns);
   else
     return 2;
   printf("%.0f\n", took / turns);

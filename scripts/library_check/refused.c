@@ -173,8 +173,10 @@ static const struct {
     {"sw_site_bundle", bundles, ASKS},
 };
 
-/* Whether the sites are shared, so that an edit makes a copy. */
-enum { ALONE, SHARED, WAYS };
+/* Whether the site is shared, so that an edit is made apart: in a copy, or in the state before. */
+enum { ALONE, SHARED, SPARED, WAYS };
+
+static const char *const WAY_NAMES[WAYS] = {"", ", shared", ", with the state before"};
 
 static document written(sw_site *site) {
   document it;
@@ -234,7 +236,9 @@ static void begin(trial *it, int way) {
   if (sw_site_open(BYTES(T(PARIS)), &it->site, &told) || sw_site_open(BYTES(T(OSLO)), &it->other, &told) ||
       sw_site_open(BYTES(T(OSLO)), &it->given, &told))
     exit(3);
-  if (way == SHARED && sw_site_share(&it->site, &it->share)) exit(3);
+  if (way != ALONE && sw_site_share(&it->site, &it->share)) exit(3);
+  /* (a merge with itself changes nothing, and leaves the state before, which its share then lets go) */
+  if (way == SPARED && (sw_site_merge(&it->site, &it->share, &told) || sw_site_share(&it->site, &it->share))) exit(3);
   memset(it->out, UNTOUCHED, ROOM);
 }
 
@@ -295,8 +299,8 @@ static unsigned refuse_each(unsigned of, int way) {
       if (it.status != SW_FOUND || (status == SW_NO_MEMORY && !equal(&now, &wanted))) is_well = 0;
       if (!is_well) {
         wrong++;
-        fprintf(stderr, "refused: %s%s: allocation %lu%s: status %d\n", CALLS[of].name,
-                way == SHARED ? ", shared" : "", n, all ? " and on" : "", status);
+        fprintf(stderr, "refused: %s%s: allocation %lu%s: status %d\n", CALLS[of].name, WAY_NAMES[way], n,
+                all ? " and on" : "", status);
       }
       end(&it);
     }

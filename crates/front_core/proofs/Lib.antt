@@ -1,6 +1,8 @@
+pub mod ArrivalsLemmas
 pub mod OpenSiteLemmas
 pub mod PickLaws
 pub mod RefusalLemmas
+pub mod SpareLemmas
 pub mod TagFilterLemmas
 pub mod TagPickLemmas
 pub mod TagsLemmas

@@ -14,9 +14,9 @@ use Rattle.map_docs.specs.LangMapLabels.{AreLangMaps}
 use Rattle.map_docs.specs.LangMaps.{Labelled}
 use Rattle.docs_core.specs.Updated.{SpendsUpdate}
 use Rattle.front_core.specs.Ask.{RefusesDocument}
-use Rattle.front_core.specs.Change.{IsPut, RefusesChange}
+use Rattle.front_core.specs.Change.{IsDelete, IsPut, RefusesChange}
 use Rattle.front_core.specs.OpenSite.{OrNoMemory, RefusesPutInto, IsMerged, IsPartlyJoined, IsTaken}
-use Rattle.front_core.specs.OpenSite.{LeavesMerge, LeavesTake, RefusesUpdates}
+use Rattle.front_core.specs.OpenSite.{LeavesMerge, LeavesTake, RefusesDelete, RefusesUpdates}
 use Rattle.front_core.specs.Preferences.{Text}
 use Rattle.front_core.specs.Fault.{site_fault}
 use Rattle.front_core.specs.declared.change.Change.{Change}
@@ -38,6 +38,14 @@ pub put_refused : (now : ℕ) (id lang text : Text) (site : SiteState) (change :
 put_refused now id lang text site change fault asked (inl refused) =
     inl (inr ((asked.0.0, change.lang, asked.0.2), asked.1, refused))
 put_refused now id lang text site change fault asked (inr none) = inr none
+
+-- A deletion whose change is refused is refused.
+pub delete_refused : (now : ℕ) (id lang : Text) (site : SiteState) (change : Change)
+    (fault : FrontFault) → IsDelete id lang change → OrNoMemory (RefusesChange site now) fault
+    → OrNoMemory (RefusesDelete now id lang site) fault
+delete_refused now id lang site change fault asked (inl refused) =
+    inl (inr ((asked.0.0, change.lang, asked.0.2), refused))
+delete_refused now id lang site change fault asked (inr none) = inr none
 
 -- a site that is partly joined agrees with the cells, and has the same join with them
 rejoined : (cells : Entries) (old new made : SiteState) → IsPartlyJoined cells old new
@@ -69,24 +77,31 @@ taken_again bytes limit old new made (inr left) is =
     let again = rejoined is.0.cells old new made part is.2.2 in
     (is.0, is.1, (part.name ∙ is.2.0, again.0, again.1))
 
--- An update that is refused of a copy is refused of the site.
-pub not_updated : (now : ℕ) (old new : Text) (site copied : SiteState)
-    (before after : List Labelled) (refused : CataFault) (fault : FrontFault) → copied ≡ site
-    → AreLangMaps old before → AreLangMaps new after
+-- the clock is spent by the changes from the old labels to the new ones
+abbrev pub SpendsUpdateOf : ℕ → SiteState → List Labelled → List Labelled → FrontFault → Type 0
+SpendsUpdateOf now site before after fault =
+    (fault ≡ site_fault cata.ClockSpent) × SpendsUpdate now site.name before after site.cells
+
+-- Changes that are refused in an equal site are refused in the site.
+pub changes_refused : (now : ℕ) (site equal : SiteState) (before after : List Labelled)
+    (refused : CataFault) (fault : FrontFault) → equal ≡ site
     → OrMemory cata.NoMemory
-    (λ f. (f ≡ cata.ClockSpent) × SpendsUpdate now copied.name before after copied.cells)
+    (λ f. (f ≡ cata.ClockSpent) × SpendsUpdate now equal.name before after equal.cells)
     refused
-    → fault ≡ site_fault refused → RefusesUpdates now old new site fault
-not_updated now old new site copied before after refused fault same olds news (inl none) is =
-    inr (inr (before, after, olds, news, inl (is ∙ ap site_fault none)))
-not_updated now old new site copied before after refused fault same olds news (inr spent) is =
-    inr (inr (
-      before,
-      after,
-      olds,
-      news,
-      inr (
-        subst (λ (s : SiteState). SpendsUpdate now s.name before after s.cells) same spent.1,
-        is ∙ ap site_fault spent.0,
-      ),
-    ))
+    → fault ≡ site_fault refused → OrNoMemory (SpendsUpdateOf now site before after) fault
+changes_refused now site equal before after refused fault same (inl none) is =
+    inr (is ∙ ap site_fault none)
+changes_refused now site equal before after refused fault same (inr spent) is =
+    inl (
+      is ∙ ap site_fault spent.0,
+      subst (λ (s : SiteState). SpendsUpdate now s.name before after s.cells) same spent.1,
+    )
+
+-- An update whose changes are refused is refused.
+pub update_refused : (now : ℕ) (old new : Text) (site : SiteState) (before after : List Labelled)
+    (fault : FrontFault) → AreLangMaps old before → AreLangMaps new after
+    → OrNoMemory (SpendsUpdateOf now site before after) fault
+    → OrNoMemory (RefusesUpdates now old new site) fault
+update_refused now old new site before after fault olds news (inl spent) =
+    inl (inr (inr (before, after, olds, news, inr (spent.1, spent.0))))
+update_refused now old new site before after fault olds news (inr none) = inr none

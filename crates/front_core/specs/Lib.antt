@@ -1,3 +1,4 @@
+pub mod Arrivals
 pub mod Ask
 pub mod Change
 pub mod Exchange
@@ -5,6 +6,7 @@ pub mod Fault
 pub mod OpenSite
 pub mod Preferences
 pub mod Refusal
+pub mod Spare
 pub mod TagFilter
 pub mod TagPick
 pub mod Tags

@@ -82,9 +82,13 @@ IsMerged other old new = Agree old.cells other.cells
 abbrev pub RefusesMerge : SiteState → SiteState → FrontFault → Type 0
 RefusesMerge other site = IsOf site_fault (IsRefusal site.cells other.cells)
 
--- a refused merge leaves the site as it was, or partly joined
+-- a join that is refused leaves the site as it was, or partly joined
+abbrev pub LeavesJoin : Entries → Edits
+LeavesJoin cells old new = (new ≡ old) ⊎ IsPartlyJoined cells old new
+
+-- a refused merge leaves what a join leaves
 abbrev pub LeavesMerge : SiteState → Edits
-LeavesMerge other old new = (new ≡ old) ⊎ IsPartlyJoined other.cells old new
+LeavesMerge other = LeavesJoin other.cells
 
 -- the delta is for the site, and the cells are those of both, which agree
 abbrev pub IsTakenDelta : Delta → Edits

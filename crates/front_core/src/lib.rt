@@ -33,14 +33,17 @@
 #![tactic(auto)]
 
 mod answer;
+mod arrivals;
 mod ask;
 mod change;
+mod editing;
 mod exchange;
 mod fault;
 pub mod laws;
 mod open_site;
 mod preferences;
 mod refusal;
+mod spare;
 mod tag_filter;
 mod tag_pick;
 mod tags;

@@ -1,33 +1,43 @@
 //! Sites in memory that are edited and shared.
-ghost use Rattle.std.specs.Prelude.{◌≡◌, ◌≢◌, IfErr, MatchResult, OnErr, OnOk};
-ghost use Rattle.front_core.specs.Change.{IsChanged, RefusesChange};
-ghost use Rattle.front_core.specs.OpenSite.{IsTakenDelta, LeavesTakeDelta, OrNoMemory};
-ghost use Rattle.front_core.specs.OpenSite.{RefusesTakeDelta, IsName, RefusesNewSite};
-ghost use Rattle.front_core.specs.declared.fault.FrontFault.TheVariants.{NoMemory};
+ghost use Rattle.std.specs.Prelude.{MatchResult};
+ghost use Rattle.front_core.specs.OpenSite.{IsName, RefusesNewSite};
 
 use crate::change::Change;
+use crate::editing::{import_in, join_in, make_in, take_in, update_in};
 use crate::fault::FrontFault;
-use cata_core::{Delta, Site};
+use crate::spare::Spare;
+use cata_core::Site;
 use cell_core::{CellFault, SiteName};
-use docs_core::{put_labels, read_delta_until, read_langmaps, read_site, update_labels};
+use docs_core::{read_delta_until, read_langmaps, read_site};
 use map_docs::langmaps_of_document;
 use std::alloc::{AllocError, Global};
 use std::marker::Model;
 use std::sync::Arc;
 
 /// A site in memory, which shares may have in common: an edit is made in place where this is the
-/// only share of it, and else in a copy, so that the other shares keep what they had.
+/// only share of it, and else in another site, so that the other shares keep what they had.
+///
+/// That other site is a copy, by the first such edit, and at each [`OpenSite::import`] or
+/// [`OpenSite::update`] that finds no spare. What the site was before becomes a spare then, beside
+/// the cells that come in after it: the next such edit joins these and is made there, in the time
+/// of what was changed, where all other shares of the state before are gone, and few cells came in
+/// since. A spare takes the memory of one more site. A site that is never shared and never imported
+/// into has none.
 #[derive(Drop)]
 pub struct OpenSite {
     share: Arc<Site>,
+    spare: Option<Spare>,
 }
 
 impl Model for OpenSite {
     ghost use Rattle.cata_core.specs.Site.{SiteState};
+    ghost use Rattle.front_core.specs.Spare.{IsSpareOf};
 
     ghost Value = { SiteState };
 
     ghost view = { λ s. s.share.value };
+
+    ghost invariant = { λ s. IsSpareOf s.share.value s.spare };
 }
 
 impl OpenSite {
@@ -64,6 +74,7 @@ impl OpenSite {
     {
         Ok(OpenSite {
             share: self.share.clone()?,
+            spare: None,
         })
     }
 
@@ -93,7 +104,7 @@ impl OpenSite {
         ensures left { OnErr result (self.new ≡ self.old) }
     {
         let change = Change::put(alloc, id, lang, text)?;
-        make_in(alloc, &mut self.share, now, &change)
+        make_in(alloc, &mut self.share, &mut self.spare, now, &change)
     }
 
     /// Deletes a label at the time `now`: [`Change::delete`], [`Change::make`].
@@ -111,7 +122,7 @@ impl OpenSite {
         ensures left { OnErr result (self.new ≡ self.old) }
     {
         let change = Change::delete(alloc, id, lang)?;
-        make_in(alloc, &mut self.share, now, &change)
+        make_in(alloc, &mut self.share, &mut self.spare, now, &change)
     }
 
     /// Joins the cells of another site: [`Site::merge`].
@@ -126,14 +137,8 @@ impl OpenSite {
         ensures left { OnErr result (LeavesMerge other.now self.old self.new) }
         ensures kept { IfErr result (λ fault. fault ≢ NoMemory → self.new ≡ self.old) }
     {
-        if let Some(site) = Arc::get_mut(&mut self.share) {
-            site.merge(alloc, other.catalogue())?;
-            return Ok(());
-        }
-        let mut site = self.share.copy(alloc)?;
-        site.merge(alloc, other.catalogue())?;
-        self.share = Arc::new(alloc, site)?;
-        Ok(())
+        let cells = other.catalogue();
+        join_in(alloc, &mut self.share, &mut self.spare, cells)
     }
 
     /// Joins the cells of a delta for this site, as its document has them: [`Site::take`]. Where
@@ -155,7 +160,7 @@ impl OpenSite {
         ensures kept { IfErr result (λ fault. fault ≢ NoMemory → self.new ≡ self.old) }
     {
         let delta = read_delta_until(alloc, delta, not_after)?;
-        take_in(alloc, &mut self.share, &delta)
+        take_in(alloc, &mut self.share, &mut self.spare, &delta)
     }
 
     /// Puts each label of the language maps at the time `now`, in ascending order of id and
@@ -169,10 +174,7 @@ impl OpenSite {
         ensures left { OnErr result (self.new ≡ self.old) }
     {
         let maps = read_langmaps(alloc, maps)?;
-        let mut edited = self.share.copy(alloc)?;
-        put_labels(alloc, &mut edited, now, &maps)?;
-        self.share = Arc::new(alloc, edited)?;
-        Ok(())
+        import_in(alloc, &mut self.share, &mut self.spare, now, &maps)
     }
 
     /// Makes the changes from the old language maps to the new ones at the time `now`, as the
@@ -194,10 +196,14 @@ impl OpenSite {
     {
         let before = langmaps_of_document(alloc, 1, old)?;
         let after = langmaps_of_document(alloc, 2, new)?;
-        let mut edited = self.share.copy(alloc)?;
-        update_labels(alloc, &mut edited, now, &before, &after)?;
-        self.share = Arc::new(alloc, edited)?;
-        Ok(())
+        update_in(
+            alloc,
+            &mut self.share,
+            &mut self.spare,
+            now,
+            &before,
+            &after,
+        )
     }
 
     /// The only share of a site. Its one refusal is out of memory (26).
@@ -206,6 +212,7 @@ impl OpenSite {
     {
         Ok(OpenSite {
             share: Arc::new(alloc, site)?,
+            spare: None,
         })
     }
 }
@@ -218,50 +225,4 @@ fn read_name(name: &[u8]) -> Result<SiteName, FrontFault>
         Ok(text) => Ok(SiteName::new(text)?),
         Err(_) => Err(FrontFault::Cell(CellFault::SiteName)),
     }
-}
-
-/// Makes a change in place where this is the only share, and else in a copy.
-fn make_in(
-    alloc: Global,
-    share: &mut Arc<Site>,
-    now: u64,
-    change: &Change,
-) -> Result<(), FrontFault>
-    ensures ok { OnOk result (IsChanged now change.now share.old.value share.new.value) }
-    ensures err { IfErr result (OrNoMemory (RefusesChange share.old.value now)) }
-    ensures left { OnErr result (share.new.value ≡ share.old.value) }
-{
-    if let Some(site) = Arc::get_mut(share) {
-        return change.make(alloc, site, now);
-    }
-    let site = changed(alloc, share, now, change)?;
-    *share = Arc::new(alloc, site)?;
-    Ok(())
-}
-
-/// A copy of the site with the change made.
-fn changed(alloc: Global, site: &Site, now: u64, change: &Change) -> Result<Site, FrontFault>
-    ensures { MatchResult result (IsChanged now change.now site.now)
-        (OrNoMemory (RefusesChange site.now now)) }
-{
-    let mut site = site.copy(alloc)?;
-    change.make(alloc, &mut site, now)?;
-    Ok(site)
-}
-
-/// Joins the cells of a delta in place where this is the only share, and else in a copy.
-fn take_in(alloc: Global, share: &mut Arc<Site>, delta: &Delta) -> Result<(), FrontFault>
-    ensures ok { OnOk result (IsTakenDelta delta.now share.old.value share.new.value) }
-    ensures err { IfErr result (OrNoMemory (RefusesTakeDelta delta.now share.old.value)) }
-    ensures left { OnErr result (LeavesTakeDelta delta.now share.old.value share.new.value) }
-    ensures kept { IfErr result (λ fault. fault ≢ NoMemory → share.new.value ≡ share.old.value) }
-{
-    if let Some(site) = Arc::get_mut(share) {
-        site.take(alloc, delta)?;
-        return Ok(());
-    }
-    let mut site = share.copy(alloc)?;
-    site.take(alloc, delta)?;
-    *share = Arc::new(alloc, site)?;
-    Ok(())
 }

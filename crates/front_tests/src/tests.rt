@@ -3,6 +3,7 @@ mod bundling;
 mod explained;
 mod questions;
 mod refusals;
+mod shares;
 mod site;
 mod tag_filter;
 mod tag_pick;

@@ -1,0 +1,264 @@
+-- What an edit brought, gathered by its keys.
+use Rattle.std.proofs.Common.{◌≡◌, ◌≢◌, ◌∙◌, ◌+◌, ◌<◌, ℕ, true, false, cond, List, [], ◌∷◌, Option}
+use Rattle.std.proofs.Common.{Some, None, inl, inr, refl, sym, ap, subst, drop, get_or, length}
+use Rattle.std.specs.Prelude.{◌⊎◌}
+use Rattle.std.specs.Ordering.{eq_by_cmp, is_eq}
+use Rattle.std.specs.Cmp.{tied_itself}
+use Rattle.std.specs.FinMap.Entries.{find, find-put, is_sorted-put}
+use Rattle.cell_core.specs.declared.cell.Cell.{Cell}
+use Rattle.cell_core.specs.Cell.{AgreeCells, cell_laws, joined_cells}
+use Rattle.cell_core.specs.Keyed.{AgreeIfBoth, IsMap, also_map, at_of, find-joined_maps}
+use Rattle.cell_core.specs.Keyed.{joined_if_both, joined_maps-IsMap, same_maps}
+use Rattle.cata_core.specs.Delta.{IsPart}
+use Rattle.cata_core.specs.Entries.{Agree, Entries, Entry, EntryKey, IsBelowCells, joined}
+use Rattle.cata_core.specs.Entries.{catalogue_laws, key_cmp, key_cmp_exact, key_cmp_total}
+use Rattle.cata_core.specs.Site.{SiteState}
+use Rattle.cata_core.proofs.ApplyLemmas.{with_none}
+use Rattle.cata_core.proofs.OwnEditsLemmas.{own_rises}
+use Rattle.map_docs.specs.LangMaps.{Labelled, labels_of}
+use Rattle.map_docs.specs.declared.maps.KeyedLabel.{KeyedLabel}
+use Rattle.map_docs.proofs.LangMapMembersLemmas.{first_left}
+use Rattle.docs_core.specs.Imported.{Imports, puts_of}
+use Rattle.docs_core.specs.Made.{Change as MadeChange, Makes, with_change}
+use Rattle.docs_core.specs.Updated.{Updates}
+use Rattle.docs_core.proofs.ImportLaws.{import_leaves}
+use Rattle.docs_core.proofs.UpdateLaws.{keeps_cell}
+use Rattle.docs_core.proofs.UpdatedLemmas.{one_key}
+use Rattle.front_core.specs.Arrivals.{HasMore}
+use Rattle.front_core.specs.Change.{IsChanged}
+use Rattle.front_core.specs.Spare.{IsBroughtBy}
+use Rattle.front_core.specs.declared.change.Change.{Change}
+use Rattle.front_core.proofs.SpareLemmas.{above_trans}
+
+-- ---- of one key
+
+some_or_none : {X : Type 0} (o : Option X) (x : X) → o ≡ Some x → o ≡ None → ⊥
+some_or_none o x some none = let no : Some x ≡ None = sym some ∙ none in cc
+
+alone : (a : Option Cell) → joined_if_both joined_cells a None ≡ a
+alone None = refl
+alone (Some c) = refl
+
+-- a cell that joins itself, or none
+again : (a : Option Cell) (c : Cell) → ((d : Cell) → a ≡ Some d → Some c ≡ Some d)
+    → joined_if_both joined_cells a (Some c) ≡ Some c
+again None c same = refl
+again (Some d) c same =
+    ap (λ o. joined_if_both joined_cells o (Some c)) (sym (same d refl))
+    ∙ ap Some (cell_laws.idem c)
+
+-- the second of two agrees with what is part of it
+part_agrees : (a b c : Option Cell) → AgreeIfBoth AgreeCells a b
+    → ((d : Cell) → c ≡ Some d → b ≡ Some d) → AgreeIfBoth AgreeCells a c
+part_agrees a b None h of = with_none a
+part_agrees a b (Some d) h of = subst (AgreeIfBoth AgreeCells a) (of d refl) h
+
+-- the later of two, of what is part of it where it is another
+piece : (a b c : Option Cell) → joined_if_both joined_cells a b ≡ b
+    → ((d : Cell) → c ≡ Some d → b ≡ Some d) → (c ≡ b) ⊎ (b ≡ a)
+    → b ≡ joined_if_both joined_cells a c
+piece a b c above of (inl same) = sym above ∙ ap (joined_if_both joined_cells a) (sym same)
+piece a b None above of (inr kept) = kept ∙ sym (alone a)
+piece a b (Some d) above of (inr kept) = sym above ∙ ap (joined_if_both joined_cells a) (of d refl)
+
+-- ---- gathered cells
+
+module _ (cells came : Entries) (key : EntryKey) (cell : Cell) (part : IsPart came cells)
+    (held : find key_cmp key cells ≡ Some cell) where
+  abbrev added : Entries
+  added = joined came ((key, cell) ∷ [])
+
+  find-added : (q : EntryKey) → find key_cmp q added
+      ≡ cond (eq_by_cmp key_cmp q key) (find key_cmp q cells) (find key_cmp q came)
+  find-added q =
+      find-joined_maps key_cmp key_cmp_total joined_cells came ((key, cell) ∷ []) part.map tt q
+      ∙ elim (eq_by_cmp key_cmp q key) as (λ t. eq_by_cmp key_cmp q key ≡ t
+      → joined_if_both joined_cells (find key_cmp q came) (cond t (Some cell) None)
+      ≡ cond t (find key_cmp q cells) (find key_cmp q came)) [
+        | true ↦ λ t.
+            let here : find key_cmp q cells ≡ Some cell =
+            ap (λ k. find key_cmp k cells) (one_key q key t) ∙ held in
+            again (find key_cmp q came) cell (λ d has. sym here ∙ part.of q d has) ∙ sym here
+        | false ↦ λ t. alone (find key_cmp q came)
+      ] refl
+
+  -- A cell is added, and the cells are part of the others still.
+  pub part-added : IsPart added cells
+  part-added = record {
+    map = joined_maps-IsMap key_cmp key_cmp_total joined_cells came ((key, cell) ∷ []) part.map tt;
+    of = λ q c has. at q c (sym (find-added q) ∙ has);
+  }
+    where
+      at : (q : EntryKey) (c : Cell)
+          → cond (eq_by_cmp key_cmp q key) (find key_cmp q cells) (find key_cmp q came) ≡ Some c
+          → find key_cmp q cells ≡ Some c
+      at q c = elim (eq_by_cmp key_cmp q key) as
+          (λ t. cond t (find key_cmp q cells) (find key_cmp q came) ≡ Some c
+          → find key_cmp q cells ≡ Some c) [
+            | true ↦ λ has. has
+            | false ↦ λ has. part.of q c has
+          ]
+
+  -- It is there then, beside all that was there.
+  pub more-added : HasMore (λ q. q ≡ key) cells came added
+  more-added = λ q why. find-added q ∙ elim why [
+    | inl has ↦ elim (eq_by_cmp key_cmp q key) as
+        (λ t. cond t (find key_cmp q cells) (find key_cmp q came) ≡ find key_cmp q cells) [
+          | true ↦ refl
+          | false ↦ has
+        ]
+    | inr is ↦
+        let same : eq_by_cmp key_cmp q key ≡ true =
+        ap (λ k. eq_by_cmp key_cmp k key) is ∙ ap is_eq (tied_itself key_cmp_total key) in
+        ap (λ t. cond t (find key_cmp q cells) (find key_cmp q came)) same
+  ]
+
+-- An edit that is applied adds the cell that is at its key.
+pub edit_added : (cells came more : Entries) (key : EntryKey) (cell : Cell) (edit : Entry)
+    → IsPart came cells → find key_cmp key cells ≡ Some cell → edit ≡ (key, cell)
+    → more ≡ joined came (edit ∷ [])
+    → IsPart more cells × HasMore (λ q. q ≡ key) cells came more
+edit_added cells came more key cell edit part held same is =
+    subst (λ (es : Entries). IsPart es cells × HasMore (λ q. q ≡ key) cells came es)
+    (sym (is ∙ ap (λ (e : Entry). joined came (e ∷ [])) same))
+    (part-added cells came key cell part held, more-added cells came key cell part held)
+
+-- ---- the cells of labels
+
+-- where one of the labels from a place on has the key, what is found there is added, or a later
+-- label has it
+abbrev pub IsToAdd : Entries → List KeyedLabel → ℕ → Entries → EntryKey → Type 0
+IsToAdd cells items i came q =
+    (find key_cmp q came ≡ find key_cmp q cells)
+    ⊎ (find key_cmp q (labels_of (drop i items)) ≢ None)
+
+-- One label more is looked at.
+pub label_added : (cells came more : Entries) (items : List KeyedLabel) (i : ℕ)
+    (item : KeyedLabel) → i < length items → item ≡ get_or items i item
+    → HasMore (λ q. q ≡ (item.id, item.lang)) cells came more → (q : EntryKey)
+    → IsToAdd cells items i came q → IsToAdd cells items (i + 1) more q
+label_added cells came more items i item below at has q why = elim why [
+  | inl here ↦ inl (has q (inl here))
+  | inr some ↦
+      elim (eq_by_cmp key_cmp q (item.id, item.lang)) as
+      (λ t. eq_by_cmp key_cmp q (item.id, item.lang) ≡ t
+      → cond t (Some item.label) (find key_cmp q (labels_of (drop (i + 1) items))) ≢ None
+      → (find key_cmp q more ≡ find key_cmp q cells)
+      ⊎ (find key_cmp q (labels_of (drop (i + 1) items)) ≢ None)) [
+        | true ↦ λ t _. inl (has q (inr (one_key q (item.id, item.lang) t)))
+        | false ↦ λ t later. inr later
+      ] refl
+      (subst (λ (ls : List KeyedLabel). find key_cmp q (labels_of ls) ≢ None)
+      (first_left items i item below at) some)
+]
+
+-- ---- what an edit brought
+
+-- a catalogue above another is the other, joined with all cells that are not the same
+pub gathered : (old new came : Entries) → IsMap key_cmp old → IsBelowCells old new
+    → IsPart came new
+    → ((q : EntryKey) → (find key_cmp q came ≡ find key_cmp q new)
+    ⊎ (find key_cmp q new ≡ find key_cmp q old))
+    → Agree old came × (new ≡ joined old came)
+gathered old new came m below part at =
+    let n : IsMap key_cmp new =
+    also_map key_cmp key_cmp_total key_cmp_exact cell_laws old new below.0 m in
+    let in_new = find-joined_maps key_cmp key_cmp_total joined_cells old new m n in
+    let above : (q : EntryKey)
+    → joined_if_both joined_cells (find key_cmp q old) (find key_cmp q new)
+    ≡ find key_cmp q new =
+    λ q. sym (in_new q) ∙ ap (find key_cmp q) below.1 in (
+      inr (record {
+        first = m;
+        second = part.map;
+        at = λ q. part_agrees (find key_cmp q old) (find key_cmp q new) (find key_cmp q came)
+            (at_of key_cmp key_cmp_total key_cmp_exact cell_laws old new below.0 q) (part.of q);
+      }),
+      same_maps key_cmp key_cmp_total key_cmp_exact new (joined old came) n
+          (joined_maps-IsMap key_cmp key_cmp_total joined_cells old came m part.map)
+          (λ q. piece (find key_cmp q old) (find key_cmp q new) (find key_cmp q came) (above q)
+          (part.of q) (at q)
+          ∙ sym (find-joined_maps key_cmp key_cmp_total joined_cells old came m part.map q)),
+    )
+
+-- changes that are made one after another rise
+makes_rise : (now : ℕ) (name : List ℕ) (changes : List MadeChange) (old new : Entries)
+    → IsMap key_cmp old → Makes now name changes old new → IsBelowCells old new
+makes_rise now name [] old new m is =
+    subst (IsBelowCells old) (sym is) (catalogue_laws.agree_refl old, catalogue_laws.idem old)
+makes_rise now name (e ∷ es) old new m (stamp, next, rest) =
+    let cell : Cell = record { stamp = stamp; label = e.1 } in
+    let mid = with_change e stamp old in
+    let is_mid : IsMap key_cmp mid = is_sorted-put key_cmp key_cmp_total e.0 cell old m in
+    above_trans old mid new is_mid (own_rises old e.0 cell m next.new.above)
+    (makes_rise now name es mid new is_mid rest)
+
+-- The cell at the key of a change brought the site to what the change made of it.
+pub change_brought : (now : ℕ) (change : Change) (old new : SiteState) (came : Entries)
+    → IsMap key_cmp old.cells → IsChanged now change old new → IsPart came new.cells
+    → HasMore (λ q. q ≡ (change.id, change.lang)) new.cells [] came
+    → IsBroughtBy came old new
+change_brought now change old new came m (stamp, next, is) part more =
+    let key : EntryKey = (change.id, change.lang) in
+    let cell : Cell = record { stamp = stamp; label = change.label } in
+    let cells = ap (λ (s : SiteState). s.cells) is in
+    let rises = subst (IsBelowCells old.cells) (sym cells)
+    (own_rises old.cells key cell m next.new.above) in
+    let found = gathered old.cells new.cells came m rises part
+    (λ q. elim (eq_by_cmp key_cmp q key) as (λ t. eq_by_cmp key_cmp q key ≡ t
+    → (find key_cmp q came ≡ find key_cmp q new.cells)
+    ⊎ (find key_cmp q new.cells ≡ find key_cmp q old.cells)) [
+      | true ↦ λ t. inl (more q (inr (one_key q key t)))
+      | false ↦ λ t. inr (ap (find key_cmp q) cells
+          ∙ find-put key_cmp key_cmp_total q key cell old.cells
+          ∙ ap (λ u. cond u (Some cell) (find key_cmp q old.cells)) t)
+    ] refl) in
+    (found.0, λ i. record { name = (is i).name; cells = found.1 i })
+
+-- The cells at the keys of the labels brought the site to what their import made of it.
+pub import_brought : (now : ℕ) (labels : List Labelled) (old new : SiteState) (came : Entries)
+    → IsMap key_cmp labels → IsMap key_cmp old.cells → new.name ≡ old.name
+    → Imports now old.name labels old.cells new.cells → IsPart came new.cells
+    → HasMore (λ q. find key_cmp q labels ≢ None) new.cells [] came
+    → IsBroughtBy came old new
+import_brought now labels old new came is_map m name imports part more =
+    let rises = makes_rise now old.name (puts_of labels) old.cells new.cells m imports in
+    let found = gathered old.cells new.cells came m rises part
+    (λ q. elim (find key_cmp q labels) as (λ o. find key_cmp q labels ≡ o
+    → (find key_cmp q came ≡ find key_cmp q new.cells)
+    ⊎ (find key_cmp q new.cells ≡ find key_cmp q old.cells)) [
+      | None ↦ λ none.
+          inr (import_leaves now old.name labels old.cells new.cells is_map imports q none)
+      | Some label ↦ λ has.
+          inl (more q (inr (some_or_none (find key_cmp q labels) label has)))
+    ] refl) in
+    (found.0, λ i. record { name = name i; cells = found.1 i })
+
+-- The cells at the keys of the old labels and of the new ones brought the site to what the update
+-- made of it.
+pub update_brought : (now : ℕ) (before after : List Labelled) (old new : SiteState)
+    (some came : Entries) → IsMap key_cmp old.cells → new.name ≡ old.name
+    → Updates now old.name before after old.cells new.cells → IsPart came new.cells
+    → HasMore (λ q. find key_cmp q before ≢ None) new.cells [] some
+    → HasMore (λ q. find key_cmp q after ≢ None) new.cells some came
+    → IsBroughtBy came old new
+update_brought now before after old new some came m name updates part first more =
+    let rises = makes_rise now old.name updates.0 old.cells new.cells m updates.2 in
+    let found = gathered old.cells new.cells came m rises part
+    (λ q. elim (find key_cmp q before) as (λ o. find key_cmp q before ≡ o
+    → (find key_cmp q came ≡ find key_cmp q new.cells)
+    ⊎ (find key_cmp q new.cells ≡ find key_cmp q old.cells)) [
+      | Some label ↦ λ has.
+          inl (more q
+          (inl (first q (inr (some_or_none (find key_cmp q before) label has)))))
+      | None ↦ λ none. elim (find key_cmp q after) as (λ o. find key_cmp q after ≡ o
+          → (find key_cmp q came ≡ find key_cmp q new.cells)
+          ⊎ (find key_cmp q new.cells ≡ find key_cmp q old.cells)) [
+            | Some label ↦ λ has.
+                inl (more q (inr (some_or_none (find key_cmp q after) label has)))
+            | None ↦ λ nothing.
+                inr (keeps_cell now old.name before after old.cells new.cells q updates
+                (none ∙ sym nothing))
+          ] refl
+    ] refl) in
+    (found.0, λ i. record { name = name i; cells = found.1 i })

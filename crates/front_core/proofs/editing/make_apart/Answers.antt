@@ -1,0 +1,20 @@
+use Rattle.std.proofs.Common.{◌≡◌, rules, subst, sym}
+use Rattle.std.specs.Prelude.{IfSome}
+use Rattle.cell_core.specs.Keyed.{IsMap}
+use Rattle.cata_core.specs.Entries.{key_cmp}
+use Rattle.cata_core.specs.Site.{SiteState}
+use Rattle.front_core.specs.Spare.{IsBroughtBy}
+use Rattle.front_core.proofs.editing.make_apart.Goals as goal
+
+-- the cell that came in brings what the site was to the edited one
+pub exchange-requires : goal.exchange-requires
+exchange-requires c =
+    let was = c.in_ok-edited.edited in
+    let same : was ≡ c.args.share.now.value = search rules in
+    let m =
+    subst (λ (s : SiteState). IsMap key_cmp s.cells) (sym c.in_ok-edited.ensures.equal)
+    c.in_ok-edited.ensures.map in
+    subst
+    (λ (s : SiteState). IfSome c.of_change-came.result
+    (λ cells. IsBroughtBy cells s c.make.new.site)) same
+    (c.of_change-came.ensures was c.args.now m c.in-Ok.ensures.ok)

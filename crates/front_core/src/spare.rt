@@ -1,0 +1,113 @@
+//! A site as it was before its last edits, by which an edit of a shared site costs what it changes.
+ghost use Rattle.std.specs.Prelude.{◌≡◌, IfErr, IfOk, IfSome, OnErr};
+ghost use Rattle.cell_core.specs.Keyed.{IsMap};
+ghost use Rattle.cata_core.specs.Entries.{key_cmp};
+ghost use Rattle.cata_core.specs.Site.{SiteState};
+ghost use Rattle.front_core.specs.Spare.{IsBroughtBy, IsSpareOf};
+ghost use Rattle.front_core.specs.declared.fault.FrontFault.TheVariants.{NoMemory};
+
+use crate::arrivals::MAX_ARRIVALS;
+use crate::fault::FrontFault;
+use cata_core::{Catalogue, Site};
+use std::alloc::{AllocError, Global};
+use std::mem;
+use std::sync::Arc;
+
+/// The state of a site before its last edits, and the cells that came in by them. Once no other
+/// share holds it, it is brought up by joining these, and edited in place of a copy.
+#[derive(Drop)]
+pub(crate) struct Spare {
+    share: Arc<Site>,
+    missed: Catalogue,
+}
+
+/// An equal site that no share holds: the spare, brought up, where that can be had, and else a
+/// copy.
+pub(crate) fn equal_site(
+    alloc: Global,
+    site: &Site,
+    spare: Option<Spare>,
+) -> Result<Site, AllocError>
+    requires { IsSpareOf site.now spare }
+    ensures equal { IfOk result (λ equal. equal ≡ site.now) }
+    ensures map { IsMap key_cmp site.now.cells }
+{
+    // The length says that the keys ascend.
+    let _cells = site.catalogue().len();
+    match brought_up(alloc, spare) {
+        Some(equal) => Ok(equal),
+        None => site.copy(alloc),
+    }
+}
+
+/// Makes the share one of the edited site. What it was becomes the spare, which misses the cells
+/// that came in; where these are not there it is let go.
+pub(crate) fn exchange(
+    alloc: Global,
+    share: &mut Arc<Site>,
+    edited: Site,
+    came: Option<Catalogue>,
+) -> Result<Option<Spare>, FrontFault>
+    requires { IfSome came (λ cells. IsBroughtBy cells share.old.value edited) }
+    ensures share { IfOk result (λ _. share.new.value ≡ edited) }
+    ensures spare { IfOk result (IsSpareOf edited) }
+    ensures err { IfErr result (λ fault. fault ≡ NoMemory) }
+    ensures left { OnErr result (share.new.value ≡ share.old.value) }
+{
+    let made = Arc::new(alloc, edited)?;
+    let before = mem::replace(share, made);
+    match came {
+        Some(missed) => Ok(Some(Spare {
+            share: before,
+            missed,
+        })),
+        None => Ok(None),
+    }
+}
+
+/// The equal site as the spare, which misses nothing; none where there is no memory for it.
+pub(crate) fn put_aside(alloc: Global, site: Site) -> Option<Spare>
+    ensures { IsSpareOf site result }
+{
+    // The length says that the keys ascend.
+    let _cells = site.catalogue().len();
+    let Ok(share) = Arc::new(alloc, site) else {
+        return None;
+    };
+    let missed = Catalogue::new(alloc);
+    Some(Spare { share, missed })
+}
+
+/// The spare after cells came into the site: it misses them too. Where they are too many, or there
+/// is no memory for them, it is let go.
+pub(crate) fn missing_more(alloc: Global, spare: Option<Spare>, came: &Catalogue) -> Option<Spare>
+    ensures { (old new : SiteState) → IsSpareOf old spare → IsBroughtBy came.now old new
+        → IsSpareOf new result }
+{
+    let Some(Spare { share, mut missed }) = spare else {
+        return None;
+    };
+    if missed.len() > MAX_ARRIVALS || came.len() > MAX_ARRIVALS {
+        return None;
+    }
+    let Ok(()) = missed.merge(alloc, came) else {
+        return None;
+    };
+    Some(Spare { share, missed })
+}
+
+/// The spare with what it missed, where there is one that no other share holds, and memory.
+fn brought_up(alloc: Global, spare: Option<Spare>) -> Option<Site>
+    ensures { (site : SiteState) → IsSpareOf site spare → IfSome result (λ equal. equal ≡ site) }
+{
+    let Some(Spare { share, missed }) = spare else {
+        return None;
+    };
+    let Ok(mut site) = Arc::try_unwrap(share) else {
+        return None;
+    };
+    let Ok(()) = site.merge(alloc, &missed) else {
+        return None;
+    };
+    Some(site)
+}
