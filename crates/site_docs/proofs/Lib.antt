@@ -4,6 +4,7 @@ pub mod OldDocumentsLemmas
 pub mod OneDocument
 pub mod PlainLemmas
 pub mod PlainReads
+pub mod PlainStampsLemmas
 pub mod RoundTrip
 pub mod SharedCellsLemmas
 pub mod ShowingLemmas

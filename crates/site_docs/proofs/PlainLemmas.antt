@@ -10,13 +10,13 @@ use Rattle.serde_json.specs.Data.{Data, array, string}
 use Rattle.serde_json.specs.View.{items_of}
 use Rattle.serde_json.specs.Written.{comma_if, compact_text, items_text}
 use Rattle.cell_core.specs.SiteName.{IsSiteName}
-use Rattle.cata_core.specs.Entries.{Entries, Entry, IsAboveAll, key_cmp, key_cmp_total}
+use Rattle.cata_core.specs.Entries.{Entries, Entry, EntryKey, IsAboveAll, key_cmp, key_cmp_total}
 use Rattle.cata_core.proofs.BehindLemmas.{IsMap-behind}
 use Rattle.row_docs.specs.Entries.{cells_values, entry_value}
 use Rattle.row_docs.specs.Kinds.{kind_text, subject_of}
 use Rattle.site_docs.specs.Plain.{IsEnd, IsPlainText, IsTextOf, cells_document}
 use Rattle.site_docs.specs.Plain.{is_later, last_members, open_items, rows_text}
-use Rattle.site_docs.specs.PlainRows.{IsLastOf, row_before}
+use Rattle.site_docs.specs.PlainRows.{IsLastOf, row_before, row_until}
 use Rattle.row_docs.specs.Valid.{AreKeptCells, IsKeptCell}
 use Rattle.row_docs.specs.Values.{Row, cell_value, label_value}
 use Rattle.row_docs.specs.declared.kind.Kind.{Kind}
@@ -35,7 +35,8 @@ items_closed later (d ∷ ds) =
     ∙ ap (λ r. comma_if later ++ r)
     (append_assoc (compact_text d) (open_items true ds) (93 ∷ [])))
 
-is_later-map : {X Y : Type 0} (f : X → Y) (xs : List X) → is_later (map f xs) ≡ is_later xs
+-- what is made of each of a list changes nothing on whether there are some
+pub is_later-map : {X Y : Type 0} (f : X → Y) (xs : List X) → is_later (map f xs) ≡ is_later xs
 is_later-map f [] = refl
 is_later-map f (x ∷ xs) = refl
 
@@ -61,7 +62,7 @@ open_more (e ∷ ds) d = ap (λ r. compact_text e ++ r) (open_later ds d)
     ∙ sym (append_assoc (compact_text e) (open_items true ds) (44 ∷ compact_text d))
 
 -- the text of one item more, and what comes after it
-item_taken : (ds : List Data) (d : Data) (text rest after : List ℕ)
+pub item_taken : (ds : List Data) (d : Data) (text rest after : List ℕ)
     → text ≡ 91 ∷ (open_items false ds ++ rest)
     → rest ≡ comma_if (is_later ds) ++ (compact_text d ++ after)
     → text ≡ 91 ∷ (open_items false (ds ++ d ∷ []) ++ after)
@@ -108,12 +109,12 @@ plain_id_taken id text r1 after p1 p2 =
     p1 ∙ ap (λ r. 91 ∷ r) (ap (λ r. 34 ∷ r) p2 ∙ quotes_taken id (44 ∷ 34 ∷ after))
 
 -- what a row has before its label, one after another
-pub front_taken : (row : Row) (text r2 r3 r4 r5 after : List ℕ)
+pub front_taken : (end : ℕ) (row : Row) (text r2 r3 r4 r5 after : List ℕ)
     → text ≡ 91 ∷ (quoted row.id ++ 44 ∷ 34 ∷ r2) → r2 ≡ escape row.language ++ 34 ∷ 44 ∷ r3
     → r3 ≡ decimal row.time ++ 44 ∷ 34 ∷ r4 → r4 ≡ escape row.site ++ 34 ∷ 44 ∷ r5
-    → r5 ≡ decimal row.count ++ 44 ∷ after
-    → text ≡ row_before row after
-front_taken row text r2 r3 r4 r5 after p2 p3 p4 p5 p6 =
+    → r5 ≡ decimal row.count ++ end ∷ after
+    → text ≡ row_until end row after
+front_taken end row text r2 r3 r4 r5 after p2 p3 p4 p5 p6 =
     p2 ∙ ap (λ r. 91 ∷ (quoted row.id ++ 44 ∷ r))
     (ap (λ r. 34 ∷ r) p3 ∙ quotes_taken row.language (44 ∷ r3)
     ∙ ap (λ r. quoted row.language ++ 44 ∷ r)
@@ -131,12 +132,12 @@ row_taken row label text rest after front labelled =
 -- ---- keys
 
 -- the key of one entry more is the last
-pub last_taken : (cells : Entries) (e : Entry) → IsAboveAll e.0 cells
-    → IsLastOf (Some e.0) (cells ++ e ∷ [])
-last_taken cells e above = λ key behind.
+pub last_taken : {J : Type 0} (cells : List (EntryKey × J)) (e : EntryKey × J)
+    → IsAboveAll e.0 cells → IsLastOf (Some e.0) (cells ++ e ∷ [])
+last_taken {J} cells e above = λ key behind.
     let before : IsAboveAll key cells = λ i d within.
     key_cmp_total.trans (get_or cells i d).0 e.0 key (above i d within) behind in
-    kept_more (λ (x : Entry). key_cmp x.0 key ≡ Less) cells e before behind
+    kept_more (λ (x : EntryKey × J). key_cmp x.0 key ≡ Less) cells e before behind
 
 -- ---- cells
 

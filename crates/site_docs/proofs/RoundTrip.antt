@@ -172,11 +172,11 @@ pub delta_again : (delta : DeltaState) → IsSiteName delta.addressee → AreKep
     → IsUtf8 (delta_text delta) → ReadsAsDelta (delta_text delta) delta
 delta_again delta name kept utf8 = reads_delta (delta_text delta) delta name kept utf8 refl
 
--- the text of a summary's document reads as the summary
-pub summary_again : (summary : SummaryState) → IsSiteName summary.owner
-    → AreKeptStamps summary.stamps → IsUtf8 (summary_text summary)
-    → ReadsAsSummary (summary_text summary) summary
-summary_again summary name kept utf8 =
+-- bytes that read as the text of a summary's document
+pub reads_summary : (bytes : List ℕ) (summary : SummaryState) → IsSiteName summary.owner
+    → AreKeptStamps summary.stamps → IsUtf8 bytes → read bytes ≡ read (summary_text summary)
+    → ReadsAsSummary bytes summary
+reads_summary bytes summary name kept utf8 same =
     let d = summary_value summary.owner (stamps_values summary.stamps) in
     let header : AllPass (header_checks Summary d) = (
       (refl, refl),
@@ -192,7 +192,7 @@ summary_again summary name kept utf8 =
     let rest : AllPass (rest_checks Summary stamp_checks d) =
     (refl, (name, rw (list_of-items_of (stamps_values summary.stamps)) rows)) in (
       d,
-      (utf8, read-summary summary.owner summary.stamps kept.each),
+      (utf8, same ∙ read-summary summary.owner summary.stamps kept.each),
       AllPass-both (header_checks Summary d) (rest_checks Summary stamp_checks d) header rest,
       record {
         owner = refl;
@@ -200,3 +200,10 @@ summary_again summary name kept utf8 =
             (stamps_again summary.stamps kept.each);
       },
     )
+
+-- the text of a summary's document reads as the summary
+pub summary_again : (summary : SummaryState) → IsSiteName summary.owner
+    → AreKeptStamps summary.stamps → IsUtf8 (summary_text summary)
+    → ReadsAsSummary (summary_text summary) summary
+summary_again summary name kept utf8 =
+    reads_summary (summary_text summary) summary name kept utf8 refl

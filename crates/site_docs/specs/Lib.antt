@@ -3,6 +3,7 @@ pub mod Drafts
 pub mod OldDocuments
 pub mod Plain
 pub mod PlainRows
+pub mod PlainStamps
 pub mod ReadsAs
 pub mod SharedCells
 pub mod Sink

@@ -4,7 +4,8 @@ use Rattle.json.specs.Print.{quoted}
 use Rattle.cell_core.specs.MessageId.{IsMessageId}
 use Rattle.cell_core.specs.SiteName.{IsSiteName}
 use Rattle.lang_core.specs.Lang.{IsLang}
-use Rattle.cata_core.specs.Entries.{Entries, Entry, EntryKey, IsAboveAll}
+use Rattle.cell_core.specs.declared.stamp.Stamp.{Stamp}
+use Rattle.cata_core.specs.Entries.{Entry, EntryKey, IsAboveAll}
 use Rattle.row_docs.specs.Fields.{IsAfter, stamp_of}
 use Rattle.row_docs.specs.Values.{Row}
 use Rattle.site_docs.specs.declared.plain.rows.Front.{Front}
@@ -45,12 +46,20 @@ pub record IsSpelled (row : Spelled) : Type 0 where
   pub is_site : IsSiteName row.front.site.now
 
 -- a key that is greater than the last one is greater than all these
-abbrev pub IsLastOf : Option EntryKey → Entries → Type 0
+abbrev pub IsLastOf : {J : Type 0} → Option EntryKey → List (EntryKey × J) → Type 0
 IsLastOf last cells = (key : EntryKey) → IsAfter last key → IsAboveAll key cells
+
+-- a row as far as its count, the byte at its end, and what comes after
+abbrev pub row_until : ℕ → Row → List ℕ → List ℕ
+row_until end row rest =
+    91 ∷ (quoted row.id ++ 44 ∷
+    (quoted row.language ++ 44 ∷
+    (decimal row.time ++ 44 ∷ (quoted row.site ++ 44 ∷ (decimal row.count ++ end ∷ rest)))))
 
 -- a row as far as its label, and what comes after
 abbrev pub row_before : Row → List ℕ → List ℕ
-row_before row rest =
-    91 ∷ (quoted row.id ++ 44 ∷
-    (quoted row.language ++ 44 ∷
-    (decimal row.time ++ 44 ∷ (quoted row.site ++ 44 ∷ (decimal row.count ++ 44 ∷ rest)))))
+row_before = row_until 44
+
+-- the key and the stamp of a row
+abbrev pub stamped_in : Front → EntryKey × Stamp
+stamped_in front = (key_in front, stamp_of (row_in front))

@@ -5,6 +5,7 @@ pub(crate) mod documents;
 pub(crate) mod labels;
 pub(crate) mod languages;
 pub(crate) mod rows;
+pub(crate) mod stamps;
 pub(crate) mod summaries;
 pub(crate) mod texts;
 pub(crate) mod unread;

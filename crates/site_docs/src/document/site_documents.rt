@@ -11,6 +11,7 @@ ghost use Rattle.site_docs.specs.SiteDocuments.{document_checks, named_in, subje
 ghost use Rattle.row_docs.specs.declared.version.Version.TheVariants.{One, Two};
 
 use crate::plain::documents::cells_of_plain;
+use crate::plain::stamps::summary_of_plain;
 use cata_core::{Catalogue, Delta, Site, Summary};
 use cell_core::SiteName;
 use json_docs::{DocCause, Spot};
@@ -44,9 +45,10 @@ pub(crate) fn summary_from(alloc: Global, bytes: &[u8]) -> Result<Summary, DocCa
     ensures { MatchResult result (ReadsAsSummary bytes.now)
         (OrMemory NoMemory (RefusesSummary bytes.now)) }
 {
-    let mut summary = Summary::new(alloc, SiteName::of_number(0));
-    let owner = read_named(alloc, bytes, Kind::Summary, &mut summary)?;
-    Ok(summary.with_owner(owner))
+    match summary_of_plain(alloc, bytes) {
+        Some(summary) => Ok(summary),
+        None => summary_of_members(alloc, bytes),
+    }
 }
 
 /// The site of a document in any form.
@@ -67,6 +69,16 @@ fn delta_of_members(alloc: Global, bytes: &[u8]) -> Result<Delta, DocCause>
     let mut cells = Catalogue::new(alloc);
     let addressee = read_named(alloc, bytes, Kind::Delta, &mut cells)?;
     Ok(Delta::from_catalogue(addressee, cells))
+}
+
+/// The summary of a document in any form.
+fn summary_of_members(alloc: Global, bytes: &[u8]) -> Result<Summary, DocCause>
+    ensures { MatchResult result (ReadsAsSummary bytes.now)
+        (OrMemory NoMemory (RefusesSummary bytes.now)) }
+{
+    let mut summary = Summary::new(alloc, SiteName::of_number(0));
+    let owner = read_named(alloc, bytes, Kind::Summary, &mut summary)?;
+    Ok(summary.with_owner(owner))
 }
 
 /// Reads the rows, and answers the name.

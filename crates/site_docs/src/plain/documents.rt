@@ -91,7 +91,7 @@ pub(crate) fn last_name(text: &str, kind: Kind) -> Option<SiteName>
 }
 
 /// Whether the text is the version, which is 2, and the end of the document.
-fn is_version(text: &str) -> bool
+pub(crate) fn is_version(text: &str) -> bool
     ensures { IsTrue result → (end : List ℕ) × IsEnd end × (text.now ≡ decimal 2 ++ end) }
 {
     match after(text, "2") {

@@ -13,7 +13,7 @@ ghost use Rattle.row_docs.specs.Fields.{IsAfter, IsLabelText, stamp_of};
 ghost use Rattle.row_docs.specs.Valid.{AreKeptCells, IsKeptCell};
 ghost use Rattle.row_docs.specs.Values.{label_value};
 ghost use Rattle.site_docs.specs.Plain.{rows_text};
-ghost use Rattle.site_docs.specs.PlainRows.{IsLastOf, IsSpelled, entry_in, key_in, row_before};
+ghost use Rattle.site_docs.specs.PlainRows.{IsLastOf, IsSpelled, entry_in, key_in, row_until};
 ghost use Rattle.site_docs.specs.PlainRows.{row_in, text_in};
 ghost use Rattle.site_docs.specs.Sink.{IsLabelRef, entry_of, texts_of};
 ghost use Rattle.site_docs.specs.Unread.{RefusesSpelling};
@@ -21,7 +21,7 @@ ghost use Rattle.site_docs.specs.Unread.{RefusesSpelling};
 use crate::plain::labels::next_label;
 use crate::plain::languages::KnownLanguages;
 use crate::plain::texts::{
-    after, after_byte, escaped_text, number_before_comma, text_before, text_before_comma,
+    after, after_byte, escaped_text, number_before, text_before, text_before_comma,
 };
 use crate::plain::unread::Unread;
 use crate::sink::{CellRef, CellSink, LabelRef};
@@ -31,7 +31,7 @@ use std::cmp::Ordering;
 
 /// What a row has before its label, as it is written.
 #[derive(Drop)]
-struct Front<'t> {
+pub(crate) struct Front<'t> {
     /// The id of the message.
     id: IdText<'t>,
     /// The language.
@@ -46,7 +46,7 @@ struct Front<'t> {
 
 /// The text of an id.
 #[derive(Drop)]
-enum IdText<'t> {
+pub(crate) enum IdText<'t> {
     /// As it stands in the document.
     Plain(&'t str),
     /// Of an id with escapes, without them.
@@ -55,13 +55,13 @@ enum IdText<'t> {
 
 /// A row without its label, and what its texts spell.
 #[derive(Drop)]
-struct Spelled<'t> {
+pub(crate) struct Spelled<'t> {
     /// The row, as it is written.
     front: Front<'t>,
     /// The message.
-    id: MessageId,
+    pub(crate) id: MessageId,
     /// The language, and those of the rows before.
-    languages: KnownLanguages,
+    pub(crate) languages: KnownLanguages,
     /// The site of the stamp.
     site: SiteName,
 }
@@ -114,7 +114,7 @@ fn first_cell<'t, S: CellSink<'t>>(
         × IsSpelled r.0 × (text.now ≡ compact_text (entry_value e) ++ r.1.now)
         × ((first : S) → S.Holds first sink.old [] → S.Holds first sink.new (e ∷ []))) }
 {
-    let (front, rest) = next_front(alloc, text)?;
+    let (front, rest) = next_front(alloc, text, b',')?;
     let Ok(spelled) = Spelled::new(alloc, front) else {
         return None;
     };
@@ -138,7 +138,7 @@ fn next_cell<'t, S: CellSink<'t>>(
         × ((first : S) → (before : Entries) → S.Holds first sink.old before
         → IsAboveAll e.0 before → S.Holds first sink.new (before ++ e ∷ []))) }
 {
-    let (front, rest) = next_front(alloc, text)?;
+    let (front, rest) = next_front(alloc, text, b',')?;
     let Ok(()) = last.follow(alloc, front) else {
         return None;
     };
@@ -171,17 +171,17 @@ fn show_cell<'t, S: CellSink<'t>>(
     }
 }
 
-/// What a row begins with, up to and including the comma after its count.
+/// What a row begins with, up to its count and this byte after that.
 #[inline(always)]
-fn next_front<'t>(alloc: Global, text: &'t str) -> Option<(Front<'t>, &'t str)>
-    ensures { IfSome result (λ r. text.now ≡ row_before (row_in r.0) r.1.now) }
+pub(crate) fn next_front<'t>(alloc: Global, text: &'t str, end: u8) -> Option<(Front<'t>, &'t str)>
+    ensures { IfSome result (λ r. text.now ≡ row_until end (row_in r.0) r.1.now) }
 {
     let (id, rest) = next_id(alloc, text)?;
     let (language, rest) = text_before_comma(rest)?;
-    let (time, rest) = number_before_comma(rest)?;
+    let (time, rest) = number_before(rest, b',')?;
     let rest = after_byte(rest, b'"')?;
     let (site, rest) = text_before_comma(rest)?;
-    let (count, rest) = number_before_comma(rest)?;
+    let (count, rest) = number_before(rest, end)?;
     let Ok(count) = u32::try_from(count) else {
         return None;
     };
@@ -245,7 +245,7 @@ impl IdText<'_> {
 
 impl<'t> Spelled<'t> {
     /// What the texts of the row spell, where its language is in lower case.
-    fn new(alloc: Global, front: Front<'t>) -> Result<Spelled<'t>, Unread>
+    pub(crate) fn new(alloc: Global, front: Front<'t>) -> Result<Spelled<'t>, Unread>
         ensures spelled { IfOk result (λ spelled. IsSpelled spelled) }
         ensures front { IfOk result (λ spelled. row_in spelled.front ≡ row_in front.entry) }
     {
@@ -263,7 +263,7 @@ impl<'t> Spelled<'t> {
     /// Becomes what this row spells, where its key is greater. What the last row spells by the
     /// same text stays as it is.
     #[inline(always)]
-    fn follow(&mut self, alloc: Global, front: Front<'t>) -> Result<(), Unread>
+    pub(crate) fn follow(&mut self, alloc: Global, front: Front<'t>) -> Result<(), Unread>
         requires { IsSpelled self.old }
         ensures spelled { OnOk result (IsSpelled self.new) }
         ensures front { OnOk result (row_in self.new.front ≡ row_in front.entry) }
@@ -300,7 +300,7 @@ impl<'t> Spelled<'t> {
 
     /// The stamp of the row.
     #[inline(always)]
-    fn stamp(&self) -> Stamp
+    pub(crate) fn stamp(&self) -> Stamp
         requires { IsSpelled self.now }
         ensures { result ≡ stamp_of (row_in self.now.front) }
     {

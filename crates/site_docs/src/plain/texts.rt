@@ -84,13 +84,13 @@ pub(crate) fn text_before_comma(text: &str) -> Option<(&str, &str)>
     Some((before, left))
 }
 
-/// The number before a comma, in decimal without leading zeros, and what comes after the comma.
+/// The number before this byte of ASCII, in decimal without leading zeros, and what comes after it.
 #[inline(always)]
-pub(crate) fn number_before_comma(text: &str) -> Option<(u64, &str)>
-    ensures { IfSome result (λ r. text.now ≡ decimal r.0 ++ 44 ∷ r.1.now) }
+pub(crate) fn number_before(text: &str, end: u8) -> Option<(u64, &str)>
+    ensures { IfSome result (λ r. text.now ≡ decimal r.0 ++ end ∷ r.1.now) }
 {
-    let (number, comma) = number_front(text)?;
-    let left = after_byte(comma, b',')?;
+    let (number, rest) = number_front(text)?;
+    let left = after_byte(rest, end)?;
     Some((number, left))
 }
 

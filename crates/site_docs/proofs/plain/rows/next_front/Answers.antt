@@ -19,7 +19,7 @@ returns c =
     let count : c.in_ok-count.count ≡ c.in-Ok.count = search rules in
     let time = c.in_ok-time.ensures
     ∙ ap (λ r. decimal row.time ++ 44 ∷ r) c.in_ok-rest.ensures in
-    front_taken row c.args.text.now c.in_ok-id.rest.now
+    front_taken c.args.end row c.args.text.now c.in_ok-id.rest.now
     c.in_ok-language.rest.now c.in_ok-rest.rest.now c.in_ok-site.rest.now rest
     c.in_ok-id.ensures c.in_ok-language.ensures time
-    c.in_ok-site.ensures (c.in_ok-count.ensures ∙ ap (λ n. decimal n ++ 44 ∷ rest) count)
+    c.in_ok-site.ensures (c.in_ok-count.ensures ∙ ap (λ n. decimal n ++ c.args.end ∷ rest) count)

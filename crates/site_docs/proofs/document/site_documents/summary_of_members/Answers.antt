@@ -1,5 +1,5 @@
 use Rattle.std.proofs.lemmas.Result.{err_from_is_err_and}
-use Rattle.site_docs.proofs.document.site_documents.summary_from.Goals as goal
+use Rattle.site_docs.proofs.document.site_documents.summary_of_members.Goals as goal
 
 pub returns-in_err-owner : goal.returns-in_err-owner
 returns-in_err-owner c =
