@@ -141,23 +141,10 @@ export class Refused extends Error {
 }
 
 /**
- * A site that is open. It is closed by `close`, by the end of a `using` declaration's block, or some time after
- * nothing refers to it any more. Calls to a closed site throw an Error. Sites of one `load` know each other, and no
- * others.
- *
- * A refused call leaves the site as it was, but for 26 of `take` and `merge`: these leave each label as it was or as
- * it was to be, and the same call again makes the rest. Each call may be refused by 26.
+ * What a site is asked about one message, open or written. It is closed by `close`, by the end of a `using`
+ * declaration's block, or some time after nothing refers to it any more. Calls to a closed site throw an Error.
  */
-export interface Site {
-  /** Reads a document in place of the site, which stays where the document is refused. Refused: as by `open`. */
-  reload(document: Text): void;
-  /** One more `Site` of the same state, which keeps this state when the first one is edited. Memory is shared. */
-  share(): Site;
-  /** Lets the site go. Closing it again does nothing. */
-  close(): void;
-  /** Calls `close`. */
-  [Symbol.dispose](): void;
-
+export interface Asked {
   /** The label of a message that a reader gets, or null. Refused: the id (10), the default (1 to 4), the field (8, 9). */
   lookup(id: Text, field: Field, options?: LookupOptions): Label | null;
   /** The text at a place of the label that `lookup` finds, or null. */
@@ -166,6 +153,41 @@ export interface Site {
   texts(id: Text, field: Field, options?: LookupOptions): string[] | null;
   /** The labels of a message that a reader takes, best first. Refused: the id (10), the field (8, 9). */
   filter(id: Text, field: Field, options?: FieldOptions): Choice[];
+  /** Lets the site go. Closing it again does nothing. */
+  close(): void;
+  /** Calls `close`. */
+  [Symbol.dispose](): void;
+}
+
+/**
+ * The document of a site, which is asked as it lies there and never opened. It answers as a `Site` of the document
+ * does.
+ *
+ * The addon reads the bytes at each call, so leave them as they are; it copies them where they are in a
+ * SharedArrayBuffer. The module copies them until `close`.
+ */
+export interface WrittenSite extends Asked {}
+
+export interface WrittenSiteClass {
+  /**
+   * A document just as `write`, `toBytes` or `lexicat` wrote it. Refused: what is none (18 to 20). Most of it is not
+   * looked at, and what another one answers or is refused by is not said: each call may read it whole.
+   */
+  new (document: Text): WrittenSite;
+}
+
+/**
+ * A site that is open. Sites of one `load` know each other, and no others.
+ *
+ * A refused call leaves the site as it was, but for 26 of `take` and `merge`: these leave each label as it was or as
+ * it was to be, and the same call again makes the rest. Each call may be refused by 26.
+ */
+export interface Site extends Asked {
+  /** Reads a document in place of the site, which stays where the document is refused. Refused: as by `open`. */
+  reload(document: Text): void;
+  /** One more `Site` of the same state, which keeps this state when the first one is edited. Memory is shared. */
+  share(): Site;
+
   /**
    * All labels of one reader: of each message the one that `lookup` finds. Refused: the default (1 to 4), the field
    * (8, 9).
@@ -236,6 +258,7 @@ export interface Calls {
   /** What the number of a refusal means, or null. */
   refusal(number: number): string | null;
   Site: SiteClass;
+  WrittenSite: WrittenSiteClass;
 }
 
 declare global {

@@ -7,4 +7,6 @@ import { loadSync } from './silkwaram.mjs';
 const here = typeof __filename === 'string' ? pathToFileURL(__filename) : import.meta.url;
 
 export { Refused, load, loadSync } from './silkwaram.mjs';
-export const { Site, filter, pick, refusal, version } = loadSync(readFileSync(new URL('./silkwaram.wasm', here)));
+export const { Site, WrittenSite, filter, pick, refusal, version } = loadSync(
+  readFileSync(new URL('./silkwaram.wasm', here)),
+);

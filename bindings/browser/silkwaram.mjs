@@ -31,6 +31,9 @@ const DOCUMENTS = {
   sw_site_update: 'language maps are wanted',
   sw_site_take: 'a delta document is wanted',
   sw_site_delta: 'a summary document is wanted',
+  sw_text_lookup: 'a site document is wanted',
+  sw_text_text: 'a site document is wanted',
+  sw_text_filter: 'a site document is wanted',
 };
 
 // Bytes of `sw_told` and of a handle, and of the room that is kept for the texts and the answer of a call.
@@ -310,7 +313,8 @@ class Module {
       if (isWellFormed(text)) return ENCODER.encodeInto(text, this.#exports.bytes(at, mostBytes(text))).written;
       text = encodeHalves(text);
     }
-    this.#exports.bytes(at, text.length).set(text);
+    // (an array whose memory was taken away is empty, and may not be copied)
+    if (text.length > 0) this.#exports.bytes(at, text.length).set(text);
     return text.length;
   }
 
@@ -427,6 +431,17 @@ class Module {
     return BigInt(at);
   }
 
+  // Keeps a copy of a document, and returns the words by which a call is passed it.
+  keep(text) {
+    const bytes = bytesIn(text);
+    const at = this.#allocated(Math.max(bytes.length, 1));
+    return [BigInt(at), BigInt(this.#put(bytes, at))];
+  }
+
+  drop([at]) {
+    this.#exports.release(at);
+  }
+
   letGo(handle) {
     if (!this.#exports.hasStopped) this.#exports.run('sw_site_free', handle);
   }
@@ -437,14 +452,89 @@ class Module {
   }
 }
 
+// The refusal of a document, which says so where it may be the name of one.
+function refusedAsName(calls, refused, text) {
+  return refused.number === NOT_JSON && mayBeName(text) ? refusalOf(calls, refused, NO_NAME) : refused;
+}
+
+// Makes the call that ends with this name, of a site or of a document, and returns the text that it answers, or null.
+const ask = Symbol('ask');
+
+// What a site and a document are asked alike.
+class Asked {
+  lookup(id, field, options) {
+    const given = optionsOf(options);
+    const line = this[ask]('lookup', lookupFlagsOf(given), textOf(id, 'id'), fieldOf(field), defaultOf(given));
+    return line === null ? null : labelOf(line);
+  }
+
+  text(id, field, options) {
+    const given = optionsOf(options);
+    const words = [lookupFlagsOf(given), textOf(id, 'id'), fieldOf(field), defaultOf(given), placeOf(given)];
+    return this[ask]('text', ...words);
+  }
+
+  texts(id, field, options) {
+    return this.lookup(id, field, options)?.texts ?? null;
+  }
+
+  filter(id, field, options) {
+    const lines = this[ask]('filter', flagsOf(optionsOf(options)), textOf(id, 'id'), fieldOf(field));
+    return lines === null ? [] : linesIn(lines).map(choiceOf);
+  }
+
+  [Symbol.dispose ?? Symbol('dispose')]() {
+    this.close();
+  }
+}
+
+function writtenSiteClass(calls) {
+  const forgotten = new FinalizationRegistry((kept) => calls.drop(kept));
+
+  return class WrittenSite extends Asked {
+    #kept;
+
+    constructor(document) {
+      super();
+      const text = textOf(document, 'document');
+      this.#kept = calls.keep(text);
+      forgotten.register(this, this.#kept, this);
+      try {
+        // (what is no document is refused by any question)
+        this[ask]('filter', 0, 'm', '*');
+      } catch (refused) {
+        this.close();
+        throw refusedAsName(calls, refused, text);
+      }
+    }
+
+    [ask](name, ...words) {
+      if (this.#kept === null) throw new Error('the site is closed');
+      return calls.text(`sw_text_${name}`, ...this.#kept, ...words);
+    }
+
+    close() {
+      if (this.#kept === null) return;
+      forgotten.unregister(this);
+      calls.drop(this.#kept);
+      this.#kept = null;
+    }
+  };
+}
+
 function siteClass(calls) {
   const forgotten = new FinalizationRegistry((handle) => calls.forget(handle));
 
-  return class Site {
+  return class Site extends Asked {
     #handle = calls.handle();
 
     constructor() {
+      super();
       forgotten.register(this, this.#handle);
+    }
+
+    [ask](name, ...words) {
+      return calls.text(`sw_site_${name}`, this.#handle, ...words);
     }
 
     // (a class that extends this one makes its own; by itself, as what `map` is given, `open` makes a Site)
@@ -465,7 +555,7 @@ function siteClass(calls) {
       try {
         calls.done('sw_site_open', text, this.#handle);
       } catch (refused) {
-        throw refused.number === NOT_JSON && mayBeName(text) ? refusalOf(calls, refused, NO_NAME) : refused;
+        throw refusedAsName(calls, refused, text);
       }
     }
 
@@ -477,30 +567,6 @@ function siteClass(calls) {
 
     close() {
       calls.letGo(this.#handle);
-    }
-
-    lookup(id, field, options) {
-      const given = optionsOf(options);
-      const line = calls.text(
-        'sw_site_lookup', this.#handle, lookupFlagsOf(given), textOf(id, 'id'), fieldOf(field), defaultOf(given),
-      );
-      return line === null ? null : labelOf(line);
-    }
-
-    text(id, field, options) {
-      const given = optionsOf(options);
-      const words = [lookupFlagsOf(given), textOf(id, 'id'), fieldOf(field), defaultOf(given), placeOf(given)];
-      return calls.text('sw_site_text', this.#handle, ...words);
-    }
-
-    texts(id, field, options) {
-      return this.lookup(id, field, options)?.texts ?? null;
-    }
-
-    filter(id, field, options) {
-      const flags = flagsOf(optionsOf(options));
-      const lines = calls.text('sw_site_filter', this.#handle, flags, textOf(id, 'id'), fieldOf(field));
-      return lines === null ? [] : linesIn(lines).map(choiceOf);
     }
 
     bundle(field, options) {
@@ -584,10 +650,6 @@ function siteClass(calls) {
       return lines === null ? [] : linesIn(lines).map(changeOf);
     }
 
-    [Symbol.dispose ?? Symbol('dispose')]() {
-      this.close();
-    }
-
     // (a site of another load has its handle in another memory)
     static #handleOf(given) {
       if (typeof given === 'object' && given !== null && #handle in given) return given.#handle;
@@ -660,6 +722,7 @@ export function over(calls) {
     },
     refusal: (number) => (Number.isInteger(number) && number >>> 0 === number ? calls.meaning(number) : null),
     Site: siteClass(calls),
+    WrittenSite: writtenSiteClass(calls),
   };
 }
 

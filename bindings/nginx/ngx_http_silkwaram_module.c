@@ -1,8 +1,9 @@
 
 /*
  * The variable $silkwaram_lang: which of the languages of silkwaram_tags a
- * request gets, by its Accept-Language field and the lookup of RFC 4647.
- * README.md has the directives.
+ * request gets, by its Accept-Language field and the lookup of RFC 4647; and
+ * the variables of silkwaram_label: which text of a message it gets, of the
+ * site that silkwaram_labels names.  README.md has the directives.
  */
 
 
@@ -13,6 +14,9 @@
 
 
 #define NGX_HTTP_SILKWARAM_TAG_LEN    255
+
+/* the bytes of a text that wants no second call */
+#define NGX_HTTP_SILKWARAM_TEXT_LEN   1024
 
 /* the fields whose answers a worker keeps, and the bytes of the longest */
 #define NGX_HTTP_SILKWARAM_KEPT       64
@@ -30,7 +34,20 @@ struct ngx_http_silkwaram_dflt_s {
 
 
 typedef struct {
+    ngx_str_t                       name;
+    ngx_str_t                       text;
+} ngx_http_silkwaram_document_t;
+
+
+typedef struct {
+    ngx_str_t                       id;
+    ngx_str_t                       dflt;    /* if it has data */
+} ngx_http_silkwaram_label_t;
+
+
+typedef struct {
     ngx_str_t                       tags;    /* each with an LF after it */
+    ngx_str_t                       labels;  /* the text of a document */
     ngx_str_t                       dflt;
     ngx_http_silkwaram_dflt_t      *dflt_directive;
     ngx_flag_t                      lenient;
@@ -55,6 +72,8 @@ typedef struct {
 typedef struct {
     ngx_http_silkwaram_kept_t       kept[NGX_HTTP_SILKWARAM_KEPT];
     ngx_array_t                     dflts;   /* of pointers to directives */
+    ngx_array_t                     documents;
+    ngx_str_t                       variable; /* of some silkwaram_label */
 } ngx_http_silkwaram_main_conf_t;
 
 
@@ -65,10 +84,18 @@ static ngx_int_t ngx_http_silkwaram_lang(ngx_http_request_t *r,
 static ngx_http_silkwaram_kept_t *ngx_http_silkwaram_place(
     ngx_http_request_t *r, ngx_http_silkwaram_loc_conf_t *conf,
     ngx_str_t *field);
+static void ngx_http_silkwaram_take_as_none(ngx_http_request_t *r,
+    sw_told *told);
 static int32_t ngx_http_silkwaram_pick(ngx_http_silkwaram_loc_conf_t *conf,
     ngx_str_t *field, u_char *lang, sw_told *told);
+static uint32_t ngx_http_silkwaram_flags(ngx_http_silkwaram_loc_conf_t *conf);
 static u_char *ngx_http_silkwaram_in_tags(ngx_str_t *tags, u_char *tag,
     size_t len);
+static ngx_int_t ngx_http_silkwaram_label_variable(ngx_http_request_t *r,
+    ngx_http_variable_value_t *v, uintptr_t data);
+static int32_t ngx_http_silkwaram_text(ngx_http_silkwaram_loc_conf_t *conf,
+    ngx_http_silkwaram_label_t *label, ngx_str_t *field, u_char *out,
+    size_t len, sw_told *told);
 static ngx_int_t ngx_http_silkwaram_field(ngx_http_request_t *r,
     ngx_str_t *field);
 static ngx_table_elt_t *ngx_http_silkwaram_next_line(ngx_list_part_t **part,
@@ -88,8 +115,24 @@ static char *ngx_http_silkwaram_tags(ngx_conf_t *cf, ngx_command_t *cmd,
     void *conf);
 static char *ngx_http_silkwaram_default(ngx_conf_t *cf, ngx_command_t *cmd,
     void *conf);
+static char *ngx_http_silkwaram_labels(ngx_conf_t *cf, ngx_command_t *cmd,
+    void *conf);
+static ngx_int_t ngx_http_silkwaram_read(ngx_conf_t *cf, ngx_str_t *name,
+    ngx_str_t *text);
+static ngx_int_t ngx_http_silkwaram_read_file(ngx_conf_t *cf,
+    ngx_file_t *file, ngx_str_t *text);
+static char *ngx_http_silkwaram_check_document(ngx_conf_t *cf,
+    ngx_command_t *cmd, ngx_http_silkwaram_document_t *document);
+static ngx_uint_t ngx_http_silkwaram_is_written(ngx_conf_t *cf, sw_site *site,
+    ngx_str_t *text);
+static char *ngx_http_silkwaram_label(ngx_conf_t *cf, ngx_command_t *cmd,
+    void *conf);
 static char *ngx_http_silkwaram_check_tag(ngx_conf_t *cf, ngx_command_t *cmd,
     ngx_str_t *tag);
+static void ngx_http_silkwaram_log_refusal(ngx_conf_t *cf, ngx_command_t *cmd,
+    sw_told *told, ngx_str_t *what);
+static u_char *ngx_http_silkwaram_refusal(u_char *to, u_char *last,
+    sw_told *told);
 
 
 static ngx_command_t  ngx_http_silkwaram_commands[] = {
@@ -105,6 +148,20 @@ static ngx_command_t  ngx_http_silkwaram_commands[] = {
       NGX_HTTP_MAIN_CONF|NGX_HTTP_SRV_CONF|NGX_HTTP_LOC_CONF|NGX_CONF_TAKE1,
       ngx_http_silkwaram_default,
       NGX_HTTP_LOC_CONF_OFFSET,
+      0,
+      NULL },
+
+    { ngx_string("silkwaram_labels"),
+      NGX_HTTP_MAIN_CONF|NGX_HTTP_SRV_CONF|NGX_HTTP_LOC_CONF|NGX_CONF_TAKE1,
+      ngx_http_silkwaram_labels,
+      NGX_HTTP_LOC_CONF_OFFSET,
+      0,
+      NULL },
+
+    { ngx_string("silkwaram_label"),
+      NGX_HTTP_MAIN_CONF|NGX_CONF_TAKE23,
+      ngx_http_silkwaram_label,
+      NGX_HTTP_MAIN_CONF_OFFSET,
       0,
       NULL },
 
@@ -163,6 +220,10 @@ static ngx_str_t  ngx_http_silkwaram_header = ngx_string("accept-language");
 
 /* what a request without the header accepts */
 static ngx_str_t  ngx_http_silkwaram_any = ngx_string("*");
+
+/* a site without labels, as it is written */
+static ngx_str_t  ngx_http_silkwaram_empty_site = ngx_string(
+    "{\"cells\":[],\"kind\":\"site\",\"site\":\"a\",\"version\":2}");
 
 
 static ngx_int_t
@@ -244,9 +305,7 @@ ngx_http_silkwaram_lang(ngx_http_request_t *r,
     status = ngx_http_silkwaram_pick(conf, &field, tag, &told);
 
     if (status == SW_REFUSED) {
-        ngx_log_error(NGX_LOG_INFO, r->connection->log, 0,
-                      "client sent an Accept-Language field that is taken "
-                      "as none: refused %uD at %uz", told.number, told.offset);
+        ngx_http_silkwaram_take_as_none(r, &told);
 
         /* (it is not kept: each such request has its line in the log) */
 
@@ -316,18 +375,30 @@ ngx_http_silkwaram_place(ngx_http_request_t *r,
 }
 
 
+static void
+ngx_http_silkwaram_take_as_none(ngx_http_request_t *r, sw_told *told)
+{
+    ngx_log_error(NGX_LOG_INFO, r->connection->log, 0,
+                  "client sent an Accept-Language field that is taken "
+                  "as none: refused %uD at %uz", told->number, told->offset);
+}
+
+
 static int32_t
 ngx_http_silkwaram_pick(ngx_http_silkwaram_loc_conf_t *conf, ngx_str_t *field,
     u_char *lang, sw_told *told)
 {
-    uint32_t  flags;
-
-    flags = (conf->lenient ? SW_LENIENT : 0) | (conf->widen ? SW_WIDEN : 0);
-
-    return sw_pick(flags, field->data, field->len,
+    return sw_pick(ngx_http_silkwaram_flags(conf), field->data, field->len,
                    conf->tags.data, conf->tags.len,
                    conf->dflt.data, conf->dflt.len,
                    lang, NGX_HTTP_SILKWARAM_TAG_LEN, told);
+}
+
+
+static uint32_t
+ngx_http_silkwaram_flags(ngx_http_silkwaram_loc_conf_t *conf)
+{
+    return (conf->lenient ? SW_LENIENT : 0) | (conf->widen ? SW_WIDEN : 0);
 }
 
 
@@ -349,6 +420,91 @@ ngx_http_silkwaram_in_tags(ngx_str_t *tags, u_char *tag, size_t len)
     }
 
     return NULL;
+}
+
+
+static ngx_int_t
+ngx_http_silkwaram_label_variable(ngx_http_request_t *r,
+    ngx_http_variable_value_t *v, uintptr_t data)
+{
+    ngx_http_silkwaram_label_t *label = (ngx_http_silkwaram_label_t *) data;
+
+    u_char                          text[NGX_HTTP_SILKWARAM_TEXT_LEN];
+    int32_t                         status;
+    sw_told                         told;
+    ngx_str_t                       field;
+    ngx_http_silkwaram_loc_conf_t  *conf;
+
+    conf = ngx_http_get_module_loc_conf(r, ngx_http_silkwaram_module);
+
+    if (conf->labels.len == 0) {
+        v->not_found = 1;
+        return NGX_OK;
+    }
+
+    if (ngx_http_silkwaram_field(r, &field) != NGX_OK) {
+        return NGX_ERROR;
+    }
+
+    status = ngx_http_silkwaram_text(conf, label, &field, text, sizeof(text),
+                                     &told);
+
+    if (status == SW_REFUSED) {
+        ngx_http_silkwaram_take_as_none(r, &told);
+
+        field = ngx_http_silkwaram_any;
+        status = ngx_http_silkwaram_text(conf, label, &field, text,
+                                         sizeof(text), &told);
+    }
+
+    if (status == SW_NOTHING) {
+        v->not_found = 1;
+        return NGX_OK;
+    }
+
+    v->valid = 1;
+    v->no_cacheable = 0;
+    v->not_found = 0;
+    v->len = told.len;
+    v->data = ngx_pnalloc(r->pool, told.len);
+
+    if (v->data == NULL) {
+        return NGX_ERROR;
+    }
+
+    if (told.len <= sizeof(text)) {
+        ngx_memcpy(v->data, text, told.len);
+
+    } else {
+        status = ngx_http_silkwaram_text(conf, label, &field, v->data, v->len,
+                                         &told);
+    }
+
+    if (status != SW_FOUND) {
+        ngx_log_error(NGX_LOG_ERR, r->connection->log, 0,
+                      "sw_text_text() ended with status %D: refused %uD",
+                      status, told.number);
+        return NGX_ERROR;
+    }
+
+    return NGX_OK;
+}
+
+
+static int32_t
+ngx_http_silkwaram_text(ngx_http_silkwaram_loc_conf_t *conf,
+    ngx_http_silkwaram_label_t *label, ngx_str_t *field, u_char *out,
+    size_t len, sw_told *told)
+{
+    ngx_str_t  *dflt;
+
+    dflt = (label->dflt.data != NULL) ? &label->dflt : &conf->dflt;
+
+    return sw_text_text(conf->labels.data, conf->labels.len,
+                        ngx_http_silkwaram_flags(conf),
+                        label->id.data, label->id.len,
+                        field->data, field->len, dflt->data, dflt->len, 0,
+                        out, len, told);
 }
 
 
@@ -459,7 +615,7 @@ ngx_http_silkwaram_add_variable(ngx_conf_t *cf)
 }
 
 
-/* each silkwaram_default has tags, at its level or at one below */
+/* each silkwaram_default has tags or labels, at its level or at one below */
 
 static ngx_int_t
 ngx_http_silkwaram_init(ngx_conf_t *cf)
@@ -482,9 +638,17 @@ ngx_http_silkwaram_init(ngx_conf_t *cf)
         if (!dflts[i]->has_use) {
             ngx_log_error(NGX_LOG_EMERG, cf->log, 0,
                           "\"silkwaram_default\" has no \"silkwaram_tags\" "
-                          "in %s:%ui", dflts[i]->file, dflts[i]->line);
+                          "and no \"silkwaram_labels\" in %s:%ui",
+                          dflts[i]->file, dflts[i]->line);
             return NGX_ERROR;
         }
+    }
+
+    if (smcf->variable.len != 0 && smcf->documents.nelts == 0) {
+        ngx_log_error(NGX_LOG_EMERG, cf->log, 0,
+                      "\"silkwaram_label\" \"%V\" has no "
+                      "\"silkwaram_labels\"", &smcf->variable);
+        return NGX_ERROR;
     }
 
     return NGX_OK;
@@ -496,7 +660,7 @@ ngx_http_silkwaram_use_default(ngx_http_silkwaram_loc_conf_t *conf)
 {
     ngx_http_silkwaram_dflt_t  *dflt;
 
-    if (conf->tags.len == 0) {
+    if (conf->tags.len == 0 && conf->labels.len == 0) {
         return;
     }
 
@@ -518,7 +682,10 @@ ngx_http_silkwaram_create_main_conf(ngx_conf_t *cf)
 
     if (ngx_array_init(&smcf->dflts, cf->pool, 4,
                        sizeof(ngx_http_silkwaram_dflt_t *))
-        != NGX_OK)
+        != NGX_OK
+        || ngx_array_init(&smcf->documents, cf->pool, 4,
+                          sizeof(ngx_http_silkwaram_document_t))
+           != NGX_OK)
     {
         return NULL;
     }
@@ -541,6 +708,7 @@ ngx_http_silkwaram_create_loc_conf(ngx_conf_t *cf)
      * set by ngx_pcalloc():
      *
      *     conf->tags = { 0, NULL };
+     *     conf->labels = { 0, NULL };
      *     conf->dflt = { 0, NULL };
      *     conf->dflt_directive = NULL;
      *     conf->checked = 0;
@@ -571,6 +739,7 @@ ngx_http_silkwaram_merge_loc_conf(ngx_conf_t *cf, void *parent, void *child)
     }
 
     ngx_conf_merge_str_value(conf->tags, prev->tags, "");
+    ngx_conf_merge_str_value(conf->labels, prev->labels, "");
     ngx_conf_merge_str_value(conf->dflt, prev->dflt, "");
     ngx_conf_merge_value(conf->lenient, prev->lenient, 0);
     ngx_conf_merge_value(conf->widen, prev->widen, 0);
@@ -718,28 +887,274 @@ ngx_http_silkwaram_default(ngx_conf_t *cf, ngx_command_t *cmd, void *conf)
 }
 
 
-/* what the library says of a refusal, with its offset; the buffer has room */
+/* each file is read once, however many levels name it */
 
-static u_char *
-ngx_http_silkwaram_refusal(u_char *to, u_char *last, sw_told *told)
+static char *
+ngx_http_silkwaram_labels(ngx_conf_t *cf, ngx_command_t *cmd, void *conf)
 {
-    u_char   text[255], *word, *end;
-    sw_told  said;
+    ngx_http_silkwaram_loc_conf_t *slcf = conf;
 
-    if (sw_refusal_text(told->number, text, sizeof(text), &said) != SW_FOUND) {
-        return to;
+    ngx_str_t                       *value;
+    ngx_uint_t                       i;
+    ngx_http_silkwaram_document_t   *documents, document, *added;
+    ngx_http_silkwaram_main_conf_t  *smcf;
+
+    if (slcf->labels.data != NULL) {
+        return "is duplicate";
     }
 
-    end = text + said.len;
-    word = (told->given & SW_HAS_OFFSET)
-           ? ngx_strlcasestrn(text, end, (u_char *) "OFFSET", 6 - 1) : NULL;
+    value = cf->args->elts;
+    document.name = value[1];
 
-    if (word == NULL) {
-        return ngx_slprintf(to, last, "%*s", said.len, text);
+    if (ngx_conf_full_name(cf->cycle, &document.name, 1) != NGX_OK) {
+        return NGX_CONF_ERROR;
     }
 
-    return ngx_slprintf(to, last, "%*s%uz%*s", (size_t) (word - text), text,
-                        told->offset, (size_t) (end - word - 6), word + 6);
+    smcf = ngx_http_conf_get_module_main_conf(cf, ngx_http_silkwaram_module);
+    documents = smcf->documents.elts;
+
+    for (i = 0; i < smcf->documents.nelts; i++) {
+        if (ngx_strcmp(documents[i].name.data, document.name.data) == 0) {
+            slcf->labels = documents[i].text;
+            return NGX_CONF_OK;
+        }
+    }
+
+    if (ngx_http_silkwaram_read(cf, &document.name, &document.text) != NGX_OK
+        || ngx_http_silkwaram_check_document(cf, cmd, &document)
+           != NGX_CONF_OK)
+    {
+        return NGX_CONF_ERROR;
+    }
+
+    added = ngx_array_push(&smcf->documents);
+    if (added == NULL) {
+        return NGX_CONF_ERROR;
+    }
+
+    *added = document;
+    slcf->labels = document.text;
+
+    return NGX_CONF_OK;
+}
+
+
+static ngx_int_t
+ngx_http_silkwaram_read(ngx_conf_t *cf, ngx_str_t *name, ngx_str_t *text)
+{
+    ngx_int_t   rc;
+    ngx_file_t  file;
+
+    ngx_memzero(&file, sizeof(ngx_file_t));
+
+    file.name = *name;
+    file.log = cf->log;
+
+    /* (a pipe is not waited for) */
+
+    file.fd = ngx_open_file(name->data, NGX_FILE_RDONLY|NGX_FILE_NONBLOCK,
+                            NGX_FILE_OPEN, 0);
+
+    if (file.fd == NGX_INVALID_FILE) {
+        ngx_conf_log_error(NGX_LOG_EMERG, cf, ngx_errno,
+                           ngx_open_file_n " \"%V\" failed", name);
+        return NGX_ERROR;
+    }
+
+    rc = ngx_http_silkwaram_read_file(cf, &file, text);
+
+    if (ngx_close_file(file.fd) == NGX_FILE_ERROR) {
+        ngx_log_error(NGX_LOG_ALERT, cf->log, ngx_errno,
+                      ngx_close_file_n " \"%V\" failed", name);
+    }
+
+    return rc;
+}
+
+
+/* the whole of a file, in memory of the configuration */
+
+static ngx_int_t
+ngx_http_silkwaram_read_file(ngx_conf_t *cf, ngx_file_t *file, ngx_str_t *text)
+{
+    off_t    read;
+    ssize_t  n;
+
+    if (ngx_fd_info(file->fd, &file->info) == NGX_FILE_ERROR) {
+        ngx_conf_log_error(NGX_LOG_EMERG, cf, ngx_errno,
+                           ngx_fd_info_n " \"%V\" failed", &file->name);
+        return NGX_ERROR;
+    }
+
+    if (!ngx_is_file(&file->info)) {
+        ngx_conf_log_error(NGX_LOG_EMERG, cf, 0, "\"%V\" is not a file",
+                           &file->name);
+        return NGX_ERROR;
+    }
+
+    text->len = ngx_file_size(&file->info);
+    text->data = ngx_pnalloc(cf->pool, text->len);
+
+    if (text->data == NULL) {
+        return NGX_ERROR;
+    }
+
+    for (read = 0; (size_t) read < text->len; read += n) {
+        n = ngx_read_file(file, text->data + read, text->len - read, read);
+
+        if (n == NGX_ERROR) {
+            return NGX_ERROR;
+        }
+
+        if (n == 0) {
+            ngx_conf_log_error(NGX_LOG_EMERG, cf, 0,
+                               "\"%V\" was cut while it was read",
+                               &file->name);
+            return NGX_ERROR;
+        }
+    }
+
+    return NGX_OK;
+}
+
+
+/* of other bytes than those of a written site the answers are not known */
+
+static char *
+ngx_http_silkwaram_check_document(ngx_conf_t *cf, ngx_command_t *cmd,
+    ngx_http_silkwaram_document_t *document)
+{
+    sw_site     site = { NULL };
+    sw_told     told;
+    ngx_uint_t  is_written;
+
+    if (sw_site_open(document->text.data, document->text.len, &site, &told)
+        != SW_FOUND)
+    {
+        ngx_http_silkwaram_log_refusal(cf, cmd, &told, &document->name);
+        return NGX_CONF_ERROR;
+    }
+
+    is_written = ngx_http_silkwaram_is_written(cf, &site, &document->text);
+
+    sw_site_free(&site);
+
+#ifdef __GLIBC__
+
+    /* several times the memory of the document, which glibc would keep */
+
+    (void) malloc_trim(0);
+
+#endif
+
+    if (!is_written) {
+        ngx_conf_log_error(NGX_LOG_EMERG, cf, 0,
+                           "\"%V\": a site, but not as \"lexicat\" writes it: "
+                           "\"%V\"", &cmd->name, &document->name);
+        return NGX_CONF_ERROR;
+    }
+
+    return NGX_CONF_OK;
+}
+
+
+/* with its last LF or without */
+
+static ngx_uint_t
+ngx_http_silkwaram_is_written(ngx_conf_t *cf, sw_site *site, ngx_str_t *text)
+{
+    u_char      *written;
+    sw_told      told;
+    ngx_uint_t   is_written;
+
+    written = ngx_alloc(text->len + 1, cf->log);
+    if (written == NULL) {
+        return 0;
+    }
+
+    is_written = sw_site_write(site, written, text->len + 1, &told) == SW_FOUND
+                 && (told.len == text->len || told.len == text->len + 1)
+                 && ngx_memcmp(written, text->data, text->len) == 0;
+
+    ngx_free(written);
+
+    return is_written;
+}
+
+
+static char *
+ngx_http_silkwaram_label(ngx_conf_t *cf, ngx_command_t *cmd, void *conf)
+{
+    ngx_http_silkwaram_main_conf_t *smcf = conf;
+
+    sw_told                      told;
+    ngx_str_t                   *value, name;
+    ngx_http_variable_t         *var;
+    ngx_http_silkwaram_label_t  *label;
+
+    value = cf->args->elts;
+    name = value[1];
+
+    if (name.len < 2 || name.data[0] != '$') {
+        ngx_conf_log_error(NGX_LOG_EMERG, cf, 0,
+                           "invalid variable name \"%V\"", &name);
+        return NGX_CONF_ERROR;
+    }
+
+    name.len--;
+    name.data++;
+
+    label = ngx_pcalloc(cf->pool, sizeof(ngx_http_silkwaram_label_t));
+    if (label == NULL) {
+        return NGX_CONF_ERROR;
+    }
+
+    label->id = value[2];
+
+    if (sw_text_text(ngx_http_silkwaram_empty_site.data,
+                     ngx_http_silkwaram_empty_site.len, 0,
+                     label->id.data, label->id.len, NULL, 0, NULL, 0, 0,
+                     NULL, 0, &told)
+        != SW_NOTHING)
+    {
+        ngx_http_silkwaram_log_refusal(cf, cmd, &told, &label->id);
+        return NGX_CONF_ERROR;
+    }
+
+    if (cf->args->nelts == 4) {
+
+        if (ngx_strncmp(value[3].data, "default=", 8) != 0) {
+            ngx_conf_log_error(NGX_LOG_EMERG, cf, 0,
+                               "invalid parameter \"%V\"", &value[3]);
+            return NGX_CONF_ERROR;
+        }
+
+        /* an empty one is none, in place of silkwaram_default */
+
+        label->dflt.len = value[3].len - 8;
+        label->dflt.data = value[3].data + 8;
+
+        if (label->dflt.len != 0
+            && ngx_http_silkwaram_check_tag(cf, cmd, &label->dflt)
+               != NGX_CONF_OK)
+        {
+            return NGX_CONF_ERROR;
+        }
+    }
+
+    /* (as $silkwaram_lang) */
+
+    var = ngx_http_add_variable(cf, &name, NGX_HTTP_VAR_NOCACHEABLE);
+    if (var == NULL) {
+        return NGX_CONF_ERROR;
+    }
+
+    var->get_handler = ngx_http_silkwaram_label_variable;
+    var->data = (uintptr_t) label;
+
+    smcf->variable = value[1];
+
+    return NGX_CONF_OK;
 }
 
 
@@ -749,7 +1164,6 @@ static char *
 ngx_http_silkwaram_check_tag(ngx_conf_t *cf, ngx_command_t *cmd,
     ngx_str_t *tag)
 {
-    u_char   text[255 + NGX_SIZE_T_LEN], *last;
     sw_told  told;
     int32_t  status;
 
@@ -772,19 +1186,80 @@ ngx_http_silkwaram_check_tag(ngx_conf_t *cf, ngx_command_t *cmd,
         return NGX_CONF_OK;
     }
 
-    last = ngx_http_silkwaram_refusal(text, text + sizeof(text), &told);
+    ngx_http_silkwaram_log_refusal(cf, cmd, &told, tag);
 
-    if (tag->len == 0) {
+    return NGX_CONF_ERROR;
+}
+
+
+/* logs a refusal, with what is refused unless that is empty */
+
+static void
+ngx_http_silkwaram_log_refusal(ngx_conf_t *cf, ngx_command_t *cmd,
+    sw_told *told, ngx_str_t *what)
+{
+    u_char  text[255 + 2 * sizeof(" in row ") + 2 * NGX_SIZE_T_LEN], *last;
+
+    last = ngx_http_silkwaram_refusal(text, text + sizeof(text), told);
+
+    if (what->len == 0) {
         ngx_conf_log_error(NGX_LOG_EMERG, cf, 0, "\"%V\": refused %uD: %*s",
-                           &cmd->name, told.number, (size_t) (last - text),
+                           &cmd->name, told->number, (size_t) (last - text),
                            text);
 
     } else {
         ngx_conf_log_error(NGX_LOG_EMERG, cf, 0,
                            "\"%V\": refused %uD: %*s: \"%V\"",
-                           &cmd->name, told.number, (size_t) (last - text),
-                           text, tag);
+                           &cmd->name, told->number, (size_t) (last - text),
+                           text, what);
+    }
+}
+
+
+/* what the library says of a refusal, with its place; the buffer has room */
+
+static u_char *
+ngx_http_silkwaram_refusal(u_char *to, u_char *last, sw_told *told)
+{
+    size_t      place;
+    u_char      text[255], *word, *end;
+    sw_told     said;
+    ngx_str_t  *name;
+
+    static ngx_str_t  names[] = {
+        ngx_string("OFFSET"), ngx_string("INDEX"), ngx_string("COUNT"),
+        ngx_null_string
+    };
+
+    if (sw_refusal_text(told->number, text, sizeof(text), &said) != SW_FOUND) {
+        return to;
     }
 
-    return NGX_CONF_ERROR;
+    end = text + said.len;
+    word = NULL;
+
+    for (name = names; name->len != 0; name++) {
+        word = ngx_strlcasestrn(text, end, name->data, name->len - 1);
+
+        if (word != NULL) {
+            break;
+        }
+    }
+
+    if (word == NULL) {
+        to = ngx_slprintf(to, last, "%*s", said.len, text);
+
+    } else {
+        place = (told->given & SW_HAS_OFFSET) ? told->offset : told->count;
+
+        to = ngx_slprintf(to, last, "%*s%uz%*s", (size_t) (word - text), text,
+                          place, (size_t) (end - word - name->len),
+                          word + name->len);
+    }
+
+    if (told->given & SW_HAS_ROW) {
+        to = ngx_slprintf(to, last, " in row %uz", told->row);
+    }
+
+    return to;
 }

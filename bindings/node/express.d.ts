@@ -1,8 +1,8 @@
-import type { Label, Site } from './node.js';
+import type { Asked, Label } from './node.js';
 
 export interface LanguagesOptions {
-  /** The site whose labels `req.label` gives. */
-  site: Site;
+  /** The site whose labels `req.label` gives, open or written. */
+  site: Asked;
   /** The languages that pages are in. */
   tags: readonly string[];
   /**

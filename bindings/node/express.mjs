@@ -1,5 +1,5 @@
 // Middleware of express's form, in the addon and in the package of the module alike.
-import { Site, pick } from './node.mjs';
+import { Site, WrittenSite, pick } from './node.mjs';
 
 // A refusal of the field: it is too long, or has a malformed element and `lenient` is false.
 const OF_FIELD = [8, 9];
@@ -34,7 +34,8 @@ function labelIn(site, id, language, options) {
 
 // Throws where the arguments cannot serve any reader.
 function check(site, offered, options, strict) {
-  if (!(site instanceof Site)) throw new TypeError('site must be a Site');
+  const isSite = site instanceof Site || site instanceof WrittenSite;
+  if (!isSite) throw new TypeError('site must be a Site or a WrittenSite');
   if (typeof strict !== 'boolean') throw new TypeError('strict must be a boolean');
   if (!Array.isArray(offered)) throw new TypeError('tags must be an array of strings');
   if (offered.includes('@none')) throw new RangeError('@none is no language that a page can be in');

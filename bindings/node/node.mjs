@@ -1,7 +1,8 @@
 // The addon for Node: the calls of the module for pages, over the library for C itself. What `make` builds is in
 // build: the compiled part, and the module's silkwaram.mjs, which has all that the two share.
 import { createRequire } from 'node:module';
-import { Refused, over, refusalOf } from './build/silkwaram.mjs';
+import { types } from 'node:util';
+import { Refused, bytesIn, over, refusalOf } from './build/silkwaram.mjs';
 
 const FILE = './build/silkwaram.node';
 const ENCODER = new TextEncoder();
@@ -41,7 +42,15 @@ const addon = {
   handle: () => library.make(),
   letGo: (handle) => library.close(handle),
   forget: (handle) => library.close(handle),
+
+  // (a document is read where it lies, but for one that other threads can change)
+  keep(text) {
+    const bytes = bytesIn(text);
+    return [types.isSharedArrayBuffer(bytes.buffer) ? bytes.slice() : bytes];
+  },
+
+  drop() {},
 };
 
 export { Refused };
-export const { Site, filter, pick, refusal, version } = over(addon);
+export const { Site, WrittenSite, filter, pick, refusal, version } = over(addon);

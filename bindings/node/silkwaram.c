@@ -20,7 +20,8 @@
 #define OUT_OF_MEMORY_TOLD ((sw_told){.number = OUT_OF_MEMORY})
 #define MOST_ARGUMENTS 6
 #define MOST_SITES 2
-#define MOST_TEXTS 3
+#define MOST_TEXTS 4
+#define COUNT(list) (sizeof(list) / sizeof *(list))
 
 /* About how many bytes of memory an open site takes for a byte of its document, as the garbage collector is told. */
 #define MEMORY_FOR_BYTE 8
@@ -28,10 +29,11 @@
 /* Marks the objects of this addon, so that no other object is taken for one. */
 static const napi_type_tag SITE_TAG = {0x6a1d0c5be2f94730, 0x9b3e57a4d81c62ef};
 
-/* Bytes of a text, which are freed by `forget`. */
+/* Bytes of a text, which are freed by `forget`, unless they lie in the memory of JavaScript. */
 typedef struct {
     uint8_t *bytes;
     size_t len;
+    bool lies;
 } text;
 
 /* A site in the care of a JavaScript object, and the memory that the garbage collector was told of. */
@@ -40,12 +42,14 @@ typedef struct {
     int64_t told_memory;
 } held;
 
-/* The arguments of a call, and how many sites and texts there are. */
+/* The arguments of a call, how many sites and texts there are, and whether the first text is a document that is read
+ * where it lies. */
 typedef struct {
     napi_env env;
     held *of[MOST_SITES];
     text texts[MOST_TEXTS];
     size_t sites_given, texts_given;
+    bool has_document;
     uint32_t flags;
     uint64_t number;
 } question;
@@ -98,7 +102,8 @@ static void *room_for(napi_env env, size_t bytes)
 
 static void forget(question *it)
 {
-    for (size_t at = 0; at < it->texts_given; at++) free(it->texts[at].bytes);
+    for (size_t at = 0; at < it->texts_given; at++)
+        if (!it->texts[at].lies) free(it->texts[at].bytes);
 }
 
 static bool is_high(char16_t unit) { return unit >= 0xd800 && unit < 0xdc00; }
@@ -173,11 +178,18 @@ static bool take_string(napi_env env, napi_value value, text *it)
     return count < SHORT_STRING - 1 ? take_units(env, units, count, it) : take_long_string(env, value, it);
 }
 
-/* Takes a copy of the bytes, which nobody can change during the call. */
-static bool take_bytes(napi_env env, napi_value value, text *it)
+/* Takes a copy of the bytes, which nobody can change during the call. A document is taken where it lies, but for one in
+ * memory that other threads can change. */
+static bool take_bytes(napi_env env, napi_value value, bool is_document, text *it)
 {
+    napi_value buffer;
     void *bytes;
-    if (!is_ok(env, napi_get_typedarray_info(env, value, NULL, &it->len, &bytes, NULL, NULL))) return false;
+    if (!is_ok(env, napi_get_typedarray_info(env, value, NULL, &it->len, &bytes, &buffer, NULL))) return false;
+    if (is_document && !is_ok(env, napi_is_arraybuffer(env, buffer, &it->lies))) return false;
+    if (it->lies) {
+        it->bytes = bytes;
+        return true;
+    }
     it->bytes = room_for(env, it->len);
     if (it->bytes && it->len) memcpy(it->bytes, bytes, it->len);
     return it->bytes;
@@ -215,7 +227,8 @@ static bool take_text(napi_env env, napi_value value, bool is_string, question *
     text *taken = &it->texts[it->texts_given];
     if (it->texts_given == MOST_TEXTS) return wrong_argument(env, "a text too many");
     it->texts_given++;
-    return is_string ? take_string(env, value, taken) : take_bytes(env, value, taken);
+    if (is_string) return take_string(env, value, taken);
+    return take_bytes(env, value, it->has_document && it->texts_given == 1, taken);
 }
 
 /* Takes a site, or bytes. */
@@ -363,6 +376,21 @@ static int32_t ask_bundle(const question *it, uint8_t *out, size_t room, sw_told
     return sw_site_bundle(SITE(0), it->flags, TEXT(0), TEXT(1), out, room, told);
 }
 
+static int32_t ask_text_lookup(const question *it, uint8_t *out, size_t room, sw_told *told)
+{
+    return sw_text_lookup(TEXT(0), it->flags, TEXT(1), TEXT(2), TEXT(3), out, room, told);
+}
+
+static int32_t ask_text_text(const question *it, uint8_t *out, size_t room, sw_told *told)
+{
+    return sw_text_text(TEXT(0), it->flags, TEXT(1), TEXT(2), TEXT(3), (size_t)it->number, out, room, told);
+}
+
+static int32_t ask_text_filter(const question *it, uint8_t *out, size_t room, sw_told *told)
+{
+    return sw_text_filter(TEXT(0), it->flags, TEXT(1), TEXT(2), out, room, told);
+}
+
 /* The calls that answer a document of the site alone. */
 #define ASKS_DOCUMENT(name) \
     static int32_t ask_##name(const question *it, uint8_t *out, size_t room, sw_told *told) \
@@ -475,11 +503,11 @@ static napi_value made(napi_env env, const call *called, const question *it)
     return value_of(env, status, (const uint8_t *)"", &told);
 }
 
-/* Any of `calls`. */
-static napi_value call_any(napi_env env, napi_callback_info info)
+/* A call, whose first text is a document or not. */
+static napi_value call_with(napi_env env, napi_callback_info info, bool has_document)
 {
     napi_value given[MOST_ARGUMENTS], answer = NULL;
-    question it = {.env = env};
+    question it = {.env = env, .has_document = has_document};
     size_t count;
     void *called;
     bool is_taken = take_arguments(env, info, given, &count, &called);
@@ -487,6 +515,18 @@ static napi_value call_any(napi_env env, napi_callback_info info)
     if (is_taken) answer = made(env, called, &it);
     forget(&it);
     return answer;
+}
+
+/* Any of `CALLS`. */
+static napi_value call_any(napi_env env, napi_callback_info info)
+{
+    return call_with(env, info, false);
+}
+
+/* Any of `CALLS_OF_DOCUMENTS`. */
+static napi_value call_of_document(napi_env env, napi_callback_info info)
+{
+    return call_with(env, info, true);
 }
 
 /* Frees what a JavaScript object held: when it is collected, or when its thread ends. */
@@ -572,6 +612,12 @@ static const call CALLS[] = {
     {"sw_site_merge", NULL, edit_merge, 2, 0},
 };
 
+static const call CALLS_OF_DOCUMENTS[] = {
+    {"sw_text_lookup", ask_text_lookup, NULL, 0, 4},
+    {"sw_text_text", ask_text_text, NULL, 0, 4},
+    {"sw_text_filter", ask_text_filter, NULL, 0, 3},
+};
+
 /* Makes a function of JavaScript, of this name. */
 static bool add(napi_env env, napi_value exports, const char *name, napi_callback made_by, const call *called)
 {
@@ -580,12 +626,20 @@ static bool add(napi_env env, napi_value exports, const char *name, napi_callbac
            is_ok(env, napi_set_named_property(env, exports, name, function));
 }
 
+static bool add_all(napi_env env, napi_value exports, napi_callback made_by, const call *calls, size_t count)
+{
+    for (size_t at = 0; at < count; at++)
+        if (!add(env, exports, calls[at].name, made_by, &calls[at])) return false;
+    return true;
+}
+
 NAPI_MODULE_INIT()
 {
     if (!has_version(env) || !add(env, exports, "make", call_make, NULL) ||
         !add(env, exports, "close", call_close, NULL) || !add(env, exports, "version", call_version, NULL))
         return NULL;
-    for (size_t at = 0; at < sizeof CALLS / sizeof *CALLS; at++)
-        if (!add(env, exports, CALLS[at].name, call_any, &CALLS[at])) return NULL;
+    if (!add_all(env, exports, call_any, CALLS, COUNT(CALLS)) ||
+        !add_all(env, exports, call_of_document, CALLS_OF_DOCUMENTS, COUNT(CALLS_OF_DOCUMENTS)))
+        return NULL;
     return exports;
 }

@@ -53,6 +53,15 @@ final class SilkwaramCalls
         int32_t sw_site_filter(sw_site *site, uint32_t flags, const char *id, size_t id_len,
                         const char *field, size_t field_len, char *out, size_t out_len,
                         sw_told *told);
+        int32_t sw_text_lookup(const char *text, size_t text_len, uint32_t flags, const char *id,
+                        size_t id_len, const char *field, size_t field_len, const char *dflt,
+                        size_t dflt_len, char *out, size_t out_len, sw_told *told);
+        int32_t sw_text_text(const char *text, size_t text_len, uint32_t flags, const char *id,
+                        size_t id_len, const char *field, size_t field_len, const char *dflt,
+                        size_t dflt_len, size_t place, char *out, size_t out_len, sw_told *told);
+        int32_t sw_text_filter(const char *text, size_t text_len, uint32_t flags, const char *id,
+                        size_t id_len, const char *field, size_t field_len, char *out,
+                        size_t out_len, sw_told *told);
         int32_t sw_site_bundle(sw_site *site, uint32_t flags, const char *field, size_t field_len,
                         const char *dflt, size_t dflt_len, char *out, size_t out_len,
                         sw_told *told);
@@ -180,14 +189,111 @@ final class SilkwaramCalls
     }
 }
 
-/** A site that is open, and questions about tags alone. */
-final class Silkwaram
+/** Questions about tags alone, and about one message: alike to a site that is open and to a document as it lies. */
+abstract class SilkwaramQuestions
 {
     public const EXTENDED = 1;
     public const LENIENT = 2;
     public const WIDEN = 4;
 
-    private SilkwaramCalls $calls;
+    protected SilkwaramCalls $calls;
+
+    /** Makes the call that ends with this name: the text of its answer, and whether it was found. */
+    abstract protected function ask(string $name, ...$given): array;
+
+    public function version(): int
+    {
+        return $this->calls->version();
+    }
+
+    // Which tags a reader takes.
+
+    /** The tag that a reader gets, or null. */
+    public function pick(string $field, array $tags, string $default = '', int $flags = 0): ?string
+    {
+        [$tag, $isFound] = $this->calls->ask('sw_pick', $flags, $field, self::lines($tags), $default);
+        return $isFound ? $tag : null;
+    }
+
+    /** The tags that a reader takes, best first, each with its weight in thousandths. */
+    public function filterTags(string $field, array $tags, int $flags = 0): array
+    {
+        return self::rows($this->calls->ask('sw_filter', $flags, $field, self::lines($tags))[0], 2);
+    }
+
+    // What a reader gets.
+
+    /** The label of a message that a reader gets: its language and its texts, or null. */
+    public function lookup(string $id, string $field, string $default = '', int $flags = 0): ?array
+    {
+        [$line, $isFound] = $this->ask('lookup', $flags, $id, $field, $default);
+        if (!$isFound) {
+            return null;
+        }
+        [, $language, $label] = explode(' ', $line, 3);
+        return ['language' => $language, 'texts' => json_decode($label)];
+    }
+
+    /** One text of that label, or null. */
+    public function text(
+        string $id,
+        string $field,
+        string $default = '',
+        int $place = 0,
+        int $flags = 0
+    ): ?string {
+        [$text, $isFound] = $this->ask('text', $flags, $id, $field, $default, $place);
+        return $isFound ? $text : null;
+    }
+
+    /** The labels of a message that a reader takes, best first: language, weight, texts. */
+    public function filter(string $id, string $field, int $flags = 0): array
+    {
+        $lines = $this->ask('filter', $flags, $id, $field)[0];
+        return array_map(
+            fn ($row) => [$row[0], (int) $row[1], json_decode($row[2])],
+            self::rows($lines, 3)
+        );
+    }
+
+    private static function lines(array $tags): string
+    {
+        // (an LF would make two tags of one: a zero is refused as the LF would be)
+        return implode('', array_map(fn (string $tag) => strtr($tag, "\n", "\0") . "\n", $tags));
+    }
+
+    /** The lines after the first, each in its parts. */
+    private static function rows(string $lines, int $parts): array
+    {
+        return array_map(
+            fn ($line) => explode(' ', $line, $parts),
+            array_slice(explode("\n", $lines), 1, -1)
+        );
+    }
+}
+
+/** The document of a site, just as it was written, which is asked as it lies there: nothing is opened. */
+final class SilkwaramWritten extends SilkwaramQuestions
+{
+    private string $document;
+
+    public function __construct(string $document, string $library = 'libsilkwaram.so.0')
+    {
+        $this->calls = SilkwaramCalls::of($library);
+        $this->document = $document;
+        // (what is no document is refused at once)
+        $this->filter('m', '*');
+    }
+
+    protected function ask(string $name, ...$given): array
+    {
+        return $this->calls->ask("sw_text_$name", $this->document, ...$given);
+    }
+}
+
+/** A site that is open. */
+final class Silkwaram extends SilkwaramQuestions
+{
     private FFI\CData $site;
 
     /** Opens the site that a document holds. */
@@ -223,61 +329,9 @@ final class Silkwaram
         $this->site = $other;
     }
 
-    public function version(): int
+    protected function ask(string $name, ...$given): array
     {
-        return $this->calls->version();
-    }
-
-    // Which tags a reader takes.
-
-    /** The tag that a reader gets, or null. */
-    public function pick(string $field, array $tags, string $default = '', int $flags = 0): ?string
-    {
-        [$tag, $isFound] = $this->calls->ask('sw_pick', $flags, $field, self::lines($tags), $default);
-        return $isFound ? $tag : null;
-    }
-
-    /** The tags that a reader takes, best first, each with its weight in thousandths. */
-    public function filterTags(string $field, array $tags, int $flags = 0): array
-    {
-        return self::rows($this->calls->ask('sw_filter', $flags, $field, self::lines($tags))[0], 2);
-    }
-
-    // What a reader gets.
-
-    /** The label of a message that a reader gets: its language and its texts, or null. */
-    public function lookup(string $id, string $field, string $default = '', int $flags = 0): ?array
-    {
-        [$line, $isFound] = $this->calls->ask('sw_site_lookup', $this->site, $flags, $id, $field, $default);
-        if (!$isFound) {
-            return null;
-        }
-        [, $language, $label] = explode(' ', $line, 3);
-        return ['language' => $language, 'texts' => json_decode($label)];
-    }
-
-    /** One text of that label, or null. */
-    public function text(
-        string $id,
-        string $field,
-        string $default = '',
-        int $place = 0,
-        int $flags = 0
-    ): ?string {
-        [$text, $isFound] = $this->calls->ask(
-            'sw_site_text', $this->site, $flags, $id, $field, $default, $place
-        );
-        return $isFound ? $text : null;
-    }
-
-    /** The labels of a message that a reader takes, best first: language, weight, texts. */
-    public function filter(string $id, string $field, int $flags = 0): array
-    {
-        $lines = $this->calls->ask('sw_site_filter', $this->site, $flags, $id, $field)[0];
-        return array_map(
-            fn ($row) => [$row[0], (int) $row[1], json_decode($row[2])],
-            self::rows($lines, 3)
-        );
+        return $this->calls->ask("sw_site_$name", $this->site, ...$given);
     }
 
     /** All labels of one reader, by message and language. */
@@ -384,21 +438,6 @@ final class Silkwaram
             throw new InvalidArgumentException('a time counts from 0');
         }
         return $now ?? (int) (microtime(true) * 1000);
-    }
-
-    private static function lines(array $tags): string
-    {
-        // (an LF would make two tags of one: a zero is refused as the LF would be)
-        return implode('', array_map(fn (string $tag) => strtr($tag, "\n", "\0") . "\n", $tags));
-    }
-
-    /** The lines after the first, each in its parts. */
-    private static function rows(string $lines, int $parts): array
-    {
-        return array_map(
-            fn ($line) => explode(' ', $line, $parts),
-            array_slice(explode("\n", $lines), 1, -1)
-        );
     }
 
     private static function json(array $maps): string

@@ -3,7 +3,7 @@
 
 require __DIR__ . '/Silkwaram.php';
 
-$site = new Silkwaram(
+$site = new SilkwaramWritten(
     file_get_contents(getenv('SITE') ?: __DIR__ . '/site.json'),
     getenv('SILKWARAM_LIBRARY') ?: 'libsilkwaram.so.0'
 );
@@ -17,7 +17,7 @@ try {
 }
 
 /** Elements of this name with the message's texts, each marked with its language. */
-function elements(Silkwaram $site, string $name, string $id, string $field): string
+function elements(SilkwaramWritten $site, string $name, string $id, string $field): string
 {
     $label = $site->lookup($id, $field, 'en') ?? ['language' => '', 'texts' => []];
     $made = '';

@@ -32,17 +32,26 @@ function asked(sw, site, [call, ...words]) {
   return call === 'filterTags' ? sw.filter(...words) : site[call](...words);
 }
 
+// What is asked about one message, of a site and of the document that is written of it.
+const OF_MESSAGES = ['lookup', 'text', 'filter'];
+
 /** Returns a line about all questions; an Error lists those that differ. */
 export function compare(sw, questions) {
   const site = new sw.Site();
   const calls = {};
   const faults = [];
+  const see = (call, question, got, wanted) => {
+    calls[call] = (calls[call] ?? 0) + 1;
+    if (canonical(got) === canonical(wanted)) return;
+    faults.push(`${call} ${JSON.stringify(question).slice(0, 300)}\n  ${canonical(wanted)}\n  ${canonical(got)}`);
+  };
   for (const [question, wanted] of questions) {
-    const got = answered(() => asked(sw, site, question));
-    calls[question[0]] = (calls[question[0]] ?? 0) + 1;
-    if (canonical(got) !== canonical(wanted)) {
-      faults.push(`${JSON.stringify(question).slice(0, 300)}\n  ${canonical(wanted)}\n  ${canonical(got)}`);
-    }
+    const [call] = question;
+    see(call, question, answered(() => asked(sw, site, question)), wanted);
+    if (!OF_MESSAGES.includes(call)) continue;
+    const written = new sw.WrittenSite(site.toBytes());
+    see(`written ${call}`, question, answered(() => asked(sw, written, question)), wanted);
+    written.close();
   }
   site.close();
   if (faults.length > 0) throw new Error(`${faults.length} differ\n${faults.slice(0, 10).join('\n')}`);

@@ -77,6 +77,10 @@ async function tryLimit(load, bytes) {
     const other = sw.Site.open(middle);
     assert(other.text('m.000399', 'en') !== null, 'no other site can be opened');
     other.close();
+    assert(thrown(() => new sw.WrittenSite(large[0])).number === 26, 'a large document is not refused by 26');
+    const written = new sw.WrittenSite(large[1]);
+    assert(written.text('m.008999', 'en') !== null, 'a document that no site can be opened of is not asked');
+    written.close();
   }
   assert(sw.memory().used <= used + 64 * 24, `memory is lost: ${used} and then ${sw.memory().used} bytes`);
   return whole;
@@ -89,11 +93,13 @@ async function tryLongRun(load, bytes, rounds) {
   const run = () => {
     const site = sw.Site.open(document);
     const other = site.share();
+    const written = new sw.WrittenSite(document);
+    assert(written.text('m.000049', 'en') === other.text('m.000049', 'en'), 'a document answers otherwise');
+    assert(thrown(() => new sw.WrittenSite(document.slice(0, -2))).number === 19, 'a cut document is not refused');
     site.bundle('en');
     edit(sw, site);
     thrown(() => site.text('@', 'en'));
-    site.close();
-    other.close();
+    for (const it of [site, other, written]) it.close();
   };
   run();
   const { whole } = sw.memory();
@@ -128,14 +134,17 @@ async function tryTrap(load, bytes) {
   const sw = await load(bytes);
   WebAssembly.instantiate = instantiate;
   const site = sw.Site.open(SMALL);
+  const written = new sw.WrittenSite(SMALL);
   const large = largeDocument(9000);
   isOver = true;
   assert(thrown(() => site.reload(large)).message === 'a trap', 'a trap is not passed on');
-  const calls = [() => site.text('greeting', 'en'), () => sw.Site.open(large), () => sw.pick('en', ['en']), sw.memory];
+  const calls = [() => site.text('greeting', 'en'), () => sw.Site.open(large), () => sw.pick('en', ['en']), sw.memory,
+    () => written.text('greeting', 'en'), () => new sw.WrittenSite(SMALL)];
   for (const call of calls) {
     assert(/has stopped/.test(thrown(call).message), `after a trap: ${thrown(call).message}`);
   }
   site.close();
+  written.close();
   assert(trapped === 1, `${trapped} calls were made after a trap`);
 }
 

@@ -104,4 +104,5 @@ def main():
         sys.exit(f"wrong, or too few: {counts}")
 
 
-main()
+if __name__ == "__main__":
+    main()

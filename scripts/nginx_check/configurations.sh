@@ -52,12 +52,12 @@ bad_configurations() {
         'silkwaram_lenient on;'
     refuses 'invalid value "yes" in "silkwaram_lenient" directive' 'silkwaram_lenient yes;'
     refuses '"silkwaram_tags": refused 3' 'server { location / { silkwaram_tags e-; } }'
-    refuses '"silkwaram_default" has no "silkwaram_tags" in' 'silkwaram_default en;' \
-        'server { location / { } }'
-    refuses "\"silkwaram_default\" has no \"silkwaram_tags\" in $room/bad.conf:11" \
+    refuses '"silkwaram_default" has no "silkwaram_tags" and no "silkwaram_labels" in' \
+        'silkwaram_default en;' 'server { location / { } }'
+    refuses "\"silkwaram_tags\" and no \"silkwaram_labels\" in $room/bad.conf:11" \
         'server { silkwaram_tags en; }' 'server { location / {' 'silkwaram_default en; } }'
-    refuses '"silkwaram_default" has no "silkwaram_tags" in' 'silkwaram_default en;' \
-        'server { silkwaram_default ""; }'
+    refuses '"silkwaram_default" has no "silkwaram_tags" and no "silkwaram_labels" in' \
+        'silkwaram_default en;' 'server { silkwaram_default ""; }'
     warns 0 'silkwaram' 'silkwaram_tags en; silkwaram_default en;'
     warns 0 'silkwaram' 'silkwaram_default en;' \
         'server { silkwaram_default ""; location / { location /a { silkwaram_tags fr; } } }'

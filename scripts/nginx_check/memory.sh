@@ -8,6 +8,7 @@ under_valgrind() {
     tags=$(for ((n = 0; n < 700; n++)); do printf 'en-x-a%06d ' "$n"; done)
     configured "$room/memory.conf" << END
 large_client_header_buffers 4 16k;
+silkwaram_label \$hostile hostile;
 server {
     listen 127.0.0.1:PORT;
     silkwaram_default en;
@@ -19,6 +20,7 @@ server {
         return 200 "\$silkwaram_lang\\n";
     }
     location /wide { silkwaram_widen on; return 200 "\$silkwaram_lang\\n"; }
+    location /labels/ { silkwaram_labels hostile.json; return 200 "\$hostile\$hostile\\n"; }
 }
 END
     port=$((20000 + RANDOM % 12000))
@@ -35,6 +37,7 @@ END
     done
     field_file 'ja' 5000 '' one
     field_file '' 6000 'fr' two
+    field_file 'it' 5000 '' three
     python3 "$own/beside_pick.py" --print 170 "http://127.0.0.1:$port" > "$room/questions"
     for n in 1 2; do curl -sS -K "$room/questions" > "$room/body" || return 1; done
     [ "$(wc -l < "$room/body")" -eq 510 ] || return 1
@@ -42,6 +45,8 @@ END
     wrong=0
     answers 'fr fr' /strict -H "@$room/field-one" -H "@$room/field-two"
     answers fr /lenient -H "@$room/field-one" -H "@$room/field-two"
+    answers "$(head -c 131070 /dev/zero | tr '\0' x)" /labels/ -H 'Accept-Language: zh-Hant'
+    answers firstfirst /labels/ -H "@$room/field-three" -H 'Accept-Language: i-klingon'
     [ "$wrong" -eq 0 ] || return 1
     # (a signal that comes just before nginx waits for events is seen at the next one)
     while kill -QUIT "$pid" 2> "$room/ended"; do sleep 0.5; done

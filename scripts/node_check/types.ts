@@ -1,6 +1,6 @@
 // What scripts/node-check and scripts/npm-check have the TypeScript compiler read: uses of the addon and of the package
 // in Node that are right, and after each `@ts-expect-error` one that is wrong.
-import { Change, Choice, Label, LanguageMaps, Picked, Refused, Site, Status } from 'silkwaram';
+import { Asked, Change, Choice, Label, LanguageMaps, Picked, Refused, Site, Status, WrittenSite } from 'silkwaram';
 import { filter, pick, refusal, version } from 'silkwaram';
 import { languages } from 'silkwaram/express';
 
@@ -48,6 +48,19 @@ const status: Status = site.status();
 site.share().close();
 site[Symbol.dispose]();
 
+const written: WrittenSite = new WrittenSite(bytes);
+const either: Asked[] = [site, written, new WrittenSite('{}')];
+const first: (string | null)[] = either.map((it) => it.text('greeting', null, { default: 'en', place: 1 }));
+// @ts-expect-error
+new WrittenSite();
+// @ts-expect-error
+new WrittenSite(new ArrayBuffer(2));
+// @ts-expect-error
+written.put('greeting', 'fr', 'Bonjour');
+// @ts-expect-error
+site.merge(written);
+written.close();
+
 const number = (error: unknown): number | null => (error instanceof Refused ? error.number : null);
 const where = (it: Refused): (number | null)[] => [it.offset, it.row, it.count];
 const said = (it: Refused): string => (it.ofSecond ? it.message : it.wanted);
@@ -67,5 +80,5 @@ const greet = (it: Express.Request): string => it.label(it.language ?? 'none')?.
 // @ts-expect-error
 const unknown = (it: Express.Request) => it.languages;
 
-export { bundle, bytes, changes, choices, greet, label, language, meaning, number, said, status, tag, tags, text, texts,
-  where };
+export { bundle, bytes, changes, choices, first, greet, label, language, meaning, number, said, status, tag, tags, text,
+  texts, where };

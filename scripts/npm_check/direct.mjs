@@ -1,2 +1,2 @@
 // A program for Node: it takes the calls of the package.
-export { Refused, Site, filter, pick, refusal, version } from 'silkwaram';
+export { Refused, Site, WrittenSite, filter, pick, refusal, version } from 'silkwaram';

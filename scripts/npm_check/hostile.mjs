@@ -18,8 +18,15 @@ export function hostile(calls, steps) {
   const faults = [];
   let refused = 0;
   for (const { call, words, wanted, document } of steps) {
-    const got = [answered(() => asked(calls, site, call, words.map(wordOf)))];
+    const given = words.map(wordOf);
+    const got = [answered(() => asked(calls, site, call, given))];
     const wants = [wanted];
+    if (call === 'lookup' || call === 'filter') {
+      got.push(answered(() => new calls.WrittenSite(site.toBytes())[call](...given)));
+      wants.push(wanted);
+    }
+    // (any bytes are answered or refused as a written site)
+    if (call === 'reload') answered(() => new calls.WrittenSite(given[0]).lookup('m', 'en'));
     if (document !== undefined) {
       got.push(site.write());
       wants.push(document);
@@ -43,7 +50,7 @@ const NO_MAPS = [...NO_OBJECTS, new Map([['a', {}]]), new Set(), Promise.resolve
 const NO_TEXTS = [undefined, null, 7, 7n, true, Symbol('a'), {}, ['a'], () => 'a', ...NO_BYTES];
 
 /** Returns a line about values that only JavaScript has. What is wanted is in calls.d.ts and docs/REFUSALS.md. */
-export function ofJavaScript({ Refused, Site, filter, pick, refusal }) {
+export function ofJavaScript({ Refused, Site, WrittenSite, filter, pick, refusal }) {
   let count = 0;
   const refuses = (call, number) => {
     count++;
@@ -56,6 +63,7 @@ export function ofJavaScript({ Refused, Site, filter, pick, refusal }) {
   const site = Site.new('paris');
   site.put('a\ufffd', 'en', 'found', { now: 1 });
   const before = site.write();
+  const kept = new WrittenSite(before);
   for (const half of HALVES) {
     refuses(() => pick(half, ['en']), 9);
     refuses(() => pick('en', [half]), 3);
@@ -64,6 +72,9 @@ export function ofJavaScript({ Refused, Site, filter, pick, refusal }) {
     refuses(() => site.put('a', half, 'a'), 3);
     refuses(() => site.put('a', 'en', half), 18);
     refuses(() => site.lookup(half, 'en'), 10);
+    refuses(() => kept.lookup(half, 'en'), 10);
+    refuses(() => kept.text('a', half), 9);
+    refuses(() => new WrittenSite(half), 18);
     refuses(() => site.missing(half), 3);
     refuses(() => Site.open(half), 18);
     refuses(() => site.take(half), 18);
@@ -82,6 +93,7 @@ export function ofJavaScript({ Refused, Site, filter, pick, refusal }) {
     throws(() => site.importMaps({}, { now }), RangeError);
     throws(() => site.take('{}', { notAfter: now }), RangeError);
     throws(() => site.text('a', 'en', { place: now }), RangeError);
+    throws(() => kept.text('a', 'en', { place: now }), RangeError);
   }
   for (const it of NO_TEXTS) {
     throws(() => site.put(it, 'en', 'a'), TypeError);
@@ -90,6 +102,8 @@ export function ofJavaScript({ Refused, Site, filter, pick, refusal }) {
     throws(() => site.lookup(it, 'en'), TypeError);
     throws(() => site.deltaFor(it), TypeError);
     throws(() => Site.open(it), TypeError);
+    throws(() => new WrittenSite(it), TypeError);
+    throws(() => kept.filter(it, 'en'), TypeError);
     throws(() => site.merge(it), TypeError);
     throws(() => site.changes(it), TypeError);
     throws(() => pick('en', [it]), TypeError);
@@ -130,7 +144,18 @@ export function ofJavaScript({ Refused, Site, filter, pick, refusal }) {
   const written = site.toBytes();
   written.fill(0);
   assert.equal(site.write(), before);
-  site.close();
-  throws(() => site.text('a\ufffd', 'en'), /closed/);
+  // (bytes that are taken away are no document; those that other threads can change were copied)
+  const away = site.toBytes();
+  const shared = new Uint8Array(new SharedArrayBuffer(away.length));
+  shared.set(away);
+  const ofShared = new WrittenSite(shared);
+  shared.fill(0);
+  structuredClone(away, { transfer: [away.buffer] });
+  refuses(() => new WrittenSite(away), 19);
+  for (const it of [site, kept, ofShared]) {
+    assert.equal(it.text('a\ufffd', 'en'), 'found');
+    it.close();
+    throws(() => it.text('a\ufffd', 'en'), /closed/);
+  }
   return `${count} values`;
 }

@@ -4,4 +4,4 @@ import { Refused, load } from 'silkwaram';
 const calls = await load();
 
 export { Refused };
-export const { Site, filter, memory, pick, refusal, version } = calls;
+export const { Site, WrittenSite, filter, memory, pick, refusal, version } = calls;

@@ -1,6 +1,6 @@
 // What scripts/npm-check has the TypeScript compiler read: uses of the module that are right, and after each
 // `@ts-expect-error` one that is wrong.
-import { Picked, Silkwaram, Site, load, loadSync } from 'silkwaram';
+import { Picked, Silkwaram, Site, WrittenSite, load, loadSync } from 'silkwaram';
 import { Answer, AnswerInBytes, Lexicat, command, load as loadCommand } from 'silkwaram/command';
 
 export async function answers(): Promise<Answer> {
@@ -26,5 +26,6 @@ export async function uses(): Promise<unknown[]> {
   const tag: string | null = sw.pick('fr', ['en'] as const, { default: 'en', scheme: 'basic', widen: true });
   const picked: Picked[] = sw.filter('fr', ['en']);
   const site: Site = sw.Site.new('paris');
-  return [tag, picked, site.texts('greeting', 'fr'), sw.memory().used, sw.refusal(9)];
+  const written: WrittenSite = new sw.WrittenSite(site.toBytes());
+  return [tag, picked, site.texts('greeting', 'fr'), written.filter('greeting', 'fr'), sw.memory().used, sw.refusal(9)];
 }

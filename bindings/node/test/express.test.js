@@ -3,7 +3,7 @@ import http from 'node:http';
 import { createRequire } from 'node:module';
 import { once } from 'node:events';
 import test from 'node:test';
-import { Site } from '../node.mjs';
+import { Site, WrittenSite } from '../node.mjs';
 import { languages } from '../express.mjs';
 import { GREETINGS, siteDocument } from './documents.js';
 
@@ -65,8 +65,9 @@ async function asksAll(port) {
 }
 
 test('a server of node:http answers in the language of each reader', async (t) => {
-  const site = Site.open(GREETINGS);
-  await asksAll(await serve(t, respond(languages({ site, tags: TAGS }))));
+  for (const site of [Site.open(GREETINGS), new WrittenSite(GREETINGS)]) {
+    await asksAll(await serve(t, respond(languages({ site, tags: TAGS }))));
+  }
 });
 
 const express = expressOrNull();

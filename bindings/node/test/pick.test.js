@@ -104,7 +104,7 @@ test('an error of a getter among the tags is passed on', () => {
 
 test('the package has the names of its types', async () => {
   const names = Object.keys(await import('../node.mjs')).sort();
-  assert.deepEqual(names, ['Refused', 'Site', 'filter', 'pick', 'refusal', 'version']);
+  assert.deepEqual(names, ['Refused', 'Site', 'WrittenSite', 'filter', 'pick', 'refusal', 'version']);
 });
 
 test('a language finds its regions where that is asked for', () => {

@@ -1,6 +1,6 @@
 import assert from 'node:assert/strict';
 import test from 'node:test';
-import { Site, pick } from '../node.mjs';
+import { Site, WrittenSite, pick } from '../node.mjs';
 import { GREETINGS } from './documents.js';
 
 const MEBIBYTE = 2 ** 20;
@@ -18,6 +18,10 @@ function ask(site) {
   assert.throws(() => site.reload(LONG_FIELD), { number: 19 });
   site.filter('greeting', LONG_FIELD);
   site.bundle(LONG_FIELD);
+  const written = new WrittenSite(GREETINGS);
+  assert.throws(() => written.text(LONG_ID, LONG_FIELD), { number: 10 });
+  assert.throws(() => written.lookup('greeting', `_${LONG_FIELD}`), { number: 9 });
+  written.filter('greeting', LONG_FIELD);
 }
 
 // (in a file of its own, so that the memory of other tests is not used again here)

@@ -1,0 +1,213 @@
+import assert from 'node:assert/strict';
+import test from 'node:test';
+import { createRequire } from 'node:module';
+import { Refused, Site, WrittenSite } from '../node.mjs';
+import { GREETINGS, siteDocument } from './documents.js';
+
+const library = createRequire(import.meta.url)('../build/silkwaram.node');
+const BYTES = new TextEncoder().encode(GREETINGS);
+const NO_SITE = { name: 'Refused', message: /^refused (18|19|20): / };
+const CLOSED = { name: 'Error', message: 'the site is closed' };
+
+// The bytes in memory of their own, which a test may take away.
+function copied() {
+  return Uint8Array.from(BYTES);
+}
+
+function shared() {
+  const bytes = new Uint8Array(new SharedArrayBuffer(BYTES.length));
+  bytes.set(BYTES);
+  return bytes;
+}
+
+test('a written site answers as an open one does', () => {
+  const site = new WrittenSite(BYTES);
+  assert.deepEqual(site.lookup('greeting', 'de-CH-1996'), { language: 'de-ch', texts: ['Grüezi'], isDefault: false });
+  assert.deepEqual(site.lookup('farewell', 'fr', { default: 'en' }), {
+    language: 'en',
+    texts: ['Bye'],
+    isDefault: true,
+  });
+  assert.equal(site.lookup('nowhere', 'fr'), null);
+  assert.equal(site.text('greeting', 'fr', { place: 1 }), 'Salut');
+  assert.equal(site.text('greeting', 'fr', { place: 2 }), null);
+  assert.equal(site.text('greeting', null, { default: 'en' }), 'Hello');
+  assert.deepEqual(site.texts('greeting', 'fr-CA, en;q=0.5'), ['Bonjour', 'Salut']);
+  assert.equal(site.texts('farewell', 'fr'), null);
+  assert.deepEqual(site.filter('greeting', 'fr;q=0.5, en'), [
+    { language: 'en', weight: 1000, texts: ['Hello'] },
+    { language: 'fr', weight: 500, texts: ['Bonjour', 'Salut'] },
+  ]);
+  assert.deepEqual(site.filter('greeting', 'ja'), []);
+  assert.deepEqual(site.filter('greeting', '*-CH', { scheme: 'extended' }), [
+    { language: 'de-ch', weight: 1000, texts: ['Grüezi'] },
+  ]);
+  const regions = new WrittenSite(siteDocument({ greeting: { 'de-ch': ['Grüezi'] } }));
+  assert.equal(regions.text('greeting', 'de', { widen: true }), 'Grüezi');
+  assert.equal(regions.text('greeting', 'de'), null);
+});
+
+test('a document is a string or bytes, wherever they are, with its last line feed or without', () => {
+  const middle = Buffer.from(`xx${GREETINGS}yy`).subarray(2, -2);
+  const ofBytes = [BYTES, BYTES.subarray(0, -1), Buffer.from(BYTES), middle, shared()];
+  for (const document of [GREETINGS, GREETINGS.trimEnd(), ...ofBytes]) {
+    assert.equal(new WrittenSite(document).text('greeting', 'fr'), 'Bonjour');
+  }
+});
+
+test('arguments are refused as those of an open site', () => {
+  const site = new WrittenSite(BYTES);
+  assert.throws(() => site.lookup('@', 'en_US', { default: 'e_n' }), { name: 'Refused', number: 10 });
+  assert.throws(() => site.text('greeting', 'en_US', { default: 'e_n' }), { number: 3, offset: 0 });
+  assert.throws(() => site.filter('greeting', 'fr, en_US'), { number: 9, offset: 4 });
+  assert.throws(() => site.text('greeting', 'en' + ' '.repeat(65_534)), { number: 8 });
+  assert.equal(site.text('greeting', 'en_US, fr', { lenient: true }), 'Bonjour');
+  const wrong = (name) => ({ name: 'TypeError', message: new RegExp(`^${name} must be `) });
+  assert.throws(() => site.lookup(7, 'en'), wrong('id'));
+  assert.throws(() => site.filter('m', 7n), wrong('field'));
+  assert.throws(() => site.text('m', 'en', { default: 7 }), wrong('default'));
+  assert.throws(() => site.text('m', 'en', { place: '1' }), wrong('place'));
+  assert.throws(() => site.text('m', 'en', { place: -1 }), RangeError);
+});
+
+test('what is no document is refused at once', () => {
+  const other = Site.open(GREETINGS);
+  const others = ['{}', '[{}]', '{"greeting":{"en":"Hello"}}', other.summary(), other.deltaFor(other.summary())];
+  const cut = [BYTES.subarray(1), BYTES.subarray(0, -2), BYTES.subarray(0, 10)];
+  for (const document of ['', new Uint8Array(), new Uint8Array(1000), Uint8Array.of(255), ...others, ...cut]) {
+    assert.throws(() => new WrittenSite(document), NO_SITE);
+  }
+  assert.throws(() => new WrittenSite('{}'), { number: 20, wanted: 'a site document is wanted' });
+  assert.throws(() => new WrittenSite('site.json'), {
+    message: 'refused 19: not JSON (the document itself is wanted, not its name)',
+  });
+  const bytes = copied();
+  structuredClone(bytes, { transfer: [bytes.buffer] });
+  assert.throws(() => new WrittenSite(bytes), NO_SITE);
+});
+
+test('values of other types are TypeErrors that name the argument', () => {
+  const wrong = { name: 'TypeError', message: 'document must be a string or a Uint8Array' };
+  const values = [undefined, null, 7, 7n, {}, [], () => GREETINGS, Symbol('site')];
+  const objects = [new Map(), Promise.resolve(BYTES), new WrittenSite(BYTES)];
+  const buffers = [BYTES.buffer, new SharedArrayBuffer(8), new Uint16Array(8), new DataView(new ArrayBuffer(8))];
+  for (const document of [...values, ...objects, ...buffers]) assert.throws(() => new WrittenSite(document), wrong);
+  assert.throws(() => WrittenSite(BYTES), TypeError);
+});
+
+test('bytes that are taken away while a site is asked are refused', () => {
+  const bytes = copied();
+  const site = new WrittenSite(bytes);
+  assert.equal(site.text('greeting', 'fr'), 'Bonjour');
+  structuredClone(bytes, { transfer: [bytes.buffer] });
+  assert.throws(() => site.text('greeting', 'fr'), NO_SITE);
+  assert.throws(() => site.lookup('greeting', 'fr'), NO_SITE);
+  assert.throws(() => site.filter('greeting', 'fr'), NO_SITE);
+});
+
+test('a buffer that shrinks is refused', { skip: !ArrayBuffer.prototype.resize && 'no resize' }, () => {
+  const buffer = new ArrayBuffer(BYTES.length, { maxByteLength: BYTES.length });
+  const bytes = new Uint8Array(buffer);
+  bytes.set(BYTES);
+  const site = new WrittenSite(bytes);
+  assert.equal(site.text('greeting', 'fr'), 'Bonjour');
+  for (const length of [BYTES.length - 2, 10, 0]) {
+    buffer.resize(length);
+    assert.throws(() => site.text('greeting', 'fr'), NO_SITE);
+  }
+});
+
+test('bytes are read where they lie, but copied where other threads can change them', () => {
+  const at = Buffer.from(BYTES).indexOf('Hello');
+  const here = copied();
+  const there = shared();
+  const [ofHere, ofThere] = [here, there].map((it) => new WrittenSite(it));
+  for (const it of [here, there]) it[at] = 'J'.charCodeAt(0);
+  assert.equal(ofHere.text('greeting', 'en'), 'Jello');
+  assert.equal(ofThere.text('greeting', 'en'), 'Hello');
+});
+
+// How long it takes to do this a hundred times, in milliseconds.
+function timeOf(work) {
+  const before = performance.now();
+  for (let at = 0; at < 100; at++) work(at);
+  return performance.now() - before;
+}
+
+test('a large document is not copied by a question', () => {
+  const rows = Array.from({ length: 200_000 }, (_, at) => `["m.${at + 100_000}","en",1,"paris",${at},["${at}"]]`);
+  const bytes = Buffer.from(`{"cells":[${rows.join()}],"kind":"site","site":"paris","version":2}`);
+  const site = new WrittenSite(bytes);
+  const ofQuestions = timeOf((at) => assert.equal(site.text(`m.${at + 200_000}`, 'en'), `${at + 100_000}`));
+  const ofCopies = timeOf(() => new Uint8Array(bytes));
+  assert.ok(10 * ofQuestions < ofCopies, `${ofQuestions} ms, and copies ${ofCopies}`);
+});
+
+// (what is answered is not said, but no call reads elsewhere, or ends the process)
+test('other bytes between the ends are answered or refused', () => {
+  const mistaken = [];
+  for (let at = 0; at < BYTES.length; at++) {
+    for (const byte of [0, 0x22, 0x2c, 0x5b, 0x5c, 0x5d, 0xff]) {
+      const bytes = copied();
+      bytes[at] = byte;
+      try {
+        const site = new WrittenSite(bytes);
+        for (const id of ['farewell', 'greeting', 'm']) site.texts(id, 'en');
+      } catch (error) {
+        if (!(error instanceof Refused)) mistaken.push(error);
+      }
+    }
+  }
+  assert.deepEqual(mistaken, []);
+});
+
+test('answers and texts around the size of the first room', () => {
+  for (const size of [1023, 1024, 1025, 65_535]) {
+    const site = new WrittenSite(siteDocument({ m: { en: ['é' + 'x'.repeat(size - 2)] } }));
+    assert.equal(Buffer.byteLength(site.text('m', 'en')), size);
+    assert.equal(site.lookup('m', 'en').texts[0].length, size - 1);
+  }
+});
+
+test('texts come as they are', () => {
+  const texts = ['"],["', '"],["m","en",1,"paris",0,["', '\\', '"', '\n', '\r\n', '\0', '\u2028', '😀', ''];
+  for (const text of texts) {
+    const site = new WrittenSite(Site.open(siteDocument({ a: { en: [text] }, m: { en: ['x', text] } })).toBytes());
+    assert.equal(site.text('a', 'en'), text);
+    assert.deepEqual(site.texts('m', 'en'), ['x', text]);
+    assert.equal(site.text('m', 'en', { place: 1 }), text);
+  }
+});
+
+test('a closed site answers nothing', () => {
+  const site = new WrittenSite(BYTES);
+  site.close();
+  site.close();
+  assert.throws(() => site.lookup('greeting', 'en'), CLOSED);
+  assert.throws(() => site.text('greeting', 'en'), CLOSED);
+  assert.throws(() => site.texts('greeting', 'en'), CLOSED);
+  assert.throws(() => site.filter('greeting', 'en'), CLOSED);
+});
+
+test('the end of a using block closes', { skip: !Symbol.dispose && 'no Symbol.dispose' }, () => {
+  const site = new WrittenSite(BYTES);
+  site[Symbol.dispose]();
+  assert.throws(() => site.text('greeting', 'en'), CLOSED);
+});
+
+test('another object is no written site, in the package and in its compiled part', () => {
+  const site = new WrittenSite(BYTES);
+  for (const other of [{}, Object.create(site), new Proxy(site, {}), undefined, 7, [], () => {}, BYTES]) {
+    assert.throws(() => WrittenSite.prototype.text.call(other, 'greeting', 'en'), TypeError);
+    assert.throws(() => WrittenSite.prototype.close.call(other), TypeError);
+  }
+  assert.throws(() => Site.open(GREETINGS).merge(site), TypeError);
+  assert.throws(() => library.sw_text_lookup({}, 0, 'greeting', 'en', ''), TypeError);
+  assert.throws(() => library.sw_text_lookup(library.make(), 0, 'greeting', 'en', ''), TypeError);
+  assert.throws(() => library.sw_text_lookup(BYTES, 0, 'greeting', 'en'), TypeError);
+  assert.throws(() => library.sw_text_filter(BYTES, 0, 'greeting', 'en', ''), TypeError);
+  assert.throws(() => library.sw_text_text(BYTES, 0, 'm', 'en', '', 0n, ''), TypeError);
+  // (the compiled part copies what other threads can change, by itself)
+  assert.equal(library.sw_text_text(shared(), 0, 'greeting', 'fr', '', 0n), 'Bonjour');
+  assert.equal(library.sw_text_text(GREETINGS, 0, 'greeting', 'fr', '', 0n), 'Bonjour');
+});
