@@ -100,7 +100,7 @@ static text new_id(uint8_t *room) {
 /* Mostly short, sometimes as long as a text may be. */
 static void add_text(growing *it) {
   add_pieces(it, 6, 1);
-  if (!one_in(300)) return;
+  if (!one_in(3000)) return;
   while (it->len < MOST_TEXT) it->bytes[it->len++] = "x],["[below(4)];
 }
 

@@ -179,10 +179,15 @@ static void reads_anew(sw_site *site) {
   LABEL_TEXT(site, 0, T("m"), T("en"), NO_TEXT, 0, answers(SW_FOUND, 1, "Good day"));
 }
 
-/* A document that is asked where it lies: all other refusals come before those of the text. */
+/* A document that is asked where it lies: all other refusals come before those of the text. What is no site is refused
+ * as sw_site_open refuses it. */
 static void written_texts(void) {
   text paris = T(PARIS), m = T("m"), none = T("{}"), most = {paris.bytes, paris.len - 1};
-  text others[] = {NO_TEXT, T("\n"), T("[]"), {paris.bytes + 1, paris.len - 1}, {paris.bytes, paris.len - 2}};
+  const struct {
+    text text;
+    uint32_t number;
+  } others[] = {{NO_TEXT, 19}, {T("\n"), 19}, {T("[]"), 20}, {{paris.bytes + 1, paris.len - 1}, 19},
+                {{paris.bytes, paris.len - 9}, 19}};
   ROW(ROOM, sw_text_lookup(BYTES(paris), 0, BYTES(m), BYTES(T("fr-CA, en;q=0.5")), NULL, 0, out, ROOM, &told),
       answers(SW_FOUND, 0, "matched fr [\"Bonjour\"]\n"));
   ROW(ROOM, sw_text_lookup(BYTES(most), 0, BYTES(m), BYTES(T("ja")), BYTES(T("EN")), out, ROOM, &told),
@@ -207,10 +212,11 @@ static void written_texts(void) {
       refused_at(3, 3));
   ROW(ROOM, sw_text_filter(BYTES(none), 0, BYTES(m), BYTES(T("fr, en_US")), out, ROOM, &told), refused_at(9, 4));
   for (size_t it = 0; it < sizeof others / sizeof *others; it++) {
-    text en = T("en"), other = others[it];
-    ROW(ROOM, sw_text_lookup(BYTES(other), 0, BYTES(m), BYTES(en), NULL, 0, out, ROOM, &told), refused(20));
-    ROW(ROOM, sw_text_text(BYTES(other), 0, BYTES(m), BYTES(en), NULL, 0, 0, out, ROOM, &told), refused(20));
-    ROW(ROOM, sw_text_filter(BYTES(other), 0, BYTES(m), BYTES(en), out, ROOM, &told), refused(20));
+    text en = T("en"), other = others[it].text;
+    wanted refusal = refused(others[it].number);
+    ROW(ROOM, sw_text_lookup(BYTES(other), 0, BYTES(m), BYTES(en), NULL, 0, out, ROOM, &told), refusal);
+    ROW(ROOM, sw_text_text(BYTES(other), 0, BYTES(m), BYTES(en), NULL, 0, 0, out, ROOM, &told), refusal);
+    ROW(ROOM, sw_text_filter(BYTES(other), 0, BYTES(m), BYTES(en), out, ROOM, &told), refusal);
   }
 }
 

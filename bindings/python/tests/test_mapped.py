@@ -184,14 +184,15 @@ class Begins(Files):
             with self.assertRaises(IsADirectoryError):
                 mapped(os.path.dirname(self.path), is_copied)
 
-    def test_what_is_no_site_as_it_is_written(self):
-        delta = PARIS.replace(b'"kind":"site","site":"paris"', b'"kind":"delta","to":"paris"')
-        for content in (b"", b"\n", b"{}\n", b"not a site", PARIS[1:], PARIS[:-9], delta):
+    def test_what_is_no_site(self):
+        contents = [(b"", 19), (b"\n", 19), (b"not a site", 19), (PARIS[1:], 19), (PARIS[:-9], 19)]
+        for content, number in [*contents, (b"{}\n", 20), (b'{"cells":[]}', 20)]:
             for is_copied in (False, True):
                 self.replace(content)
                 with self.subTest(content=content[:20], is_copied=is_copied):
-                    fault = self.refuses(20, lambda: mapped(self.path, is_copied))
-                    self.assertEqual(fault.wanted, "a site document is wanted")
+                    fault = self.refuses(number, lambda: mapped(self.path, is_copied))
+                    if number == 20:
+                        self.assertEqual(fault.wanted, "a site document is wanted")
 
 
 class Replaced(Files):
@@ -240,11 +241,10 @@ class Replaced(Files):
     def test_a_file_that_is_no_site(self):
         for site in self.ways(greeting("old")):
             before = site.share()
-            for content in (b"", b"no site\n", greeting("new")[:-5]):
+            for content, number in (b"", 19), (b"{}\n", 20), (greeting("new")[:-5], 19):
                 self.replace(content)
                 for ask in (site.lookup, site.text, site.texts, site.filter):
-                    fault = self.refuses(20, lambda: ask("greeting", "en"))
-                    self.assertEqual(fault.wanted, "a site document is wanted")
+                    self.refuses(number, lambda: ask("greeting", "en"))
             self.assertEqual(before.text("greeting", "en"), "old")
             self.replace(greeting("new"))
             self.assertEqual(site.text("greeting", "en"), "new")
@@ -306,7 +306,7 @@ except silkwaram.Refused as fault:
 path.write_bytes(held.replace(b"Hello", b"Good day"))
 print(site.text("greeting", "en"))
 """)
-        self.assertEqual((ran.stdout, ran.stderr), ("20 Hello\nGood day\n", ""))
+        self.assertEqual((ran.stdout, ran.stderr), ("19 Hello\nGood day\n", ""))
 
     def test_a_map_ends_it(self):
         ran = self.run_python("""

@@ -137,9 +137,9 @@ def mapped(path: Path, copy: bool = False) -> MappedSite:
         print(site.text("greeting", "fr-CA, en;q=0.5"))
 
     The file is the document of a site as Silkwaram writes it, of any size. It is mapped, and of a
-    site of a million messages a question reads some twenty rows; so a process begins at once, and
-    all that ask share the memory. It has `lookup`, `text`, `texts` and `filter` of `Site`, `share`
-    and `close`.
+    million messages a question looks at some thirty places; so a process begins at once, and all
+    that ask share the memory. It has `lookup`, `text`, `texts` and `filter` of `Site`, `share` and
+    `close`.
 
     Each call looks whether the file was replaced (`os.stat`: device, inode, size and times), and
     asks the new one then; while a thread opens that, others ask the one before, and so do all where
@@ -150,7 +150,8 @@ def mapped(path: Path, copy: bool = False) -> MappedSite:
     the first page that is gone (SIGBUS). With `copy` the bytes are read, and not mapped: whoever
     writes into such a file ends no process, though what was half written may be refused.
 
-    Refused, here and by each question: a file that is no site, or in a form that another program
-    gave it (20; `Site.open` reads that). A file that cannot be read is an OSError here.
+    Refused, here and by each question: a file that is no site, as by `Site.open`. One in a form that
+    another program gave it may be read whole by each question, so open that. A file that cannot be
+    read is an OSError here.
     """
     return MappedSite(path, copy)
