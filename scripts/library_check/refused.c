@@ -137,6 +137,22 @@ static void bundles(trial *it) {
       sw_site_bundle(&it->site, SW_LENIENT, BYTES(T("en_US, " LONG_TAG)), BYTES(T("de")), it->out, ROOM, &it->told);
 }
 
+static void looks_up_in_text(trial *it) {
+  it->status = sw_text_lookup(BYTES(T(PARIS)), 0, BYTES(T("m")), BYTES(T("da, " LONG_TAG)), BYTES(T(LONG_TAG "-more")),
+                              it->out, ROOM, &it->told);
+}
+
+static void finds_text_in_text(trial *it) {
+  it->status = sw_text_text(BYTES(T(PARIS)), SW_EXTENDED, BYTES(T("m")),
+                            BYTES(T("*-de, zh-*-CN-x-private1-private2, en")), BYTES(T("en")), 0, it->out, ROOM,
+                            &it->told);
+}
+
+static void filters_text(trial *it) {
+  it->status = sw_text_filter(BYTES(T(PARIS)), 0, BYTES(T("m")), BYTES(T("en;q=0.5, zh-hant-cn-x-private1")), it->out,
+                              ROOM, &it->told);
+}
+
 /* Whether a call leaves the site, changes it, or joins cells to it, in part where memory ends. */
 enum kind { ASKS, EDITS, JOINS };
 
@@ -171,6 +187,9 @@ static const struct {
     {"sw_site_text", finds_text, ASKS},
     {"sw_site_filter", filters_labels, ASKS},
     {"sw_site_bundle", bundles, ASKS},
+    {"sw_text_lookup", looks_up_in_text, ASKS},
+    {"sw_text_text", finds_text_in_text, ASKS},
+    {"sw_text_filter", filters_text, ASKS},
 };
 
 /* Whether the site is shared, so that an edit is made apart: in a copy, or in the state before. */

@@ -91,6 +91,13 @@ REPORT(text, &site, SW_LENIENT, BYTES(T("m")), BYTES(T(LONG_FIELD)), BYTES(T("en
 REPORT(filter, &site, SW_EXTENDED | SW_LENIENT, BYTES(T("m")), BYTES(T(LONG_FIELD "en")))
 REPORT(bundle, &site, SW_LENIENT, BYTES(T(LONG_FIELD)), BYTES(T("en")))
 
+ASKS(look_up_in_text, found(sw_text_lookup(BYTES(T(PARIS)), SW_LENIENT, BYTES(T("m")), BYTES(T(LONG_FIELD)),
+                                           BYTES(T("en")), out, ROOM, &told)))
+ASKS(text_of_text, found(sw_text_text(BYTES(T(PARIS)), SW_LENIENT, BYTES(T("m")), BYTES(T(LONG_FIELD)), BYTES(T("en")),
+                                      0, out, ROOM, &told)))
+ASKS(filter_text, found(sw_text_filter(BYTES(T(PARIS)), SW_EXTENDED | SW_LENIENT, BYTES(T("m")),
+                                       BYTES(T(LONG_FIELD "en")), out, ROOM, &told)))
+
 static void share(void) {
   sw_site one = {0};
   found(sw_site_share(&site, &one));
@@ -264,6 +271,9 @@ static const struct {
     {"sw_site_text", text_call},
     {"sw_site_filter", filter_call},
     {"sw_site_bundle", bundle_call},
+    {"sw_text_lookup", look_up_in_text},
+    {"sw_text_text", text_of_text},
+    {"sw_text_filter", filter_text},
     {"sw_site_share", share},
 };
 

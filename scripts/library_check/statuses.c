@@ -179,6 +179,47 @@ static void reads_anew(sw_site *site) {
   LABEL_TEXT(site, 0, T("m"), T("en"), NO_TEXT, 0, answers(SW_FOUND, 1, "Good day"));
 }
 
+/* A document that is asked where it lies: all other refusals come before those of the text. What is no site is refused
+ * as sw_site_open refuses it. */
+static void written_texts(void) {
+  text paris = T(PARIS), m = T("m"), none = T("{}"), most = {paris.bytes, paris.len - 1};
+  const struct {
+    text text;
+    uint32_t number;
+  } others[] = {{NO_TEXT, 19}, {T("\n"), 19}, {T("[]"), 20}, {{paris.bytes + 1, paris.len - 1}, 19},
+                {{paris.bytes, paris.len - 9}, 19}};
+  ROW(ROOM, sw_text_lookup(BYTES(paris), 0, BYTES(m), BYTES(T("fr-CA, en;q=0.5")), NULL, 0, out, ROOM, &told),
+      answers(SW_FOUND, 0, "matched fr [\"Bonjour\"]\n"));
+  ROW(ROOM, sw_text_lookup(BYTES(most), 0, BYTES(m), BYTES(T("ja")), BYTES(T("EN")), out, ROOM, &told),
+      answers(SW_FOUND, 0, "default en [\"Hello\",\"Hi\"]\n"));
+  ROW(ROOM, sw_text_lookup(BYTES(paris), 0, BYTES(T("l")), BYTES(T("en")), NULL, 0, out, ROOM, &told),
+      answers(SW_NOTHING, 0, "nothing\n"));
+  ROW(ROOM, sw_text_text(BYTES(paris), SW_WIDEN, BYTES(m), BYTES(T("en")), NULL, 0, 1, out, ROOM, &told),
+      answers(SW_FOUND, 2, "Hi"));
+  ROW(ROOM, sw_text_text(BYTES(paris), 0, BYTES(m), BYTES(T("en")), NULL, 0, SIZE_MAX, out, ROOM, &told),
+      ((wanted){SW_NOTHING, {.count = 2}, ""}));
+  ROW(ROOM, sw_text_filter(BYTES(paris), 0, BYTES(m), BYTES(T("fr;q=0.5, en")), out, ROOM, &told),
+      answers(SW_FOUND, 0, "filter 2\nen 1000 [\"Hello\",\"Hi\"]\nfr 500 [\"Bonjour\"]\n"));
+  ROW(ROOM, sw_text_filter(BYTES(paris), 0, BYTES(T("o")), BYTES(T("en")), out, ROOM, &told),
+      answers(SW_NOTHING, 0, "filter 0\n"));
+
+  ROW(ROOM, sw_text_lookup(BYTES(none), 8, BYTES(T("@")), BYTES(T("e n")), NULL, 0, out, ROOM, &told),
+      nothing_told(SW_USAGE));
+  ROW(ROOM, sw_text_filter(BYTES(none), SW_WIDEN, BYTES(m), BYTES(m), out, ROOM, &told), nothing_told(SW_USAGE));
+  ROW(ROOM, sw_text_lookup(BYTES(none), 0, BYTES(T("\xff")), BYTES(T("e n")), BYTES(T("a")), out, ROOM, &told),
+      refused(10));
+  ROW(ROOM, sw_text_text(BYTES(none), 0, BYTES(m), BYTES(T("e n")), BYTES(T("en-")), 0, out, ROOM, &told),
+      refused_at(3, 3));
+  ROW(ROOM, sw_text_filter(BYTES(none), 0, BYTES(m), BYTES(T("fr, en_US")), out, ROOM, &told), refused_at(9, 4));
+  for (size_t it = 0; it < sizeof others / sizeof *others; it++) {
+    text en = T("en"), other = others[it].text;
+    wanted refusal = refused(others[it].number);
+    ROW(ROOM, sw_text_lookup(BYTES(other), 0, BYTES(m), BYTES(en), NULL, 0, out, ROOM, &told), refusal);
+    ROW(ROOM, sw_text_text(BYTES(other), 0, BYTES(m), BYTES(en), NULL, 0, 0, out, ROOM, &told), refusal);
+    ROW(ROOM, sw_text_filter(BYTES(other), 0, BYTES(m), BYTES(en), out, ROOM, &told), refusal);
+  }
+}
+
 /* A handle that is shared outlives the first, and keeps what it held. */
 static void shares(void) {
   sw_site first = {0}, second = {0}, third = {0};
@@ -208,6 +249,7 @@ int main(void) {
   unknown_flags(&site);
   questions(&site);
   rooms(&site);
+  written_texts();
   sw_site_free(&site);
   HOLDS(!site.held);
   shares();

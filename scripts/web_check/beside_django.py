@@ -66,6 +66,7 @@ from django.utils.translation import get_supported_language_variant  # noqa: E40
 django.setup()
 
 from silkwaram import django as ours  # noqa: E402
+from silkwaram._site_file import SiteFile  # noqa: E402
 
 
 def view(request):
@@ -313,7 +314,8 @@ LABELS = [
 
 
 def site(cells):
-    return json.dumps({"cells": cells, "kind": "site", "site": "paris", "version": 2})
+    held = {"cells": cells, "kind": "site", "site": "paris", "version": 2}
+    return json.dumps(held, separators=(",", ":")) + "\n"
 
 
 def rendered(language, request=None):
@@ -322,12 +324,13 @@ def rendered(language, request=None):
 
 
 def faults_of_labels():
-    with tempfile.TemporaryDirectory() as folder:
-        file = os.path.join(folder, "site.json")
-        with open(file, "w", encoding="utf-8") as it:
-            it.write(site(LABELS))
-        with override_settings(SILKWARAM_SITE=file):
-            yield from faults_of_template(file)
+    for is_mapped in False, True:
+        with tempfile.TemporaryDirectory() as folder:
+            file = os.path.join(folder, "site.json")
+            with open(file, "w", encoding="utf-8") as it:
+                it.write(site(LABELS))
+            with override_settings(SILKWARAM_SITE=file, SILKWARAM_MAPPED=is_mapped):
+                yield from faults_of_template(file, ours._site_file(file, is_mapped))
     with override_settings(SILKWARAM_SITE=None):
         try:
             rendered("en")
@@ -336,7 +339,7 @@ def faults_of_labels():
         yield "a template without SILKWARAM_SITE is rendered"
 
 
-def faults_of_template(file):
+def faults_of_template(file, held):
     english = "Hello &amp; &lt;b&gt;|two|||en Paper|"
     rows = [
         (rendered("en"), english),
@@ -352,7 +355,8 @@ def faults_of_template(file):
     with open(file + ".next", "w", encoding="utf-8") as it:
         it.write(site(LABELS[:2]))
     os.replace(file + ".next", file)
-    ours._site_file(file)._look(acquired(ours._site_file(file)))
+    if isinstance(held, SiteFile):
+        held._look(acquired(held))
     rows += [
         (rendered("pt-br", request), "Oi||||en Paper|"),
         (rendered("pt-br"), "Oi|||| |"),

@@ -7,9 +7,9 @@ by ctypes. A question takes some microseconds, as no process is started and a si
     site = Site.open(open("paris.json", "rb").read())
     print(site.text("greeting", "fr-CA, en;q=0.5"))
 
-`pick` and `filter_tags` choose among tags, without a site (RFC 4647). A `field` is what the reader's
-Accept-Language header holds, several of them joined with commas; None, where the request has none,
-counts as `*`. What is refused raises `Refused`.
+`mapped` asks a large file where it lies. `pick` and `filter_tags` choose among tags, without a site
+(RFC 4647). A `field` is what the reader's Accept-Language header holds, several of them joined with
+commas; None, where the request has none, counts as `*`. What is refused raises `Refused`.
 
 `edit` changes the file of a site in place, under a lock:
 
@@ -24,6 +24,7 @@ where and however often a delta comes:
 from ._answers import Cell, Change, Choice, Label, Stamp, Status, TagChoice
 from ._edit import edit
 from ._library import library_version
+from ._mapped import MappedSite, mapped
 from ._pick import filter_tags, pick
 from ._refusals import Refused
 from ._site import Site
@@ -34,6 +35,7 @@ __all__ = [
     "Change",
     "Choice",
     "Label",
+    "MappedSite",
     "Refused",
     "Site",
     "Stamp",
@@ -42,6 +44,7 @@ __all__ = [
     "edit",
     "filter_tags",
     "library_version",
+    "mapped",
     "pick",
 ]
 

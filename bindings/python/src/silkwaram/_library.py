@@ -1,7 +1,7 @@
 """The shared library, and its calls as `silkwaram.h` declares them."""
 import ctypes
 import os
-from ctypes import POINTER, c_char_p, c_int32, c_size_t, c_uint32, c_uint64
+from ctypes import POINTER, c_char_p, c_int32, c_size_t, c_uint32, c_uint64, c_void_p
 from typing import Callable, NamedTuple, Tuple
 
 NAME = "libsilkwaram.so.0"
@@ -29,7 +29,7 @@ class Told(ctypes.Structure):
 class Handle(ctypes.Structure):
     """A site that the library holds, or none."""
 
-    _fields_ = [("held", ctypes.c_void_p)]
+    _fields_ = [("held", c_void_p)]
 
 
 # A call with all its arguments but the buffer, its length, and what is told.
@@ -45,6 +45,8 @@ class Answer(NamedTuple):
 
 
 _TEXT = [c_char_p, c_size_t]
+# A text that may lie anywhere: its bytes, or their address.
+_LYING = [c_void_p, c_size_t]
 _TOLD = [POINTER(Told)]
 _OUT = [c_char_p, c_size_t, *_TOLD]
 _SITE = [POINTER(Handle)]
@@ -74,6 +76,9 @@ _CALLS = {
     "sw_site_outdated": (c_int32, [*_SITE, *_TEXT * 2, *_OUT]),
     "sw_site_delta": (c_int32, [*_SITE, *_TEXT, *_OUT]),
     "sw_site_changes": (c_int32, [*_SITE, *_SITE, *_OUT]),
+    "sw_text_lookup": (c_int32, [*_LYING, c_uint32, *_TEXT * 3, *_OUT]),
+    "sw_text_text": (c_int32, [*_LYING, c_uint32, *_TEXT * 3, c_size_t, *_OUT]),
+    "sw_text_filter": (c_int32, [*_LYING, c_uint32, *_TEXT * 2, *_OUT]),
     "sw_site_share": (c_int32, [*_SITE, *_SITE]),
     "sw_site_free": (None, [*_SITE]),
 }

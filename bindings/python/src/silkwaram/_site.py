@@ -2,14 +2,13 @@
 import ctypes
 import json
 import threading
-from types import TracebackType
-from typing import Any, List, Mapping, NoReturn, Optional, Type, Union
+from typing import Any, List, Mapping, Optional, Union
 
 from . import _answers
-from ._answers import Change, Choice, Label, LanguageMaps, Status
+from ._answers import Change, LanguageMaps, Status
 from ._arguments import Text, flags, given_or, limit, moment, words, wrong_type
-from ._arguments import place as counted_place
-from ._library import FIRST_ROOM, NOTHING, USAGE, Answer, Handle, Told, answered, library
+from ._library import FIRST_ROOM, USAGE, Answer, Handle, Told, answered, library
+from ._questions import Calls, Questions
 from ._refusals import NOT_JSON, Refused, checked
 
 LANGUAGE_MAPS = "language maps"
@@ -43,7 +42,7 @@ class _Held(Handle):
         library.sw_site_free(self)
 
 
-class Site:
+class Site(Questions):
     """A site that is open: what its messages say, in which languages.
 
     It is opened by `Site.open`, or made by `Site.new`, and closed by `close`, by the end of a
@@ -60,6 +59,8 @@ class Site:
     are to ask at once take a `Site` each, by `share`, which copies nothing. After a fork the child
     opens its own.
     """
+
+    _calls = Calls(library.sw_site_lookup, library.sw_site_text, library.sw_site_filter)
 
     def __init__(self) -> None:
         """Makes a site that is closed. Call `Site.open` or `Site.new`."""
@@ -123,55 +124,7 @@ class Site:
         with self._lock:
             library.sw_site_free(self._handle)
 
-    # What a reader gets.
-
-    def lookup(
-        self,
-        id: Text,
-        field: Optional[Text],
-        *,
-        default: Optional[Text] = None,
-        extended: bool = False,
-        lenient: bool = False,
-        widen: bool = False,
-    ) -> Optional[Label]:
-        """Returns the label of a message that a reader gets, or None (RFC 4647 section 3.4).
-
-        The arguments are those of `pick`.
-
-        Refused: the id (10), the default (1 to 4), the field (8, 9).
-        """
-        texts = words(id=id, field=given_or(field, "*"), default=given_or(default, ""))
-        answer = self._ask(library.sw_site_lookup, flags(extended, lenient, widen), *texts)
-        return None if answer.status == NOTHING else _answers.label(answer.text.decode())
-
-    def text(
-        self,
-        id: Text,
-        field: Optional[Text],
-        *,
-        default: Optional[Text] = None,
-        place: int = 0,
-        extended: bool = False,
-        lenient: bool = False,
-        widen: bool = False,
-    ) -> Optional[str]:
-        """Returns the text at a place, from 0, of the label that `lookup` finds, or None."""
-        texts = words(id=id, field=given_or(field, "*"), default=given_or(default, ""))
-        how = flags(extended, lenient, widen)
-        answer = self._ask(library.sw_site_text, how, *texts, counted_place(place))
-        return None if answer.status == NOTHING else answer.text.decode()
-
-    def filter(
-        self, id: Text, field: Optional[Text], *, extended: bool = False, lenient: bool = False
-    ) -> List[Choice]:
-        """Returns the labels of a message that a reader takes, best first (RFC 4647 section 3.3).
-
-        Refused: the id (10), the field (8, 9).
-        """
-        texts = words(id=id, field=given_or(field, "*"))
-        answer = self._ask(library.sw_site_filter, flags(extended, lenient), *texts)
-        return _answers.choices(answer.text.decode())
+    # What a reader gets, beside the questions of every site.
 
     def bundle(
         self,
@@ -347,24 +300,3 @@ class Site:
         if answer.status == USAGE:
             raise ValueError("the site is closed")
         return checked(answer, document)
-
-    def __copy__(self) -> "Site":
-        return self.share()
-
-    def __reduce__(self) -> NoReturn:
-        # (which copy.deepcopy calls too)
-        raise TypeError(
-            "a Site is neither pickled nor copied deeply: share() gives another Site of it, and"
-            " where there is no shared memory its document has to be opened anew"
-        )
-
-    def __enter__(self) -> "Site":
-        return self
-
-    def __exit__(
-        self,
-        kind: Optional[Type[BaseException]],
-        fault: Optional[BaseException],
-        trace: Optional[TracebackType],
-    ) -> None:
-        self.close()

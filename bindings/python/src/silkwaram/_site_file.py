@@ -18,8 +18,11 @@ LONGEST_WAIT = 0.05
 _log = logging.getLogger("silkwaram")
 
 Path = Union[str, "os.PathLike[str]"]
-# What changes when a file is replaced, or written in place.
-_State = Tuple[int, ...]
+
+
+def state_of(it: os.stat_result) -> Tuple[int, ...]:
+    """What changes when a file is replaced, or written in place."""
+    return (it.st_dev, it.st_ino, it.st_size, it.st_mtime_ns, it.st_ctime_ns)
 
 
 class SiteFile:
@@ -37,7 +40,7 @@ class SiteFile:
         """
         self._path = os.fspath(path)
         self._site: Site
-        self._state: Optional[_State] = None
+        self._state: Optional[Tuple[int, ...]] = None
         self._fault: Optional[str] = None
         self._process = os.getpid()
         # (held while the file is looked at)
@@ -81,8 +84,7 @@ class SiteFile:
 
     def _read(self) -> None:
         with open(self._path, "rb") as file:
-            it = os.fstat(file.fileno())
-            state = (it.st_dev, it.st_ino, it.st_size, it.st_mtime_ns, it.st_ctime_ns)
+            state = state_of(os.fstat(file.fileno()))
             if state != self._state:
                 self._site = Site.open(file.read())
                 self._state = state

@@ -10,11 +10,12 @@ fallbacks name, as `zh-CN` finds `zh-hans`, and its regions, as `pt` finds `pt-b
 `SILKWARAM_WIDEN` is False it finds neither, as RFC 4647's lookup has it.
 
 `label` gives views the labels of the file that `SILKWARAM_SITE` names, and the template tag of the
-app `silkwaram` gives them to templates.
+app `silkwaram` gives them to templates. Where `SILKWARAM_MAPPED` is True the file is asked where it
+lies (`silkwaram.mapped`), and not opened.
 """
 import contextlib
 import functools
-from typing import Any, Dict, Optional
+from typing import Any, Dict, Optional, Union
 
 from django.conf import settings
 from django.conf.locale import LANG_INFO
@@ -24,7 +25,8 @@ from django.dispatch import receiver
 from django.middleware import locale
 from django.utils.translation import get_language, get_supported_language_variant
 
-from . import Label, Refused, Site, filter_tags, pick
+from . import Label, MappedSite, Refused, filter_tags, pick
+from ._questions import Questions
 from ._site_file import SiteFile
 
 __all__ = ["LocaleMiddleware", "label"]
@@ -64,22 +66,22 @@ def label(request: Any, id: str) -> Optional[Label]:
     return _site(request).lookup(id, field, lenient=True, widen=_widens())
 
 
-def _site(request: Any) -> Site:
+def _site(request: Any) -> Questions:
     """A share of the site, which a request keeps."""
     path = getattr(settings, "SILKWARAM_SITE", None)
     if path is None:
         raise ImproperlyConfigured("SILKWARAM_SITE names no file")
-    site: Optional[Site] = getattr(request, "_silkwaram_site", None)
+    site: Optional[Questions] = getattr(request, "_silkwaram_site", None)
     if site is None:
-        site = _site_file(path).share()
+        site = _site_file(path, bool(getattr(settings, "SILKWARAM_MAPPED", False))).share()
         if request is not None:
             request._silkwaram_site = site
     return site
 
 
 @functools.lru_cache(maxsize=None)
-def _site_file(path: Any) -> SiteFile:
-    return SiteFile(path)
+def _site_file(path: Any, is_mapped: bool) -> Union[SiteFile, MappedSite]:
+    return MappedSite(path) if is_mapped else SiteFile(path)
 
 
 def _widens() -> bool:

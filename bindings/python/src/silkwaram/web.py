@@ -11,9 +11,9 @@ The application finds in its environ or scope, under the names that this module 
 - `LABEL`, with a site alone: a function that returns the `Label` of a message id that the reader
   gets, or None. All labels of a request are of one state of the site, also when it is reloaded.
 
-The site is an open `site`, or that of the file at `path`, which is read anew when the file was
-replaced: it is looked at once a second at most, and by a thread of its own. A file that is missing
-or broken leaves the site as it was; a warning is logged, and the file is tried again.
+The site is an open or a mapped `site`, or that of the file at `path`, which is read anew when the
+file was replaced: it is looked at once a second at most, and by a thread of its own. A file that is
+missing or broken leaves the site as it was; a warning is logged, and the file is tried again.
 
 A reader who refuses the default too gets it nevertheless, as RFC 9110 section 12.5.4 allows; with
 `strict` such a reader gets None. `widen` lets a language find its regions, as `en` finds `en-US`.
@@ -41,7 +41,8 @@ from typing import (
     TypeVar,
 )
 
-from . import Label, Refused, Site, pick
+from . import Label, Refused, pick
+from ._questions import Questions
 from ._site_file import Path, SiteFile
 
 __all__ = ["ASGILanguageMiddleware", "LABEL", "LANGUAGE", "WSGILanguageMiddleware"]
@@ -76,7 +77,7 @@ class _Languages:
         self,
         *,
         tags: Optional[Iterable[str]],
-        site: Optional[Site],
+        site: Optional[Questions],
         path: Optional[Path],
         message: Optional[str],
         default: Optional[str],
@@ -121,7 +122,7 @@ class _Languages:
     def _tag(self, field: Optional[bytes]) -> Optional[str]:
         return self._answer(lambda it: pick(it, self._tags, **self._rules), field)
 
-    def _labels(self, site: Site, field: Optional[bytes]) -> Callable[[str], Optional[Label]]:
+    def _labels(self, site: Questions, field: Optional[bytes]) -> Callable[[str], Optional[Label]]:
         """The labels that a reader gets of a site, which is let go with the function."""
 
         def label(id: str) -> Optional[Label]:
@@ -164,7 +165,7 @@ class _LanguageMiddleware(Generic[App]):
         app: App,
         *,
         tags: Optional[Iterable[str]] = None,
-        site: Optional[Site] = None,
+        site: Optional[Questions] = None,
         path: Optional[Path] = None,
         message: Optional[str] = None,
         default: Optional[str],

@@ -1,0 +1,157 @@
+"""Sites that are asked where their files lie, and are not opened."""
+import ctypes
+import mmap
+import os
+import threading
+from typing import Any, Optional
+
+from ._arguments import wrong_type
+from ._library import Answer, Told, answered, library
+from ._questions import Calls, Questions
+from ._refusals import checked
+from ._site_file import Path, state_of
+
+
+class _Buffer(ctypes.Structure):
+    """Where the bytes of an object are, as Python's `Py_buffer` says."""
+
+    _fields_ = [
+        ("buf", ctypes.c_void_p),
+        ("obj", ctypes.c_void_p),
+        ("len", ctypes.c_ssize_t),
+        ("itemsize", ctypes.c_ssize_t),
+        ("readonly", ctypes.c_int),
+        ("ndim", ctypes.c_int),
+        ("format", ctypes.c_void_p),
+        ("shape", ctypes.c_void_p),
+        ("strides", ctypes.c_void_p),
+        ("suboffsets", ctypes.c_void_p),
+        ("internal", ctypes.c_void_p),
+    ]
+
+
+_taken = ctypes.PYFUNCTYPE(
+    ctypes.c_int, ctypes.py_object, ctypes.POINTER(_Buffer), ctypes.c_int
+)(("PyObject_GetBuffer", ctypes.pythonapi))
+_given_back = ctypes.PYFUNCTYPE(None, ctypes.POINTER(_Buffer))(
+    ("PyBuffer_Release", ctypes.pythonapi)
+)
+
+
+class _File:
+    """The bytes of a file as it was when it was opened, for as long as anything refers to this."""
+
+    def __init__(self, path: Path, is_copied: bool) -> None:
+        # (of a map that may not be written no other object of ctypes gives the address)
+        self._buffer = _Buffer()
+        with open(path, "rb") as file:
+            it = os.fstat(file.fileno())
+            self.state = state_of(it)
+            # (an empty file cannot be mapped)
+            is_read = is_copied or it.st_size == 0
+            held = file.read() if is_read else mmap.mmap(file.fileno(), 0, access=mmap.ACCESS_READ)
+        _taken(held, self._buffer, 0)
+        self.text = self._buffer.buf, self._buffer.len
+
+    def __del__(self) -> None:
+        _given_back(self._buffer)
+
+
+class MappedSite(Questions):
+    """A site that is asked where its file lies: see `mapped`.
+
+    Any thread may ask it, all at once, and a forked process may go on with it. It is closed by
+    `close`, by the end of a `with` block, or when it is not used any more. It is neither copied
+    deeply nor pickled.
+    """
+
+    _calls = Calls(library.sw_text_lookup, library.sw_text_text, library.sw_text_filter)
+
+    def __init__(self, path: Path, copy: bool = False) -> None:
+        """Maps the file. Call `silkwaram.mapped`."""
+        try:
+            self._path: Optional[Path] = os.fspath(path)
+        except TypeError:
+            raise wrong_type("path", "str, bytes or os.PathLike", path) from None
+        self._is_copied, self._is_closed = bool(copy), False
+        # (held while the file is opened anew; that of a forked process is its own)
+        self._lock, self._process = threading.Lock(), os.getpid()
+        self._file: Optional[_File] = _File(self._path, self._is_copied)
+        # (what is no site is refused here)
+        self.lookup("-", None)
+
+    def share(self) -> "MappedSite":
+        """Returns the site as it is now: this one does not look whether its file was replaced."""
+        other = object.__new__(MappedSite)
+        other._path, other._file = None, self._current()
+        return other
+
+    def close(self) -> None:
+        """Lets the file go. Calls are ValueErrors then, and closing it again does nothing."""
+        self._is_closed, self._file = True, None
+
+    def _ask(self, call: Any, *given: Any) -> Answer:
+        file = self._current()
+
+        def asked(out: "ctypes.Array[ctypes.c_char]", room: int, told: Told) -> int:
+            status: int = call(*file.text, *given, out, room, told)
+            return status
+
+        return checked(answered(asked), "a site document")
+
+    def _current(self) -> _File:
+        """The file as it is now. One that cannot be had leaves the one before."""
+        file = self._file
+        if file is None:
+            raise ValueError("the site is closed")
+        try:
+            if self._path is None or state_of(os.stat(self._path)) == file.state:
+                return file
+            return self._opened_anew(self._path, file) or file
+        except OSError:
+            return file
+
+    def _opened_anew(self, path: Path, before: _File) -> Optional[_File]:
+        """The file that was put in place of another; None while another thread opens it."""
+        if self._process != os.getpid():
+            self._lock, self._process = threading.Lock(), os.getpid()
+        lock = self._lock
+        if not lock.acquire(blocking=False):
+            return None
+        try:
+            # (another thread may have opened it by now)
+            if self._file is before:
+                self._file = _File(path, self._is_copied)
+            file = self._file
+        finally:
+            lock.release()
+        if self._is_closed:
+            self._file = None
+        return file
+
+
+def mapped(path: Path, copy: bool = False) -> MappedSite:
+    """Returns the site of a file, which is asked where it lies: it is not opened.
+
+        site = silkwaram.mapped("paris.json")
+        print(site.text("greeting", "fr-CA, en;q=0.5"))
+
+    The file is the document of a site as Silkwaram writes it, of any size. It is mapped, and of a
+    million messages a question looks at some thirty places; so a process begins at once, and all
+    that ask share the memory. It has `lookup`, `text`, `texts` and `filter` of `Site`, `share` and
+    `close`.
+
+    Each call looks whether the file was replaced (`os.stat`: device, inode, size and times), and
+    asks the new one then; while a thread opens that, others ask the one before, and so do all where
+    there is no file any more. `share` gives the site as it is, whatever becomes of the file.
+
+    **Replace the file, and never write into it**: a new file is moved over it, as `silkwaram.edit`
+    and `lexicat-file` do. Where a file is cut while it is mapped, the system ends the process at
+    the first page that is gone (SIGBUS). With `copy` the bytes are read, and not mapped: whoever
+    writes into such a file ends no process, though what was half written may be refused.
+
+    Refused, here and by each question: a file that is no site, as by `Site.open`. One in a form that
+    another program gave it may be read whole by each question, so open that. A file that cannot be
+    read is an OSError here.
+    """
+    return MappedSite(path, copy)
