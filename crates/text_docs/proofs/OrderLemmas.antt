@@ -3,8 +3,9 @@ use Rattle.std.proofs.Common.{◌≡◌, ◌≢◌, ◌∙◌, ◌++◌, ◌∷�
 use Rattle.std.proofs.Common.{◌==◌, ◌⊎◌, inl, inr, IsTrue, refl, ap, sym, subst, true≢false}
 use Rattle.std.specs.List.{All}
 use Rattle.std.proofs.lemmas.Bool.Decides.{nat_tests}
-use Rattle.std.proofs.Common.{arith}
+use Rattle.std.proofs.Common.{◌<◌, arith, get_or, length, suc}
 use Rattle.std.proofs.lemmas.List.Elements.{All-head, All-tail}
+use Rattle.memchr.specs.Find.{Nowhere, Passes, is_byte}
 use Rattle.json.specs.Print.{escape, escape_byte}
 use Rattle.cell_core.specs.MessageId.{is_id_byte}
 use Rattle.cata_core.specs.Entries.{text_cmp}
@@ -101,6 +102,44 @@ byte_after text rest left byte all written is =
       front.2 ∙ ap (λ x. x ∷ front.1) (sym (ap (head_or 0) same)),
       ap tail_of same,
     )
+
+-- what is written without a backslash is the text
+plain_written : (text : List ℕ) → All IsIdByte text
+    → ((k : ℕ) → k < length (escape text) → (get_or (escape text) k 0 == 92) ≡ true → ⊥)
+    → text ≡ escape text
+plain_written [] all plain = refl
+plain_written (b ∷ text) all plain =
+    by ((b == 34) || (b == 92)) refl (plain_written text (All-tail IsIdByte b text all))
+  where
+    is : escape (b ∷ text) ≡ cond ((b == 34) || (b == 92)) (92 ∷ b ∷ []) (b ∷ []) ++ escape text
+    is = ap (λ bs. bs ++ escape text) (id_letter b (All-head IsIdByte b text all))
+
+    by : (t : Bool) → ((b == 34) || (b == 92)) ≡ t
+        → (((k : ℕ) → k < length (escape text) → (get_or (escape text) k 0 == 92) ≡ true → ⊥)
+        → text ≡ escape text)
+        → b ∷ text ≡ escape (b ∷ text)
+    by true special rest =
+        let whole : escape (b ∷ text) ≡ 92 ∷ b ∷ escape text =
+        is ∙ ap (λ u. cond u (92 ∷ b ∷ []) (b ∷ []) ++ escape text) special in
+        absurd (plain 0 (omega (arith, ap length whole))
+        (ap (λ (bs : List ℕ). get_or bs 0 0 == 92) whole))
+    by false usual rest =
+        let whole : escape (b ∷ text) ≡ b ∷ escape text =
+        is ∙ ap (λ u. cond u (92 ∷ b ∷ []) (b ∷ []) ++ escape text) usual in
+        ap (λ bs. b ∷ bs)
+        (rest
+        (λ k within found. plain (suc k) (omega (arith, within, ap length whole))
+        (ap (λ (bs : List ℕ). get_or bs (suc k) 0 == 92) whole ∙ found)))
+        ∙ sym whole
+
+-- and so are bytes in which there is none
+pub plain_is : (text written : List ℕ) → All IsIdByte text → written ≡ escape text
+    → Nowhere (Passes (is_byte 92) written) 0 (length written) → text ≡ written
+plain_is text written all is none =
+    plain_written text all
+    (subst (λ (bs : List ℕ). (k : ℕ) → k < length bs → (get_or bs k 0 == 92) ≡ true → ⊥) is
+    (λ k within found. none k (omega arith) within found))
+    ∙ sym is
 
 -- ---- the order of texts
 

@@ -6,11 +6,25 @@ ghost use Rattle.cell_core.specs.MessageId.{is_id_byte};
 ghost use Rattle.cata_core.specs.Entries.{text_cmp};
 
 use crate::row::split;
+use memchr::memchr;
 use std::cmp::Ordering;
 
 /// How an id, as it is written between its quotes, is ordered to another one. Of the bytes of an id
 /// only quotes and backslashes have an escape, which is a backslash before them.
 pub(crate) fn order_of(written: &[u8], id: &[u8]) -> Ordering
+    ensures { (text : List ℕ) → All (λ b. IsTrue (is_id_byte b)) text → written.now ≡ escape text
+        → result ≡ text_cmp text id.now }
+{
+    match memchr(b'\\', written) {
+        None => written.cmp(id),
+        Some(_) => escaped_order(written, id),
+    }
+}
+
+/// The same of an id with escapes.
+#[cold]
+#[inline(never)]
+fn escaped_order(written: &[u8], id: &[u8]) -> Ordering
     ensures { (text : List ℕ) → All (λ b. IsTrue (is_id_byte b)) text → written.now ≡ escape text
         → result ≡ text_cmp text id.now }
 {

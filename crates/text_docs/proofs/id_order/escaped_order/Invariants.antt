@@ -3,7 +3,7 @@ use Rattle.std.specs.List.{All}
 use Rattle.json.specs.Print.{escape}
 use Rattle.cata_core.specs.Entries.{text_cmp}
 use Rattle.text_docs.proofs.OrderLemmas.{IsIdByte}
-use Rattle.text_docs.proofs.id_order.order_of.Given as goal
+use Rattle.text_docs.proofs.id_order.escaped_order.Given as goal
 
 -- what is left of both is ordered as both are
 abbrev pub invariant-loop-byte : goal.invariant-loop-byte
