@@ -23,8 +23,8 @@ pub(crate) fn part_of(text: &[u8], rows: Rows, id: &[u8]) -> Rows
     Rows { start, end }
 }
 
-/// Where a row of a lesser id begins, the last one or one near to it, found by bisection; or where the
-/// first row begins.
+/// Where a row of a lesser id begins, the last one or one near to it, found by bisection; or where
+/// the first row begins.
 fn last_before(text: &[u8], rows: Rows, id: &[u8]) -> usize
     requires { AreRowsAt text.now rows.start rows.end }
     ensures begins { BeginsBefore text.now id.now result }
