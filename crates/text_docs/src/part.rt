@@ -7,9 +7,6 @@ use crate::id_order::order_of;
 use crate::row::next_row;
 use crate::rows::Rows;
 
-/// How many bytes are not worth one more step of bisection: some rows.
-const NEAR: usize = 256;
-
 /// The rows of the message, of all rows of the text: none before them is of it, and none after
 /// them. The first may be of the message before.
 pub(crate) fn part_of(text: &[u8], rows: Rows, id: &[u8]) -> Rows
@@ -23,8 +20,7 @@ pub(crate) fn part_of(text: &[u8], rows: Rows, id: &[u8]) -> Rows
     Rows { start, end }
 }
 
-/// Where a row of a lesser id begins, the last one or one near to it, found by bisection; or where
-/// the first row begins.
+/// Where the last row of a lesser id begins, found by bisection; or where the first row begins.
 fn last_before(text: &[u8], rows: Rows, id: &[u8]) -> usize
     requires { AreRowsAt text.now rows.start rows.end }
     ensures begins { BeginsBefore text.now id.now result }
@@ -32,7 +28,7 @@ fn last_before(text: &[u8], rows: Rows, id: &[u8]) -> usize
 {
     let mut low = rows.start;
     let mut high = rows.end;
-    while high - low > NEAR {
+    while low < high {
         let middle = low + (high - low) / 2;
         match lesser_row(text, middle, high, id) {
             Some(start) => low = start,
