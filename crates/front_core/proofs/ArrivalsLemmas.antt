@@ -1,7 +1,15 @@
 -- What an edit brought, gathered by its keys.
 use Rattle.std.proofs.Common.{◌≡◌, ◌≢◌, ◌∙◌, ◌+◌, ◌<◌, ℕ, true, false, cond, List, [], ◌∷◌, Option}
 use Rattle.std.proofs.Common.{Some, None, inl, inr, refl, sym, ap, subst, drop, get_or, length}
+use Rattle.std.proofs.Common.{nat_eq}
 use Rattle.std.specs.Prelude.{◌⊎◌}
+use Rattle.std.specs.Bool.{Decides}
+use Rattle.std.specs.Borrow.{Bor}
+use Rattle.std.specs.Option.{option_copied, option_eq}
+use Rattle.std.specs.Cmp.Lexicographic.{pointwise}
+use Rattle.std.proofs.lemmas.Bool.Decides.{Decides-and, Decides-like}
+use Rattle.cell_core.proofs.CellLemmas.{label_decides, stamp_decides, stamp_eq}
+use Rattle.cata_core.specs.Equality.{cell_eq}
 use Rattle.std.specs.Ordering.{eq_by_cmp, is_eq}
 use Rattle.std.specs.Cmp.{tied_itself}
 use Rattle.std.specs.FinMap.Entries.{find, find-put, is_sorted-put}
@@ -24,7 +32,7 @@ use Rattle.docs_core.specs.Updated.{Updates}
 use Rattle.docs_core.proofs.ImportLaws.{import_leaves}
 use Rattle.docs_core.proofs.UpdateLaws.{keeps_cell}
 use Rattle.docs_core.proofs.UpdatedLemmas.{one_key}
-use Rattle.front_core.specs.Arrivals.{HasMore}
+use Rattle.front_core.specs.Arrivals.{HasMore, IsKnown, KnowsMore}
 use Rattle.front_core.specs.Change.{IsChanged}
 use Rattle.front_core.specs.Spare.{IsBroughtBy}
 use Rattle.front_core.specs.declared.change.Change.{Change}
@@ -125,27 +133,42 @@ edit_added cells came more key cell edit part held same is =
 
 -- ---- the cells of labels
 
--- where one of the labels from a place on has the key, what is found there is added, or a later
--- label has it
-abbrev pub IsToAdd : Entries → List KeyedLabel → ℕ → Entries → EntryKey → Type 0
-IsToAdd cells items i came q =
-    (find key_cmp q came ≡ find key_cmp q cells)
-    ⊎ (find key_cmp q (labels_of (drop i items)) ≢ None)
+same_cell : (c d : Cell) → cell_eq c d ≡ true → c ≡ d
+same_cell c d =
+    let decides : Decides (cell_eq c d) (c ≡ d) =
+    Decides-like (cell_eq c d) (λ parts i. record { stamp = parts.0 i; label = parts.1 i })
+    (λ same. (ap (λ x. x.stamp) same, ap (λ x. x.label) same))
+    (Decides-and (stamp_eq c.stamp d.stamp)
+    (option_eq (pointwise (pointwise nat_eq)) c.label d.label) (stamp_decides c.stamp d.stamp)
+    (label_decides c.label d.label)) in
+    decides.0
+
+-- Cells that are borrowed are the same where the comparison says so.
+pub same_cells : (x y : Option (Bor Cell))
+    → option_eq (λ a b. cell_eq a.now b.now) x y ≡ true → option_copied x ≡ option_copied y
+same_cells None None t = refl
+same_cells None (Some y) t = cc
+same_cells (Some x) None t = cc
+same_cells (Some x) (Some y) t = ap Some (same_cell x.now y.now t)
+
+-- the key is known, or one of the labels from a place on has it
+abbrev pub IsToKnow : Entries → Entries → List KeyedLabel → ℕ → Entries → EntryKey → Type 0
+IsToKnow before cells items i came q =
+    IsKnown before cells came q ⊎ (find key_cmp q (labels_of (drop i items)) ≢ None)
 
 -- One label more is looked at.
-pub label_added : (cells came more : Entries) (items : List KeyedLabel) (i : ℕ)
+pub label_known : (before cells came more : Entries) (items : List KeyedLabel) (i : ℕ)
     (item : KeyedLabel) → i < length items → item ≡ get_or items i item
-    → HasMore (λ q. q ≡ (item.id, item.lang)) cells came more → (q : EntryKey)
-    → IsToAdd cells items i came q → IsToAdd cells items (i + 1) more q
-label_added cells came more items i item below at has q why = elim why [
-  | inl here ↦ inl (has q (inl here))
+    → KnowsMore (λ q. q ≡ (item.id, item.lang)) before cells came more → (q : EntryKey)
+    → IsToKnow before cells items i came q → IsToKnow before cells items (i + 1) more q
+label_known before cells came more items i item below at knows q why = elim why [
+  | inl known ↦ inl (knows q (inl known))
   | inr some ↦
       elim (eq_by_cmp key_cmp q (item.id, item.lang)) as
       (λ t. eq_by_cmp key_cmp q (item.id, item.lang) ≡ t
       → cond t (Some item.label) (find key_cmp q (labels_of (drop (i + 1) items))) ≢ None
-      → (find key_cmp q more ≡ find key_cmp q cells)
-      ⊎ (find key_cmp q (labels_of (drop (i + 1) items)) ≢ None)) [
-        | true ↦ λ t _. inl (has q (inr (one_key q (item.id, item.lang) t)))
+      → IsToKnow before cells items (i + 1) more q) [
+        | true ↦ λ t _. inl (knows q (inr (one_key q (item.id, item.lang) t)))
         | false ↦ λ t later. inr later
       ] refl
       (subst (λ (ls : List KeyedLabel). find key_cmp q (labels_of ls) ≢ None)
@@ -157,9 +180,7 @@ label_added cells came more items i item below at has q why = elim why [
 -- a catalogue above another is the other, joined with all cells that are not the same
 pub gathered : (old new came : Entries) → IsMap key_cmp old → IsBelowCells old new
     → IsPart came new
-    → ((q : EntryKey) → (find key_cmp q came ≡ find key_cmp q new)
-    ⊎ (find key_cmp q new ≡ find key_cmp q old))
-    → Agree old came × (new ≡ joined old came)
+    → ((q : EntryKey) → IsKnown old new came q) → Agree old came × (new ≡ joined old came)
 gathered old new came m below part at =
     let n : IsMap key_cmp new =
     also_map key_cmp key_cmp_total key_cmp_exact cell_laws old new below.0 m in
@@ -206,8 +227,7 @@ change_brought now change old new came m (stamp, next, is) part more =
     (own_rises old.cells key cell m next.new.above) in
     let found = gathered old.cells new.cells came m rises part
     (λ q. elim (eq_by_cmp key_cmp q key) as (λ t. eq_by_cmp key_cmp q key ≡ t
-    → (find key_cmp q came ≡ find key_cmp q new.cells)
-    ⊎ (find key_cmp q new.cells ≡ find key_cmp q old.cells)) [
+    → IsKnown old.cells new.cells came q) [
       | true ↦ λ t. inl (more q (inr (one_key q key t)))
       | false ↦ λ t. inr (ap (find key_cmp q) cells
           ∙ find-put key_cmp key_cmp_total q key cell old.cells
@@ -215,47 +235,42 @@ change_brought now change old new came m (stamp, next, is) part more =
     ] refl) in
     (found.0, λ i. record { name = (is i).name; cells = found.1 i })
 
--- The cells at the keys of the labels brought the site to what their import made of it.
+-- Where all keys of the labels are known, the cells brought the site to what their import made of
+-- it.
 pub import_brought : (now : ℕ) (labels : List Labelled) (old new : SiteState) (came : Entries)
     → IsMap key_cmp labels → IsMap key_cmp old.cells → new.name ≡ old.name
     → Imports now old.name labels old.cells new.cells → IsPart came new.cells
-    → HasMore (λ q. find key_cmp q labels ≢ None) new.cells [] came
+    → KnowsMore (λ q. find key_cmp q labels ≢ None) old.cells new.cells [] came
     → IsBroughtBy came old new
-import_brought now labels old new came is_map m name imports part more =
+import_brought now labels old new came is_map m name imports part knows =
     let rises = makes_rise now old.name (puts_of labels) old.cells new.cells m imports in
     let found = gathered old.cells new.cells came m rises part
     (λ q. elim (find key_cmp q labels) as (λ o. find key_cmp q labels ≡ o
-    → (find key_cmp q came ≡ find key_cmp q new.cells)
-    ⊎ (find key_cmp q new.cells ≡ find key_cmp q old.cells)) [
+    → IsKnown old.cells new.cells came q) [
       | None ↦ λ none.
           inr (import_leaves now old.name labels old.cells new.cells is_map imports q none)
-      | Some label ↦ λ has.
-          inl (more q (inr (some_or_none (find key_cmp q labels) label has)))
+      | Some label ↦ λ has. knows q (inr (some_or_none (find key_cmp q labels) label has))
     ] refl) in
     (found.0, λ i. record { name = name i; cells = found.1 i })
 
--- The cells at the keys of the old labels and of the new ones brought the site to what the update
--- made of it.
+-- Where all keys of the old labels and of the new ones are known, the cells brought the site to
+-- what the update made of it.
 pub update_brought : (now : ℕ) (before after : List Labelled) (old new : SiteState)
     (some came : Entries) → IsMap key_cmp old.cells → new.name ≡ old.name
     → Updates now old.name before after old.cells new.cells → IsPart came new.cells
-    → HasMore (λ q. find key_cmp q before ≢ None) new.cells [] some
-    → HasMore (λ q. find key_cmp q after ≢ None) new.cells some came
+    → KnowsMore (λ q. find key_cmp q before ≢ None) old.cells new.cells [] some
+    → KnowsMore (λ q. find key_cmp q after ≢ None) old.cells new.cells some came
     → IsBroughtBy came old new
-update_brought now before after old new some came m name updates part first more =
+update_brought now before after old new some came m name updates part first knows =
     let rises = makes_rise now old.name updates.0 old.cells new.cells m updates.2 in
     let found = gathered old.cells new.cells came m rises part
     (λ q. elim (find key_cmp q before) as (λ o. find key_cmp q before ≡ o
-    → (find key_cmp q came ≡ find key_cmp q new.cells)
-    ⊎ (find key_cmp q new.cells ≡ find key_cmp q old.cells)) [
+    → IsKnown old.cells new.cells came q) [
       | Some label ↦ λ has.
-          inl (more q
-          (inl (first q (inr (some_or_none (find key_cmp q before) label has)))))
+          knows q (inl (first q (inr (some_or_none (find key_cmp q before) label has))))
       | None ↦ λ none. elim (find key_cmp q after) as (λ o. find key_cmp q after ≡ o
-          → (find key_cmp q came ≡ find key_cmp q new.cells)
-          ⊎ (find key_cmp q new.cells ≡ find key_cmp q old.cells)) [
-            | Some label ↦ λ has.
-                inl (more q (inr (some_or_none (find key_cmp q after) label has)))
+          → IsKnown old.cells new.cells came q) [
+            | Some label ↦ λ has. knows q (inr (some_or_none (find key_cmp q after) label has))
             | None ↦ λ nothing.
                 inr (keeps_cell now old.name before after old.cells new.cells q updates
                 (none ∙ sym nothing))

@@ -1,5 +1,6 @@
 //! The cells that an edit brought into a site.
-ghost use Rattle.std.specs.Prelude.{◌≡◌, ◌≢◌, None, IfSome, OnOk, ℕ};
+ghost use Rattle.std.specs.Prelude.{◌≡◌, ◌≢◌, None, IfSome, IsTrue, OnOk, ℕ};
+ghost use Rattle.std.specs.Option.{option_copied};
 ghost use Rattle.std.specs.FinMap.Entries.{find};
 ghost use Rattle.cell_core.specs.Keyed.{IsMap};
 ghost use Rattle.cata_core.specs.Delta.{IsPart};
@@ -8,13 +9,13 @@ ghost use Rattle.cata_core.specs.Site.{SiteState};
 ghost use Rattle.map_docs.specs.LangMaps.{labels_of};
 ghost use Rattle.docs_core.specs.Imported.{Imports};
 ghost use Rattle.docs_core.specs.Updated.{Updates};
-ghost use Rattle.front_core.specs.Arrivals.{HasMore};
+ghost use Rattle.front_core.specs.Arrivals.{HasMore, KnowsMore};
 ghost use Rattle.front_core.specs.Change.{IsChanged};
 ghost use Rattle.front_core.specs.Spare.{IsBroughtBy};
 
 use crate::change::Change;
 use cata_core::{CataFault, Catalogue, Edit, Site};
-use cell_core::{Join, Key, MessageId};
+use cell_core::{Cell, Join, Key, MessageId};
 use docs_core::{KeyedLabel, LangMaps};
 use lang_core::Lang;
 use std::alloc::Global;
@@ -49,64 +50,105 @@ pub(crate) fn of_merge(alloc: Global, cells: &Catalogue) -> Option<Catalogue>
     Some(came)
 }
 
-/// The cells that the labels of an import brought into the site; none where they are too many, or
+/// The cells that an import of the labels brought to the old site; none where they are too many, or
 /// where there is no memory for them.
-pub(crate) fn of_import(alloc: Global, site: &Site, maps: &LangMaps) -> Option<Catalogue>
-    ensures { (old : SiteState) (now : ℕ) → IsMap key_cmp old.cells → site.now.name ≡ old.name
-        → Imports now old.name maps.now old.cells site.now.cells
-        → IfSome result (λ came. IsBroughtBy came old site.now) }
+pub(crate) fn of_import(
+    alloc: Global,
+    old: &Site,
+    site: &Site,
+    maps: &LangMaps,
+) -> Option<Catalogue>
+    ensures { (now : ℕ) → site.now.name ≡ old.now.name
+        → Imports now old.now.name maps.now old.now.cells site.now.cells
+        → IfSome result (λ came. IsBroughtBy came old.now site.now) }
 {
-    if maps.len() as u128 > MAX_ARRIVALS {
-        return None;
-    }
+    let (was, cells) = (old.catalogue(), site.catalogue());
+    // The length says that the keys ascend.
+    let _cells = was.len();
     let mut came = Catalogue::new(alloc);
-    let Ok(()) = add_cells(alloc, &mut came, site.catalogue(), maps.labels()) else {
+    let Some(()) = add_changed(alloc, &mut came, was, cells, maps.labels()) else {
         return None;
     };
     Some(came)
 }
 
-/// The cells that an update from the old labels to the new ones brought into the site, among others
-/// of their keys; none where they are too many, or where there is no memory for them.
+/// The cells that an update from the labels before to those after brought to the old site; none
+/// where they are too many, or where there is no memory for them.
 pub(crate) fn of_update(
     alloc: Global,
+    old: &Site,
     site: &Site,
     before: &LangMaps,
     after: &LangMaps,
 ) -> Option<Catalogue>
-    ensures { (old : SiteState) (now : ℕ) → IsMap key_cmp old.cells → site.now.name ≡ old.name
-        → Updates now old.name before.now after.now old.cells site.now.cells
-        → IfSome result (λ came. IsBroughtBy came old site.now) }
+    ensures { (now : ℕ) → site.now.name ≡ old.now.name
+        → Updates now old.now.name before.now after.now old.now.cells site.now.cells
+        → IfSome result (λ came. IsBroughtBy came old.now site.now) }
 {
-    if before.len() as u128 > MAX_ARRIVALS || after.len() as u128 > MAX_ARRIVALS {
-        return None;
-    }
+    let (was, cells) = (old.catalogue(), site.catalogue());
+    // The length says that the keys ascend.
+    let _cells = was.len();
     let mut came = Catalogue::new(alloc);
-    let Ok(()) = add_cells(alloc, &mut came, site.catalogue(), before.labels()) else {
+    let Some(()) = add_changed(alloc, &mut came, was, cells, before.labels()) else {
         return None;
     };
-    let Ok(()) = add_cells(alloc, &mut came, site.catalogue(), after.labels()) else {
+    let Some(()) = add_changed(alloc, &mut came, was, cells, after.labels()) else {
         return None;
     };
     Some(came)
 }
 
-/// Adds of these cells those at the keys of the labels.
-fn add_cells(
+/// Adds of these cells those at the keys of the labels that were others; none where they are too
+/// many, or where there is no memory for them.
+fn add_changed(
     alloc: Global,
     came: &mut Catalogue,
+    was: &Catalogue,
     cells: &Catalogue,
     labels: &[KeyedLabel],
+) -> Option<()>
+    requires { IsPart came.old cells.now }
+    ensures part { IfSome result (λ _. IsPart came.new cells.now) }
+    ensures known { IfSome result (λ _.
+        KnowsMore (λ q. find key_cmp q (labels_of labels.now) ≢ None) was.now cells.now came.old
+        came.new) }
+{
+    for found in labels {
+        if came.len() > MAX_ARRIVALS {
+            return None;
+        }
+        let Ok(()) = add_if_changed(alloc, came, was, cells, &found.id, &found.lang) else {
+            return None;
+        };
+    }
+    Some(())
+}
+
+/// Adds of these cells the one at the key, where it was another.
+fn add_if_changed(
+    alloc: Global,
+    came: &mut Catalogue,
+    was: &Catalogue,
+    cells: &Catalogue,
+    id: &MessageId,
+    lang: &Lang,
 ) -> Result<(), CataFault>
     requires { IsPart came.old cells.now }
     ensures part { OnOk result (IsPart came.new cells.now) }
-    ensures more { OnOk result
-        (HasMore (λ q. find key_cmp q (labels_of labels.now) ≢ None) cells.now came.old came.new) }
+    ensures known { OnOk result
+        (KnowsMore (λ q. q ≡ (id.now, lang.now)) was.now cells.now came.old came.new) }
 {
-    for found in labels {
-        add_cell(alloc, came, cells, &found.id, &found.lang)?;
+    if are_alike(was.cell(id, lang), cells.cell(id, lang)) {
+        return Ok(());
     }
-    Ok(())
+    add_cell(alloc, came, cells, id, lang)
+}
+
+/// Whether both are the same cell, or none.
+fn are_alike(cell: Option<&Cell>, other: Option<&Cell>) -> bool
+    ensures { IsTrue result → option_copied cell.entry ≡ option_copied other.entry }
+{
+    cell == other
 }
 
 /// Adds of these cells the one at the key, where there is one.

@@ -233,7 +233,7 @@ pub(crate) fn import_in(
 {
     let mut edited = equal_site(alloc, share, spare.take())?;
     put_labels(alloc, &mut edited, now, maps)?;
-    let came = arrivals::of_import(alloc, &edited, maps);
+    let came = arrivals::of_import(alloc, share, &edited, maps);
     *spare = exchange(alloc, share, edited, came)?;
     Ok(())
 }
@@ -259,7 +259,7 @@ pub(crate) fn update_in(
 {
     let mut edited = equal_site(alloc, share, spare.take())?;
     update_labels(alloc, &mut edited, now, before, after)?;
-    let came = arrivals::of_update(alloc, &edited, before, after);
+    let came = arrivals::of_update(alloc, share, &edited, before, after);
     *spare = exchange(alloc, share, edited, came)?;
     Ok(())
 }

@@ -3,8 +3,14 @@ use Rattle.front_core.proofs.arrivals.of_import.Goals as goal
 
 pub returns : goal.returns
 returns c =
-    let part = rw c.catalogue.ensures at c.in-Ok.ensures.part in
-    let more =
-    rw (c.catalogue.ensures, c.new-came.ensures, c.labels.ensures.labels) at c.in-Ok.ensures.more in
-    λ old now m name imports. import_brought now c.args.maps.now old c.args.site.now
-    c.add_cells.new.came c.len.ensures.sorted m name imports part more
+    let m = rw c.catalogue-was.ensures at c.len-cells.ensures.sorted in
+    let part = rw c.catalogue-cells.ensures at c.in-Some.ensures.part in
+    let known =
+    rw (
+      c.catalogue-was.ensures,
+      c.catalogue-cells.ensures,
+      c.new-came.ensures,
+      c.labels.ensures.labels,
+    ) at c.in-Some.ensures.known in
+    λ now name imports. import_brought now c.args.maps.now c.args.old.now c.args.site.now
+    c.add_changed.new.came c.labels.ensures.sorted m name imports part known

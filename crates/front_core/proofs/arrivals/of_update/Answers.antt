@@ -1,12 +1,20 @@
 use Rattle.front_core.proofs.ArrivalsLemmas.{update_brought}
 use Rattle.front_core.proofs.arrivals.of_update.Goals as goal
 
+-- the keys of the labels before are known first, and then those of the labels after
 pub returns : goal.returns
 returns c =
+    let m = rw c.catalogue-was.ensures at c.len-cells.ensures.sorted in
+    let part = rw c.catalogue-cells.ensures at c.in-Some-add_changed.ensures.part in
     let first =
-    rw (c.catalogue.ensures, c.new-came.ensures, c.labels.ensures.labels) at c.in-Ok.ensures.more in
-    let part = rw c.catalogue-2.ensures at c.in-Ok-add_cells.ensures.part in
-    let more =
-    rw (c.catalogue-2.ensures, c.labels-2.ensures.labels) at c.in-Ok-add_cells.ensures.more in
-    λ old now m name updates. update_brought now c.args.before.now c.args.after.now old
-    c.args.site.now c.add_cells.new.came c.add_cells-2.new.came m name updates part first more
+    rw (
+      c.catalogue-was.ensures,
+      c.catalogue-cells.ensures,
+      c.new-came.ensures,
+      c.labels.ensures.labels,
+    ) at c.in-Some.ensures.known in
+    let known =
+    rw (c.catalogue-was.ensures, c.catalogue-cells.ensures, c.labels-2.ensures.labels) at
+    c.in-Some-add_changed.ensures.known in
+    λ now name updates. update_brought now c.args.before.now c.args.after.now c.args.old.now
+    c.args.site.now c.add_changed.new.came c.add_changed-2.new.came m name updates part first known

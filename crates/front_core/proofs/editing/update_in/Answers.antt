@@ -1,9 +1,8 @@
-use Rattle.std.proofs.Common.{◌≡◌, rules, subst, sym}
+use Rattle.std.proofs.Common.{◌≡◌, rules, subst}
 use Rattle.std.specs.Prelude.{IfSome}
 use Rattle.std.proofs.lemmas.Result.{err_from_is_err_and}
-use Rattle.cell_core.specs.Keyed.{IsMap}
-use Rattle.cata_core.specs.Entries.{key_cmp}
 use Rattle.cata_core.specs.Site.{SiteState}
+use Rattle.docs_core.specs.Updated.{Updates}
 use Rattle.front_core.specs.Spare.{IsBroughtBy}
 use Rattle.front_core.proofs.OpenSiteLemmas.{changes_refused}
 use Rattle.front_core.proofs.editing.update_in.Goals as goal
@@ -20,13 +19,13 @@ returns-in_err-update_labels-clause-err c =
 -- the cells that came in bring what the site was to the edited one
 pub exchange-requires : goal.exchange-requires
 exchange-requires c =
-    let was = c.in_ok-edited.edited in
-    let same : was ≡ c.args.share.now.value = search rules in
-    let m =
-    subst (λ (s : SiteState). IsMap key_cmp s.cells) (sym c.in_ok-edited.ensures.equal)
-    c.in_ok-edited.ensures.map in
+    let site = c.update_labels.new.site in
+    let was : c.in_ok-edited.edited ≡ c.deref-2.result.now = search rules in
+    let made =
     subst
-    (λ (s : SiteState). IfSome c.of_update-came.result
-    (λ cells. IsBroughtBy cells s c.update_labels.new.site)) same
-    (c.of_update-came.ensures was c.args.now m c.in_ok-update_labels.ensures.name
-    c.in_ok-update_labels.ensures.ok)
+    (λ (s : SiteState). (site.name ≡ s.name)
+    × Updates c.args.now s.name c.args.before.now c.args.after.now s.cells site.cells) was
+    (c.in_ok-update_labels.ensures.name, c.in_ok-update_labels.ensures.ok) in
+    subst
+    (λ (s : SiteState). IfSome c.of_update-came.result (λ cells. IsBroughtBy cells s site))
+    c.deref-2.ensures (c.of_update-came.ensures c.args.now made.0 made.1)
