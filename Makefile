@@ -32,7 +32,7 @@ try:
 try-session:
 	@RT='$(RT)' scripts/try-session
 
-#: make               proves the crates and builds build/lexicat: 33 to 44 minutes the first time
+#: make               proves the crates and builds build/lexicat: 32 to 44 minutes the first time
 #:                    on four processors, seconds where nothing changed; HINTS=FILE proves all side by
 #:                    side over the statements of a release, silkwaram-*-statements.tar.zst, in 15
 all: build/lexicat
