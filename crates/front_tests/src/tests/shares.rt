@@ -52,14 +52,14 @@ fn three_generations(rt: HostRuntime) -> Result<(), Fail> {
     Ok(())
 }
 
-/// One of six edits of the site, and the document of a site after the same edit.
+/// One of six edits of the site at the time `now`, and the document of a site after the same edit.
 fn edited(
     alloc: Global,
     open: &mut OpenSite,
     document: &[u8],
     step: u64,
+    now: u64,
 ) -> Result<Doc, FrontFault> {
-    let now = 10 + step;
     let lang: &[u8] = if step < 8 { b"fr" } else { b"ja" };
     let (old, new) = (
         br#"{"m":{"en":"Hello","fr":"a"}}"#,
@@ -105,7 +105,7 @@ fn assert_edits(rt: &impl Abort, alloc: Global, shared: u32) -> Result<(), Front
         } else {
             None
         };
-        let after = edited(alloc, &mut open, document.bytes(), step)?;
+        let after = edited(alloc, &mut open, document.bytes(), step, 10 + step)?;
         if let Some(share) = share {
             assert_site(rt, alloc, &share, document.bytes());
         }

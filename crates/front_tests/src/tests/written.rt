@@ -96,14 +96,20 @@ fn a_text_at_a_place(rt: HostRuntime) -> Result<(), Fail> {
     Ok(())
 }
 
+fn is_refused(answer: Result<Answer, FrontFault>, number: u8) -> bool {
+    match answer {
+        Ok(_) => false,
+        Err(fault) => fault.number() == number,
+    }
+}
+
 #[test]
 fn other_forms_are_read_whole(rt: HostRuntime) -> Result<(), Fail> {
     let alloc = rt.alloc();
     let line = looked_up(alloc, SPACED, "c", "fr");
     assert!(rt; is_line(line, "matched fr [\"trois\"]\n", Outcome::Found));
-    for (text, number) in [(b"".as_slice(), 19), (b"{}".as_slice(), 20), (b"\xff".as_slice(), 18)] {
-        let refused = looked_up(alloc, text, "c", "fr");
-        assert!(rt; matches!(refused, Err(fault) if fault.number() == number), "{number}");
-    }
+    assert!(rt; is_refused(looked_up(alloc, b"", "c", "fr"), 19));
+    assert!(rt; is_refused(looked_up(alloc, b"{}", "c", "fr"), 20));
+    assert!(rt; is_refused(looked_up(alloc, b"\xff", "c", "fr"), 18));
     Ok(())
 }
