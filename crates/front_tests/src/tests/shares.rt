@@ -118,12 +118,16 @@ fn assert_edits(rt: &impl Abort, alloc: Global, shared: u32) -> Result<(), Front
 #[test]
 fn edits_of_a_shared_site(rt: HostRuntime) -> Result<(), Fail> {
     let alloc = rt.alloc();
-    assert_edits(&rt, alloc, 0)?;
-    assert_edits(&rt, alloc, 0x3ffff)?;
-    // (in place for some steps, with a spare)
-    assert_edits(&rt, alloc, 0b100_000_010_001_000_011)?;
-    assert_edits(&rt, alloc, 0b010_110_000_100_100_100)?;
+    // (by the last two in place for some steps, with a spare)
+    for shared in [0, 0x3ffff, 0b100_000_010_001_000_011, 0b010_110_000_100_100_100] {
+        assert_edits(&rt, alloc, shared)?;
+    }
     Ok(())
+}
+
+/// The number of a refusal.
+fn number_of(edit: Result<(), FrontFault>) -> Option<u8> {
+    edit.err().map(|fault| fault.number())
 }
 
 const SPENT: &[u8] =
@@ -144,12 +148,14 @@ const SPENT_BY_TWO: &[u8] = b"{\"cells\":[\
 fn an_import_that_is_refused_midway(rt: HostRuntime) -> Result<(), Fail> {
     let alloc = rt.alloc();
     let mut open = OpenSite::read(alloc, SPENT)?;
-    open.import(alloc, 1, br#"{"m":{"en":"y"}}"#)?;
+    let imported = open.import(alloc, 1, br#"{"m":{"en":"y"}}"#);
+    assert_eq!(rt; number_of(imported), None);
     assert_site(&rt, alloc, &open, SPENT_BY_ONE);
     let refused = open.import(alloc, 1, br#"{"m":{"de":"z","fr":"z"}}"#);
-    assert_eq!(rt; refused.err().map(|fault| fault.number()), Some(14));
+    assert_eq!(rt; number_of(refused), Some(14));
     assert_site(&rt, alloc, &open, SPENT_BY_ONE);
-    open.import(alloc, 1, br#"{"m":{"fr":"z"}}"#)?;
+    let again = open.import(alloc, 1, br#"{"m":{"fr":"z"}}"#);
+    assert_eq!(rt; number_of(again), None);
     assert_site(&rt, alloc, &open, SPENT_BY_TWO);
     Ok(())
 }
@@ -166,12 +172,13 @@ fn a_merge_that_is_refused(rt: HostRuntime) -> Result<(), Fail> {
     for _ in 0..2 {
         let share = open.share()?;
         let refused = open.merge(alloc, clash.site());
-        assert_eq!(rt; refused.err().map(|fault| fault.number()), Some(13));
+        assert_eq!(rt; number_of(refused), Some(13));
         assert_site(&rt, alloc, &share, WITH_FR);
         assert_site(&rt, alloc, &open, WITH_FR);
     }
     let share = open.share()?;
-    open.delete(alloc, 7, b"m", b"en")?;
+    let deleted = open.delete(alloc, 7, b"m", b"en");
+    assert_eq!(rt; number_of(deleted), None);
     assert_site(&rt, alloc, &share, WITH_FR);
     assert_site(&rt, alloc, &open, WITHOUT_EN);
     Ok(())

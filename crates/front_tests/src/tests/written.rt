@@ -97,10 +97,7 @@ fn a_text_at_a_place(rt: HostRuntime) -> Result<(), Fail> {
 }
 
 fn is_refused(answer: Result<Answer, FrontFault>, number: u8) -> bool {
-    match answer {
-        Ok(_) => false,
-        Err(fault) => fault.number() == number,
-    }
+    answer.err().map(|fault| fault.number()) == Some(number)
 }
 
 #[test]
