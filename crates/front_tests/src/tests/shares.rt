@@ -23,6 +23,12 @@ const OTHER: &[u8] = b"{\"cells\":[[\"m\",\"en\",9,\"tokyo\",0,[\"Hi\"]],\
 const DELTA: &[u8] = b"{\"cells\":[[\"m\",\"en\",12,\"tokyo\",0,[\"Ho\"]],\
     [\"n\",\"de\",2,\"tokyo\",0,[\"y\"]]],\"kind\":\"delta\",\"to\":\"paris\",\"version\":2}\n";
 
+/// The number of a refusal.
+fn number_of(edit: Result<(), FrontFault>) -> Option<u8> {
+    let fault = edit.err()?;
+    Some(fault.number())
+}
+
 /// The document of the site is this.
 fn assert_site(rt: &impl Abort, alloc: Global, open: &OpenSite, document: &[u8]) {
     match View::Document.answer(alloc, SiteIn::Open(open.site())) {
@@ -116,18 +122,12 @@ fn assert_edits(rt: &impl Abort, alloc: Global, shared: u32) -> Result<(), Front
 }
 
 #[test]
-fn edits_of_a_shared_site(rt: HostRuntime) -> Result<(), Fail> {
+fn edits_of_a_shared_site(rt: HostRuntime) {
     let alloc = rt.alloc();
     // (by the last two in place for some steps, with a spare)
     for shared in [0, 0x3ffff, 0b100_000_010_001_000_011, 0b010_110_000_100_100_100] {
-        assert_edits(&rt, alloc, shared)?;
+        assert_eq!(rt; number_of(assert_edits(&rt, alloc, shared)), None);
     }
-    Ok(())
-}
-
-/// The number of a refusal.
-fn number_of(edit: Result<(), FrontFault>) -> Option<u8> {
-    edit.err().map(|fault| fault.number())
 }
 
 const SPENT: &[u8] =

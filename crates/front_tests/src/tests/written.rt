@@ -96,8 +96,10 @@ fn a_text_at_a_place(rt: HostRuntime) -> Result<(), Fail> {
     Ok(())
 }
 
-fn is_refused(answer: Result<Answer, FrontFault>, number: u8) -> bool {
-    answer.err().map(|fault| fault.number()) == Some(number)
+/// What refuses a lookup of `c` for `fr` in this text.
+fn refusal(alloc: Global, text: &[u8]) -> Option<u8> {
+    let fault = looked_up(alloc, text, "c", "fr").err()?;
+    Some(fault.number())
 }
 
 #[test]
@@ -105,8 +107,8 @@ fn other_forms_are_read_whole(rt: HostRuntime) -> Result<(), Fail> {
     let alloc = rt.alloc();
     let line = looked_up(alloc, SPACED, "c", "fr");
     assert!(rt; is_line(line, "matched fr [\"trois\"]\n", Outcome::Found));
-    assert!(rt; is_refused(looked_up(alloc, b"", "c", "fr"), 19));
-    assert!(rt; is_refused(looked_up(alloc, b"{}", "c", "fr"), 20));
-    assert!(rt; is_refused(looked_up(alloc, b"\xff", "c", "fr"), 18));
+    assert_eq!(rt; refusal(alloc, b""), Some(19));
+    assert_eq!(rt; refusal(alloc, b"{}"), Some(20));
+    assert_eq!(rt; refusal(alloc, b"\xff"), Some(18));
     Ok(())
 }
