@@ -1,5 +1,7 @@
 //! Sites that are edited while shares of them are open.
 
+use cata_core::CataFault;
+use cell_core::{SiteName, Stamp};
 use docs_core::{Doc, import_document, sync_documents, take_document, update_document};
 use front_core::{Change, FrontFault, OpenSite, Question, SiteIn, View};
 use std::alloc::Global;
@@ -23,10 +25,9 @@ const OTHER: &[u8] = b"{\"cells\":[[\"m\",\"en\",9,\"tokyo\",0,[\"Hi\"]],\
 const DELTA: &[u8] = b"{\"cells\":[[\"m\",\"en\",12,\"tokyo\",0,[\"Ho\"]],\
     [\"n\",\"de\",2,\"tokyo\",0,[\"y\"]]],\"kind\":\"delta\",\"to\":\"paris\",\"version\":2}\n";
 
-/// The number of a refusal.
-fn number_of(edit: Result<(), FrontFault>) -> Option<u8> {
-    let fault = edit.err()?;
-    Some(fault.number())
+/// The edit is refused so.
+fn assert_refused(rt: &impl Abort, edit: Result<(), FrontFault>, fault: CataFault) {
+    assert_eq!(rt; edit, Err(FrontFault::from(fault)));
 }
 
 /// The document of the site is this.
@@ -102,8 +103,12 @@ fn edited(
 
 /// A site that is edited has the document of a site after the same edits, and a share of it from
 /// before an edit shows none. It is shared for the steps whose bit is set.
-fn assert_edits(rt: &impl Abort, alloc: Global, shared: u32) -> Result<(), FrontFault> {
-    let mut open = OpenSite::read(alloc, SITE)?;
+fn assert_edits(
+    rt: &impl Abort,
+    alloc: Global,
+    mut open: OpenSite,
+    shared: u32,
+) -> Result<(), FrontFault> {
     let mut document = View::Document.answer(alloc, SiteIn::Document(SITE))?.text;
     for step in 0..18u64 {
         let share = if shared >> step & 1 == 1 {
@@ -122,12 +127,18 @@ fn assert_edits(rt: &impl Abort, alloc: Global, shared: u32) -> Result<(), Front
 }
 
 #[test]
-fn edits_of_a_shared_site(rt: HostRuntime) {
+fn edits_of_a_shared_site(rt: HostRuntime) -> Result<(), Fail> {
     let alloc = rt.alloc();
     // (by the last two in place for some steps, with a spare)
-    for shared in [0, 0x3ffff, 0b100_000_010_001_000_011, 0b010_110_000_100_100_100] {
-        assert_eq!(rt; number_of(assert_edits(&rt, alloc, shared)), None);
+    for shared in [
+        0,
+        0x3ffff,
+        0b100_000_010_001_000_011,
+        0b010_110_000_100_100_100,
+    ] {
+        assert_edits(&rt, alloc, OpenSite::read(alloc, SITE)?, shared)?;
     }
+    Ok(())
 }
 
 const SPENT: &[u8] =
@@ -148,14 +159,12 @@ const SPENT_BY_TWO: &[u8] = b"{\"cells\":[\
 fn an_import_that_is_refused_midway(rt: HostRuntime) -> Result<(), Fail> {
     let alloc = rt.alloc();
     let mut open = OpenSite::read(alloc, SPENT)?;
-    let imported = open.import(alloc, 1, br#"{"m":{"en":"y"}}"#);
-    assert_eq!(rt; number_of(imported), None);
+    open.import(alloc, 1, br#"{"m":{"en":"y"}}"#)?;
     assert_site(&rt, alloc, &open, SPENT_BY_ONE);
     let refused = open.import(alloc, 1, br#"{"m":{"de":"z","fr":"z"}}"#);
-    assert_eq!(rt; number_of(refused), Some(14));
+    assert_refused(&rt, refused, CataFault::ClockSpent);
     assert_site(&rt, alloc, &open, SPENT_BY_ONE);
-    let again = open.import(alloc, 1, br#"{"m":{"fr":"z"}}"#);
-    assert_eq!(rt; number_of(again), None);
+    open.import(alloc, 1, br#"{"m":{"fr":"z"}}"#)?;
     assert_site(&rt, alloc, &open, SPENT_BY_TWO);
     Ok(())
 }
@@ -169,16 +178,20 @@ fn a_merge_that_is_refused(rt: HostRuntime) -> Result<(), Fail> {
     let alloc = rt.alloc();
     let clash = OpenSite::read(alloc, CLASH)?;
     let mut open = OpenSite::read(alloc, WITH_FR)?;
+    let stamp = Stamp {
+        time: 6,
+        site: SiteName::new("paris")?,
+        count: 0,
+    };
     for _ in 0..2 {
         let share = open.share()?;
         let refused = open.merge(alloc, clash.site());
-        assert_eq!(rt; number_of(refused), Some(13));
+        assert_refused(&rt, refused, CataFault::StampReused { place: 1, stamp });
         assert_site(&rt, alloc, &share, WITH_FR);
         assert_site(&rt, alloc, &open, WITH_FR);
     }
     let share = open.share()?;
-    let deleted = open.delete(alloc, 7, b"m", b"en");
-    assert_eq!(rt; number_of(deleted), None);
+    open.delete(alloc, 7, b"m", b"en")?;
     assert_site(&rt, alloc, &share, WITH_FR);
     assert_site(&rt, alloc, &open, WITHOUT_EN);
     Ok(())

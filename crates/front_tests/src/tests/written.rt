@@ -62,8 +62,22 @@ fn a_line_of_each_message(rt: HostRuntime) -> Result<(), Fail> {
     assert_line(&rt, alloc, "a", "de", texts, Outcome::Found);
     let row = "matched en [\"],[\\\"b\\\",\\\"en\\\",1\"]\n";
     assert_line(&rt, alloc, "a", "en", row, Outcome::Found);
-    assert_line(&rt, alloc, "b\"\\", "en", "matched en [\"two\"]\n", Outcome::Found);
-    assert_line(&rt, alloc, "c", "fr, en", "matched fr [\"trois\"]\n", Outcome::Found);
+    assert_line(
+        &rt,
+        alloc,
+        "b\"\\",
+        "en",
+        "matched en [\"two\"]\n",
+        Outcome::Found,
+    );
+    assert_line(
+        &rt,
+        alloc,
+        "c",
+        "fr, en",
+        "matched fr [\"trois\"]\n",
+        Outcome::Found,
+    );
     Ok(())
 }
 
@@ -90,7 +104,10 @@ fn a_text_at_a_place(rt: HostRuntime) -> Result<(), Fail> {
     let alloc = rt.alloc();
     let asked = Lookup::read(alloc, b"a", accept("de"), None)?;
     let part = message_in(alloc, TEXT, &asked.id)?;
-    let found = LabelText::Found { text: ",", count: 3 };
+    let found = LabelText::Found {
+        text: ",",
+        count: 3,
+    };
     assert!(rt; asked.text(&part, 1) == found);
     assert!(rt; asked.text(&part, 3) == LabelText::PastEnd { count: 3 });
     Ok(())
