@@ -25,7 +25,7 @@ const OTHER: &[u8] = b"{\"cells\":[[\"m\",\"en\",9,\"tokyo\",0,[\"Hi\"]],\
 const DELTA: &[u8] = b"{\"cells\":[[\"m\",\"en\",12,\"tokyo\",0,[\"Ho\"]],\
     [\"n\",\"de\",2,\"tokyo\",0,[\"y\"]]],\"kind\":\"delta\",\"to\":\"paris\",\"version\":2}\n";
 
-/// The edit is refused so.
+/// The edit is refused with this fault.
 fn assert_refused(rt: &impl Abort, edit: Result<(), FrontFault>, fault: CataFault) {
     assert_eq!(rt; edit, Err(FrontFault::from(fault)));
 }
