@@ -170,7 +170,8 @@ int32_t sw_site_bundle(sw_site *site, uint32_t flags, const uint8_t *field, size
  *
  * An edit changes the site in place where its handle is the only one of it. Where the site is shared, the edit is made
  * in another that is equal, and the other handles keep what they had: no edit is seen through another handle. So a
- * server publishes a new state by sharing the edited handle anew. The first such edit makes a copy, in the time and
+ * server publishes a new state by sharing the edited handle anew. sw_site_import and sw_site_update are made so of a
+ * site that is not shared too, since all their edits are made or none. The first such edit makes a copy, in the time and
  * memory of the site, and the handle keeps the state before beside its own. If no other handle has that state any more,
  * the next such edit takes it up, in the time of what was changed since. If one has, or if more than some thousand
  * labels were changed since, it makes a copy again.

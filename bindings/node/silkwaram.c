@@ -444,10 +444,11 @@ static int32_t edit_open(const question *it, sw_told *told)
     return status;
 }
 
-/* Passes on how an edit went. After one that took documents the site takes at least as much as one of their bytes. */
+/* Passes on how an edit went. After one that took documents the site takes at least as much as one of their bytes, and
+   it may have its state before beside it. */
 static int32_t told_of(const question *it, int32_t status)
 {
-    int64_t memory = (int64_t)(MEMORY_FOR_BYTE * (it->texts[0].len + it->texts[1].len));
+    int64_t memory = (int64_t)(2 * MEMORY_FOR_BYTE * (it->texts[0].len + it->texts[1].len));
     if (status == SW_FOUND && memory > it->of[0]->told_memory) tell_memory(it->env, it->of[0], memory);
     return status;
 }
