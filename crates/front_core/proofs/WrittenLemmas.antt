@@ -1,20 +1,16 @@
 -- What answers a question about a message depends on its live labels alone.
-use Rattle.std.proofs.Common.{◌≡◌, ℕ, subst}
-use Rattle.cata_core.specs.Asking.{IsLookedUpBy}
+use Rattle.std.proofs.Common.{◌≡◌, subst}
 use Rattle.cata_core.specs.Entries.{Entries}
-use Rattle.cata_core.specs.Live.{Labelled, live}
-use Rattle.cata_core.specs.declared.reply.Reply.{Reply}
+use Rattle.cata_core.specs.Live.{live}
 use Rattle.query_docs.proofs.OneMessageLemmas.{same_answers}
 use Rattle.query_docs.specs.declared.asking.Ask.TheVariants as ask
 use Rattle.std.specs.Prelude.{Err, MatchResult, Ok, Result}
 use Rattle.cata_core.specs.Site.{SiteState}
-use Rattle.front_core.specs.Ask.{AnswersFilter, AnswersLookup, AnswersText, IsNoMemory, IsReply}
+use Rattle.front_core.specs.Ask.{AnswersFilter, IsNoMemory}
 use Rattle.front_core.specs.Ask.{is_found}
 use Rattle.front_core.specs.declared.fault.FrontFault.{FrontFault}
 use Rattle.front_core.specs.declared.answer.Answer.{Answer}
-use Rattle.front_core.specs.declared.answer.LabelText.{LabelText}
 use Rattle.front_core.specs.declared.ask.Filter.{Filter}
-use Rattle.front_core.specs.declared.ask.Lookup.{Lookup}
 
 -- the lines of a filter
 pub same_filter : (cells other : Entries) (asked : Filter) (answer : Answer)
