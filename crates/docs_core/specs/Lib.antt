@@ -1,11 +1,14 @@
 pub mod Calls
+pub mod EditedRows
 pub mod Exchange
 pub mod Imported
+pub mod JoinedRows
 pub mod Lines
 pub mod Made
 pub mod Merged
 pub mod OldSites
 pub mod Replays
 pub mod Revised
+pub mod RowsInTime
 pub mod TimeLimits
 pub mod Updated

@@ -141,6 +141,7 @@ impl<'t, T: MessageSink<'t>> CellSink<'t> for ByMessage<'t, T> {
             lang,
             stamp,
             label,
+            ..
         } = cell;
         self.reach(alloc, id)?;
         let lang = lang.copy(alloc)?;

@@ -6,6 +6,7 @@ pub mod PlainLemmas
 pub mod PlainReads
 pub mod PlainStampsLemmas
 pub mod RoundTrip
+pub mod RowsDraftLemmas
 pub mod SharedCellsLemmas
 pub mod ShowingLemmas
 pub mod SiteDocumentsLemmas

@@ -5,6 +5,7 @@ pub mod Plain
 pub mod PlainRows
 pub mod PlainStamps
 pub mod ReadsAs
+pub mod RowsDraft
 pub mod SharedCells
 pub mod Sink
 pub mod SiteDocuments

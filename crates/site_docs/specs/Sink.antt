@@ -1,7 +1,10 @@
 -- Cells that are seen where they are.
-use Rattle.std.specs.Prelude.{ℕ, List, [], ◌∷◌, None, Option, Some}
+use Rattle.std.specs.Prelude.{◌≡◌, ℕ, List, [], ◌∷◌, IfSome, None, Option, Some}
+use Rattle.serde_json.specs.Written.{compact_text}
 use Rattle.cell_core.specs.Label.{IsLabel}
 use Rattle.cata_core.specs.Entries.{Entry}
+use Rattle.row_docs.specs.Entries.{entry_value}
+use Rattle.row_docs.specs.Valid.{IsKeptCell}
 use Rattle.site_docs.specs.declared.sink.CellRef.{CellRef}
 use Rattle.site_docs.specs.declared.sink.LabelRef.{LabelRef}
 use Rattle.site_docs.specs.declared.sink.LabelRef.TheVariants.{Deleted, Held, Made, Text}
@@ -29,3 +32,8 @@ entry_of cell = (
     label = texts_of cell.label;
   },
 )
+
+-- the row, where there is one, is the text of a cell as every catalogue keeps it
+abbrev pub IsRowOf : CellRef → Type 0
+IsRowOf cell = IfSome cell.row (λ row. IsKeptCell (entry_of cell)
+    × (row.now ≡ compact_text (entry_value (entry_of cell))))

@@ -1,13 +1,12 @@
 //! The documents of sites, deltas and summaries.
 //!
 //! [`read_site`], [`read_delta`] and [`read_summary`] read a document; [`write_site`],
-//! [`write_delta`] and [`write_summary`] write one, and [`write_with_same_cells`] those of two
-//! sites with the same cells. [`site_at`], [`delta_at`] and [`summary_at`] read one document of
+//! [`write_delta`] and [`write_summary`] write one. [`site_at`], [`delta_at`] and [`summary_at`] read one document of
 //! several, which a refusal names.
 //! [`show_document`] shows the cells of a site's document to a [`CellSink`], which keeps what it
 //! needs of them, and builds no catalogue where the document is in the form in which it is written;
 //! [`show_catalogue`] shows those of a catalogue. [`written_summary`] writes the summary of a
-//! document as its rows are read.
+//! document as its rows are read, and a [`RowsDraft`] copies the rows of one document to another.
 //!
 //! Callers find what they need in `docs_core`.
 #![tactic(auto)]
@@ -15,12 +14,13 @@
 mod document;
 pub mod laws;
 mod plain;
+mod rows_draft;
 mod showing;
 mod sink;
 
 pub use document::reading::{delta_at, read_delta, read_site, read_summary, site_at, summary_at};
-pub use document::shared_cells::write_with_same_cells;
 pub use document::writing::{write_delta, write_site, write_summary};
 pub use plain::summaries::written_summary;
+pub use rows_draft::RowsDraft;
 pub use showing::{show_catalogue, show_document};
 pub use sink::{CellRef, CellSink, LabelRef};

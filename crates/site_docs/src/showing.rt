@@ -59,6 +59,7 @@ pub fn show_catalogue<'t, S: CellSink<'t>>(
                 lang,
                 stamp,
                 label,
+                row: None,
             },
         )?;
     }
@@ -103,6 +104,7 @@ fn show_copies<'t, S: CellSink<'t>>(
                 lang,
                 stamp,
                 label,
+                row: None,
             },
         )?;
     }

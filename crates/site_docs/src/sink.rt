@@ -2,7 +2,7 @@
 ghost use Rattle.std.specs.Prelude.{◌≡◌, ◌++◌, ◌∷◌, [], IfOk, OnOk, is_some};
 ghost use Rattle.cell_core.specs.Label.{IsLabel};
 ghost use Rattle.cata_core.specs.Entries.{Entries, IsAboveAll};
-ghost use Rattle.site_docs.specs.Sink.{IsLabelRef, entry_of, texts_of};
+ghost use Rattle.site_docs.specs.Sink.{IsLabelRef, IsRowOf, entry_of, texts_of};
 
 use cata_core::Catalogue;
 use cell_core::{Cell, CellFault, Key, Label, MessageId, Stamp};
@@ -20,6 +20,8 @@ pub struct CellRef<'a, 't> {
     pub stamp: Stamp,
     /// The label.
     pub label: LabelRef<'t>,
+    /// Its row, where it is read of a document as it is written.
+    pub row: Option<&'t str>,
 }
 
 /// The label of a cell, which is made only where the text of the document does not show it.
@@ -53,6 +55,7 @@ pub trait CellSink<'t>: Sized + Drop {
         requires holds { (first : Self) × (before : Entries) × Holds first self.old before
             × IsAboveAll (entry_of cell).0 before }
         requires label { IsLabelRef cell.label }
+        requires row { IsRowOf cell }
         ensures { OnOk result ((first : Self) → (before : Entries) → Holds first self.old before
             → IsAboveAll (entry_of cell.entry).0 before
             → Holds first self.new (before ++ entry_of cell.entry ∷ [])) };

@@ -1,10 +1,11 @@
 //! Calls on whole documents, from bytes to bytes.
 ghost use Rattle.std.specs.Prelude.{◌≡◌, option_map, IfErr, IfOk, MatchResult, OnErr};
 ghost use Rattle.std.specs.FinMap.Entries.{put};
-ghost use Rattle.cell_core.specs.Stamp.{IsNext};
+ghost use Rattle.cell_core.specs.Stamp.{IsNext, NoNext};
 ghost use Rattle.cata_core.specs.Entries.{key_cmp};
 ghost use Rattle.cata_core.specs.Latest.{latest_of};
 ghost use Rattle.cata_core.specs.Site.{RefusesEdit};
+ghost use Rattle.cata_core.specs.declared.cata_fault.CataFault.TheVariants.{ClockSpent};
 ghost use Rattle.json_docs.specs.Checks.{OrMemory};
 ghost use Rattle.row_docs.specs.Reading.{IsOfDocument, no_memory};
 ghost use Rattle.site_docs.specs.ReadsAs.{RefusesSite};
@@ -12,13 +13,16 @@ ghost use Rattle.docs_core.specs.Calls.{AreSynced, IsEdited, IsDeltaFor, IsSumma
 ghost use Rattle.docs_core.specs.Calls.{IsTaken, RefusesEditing, RefusesDeltaFor, RefusesSync};
 ghost use Rattle.docs_core.specs.Calls.{RefusesTaking};
 
+use crate::call::edited_rows::EditedRows;
 use crate::call::time_limits::{sync_documents_until, take_document_until};
 use cata_core::{CataFault, Site};
-use cell_core::{Label, MessageId, Stamp};
+use cell_core::{Cell, Label, MessageId, SiteName, Stamp};
 use json_docs::{Doc, DocFault};
 use lang_core::Lang;
-use site_docs::{site_at, summary_at, write_delta, write_site, write_summary, written_summary};
-use std::alloc::Global;
+use site_docs::{
+    show_document, site_at, summary_at, write_delta, write_summary, written_summary,
+};
+use std::alloc::{AllocError, Global};
 
 /// The document of the site after an edit at the time `now`: a label is put, and none deletes.
 ///
@@ -39,10 +43,33 @@ pub fn edit_document(
         (IsEdited site.now now (id.now, lang.now) (option_map (λ l. l.now) label.entry))
         (OrMemory no_memory (RefusesEditing site.now now)) }
 {
-    let mut site = site_at(alloc, 1, site)?;
-    edit(alloc, &mut site, now, id, lang, label)?;
-    let doc = write_site(alloc, &site)?;
+    let start = EditedRows::new(alloc, id, lang, site.len())?;
+    let (name, rows) = show_document(alloc, 1, site, &start)?;
+    let stamp = next_stamp(rows.latest, now, name)?;
+    let label = copy_of(alloc, label)?;
+    let doc = rows.close(alloc, name, &Cell::new(stamp, label))?;
     Ok(doc)
+}
+
+/// An equal label, where there is one.
+fn copy_of(alloc: Global, label: Option<&Label>) -> Result<Option<Label>, AllocError>
+    ensures { IfOk result (λ copy. copy ≡ option_map (λ l. l.now) label.entry) }
+{
+    match label {
+        Some(label) => Ok(Some(label.copy(alloc)?)),
+        None => Ok(None),
+    }
+}
+
+/// The least stamp of the site that is greater than the latest one and not before now.
+fn next_stamp(latest: Option<Stamp>, now: u64, name: SiteName) -> Result<Stamp, CataFault>
+    ensures { MatchResult result (IsNext latest now name)
+        (λ fault. (fault ≡ ClockSpent) × NoNext latest now name) }
+{
+    match Stamp::next(latest, now, name) {
+        Ok(stamp) => Ok(stamp),
+        Err(_) => Err(CataFault::ClockSpent),
+    }
 }
 
 /// Puts the label, or deletes it where there is none.

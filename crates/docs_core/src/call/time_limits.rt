@@ -1,14 +1,18 @@
 //! Deltas and sites of others, taken only where no time of theirs is after a limit.
-ghost use Rattle.std.specs.Prelude.{◌^◌, ◌<◌, length, IfErr, MatchOption, MatchResult, OnOk, Some};
+ghost use Rattle.std.specs.Prelude.{◌≡◌, ◌≢◌, ◌^◌, ◌<◌, length, IfErr, MatchOption, MatchResult, OnOk, Some};
+ghost use Rattle.cata_core.specs.declared.cata_fault.CataFault.TheVariants.{NotForMe};
 ghost use Rattle.json_docs.specs.Checks.{OrMemory};
 ghost use Rattle.row_docs.specs.Reading.{no_memory};
 ghost use Rattle.docs_core.specs.TimeLimits.{AreInTime, AreSyncedUntil, IsFirstAhead, IsTakenUntil};
 ghost use Rattle.docs_core.specs.TimeLimits.{IsTimeAhead, ReadsInTime, RefusesDeltaUntil};
 ghost use Rattle.docs_core.specs.TimeLimits.{RefusesSyncUntil, RefusesTakingUntil};
 
-use cata_core::{Catalogue, Delta};
+use crate::call::joined_rows::JoinedRows;
+use crate::call::rows_in_time::RowsInTime;
+use cata_core::{CataFault, Catalogue, Delta};
+use cell_core::SiteName;
 use json_docs::{Doc, DocCause, DocFault};
-use site_docs::{delta_at, site_at, write_site, write_with_same_cells};
+use site_docs::{delta_at, show_document, site_at};
 use std::alloc::Global;
 
 /// The document of the site after it took the delta, as [`take_document`](crate::take_document)
@@ -29,12 +33,32 @@ pub fn take_document_until(
     ensures { MatchResult result (IsTakenUntil site.now delta.now not_after) (OrMemory no_memory
         (RefusesTakingUntil site.now delta.now not_after)) }
 {
-    let mut site = site_at(alloc, 1, site)?;
-    let delta = delta_until(alloc, 2, delta, not_after)?;
-    site.take(alloc, &delta)?;
-    drop(delta);
-    let doc = write_site(alloc, &site)?;
+    let room = site.len().saturating_add(delta.len());
+    let delta = match delta_until(alloc, 2, delta, not_after) {
+        Ok(delta) => delta,
+        Err(fault) => {
+            // Document 1 is refused first.
+            let _read = site_at(alloc, 1, site)?;
+            return Err(fault);
+        }
+    };
+    let start = JoinedRows::new(alloc, delta.cells(), room)?;
+    let (name, rows) = show_document(alloc, 1, site, &start)?;
+    check_addressee(name, &delta)?;
+    let doc = rows.close(alloc, name)?;
     Ok(doc)
+}
+
+/// Whether the delta is for the site of this name.
+fn check_addressee(name: SiteName, delta: &Delta) -> Result<(), CataFault>
+    ensures { MatchResult result (λ _. name ≡ delta.now.addressee)
+        (λ fault. (fault ≡ NotForMe delta.now.addressee) × (name ≢ delta.now.addressee)) }
+{
+    let addressee = delta.addressee();
+    if name != addressee {
+        return Err(CataFault::NotForMe { addressee });
+    }
+    Ok(())
 }
 
 /// The documents of both sites after each took the other's cells, as
@@ -53,14 +77,21 @@ pub fn sync_documents_until(
     ensures { MatchResult result (λ docs. AreSyncedUntil first.now second.now not_after docs.0
         docs.1) (OrMemory no_memory (RefusesSyncUntil first.now second.now not_after)) }
 {
-    let mut first = site_at(alloc, 1, first)?;
-    let second = site_at(alloc, 2, second)?;
-    check_times(1, first.catalogue(), not_after)?;
+    let room = first.len().saturating_add(second.len());
+    let second = match site_at(alloc, 2, second) {
+        Ok(second) => second,
+        Err(fault) => {
+            // Document 1 is refused first.
+            let _read = site_at(alloc, 1, first)?;
+            return Err(fault);
+        }
+    };
+    let joined = JoinedRows::new(alloc, second.catalogue(), room)?;
+    let start = RowsInTime::new(joined, not_after);
+    let (name, rows) = show_document(alloc, 1, first, &start)?;
+    let rows = rows.in_time(1)?;
     check_times(2, second.catalogue(), not_after)?;
-    first.merge(alloc, second.catalogue())?;
-    let other = second.name();
-    drop(second);
-    let docs = write_with_same_cells(alloc, first, other)?;
+    let docs = rows.close_both(alloc, name, second.name())?;
     Ok(docs)
 }
 

@@ -14,14 +14,14 @@ ghost use Rattle.row_docs.specs.Valid.{AreKeptCells, IsKeptCell};
 ghost use Rattle.row_docs.specs.Values.{label_value};
 ghost use Rattle.site_docs.specs.Plain.{rows_text};
 ghost use Rattle.site_docs.specs.PlainRows.{IsLastOf, IsSpelled, entry_in, key_in, row_until};
-ghost use Rattle.site_docs.specs.PlainRows.{row_in, text_in};
-ghost use Rattle.site_docs.specs.Sink.{IsLabelRef, entry_of, texts_of};
+ghost use Rattle.site_docs.specs.PlainRows.{row_before, row_in, text_in};
+ghost use Rattle.site_docs.specs.Sink.{IsLabelRef, IsRowOf, entry_of, texts_of};
 ghost use Rattle.site_docs.specs.Unread.{RefusesSpelling};
 
 use crate::plain::labels::next_label;
 use crate::plain::languages::KnownLanguages;
 use crate::plain::texts::{
-    after, after_byte, escaped_text, number_before, text_before, text_before_comma,
+    after, after_byte, escaped_text, number_before, text_before, text_before_comma, text_until,
 };
 use crate::plain::unread::Unread;
 use crate::sink::{CellRef, CellSink, LabelRef};
@@ -118,7 +118,7 @@ fn first_cell<'t, S: CellSink<'t>>(
     let Ok(spelled) = Spelled::new(alloc, front) else {
         return None;
     };
-    let rest = show_cell(alloc, rest, &spelled, sink)?;
+    let rest = show_cell(alloc, text, rest, &spelled, sink)?;
     Some((spelled, rest))
 }
 
@@ -142,30 +142,34 @@ fn next_cell<'t, S: CellSink<'t>>(
     let Ok(()) = last.follow(alloc, front) else {
         return None;
     };
-    let rest = show_cell(alloc, rest, last, sink)?;
+    let rest = show_cell(alloc, text, rest, last, sink)?;
     Some(rest)
 }
 
-/// Shows the cell of this row to the sink, with the label that the text begins with.
+/// Shows the cell of the row that the text begins with to the sink, and answers what comes after
+/// it. The row is read as far as its label, with which the rest begins.
 fn show_cell<'t, S: CellSink<'t>>(
     alloc: Global,
     text: &'t str,
+    rest: &'t str,
     row: &Spelled<'t>,
     sink: &mut S,
 ) -> Option<&'t str>
     requires spelled { IsSpelled row.now }
+    requires text { text.now ≡ row_before (row_in row.now.front) rest.now }
     requires holds { (first : S) × (before : Entries) × S.Holds first sink.old before
         × IsAboveAll (key_in row.now.front) before }
-    ensures { IfSome result (λ rest. (label : Option (List (List ℕ)))
+    ensures { IfSome result (λ after. (label : Option (List (List ℕ)))
         × IsKeptCell (entry_in row.now.front label)
-        × (text.now ≡ compact_text (label_value label) ++ 93 ∷ rest.now)
+        × (text.now ≡ compact_text (entry_value (entry_in row.now.front label)) ++ after.now)
         × ((first : S) → (before : Entries) → S.Holds first sink.old before
         → IsAboveAll (key_in row.now.front) before
         → S.Holds first sink.new (before ++ entry_in row.now.front label ∷ []))) }
 {
-    let (label, rest) = next_label(alloc, text)?;
+    let (label, rest) = next_label(alloc, rest)?;
     let rest = after(rest, "]")?;
-    match sink.see(alloc, row.cell(label)) {
+    let cell = row.cell(label, text_until(text, rest));
+    match sink.see(alloc, cell) {
         Ok(()) => Some(rest),
         Err(_) => None,
     }
@@ -281,12 +285,15 @@ impl<'t> Spelled<'t> {
         Ok(())
     }
 
-    /// The cell of the row with this label.
+    /// The cell of the row with this label, and the row itself.
     #[inline(always)]
-    fn cell(&self, label: LabelRef<'t>) -> CellRef<'_, 't>
+    fn cell(&self, label: LabelRef<'t>, row: &'t str) -> CellRef<'_, 't>
         requires { IsSpelled self.now }
         ensures entry { entry_of result ≡ entry_in self.now.front (texts_of label.entry) }
         ensures label { IsLabelRef label.entry → IsLabelRef result.label }
+        ensures row { IsLabelText (texts_of label.entry)
+            → row.now ≡ compact_text (entry_value (entry_in self.now.front (texts_of label.entry)))
+            → IsRowOf result }
         ensures kept { IsLabelText (texts_of label.entry)
             → IsKeptCell (entry_in self.now.front (texts_of label.entry)) }
     {
@@ -295,6 +302,7 @@ impl<'t> Spelled<'t> {
             lang: self.languages.last(),
             stamp: self.stamp(),
             label,
+            row: Some(row),
         }
     }
 

@@ -3,7 +3,7 @@
 //!
 //! What is called for each row is inlined, so that its literals are known where they are compared.
 ghost use Rattle.std.specs.Prelude.{◌≡◌, ◌<◌, ◌++◌, ◌∷◌, [], IfSome, MatchOption, Some, decimal};
-ghost use Rattle.std.specs.Prelude.{get_or, length, map, nat_lt, string_bytes};
+ghost use Rattle.std.specs.Prelude.{List, ℕ, get_or, length, map, nat_lt, string_bytes};
 ghost use Rattle.std.specs.Char.{digit_char};
 ghost use Rattle.std.specs.Simd.Lanes.{mask_l};
 ghost use Rattle.json.specs.Print.{escape, escape_byte, escape_letter, quoted};
@@ -92,6 +92,15 @@ pub(crate) fn number_before(text: &str, end: u8) -> Option<(u64, &str)>
     let (number, rest) = number_front(text)?;
     let left = after_byte(rest, end)?;
     Some((number, left))
+}
+
+/// What the text has before the rest with which it ends.
+#[inline(always)]
+pub(crate) fn text_until<'t>(text: &'t str, rest: &str) -> &'t str
+    requires { (front : List ℕ) × (text.now ≡ front ++ rest.now) }
+    ensures { (front : List ℕ) → text.now ≡ front ++ rest.now → result.now ≡ front }
+{
+    &text[..text.len() - rest.len()]
 }
 
 /// The string that the text begins with, where it may have escapes.

@@ -19,7 +19,7 @@ see-requires g c = λ κs.
           shown_above c.args.cells.now inv.0 (cells_left c.next.new.self) e
               c.iter-id-items.ensures.sorted all,
         ),
-        c.held_label-label.ensures.label,
+        (c.held_label-label.ensures.label, tt),
       ),
     )
 

@@ -12,7 +12,7 @@ see-requires c =
     let kept = c.args.self.now.cells in
     let above =
     above_kept req.0 c.args.self.now req.1 (c.args.cell.id.now, c.args.cell.lang.now) req.2 req.3 in
-    ((kept, kept, refl, above), c.requires.label)
+    ((kept, kept, refl, above), (c.requires.label, c.requires.row))
 
 -- the cell is one more of the message
 pub returns : goal.returns
