@@ -63,8 +63,7 @@ pub(crate) fn of_import(
         → IfSome result (λ came. IsBroughtBy came old.now site.now) }
 {
     let (was, cells) = (old.catalogue(), site.catalogue());
-    // The length says that the keys ascend.
-    let _cells = was.len();
+    keys_ascend(old);
     let mut came = Catalogue::new(alloc);
     let Some(()) = add_changed(alloc, &mut came, was, cells, maps.labels()) else {
         return None;
@@ -86,8 +85,7 @@ pub(crate) fn of_update(
         → IfSome result (λ came. IsBroughtBy came old.now site.now) }
 {
     let (was, cells) = (old.catalogue(), site.catalogue());
-    // The length says that the keys ascend.
-    let _cells = was.len();
+    keys_ascend(old);
     let mut came = Catalogue::new(alloc);
     let Some(()) = add_changed(alloc, &mut came, was, cells, before.labels()) else {
         return None;
@@ -96,6 +94,13 @@ pub(crate) fn of_update(
         return None;
     };
     Some(came)
+}
+
+/// The keys of the site's cells ascend: the contract says so, as that of their length does.
+pub(crate) fn keys_ascend(site: &Site)
+    ensures { IsMap key_cmp site.now.cells }
+{
+    let _length = site.catalogue().len();
 }
 
 /// Adds of these cells those at the keys of the labels that were others; none where they are too

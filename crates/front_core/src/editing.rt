@@ -58,8 +58,7 @@ fn make_in_place(
     ensures left { OnErr result (site.new ≡ site.old) }
     ensures spare { IsSpareOf site.new spare.new }
 {
-    // The length says that the keys ascend.
-    let _cells = site.catalogue().len();
+    arrivals::keys_ascend(site);
     match change.make(alloc, site, now) {
         Ok(()) => {
             *spare = missing_change(alloc, spare.take(), site, change);

@@ -6,7 +6,7 @@ ghost use Rattle.cata_core.specs.Site.{SiteState};
 ghost use Rattle.front_core.specs.Spare.{IsBroughtBy, IsSpareOf};
 ghost use Rattle.front_core.specs.declared.fault.FrontFault.TheVariants.{NoMemory};
 
-use crate::arrivals::MAX_ARRIVALS;
+use crate::arrivals::{MAX_ARRIVALS, keys_ascend};
 use crate::fault::FrontFault;
 use cata_core::{Catalogue, Site};
 use std::alloc::{AllocError, Global};
@@ -32,8 +32,7 @@ pub(crate) fn equal_site(
     ensures equal { IfOk result (λ equal. equal ≡ site.now) }
     ensures map { IsMap key_cmp site.now.cells }
 {
-    // The length says that the keys ascend.
-    let _cells = site.catalogue().len();
+    keys_ascend(site);
     match brought_up(alloc, spare) {
         Some(equal) => Ok(equal),
         None => site.copy(alloc),
@@ -69,8 +68,7 @@ pub(crate) fn exchange(
 pub(crate) fn put_aside(alloc: Global, site: Site) -> Option<Spare>
     ensures { IsSpareOf site result }
 {
-    // The length says that the keys ascend.
-    let _cells = site.catalogue().len();
+    keys_ascend(&site);
     let Ok(share) = Arc::new(alloc, site) else {
         return None;
     };

@@ -3,7 +3,6 @@ use Rattle.front_core.proofs.arrivals.of_import.Goals as goal
 
 pub returns : goal.returns
 returns c =
-    let m = rw c.catalogue-was.ensures at c.len-cells.ensures.sorted in
     let part = rw c.catalogue-cells.ensures at c.in-Some.ensures.part in
     let known =
     rw (
@@ -13,4 +12,4 @@ returns c =
       c.labels.ensures.labels,
     ) at c.in-Some.ensures.known in
     λ now name imports. import_brought now c.args.maps.now c.args.old.now c.args.site.now
-    c.add_changed.new.came c.labels.ensures.sorted m name imports part known
+    c.add_changed.new.came c.labels.ensures.sorted c.keys_ascend.ensures name imports part known
