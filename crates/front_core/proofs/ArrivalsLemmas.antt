@@ -34,7 +34,7 @@ use Rattle.docs_core.proofs.UpdateLaws.{keeps_cell}
 use Rattle.docs_core.proofs.UpdatedLemmas.{one_key}
 use Rattle.front_core.specs.Arrivals.{HasMore, IsKnown, KnowsMore}
 use Rattle.front_core.specs.Change.{IsChanged}
-use Rattle.front_core.specs.Spare.{IsBroughtBy}
+use Rattle.front_core.specs.OpenSite.{IsJoined}
 use Rattle.front_core.specs.declared.change.Change.{Change}
 use Rattle.front_core.proofs.SpareLemmas.{above_trans}
 
@@ -214,11 +214,11 @@ makes_rise now name (e ∷ es) old new m (stamp, next, rest) =
     above_trans old mid new is_mid (own_rises old e.0 cell m next.new.above)
     (makes_rise now name es mid new is_mid rest)
 
--- The cell at the key of a change brought the site to what the change made of it.
+-- The site, joined with the cell at the key of a change, is what the change made of it.
 pub change_brought : (now : ℕ) (change : Change) (old new : SiteState) (came : Entries)
     → IsMap key_cmp old.cells → IsChanged now change old new → IsPart came new.cells
     → HasMore (λ q. q ≡ (change.id, change.lang)) new.cells [] came
-    → IsBroughtBy came old new
+    → IsJoined came old new
 change_brought now change old new came m (stamp, next, is) part more =
     let key : EntryKey = (change.id, change.lang) in
     let cell : Cell = record { stamp = stamp; label = change.label } in
@@ -235,13 +235,13 @@ change_brought now change old new came m (stamp, next, is) part more =
     ] refl) in
     (found.0, λ i. record { name = (is i).name; cells = found.1 i })
 
--- Where all keys of the labels are known, the cells brought the site to what their import made of
--- it.
+-- Where all keys of the labels are known, the site, joined with the cells, is what their import
+-- made of it.
 pub import_brought : (now : ℕ) (labels : List Labelled) (old new : SiteState) (came : Entries)
     → IsMap key_cmp labels → IsMap key_cmp old.cells → new.name ≡ old.name
     → Imports now old.name labels old.cells new.cells → IsPart came new.cells
     → KnowsMore (λ q. find key_cmp q labels ≢ None) old.cells new.cells [] came
-    → IsBroughtBy came old new
+    → IsJoined came old new
 import_brought now labels old new came is_map m name imports part knows =
     let rises = makes_rise now old.name (puts_of labels) old.cells new.cells m imports in
     let found = gathered old.cells new.cells came m rises part
@@ -253,14 +253,14 @@ import_brought now labels old new came is_map m name imports part knows =
     ] refl) in
     (found.0, λ i. record { name = name i; cells = found.1 i })
 
--- Where all keys of the old labels and of the new ones are known, the cells brought the site to
--- what the update made of it.
+-- Where all keys of the old labels and of the new ones are known, the site, joined with the cells,
+-- is what the update made of it.
 pub update_brought : (now : ℕ) (before after : List Labelled) (old new : SiteState)
     (some came : Entries) → IsMap key_cmp old.cells → new.name ≡ old.name
     → Updates now old.name before after old.cells new.cells → IsPart came new.cells
     → KnowsMore (λ q. find key_cmp q before ≢ None) old.cells new.cells [] some
     → KnowsMore (λ q. find key_cmp q after ≢ None) old.cells new.cells some came
-    → IsBroughtBy came old new
+    → IsJoined came old new
 update_brought now before after old new some came m name updates part first knows =
     let rises = makes_rise now old.name updates.0 old.cells new.cells m updates.2 in
     let found = gathered old.cells new.cells came m rises part

@@ -2,7 +2,7 @@
 use Rattle.std.proofs.Common.{◌≡◌, ℕ, inl, inr, refl, subst, sym, ◌∙◌, Option, ap₂, List, ap}
 use Rattle.std.specs.Prelude.{Err, MatchResult, Ok, Result}
 use Rattle.cata_core.specs.Site.{SiteState}
-use Rattle.cata_core.specs.Entries.{Agree, Entries, catalogue_laws, joined}
+use Rattle.cata_core.specs.Entries.{Entries, catalogue_laws}
 use Rattle.cata_core.specs.declared.delta.Delta.{Delta}
 use Rattle.cata_core.specs.declared.cata_fault.CataFault.{CataFault}
 use Rattle.cata_core.specs.declared.cata_fault.CataFault.TheVariants as cata
@@ -15,8 +15,9 @@ use Rattle.map_docs.specs.LangMaps.{Labelled}
 use Rattle.docs_core.specs.Updated.{SpendsUpdate}
 use Rattle.front_core.specs.Ask.{RefusesDocument}
 use Rattle.front_core.specs.Change.{IsDelete, IsPut, RefusesChange}
-use Rattle.front_core.specs.OpenSite.{OrNoMemory, RefusesPutInto, IsMerged, IsPartlyJoined, IsTaken}
-use Rattle.front_core.specs.OpenSite.{LeavesMerge, LeavesTake, RefusesDelete, RefusesUpdates}
+use Rattle.front_core.specs.OpenSite.{IsJoined, IsMerged, IsPartlyJoined, IsTaken, LeavesMerge}
+use Rattle.front_core.specs.OpenSite.{LeavesTake, OrNoMemory, RefusesDelete, RefusesPutInto}
+use Rattle.front_core.specs.OpenSite.{RefusesUpdates}
 use Rattle.front_core.specs.Preferences.{Text}
 use Rattle.front_core.specs.Fault.{site_fault}
 use Rattle.front_core.specs.declared.change.Change.{Change}
@@ -49,14 +50,12 @@ delete_refused now id lang site change fault asked (inr none) = inr none
 
 -- a site that is partly joined agrees with the cells, and has the same join with them
 rejoined : (cells : Entries) (old new made : SiteState) → IsPartlyJoined cells old new
-    → made ≡ record { name = old.name; cells = joined old.cells cells }
-    → Agree new.cells cells
-    × (made ≡ record { name = new.name; cells = joined new.cells cells })
+    → IsJoined cells old made → IsJoined cells new made
 rejoined cells old new made part is =
     let site : Text → Entries → SiteState = λ n c. record { name = n; cells = c } in
     let join = catalogue_laws.between_joins old.cells new.cells cells part.agree part.between in (
       catalogue_laws.between_agrees old.cells new.cells cells part.agree part.between,
-      is ∙ ap₂ site (sym part.name) (sym join),
+      is.1 ∙ ap₂ site (sym part.name) (sym join),
     )
 
 -- a merge that is repeated gives what it would have given
@@ -64,7 +63,7 @@ pub merged_again : (other old new made : SiteState) → LeavesMerge other old ne
     → IsMerged other old made → IsMerged other new made
 merged_again other old new made (inl same) is =
     subst (λ (s : SiteState). IsMerged other s made) (sym same) is
-merged_again other old new made (inr part) is = rejoined other.cells old new made part is.1
+merged_again other old new made (inr part) is = rejoined other.cells old new made part is
 
 -- and so does a take
 pub taken_again : (bytes : Text) (limit : Option ℕ) (old new made : SiteState)
@@ -74,8 +73,7 @@ taken_again bytes limit old new made (inl same) is =
 taken_again bytes limit old new made (inr left) is =
     let one = one_delta bytes left.0 is.0 left.1.0 is.1.0 in
     let part = subst (λ (d : Delta). IsPartlyJoined d.cells old new) one left.3 in
-    let again = rejoined is.0.cells old new made part is.2.2 in
-    (is.0, is.1, (part.name ∙ is.2.0, again.0, again.1))
+    (is.0, is.1, (part.name ∙ is.2.0, rejoined is.0.cells old new made part is.2.1))
 
 -- the clock is spent by the changes from the old labels to the new ones
 abbrev pub SpendsUpdateOf : ℕ → SiteState → List Labelled → List Labelled → FrontFault → Type 0

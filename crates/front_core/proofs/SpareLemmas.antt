@@ -1,4 +1,4 @@
--- What a spare missed, when more comes in.
+-- What a spare missed, when it misses more.
 use Rattle.std.proofs.Common.{◌≡◌, ◌∙◌, Bool, true, false, cond, Option, Some, None, inr}
 use Rattle.std.proofs.Common.{refl, sym, ap, ap₂, subst, true≢false, List, ℕ}
 use Rattle.std.specs.FinMap.Entries.{find}
@@ -13,7 +13,7 @@ use Rattle.cata_core.specs.Entries.{EntryKey, key_cmp_exact, key_cmp_total}
 use Rattle.cata_core.specs.Site.{SiteState}
 use Rattle.cata_core.proofs.Basics.{less_of}
 use Rattle.cata_core.proofs.StampOrderLemmas.{lt_self, not_lt_trans}
-use Rattle.front_core.specs.Spare.{IsBroughtBy}
+use Rattle.front_core.specs.OpenSite.{IsJoined}
 
 -- ---- cells
 
@@ -124,11 +124,10 @@ above_trans a b c is_b ab bc =
 abbrev with_cells : List ℕ → Entries → SiteState
 with_cells name es = record { name = name; cells = es }
 
--- Cells that bring a site to a second, and others that bring that to a third, are joined what
--- brings the first to the third.
-pub brought_by_more : (a b c : SiteState) (m n : Entries) → IsMap key_cmp m → IsBroughtBy m a b
-    → IsBroughtBy n b c → IsBroughtBy (joined m n) a c
-brought_by_more a b c m n is_m ab bc =
+-- A site that is joined with some cells, and then with others, is joined with the join of both.
+pub joined_with_more : (a b c : SiteState) (m n : Entries) → IsMap key_cmp m → IsJoined m a b
+    → IsJoined n b c → IsJoined (joined m n) a c
+joined_with_more a b c m n is_m ab bc =
     let cells : b.cells ≡ joined a.cells m = ap (λ (s : SiteState). s.cells) ab.1 in
     let more =
     more_joined a.cells m n is_m ab.0 (subst (λ (es : Entries). Agree es n) cells bc.0) in (

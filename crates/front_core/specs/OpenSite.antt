@@ -73,10 +73,14 @@ pub record IsPartlyJoined (cells : Entries) (old new : SiteState) : Type 0 where
   pub name : new.name ≡ old.name
   pub between : Between old.cells new.cells cells
 
+-- the site has its cells joined with these, which agree with them
+abbrev pub IsJoined : Entries → Edits
+IsJoined cells old new = Agree old.cells cells
+    × (new ≡ record { name = old.name; cells = joined old.cells cells })
+
 -- the cells are those of both, which agree
 abbrev pub IsMerged : SiteState → Edits
-IsMerged other old new = Agree old.cells other.cells
-    × (new ≡ record { name = old.name; cells = joined old.cells other.cells })
+IsMerged other = IsJoined other.cells
 
 -- the least key whose stamp has two labels is reported, or memory ended
 abbrev pub RefusesMerge : SiteState → SiteState → FrontFault → Type 0
@@ -92,9 +96,7 @@ LeavesMerge other = LeavesJoin other.cells
 
 -- the delta is for the site, and the cells are those of both, which agree
 abbrev pub IsTakenDelta : Delta → Edits
-IsTakenDelta delta old new =
-    (old.name ≡ delta.addressee) × Agree old.cells delta.cells
-    × (new ≡ record { name = old.name; cells = joined old.cells delta.cells })
+IsTakenDelta delta old new = (old.name ≡ delta.addressee) × IsJoined delta.cells old new
 
 -- the delta is for another site, or refused as cells are
 abbrev pub RefusesTakeDelta : Delta → SiteState → FrontFault → Type 0

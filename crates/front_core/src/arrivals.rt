@@ -11,7 +11,7 @@ ghost use Rattle.docs_core.specs.Imported.{Imports};
 ghost use Rattle.docs_core.specs.Updated.{Updates};
 ghost use Rattle.front_core.specs.Arrivals.{HasMore, KnowsMore};
 ghost use Rattle.front_core.specs.Change.{IsChanged};
-ghost use Rattle.front_core.specs.Spare.{IsBroughtBy};
+ghost use Rattle.front_core.specs.OpenSite.{IsJoined};
 
 use crate::change::Change;
 use cata_core::{CataFault, Catalogue, Edit, Site};
@@ -27,7 +27,7 @@ pub(crate) const MAX_ARRIVALS: u128 = 4096;
 pub(crate) fn of_change(alloc: Global, site: &Site, change: &Change) -> Option<Catalogue>
     ensures { (old : SiteState) (now : ℕ) → IsMap key_cmp old.cells
         → IsChanged now change.now old site.now
-        → IfSome result (λ came. IsBroughtBy came old site.now) }
+        → IfSome result (λ came. IsJoined came old site.now) }
 {
     let mut came = Catalogue::new(alloc);
     let Ok(()) = add_cell(alloc, &mut came, site.catalogue(), &change.id, &change.lang) else {
@@ -60,7 +60,7 @@ pub(crate) fn of_import(
 ) -> Option<Catalogue>
     ensures { (now : ℕ) → site.now.name ≡ old.now.name
         → Imports now old.now.name maps.now old.now.cells site.now.cells
-        → IfSome result (λ came. IsBroughtBy came old.now site.now) }
+        → IfSome result (λ came. IsJoined came old.now site.now) }
 {
     let (was, cells) = (old.catalogue(), site.catalogue());
     keys_ascend(old);
@@ -82,7 +82,7 @@ pub(crate) fn of_update(
 ) -> Option<Catalogue>
     ensures { (now : ℕ) → site.now.name ≡ old.now.name
         → Updates now old.now.name before.now after.now old.now.cells site.now.cells
-        → IfSome result (λ came. IsBroughtBy came old.now site.now) }
+        → IfSome result (λ came. IsJoined came old.now site.now) }
 {
     let (was, cells) = (old.catalogue(), site.catalogue());
     keys_ascend(old);

@@ -10,9 +10,9 @@ ghost use Rattle.docs_core.specs.Imported.{Imports, SpendsImport};
 ghost use Rattle.docs_core.specs.Updated.{SpendsUpdate, Updates};
 ghost use Rattle.front_core.specs.Change.{IsChanged, RefusesChange};
 ghost use Rattle.front_core.specs.Fault.{IsOf, site_fault};
-ghost use Rattle.front_core.specs.OpenSite.{IsTakenDelta, LeavesJoin, LeavesTakeDelta, OrNoMemory};
-ghost use Rattle.front_core.specs.OpenSite.{RefusesTakeDelta};
-ghost use Rattle.front_core.specs.Spare.{IsBroughtBy, IsSpareOf};
+ghost use Rattle.front_core.specs.OpenSite.{IsJoined, IsTakenDelta, LeavesJoin, LeavesTakeDelta};
+ghost use Rattle.front_core.specs.OpenSite.{OrNoMemory, RefusesTakeDelta};
+ghost use Rattle.front_core.specs.Spare.{IsSpareOf};
 ghost use Rattle.front_core.specs.declared.fault.FrontFault.TheVariants.{NoMemory};
 
 use crate::arrivals;
@@ -143,7 +143,7 @@ pub(crate) fn join_in(
     cells: &Catalogue,
 ) -> Result<(), FrontFault>
     requires { IsSpareOf share.old.value spare.old }
-    ensures ok { OnOk result (IsBroughtBy cells.now share.old.value share.new.value) }
+    ensures ok { OnOk result (IsJoined cells.now share.old.value share.new.value) }
     ensures err { IfErr result (OrNoMemory
         (IsOf site_fault (IsRefusal share.old.value.cells cells.now))) }
     ensures left { OnErr result (LeavesJoin cells.now share.old.value share.new.value) }
@@ -164,7 +164,7 @@ fn join_in_place(
     cells: &Catalogue,
 ) -> Result<(), FrontFault>
     requires { IsSpareOf site.old spare.old }
-    ensures ok { OnOk result (IsBroughtBy cells.now site.old site.new) }
+    ensures ok { OnOk result (IsJoined cells.now site.old site.new) }
     ensures err { IfErr result (OrNoMemory
         (IsOf site_fault (IsRefusal site.old.cells cells.now))) }
     ensures left { OnErr result (LeavesJoin cells.now site.old site.new) }
@@ -192,7 +192,7 @@ fn join_apart(
     cells: &Catalogue,
 ) -> Result<(), FrontFault>
     requires { IsSpareOf share.old.value spare.old }
-    ensures ok { OnOk result (IsBroughtBy cells.now share.old.value share.new.value) }
+    ensures ok { OnOk result (IsJoined cells.now share.old.value share.new.value) }
     ensures err { IfErr result (OrNoMemory
         (IsOf site_fault (IsRefusal share.old.value.cells cells.now))) }
     ensures left { OnErr result (share.new.value ≡ share.old.value) }

@@ -3,7 +3,8 @@ ghost use Rattle.std.specs.Prelude.{◌≡◌, IfErr, IfOk, IfSome, OnErr};
 ghost use Rattle.cell_core.specs.Keyed.{IsMap};
 ghost use Rattle.cata_core.specs.Entries.{key_cmp};
 ghost use Rattle.cata_core.specs.Site.{SiteState};
-ghost use Rattle.front_core.specs.Spare.{IsBroughtBy, IsSpareOf};
+ghost use Rattle.front_core.specs.OpenSite.{IsJoined};
+ghost use Rattle.front_core.specs.Spare.{IsSpareOf};
 ghost use Rattle.front_core.specs.declared.fault.FrontFault.TheVariants.{NoMemory};
 
 use crate::arrivals::{MAX_ARRIVALS, keys_ascend};
@@ -47,7 +48,7 @@ pub(crate) fn exchange(
     edited: Site,
     came: Option<Catalogue>,
 ) -> Result<Option<Spare>, FrontFault>
-    requires { IfSome came (λ cells. IsBroughtBy cells share.old.value edited) }
+    requires { IfSome came (λ cells. IsJoined cells share.old.value edited) }
     ensures share { IfOk result (λ _. share.new.value ≡ edited) }
     ensures spare { IfOk result (IsSpareOf edited) }
     ensures err { IfErr result (λ fault. fault ≡ NoMemory) }
@@ -79,7 +80,7 @@ pub(crate) fn put_aside(alloc: Global, site: Site) -> Option<Spare>
 /// The spare after cells came into the site: it misses them too. Where they are too many, or there
 /// is no memory for them, it is let go.
 pub(crate) fn missing_more(alloc: Global, spare: Option<Spare>, came: &Catalogue) -> Option<Spare>
-    ensures { (old new : SiteState) → IsSpareOf old spare → IsBroughtBy came.now old new
+    ensures { (old new : SiteState) → IsSpareOf old spare → IsJoined came.now old new
         → IsSpareOf new result }
 {
     let Some(Spare { share, mut missed }) = spare else {

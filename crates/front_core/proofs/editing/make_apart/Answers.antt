@@ -3,7 +3,7 @@ use Rattle.std.specs.Prelude.{IfSome}
 use Rattle.cell_core.specs.Keyed.{IsMap}
 use Rattle.cata_core.specs.Entries.{key_cmp}
 use Rattle.cata_core.specs.Site.{SiteState}
-use Rattle.front_core.specs.Spare.{IsBroughtBy}
+use Rattle.front_core.specs.OpenSite.{IsJoined}
 use Rattle.front_core.proofs.editing.make_apart.Goals as goal
 
 -- the cell that came in brings what the site was to the edited one
@@ -16,5 +16,5 @@ exchange-requires c =
     c.in_ok-edited.ensures.map in
     subst
     (λ (s : SiteState). IfSome c.of_change-came.result
-    (λ cells. IsBroughtBy cells s c.make.new.site)) same
+    (λ cells. IsJoined cells s c.make.new.site)) same
     (c.of_change-came.ensures was c.args.now m c.in-Ok.ensures.ok)

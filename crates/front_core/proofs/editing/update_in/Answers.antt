@@ -3,7 +3,7 @@ use Rattle.std.specs.Prelude.{IfSome}
 use Rattle.std.proofs.lemmas.Result.{err_from_is_err_and}
 use Rattle.cata_core.specs.Site.{SiteState}
 use Rattle.docs_core.specs.Updated.{Updates}
-use Rattle.front_core.specs.Spare.{IsBroughtBy}
+use Rattle.front_core.specs.OpenSite.{IsJoined}
 use Rattle.front_core.proofs.OpenSiteLemmas.{changes_refused}
 use Rattle.front_core.proofs.editing.update_in.Goals as goal
 
@@ -27,5 +27,5 @@ exchange-requires c =
     × Updates c.args.now s.name c.args.before.now c.args.after.now s.cells site.cells) was
     (c.in_ok-update_labels.ensures.name, c.in_ok-update_labels.ensures.ok) in
     subst
-    (λ (s : SiteState). IfSome c.of_update-came.result (λ cells. IsBroughtBy cells s site))
+    (λ (s : SiteState). IfSome c.of_update-came.result (λ cells. IsJoined cells s site))
     c.deref-2.ensures (c.of_update-came.ensures c.args.now made.0 made.1)
