@@ -3,6 +3,8 @@ use Rattle.std.proofs.Common.{◌≡◌, ◌∙◌, Bool, true, false, cond, Opt
 use Rattle.std.proofs.Common.{refl, sym, ap, ap₂, subst, true≢false, List, ℕ}
 use Rattle.std.specs.FinMap.Entries.{find}
 use Rattle.std.specs.Ordering.{is_lt}
+use Rattle.std.specs.Prelude.{Err, Ok, OnOk, Result}
+use Rattle.std.specs.Result.{result_ok}
 use Rattle.cell_core.specs.declared.cell.Cell.{Cell}
 use Rattle.cell_core.specs.Cell.{AgreeCells, cell_laws, joined_cells, stamp_cmp_total}
 use Rattle.cell_core.specs.Keyed.{AgreeIfBoth, IsMap, also_map, at_of, find-joined_maps}
@@ -14,6 +16,11 @@ use Rattle.cata_core.specs.Site.{SiteState}
 use Rattle.cata_core.proofs.Basics.{less_of}
 use Rattle.cata_core.proofs.StampOrderLemmas.{lt_self, not_lt_trans}
 use Rattle.front_core.specs.OpenSite.{IsJoined}
+
+-- What a call promises where it succeeds holds where its value is read.
+pub on_ok_at : {T E P : Type 0} (r : Result T E) (x : T) → result_ok r ≡ Some x → OnOk r P → P
+on_ok_at (Ok y) x is holds = holds
+on_ok_at (Err e) x is holds = cc
 
 -- ---- cells
 

@@ -30,9 +30,7 @@ pub(crate) fn of_change(alloc: Global, site: &Site, change: &Change) -> Option<C
         → IfSome result (λ came. IsJoined came old site.now) }
 {
     let mut came = Catalogue::new(alloc);
-    let Ok(()) = add_cell(alloc, &mut came, site.catalogue(), &change.id, &change.lang) else {
-        return None;
-    };
+    add_cell(alloc, &mut came, site.catalogue(), &change.id, &change.lang).ok()?;
     Some(came)
 }
 
@@ -44,10 +42,7 @@ pub(crate) fn of_merge(alloc: Global, cells: &Catalogue) -> Option<Catalogue>
     if cells.len() > MAX_ARRIVALS {
         return None;
     }
-    let Ok(came) = cells.copy(alloc) else {
-        return None;
-    };
-    Some(came)
+    cells.copy(alloc).ok()
 }
 
 /// The cells that an import of the labels brought to the old site; none where they are too many, or
@@ -65,9 +60,7 @@ pub(crate) fn of_import(
     let (was, cells) = (old.catalogue(), site.catalogue());
     keys_ascend(old);
     let mut came = Catalogue::new(alloc);
-    let Some(()) = add_changed(alloc, &mut came, was, cells, maps.labels()) else {
-        return None;
-    };
+    add_changed(alloc, &mut came, was, cells, maps.labels())?;
     Some(came)
 }
 
@@ -87,12 +80,8 @@ pub(crate) fn of_update(
     let (was, cells) = (old.catalogue(), site.catalogue());
     keys_ascend(old);
     let mut came = Catalogue::new(alloc);
-    let Some(()) = add_changed(alloc, &mut came, was, cells, before.labels()) else {
-        return None;
-    };
-    let Some(()) = add_changed(alloc, &mut came, was, cells, after.labels()) else {
-        return None;
-    };
+    add_changed(alloc, &mut came, was, cells, before.labels())?;
+    add_changed(alloc, &mut came, was, cells, after.labels())?;
     Some(came)
 }
 
@@ -122,9 +111,7 @@ fn add_changed(
         if came.len() > MAX_ARRIVALS {
             return None;
         }
-        let Ok(()) = add_if_changed(alloc, came, was, cells, &found.id, &found.lang) else {
-            return None;
-        };
+        add_if_changed(alloc, came, was, cells, &found.id, &found.lang).ok()?;
     }
     Some(())
 }

@@ -81,9 +81,7 @@ fn missing_change(
     if spare.is_none() {
         return None;
     }
-    let Some(came) = arrivals::of_change(alloc, site, change) else {
-        return None;
-    };
+    let came = arrivals::of_change(alloc, site, change)?;
     missing_more(alloc, spare, &came)
 }
 

@@ -70,9 +70,7 @@ pub(crate) fn put_aside(alloc: Global, site: Site) -> Option<Spare>
     ensures { IsSpareOf site result }
 {
     keys_ascend(&site);
-    let Ok(share) = Arc::new(alloc, site) else {
-        return None;
-    };
+    let share = Arc::new(alloc, site).ok()?;
     let missed = Catalogue::new(alloc);
     Some(Spare { share, missed })
 }
@@ -83,15 +81,11 @@ pub(crate) fn missing_more(alloc: Global, spare: Option<Spare>, came: &Catalogue
     ensures { (old new : SiteState) → IsSpareOf old spare → IsJoined came.now old new
         → IsSpareOf new result }
 {
-    let Some(Spare { share, mut missed }) = spare else {
-        return None;
-    };
+    let Spare { share, mut missed } = spare?;
     if missed.len() > MAX_ARRIVALS || came.len() > MAX_ARRIVALS {
         return None;
     }
-    let Ok(()) = missed.merge(alloc, came) else {
-        return None;
-    };
+    missed.merge(alloc, came).ok()?;
     Some(Spare { share, missed })
 }
 
@@ -99,14 +93,8 @@ pub(crate) fn missing_more(alloc: Global, spare: Option<Spare>, came: &Catalogue
 fn brought_up(alloc: Global, spare: Option<Spare>) -> Option<Site>
     ensures { (site : SiteState) → IsSpareOf site spare → IfSome result (λ equal. equal ≡ site) }
 {
-    let Some(Spare { share, missed }) = spare else {
-        return None;
-    };
-    let Ok(mut site) = Arc::try_unwrap(share) else {
-        return None;
-    };
-    let Ok(()) = site.merge(alloc, &missed) else {
-        return None;
-    };
+    let Spare { share, missed } = spare?;
+    let mut site = Arc::try_unwrap(share).ok()?;
+    site.merge(alloc, &missed).ok()?;
     Some(site)
 }
