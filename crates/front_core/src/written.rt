@@ -33,8 +33,8 @@ impl Lookup {
         ensures { (site : SiteState) → IsWritten text.now site
             → MatchResult result (AnswersLookup site.cells self.now) IsNoMemory }
     {
-        let message = message_in(alloc, text, &self.id)?;
-        self.answer(alloc, SiteIn::Open(&message))
+        let part = message_in(alloc, text, &self.id)?;
+        self.answer(alloc, SiteIn::Open(&part))
     }
 }
 
@@ -47,7 +47,9 @@ impl Filter {
         ensures { (site : SiteState) → IsWritten text.now site
             → MatchResult result (AnswersFilter site.cells self.now) IsNoMemory }
     {
-        let part = message_in(alloc, text, &self.id)?;
+        // By a pattern, so that an edit finds a line of its own.
+        let Filter { id, .. } = self;
+        let part = message_in(alloc, text, id)?;
         self.answer(alloc, SiteIn::Open(&part))
     }
 }
