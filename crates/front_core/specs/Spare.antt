@@ -1,4 +1,4 @@
--- A site before its last edits, and the cells that came in by them (project rules).
+-- A site before its last edits, and the cells that these brought (project rules).
 use Rattle.std.specs.Prelude.{IfSome, Option}
 use Rattle.cata_core.specs.Site.{SiteState}
 use Rattle.front_core.specs.OpenSite.{IsJoined}

@@ -18,7 +18,7 @@ ghost use Rattle.front_core.specs.declared.fault.FrontFault.TheVariants.{NoMemor
 use crate::arrivals;
 use crate::change::Change;
 use crate::fault::FrontFault;
-use crate::spare::{Spare, equal_site, exchange, missing_more, put_aside};
+use crate::spare::{Spare, as_spare, equal_site, exchange, missing_more};
 use cata_core::{CataFault, Catalogue, Delta, Site};
 use docs_core::{LangMaps, put_labels, update_labels};
 use std::alloc::Global;
@@ -103,7 +103,7 @@ fn make_apart(
     match change.make(alloc, &mut edited, now) {
         Ok(()) => {}
         Err(fault) => {
-            *spare = put_aside(alloc, edited);
+            *spare = as_spare(alloc, edited);
             return Err(fault);
         }
     }
@@ -154,7 +154,7 @@ pub(crate) fn join_in(
     join_apart(alloc, share, spare, cells)
 }
 
-/// Joins cells in place. Where memory ends some may have come in, and the spare is let go.
+/// Joins cells in place. Where memory ends some may be joined, and the spare is dropped.
 fn join_in_place(
     alloc: Global,
     site: &mut Site,
@@ -201,7 +201,7 @@ fn join_apart(
         Ok(()) => {}
         Err(CataFault::NoMemory) => return Err(FrontFault::NoMemory),
         Err(fault) => {
-            *spare = put_aside(alloc, edited);
+            *spare = as_spare(alloc, edited);
             return Err(FrontFault::from(fault));
         }
     }
@@ -211,7 +211,7 @@ fn join_apart(
 }
 
 /// Puts each label in another site, which takes the place of this one. Where one is refused, that
-/// other site is let go.
+/// other site is dropped.
 pub(crate) fn import_in(
     alloc: Global,
     share: &mut Arc<Site>,
@@ -236,7 +236,7 @@ pub(crate) fn import_in(
 }
 
 /// Makes the changes from the old labels to the new ones in another site, which takes the place of
-/// this one. Where one is refused, that other site is let go.
+/// this one. Where one is refused, that other site is dropped.
 pub(crate) fn update_in(
     alloc: Global,
     share: &mut Arc<Site>,

@@ -16,8 +16,8 @@
 //! - [`explain`] says of a refusal's number what it means, what causes it and what to do.
 //! - [`VERSION`] is the version of the command and of the library.
 //!
-//! Ids, fields and languages come in as bytes. A refusal is a [`FrontFault`], with its number, and
-//! its place where it has one.
+//! Ids, fields and languages are passed as bytes. A refusal is a [`FrontFault`], with its number,
+//! and its place where it has one.
 //!
 //! ```text
 //! let (scheme, malformed) = (Scheme::Basic, Malformed::PassedOver);

@@ -19,10 +19,10 @@ use std::sync::Arc;
 ///
 /// That other site is a copy, by the first such edit, and at each [`OpenSite::import`] or
 /// [`OpenSite::update`] that finds no spare. What the site was before becomes a spare then, beside
-/// the cells that come in after it: the next such edit joins these and is made there, in the time
-/// of what was changed, where all other shares of the state before are gone, and few cells came in
-/// since. A spare takes the memory of one more site. A site that is never shared and never imported
-/// into has none.
+/// the cells that later edits bring: the next such edit joins these and is made there, in the time
+/// of what was changed, where all other shares of the state before are gone, and few cells were
+/// brought since. A spare takes the memory of one more site. A site that is never shared and never
+/// imported into has none.
 #[derive(Drop)]
 pub struct OpenSite {
     share: Arc<Site>,

@@ -14,16 +14,16 @@ use std::alloc::{AllocError, Global};
 use std::mem;
 use std::sync::Arc;
 
-/// The state of a site before its last edits, and the cells that came in by them. Once no other
-/// share holds it, it is brought up by joining these, and edited in place of a copy.
+/// The state of a site before its last edits, and the cells that these brought. Once no other share
+/// holds it, it is joined with these cells, and edited in place of a copy.
 #[derive(Drop)]
 pub(crate) struct Spare {
     share: Arc<Site>,
     missed: Catalogue,
 }
 
-/// An equal site that no share holds: the spare, brought up, where that can be had, and else a
-/// copy.
+/// An equal site that no share holds: the spare, joined with what it missed, where that can be had,
+/// and else a copy.
 pub(crate) fn equal_site(
     alloc: Global,
     site: &Site,
@@ -34,14 +34,14 @@ pub(crate) fn equal_site(
     ensures map { IsMap key_cmp site.now.cells }
 {
     keys_ascend(site);
-    match brought_up(alloc, spare) {
+    match joined_spare(alloc, spare) {
         Some(equal) => Ok(equal),
         None => site.copy(alloc),
     }
 }
 
 /// Makes the share one of the edited site. What it was becomes the spare, which misses the cells
-/// that came in; where these are not there it is let go.
+/// of the edit; where these are not there it is dropped.
 pub(crate) fn exchange(
     alloc: Global,
     share: &mut Arc<Site>,
@@ -66,7 +66,7 @@ pub(crate) fn exchange(
 }
 
 /// The equal site as the spare, which misses nothing; none where there is no memory for it.
-pub(crate) fn put_aside(alloc: Global, site: Site) -> Option<Spare>
+pub(crate) fn as_spare(alloc: Global, site: Site) -> Option<Spare>
     ensures { IsSpareOf site result }
 {
     keys_ascend(&site);
@@ -75,8 +75,8 @@ pub(crate) fn put_aside(alloc: Global, site: Site) -> Option<Spare>
     Some(Spare { share, missed })
 }
 
-/// The spare after cells came into the site: it misses them too. Where they are too many, or there
-/// is no memory for them, it is let go.
+/// The spare after cells were joined to the site: it misses them too. Where they are too many, or
+/// there is no memory for them, it is dropped.
 pub(crate) fn missing_more(alloc: Global, spare: Option<Spare>, came: &Catalogue) -> Option<Spare>
     ensures { (old new : SiteState) → IsSpareOf old spare → IsJoined came.now old new
         → IsSpareOf new result }
@@ -89,8 +89,8 @@ pub(crate) fn missing_more(alloc: Global, spare: Option<Spare>, came: &Catalogue
     Some(Spare { share, missed })
 }
 
-/// The spare with what it missed, where there is one that no other share holds, and memory.
-fn brought_up(alloc: Global, spare: Option<Spare>) -> Option<Site>
+/// The spare, joined with what it missed, where there is one that no other share holds, and memory.
+fn joined_spare(alloc: Global, spare: Option<Spare>) -> Option<Site>
     ensures { (site : SiteState) → IsSpareOf site spare → IfSome result (λ equal. equal ≡ site) }
 {
     let Spare { share, missed } = spare?;

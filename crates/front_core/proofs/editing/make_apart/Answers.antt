@@ -6,7 +6,7 @@ use Rattle.cata_core.specs.Site.{SiteState}
 use Rattle.front_core.specs.OpenSite.{IsJoined}
 use Rattle.front_core.proofs.editing.make_apart.Goals as goal
 
--- the cell that came in brings what the site was to the edited one
+-- what the site was, joined with the cell of the change, is the edited one
 pub exchange-requires : goal.exchange-requires
 exchange-requires c =
     let was = c.in_ok-edited.edited in

@@ -16,7 +16,7 @@ returns-in_err-update_labels-clause-err c =
     c.args.before.now c.args.after.now c.in_err-update_labels.field-0.0 p.0 same
     c.in_err-update_labels.ensures.err p.2)
 
--- the cells that came in bring what the site was to the edited one
+-- what the site was, joined with the cells of the update, is the edited one
 pub exchange-requires : goal.exchange-requires
 exchange-requires c =
     let site = c.update_labels.new.site in
