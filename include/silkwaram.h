@@ -143,8 +143,9 @@ int32_t sw_site_filter(sw_site *site, uint32_t flags, const uint8_t *id, size_t 
  * of the message are found by bisection: of a million messages a text takes some microseconds, and the pages that some
  * thirty places of the document are on. Memory: what the field takes, and the rows of the message.
  *   SW_FOUND, SW_NOTHING, SW_USAGE, SW_REFUSED   as sw_site_lookup, sw_site_text and sw_site_filter for the site
- * What is answered for other bytes is not said, and a document in another form may be read whole or refused
- * (sw_site_open is for these); no call reads outside of `text`, whatever its bytes are.
+ * A question that is refused over a site (its flags, id, default or field) is refused in the same way over any bytes.
+ * What is answered else for bytes that are no such document is not said, and a document in another form may be read
+ * whole or refused (sw_site_open is for these); no call reads outside of `text`, whatever its bytes are.
  * A mapped file has to be replaced by another (a new file that is renamed to it, as lexicat-file does), and never
  * written in place: if a file is cut short while it is mapped, the system ends the process (SIGBUS). */
 int32_t sw_text_lookup(const uint8_t *text, size_t text_len, uint32_t flags, const uint8_t *id, size_t id_len,

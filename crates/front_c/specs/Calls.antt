@@ -26,7 +26,7 @@ use Rattle.front_core.specs.declared.fault.FrontFault.TheVariants.{NoMemory}
 use Rattle.front_c.specs.Question.{default_of, field_of, limit_of, lookup_field_of}
 use Rattle.front_c.specs.Reporting.{Ends, Reports, ReportsAnswer, ReportsDone, ReportsEither}
 use Rattle.front_c.specs.Reporting.{ReportsFault, ReportsLabelText, ReportsNothing, ReportsPicked}
-use Rattle.front_c.specs.Reporting.{ReportsText, ReportsUsage, Text, answered}
+use Rattle.front_c.specs.Reporting.{ReportsRead, ReportsText, ReportsUsage, Text, answered}
 use Rattle.front_c.specs.Status.{found, out_of_memory, usage}
 
 -- ---- tags
@@ -143,6 +143,19 @@ ReportsRefusalText number = ReportsLine (option_map (λ texts. texts.text) (refu
 abbrev pub ReportsWritten : Text → (Option SiteState → Ends) → Ends
 ReportsWritten text As old new told status = (site : SiteState) → IsWritten text site
     → As (Some site) old new told status
+
+-- whatever the text is, the arguments of a lookup are refused as over a site, or are a question
+abbrev pub ReportsReadLookup : {A : Type 0} → ℕ → Text → Text → Text → (A → Ends) → Ends
+ReportsReadLookup flags id field default As =
+    ReportsField (lookup_field_of flags field)
+    (λ read. ReportsRead (IsLookup id read (default_of default))
+    (RefusesLookup id read (default_of default)) As)
+
+-- the same of a filter
+abbrev pub ReportsReadFilter : ℕ → Text → Text → Ends
+ReportsReadFilter flags id field =
+    ReportsField (field_of flags field)
+    (λ read. ReportsRead (IsFilter id read) (RefusesFilter id read) ReportsAnswer)
 
 -- ---- handles
 

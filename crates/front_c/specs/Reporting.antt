@@ -1,6 +1,7 @@
 -- How an answer or a refusal is reported to C (project rules).
 use Rattle.std.specs.Prelude.{◌≡◌, ◌==◌, ◌≤◌, ◌<◌, ◌+◌, ◌++◌, ◌⊎◌, ℕ, ℤ, Bool, List, Option, None}
 use Rattle.std.specs.Prelude.{Some, drop, if◌then◌else◌, is_some, length}
+use Rattle.front_core.specs.Ask.{HasQuestion}
 use Rattle.front_core.specs.Fault.{count_of, document_of, number_of, offset_of, row_of}
 use Rattle.front_core.specs.declared.answer.Answer.{Answer}
 use Rattle.front_core.specs.declared.answer.LabelText.{LabelText}
@@ -117,3 +118,10 @@ ReportsEither {A} Is Refuses As old new told status =
 -- an answer or a refusal is reported, whatever it is
 abbrev pub ReportsSome : {A : Type 0} → (A → Ends) → Ends
 ReportsSome As = ReportsEither (λ _. Unit {0}) (λ _. Unit {0}) As
+
+-- the arguments read as a question, and an answer or a refusal is reported, whatever it is; or they
+-- are refused so, and this is reported
+abbrev pub ReportsRead : {Q A : Type 0} → (Q → Type 0) → (FrontFault → Type 0) → (A → Ends) → Ends
+ReportsRead Reads Refuses As old new told status =
+    (HasQuestion Reads × ReportsSome As old new told status)
+    ⊎ ((fault : FrontFault) × Refuses fault × ReportsRefusal fault old new told status)

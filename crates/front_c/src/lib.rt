@@ -33,11 +33,11 @@ ghost use Rattle.front_c.specs.Calls.{ReportsBundle, ReportsChanges, ReportsDele
 ghost use Rattle.front_c.specs.Calls.{ReportsFilter, ReportsImported, ReportsLookup};
 ghost use Rattle.front_c.specs.Calls.{ReportsLookupText, ReportsMeaning, ReportsMerged};
 ghost use Rattle.front_c.specs.Calls.{ReportsMissing, ReportsNew, ReportsOpened, ReportsOutdated};
-ghost use Rattle.front_c.specs.Calls.{ReportsPick, ReportsPut, ReportsRefusalText};
-ghost use Rattle.front_c.specs.Calls.{ReportsField, ReportsShared, ReportsTagFilter};
+ghost use Rattle.front_c.specs.Calls.{ReportsPick, ReportsPut, ReportsReadFilter};
+ghost use Rattle.front_c.specs.Calls.{ReportsReadLookup, ReportsRefusalText, ReportsShared};
+ghost use Rattle.front_c.specs.Calls.{ReportsTagFilter};
 ghost use Rattle.front_c.specs.Calls.{ReportsTaken, ReportsUpdated, ReportsView, ReportsWritten};
-ghost use Rattle.front_c.specs.Question.{field_of, lookup_field_of};
-ghost use Rattle.front_c.specs.Reporting.{ReportsAnswer, ReportsLabelText, ReportsSome};
+ghost use Rattle.front_c.specs.Reporting.{ReportsAnswer, ReportsLabelText};
 ghost use Rattle.front_c.specs.Handles.{site_of};
 ghost use Rattle.front_core.specs.declared.exchange.View.TheVariants.{Document, Export, Status};
 ghost use Rattle.front_core.specs.declared.exchange.View.TheVariants.{Summary};
@@ -542,8 +542,9 @@ pub extern "C" fn sw_site_bundle(
 /// where it lies, and answers the line of the command `lookup`.
 ///
 /// Where the text is what is written for a site, with its last line feed or without, the call ends
-/// as [`sw_site_lookup`] does over that site. What is answered or refused for any other text is not
-/// said.
+/// as [`sw_site_lookup`] does over that site. Whatever the text is, a question that is refused
+/// there is refused here, in the same way. What else is answered or refused for any other text is
+/// not said.
 #[unsafe(no_mangle)]
 pub extern "C" fn sw_text_lookup(
     alloc: Global,
@@ -557,8 +558,8 @@ pub extern "C" fn sw_text_lookup(
 ) -> i32
     ensures written { ReportsWritten text.now (λ site. ReportsLookup site flags id.now field.now
         default.now) out.old out.new told.new result }
-    ensures some { ReportsField (lookup_field_of flags field.now) (λ _. ReportsSome ReportsAnswer)
-        out.old out.new told.new result }
+    ensures read { ReportsReadLookup flags id.now field.now default.now ReportsAnswer out.old
+        out.new told.new result }
 {
     let Some(field) = lookup_field_of(flags, field) else {
         return report_usage(told);
@@ -570,7 +571,8 @@ pub extern "C" fn sw_text_lookup(
 }
 
 /// Answers, as it is, the text at a place, from 0, of the label that [`sw_text_lookup`] finds, as
-/// [`sw_site_text`] does over the site of the text.
+/// [`sw_site_text`] does over the site of the text. A question is refused as [`sw_text_lookup`]
+/// refuses it.
 #[unsafe(no_mangle)]
 pub extern "C" fn sw_text_text(
     alloc: Global,
@@ -585,8 +587,8 @@ pub extern "C" fn sw_text_text(
 ) -> i32
     ensures written { ReportsWritten text.now (λ site. ReportsLookupText site flags id.now field.now
         default.now place) out.old out.new told.new result }
-    ensures some { ReportsField (lookup_field_of flags field.now)
-        (λ _. ReportsSome ReportsLabelText) out.old out.new told.new result }
+    ensures read { ReportsReadLookup flags id.now field.now default.now ReportsLabelText out.old
+        out.new told.new result }
 {
     let Some(field) = lookup_field_of(flags, field) else {
         return report_usage(told);
@@ -599,7 +601,8 @@ pub extern "C" fn sw_text_text(
 
 /// Finds the labels of a message whose languages fit a field in the document of a site, as it is
 /// written, where it lies, and answers the lines of the command `filter`, as [`sw_site_filter`]
-/// does over the site of the text.
+/// does over the site of the text. Whatever the text is, a question that is refused there is
+/// refused here, in the same way.
 #[unsafe(no_mangle)]
 pub extern "C" fn sw_text_filter(
     alloc: Global,
@@ -612,8 +615,7 @@ pub extern "C" fn sw_text_filter(
 ) -> i32
     ensures written { ReportsWritten text.now (λ site. ReportsFilter site flags id.now field.now)
         out.old out.new told.new result }
-    ensures some { ReportsField (field_of flags field.now) (λ _. ReportsSome ReportsAnswer)
-        out.old out.new told.new result }
+    ensures read { ReportsReadFilter flags id.now field.now out.old out.new told.new result }
 {
     let Some(field) = field_of(flags, field) else {
         return report_usage(told);

@@ -3,7 +3,7 @@ use Rattle.front_core.specs.Ask.{AnswersFilter, IsAnswer, IsFilter, RefusesAnswe
 use Rattle.front_core.specs.Preferences.{field_text}
 use Rattle.front_c.specs.Calls.{ReportsQuestion}
 use Rattle.front_c.specs.Question.{field_of}
-use Rattle.front_c.specs.Reporting.{ReportsAnswer, ReportsSome}
+use Rattle.front_c.specs.Reporting.{ReportsAnswer, ReportsRead}
 use Rattle.front_c.proofs.AskedLemmas.{field_as, report_as, some_as, written_as}
 use Rattle.front_c.proofs.sw_text_filter.Goals as goal
 
@@ -27,15 +27,20 @@ returns-in-Ok-clause-written c = λ site written.
     c.in-Ok.ensures (c.answer_in.ensures site written))
     c.report.ensures))
 
--- Whatever the text is, an answer or a refusal is reported.
-pub returns-in-Ok-clause-some : goal.returns-in-Ok-clause-some
-returns-in-Ok-clause-some c =
+-- Whatever the text is, an answer or a refusal is reported where the arguments read as a question.
+pub returns-in-Ok-clause-read : goal.returns-in-Ok-clause-read
+returns-in-Ok-clause-read c =
+    let id = c.args.id.now in
     let same : to_z w32 (of_z w32 c.report.result) ≡ c.report.result = search rules in
     rw same
-    (field_as (field_of c.args.flags c.args.field.now) (λ _. ReportsSome ReportsAnswer)
+    (field_as (field_of c.args.flags c.args.field.now)
+    (λ f. ReportsRead (IsFilter id f) (RefusesFilter id f) ReportsAnswer)
     (field_text c.in-Some.field) c.args.out.now c.report.new.out c.report.new.told _ (search rules)
-    (some_as c.answer_in.result c.args.out.now c.report.new.out c.report.new.told _
-    c.report.ensures))
+    (inl (
+      (c.in-Ok.filter, c.in-Ok.ensures),
+      some_as c.answer_in.result c.args.out.now c.report.new.out c.report.new.told _
+          c.report.ensures,
+    )))
 
 -- The arguments are refused before the text is asked.
 pub returns-in-Err-clause-written : goal.returns-in-Err-clause-written
@@ -47,3 +52,12 @@ returns-in-Err-clause-written c = λ site written.
     (λ asked s. AnswersFilter s.cells asked))
     read c.args.out.now c.args.out.now c.report_refusal.new.told _ (search rules)
     (inr (c.in-Err.fault, inl c.in-Err.ensures, search rules))
+
+-- So it is whatever the text is.
+pub returns-in-Err-clause-read : goal.returns-in-Err-clause-read
+returns-in-Err-clause-read c =
+    let id = c.args.id.now in
+    field_as (field_of c.args.flags c.args.field.now)
+    (λ f. ReportsRead (IsFilter id f) (RefusesFilter id f) ReportsAnswer)
+    (field_text c.in-Some.field) c.args.out.now c.args.out.now c.report_refusal.new.told _
+    (search rules) (inr (c.in-Err.fault, c.in-Err.ensures, search rules))

@@ -3,7 +3,7 @@ use Rattle.front_core.specs.Ask.{AnswersLookup, IsAnswer, IsLookup, RefusesAnswe
 use Rattle.front_core.specs.Preferences.{field_text}
 use Rattle.front_c.specs.Calls.{ReportsQuestion}
 use Rattle.front_c.specs.Question.{default_of, lookup_field_of}
-use Rattle.front_c.specs.Reporting.{ReportsAnswer, ReportsSome}
+use Rattle.front_c.specs.Reporting.{ReportsAnswer, ReportsRead}
 use Rattle.front_c.proofs.AskedLemmas.{field_as, report_as, some_as, written_as}
 use Rattle.front_c.proofs.sw_text_lookup.Goals as goal
 
@@ -28,15 +28,21 @@ returns-in-Ok-clause-written c = λ site written.
     (rw (← c.default_of.ensures) c.in-Ok.ensures) (c.answer_in.ensures site written))
     c.report.ensures))
 
--- Whatever the text is, an answer or a refusal is reported.
-pub returns-in-Ok-clause-some : goal.returns-in-Ok-clause-some
-returns-in-Ok-clause-some c =
+-- Whatever the text is, an answer or a refusal is reported where the arguments read as a question.
+pub returns-in-Ok-clause-read : goal.returns-in-Ok-clause-read
+returns-in-Ok-clause-read c =
+    let id = c.args.id.now in
+    let default = default_of c.args.default.now in
     let same : to_z w32 (of_z w32 c.report.result) ≡ c.report.result = search rules in
     rw same
-    (field_as (lookup_field_of c.args.flags c.args.field.now) (λ _. ReportsSome ReportsAnswer)
+    (field_as (lookup_field_of c.args.flags c.args.field.now)
+    (λ f. ReportsRead (IsLookup id f default) (RefusesLookup id f default) ReportsAnswer)
     (field_text c.in-Some.field) c.args.out.now c.report.new.out c.report.new.told _ (search rules)
-    (some_as c.answer_in.result c.args.out.now c.report.new.out c.report.new.told _
-    c.report.ensures))
+    (inl (
+      (c.in-Ok.lookup, rw (← c.default_of.ensures) c.in-Ok.ensures),
+      some_as c.answer_in.result c.args.out.now c.report.new.out c.report.new.told _
+          c.report.ensures,
+    )))
 
 -- The arguments are refused before the text is asked.
 pub returns-in-Err-clause-written : goal.returns-in-Err-clause-written
@@ -49,3 +55,14 @@ returns-in-Err-clause-written c = λ site written.
     (λ asked s. AnswersLookup s.cells asked))
     read c.args.out.now c.args.out.now c.report_refusal.new.told _ (search rules)
     (inr (c.in-Err.fault, inl (rw (← c.default_of.ensures) c.in-Err.ensures), search rules))
+
+-- So it is whatever the text is.
+pub returns-in-Err-clause-read : goal.returns-in-Err-clause-read
+returns-in-Err-clause-read c =
+    let id = c.args.id.now in
+    let default = default_of c.args.default.now in
+    field_as (lookup_field_of c.args.flags c.args.field.now)
+    (λ f. ReportsRead (IsLookup id f default) (RefusesLookup id f default) ReportsAnswer)
+    (field_text c.in-Some.field) c.args.out.now c.args.out.now c.report_refusal.new.told _
+    (search rules)
+    (inr (c.in-Err.fault, rw (← c.default_of.ensures) c.in-Err.ensures, search rules))
