@@ -3,7 +3,7 @@
 //!
 //! - [`sw_pick`] picks a tag for a field.
 //! - [`sw_site_open`] reads a site into a handle, [`sw_site_share`] makes one more handle of it,
-//!   and [`sw_site_free`] lets it go.
+//!   and [`sw_site_free`] releases it.
 //! - [`sw_site_lookup`], [`sw_site_text`], [`sw_site_filter`] and [`sw_site_bundle`] put questions
 //!   to a site.
 //! - [`sw_text_lookup`], [`sw_text_text`] and [`sw_text_filter`] put them to the document of a site
@@ -86,7 +86,7 @@ pub extern "C" fn sw_pick(
     }
 }
 
-/// Reads a document of a site into a handle. Where the handle is open its old site is let go once
+/// Reads a document of a site into a handle. Where the handle is open its old site is released once
 /// the new one is read, and kept where the document is refused (1 to 4, 10 to 12, 18 to 21, 27, 28)
 /// or memory ends (26).
 #[unsafe(no_mangle)]
@@ -101,8 +101,8 @@ pub extern "C" fn sw_site_open(
     hold(alloc, OpenSite::read(alloc, text), site, told)
 }
 
-/// Makes the empty site of a name in a handle. Where the handle is open its old site is let go once
-/// the new one is made, and kept where the name is refused (27) or memory ends (26).
+/// Makes the empty site of a name in a handle. Where the handle is open its old site is released
+/// once the new one is made, and kept where the name is refused (27) or memory ends (26).
 #[unsafe(no_mangle)]
 pub extern "C" fn sw_site_new(
     alloc: Global,
@@ -627,8 +627,8 @@ pub extern "C" fn sw_text_filter(
 }
 
 /// Makes the other handle one more handle of the same site, for another thread: both share the
-/// memory. Where the other handle is open its old site is let go; where there is no site to share,
-/// or memory ends, it is left as it was.
+/// memory. Where the other handle is open its old site is released; where there is no site to
+/// share, or memory ends, it is left as it was.
 #[unsafe(no_mangle)]
 pub extern "C" fn sw_site_share(alloc: Global, site: &mut SiteHandle, other: &mut SiteHandle) -> i32
     ensures site { site.new.value ≡ site.old.value }
@@ -644,7 +644,7 @@ pub extern "C" fn sw_site_share(alloc: Global, site: &mut SiteHandle, other: &mu
     }
 }
 
-/// Lets the site of a handle go and leaves the handle closed, of zeros. The last handle of a site
+/// Releases the site of a handle, and leaves the handle closed, of zeros. The last handle of a site
 /// frees its memory; a handle that is not open stays as it is.
 #[unsafe(no_mangle)]
 pub extern "C" fn sw_site_free(alloc: Global, site: &mut SiteHandle)

@@ -51,7 +51,7 @@ pub(crate) fn ask<Q: Question>(
     }
 }
 
-/// Puts a site into a handle, and lets the old one of the handle go; or reports why there is none.
+/// Puts a site into a handle, and releases the old one of the handle; or reports why there is none.
 pub(crate) fn hold(
     alloc: Global,
     made: Result<OpenSite, FrontFault>,
@@ -72,7 +72,7 @@ pub(crate) fn hold(
     }
 }
 
-/// Makes the other handle hold this share, and lets its old site go; the status.
+/// Makes the other handle hold this share, and releases its old site; the status.
 pub(crate) fn hold_share(alloc: Global, share: OpenSite, other: &mut SiteHandle) -> i32
     ensures { IsShared share (site_of other.old) (site_of other.new) result }
 {

@@ -24,7 +24,7 @@ step inside b = cond (b == 34) closed (cond (b == 92) escaped inside)
 step escaped b = inside
 step closed b = outside
 
--- whether the byte may stand there: no backslash outside, and after a string `,`, `]` or `:`
+-- whether the byte may be there: no backslash outside, and after a string `,`, `]` or `:`
 abbrev pub fits : State → ℕ → Bool
 fits outside b = not (b == 92)
 fits inside b = true
@@ -140,7 +140,7 @@ escape_byte_piece b =
           ] refl
     ] refl
 
--- what stands between the quotes of a string
+-- what is between the quotes of a string
 pub escape_piece : (text : List ℕ) → Piece inside inside (escape text)
 escape_piece [] = record { fit = refl; free = refl; end = refl }
 escape_piece (b ∷ text) =

@@ -6,7 +6,7 @@ use Rattle.row_docs.specs.Entries.{cells_values}
 use Rattle.site_docs.specs.Plain.{open_items}
 use Rattle.text_docs.specs.Rows.{AreRows}
 
--- from this place on stand the rows of some last cells; the ids of all others are less than this
+-- from this place on are the rows of some last cells; the ids of all others are less than this
 pub record BeginsAt (id rest : List ℕ) (cells : Entries) (tail : List ℕ) : Type 0 where
   pub before : Entries
   pub after : Entries
@@ -14,7 +14,7 @@ pub record BeginsAt (id rest : List ℕ) (cells : Entries) (tail : List ℕ) : T
   pub rest_is : rest ≡ open_items false (cells_values after) ++ tail
   pub others : All (λ e. text_cmp e.0.0 id ≡ Less) before
 
--- from this place on stand the last rows, each with the comma before it; their ids are greater
+-- from this place on are the last rows, each with the comma before it; their ids are greater
 pub record EndsAt (id rest : List ℕ) (cells : Entries) (tail : List ℕ) : Type 0 where
   pub before : Entries
   pub after : Entries

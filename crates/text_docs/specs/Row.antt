@@ -12,7 +12,7 @@ is_unclosed_from escaped [] = not escaped
 is_unclosed_from true (b ∷ bs) = is_unclosed_from false bs
 is_unclosed_from false (b ∷ bs) = cond (b == 34) false (is_unclosed_from (b == 92) bs)
 
--- whether no quote ends a string within these bytes, of which none is left behind a backslash
+-- whether no quote ends a string within these bytes, of which none is left after a backslash
 abbrev pub is_unclosed : List ℕ → Bool
 is_unclosed = is_unclosed_from false
 

@@ -1,4 +1,4 @@
-//! The order of ids, of which one stands as it is written.
+//! The order of two ids, of which one is given as it is written.
 ghost use Rattle.std.specs.Prelude.{◌≡◌, ◌<◌, ◌∷◌, [], List, ℕ, All, IfSome, IsTrue, MatchOption};
 ghost use Rattle.std.specs.Prelude.{length};
 ghost use Rattle.json.specs.Print.{escape};

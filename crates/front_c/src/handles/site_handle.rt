@@ -117,7 +117,7 @@ impl SiteHandle {
         }
     }
 
-    /// Lets a handle go that is not open.
+    /// Drops a handle that is not open.
     fn discard(self)
         requires { self.value ≡ None }
     {

@@ -1,4 +1,4 @@
--- `discard` lets a handle go that owns nothing. Assumes `Logic`.
+-- `discard` drops a handle that owns nothing. Assumes `Logic`.
 use Rattle.std.proofs.Common.{Option, None, ◌≡◌, List, [], ◌∷◌, ◌++◌, refl, sym, ap, ◌∙◌, subst}
 use Rattle.std.proofs.Common.{lit<}
 use Rattle.std.proofs.raw_atomic.Walks.{proved_at}
