@@ -1,5 +1,5 @@
 //! Where the rows of a written document lie.
-ghost use Rattle.std.specs.Prelude.{◌≡◌, ◌≤◌, ◌∷◌, List, ℕ, IfSome, IsTrue, drop, length};
+ghost use Rattle.std.specs.Prelude.{◌≡◌, ◌∷◌, IfSome};
 ghost use Rattle.text_docs.specs.Rows.{AreRowsAt};
 
 use crate::row::after;
@@ -25,7 +25,8 @@ pub(crate) fn rows_in(text: &[u8]) -> Option<Rows>
         return None;
     }
     let end = memrchr(b']', text)?;
-    if OPENING.len() <= end && is_kind_after(&text[end..]) {
+    let _rest = kind_after(&text[end..])?;
+    if OPENING.len() <= end {
         Some(Rows {
             start: OPENING.len(),
             end,
@@ -35,15 +36,8 @@ pub(crate) fn rows_in(text: &[u8]) -> Option<Rows>
     }
 }
 
-/// Whether the text is the bracket that ends all rows, with a member of the document whose name
-/// begins as `kind` does.
-fn is_kind_after(text: &[u8]) -> bool
-    ensures { IsTrue result → (rest : List ℕ) × (text.now ≡ 93 ∷ 44 ∷ 34 ∷ 107 ∷ rest) }
-{
-    kind_after(text).is_some()
-}
-
-/// What comes after that.
+/// What comes after `],"k`, with which the text begins: the bracket that ends all rows, and the
+/// beginning of the member `kind`.
 fn kind_after(text: &[u8]) -> Option<&[u8]>
     ensures { IfSome result (λ rest. text.now ≡ 93 ∷ 44 ∷ 34 ∷ 107 ∷ rest.now) }
 {
