@@ -1,6 +1,9 @@
 -- Ids as they are written between quotes.
 use Rattle.std.proofs.Common.{◌≡◌, ◌≢◌, ◌∙◌, ◌++◌, ◌∷◌, [], ℕ, List, Bool, true, false, cond, ◌||◌}
 use Rattle.std.proofs.Common.{◌==◌, ◌⊎◌, inl, inr, IsTrue, refl, ap, sym, subst, true≢false}
+use Rattle.std.proofs.Common.{Option, Some, None}
+use Rattle.std.specs.Borrow.{Bor}
+use Rattle.std.specs.Prelude.{MatchOption}
 use Rattle.std.specs.List.{All}
 use Rattle.std.proofs.lemmas.Bool.Decides.{nat_tests}
 use Rattle.std.proofs.Common.{◌<◌, arith, get_or, length, suc}
@@ -62,7 +65,7 @@ plain_front (b ∷ text) rest first all written plain =
     ]
 
 -- the first byte after a backslash
-pub escaped_front : (text rest : List ℕ) → All IsIdByte text → 92 ∷ rest ≡ escape text
+escaped_front : (text rest : List ℕ) → All IsIdByte text → 92 ∷ rest ≡ escape text
     → (b : ℕ) × (more : List ℕ) × (text ≡ b ∷ more) × (rest ≡ b ∷ escape more)
 escaped_front [] rest all written = cc
 escaped_front (b ∷ text) rest all written =
@@ -83,7 +86,7 @@ nothing_written (b ∷ text) all written =
     some false is = cc
 
 -- a backslash is written before some byte alone
-pub no_backslash_last : (text rest : List ℕ) → All IsIdByte text → 92 ∷ rest ≡ escape text
+no_backslash_last : (text rest : List ℕ) → All IsIdByte text → 92 ∷ rest ≡ escape text
     → rest ≡ [] → text ≡ []
 no_backslash_last text rest all written none =
     let front = escaped_front text rest all written in absurd (some (sym none ∙ front.3))
@@ -92,7 +95,7 @@ no_backslash_last text rest all written none =
     some is = cc
 
 -- the byte after a backslash is the first of the text
-pub byte_after : (text rest left : List ℕ) (byte : ℕ) → All IsIdByte text
+byte_after : (text rest left : List ℕ) (byte : ℕ) → All IsIdByte text
     → 92 ∷ rest ≡ escape text → rest ≡ byte ∷ left
     → (more : List ℕ) × (text ≡ byte ∷ more) × (left ≡ escape more)
 byte_after text rest left byte all written is =
@@ -102,6 +105,14 @@ byte_after text rest left byte all written is =
       front.2 ∙ ap (λ x. x ∷ front.1) (sym (ap (head_or 0) same)),
       ap tail_of same,
     )
+
+-- what is read after a backslash is that byte, and what is written for the rest of the text
+pub read_after : (text rest : List ℕ) (read : Option (ℕ × Bor (List ℕ))) → All IsIdByte text
+    → 92 ∷ rest ≡ escape text → MatchOption read (rest ≡ []) (λ r. rest ≡ r.0 ∷ r.1.now)
+    → MatchOption read (text ≡ [])
+    (λ r. (more : List ℕ) × (text ≡ r.0 ∷ more) × (r.1.now ≡ escape more))
+read_after text rest None all written none = no_backslash_last text rest all written none
+read_after text rest (Some r) all written is = byte_after text rest r.1.now r.0 all written is
 
 -- what is written without a backslash is the text
 plain_written : (text : List ℕ) → All IsIdByte text

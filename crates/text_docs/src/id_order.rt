@@ -60,8 +60,5 @@ fn unescaped(written: &[u8]) -> Option<(u8, &[u8])>
     if first != b'\\' {
         return Some((first, rest));
     }
-    match split(rest) {
-        Some((byte, left)) => Some((byte, left)),
-        None => None,
-    }
+    split(rest)
 }

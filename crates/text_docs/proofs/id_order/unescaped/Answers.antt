@@ -1,6 +1,5 @@
 use Rattle.std.proofs.Common.{◌∙◌, ◌∷◌, ap, sym}
-use Rattle.text_docs.proofs.OrderLemmas.{byte_after, no_backslash_last, nothing_written}
-use Rattle.text_docs.proofs.OrderLemmas.{plain_front}
+use Rattle.text_docs.proofs.OrderLemmas.{nothing_written, plain_front, read_after}
 use Rattle.text_docs.proofs.id_order.unescaped.Goals as goal
 
 -- nothing is written for an empty text
@@ -14,17 +13,9 @@ returns-then-first-ne92-clause-is c = λ text all is.
     plain_front text c.in-Some.rest.now c.in-Some.first all (sym c.in-Some.ensures ∙ is)
     c.if-first-ne92.true
 
--- the first byte is written after a backslash
-pub returns-in-Some-split-clause-is : goal.returns-in-Some-split-clause-is
-returns-in-Some-split-clause-is c = λ text all is.
+-- the first byte is written after a backslash, which is not written last
+pub returns-clause-is : goal.returns-clause-is
+returns-clause-is c = λ text all is.
     let rest = c.in-Some.rest.now in
     let backslash = c.in-Some.ensures ∙ ap (λ b. b ∷ rest) c.if-first-ne92.false in
-    byte_after text rest c.in-Some-split.left.now c.in-Some-split.byte all
-    (sym backslash ∙ is) c.in-Some-split.ensures
-
--- a backslash is not written last
-pub returns-in-None-clause-is : goal.returns-in-None-clause-is
-returns-in-None-clause-is c = λ text all is.
-    let rest = c.in-Some.rest.now in
-    let backslash = c.in-Some.ensures ∙ ap (λ b. b ∷ rest) c.if-first-ne92.false in
-    no_backslash_last text rest all (sym backslash ∙ is) c.in-None.ensures
+    read_after text rest c.split-2.result all (sym backslash ∙ is) c.split-2.ensures
