@@ -139,15 +139,15 @@ int32_t sw_site_filter(sw_site *site, uint32_t flags, const uint8_t *id, size_t 
                        size_t field_len, uint8_t *out, size_t out_len, sw_told *told);
 
 /* The same three questions to the document of a site where it lies, which is not opened: `text` is what sw_site_write or
- * `lexicat` writes for the site, with its last LF or without, of any length, for example a file that is mapped. The rows
- * of the message are found by bisection: of a million messages a text takes some microseconds, and the pages that some
- * thirty places of the document are on. Memory: what the field takes, and the rows of the message.
+ * `lexicat` writes for the site, with its last LF or without, of any length, for example a mapped file. The rows of the
+ * message are found by bisection: of a million messages some thirty places are looked at. Memory: what the field takes,
+ * and the rows of the message.
  *   SW_FOUND, SW_NOTHING, SW_USAGE, SW_REFUSED   as sw_site_lookup, sw_site_text and sw_site_filter for the site
  * A question that is refused over a site (its flags, id, default or field) is refused in the same way over any bytes.
- * What is answered else for bytes that are no such document is not said, and a document in another form may be read
- * whole or refused (sw_site_open is for these); no call reads outside of `text`, whatever its bytes are.
- * A mapped file has to be replaced by another (a new file that is renamed to it, as lexicat-file does), and never
- * written in place: if a file is cut short while it is mapped, the system ends the process (SIGBUS). */
+ * A document in another form may be read whole or refused, and what is answered else for other bytes is not said: use
+ * sw_site_open for these. No call reads outside of `text`, whatever its bytes are.
+ * Replace a mapped file by a new one that is renamed to it, as lexicat-file does, and never write into it: if it is cut
+ * while it is mapped, the system ends the process (SIGBUS). */
 int32_t sw_text_lookup(const uint8_t *text, size_t text_len, uint32_t flags, const uint8_t *id, size_t id_len,
                        const uint8_t *field, size_t field_len, const uint8_t *dflt, size_t dflt_len, uint8_t *out,
                        size_t out_len, sw_told *told);
@@ -169,13 +169,12 @@ int32_t sw_site_bundle(sw_site *site, uint32_t flags, const uint8_t *field, size
 
 /* ---- Sites that are made and edited.
  *
- * An edit changes the site in place where its handle is the only one of it. Where the site is shared, the edit is made
- * in another that is equal, and the other handles keep what they had: no edit is seen through another handle. So a
- * server publishes a new state by sharing the edited handle anew. sw_site_import and sw_site_update are made so of a
- * site that is not shared too, since all their edits are made or none. The first such edit makes a copy, in the time and
- * memory of the site, and the handle keeps the state before beside its own. If no other handle has that state any more,
- * the next such edit takes it up, in the time of what was changed since. If one has, or if more than some thousand
- * labels were changed since, it makes a copy again.
+ * An edit changes the site in place where its handle is the only one of it. Where the site is shared, the other handles
+ * keep what they had: no edit is seen through another handle. So a server publishes a new state by sharing the edited
+ * handle anew. An edit of a shared site, and an import or an update of any, since it makes all its edits or none, is
+ * made in an equal site. The first such edit makes a copy, in the time and memory of the site, and the handle keeps the
+ * state before beside its own. The next one is made in the state before, in the time of what was changed since; but it
+ * makes a copy again if another handle still has that state, or if more than some thousand labels were changed.
  * `now` is the time of an edit, by custom in milliseconds since 1970. The stamp of an edit is later than all that the
  * site has, so a clock that is set back does no harm; a time far ahead does (docs/RECIPES.md).
  * A refused call leaves the site as it was, but for 26 of sw_site_take and sw_site_merge: after it each label is the one
@@ -218,7 +217,7 @@ int32_t sw_site_merge(sw_site *site, sw_site *other, sw_told *told);
 int32_t sw_site_take(sw_site *site, const uint8_t *delta, size_t delta_len, uint64_t not_after, sw_told *told);
 
 /* Puts the labels of language maps, as {"greeting":{"fr":"Bonjour"}}, all or none: as the command `import`. A label may
- * have several texts, and one that the site has already is put again. It is made as an edit of a shared site.
+ * have several texts, and one that the site has already is put again.
  *   SW_FOUND     done
  *   SW_USAGE     the handle is not open
  *   SW_REFUSED   the maps (18 to 20, 22; 1 to 4, 10 to 12 in a row of them), then a label for which no stamp is left
@@ -226,7 +225,7 @@ int32_t sw_site_take(sw_site *site, const uint8_t *delta, size_t delta_len, uint
 int32_t sw_site_import(sw_site *site, uint64_t now, const uint8_t *maps, size_t maps_len, sw_told *told);
 
 /* Makes the changes from old language maps to new ones, all or none: as the command `update`. What the new maps leave
- * out is deleted, what both have alike stays. It is made as an edit of a shared site.
+ * out is deleted, what both have alike stays.
  *   SW_FOUND, SW_USAGE, SW_REFUSED   as sw_site_import, the old maps first */
 int32_t sw_site_update(sw_site *site, uint64_t now, const uint8_t *old_maps, size_t old_len, const uint8_t *new_maps,
                        size_t new_len, sw_told *told);
