@@ -77,142 +77,7 @@ typedef struct {
 } ngx_http_silkwaram_main_conf_t;
 
 
-static ngx_int_t ngx_http_silkwaram_lang_variable(ngx_http_request_t *r,
-    ngx_http_variable_value_t *v, uintptr_t data);
-static ngx_int_t ngx_http_silkwaram_lang(ngx_http_request_t *r,
-    ngx_http_silkwaram_loc_conf_t *conf, ngx_str_t *lang);
-static ngx_http_silkwaram_kept_t *ngx_http_silkwaram_place(
-    ngx_http_request_t *r, ngx_http_silkwaram_loc_conf_t *conf,
-    ngx_str_t *field);
-static void ngx_http_silkwaram_take_as_none(ngx_http_request_t *r,
-    sw_told *told);
-static int32_t ngx_http_silkwaram_pick(ngx_http_silkwaram_loc_conf_t *conf,
-    ngx_str_t *field, u_char *lang, sw_told *told);
-static uint32_t ngx_http_silkwaram_flags(ngx_http_silkwaram_loc_conf_t *conf);
-static u_char *ngx_http_silkwaram_in_tags(ngx_str_t *tags, u_char *tag,
-    size_t len);
-static ngx_int_t ngx_http_silkwaram_label_variable(ngx_http_request_t *r,
-    ngx_http_variable_value_t *v, uintptr_t data);
-static int32_t ngx_http_silkwaram_text(ngx_http_silkwaram_loc_conf_t *conf,
-    ngx_http_silkwaram_label_t *label, ngx_str_t *field, u_char *out,
-    size_t len, sw_told *told);
-static ngx_int_t ngx_http_silkwaram_field(ngx_http_request_t *r,
-    ngx_str_t *field);
-static ngx_table_elt_t *ngx_http_silkwaram_next_line(ngx_list_part_t **part,
-    ngx_uint_t *i);
-
-static ngx_int_t ngx_http_silkwaram_add_variable(ngx_conf_t *cf);
-static ngx_int_t ngx_http_silkwaram_init(ngx_conf_t *cf);
-static void ngx_http_silkwaram_use_default(
-    ngx_http_silkwaram_loc_conf_t *conf);
-static void *ngx_http_silkwaram_create_main_conf(ngx_conf_t *cf);
-static void *ngx_http_silkwaram_create_loc_conf(ngx_conf_t *cf);
-static char *ngx_http_silkwaram_merge_loc_conf(ngx_conf_t *cf, void *parent,
-    void *child);
-static void ngx_http_silkwaram_check_default(ngx_conf_t *cf,
-    ngx_http_silkwaram_loc_conf_t *conf);
-static char *ngx_http_silkwaram_tags(ngx_conf_t *cf, ngx_command_t *cmd,
-    void *conf);
-static char *ngx_http_silkwaram_default(ngx_conf_t *cf, ngx_command_t *cmd,
-    void *conf);
-static char *ngx_http_silkwaram_labels(ngx_conf_t *cf, ngx_command_t *cmd,
-    void *conf);
-static ngx_int_t ngx_http_silkwaram_read(ngx_conf_t *cf, ngx_str_t *name,
-    ngx_str_t *text);
-static ngx_int_t ngx_http_silkwaram_read_file(ngx_conf_t *cf,
-    ngx_file_t *file, ngx_str_t *text);
-static char *ngx_http_silkwaram_check_document(ngx_conf_t *cf,
-    ngx_command_t *cmd, ngx_http_silkwaram_document_t *document);
-static ngx_uint_t ngx_http_silkwaram_is_written(ngx_conf_t *cf, sw_site *site,
-    ngx_str_t *text);
-static char *ngx_http_silkwaram_label(ngx_conf_t *cf, ngx_command_t *cmd,
-    void *conf);
-static char *ngx_http_silkwaram_check_tag(ngx_conf_t *cf, ngx_command_t *cmd,
-    ngx_str_t *tag);
-static void ngx_http_silkwaram_log_refusal(ngx_conf_t *cf, ngx_command_t *cmd,
-    sw_told *told, ngx_str_t *what);
-static u_char *ngx_http_silkwaram_refusal(u_char *to, u_char *last,
-    sw_told *told);
-
-
-static ngx_command_t  ngx_http_silkwaram_commands[] = {
-
-    { ngx_string("silkwaram_tags"),
-      NGX_HTTP_MAIN_CONF|NGX_HTTP_SRV_CONF|NGX_HTTP_LOC_CONF|NGX_CONF_1MORE,
-      ngx_http_silkwaram_tags,
-      NGX_HTTP_LOC_CONF_OFFSET,
-      0,
-      NULL },
-
-    { ngx_string("silkwaram_default"),
-      NGX_HTTP_MAIN_CONF|NGX_HTTP_SRV_CONF|NGX_HTTP_LOC_CONF|NGX_CONF_TAKE1,
-      ngx_http_silkwaram_default,
-      NGX_HTTP_LOC_CONF_OFFSET,
-      0,
-      NULL },
-
-    { ngx_string("silkwaram_labels"),
-      NGX_HTTP_MAIN_CONF|NGX_HTTP_SRV_CONF|NGX_HTTP_LOC_CONF|NGX_CONF_TAKE1,
-      ngx_http_silkwaram_labels,
-      NGX_HTTP_LOC_CONF_OFFSET,
-      0,
-      NULL },
-
-    { ngx_string("silkwaram_label"),
-      NGX_HTTP_MAIN_CONF|NGX_CONF_TAKE23,
-      ngx_http_silkwaram_label,
-      NGX_HTTP_MAIN_CONF_OFFSET,
-      0,
-      NULL },
-
-    { ngx_string("silkwaram_lenient"),
-      NGX_HTTP_MAIN_CONF|NGX_HTTP_SRV_CONF|NGX_HTTP_LOC_CONF|NGX_CONF_FLAG,
-      ngx_conf_set_flag_slot,
-      NGX_HTTP_LOC_CONF_OFFSET,
-      offsetof(ngx_http_silkwaram_loc_conf_t, lenient),
-      NULL },
-
-    { ngx_string("silkwaram_widen"),
-      NGX_HTTP_MAIN_CONF|NGX_HTTP_SRV_CONF|NGX_HTTP_LOC_CONF|NGX_CONF_FLAG,
-      ngx_conf_set_flag_slot,
-      NGX_HTTP_LOC_CONF_OFFSET,
-      offsetof(ngx_http_silkwaram_loc_conf_t, widen),
-      NULL },
-
-      ngx_null_command
-};
-
-
-static ngx_http_module_t  ngx_http_silkwaram_module_ctx = {
-    ngx_http_silkwaram_add_variable,       /* preconfiguration */
-    ngx_http_silkwaram_init,               /* postconfiguration */
-
-    ngx_http_silkwaram_create_main_conf,   /* create main configuration */
-    NULL,                                  /* init main configuration */
-
-    NULL,                                  /* create server configuration */
-    NULL,                                  /* merge server configuration */
-
-    ngx_http_silkwaram_create_loc_conf,    /* create location configuration */
-    ngx_http_silkwaram_merge_loc_conf      /* merge location configuration */
-};
-
-
-ngx_module_t  ngx_http_silkwaram_module = {
-    NGX_MODULE_V1,
-    &ngx_http_silkwaram_module_ctx,        /* module context */
-    ngx_http_silkwaram_commands,           /* module directives */
-    NGX_HTTP_MODULE,                       /* module type */
-    NULL,                                  /* init master */
-    NULL,                                  /* init module */
-    NULL,                                  /* init process */
-    NULL,                                  /* init thread */
-    NULL,                                  /* exit thread */
-    NULL,                                  /* exit process */
-    NULL,                                  /* exit master */
-    NGX_MODULE_V1_PADDING
-};
-
+extern ngx_module_t  ngx_http_silkwaram_module;
 
 static ngx_str_t  ngx_http_silkwaram_lang_name = ngx_string("silkwaram_lang");
 
@@ -226,53 +91,164 @@ static ngx_str_t  ngx_http_silkwaram_empty_site = ngx_string(
     "{\"cells\":[],\"kind\":\"site\",\"site\":\"a\",\"version\":2}");
 
 
-static ngx_int_t
-ngx_http_silkwaram_lang_variable(ngx_http_request_t *r,
-    ngx_http_variable_value_t *v, uintptr_t data)
+/* the next Accept-Language line from the place i of a part on, or NULL */
+
+static ngx_table_elt_t *
+ngx_http_silkwaram_next_line(ngx_list_part_t **part, ngx_uint_t *i)
 {
-    ngx_http_silkwaram_ctx_t       *ctx;
-    ngx_http_silkwaram_loc_conf_t  *conf;
+    ngx_table_elt_t  *h;
 
-    conf = ngx_http_get_module_loc_conf(r, ngx_http_silkwaram_module);
+    while (*part != NULL) {
 
-    if (conf->tags.len == 0) {
-        v->not_found = 1;
+        while (*i < (*part)->nelts) {
+            h = (ngx_table_elt_t *) (*part)->elts + (*i)++;
+
+            /* (a module that takes a line away leaves it without a hash) */
+
+            if (h->hash != 0
+                && h->key.len == ngx_http_silkwaram_header.len
+                && ngx_strncasecmp(h->key.data,
+                                   ngx_http_silkwaram_header.data,
+                                   ngx_http_silkwaram_header.len)
+                   == 0)
+            {
+                return h;
+            }
+        }
+
+        *part = (*part)->next;
+        *i = 0;
+    }
+
+    return NULL;
+}
+
+
+/* the field of a request: its lines, joined with commas */
+
+static ngx_int_t
+ngx_http_silkwaram_field(ngx_http_request_t *r, ngx_str_t *field)
+{
+    u_char           *p;
+    size_t            len;
+    ngx_uint_t        i, lines;
+    ngx_list_part_t  *part;
+    ngx_table_elt_t  *line;
+
+    len = 0;
+    lines = 0;
+    part = &r->headers_in.headers.part;
+    i = 0;
+
+    while ((line = ngx_http_silkwaram_next_line(&part, &i)) != NULL) {
+        *field = line->value;
+        len += line->value.len;
+        lines++;
+    }
+
+    if (lines == 0) {
+        *field = ngx_http_silkwaram_any;
         return NGX_OK;
     }
 
-    ctx = ngx_http_get_module_ctx(r, ngx_http_silkwaram_module);
-
-    if (ctx == NULL) {
-        ctx = ngx_pcalloc(r->pool, sizeof(ngx_http_silkwaram_ctx_t));
-        if (ctx == NULL) {
-            return NGX_ERROR;
-        }
-
-        ngx_http_set_ctx(r, ctx, ngx_http_silkwaram_module);
-    }
-
-    /* a rewrite may have led to a location with other tags */
-
-    if (ctx->conf != conf) {
-        if (ngx_http_silkwaram_lang(r, conf, &ctx->lang) != NGX_OK) {
-            return NGX_ERROR;
-        }
-
-        ctx->conf = conf;
-    }
-
-    if (ctx->lang.len == 0) {
-        v->not_found = 1;
+    if (lines == 1) {
         return NGX_OK;
     }
 
-    v->valid = 1;
-    v->no_cacheable = 0;
-    v->not_found = 0;
-    v->len = ctx->lang.len;
-    v->data = ctx->lang.data;
+    len += lines - 1;
+
+    p = ngx_pnalloc(r->pool, len);
+    if (p == NULL) {
+        return NGX_ERROR;
+    }
+
+    field->len = len;
+    field->data = p;
+    part = &r->headers_in.headers.part;
+    i = 0;
+
+    while ((line = ngx_http_silkwaram_next_line(&part, &i)) != NULL) {
+        p = ngx_cpymem(p, line->value.data, line->value.len);
+
+        if (--lines != 0) {
+            *p++ = ',';
+        }
+    }
 
     return NGX_OK;
+}
+
+
+/*
+ * The place of a worker's memory for the answer to a field, or NULL for one
+ * that is too long.  Of two fields with one place the later one has it.
+ */
+
+static ngx_http_silkwaram_kept_t *
+ngx_http_silkwaram_place(ngx_http_request_t *r,
+    ngx_http_silkwaram_loc_conf_t *conf, ngx_str_t *field)
+{
+    ngx_uint_t                       n;
+    ngx_http_silkwaram_main_conf_t  *smcf;
+
+    if (field->len > NGX_HTTP_SILKWARAM_FIELD_LEN) {
+        return NULL;
+    }
+
+    smcf = ngx_http_get_module_main_conf(r, ngx_http_silkwaram_module);
+
+    n = ngx_murmur_hash2(field->data, field->len);
+    n += (uintptr_t) conf / sizeof(ngx_http_silkwaram_loc_conf_t);
+
+    return &smcf->kept[n % NGX_HTTP_SILKWARAM_KEPT];
+}
+
+
+static uint32_t
+ngx_http_silkwaram_flags(ngx_http_silkwaram_loc_conf_t *conf)
+{
+    return (conf->lenient ? SW_LENIENT : 0) | (conf->widen ? SW_WIDEN : 0);
+}
+
+
+static int32_t
+ngx_http_silkwaram_pick(ngx_http_silkwaram_loc_conf_t *conf, ngx_str_t *field,
+    u_char *lang, sw_told *told)
+{
+    return sw_pick(ngx_http_silkwaram_flags(conf), field->data, field->len,
+                   conf->tags.data, conf->tags.len,
+                   conf->dflt.data, conf->dflt.len,
+                   lang, NGX_HTTP_SILKWARAM_TAG_LEN, told);
+}
+
+
+static void
+ngx_http_silkwaram_take_as_none(ngx_http_request_t *r, sw_told *told)
+{
+    ngx_log_error(NGX_LOG_INFO, r->connection->log, 0,
+                  "client sent an Accept-Language field that is taken "
+                  "as none: refused %uD at %uz", told->number, told->offset);
+}
+
+
+/* a tag as it is among the tags, each of which has an LF after it, or NULL */
+
+static u_char *
+ngx_http_silkwaram_in_tags(ngx_str_t *tags, u_char *tag, size_t len)
+{
+    u_char  *end, *last, *p;
+
+    last = tags->data + tags->len;
+
+    for (p = tags->data; p < last; p = end + 1) {
+        end = ngx_strlchr(p, last, '\n');
+
+        if ((size_t) (end - p) == len && ngx_memcmp(p, tag, len) == 0) {
+            return p;
+        }
+    }
+
+    return NULL;
 }
 
 
@@ -350,76 +326,70 @@ ngx_http_silkwaram_lang(ngx_http_request_t *r,
 }
 
 
-/*
- * The place of a worker's memory for the answer to a field, or NULL for one
- * that is too long.  Of two fields with one place the later one has it.
- */
-
-static ngx_http_silkwaram_kept_t *
-ngx_http_silkwaram_place(ngx_http_request_t *r,
-    ngx_http_silkwaram_loc_conf_t *conf, ngx_str_t *field)
+static ngx_int_t
+ngx_http_silkwaram_lang_variable(ngx_http_request_t *r,
+    ngx_http_variable_value_t *v, uintptr_t data)
 {
-    ngx_uint_t                       n;
-    ngx_http_silkwaram_main_conf_t  *smcf;
+    ngx_http_silkwaram_ctx_t       *ctx;
+    ngx_http_silkwaram_loc_conf_t  *conf;
 
-    if (field->len > NGX_HTTP_SILKWARAM_FIELD_LEN) {
-        return NULL;
+    conf = ngx_http_get_module_loc_conf(r, ngx_http_silkwaram_module);
+
+    if (conf->tags.len == 0) {
+        v->not_found = 1;
+        return NGX_OK;
     }
 
-    smcf = ngx_http_get_module_main_conf(r, ngx_http_silkwaram_module);
+    ctx = ngx_http_get_module_ctx(r, ngx_http_silkwaram_module);
 
-    n = ngx_murmur_hash2(field->data, field->len);
-    n += (uintptr_t) conf / sizeof(ngx_http_silkwaram_loc_conf_t);
+    if (ctx == NULL) {
+        ctx = ngx_pcalloc(r->pool, sizeof(ngx_http_silkwaram_ctx_t));
+        if (ctx == NULL) {
+            return NGX_ERROR;
+        }
 
-    return &smcf->kept[n % NGX_HTTP_SILKWARAM_KEPT];
-}
+        ngx_http_set_ctx(r, ctx, ngx_http_silkwaram_module);
+    }
 
+    /* a rewrite may have led to a location with other tags */
 
-static void
-ngx_http_silkwaram_take_as_none(ngx_http_request_t *r, sw_told *told)
-{
-    ngx_log_error(NGX_LOG_INFO, r->connection->log, 0,
-                  "client sent an Accept-Language field that is taken "
-                  "as none: refused %uD at %uz", told->number, told->offset);
+    if (ctx->conf != conf) {
+        if (ngx_http_silkwaram_lang(r, conf, &ctx->lang) != NGX_OK) {
+            return NGX_ERROR;
+        }
+
+        ctx->conf = conf;
+    }
+
+    if (ctx->lang.len == 0) {
+        v->not_found = 1;
+        return NGX_OK;
+    }
+
+    v->valid = 1;
+    v->no_cacheable = 0;
+    v->not_found = 0;
+    v->len = ctx->lang.len;
+    v->data = ctx->lang.data;
+
+    return NGX_OK;
 }
 
 
 static int32_t
-ngx_http_silkwaram_pick(ngx_http_silkwaram_loc_conf_t *conf, ngx_str_t *field,
-    u_char *lang, sw_told *told)
+ngx_http_silkwaram_text(ngx_http_silkwaram_loc_conf_t *conf,
+    ngx_http_silkwaram_label_t *label, ngx_str_t *field, u_char *out,
+    size_t len, sw_told *told)
 {
-    return sw_pick(ngx_http_silkwaram_flags(conf), field->data, field->len,
-                   conf->tags.data, conf->tags.len,
-                   conf->dflt.data, conf->dflt.len,
-                   lang, NGX_HTTP_SILKWARAM_TAG_LEN, told);
-}
+    ngx_str_t  *dflt;
 
+    dflt = (label->dflt.data != NULL) ? &label->dflt : &conf->dflt;
 
-static uint32_t
-ngx_http_silkwaram_flags(ngx_http_silkwaram_loc_conf_t *conf)
-{
-    return (conf->lenient ? SW_LENIENT : 0) | (conf->widen ? SW_WIDEN : 0);
-}
-
-
-/* a tag as it is among the tags, each of which has an LF after it, or NULL */
-
-static u_char *
-ngx_http_silkwaram_in_tags(ngx_str_t *tags, u_char *tag, size_t len)
-{
-    u_char  *end, *last, *p;
-
-    last = tags->data + tags->len;
-
-    for (p = tags->data; p < last; p = end + 1) {
-        end = ngx_strlchr(p, last, '\n');
-
-        if ((size_t) (end - p) == len && ngx_memcmp(p, tag, len) == 0) {
-            return p;
-        }
-    }
-
-    return NULL;
+    return sw_text_text(conf->labels.data, conf->labels.len,
+                        ngx_http_silkwaram_flags(conf),
+                        label->id.data, label->id.len,
+                        field->data, field->len, dflt->data, dflt->len, 0,
+                        out, len, told);
 }
 
 
@@ -491,111 +461,6 @@ ngx_http_silkwaram_label_variable(ngx_http_request_t *r,
 }
 
 
-static int32_t
-ngx_http_silkwaram_text(ngx_http_silkwaram_loc_conf_t *conf,
-    ngx_http_silkwaram_label_t *label, ngx_str_t *field, u_char *out,
-    size_t len, sw_told *told)
-{
-    ngx_str_t  *dflt;
-
-    dflt = (label->dflt.data != NULL) ? &label->dflt : &conf->dflt;
-
-    return sw_text_text(conf->labels.data, conf->labels.len,
-                        ngx_http_silkwaram_flags(conf),
-                        label->id.data, label->id.len,
-                        field->data, field->len, dflt->data, dflt->len, 0,
-                        out, len, told);
-}
-
-
-/* the field of a request: its lines, joined with commas */
-
-static ngx_int_t
-ngx_http_silkwaram_field(ngx_http_request_t *r, ngx_str_t *field)
-{
-    u_char           *p;
-    size_t            len;
-    ngx_uint_t        i, lines;
-    ngx_list_part_t  *part;
-    ngx_table_elt_t  *line;
-
-    len = 0;
-    lines = 0;
-    part = &r->headers_in.headers.part;
-    i = 0;
-
-    while ((line = ngx_http_silkwaram_next_line(&part, &i)) != NULL) {
-        *field = line->value;
-        len += line->value.len;
-        lines++;
-    }
-
-    if (lines == 0) {
-        *field = ngx_http_silkwaram_any;
-        return NGX_OK;
-    }
-
-    if (lines == 1) {
-        return NGX_OK;
-    }
-
-    len += lines - 1;
-
-    p = ngx_pnalloc(r->pool, len);
-    if (p == NULL) {
-        return NGX_ERROR;
-    }
-
-    field->len = len;
-    field->data = p;
-    part = &r->headers_in.headers.part;
-    i = 0;
-
-    while ((line = ngx_http_silkwaram_next_line(&part, &i)) != NULL) {
-        p = ngx_cpymem(p, line->value.data, line->value.len);
-
-        if (--lines != 0) {
-            *p++ = ',';
-        }
-    }
-
-    return NGX_OK;
-}
-
-
-/* the next Accept-Language line from the place i of a part on, or NULL */
-
-static ngx_table_elt_t *
-ngx_http_silkwaram_next_line(ngx_list_part_t **part, ngx_uint_t *i)
-{
-    ngx_table_elt_t  *h;
-
-    while (*part != NULL) {
-
-        while (*i < (*part)->nelts) {
-            h = (ngx_table_elt_t *) (*part)->elts + (*i)++;
-
-            /* (a module that takes a line away leaves it without a hash) */
-
-            if (h->hash != 0
-                && h->key.len == ngx_http_silkwaram_header.len
-                && ngx_strncasecmp(h->key.data,
-                                   ngx_http_silkwaram_header.data,
-                                   ngx_http_silkwaram_header.len)
-                   == 0)
-            {
-                return h;
-            }
-        }
-
-        *part = (*part)->next;
-        *i = 0;
-    }
-
-    return NULL;
-}
-
-
 static ngx_int_t
 ngx_http_silkwaram_add_variable(ngx_conf_t *cf)
 {
@@ -612,6 +477,21 @@ ngx_http_silkwaram_add_variable(ngx_conf_t *cf)
     var->get_handler = ngx_http_silkwaram_lang_variable;
 
     return NGX_OK;
+}
+
+
+static void
+ngx_http_silkwaram_use_default(ngx_http_silkwaram_loc_conf_t *conf)
+{
+    ngx_http_silkwaram_dflt_t  *dflt;
+
+    if (conf->tags.len == 0 && conf->labels.len == 0) {
+        return;
+    }
+
+    for (dflt = conf->dflt_directive; dflt != NULL; dflt = dflt->outer) {
+        dflt->has_use = 1;
+    }
 }
 
 
@@ -652,21 +532,6 @@ ngx_http_silkwaram_init(ngx_conf_t *cf)
     }
 
     return NGX_OK;
-}
-
-
-static void
-ngx_http_silkwaram_use_default(ngx_http_silkwaram_loc_conf_t *conf)
-{
-    ngx_http_silkwaram_dflt_t  *dflt;
-
-    if (conf->tags.len == 0 && conf->labels.len == 0) {
-        return;
-    }
-
-    for (dflt = conf->dflt_directive; dflt != NULL; dflt = dflt->outer) {
-        dflt->has_use = 1;
-    }
 }
 
 
@@ -721,6 +586,29 @@ ngx_http_silkwaram_create_loc_conf(ngx_conf_t *cf)
 }
 
 
+/* an empty field finds the default alone, if that is among the tags */
+
+static void
+ngx_http_silkwaram_check_default(ngx_conf_t *cf,
+    ngx_http_silkwaram_loc_conf_t *conf)
+{
+    u_char     tag[NGX_HTTP_SILKWARAM_TAG_LEN];
+    sw_told    told;
+    ngx_str_t  empty = ngx_null_string;
+
+    if (conf->tags.len == 0 || conf->dflt.len == 0) {
+        return;
+    }
+
+    if (ngx_http_silkwaram_pick(conf, &empty, tag, &told) == SW_NOTHING) {
+        ngx_conf_log_error(NGX_LOG_WARN, cf, 0,
+                           "\"silkwaram_default\" \"%V\" is not among "
+                           "\"silkwaram_tags\", so it is never chosen",
+                           &conf->dflt);
+    }
+}
+
+
 static char *
 ngx_http_silkwaram_merge_loc_conf(ngx_conf_t *cf, void *parent, void *child)
 {
@@ -762,26 +650,110 @@ ngx_http_silkwaram_merge_loc_conf(ngx_conf_t *cf, void *parent, void *child)
 }
 
 
-/* an empty field finds the default alone, if that is among the tags */
+/* what the library says of a refusal, with its place; the buffer has room */
+
+static u_char *
+ngx_http_silkwaram_refusal(u_char *to, u_char *last, sw_told *told)
+{
+    size_t      place;
+    u_char      text[255], *word, *end;
+    sw_told     said;
+    ngx_str_t  *name;
+
+    static ngx_str_t  names[] = {
+        ngx_string("OFFSET"), ngx_string("INDEX"), ngx_string("COUNT"),
+        ngx_null_string
+    };
+
+    if (sw_refusal_text(told->number, text, sizeof(text), &said) != SW_FOUND) {
+        return to;
+    }
+
+    end = text + said.len;
+    word = NULL;
+
+    for (name = names; name->len != 0; name++) {
+        word = ngx_strlcasestrn(text, end, name->data, name->len - 1);
+
+        if (word != NULL) {
+            break;
+        }
+    }
+
+    if (word == NULL) {
+        to = ngx_slprintf(to, last, "%*s", said.len, text);
+
+    } else {
+        place = (told->given & SW_HAS_OFFSET) ? told->offset : told->count;
+
+        to = ngx_slprintf(to, last, "%*s%uz%*s", (size_t) (word - text), text,
+                          place, (size_t) (end - word - name->len),
+                          word + name->len);
+    }
+
+    if (told->given & SW_HAS_ROW) {
+        to = ngx_slprintf(to, last, " in row %uz", told->row);
+    }
+
+    return to;
+}
+
+
+/* logs a refusal, with what is refused unless that is empty */
 
 static void
-ngx_http_silkwaram_check_default(ngx_conf_t *cf,
-    ngx_http_silkwaram_loc_conf_t *conf)
+ngx_http_silkwaram_log_refusal(ngx_conf_t *cf, ngx_command_t *cmd,
+    sw_told *told, ngx_str_t *what)
 {
-    u_char     tag[NGX_HTTP_SILKWARAM_TAG_LEN];
-    sw_told    told;
-    ngx_str_t  empty = ngx_null_string;
+    u_char  text[255 + 2 * sizeof(" in row ") + 2 * NGX_SIZE_T_LEN], *last;
 
-    if (conf->tags.len == 0 || conf->dflt.len == 0) {
-        return;
+    last = ngx_http_silkwaram_refusal(text, text + sizeof(text), told);
+
+    if (what->len == 0) {
+        ngx_conf_log_error(NGX_LOG_EMERG, cf, 0, "\"%V\": refused %uD: %*s",
+                           &cmd->name, told->number, (size_t) (last - text),
+                           text);
+
+    } else {
+        ngx_conf_log_error(NGX_LOG_EMERG, cf, 0,
+                           "\"%V\": refused %uD: %*s: \"%V\"",
+                           &cmd->name, told->number, (size_t) (last - text),
+                           text, what);
+    }
+}
+
+
+/* whether the library takes a tag */
+
+static char *
+ngx_http_silkwaram_check_tag(ngx_conf_t *cf, ngx_command_t *cmd,
+    ngx_str_t *tag)
+{
+    sw_told  told;
+    int32_t  status;
+
+    if (tag->len == 0) {
+
+        /* as a tag, since an empty default is none */
+
+        status = sw_pick(0, NULL, 0, (u_char *) "\n", 1, NULL, 0, NULL, 0,
+                         &told);
+
+    } else {
+
+        /* as a default, since among tags an LF would make two of one */
+
+        status = sw_pick(0, NULL, 0, NULL, 0, tag->data, tag->len, NULL, 0,
+                         &told);
     }
 
-    if (ngx_http_silkwaram_pick(conf, &empty, tag, &told) == SW_NOTHING) {
-        ngx_conf_log_error(NGX_LOG_WARN, cf, 0,
-                           "\"silkwaram_default\" \"%V\" is not among "
-                           "\"silkwaram_tags\", so it is never chosen",
-                           &conf->dflt);
+    if (status == SW_NOTHING) {
+        return NGX_CONF_OK;
     }
+
+    ngx_http_silkwaram_log_refusal(cf, cmd, &told, tag);
+
+    return NGX_CONF_ERROR;
 }
 
 
@@ -887,6 +859,149 @@ ngx_http_silkwaram_default(ngx_conf_t *cf, ngx_command_t *cmd, void *conf)
 }
 
 
+/* the whole of a file, in memory of the configuration */
+
+static ngx_int_t
+ngx_http_silkwaram_read_file(ngx_conf_t *cf, ngx_file_t *file, ngx_str_t *text)
+{
+    off_t    read;
+    ssize_t  n;
+
+    if (ngx_fd_info(file->fd, &file->info) == NGX_FILE_ERROR) {
+        ngx_conf_log_error(NGX_LOG_EMERG, cf, ngx_errno,
+                           ngx_fd_info_n " \"%V\" failed", &file->name);
+        return NGX_ERROR;
+    }
+
+    if (!ngx_is_file(&file->info)) {
+        ngx_conf_log_error(NGX_LOG_EMERG, cf, 0, "\"%V\" is not a file",
+                           &file->name);
+        return NGX_ERROR;
+    }
+
+    text->len = ngx_file_size(&file->info);
+    text->data = ngx_pnalloc(cf->pool, text->len);
+
+    if (text->data == NULL) {
+        return NGX_ERROR;
+    }
+
+    for (read = 0; (size_t) read < text->len; read += n) {
+        n = ngx_read_file(file, text->data + read, text->len - read, read);
+
+        if (n == NGX_ERROR) {
+            return NGX_ERROR;
+        }
+
+        if (n == 0) {
+            ngx_conf_log_error(NGX_LOG_EMERG, cf, 0,
+                               "\"%V\" was cut while it was read",
+                               &file->name);
+            return NGX_ERROR;
+        }
+    }
+
+    return NGX_OK;
+}
+
+
+static ngx_int_t
+ngx_http_silkwaram_read(ngx_conf_t *cf, ngx_str_t *name, ngx_str_t *text)
+{
+    ngx_int_t   rc;
+    ngx_file_t  file;
+
+    ngx_memzero(&file, sizeof(ngx_file_t));
+
+    file.name = *name;
+    file.log = cf->log;
+
+    /* (a pipe is not waited for) */
+
+    file.fd = ngx_open_file(name->data, NGX_FILE_RDONLY|NGX_FILE_NONBLOCK,
+                            NGX_FILE_OPEN, 0);
+
+    if (file.fd == NGX_INVALID_FILE) {
+        ngx_conf_log_error(NGX_LOG_EMERG, cf, ngx_errno,
+                           ngx_open_file_n " \"%V\" failed", name);
+        return NGX_ERROR;
+    }
+
+    rc = ngx_http_silkwaram_read_file(cf, &file, text);
+
+    if (ngx_close_file(file.fd) == NGX_FILE_ERROR) {
+        ngx_log_error(NGX_LOG_ALERT, cf->log, ngx_errno,
+                      ngx_close_file_n " \"%V\" failed", name);
+    }
+
+    return rc;
+}
+
+
+/* with its last LF or without */
+
+static ngx_uint_t
+ngx_http_silkwaram_is_written(ngx_conf_t *cf, sw_site *site, ngx_str_t *text)
+{
+    u_char      *written;
+    sw_told      told;
+    ngx_uint_t   is_written;
+
+    written = ngx_alloc(text->len + 1, cf->log);
+    if (written == NULL) {
+        return 0;
+    }
+
+    is_written = sw_site_write(site, written, text->len + 1, &told) == SW_FOUND
+                 && (told.len == text->len || told.len == text->len + 1)
+                 && ngx_memcmp(written, text->data, text->len) == 0;
+
+    ngx_free(written);
+
+    return is_written;
+}
+
+
+/* of other bytes than those of a written site the answers are not known */
+
+static char *
+ngx_http_silkwaram_check_document(ngx_conf_t *cf, ngx_command_t *cmd,
+    ngx_http_silkwaram_document_t *document)
+{
+    sw_site     site = { NULL };
+    sw_told     told;
+    ngx_uint_t  is_written;
+
+    if (sw_site_open(document->text.data, document->text.len, &site, &told)
+        != SW_FOUND)
+    {
+        ngx_http_silkwaram_log_refusal(cf, cmd, &told, &document->name);
+        return NGX_CONF_ERROR;
+    }
+
+    is_written = ngx_http_silkwaram_is_written(cf, &site, &document->text);
+
+    sw_site_free(&site);
+
+#ifdef __GLIBC__
+
+    /* several times the memory of the document, which glibc would keep */
+
+    (void) malloc_trim(0);
+
+#endif
+
+    if (!is_written) {
+        ngx_conf_log_error(NGX_LOG_EMERG, cf, 0,
+                           "\"%V\": a site, but not as \"lexicat\" writes it: "
+                           "\"%V\"", &cmd->name, &document->name);
+        return NGX_CONF_ERROR;
+    }
+
+    return NGX_CONF_OK;
+}
+
+
 /* each file is read once, however many levels name it */
 
 static char *
@@ -936,149 +1051,6 @@ ngx_http_silkwaram_labels(ngx_conf_t *cf, ngx_command_t *cmd, void *conf)
     slcf->labels = document.text;
 
     return NGX_CONF_OK;
-}
-
-
-static ngx_int_t
-ngx_http_silkwaram_read(ngx_conf_t *cf, ngx_str_t *name, ngx_str_t *text)
-{
-    ngx_int_t   rc;
-    ngx_file_t  file;
-
-    ngx_memzero(&file, sizeof(ngx_file_t));
-
-    file.name = *name;
-    file.log = cf->log;
-
-    /* (a pipe is not waited for) */
-
-    file.fd = ngx_open_file(name->data, NGX_FILE_RDONLY|NGX_FILE_NONBLOCK,
-                            NGX_FILE_OPEN, 0);
-
-    if (file.fd == NGX_INVALID_FILE) {
-        ngx_conf_log_error(NGX_LOG_EMERG, cf, ngx_errno,
-                           ngx_open_file_n " \"%V\" failed", name);
-        return NGX_ERROR;
-    }
-
-    rc = ngx_http_silkwaram_read_file(cf, &file, text);
-
-    if (ngx_close_file(file.fd) == NGX_FILE_ERROR) {
-        ngx_log_error(NGX_LOG_ALERT, cf->log, ngx_errno,
-                      ngx_close_file_n " \"%V\" failed", name);
-    }
-
-    return rc;
-}
-
-
-/* the whole of a file, in memory of the configuration */
-
-static ngx_int_t
-ngx_http_silkwaram_read_file(ngx_conf_t *cf, ngx_file_t *file, ngx_str_t *text)
-{
-    off_t    read;
-    ssize_t  n;
-
-    if (ngx_fd_info(file->fd, &file->info) == NGX_FILE_ERROR) {
-        ngx_conf_log_error(NGX_LOG_EMERG, cf, ngx_errno,
-                           ngx_fd_info_n " \"%V\" failed", &file->name);
-        return NGX_ERROR;
-    }
-
-    if (!ngx_is_file(&file->info)) {
-        ngx_conf_log_error(NGX_LOG_EMERG, cf, 0, "\"%V\" is not a file",
-                           &file->name);
-        return NGX_ERROR;
-    }
-
-    text->len = ngx_file_size(&file->info);
-    text->data = ngx_pnalloc(cf->pool, text->len);
-
-    if (text->data == NULL) {
-        return NGX_ERROR;
-    }
-
-    for (read = 0; (size_t) read < text->len; read += n) {
-        n = ngx_read_file(file, text->data + read, text->len - read, read);
-
-        if (n == NGX_ERROR) {
-            return NGX_ERROR;
-        }
-
-        if (n == 0) {
-            ngx_conf_log_error(NGX_LOG_EMERG, cf, 0,
-                               "\"%V\" was cut while it was read",
-                               &file->name);
-            return NGX_ERROR;
-        }
-    }
-
-    return NGX_OK;
-}
-
-
-/* of other bytes than those of a written site the answers are not known */
-
-static char *
-ngx_http_silkwaram_check_document(ngx_conf_t *cf, ngx_command_t *cmd,
-    ngx_http_silkwaram_document_t *document)
-{
-    sw_site     site = { NULL };
-    sw_told     told;
-    ngx_uint_t  is_written;
-
-    if (sw_site_open(document->text.data, document->text.len, &site, &told)
-        != SW_FOUND)
-    {
-        ngx_http_silkwaram_log_refusal(cf, cmd, &told, &document->name);
-        return NGX_CONF_ERROR;
-    }
-
-    is_written = ngx_http_silkwaram_is_written(cf, &site, &document->text);
-
-    sw_site_free(&site);
-
-#ifdef __GLIBC__
-
-    /* several times the memory of the document, which glibc would keep */
-
-    (void) malloc_trim(0);
-
-#endif
-
-    if (!is_written) {
-        ngx_conf_log_error(NGX_LOG_EMERG, cf, 0,
-                           "\"%V\": a site, but not as \"lexicat\" writes it: "
-                           "\"%V\"", &cmd->name, &document->name);
-        return NGX_CONF_ERROR;
-    }
-
-    return NGX_CONF_OK;
-}
-
-
-/* with its last LF or without */
-
-static ngx_uint_t
-ngx_http_silkwaram_is_written(ngx_conf_t *cf, sw_site *site, ngx_str_t *text)
-{
-    u_char      *written;
-    sw_told      told;
-    ngx_uint_t   is_written;
-
-    written = ngx_alloc(text->len + 1, cf->log);
-    if (written == NULL) {
-        return 0;
-    }
-
-    is_written = sw_site_write(site, written, text->len + 1, &told) == SW_FOUND
-                 && (told.len == text->len || told.len == text->len + 1)
-                 && ngx_memcmp(written, text->data, text->len) == 0;
-
-    ngx_free(written);
-
-    return is_written;
 }
 
 
@@ -1158,108 +1130,80 @@ ngx_http_silkwaram_label(ngx_conf_t *cf, ngx_command_t *cmd, void *conf)
 }
 
 
-/* whether the library takes a tag */
+static ngx_command_t  ngx_http_silkwaram_commands[] = {
 
-static char *
-ngx_http_silkwaram_check_tag(ngx_conf_t *cf, ngx_command_t *cmd,
-    ngx_str_t *tag)
-{
-    sw_told  told;
-    int32_t  status;
+    { ngx_string("silkwaram_tags"),
+      NGX_HTTP_MAIN_CONF|NGX_HTTP_SRV_CONF|NGX_HTTP_LOC_CONF|NGX_CONF_1MORE,
+      ngx_http_silkwaram_tags,
+      NGX_HTTP_LOC_CONF_OFFSET,
+      0,
+      NULL },
 
-    if (tag->len == 0) {
+    { ngx_string("silkwaram_default"),
+      NGX_HTTP_MAIN_CONF|NGX_HTTP_SRV_CONF|NGX_HTTP_LOC_CONF|NGX_CONF_TAKE1,
+      ngx_http_silkwaram_default,
+      NGX_HTTP_LOC_CONF_OFFSET,
+      0,
+      NULL },
 
-        /* as a tag, since an empty default is none */
+    { ngx_string("silkwaram_labels"),
+      NGX_HTTP_MAIN_CONF|NGX_HTTP_SRV_CONF|NGX_HTTP_LOC_CONF|NGX_CONF_TAKE1,
+      ngx_http_silkwaram_labels,
+      NGX_HTTP_LOC_CONF_OFFSET,
+      0,
+      NULL },
 
-        status = sw_pick(0, NULL, 0, (u_char *) "\n", 1, NULL, 0, NULL, 0,
-                         &told);
+    { ngx_string("silkwaram_label"),
+      NGX_HTTP_MAIN_CONF|NGX_CONF_TAKE23,
+      ngx_http_silkwaram_label,
+      NGX_HTTP_MAIN_CONF_OFFSET,
+      0,
+      NULL },
 
-    } else {
+    { ngx_string("silkwaram_lenient"),
+      NGX_HTTP_MAIN_CONF|NGX_HTTP_SRV_CONF|NGX_HTTP_LOC_CONF|NGX_CONF_FLAG,
+      ngx_conf_set_flag_slot,
+      NGX_HTTP_LOC_CONF_OFFSET,
+      offsetof(ngx_http_silkwaram_loc_conf_t, lenient),
+      NULL },
 
-        /* as a default, since among tags an LF would make two of one */
+    { ngx_string("silkwaram_widen"),
+      NGX_HTTP_MAIN_CONF|NGX_HTTP_SRV_CONF|NGX_HTTP_LOC_CONF|NGX_CONF_FLAG,
+      ngx_conf_set_flag_slot,
+      NGX_HTTP_LOC_CONF_OFFSET,
+      offsetof(ngx_http_silkwaram_loc_conf_t, widen),
+      NULL },
 
-        status = sw_pick(0, NULL, 0, NULL, 0, tag->data, tag->len, NULL, 0,
-                         &told);
-    }
-
-    if (status == SW_NOTHING) {
-        return NGX_CONF_OK;
-    }
-
-    ngx_http_silkwaram_log_refusal(cf, cmd, &told, tag);
-
-    return NGX_CONF_ERROR;
-}
-
-
-/* logs a refusal, with what is refused unless that is empty */
-
-static void
-ngx_http_silkwaram_log_refusal(ngx_conf_t *cf, ngx_command_t *cmd,
-    sw_told *told, ngx_str_t *what)
-{
-    u_char  text[255 + 2 * sizeof(" in row ") + 2 * NGX_SIZE_T_LEN], *last;
-
-    last = ngx_http_silkwaram_refusal(text, text + sizeof(text), told);
-
-    if (what->len == 0) {
-        ngx_conf_log_error(NGX_LOG_EMERG, cf, 0, "\"%V\": refused %uD: %*s",
-                           &cmd->name, told->number, (size_t) (last - text),
-                           text);
-
-    } else {
-        ngx_conf_log_error(NGX_LOG_EMERG, cf, 0,
-                           "\"%V\": refused %uD: %*s: \"%V\"",
-                           &cmd->name, told->number, (size_t) (last - text),
-                           text, what);
-    }
-}
+      ngx_null_command
+};
 
 
-/* what the library says of a refusal, with its place; the buffer has room */
+static ngx_http_module_t  ngx_http_silkwaram_module_ctx = {
+    ngx_http_silkwaram_add_variable,       /* preconfiguration */
+    ngx_http_silkwaram_init,               /* postconfiguration */
 
-static u_char *
-ngx_http_silkwaram_refusal(u_char *to, u_char *last, sw_told *told)
-{
-    size_t      place;
-    u_char      text[255], *word, *end;
-    sw_told     said;
-    ngx_str_t  *name;
+    ngx_http_silkwaram_create_main_conf,   /* create main configuration */
+    NULL,                                  /* init main configuration */
 
-    static ngx_str_t  names[] = {
-        ngx_string("OFFSET"), ngx_string("INDEX"), ngx_string("COUNT"),
-        ngx_null_string
-    };
+    NULL,                                  /* create server configuration */
+    NULL,                                  /* merge server configuration */
 
-    if (sw_refusal_text(told->number, text, sizeof(text), &said) != SW_FOUND) {
-        return to;
-    }
+    ngx_http_silkwaram_create_loc_conf,    /* create location configuration */
+    ngx_http_silkwaram_merge_loc_conf      /* merge location configuration */
+};
 
-    end = text + said.len;
-    word = NULL;
 
-    for (name = names; name->len != 0; name++) {
-        word = ngx_strlcasestrn(text, end, name->data, name->len - 1);
-
-        if (word != NULL) {
-            break;
-        }
-    }
-
-    if (word == NULL) {
-        to = ngx_slprintf(to, last, "%*s", said.len, text);
-
-    } else {
-        place = (told->given & SW_HAS_OFFSET) ? told->offset : told->count;
-
-        to = ngx_slprintf(to, last, "%*s%uz%*s", (size_t) (word - text), text,
-                          place, (size_t) (end - word - name->len),
-                          word + name->len);
-    }
-
-    if (told->given & SW_HAS_ROW) {
-        to = ngx_slprintf(to, last, " in row %uz", told->row);
-    }
-
-    return to;
-}
+ngx_module_t  ngx_http_silkwaram_module = {
+    NGX_MODULE_V1,
+    &ngx_http_silkwaram_module_ctx,        /* module context */
+    ngx_http_silkwaram_commands,           /* module directives */
+    NGX_HTTP_MODULE,                       /* module type */
+    NULL,                                  /* init master */
+    NULL,                                  /* init module */
+    NULL,                                  /* init process */
+    NULL,                                  /* init thread */
+    NULL,                                  /* exit thread */
+    NULL,                                  /* exit process */
+    NULL,                                  /* exit master */
+    NGX_MODULE_V1_PADDING
+};
