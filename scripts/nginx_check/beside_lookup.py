@@ -7,17 +7,15 @@ usage: beside_lookup.py LEXICAT HOST:PORT SITE FIELDS
        beside_lookup.py --maps
            prints the language maps of the site
 
-It makes always the same fields. A field that is refused (8, 9) counts as "*", which is what the
-module makes of it.
+It makes always the same fields.
 """
 import http.client
 import json
 import random
-import subprocess
 import sys
 
 sys.dont_write_bytecode = True
-from beside_pick import LOCATIONS, RANGES, fields  # noqa: E402
+from beside_pick import LOCATIONS, RANGES, fields, said  # noqa: E402
 
 TEXTS = {
     "en": '"quoted", \\ $title ${title} %41 <b>',
@@ -65,15 +63,9 @@ def as_argument(field):
 
 def looked_up(lexicat, document, name, options, field):
     """The first text of the label that the command finds, or nothing."""
-    words = [lexicat, "lookup", "--id", name, "--default", "en", *options, "--", as_argument(field)]
-    run = subprocess.run(words, input=document, capture_output=True, check=False)
-    if run.returncode == 3 and run.stderr.startswith((b"refused 8:", b"refused 9:")):
-        return looked_up(lexicat, document, name, options, b"*")
-    if run.returncode not in (0, 1):
-        sys.exit(f"lexicat ended with {run.returncode} for {field!r}: {run.stderr.decode()}")
-    if run.stdout == b"nothing\n":
-        return b""
-    return json.loads(run.stdout.split(b" ", 2)[2])[0].encode()
+    words = [lexicat, "lookup", "--id", name, "--default", "en", *options]
+    line = said(words, as_argument(field), document=document)
+    return b"" if line == b"nothing\n" else json.loads(line.split(b" ", 2)[2])[0].encode()
 
 
 def in_lines(rng, field):

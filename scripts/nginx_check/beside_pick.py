@@ -6,8 +6,7 @@ usage: beside_pick.py LEXICAT SERVER REQUESTS FOLDER
        beside_pick.py --print COUNT SERVER
            prints COUNT requests to each of the three, as a configuration for curl
 
-It makes always the same fields. A field that is refused (8, 9) counts as "*", which is what the
-module makes of it.
+It makes always the same fields.
 """
 import os
 import random
@@ -50,16 +49,21 @@ def fields(count):
     return list(made)
 
 
+def said(words, field, tags=(), document=b""):
+    """What the command prints of a field. One that is refused (8, 9) counts as "*"."""
+    words_of_it = [*words, "--", field, *tags]
+    run = subprocess.run(words_of_it, input=document, capture_output=True, check=False)
+    if run.returncode == 3 and run.stderr.startswith((b"refused 8:", b"refused 9:")):
+        return said(words, "*", tags, document)
+    if run.returncode not in (0, 1):
+        sys.exit(f"lexicat ended with {run.returncode} for {field!r}: {run.stderr.decode()}")
+    return run.stdout
+
+
 def picked(lexicat, asked, *flags):
     """The tag that the command picks, as TAGS has it, or nothing."""
-    words = [lexicat, "pick", *flags, "--default", DEFAULT, "--", asked, *TAGS]
-    run = subprocess.run(words, stdout=subprocess.PIPE, stderr=subprocess.PIPE, check=False)
-    if run.returncode == 3 and run.stderr.startswith((b"refused 8:", b"refused 9:")):
-        return picked(lexicat, "*", *flags)
-    if run.returncode not in (0, 1):
-        sys.exit(f"lexicat ended with {run.returncode} for {asked!r}: {run.stderr.decode()}")
-    answer = run.stdout.decode().split()
-    return {tag.lower(): tag for tag in TAGS}[answer[1]] if run.returncode == 0 else ""
+    answer = said([lexicat, "pick", *flags, "--default", DEFAULT], asked, TAGS).decode().split()
+    return "" if answer == ["nothing"] else {tag.lower(): tag for tag in TAGS}[answer[1]]
 
 
 def configuration(server, questions):

@@ -11,7 +11,7 @@ refuses() { # what nginx says, then lines within `http`
         cat "$room/test"
         wrong=$((wrong + 1))
     fi
-    refused=$((refused + 1))
+    asked=$((asked + 1))
 }
 
 warns() { # whether and what nginx says, then lines within `http`
@@ -24,13 +24,11 @@ warns() { # whether and what nginx says, then lines within `http`
         cat "$room/test"
         wrong=$((wrong + 1))
     fi
-    refused=$((refused + 1))
+    asked=$((asked + 1))
 }
 
 bad_configurations() {
     local long
-    refused=0
-    wrong=0
     long=$(printf 'en-x%s' "$(printf -- '-aaaaaaa%.0s' {1..32})")
     refuses '"silkwaram_tags": refused 3: subtag at 0: "en_US" in' 'silkwaram_tags fr en_US;'
     refuses '"silkwaram_tags": refused 3: subtag at 3: "en-toolongsubtag" in' \
@@ -68,6 +66,4 @@ bad_configurations() {
         'silkwaram_tags en fr; silkwaram_default en;' \
         'server { location / { silkwaram_tags fr; } }'
     warns 0 'silkwaram' 'silkwaram_tags en fr; silkwaram_default EN;' 'server { location / { } }'
-    echo "$refused configurations, $wrong wrong"
-    [ "$wrong" -eq 0 ]
 }

@@ -52,6 +52,14 @@ stopped() { # the last server that was started
     kill -QUIT "$pid" && wait_for_end "$pid" && unset 'servers[-1]'
 }
 
+tallied() { # a function that asks, and whether no answer was wrong
+    asked=0
+    wrong=0
+    "$@" || return 1
+    echo "$asked asked, $wrong wrong"
+    [ "$wrong" -eq 0 ]
+}
+
 answers() { # what the answer is, the path, then words for curl
     local wanted=$1 path=$2 answer
     shift 2
