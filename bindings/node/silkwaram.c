@@ -336,92 +336,31 @@ static napi_value answered(napi_env env, ask *asked, const question *it)
 #define TEXT(at) it->texts[at].bytes, it->texts[at].len
 #define SITE(at) (&it->of[at]->site)
 
-static int32_t ask_pick(const question *it, uint8_t *out, size_t room, sw_told *told)
-{
-    return sw_pick(it->flags, TEXT(0), TEXT(1), TEXT(2), out, room, told);
-}
+#define ANSWER out, room, told
+#define ASKS(name, ...) \
+    static int32_t ask_##name(const question *it, uint8_t *out, size_t room, sw_told *told) { return __VA_ARGS__; }
+#define EDITS(name, ...) \
+    static int32_t edit_##name(const question *it, sw_told *told) { return __VA_ARGS__; }
 
-static int32_t ask_filter_tags(const question *it, uint8_t *out, size_t room, sw_told *told)
-{
-    return sw_filter(it->flags, TEXT(0), TEXT(1), out, room, told);
-}
-
-static int32_t ask_refusal(const question *it, uint8_t *out, size_t room, sw_told *told)
-{
-    return sw_refusal(it->flags, out, room, told);
-}
-
-static int32_t ask_refusal_text(const question *it, uint8_t *out, size_t room, sw_told *told)
-{
-    return sw_refusal_text(it->flags, out, room, told);
-}
-
-static int32_t ask_lookup(const question *it, uint8_t *out, size_t room, sw_told *told)
-{
-    return sw_site_lookup(SITE(0), it->flags, TEXT(0), TEXT(1), TEXT(2), out, room, told);
-}
-
-static int32_t ask_text(const question *it, uint8_t *out, size_t room, sw_told *told)
-{
-    return sw_site_text(SITE(0), it->flags, TEXT(0), TEXT(1), TEXT(2), (size_t)it->number, out, room, told);
-}
-
-static int32_t ask_filter(const question *it, uint8_t *out, size_t room, sw_told *told)
-{
-    return sw_site_filter(SITE(0), it->flags, TEXT(0), TEXT(1), out, room, told);
-}
-
-static int32_t ask_bundle(const question *it, uint8_t *out, size_t room, sw_told *told)
-{
-    return sw_site_bundle(SITE(0), it->flags, TEXT(0), TEXT(1), out, room, told);
-}
-
-static int32_t ask_text_lookup(const question *it, uint8_t *out, size_t room, sw_told *told)
-{
-    return sw_text_lookup(TEXT(0), it->flags, TEXT(1), TEXT(2), TEXT(3), out, room, told);
-}
-
-static int32_t ask_text_text(const question *it, uint8_t *out, size_t room, sw_told *told)
-{
-    return sw_text_text(TEXT(0), it->flags, TEXT(1), TEXT(2), TEXT(3), (size_t)it->number, out, room, told);
-}
-
-static int32_t ask_text_filter(const question *it, uint8_t *out, size_t room, sw_told *told)
-{
-    return sw_text_filter(TEXT(0), it->flags, TEXT(1), TEXT(2), out, room, told);
-}
-
-/* The calls that answer a document of the site alone. */
-#define ASKS_DOCUMENT(name) \
-    static int32_t ask_##name(const question *it, uint8_t *out, size_t room, sw_told *told) \
-    { \
-        return sw_site_##name(SITE(0), out, room, told); \
-    }
-
-ASKS_DOCUMENT(write)
-ASKS_DOCUMENT(summary)
-ASKS_DOCUMENT(status)
-ASKS_DOCUMENT(export)
-
-static int32_t ask_delta(const question *it, uint8_t *out, size_t room, sw_told *told)
-{
-    return sw_site_delta(SITE(0), TEXT(0), out, room, told);
-}
-
-static int32_t ask_missing(const question *it, uint8_t *out, size_t room, sw_told *told)
-{
-    return sw_site_missing(SITE(0), TEXT(0), out, room, told);
-}
-
-static int32_t ask_outdated(const question *it, uint8_t *out, size_t room, sw_told *told)
-{
-    return sw_site_outdated(SITE(0), TEXT(0), TEXT(1), out, room, told);
-}
-
-static int32_t ask_changes(const question *it, uint8_t *out, size_t room, sw_told *told)
-{
-    return sw_site_changes(SITE(0), SITE(1), out, room, told);
-}
+ASKS(pick, sw_pick(it->flags, TEXT(0), TEXT(1), TEXT(2), ANSWER))
+ASKS(filter_tags, sw_filter(it->flags, TEXT(0), TEXT(1), ANSWER))
+ASKS(refusal, sw_refusal(it->flags, ANSWER))
+ASKS(refusal_text, sw_refusal_text(it->flags, ANSWER))
+ASKS(lookup, sw_site_lookup(SITE(0), it->flags, TEXT(0), TEXT(1), TEXT(2), ANSWER))
+ASKS(text, sw_site_text(SITE(0), it->flags, TEXT(0), TEXT(1), TEXT(2), (size_t)it->number, ANSWER))
+ASKS(filter, sw_site_filter(SITE(0), it->flags, TEXT(0), TEXT(1), ANSWER))
+ASKS(bundle, sw_site_bundle(SITE(0), it->flags, TEXT(0), TEXT(1), ANSWER))
+ASKS(text_lookup, sw_text_lookup(TEXT(0), it->flags, TEXT(1), TEXT(2), TEXT(3), ANSWER))
+ASKS(text_text, sw_text_text(TEXT(0), it->flags, TEXT(1), TEXT(2), TEXT(3), (size_t)it->number, ANSWER))
+ASKS(text_filter, sw_text_filter(TEXT(0), it->flags, TEXT(1), TEXT(2), ANSWER))
+ASKS(write, sw_site_write(SITE(0), ANSWER))
+ASKS(summary, sw_site_summary(SITE(0), ANSWER))
+ASKS(status, sw_site_status(SITE(0), ANSWER))
+ASKS(export, sw_site_export(SITE(0), ANSWER))
+ASKS(delta, sw_site_delta(SITE(0), TEXT(0), ANSWER))
+ASKS(missing, sw_site_missing(SITE(0), TEXT(0), ANSWER))
+ASKS(outdated, sw_site_outdated(SITE(0), TEXT(0), TEXT(1), ANSWER))
+ASKS(changes, sw_site_changes(SITE(0), SITE(1), ANSWER))
 
 /* Tells the garbage collector how much memory a site takes from now on. */
 static bool tell_memory(napi_env env, held *it, int64_t memory)
@@ -430,11 +369,6 @@ static bool tell_memory(napi_env env, held *it, int64_t memory)
     int64_t change = memory - it->told_memory;
     it->told_memory = memory;
     return is_ok(env, napi_adjust_external_memory(env, change, &all));
-}
-
-static int32_t edit_new(const question *it, sw_told *told)
-{
-    return sw_site_new(TEXT(0), SITE(0), told);
 }
 
 static int32_t edit_open(const question *it, sw_told *told)
@@ -460,35 +394,13 @@ static int32_t edit_share(const question *it, sw_told *told)
     return status;
 }
 
-static int32_t edit_put(const question *it, sw_told *told)
-{
-    return sw_site_put(SITE(0), it->number, TEXT(0), TEXT(1), TEXT(2), told);
-}
-
-static int32_t edit_delete(const question *it, sw_told *told)
-{
-    return sw_site_delete(SITE(0), it->number, TEXT(0), TEXT(1), told);
-}
-
-static int32_t edit_import(const question *it, sw_told *told)
-{
-    return told_of(it, sw_site_import(SITE(0), it->number, TEXT(0), told));
-}
-
-static int32_t edit_update(const question *it, sw_told *told)
-{
-    return told_of(it, sw_site_update(SITE(0), it->number, TEXT(0), TEXT(1), told));
-}
-
-static int32_t edit_take(const question *it, sw_told *told)
-{
-    return told_of(it, sw_site_take(SITE(0), TEXT(0), it->number, told));
-}
-
-static int32_t edit_merge(const question *it, sw_told *told)
-{
-    return sw_site_merge(SITE(0), SITE(1), told);
-}
+EDITS(new, sw_site_new(TEXT(0), SITE(0), told))
+EDITS(put, sw_site_put(SITE(0), it->number, TEXT(0), TEXT(1), TEXT(2), told))
+EDITS(delete, sw_site_delete(SITE(0), it->number, TEXT(0), TEXT(1), told))
+EDITS(import, told_of(it, sw_site_import(SITE(0), it->number, TEXT(0), told)))
+EDITS(update, told_of(it, sw_site_update(SITE(0), it->number, TEXT(0), TEXT(1), told)))
+EDITS(take, told_of(it, sw_site_take(SITE(0), TEXT(0), it->number, told)))
+EDITS(merge, sw_site_merge(SITE(0), SITE(1), told))
 
 /* Makes a call with the arguments that were taken. */
 static napi_value made(napi_env env, const call *called, const question *it)
