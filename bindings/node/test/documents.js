@@ -1,3 +1,15 @@
+import assert from 'node:assert/strict';
+
+const CLOSED = { name: 'Error', message: 'the site is closed' };
+
+function wrongType(name) {
+  return { name: 'TypeError', message: new RegExp(`^${name} must be `) };
+}
+
+function throwEach(wanted, calls) {
+  for (const call of calls) assert.throws(call, wanted);
+}
+
 // Returns the document of a site that has these labels (docs/FORMATS.md): { id: { tag: texts } }.
 function siteDocument(labels) {
   const keys = Object.entries(labels).flatMap(([id, byTag]) =>
@@ -20,4 +32,4 @@ const GREETINGS = siteDocument({
   farewell: { en: ['Bye'] },
 });
 
-export { GREETINGS, siteDocument };
+export { CLOSED, GREETINGS, siteDocument, throwEach, wrongType };

@@ -1,6 +1,7 @@
 import assert from 'node:assert/strict';
 import test from 'node:test';
 import { filter, pick } from '../node.mjs';
+import { wrongType } from './documents.js';
 
 test('the tag comes back as it was given', () => {
   assert.equal(pick('FR-ca', ['en', 'Fr-CA']), 'Fr-CA');
@@ -69,27 +70,23 @@ test('a text is UTF-8 bytes too', () => {
 });
 
 test('wrong types are TypeErrors that name the argument', () => {
-  const wrong = (name) => ({
-    name: 'TypeError',
-    code: 'ERR_INVALID_ARG_TYPE',
-    message: new RegExp(`^${name} must be `),
-  });
-  assert.throws(() => pick(7, ['en']), wrong('field'));
-  assert.throws(() => pick(['en'], ['en']), wrong('field'));
-  assert.throws(() => pick(new Uint16Array(1), ['en']), wrong('field'));
-  assert.throws(() => pick(new ArrayBuffer(1), ['en']), wrong('field'));
-  assert.throws(() => pick(Symbol('en'), ['en']), wrong('field'));
-  assert.throws(() => pick('en', 'en'), wrong('tags'));
-  assert.throws(() => pick('en'), wrong('tags'));
-  assert.throws(() => pick('en', new Set(['en'])), wrong('tags'));
-  assert.throws(() => pick('en', ['en', undefined]), wrong('tags\\[1\\]'));
-  assert.throws(() => pick('en', [, 'en']), wrong('tags\\[0\\]'));
-  assert.throws(() => pick('en', ['en'], { default: 7 }), wrong('default'));
-  assert.throws(() => pick('en', ['en'], { lenient: 1 }), wrong('lenient'));
-  assert.throws(() => pick('en', ['en'], { scheme: 'toString' }), wrong('scheme'));
-  assert.throws(() => pick('en', ['en'], { scheme: null }), wrong('scheme'));
-  assert.throws(() => pick('en', ['en'], null), wrong('options'));
-  assert.throws(() => pick('en', ['en'], 'en'), wrong('options'));
+  const fields = [7, ['en'], new Uint16Array(1), new ArrayBuffer(1), Symbol('en')];
+  for (const [name, asked] of [
+    ...fields.map((field) => ['field', [field, ['en']]]),
+    ['tags', ['en', 'en']],
+    ['tags', ['en']],
+    ['tags', ['en', new Set(['en'])]],
+    ['tags\\[1\\]', ['en', ['en', undefined]]],
+    ['tags\\[0\\]', ['en', [, 'en']]],
+    ['default', ['en', ['en'], { default: 7 }]],
+    ['lenient', ['en', ['en'], { lenient: 1 }]],
+    ['scheme', ['en', ['en'], { scheme: 'toString' }]],
+    ['scheme', ['en', ['en'], { scheme: null }]],
+    ['options', ['en', ['en'], null]],
+    ['options', ['en', ['en'], 'en']],
+  ]) {
+    assert.throws(() => pick(...asked), { ...wrongType(name), code: 'ERR_INVALID_ARG_TYPE' });
+  }
 });
 
 test('an error of a getter among the tags is passed on', () => {

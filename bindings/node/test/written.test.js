@@ -2,12 +2,11 @@ import assert from 'node:assert/strict';
 import test from 'node:test';
 import { createRequire } from 'node:module';
 import { Refused, Site, WrittenSite } from '../node.mjs';
-import { GREETINGS, siteDocument } from './documents.js';
+import { GREETINGS, siteDocument, throwEach } from './documents.js';
 
 const library = createRequire(import.meta.url)('../build/silkwaram.node');
 const BYTES = new TextEncoder().encode(GREETINGS);
 const NO_SITE = { name: 'Refused', message: /^refused (18|19|20): / };
-const CLOSED = { name: 'Error', message: 'the site is closed' };
 
 // The bytes in memory of their own, which a test may take away.
 function copied() {
@@ -20,54 +19,12 @@ function shared() {
   return bytes;
 }
 
-test('a written site answers as an open one does', () => {
-  const site = new WrittenSite(BYTES);
-  assert.deepEqual(site.lookup('greeting', 'de-CH-1996'), { language: 'de-ch', texts: ['Grüezi'], isDefault: false });
-  assert.deepEqual(site.lookup('farewell', 'fr', { default: 'en' }), {
-    language: 'en',
-    texts: ['Bye'],
-    isDefault: true,
-  });
-  assert.equal(site.lookup('nowhere', 'fr'), null);
-  assert.equal(site.text('greeting', 'fr', { place: 1 }), 'Salut');
-  assert.equal(site.text('greeting', 'fr', { place: 2 }), null);
-  assert.equal(site.text('greeting', null, { default: 'en' }), 'Hello');
-  assert.deepEqual(site.texts('greeting', 'fr-CA, en;q=0.5'), ['Bonjour', 'Salut']);
-  assert.equal(site.texts('farewell', 'fr'), null);
-  assert.deepEqual(site.filter('greeting', 'fr;q=0.5, en'), [
-    { language: 'en', weight: 1000, texts: ['Hello'] },
-    { language: 'fr', weight: 500, texts: ['Bonjour', 'Salut'] },
-  ]);
-  assert.deepEqual(site.filter('greeting', 'ja'), []);
-  assert.deepEqual(site.filter('greeting', '*-CH', { scheme: 'extended' }), [
-    { language: 'de-ch', weight: 1000, texts: ['Grüezi'] },
-  ]);
-  const regions = new WrittenSite(siteDocument({ greeting: { 'de-ch': ['Grüezi'] } }));
-  assert.equal(regions.text('greeting', 'de', { widen: true }), 'Grüezi');
-  assert.equal(regions.text('greeting', 'de'), null);
-});
-
 test('a document is a string or bytes, wherever they are, with its last line feed or without', () => {
   const middle = Buffer.from(`xx${GREETINGS}yy`).subarray(2, -2);
   const ofBytes = [BYTES, BYTES.subarray(0, -1), Buffer.from(BYTES), middle, shared()];
   for (const document of [GREETINGS, GREETINGS.trimEnd(), ...ofBytes]) {
     assert.equal(new WrittenSite(document).text('greeting', 'fr'), 'Bonjour');
   }
-});
-
-test('arguments are refused as those of an open site', () => {
-  const site = new WrittenSite(BYTES);
-  assert.throws(() => site.lookup('@', 'en_US', { default: 'e_n' }), { name: 'Refused', number: 10 });
-  assert.throws(() => site.text('greeting', 'en_US', { default: 'e_n' }), { number: 3, offset: 0 });
-  assert.throws(() => site.filter('greeting', 'fr, en_US'), { number: 9, offset: 4 });
-  assert.throws(() => site.text('greeting', 'en' + ' '.repeat(65_534)), { number: 8 });
-  assert.equal(site.text('greeting', 'en_US, fr', { lenient: true }), 'Bonjour');
-  const wrong = (name) => ({ name: 'TypeError', message: new RegExp(`^${name} must be `) });
-  assert.throws(() => site.lookup(7, 'en'), wrong('id'));
-  assert.throws(() => site.filter('m', 7n), wrong('field'));
-  assert.throws(() => site.text('m', 'en', { default: 7 }), wrong('default'));
-  assert.throws(() => site.text('m', 'en', { place: '1' }), wrong('place'));
-  assert.throws(() => site.text('m', 'en', { place: -1 }), RangeError);
 });
 
 test('what is no document is refused at once', () => {
@@ -78,9 +35,6 @@ test('what is no document is refused at once', () => {
     assert.throws(() => new WrittenSite(document), NO_SITE);
   }
   assert.throws(() => new WrittenSite('{}'), { number: 20, wanted: 'a site document is wanted' });
-  assert.throws(() => new WrittenSite('site.json'), {
-    message: 'refused 19: not JSON (the document itself is wanted, not its name)',
-  });
   const bytes = copied();
   structuredClone(bytes, { transfer: [bytes.buffer] });
   assert.throws(() => new WrittenSite(bytes), NO_SITE);
@@ -100,9 +54,7 @@ test('bytes that are taken away while a site is asked are refused', () => {
   const site = new WrittenSite(bytes);
   assert.equal(site.text('greeting', 'fr'), 'Bonjour');
   structuredClone(bytes, { transfer: [bytes.buffer] });
-  assert.throws(() => site.text('greeting', 'fr'), NO_SITE);
-  assert.throws(() => site.lookup('greeting', 'fr'), NO_SITE);
-  assert.throws(() => site.filter('greeting', 'fr'), NO_SITE);
+  throwEach(NO_SITE, ['text', 'lookup', 'filter'].map((call) => () => site[call]('greeting', 'fr')));
 });
 
 test('a buffer that shrinks is refused', { skip: !ArrayBuffer.prototype.resize && 'no resize' }, () => {
@@ -161,14 +113,6 @@ test('other bytes between the ends are answered or refused', () => {
   assert.deepEqual(mistaken, []);
 });
 
-test('answers and texts around the size of the first room', () => {
-  for (const size of [1023, 1024, 1025, 65_535]) {
-    const site = new WrittenSite(siteDocument({ m: { en: ['é' + 'x'.repeat(size - 2)] } }));
-    assert.equal(Buffer.byteLength(site.text('m', 'en')), size);
-    assert.equal(site.lookup('m', 'en').texts[0].length, size - 1);
-  }
-});
-
 test('texts come as they are', () => {
   const texts = ['"],["', '"],["m","en",1,"paris",0,["', '\\', '"', '\n', '\r\n', '\0', '\u2028', '😀', ''];
   for (const text of texts) {
@@ -179,34 +123,20 @@ test('texts come as they are', () => {
   }
 });
 
-test('a closed site answers nothing', () => {
-  const site = new WrittenSite(BYTES);
-  site.close();
-  site.close();
-  assert.throws(() => site.lookup('greeting', 'en'), CLOSED);
-  assert.throws(() => site.text('greeting', 'en'), CLOSED);
-  assert.throws(() => site.texts('greeting', 'en'), CLOSED);
-  assert.throws(() => site.filter('greeting', 'en'), CLOSED);
-});
-
-test('the end of a using block closes', { skip: !Symbol.dispose && 'no Symbol.dispose' }, () => {
-  const site = new WrittenSite(BYTES);
-  site[Symbol.dispose]();
-  assert.throws(() => site.text('greeting', 'en'), CLOSED);
-});
-
 test('another object is no written site, in the package and in its compiled part', () => {
   const site = new WrittenSite(BYTES);
   for (const other of [{}, Object.create(site), new Proxy(site, {}), undefined, 7, [], () => {}, BYTES]) {
     assert.throws(() => WrittenSite.prototype.text.call(other, 'greeting', 'en'), TypeError);
     assert.throws(() => WrittenSite.prototype.close.call(other), TypeError);
   }
-  assert.throws(() => Site.open(GREETINGS).merge(site), TypeError);
-  assert.throws(() => library.sw_text_lookup({}, 0, 'greeting', 'en', ''), TypeError);
-  assert.throws(() => library.sw_text_lookup(library.make(), 0, 'greeting', 'en', ''), TypeError);
-  assert.throws(() => library.sw_text_lookup(BYTES, 0, 'greeting', 'en'), TypeError);
-  assert.throws(() => library.sw_text_filter(BYTES, 0, 'greeting', 'en', ''), TypeError);
-  assert.throws(() => library.sw_text_text(BYTES, 0, 'm', 'en', '', 0n, ''), TypeError);
+  throwEach(TypeError, [
+    () => Site.open(GREETINGS).merge(site),
+    () => library.sw_text_lookup({}, 0, 'greeting', 'en', ''),
+    () => library.sw_text_lookup(library.make(), 0, 'greeting', 'en', ''),
+    () => library.sw_text_lookup(BYTES, 0, 'greeting', 'en'),
+    () => library.sw_text_filter(BYTES, 0, 'greeting', 'en', ''),
+    () => library.sw_text_text(BYTES, 0, 'm', 'en', '', 0n, ''),
+  ]);
   // (the compiled part copies what other threads can change, by itself)
   assert.equal(library.sw_text_text(shared(), 0, 'greeting', 'fr', '', 0n), 'Bonjour');
   assert.equal(library.sw_text_text(GREETINGS, 0, 'greeting', 'fr', '', 0n), 'Bonjour');
