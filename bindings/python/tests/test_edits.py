@@ -9,28 +9,17 @@ import json
 import multiprocessing
 import os
 import stat
-import tempfile
 import threading
 import time
 import unittest
 from unittest import mock
 
 import silkwaram
+from cases import Case, FileCase, document, side_by_side
 from silkwaram import Cell, Change, Refused, Site, Stamp, Status, TagChoice, edit, filter_tags, pick
 
 # What the examples of docs/COMMAND.md begin with.
-PARIS = json.dumps(
-    {
-        "cells": [
-            ["m", "en", 5, "paris", 0, ["Hello"]],
-            ["m", "fr", 5, "paris", 1, ["Salut"]],
-            ["n", "de", 5, "paris", 2, None],
-        ],
-        "kind": "site",
-        "site": "paris",
-        "version": 2,
-    }
-)
+PARIS = document(("m", "en", ["Hello"]), ("m", "fr", ["Salut"]), ("n", "de", None)).decode()
 
 
 def cells(site):
@@ -38,44 +27,26 @@ def cells(site):
     return json.loads(site.to_bytes())["cells"]
 
 
-def refusal(call):
-    """What a call that is refused raises."""
-    try:
-        call()
-    except Refused as fault:
-        return fault
-    raise AssertionError("not refused")
-
-
-class Tags(unittest.TestCase):
+class Tags(Case):
     def test_all_tags_that_fit_best_first(self):
-        field, tags = "da, en-gb;q=0.8, en;q=0.7", ["en", "da-DK", "en-GB-oed", "@none", "EN"]
-        self.assertEqual(
-            filter_tags(field, tags),
-            [
-                TagChoice("da-DK", 1000),
-                TagChoice("en-GB-oed", 800),
-                TagChoice("en", 700),
-                TagChoice("EN", 700),
-            ],
-        )
-
-    def test_no_tag_fits(self):
-        self.assertEqual(filter_tags("ja", ["en"]), [])
-        self.assertEqual(filter_tags("ja", []), [])
-
-    def test_extended_ranges(self):
-        self.assertEqual(
-            filter_tags("de-*-DE", ["de-Latn-DE", "de"], extended=True),
-            [TagChoice("de-Latn-DE", 1000)],
-        )
+        tags = ["en", "da-DK", "en-GB-oed", "@none", "EN"]
+        best = [("da-DK", 1000), ("en-GB-oed", 800), ("en", 700), ("EN", 700)]
+        for field, given, words, wanted in [
+            ("da, en-gb;q=0.8, en;q=0.7", tags, {}, best),
+            ("ja", ["en"], {}, []),
+            ("ja", [], {}, []),
+            ("de-*-DE", ["de-Latn-DE", "de"], {"extended": True}, [("de-Latn-DE", 1000)]),
+        ]:
+            with self.subTest(field=field):
+                chosen = [TagChoice(*it) for it in wanted]
+                self.assertEqual(filter_tags(field, given, **words), chosen)
 
     def test_a_language_finds_its_regions(self):
         self.assertEqual(pick("en", ["en-US", "fr"], widen=True), "en-US")
         self.assertIsNone(pick("en", ["en-US", "fr"]))
 
 
-class Edits(unittest.TestCase):
+class Edits(Case):
     def setUp(self):
         self.site = Site.open(PARIS)
         self.addCleanup(self.site.close)
@@ -86,7 +57,7 @@ class Edits(unittest.TestCase):
                 site.to_bytes(), b'{"cells":[],"kind":"site","site":"tokyo","version":2}\n'
             )
             self.assertEqual(site.status(), Status("tokyo", 0, 0, None))
-        self.assertEqual(refusal(lambda: Site.new("Tokyo")).number, 27)
+        self.refuses(27, Site.new, "Tokyo")
 
     def test_a_put(self):
         self.site.put("m", "FR", "Bonjour", now=6)
@@ -139,7 +110,7 @@ class Edits(unittest.TestCase):
                 lambda: site.import_maps({"m": {"en": "x"}}, now=1),
                 lambda: site.update({}, {"m": {"en": "x"}}, now=1),
             ):
-                self.assertEqual(refusal(call).number, 14)
+                self.refuses(14, call)
                 self.assertEqual(site.to_bytes(), before)
 
     def test_a_share_keeps_what_it_held(self):
@@ -151,7 +122,7 @@ class Edits(unittest.TestCase):
     def test_wrong_types(self):
         site, wanted = self.site, "must be str or bytes-like, not"
         key = "an id or a language must be str, not"
-        for ask, message in [
+        cases = [
             (lambda: site.put(None, "en", "x"), f"id {wanted} NoneType"),
             (lambda: site.put("m", 5, "x"), f"lang {wanted} int"),
             (lambda: site.put("m", "en", ["x"]), f"text {wanted} list"),
@@ -169,10 +140,8 @@ class Edits(unittest.TestCase):
             (lambda: site.missing(None), f"lang {wanted} NoneType"),
             (lambda: site.outdated("en", 5), f"source {wanted} int"),
             (lambda: Site.new(5), f"name {wanted} int"),
-        ]:
-            with self.subTest(message=message), self.assertRaises(TypeError) as it:
-                ask()
-            self.assertEqual(str(it.exception), message)
+        ]
+        self.wrong_types(cases)
         for ask in (
             lambda: site.put("m", "en", "x", now=-1),
             lambda: site.put("m", "en", "x", now=2**64),
@@ -185,7 +154,7 @@ class Edits(unittest.TestCase):
     def test_a_site_that_is_closed(self):
         site = Site.open(PARIS)
         site.close()
-        for call in (
+        self.is_closed(
             lambda: site.put("m", "en", "x"),
             lambda: site.delete("m", "en"),
             lambda: site.import_maps({}),
@@ -202,37 +171,23 @@ class Edits(unittest.TestCase):
             lambda: site.missing("en"),
             lambda: site.outdated("en", "fr"),
             lambda: site.delta_for("{}"),
-        ):
-            with self.assertRaisesRegex(ValueError, "^the site is closed$"):
-                call()
+        )
 
 
-class Reports(unittest.TestCase):
-    def test_an_export(self):
+class Reports(Case):
+    def test_an_export_the_status_and_what_is_missing(self):
         with Site.open(PARIS) as site:
             self.assertEqual(site.export(), {"m": {"en": "Hello", "fr": "Salut"}})
-
-    def test_the_status(self):
-        with Site.open(PARIS) as site:
             self.assertEqual(site.status(), Status("paris", 3, 2, Stamp(5, "paris", 2)))
-
-    def test_what_is_missing(self):
-        with Site.open(PARIS) as site:
             self.assertEqual(site.missing("de"), {"m": {"en": "Hello", "fr": "Salut"}})
             self.assertEqual(site.missing("EN"), {})
-            self.assertEqual(refusal(lambda: site.missing("e")).number, 4)
+            self.refuses(4, site.missing, "e")
 
     def test_what_is_outdated(self):
         with Site.new("paris") as site:
-            for name, language, now in [
-                ("m", "de", 5),
-                ("n", "en", 5),
-                ("m", "en", 7),
-                ("m", "fr", 7),
-                ("n", "de", 9),
-                ("o", "en", 9),
-            ]:
-                site.put(name, language, f"{name}-{language}", now=now)
+            for put in "m de 5", "n en 5", "m en 7", "m fr 7", "n de 9", "o en 9":
+                name, language, now = put.split()
+                site.put(name, language, f"{name}-{language}", now=int(now))
             for lang, source, wanted in [
                 ("de", "en", {"m": {"de": "m-de", "en": "m-en", "fr": "m-fr"}}),
                 ("EN", "de", {"n": {"de": "n-de", "en": "n-en"}}),
@@ -240,7 +195,7 @@ class Reports(unittest.TestCase):
                 ("en", "en", {}),
             ]:
                 self.assertEqual(site.outdated(lang, source), wanted)
-            self.assertEqual(refusal(lambda: site.outdated("e n", "e")).number, 3)
+            self.refuses(3, site.outdated, "e n", "e")
 
     def test_what_changed(self):
         after = json.loads(PARIS)
@@ -251,23 +206,15 @@ class Reports(unittest.TestCase):
         ]
         before = json.loads(PARIS)
         del before["cells"][2]
+        was, gone = Cell(Stamp(5, "paris", 1), ["Salut"]), Cell(Stamp(9, "tokyo", 0), None)
+        new = Cell(Stamp(7, "tokyo", 0), ["a", "b"])
         with Site.open(json.dumps(before)) as one, Site.open(json.dumps(after)) as other:
-            self.assertEqual(
-                one.changes(other),
-                [
-                    Change(
-                        "m",
-                        "fr",
-                        Cell(Stamp(5, "paris", 1), ["Salut"]),
-                        Cell(Stamp(9, "tokyo", 0), None),
-                    ),
-                    Change("n", "de", None, Cell(Stamp(7, "tokyo", 0), ["a", "b"])),
-                ],
-            )
+            wanted = [Change("m", "fr", was, gone), Change("n", "de", None, new)]
+            self.assertEqual(one.changes(other), wanted)
             self.assertEqual(one.changes(one), [])
 
 
-class Exchanges(unittest.TestCase):
+class Exchanges(Case):
     def setUp(self):
         self.paris, self.tokyo = Site.open(PARIS), Site.new("tokyo")
         self.addCleanup(self.paris.close)
@@ -294,41 +241,29 @@ class Exchanges(unittest.TestCase):
         self.assertEqual(self.tokyo.to_bytes(), before)
 
     def test_merges_that_cross(self):
-        def merge(one, other):
-            for _ in range(200):
-                one.merge(other)
+        def merges(one, other):
+            return lambda: [one.merge(other) for _ in range(200)]
 
-        threads = [
-            threading.Thread(target=merge, args=it)
-            for it in [(self.paris, self.tokyo), (self.tokyo, self.paris)]
-        ]
-        for thread in threads:
-            thread.start()
-        for thread in threads:
-            thread.join(60)
-        self.assertFalse(any(thread.is_alive() for thread in threads))
+        side_by_side(merges(self.paris, self.tokyo), merges(self.tokyo, self.paris))
         self.assertEqual(cells(self.paris), cells(self.tokyo))
 
     def test_deltas_that_are_refused(self):
         self.tokyo.put("m", "ja", "x", now=101)
         delta = self.tokyo.delta_for(self.paris.summary())
         before = self.paris.to_bytes()
-        fault = refusal(lambda: self.paris.take(delta, not_after=100))
-        self.assertEqual((fault.number, fault.row), (29, 0))
-        self.assertEqual(refusal(lambda: self.tokyo.take(delta, not_after=100)).number, 29)
-        self.assertEqual(refusal(lambda: self.tokyo.take(delta)).number, 15)
+        self.assertEqual(self.refuses(29, self.paris.take, delta, not_after=100).row, 0)
+        self.refuses(29, self.tokyo.take, delta, not_after=100)
+        self.refuses(15, self.tokyo.take, delta)
         self.assertEqual(self.paris.to_bytes(), before)
         self.paris.take(delta, not_after=101)
         self.assertEqual(self.paris.text("m", "ja"), "x")
 
 
-class Files(unittest.TestCase):
-    def setUp(self):
-        folder = tempfile.TemporaryDirectory()
-        self.addCleanup(folder.cleanup)
-        self.folder, self.path = folder.name, os.path.join(folder.name, "paris.json")
-        with open(self.path, "w", encoding="utf-8") as it:
-            it.write(PARIS)
+class Files(FileCase):
+    name, first = "paris.json", PARIS.encode()
+
+    def in_folder(self, *names):
+        return os.path.join(self.folder, *names)
 
     def labels(self):
         with open(self.path, "rb") as it, Site.open(it.read()) as site:
@@ -336,6 +271,11 @@ class Files(unittest.TestCase):
 
     def names(self):
         return sorted(os.listdir(self.folder))
+
+    def is_as_it_was(self):
+        with open(self.path, encoding="utf-8") as it:
+            self.assertEqual(it.read(), PARIS)
+        self.assertEqual(self.names(), ["paris.json", "paris.json.lock"])
 
     def test_an_edit_of_the_file(self):
         os.chmod(self.path, 0o640)
@@ -349,18 +289,14 @@ class Files(unittest.TestCase):
         with self.assertRaisesRegex(RuntimeError, "^of the caller$"), edit(self.path) as site:
             site.put("m", "fr", "Bonjour")
             raise RuntimeError("of the caller")
-        with open(self.path, encoding="utf-8") as it:
-            self.assertEqual(it.read(), PARIS)
-        self.assertEqual(self.names(), ["paris.json", "paris.json.lock"])
+        self.is_as_it_was()
 
     def test_a_file_that_cannot_be_written(self):
         full = OSError(28, "No space left on device")
         with mock.patch.object(silkwaram._edit.os, "fsync", side_effect=full):
             with self.assertRaises(OSError), edit(self.path) as site:
                 site.put("m", "fr", "Bonjour")
-        with open(self.path, encoding="utf-8") as it:
-            self.assertEqual(it.read(), PARIS)
-        self.assertEqual(self.names(), ["paris.json", "paris.json.lock"])
+        self.is_as_it_was()
 
     def test_a_site_that_stays_the_same_is_not_written(self):
         with edit(self.path) as site:
@@ -371,7 +307,7 @@ class Files(unittest.TestCase):
         self.assertEqual(os.stat(self.path).st_ino, before)
 
     def test_a_file_that_is_not_there(self):
-        path = os.path.join(self.folder, "tokyo.json")
+        path = self.in_folder("tokyo.json")
         with self.assertRaises(FileNotFoundError), edit(path):
             pass
         with edit(path, create="tokyo") as site:
@@ -380,13 +316,12 @@ class Files(unittest.TestCase):
             self.assertEqual(site.status().site, "tokyo")
 
     def test_a_file_that_is_no_site(self):
-        with open(self.path, "w", encoding="utf-8") as it:
-            it.write("{}")
+        self.write(b"{}")
         with self.assertRaises(Refused), edit(self.path):
             pass
 
     def test_a_link_stays_a_link(self):
-        link = os.path.join(self.folder, "link.json")
+        link = self.in_folder("link.json")
         os.symlink(self.path, link)
         with edit(link) as site:
             site.put("m", "fr", "Bonjour")
@@ -415,29 +350,22 @@ class Files(unittest.TestCase):
 
     def test_what_is_no_lock(self):
         lock = self.path + ".lock"
-        other = os.path.join(self.folder, "other")
-        for make in (
-            lambda: os.mkfifo(lock),
-            lambda: os.mkdir(lock),
-            lambda: os.symlink(other, lock),
-        ):
-            make()
+        other = self.in_folder("other")
+        for make in os.mkfifo, os.mkdir, lambda it: os.symlink(other, it):
+            make(lock)
             with self.assertRaises(OSError), edit(self.path, wait=5):
                 pass
             os.rmdir(lock) if os.path.isdir(lock) else os.unlink(lock)
         self.assertEqual(self.names(), ["paris.json"])
 
     def test_a_file_that_is_not_there_leaves_no_lock(self):
-        for path, create in [
-            (os.path.join(self.folder, "tokyo.json"), None),
-            (os.path.join(self.folder, "nowhere", "tokyo.json"), None),
-            (os.path.join(self.folder, "nowhere", "tokyo.json"), "tokyo"),
-        ]:
+        none = self.in_folder("nowhere", "tokyo.json")
+        for path, create in (self.in_folder("tokyo.json"), None), (none, None), (none, "tokyo"):
             with self.subTest(path=path, create=create):
                 with self.assertRaises(FileNotFoundError) as raised, edit(path, create=create):
                     pass
                 self.assertEqual(raised.exception.filename, os.path.realpath(path))
-        with self.assertRaises(Refused), edit(os.path.join(self.folder, "x.json"), create="Tokyo"):
+        with self.assertRaises(Refused), edit(self.in_folder("x.json"), create="Tokyo"):
             pass
         self.assertEqual(self.names(), ["paris.json"])
 
@@ -466,9 +394,7 @@ class Files(unittest.TestCase):
             with edit(self.path) as site:
                 site.import_maps(texts)
         self.assertEqual(raised.exception.errno, errno.EFBIG)
-        with open(self.path, encoding="utf-8") as it:
-            self.assertEqual(it.read(), PARIS)
-        self.assertEqual(self.names(), ["paris.json", "paris.json.lock"])
+        self.is_as_it_was()
         with edit(self.path, limit=None) as site:
             site.import_maps(texts)
         size = os.stat(self.path).st_size
@@ -480,7 +406,7 @@ class Files(unittest.TestCase):
             site.put("m0", "en", "z" * 65535)
 
     def test_an_edit_inside_itself(self):
-        link = os.path.join(self.folder, "link.json")
+        link = self.in_folder("link.json")
         os.symlink(self.path, link)
         with edit(self.path) as site:
             for path in self.path, link:
@@ -488,7 +414,7 @@ class Files(unittest.TestCase):
                     pass
             site.put("m", "fr", "Bonjour")
             # Another file is another edit, and another thread waits.
-            with edit(os.path.join(self.folder, "tokyo.json"), create="tokyo"):
+            with edit(self.in_folder("tokyo.json"), create="tokyo"):
                 pass
             other = threading.Thread(target=write, args=(self.path, 0))
             other.start()
@@ -499,7 +425,7 @@ class Files(unittest.TestCase):
         self.assertEqual(self.labels()["m"]["fr"], "Bonjour")
 
     def test_hard_links(self):
-        other = os.path.join(self.folder, "other.json")
+        other = self.in_folder("other.json")
         os.link(self.path, other)
         for path in self.path, other:
             with self.assertRaisesRegex(OSError, "hard links"), edit(path):

@@ -4,173 +4,52 @@
         python3 -m unittest discover -s bindings/python/tests
 """
 import copy
-import json
 import os
 import pathlib
 import pickle
 import signal
-import subprocess
-import sys
-import tempfile
 import threading
 import unittest
 
-from silkwaram import Choice, Label, MappedSite, Refused, Site, mapped
+import test_silkwaram
+from cases import WRITTEN, FileCase, greeting, run_python, side_by_side, written
+from silkwaram import MappedSite, Refused, mapped
 from silkwaram.web import LABEL
 from test_web import WAYS, values
 
 
-def written(*cells, name="paris"):
-    """A site document of these cells (id, language, label), as docs/FORMATS.md writes it."""
-    rows = [
-        [id, language, 5, "paris", at, label] for at, (id, language, label) in enumerate(cells)
-    ]
-    held = {"cells": rows, "kind": "site", "site": name, "version": 2}
-    return json.dumps(held, ensure_ascii=False, separators=(",", ":")).encode() + b"\n"
-
-
-PARIS = written(
-    ("bye", "en", None),
-    ("greeting", "@none", ["*"]),
-    ("greeting", "de", ["Hallo", "Guten Tag"]),
-    ("greeting", "en", ["Hello"]),
-    ("größe", "ja", ['],["größe","ja",5,"paris",4,["サイズ"]]']),
-    ('quote "],["', "en-us", ["a\nb"]),
-)
-
-
-def greeting(text, last=None):
-    """A document whose first and last message say the same."""
-    return written(("greeting", "en", [text]), ("last", "en", [text if last is None else last]))
-
-
-class Files(unittest.TestCase):
-    """A folder with the file of a site."""
-
-    def setUp(self):
-        folder = tempfile.TemporaryDirectory()
-        self.addCleanup(folder.cleanup)
-        self.path = os.path.join(folder.name, "site.json")
-        self.replace(PARIS)
-
-    def write(self, content):
-        with open(self.path, "wb") as file:
-            file.write(content)
-
-    def replace(self, content):
-        with open(self.path + ".next", "wb") as file:
-            file.write(content)
-        os.replace(self.path + ".next", self.path)
-
-    def ways(self, content=PARIS):
+class Files(FileCase):
+    def ways(self, content=WRITTEN):
         """Gives the site of a file with this content: mapped, then copied."""
         for is_copied in (False, True):
             self.replace(content)
             with mapped(self.path, copy=is_copied) as site:
                 yield site
 
-    def refuses(self, number, ask):
-        with self.assertRaises(Refused) as it:
-            ask()
-        self.assertEqual(it.exception.number, number)
-        return it.exception
+    def says(self, site, text, id="greeting"):
+        self.assertEqual(site.text(id, "en"), text)
 
     def run_python(self, program):
         """Runs a program with the path as its argument."""
-        program = f"import os, pathlib, sys, silkwaram\n{program}"
-        words = [sys.executable, "-X", "dev", "-c", program, self.path]
-        return subprocess.run(words, capture_output=True, text=True, timeout=60)
+        return run_python(f"import os, pathlib, sys, silkwaram\n{program}", self.path)
 
 
-class Questions(Files):
-    def test_lookup(self):
-        for site in self.ways():
-            found = site.lookup("greeting", "de-CH, en;q=0.5")
-            self.assertEqual(found, Label("de", ["Hallo", "Guten Tag"], False))
-            found = site.lookup("greeting", "ja", default="@none")
-            self.assertEqual(found, Label("@none", ["*"], True))
-            for id in ("greeting", "bye", "nowhere", "a", "z"):
-                self.assertIsNone(site.lookup(id, "ja"))
-            self.assertIsNone(site.lookup("greeting", "fr, *;q=0", default="en"))
-
-    def test_text(self):
-        for site in self.ways():
-            self.assertEqual(site.text("greeting", "de"), "Hallo")
-            self.assertEqual(site.text("greeting", "de", place=1), "Guten Tag")
-            for place in (2, 63, 2**64 - 1, 2**64, 10**30):
-                self.assertIsNone(site.text("greeting", "de", place=place))
-            row = '],["größe","ja",5,"paris",4,["サイズ"]]'
-            self.assertEqual(site.text("größe", b"ja"), row)
-            self.assertEqual(site.text('quote "],["', "en", widen=True), "a\nb")
-            self.assertIsNone(site.text('quote "],["', "en"))
-            self.assertEqual(site.text("greeting", None, default="en"), "Hello")
-            self.assertEqual(site.text("greeting", "e n, en", lenient=True), "Hello")
-            self.assertEqual(site.text("greeting", "de-*-DE, en", extended=True), "Hallo")
-
-    def test_texts(self):
-        for site in self.ways():
-            self.assertEqual(site.texts("greeting", "de"), ["Hallo", "Guten Tag"])
-            self.assertEqual(site.texts("greeting", None, default="en"), ["Hello"])
-            self.assertIsNone(site.texts("bye", "en"))
-        with Site.open(PARIS) as site:
-            self.assertEqual(site.texts("greeting", "de"), ["Hallo", "Guten Tag"])
-            self.assertIsNone(site.texts("bye", "en"))
-
-    def test_filter(self):
-        for site in self.ways():
-            self.assertEqual(
-                site.filter("greeting", "en;q=0.5, de"),
-                [Choice("de", 1000, ["Hallo", "Guten Tag"]), Choice("en", 500, ["Hello"])],
-            )
-            self.assertEqual(site.filter("greeting", "ja"), [])
-            self.assertEqual(site.filter("bye", "*"), [])
-
-    def test_an_answer_that_is_longer_than_the_first_room(self):
-        text = "a" * 65535
-        for site in self.ways(written(("m", "en", [text] * 3))):
-            self.assertEqual(site.text("m", "en", place=2), text)
-            self.assertEqual(site.lookup("m", "en"), Label("en", [text] * 3, False))
+class Questions(Files, test_silkwaram.Questions):
+    """What is asked of open sites is asked of files."""
 
     def test_a_site_without_cells_and_a_document_without_its_line_feed(self):
         for site in self.ways(written()):
             self.assertIsNone(site.lookup("m", "en", default="en"))
-        for site in self.ways(PARIS[:-1]):
-            self.assertEqual(site.text("greeting", "en"), "Hello")
-
-    def test_what_is_refused(self):
-        for site in self.ways():
-            for id in (b"\xff", b"greet\xe9", "\ud800", "", "@m", "m\0", "m" * 129):
-                for ask in (site.lookup, site.text, site.texts, site.filter):
-                    self.refuses(10, lambda: ask(id, "e n"))
-            fault = self.refuses(3, lambda: site.text("greeting", "e n", default="en-"))
-            self.assertEqual((fault.offset, fault.row), (3, None))
-            fault = self.refuses(9, lambda: site.filter("greeting", "fr, en_US"))
-            self.assertEqual(fault.offset, 4)
-            self.refuses(8, lambda: site.lookup("greeting", "," * 65536))
-            with self.assertRaisesRegex(ValueError, "^place counts from 0$"):
-                site.text("greeting", "en", place=-1)
-
-    def test_wrong_types(self):
-        wanted = "must be str or bytes-like, not"
-        for site in self.ways():
-            for ask, message in [
-                (lambda: site.lookup(None, "en"), f"id {wanted} NoneType"),
-                (lambda: site.text("m", 5), f"field {wanted} int"),
-                (lambda: site.texts("m", "en", default=5), f"default {wanted} int"),
-                (lambda: site.text("m", "en", place="1"), "place must be int, not str"),
-                (lambda: site.filter(["m"], "en"), f"id {wanted} list"),
-            ]:
-                with self.assertRaises(TypeError) as it:
-                    ask()
-                self.assertEqual(str(it.exception), message)
-        for path in (5, None, [self.path]):
-            with self.assertRaisesRegex(TypeError, "^path must be str, bytes or os.PathLike, not "):
-                mapped(path)
+        for site in self.ways(WRITTEN[:-1]):
+            self.says(site, "Hello")
 
     def test_paths(self):
         for path in (self.path, os.fsencode(self.path), pathlib.Path(self.path)):
             with mapped(path) as site:
-                self.assertEqual(site.text("greeting", "en"), "Hello")
+                self.says(site, "Hello")
+        for path in (5, None, [self.path]):
+            with self.assertRaisesRegex(TypeError, "^path must be str, bytes or os.PathLike, not "):
+                mapped(path)
 
 
 class Begins(Files):
@@ -185,12 +64,13 @@ class Begins(Files):
                 mapped(os.path.dirname(self.path), is_copied)
 
     def test_what_is_no_site(self):
-        contents = [(b"", 19), (b"\n", 19), (b"not a site", 19), (PARIS[1:], 19), (PARIS[:-9], 19)]
+        cut = WRITTEN[1:], WRITTEN[:-9]
+        contents = [(it, 19) for it in (b"", b"\n", b"not a site", *cut)]
         for content, number in [*contents, (b"{}\n", 20), (b'{"cells":[]}', 20)]:
             for is_copied in (False, True):
                 self.replace(content)
                 with self.subTest(content=content[:20], is_copied=is_copied):
-                    fault = self.refuses(number, lambda: mapped(self.path, is_copied))
+                    fault = self.refuses(number, mapped, self.path, is_copied)
                     if number == 20:
                         self.assertEqual(fault.wanted, "a site document is wanted")
 
@@ -200,43 +80,39 @@ class Replaced(Files):
         for site in self.ways(greeting("old")):
             for text in ("new", "n", "new" * 20000, "newer"):
                 self.replace(greeting(text))
-                self.assertEqual(site.text("last", "en"), text)
+                self.says(site, text, "last")
                 self.assertEqual(site.lookup("greeting", "en").texts, [text])
                 self.assertEqual(site.filter("greeting", "en")[0].texts, [text])
 
     def test_a_file_of_the_same_size_and_time(self):
         for site in self.ways(greeting("old")):
             held = os.stat(self.path)
-            with open(self.path + ".next", "wb") as file:
-                file.write(greeting("new"))
-            os.utime(self.path + ".next", ns=(held.st_atime_ns, held.st_mtime_ns))
-            os.replace(self.path + ".next", self.path)
-            self.assertEqual(site.text("greeting", "en"), "new")
+            self.replace(greeting("new"))
+            os.utime(self.path, ns=(held.st_atime_ns, held.st_mtime_ns))
+            self.says(site, "new")
 
     def test_an_older_file_and_a_link(self):
         for site in self.ways(greeting("old")):
             self.replace(greeting("new"))
             os.utime(self.path, (1, 1))
-            self.assertEqual(site.text("greeting", "en"), "new")
+            self.says(site, "new")
             os.rename(self.path, self.path + ".far")
             os.symlink(self.path + ".far", self.path)
-            self.assertEqual(site.text("greeting", "en"), "new")
-            with open(self.path + ".other", "wb") as file:
-                file.write(greeting("other"))
-            os.symlink(self.path + ".other", self.path + ".next")
-            os.replace(self.path + ".next", self.path)
-            self.assertEqual(site.text("greeting", "en"), "other")
+            self.says(site, "new")
+            pathlib.Path(self.path + ".other").write_bytes(greeting("other"))
+            self.replace_by_link(self.path + ".other")
+            self.says(site, "other")
 
     def test_a_file_that_is_gone(self):
         for site in self.ways(greeting("old")):
             os.unlink(self.path)
-            self.assertEqual(site.text("greeting", "en"), "old")
+            self.says(site, "old")
             os.mkdir(self.path)
-            self.assertEqual(site.text("greeting", "en"), "old")
+            self.says(site, "old")
             os.rmdir(self.path)
-            self.assertEqual(site.text("last", "en"), "old")
+            self.says(site, "old", "last")
             self.replace(greeting("new"))
-            self.assertEqual(site.text("greeting", "en"), "new")
+            self.says(site, "new")
 
     def test_a_file_that_is_no_site(self):
         for site in self.ways(greeting("old")):
@@ -244,23 +120,22 @@ class Replaced(Files):
             for content, number in (b"", 19), (b"{}\n", 20), (greeting("new")[:-5], 19):
                 self.replace(content)
                 for ask in (site.lookup, site.text, site.texts, site.filter):
-                    self.refuses(number, lambda: ask("greeting", "en"))
-            self.assertEqual(before.text("greeting", "en"), "old")
+                    self.refuses(number, ask, "greeting", "en")
+            self.says(before, "old")
             self.replace(greeting("new"))
-            self.assertEqual(site.text("greeting", "en"), "new")
+            self.says(site, "new")
 
     def test_a_share_stays(self):
         for site in self.ways(greeting("old")):
             share = site.share()
             self.replace(greeting("new"))
-            self.assertEqual(share.text("greeting", "en"), "old")
-            self.assertEqual(site.text("greeting", "en"), "new")
+            self.says(share, "old")
+            self.says(site, "new")
             again = share.share()
             share.close()
-            self.assertEqual(again.text("last", "en"), "old")
-            self.assertEqual(site.text("last", "en"), "new")
-            with self.assertRaisesRegex(ValueError, "^the site is closed$"):
-                share.text("last", "en")
+            self.says(again, "old", "last")
+            self.says(site, "new", "last")
+            self.is_closed(lambda: share.text("last", "en"))
 
     def test_a_map_is_let_go(self):
         def maps():
@@ -274,11 +149,11 @@ class Replaced(Files):
         site = mapped(self.path)
         for at in range(100):
             self.replace(greeting(str(at)))
-            self.assertEqual(site.text("greeting", "en"), str(at))
+            self.says(site, str(at))
             self.assertEqual(maps(), 1)
         share = site.share()
         self.replace(greeting("new"))
-        self.assertEqual(site.text("greeting", "en"), "new")
+        self.says(site, "new")
         self.assertEqual(maps(), 2)
         del share
         self.assertEqual(maps(), 1)
@@ -321,22 +196,18 @@ class Held(Files):
     def test_a_site_that_is_closed(self):
         for site in self.ways():
             site.close()
-            asks = lambda: site.text("greeting", "en"), lambda: site.filter("m", "en"), site.share
-            for ask in asks:
-                with self.assertRaisesRegex(ValueError, "^the site is closed$") as it:
-                    ask()
-                self.assertNotIsInstance(it.exception, Refused)
+            ask = lambda: site.text("greeting", "en")
+            self.is_closed(ask, lambda: site.filter("m", "en"), site.share)
             site.close()
-            self.replace(PARIS)
-            with self.assertRaises(ValueError):
-                site.lookup("greeting", "en")
+            self.replace(WRITTEN)
+            self.is_closed(lambda: site.lookup("greeting", "en"))
 
     def test_a_copy_is_a_share(self):
         for site in self.ways(greeting("old")):
             other = copy.copy(site)
             self.assertIsInstance(other, MappedSite)
             self.replace(greeting("new"))
-            self.assertEqual(other.text("greeting", "en"), "old")
+            self.says(other, "old")
 
     def test_what_copies_no_site(self):
         for site in self.ways():
@@ -355,9 +226,9 @@ class Held(Files):
                 texts.append(site.text("greeting", "en"))
                 os._exit(texts != ["old", "new"])
             self.assertEqual(os.waitpid(child, 0)[1], 0)
-            self.assertEqual(site.text("greeting", "en"), "old")
+            self.says(site, "old")
             site._lock.release()
-            self.assertEqual(site.text("greeting", "en"), "new")
+            self.says(site, "new")
 
     def test_a_process_that_ends_with_it(self):
         ran = self.run_python("""
@@ -382,15 +253,13 @@ class Threads(Files):
                     wrong.append(fault)
                     return
 
-        started = [threading.Thread(target=asks) for _ in range(threads)]
-        for it in started:
-            it.start()
-        try:
-            meanwhile()
-        finally:
-            ends.set()
-            for it in started:
-                it.join()
+        def changes():
+            try:
+                meanwhile()
+            finally:
+                ends.set()
+
+        side_by_side(*[asks] * threads, changes)
         return wrong
 
     def test_a_file_that_is_replaced_while_threads_ask(self):
@@ -419,7 +288,7 @@ class Threads(Files):
 
             self.assertEqual(self.ask(8, work, replaces), [])
             self.replace(greeting("300"))
-            self.assertEqual(site.text("greeting", "en"), "300")
+            self.says(site, "300")
 
     def test_a_site_that_is_closed_while_threads_ask(self):
         for _ in range(30):

@@ -7,130 +7,84 @@ import array
 import contextlib
 import copy
 import io
-import json
 import mmap
 import os
 import pickle
 import re
-import subprocess
-import sys
 import tempfile
 import threading
 import unittest
 from unittest import mock
 
 import silkwaram
+from cases import PARIS, ROW, Case, document, run_python, side_by_side, written
 from silkwaram import Choice, Label, Refused, Site, pick
 
 HEADER = os.path.join(os.path.dirname(__file__), "../../../include/silkwaram.h")
-
-
-def document(*cells, **members):
-    """A site document of these cells: id, language, label."""
-    rows = [
-        [name, language, 5, "paris", at, label] for at, (name, language, label) in enumerate(cells)
-    ]
-    return json.dumps(
-        {"cells": rows, "kind": "site", "site": "paris", "version": 2, **members}
-    ).encode()
-
-
-PARIS = document(
-    ("bye", "en", None),
-    ("greeting", "@none", ["*"]),
-    ("greeting", "de", ["Hallo", "Guten Tag"]),
-    ("greeting", "en", ["Hello"]),
-    ("größe", "ja", ["サイズ"]),
-)
-
-
 BUFFERS = (bytes, bytearray, memoryview, lambda text: array.array("B", text))
+TEXT = "must be str or bytes-like, not"
 
 
-class Picks(unittest.TestCase):
-    def test_the_tag_as_it_was_given(self):
-        self.assertEqual(pick("da, en-GB;q=0.8, en;q=0.7", ["FR", "EN"]), "EN")
+class Picks(Case):
+    def test_picks(self):
+        two = ["en", "fr"]
+        for case, field, tags, words, wanted in [
+            ("as it was given", "da, en-GB;q=0.8, en;q=0.7", ["FR", "EN"], {}, "EN"),
+            ("equal without case: the first", "en", ["fr", "En", "en"], {}, "En"),
+            ("nothing", "ja", two, {}, None),
+            ("no tags", "en", [], {}, None),
+            ("the default", "ja", two, {"default": "FR"}, "fr"),
+            ("a default that is refused", "ja, *;q=0", two, {"default": "fr"}, None),
+            ("no header is no preference", None, two, {"default": "fr"}, "fr"),
+            ("no header and no default", None, two, {}, None),
+            ("a header of bytes", b"fr", iter(two), {}, "fr"),
+            ("extended ranges", "de-*-DE", ["de", "de-DE"], {"extended": True}, "de-DE"),
+            ("malformed, passed over", "en_US, fr;q=0.5", two, {"lenient": True}, "fr"),
+        ]:
+            with self.subTest(case):
+                self.assertEqual(pick(field, tags, **words), wanted)
 
-    def test_of_tags_that_are_equal_without_case_the_first(self):
-        self.assertEqual(pick("en", ["fr", "En", "en"]), "En")
-
-    def test_nothing(self):
-        self.assertIsNone(pick("ja", ["en", "fr"]))
-
-    def test_no_tags(self):
-        self.assertIsNone(pick("en", []))
-
-    def test_the_default(self):
-        self.assertEqual(pick("ja", ["en", "fr"], default="FR"), "fr")
-
-    def test_a_default_that_is_refused(self):
-        self.assertIsNone(pick("ja, *;q=0", ["en", "fr"], default="fr"))
-
-    def test_no_header_is_no_preference(self):
-        self.assertEqual(pick(None, ["en", "fr"], default="fr"), "fr")
-        self.assertIsNone(pick(None, ["en", "fr"]))
-
-    def test_a_header_of_bytes(self):
-        self.assertEqual(pick(b"fr", iter(["en", "fr"])), "fr")
-
-    def test_extended_ranges(self):
-        self.assertEqual(pick("de-*-DE", ["de", "de-DE"], extended=True), "de-DE")
-
-    def test_a_malformed_element(self):
-        with self.assertRaises(Refused) as it:
-            pick("fr, en_US", ["en"])
-        self.assertEqual((it.exception.number, it.exception.offset, it.exception.row), (9, 4, None))
+    def test_what_is_refused(self):
+        for case, field, tags, number, offset in [
+            ("a malformed element", "fr, en_US", ["en"], 9, 4),
+            ("a field that is too long", "," * 65536, ["en"], 8, None),
+            ("a line feed in a tag", "en", ["en", "en-\n"], 3, 3),
+            ("half a pair", "\ud800", ["en"], 9, 0),
+        ]:
+            with self.subTest(case):
+                fault = self.refuses(number, pick, field, tags)
+                self.assertEqual((fault.offset, fault.row), (offset, None))
         self.assertEqual(
-            str(it.exception),
+            str(self.refuses(9, pick, "fr, en_US", ["en"])),
             "refused 9: field element at 4"
             " (each element of a field is a range, with or without a weight"
             " (RFC 9110 sections 12.4.2 and 12.5.4))",
         )
 
-    def test_a_malformed_element_that_is_passed_over(self):
-        self.assertEqual(pick("en_US, fr;q=0.5", ["en", "fr"], lenient=True), "fr")
-
-    def test_a_field_that_is_too_long(self):
-        with self.assertRaises(Refused) as it:
-            pick("," * 65536, ["en"])
-        self.assertEqual((it.exception.number, it.exception.offset), (8, None))
-
-    def test_a_line_feed_in_a_tag(self):
-        with self.assertRaises(Refused) as it:
-            pick("en", ["en", "en-\n"])
-        self.assertEqual((it.exception.number, it.exception.offset), (3, 3))
-
-    def test_a_text_with_half_a_pair(self):
-        with self.assertRaises(Refused) as it:
-            pick("\ud800", ["en"])
-        self.assertEqual(it.exception.number, 9)
-
-    def test_one_text_in_place_of_tags(self):
-        for tags in ("en", b"en", bytearray(b"en"), memoryview(b"en")):
-            with self.subTest(tags=tags), self.assertRaisesRegex(TypeError, "^tags must be an it"):
-                pick("en", tags)
-
     def test_buffers(self):
         for kind in BUFFERS:
-            with self.subTest(kind=kind):
-                tag = pick(kind(b"ja, de"), ["en", "de"], default=kind(b"en"))
-                self.assertEqual(tag, "de")
-                self.assertEqual(pick(kind(b"ja"), ["en", "de"], default=kind(b"en")), "en")
+            for field, tag in (b"ja, de", "de"), (b"ja", "en"):
+                with self.subTest(kind=kind, field=field):
+                    got = pick(kind(field), ["en", "de"], default=kind(b"en"))
+                    self.assertEqual(got, tag)
 
     def test_wrong_types(self):
-        generated = (it for it in ["en", None])
-        for ask, message in [
-            (lambda: pick(5, ["en"]), "field must be str or bytes-like, not int"),
-            (lambda: pick(["en"], ["en"]), "field must be str or bytes-like, not list"),
-            (lambda: pick("en", None), "tags must be an iterable of str, not NoneType"),
-            (lambda: pick("en", 5), "tags must be an iterable of str, not int"),
-            (lambda: pick("en", [b"en"]), "tags[0] must be str, not bytes"),
-            (lambda: pick("en", generated), "tags[1] must be str, not NoneType"),
-            (lambda: pick("en", ["en"], default=1), "default must be str or bytes-like, not int"),
-        ]:
-            with self.subTest(message=message), self.assertRaises(TypeError) as it:
-                ask()
-            self.assertEqual(str(it.exception), message)
+        generated, tags = (it for it in ["en", None]), "tags must be an iterable of str, not"
+        self.wrong_types(
+            [
+                (lambda: pick(5, ["en"]), f"field {TEXT} int"),
+                (lambda: pick(["en"], ["en"]), f"field {TEXT} list"),
+                (lambda: pick("en", None), f"{tags} NoneType"),
+                (lambda: pick("en", 5), f"{tags} int"),
+                (lambda: pick("en", "en"), f"{tags} str"),
+                (lambda: pick("en", b"en"), f"{tags} bytes"),
+                (lambda: pick("en", bytearray(b"en")), f"{tags} bytearray"),
+                (lambda: pick("en", memoryview(b"en")), f"{tags} memoryview"),
+                (lambda: pick("en", [b"en"]), "tags[0] must be str, not bytes"),
+                (lambda: pick("en", generated), "tags[1] must be str, not NoneType"),
+                (lambda: pick("en", ["en"], default=1), f"default {TEXT} int"),
+            ]
+        )
 
     def test_a_fault_of_what_gives_the_tags(self):
         def tags():
@@ -141,105 +95,146 @@ class Picks(unittest.TestCase):
             pick("en", tags())
 
 
-class Questions(unittest.TestCase):
-    def setUp(self):
-        self.site = Site.open(PARIS)
-        self.addCleanup(self.site.close)
+class Questions(Case):
+    """What readers ask of a site that is open; test_mapped asks it of files where they lie."""
 
-    def test_places_that_no_label_has(self):
-        for place in (2, 63, 64, 2**31, 2**32, 2**63, 2**64 - 1, 2**64, 2**64 + 1, 2**65, 10**30):
-            with self.subTest(place=place):
-                self.assertIsNone(self.site.text("greeting", "de", place=place))
-        for place in (-1, -(2**64), -(2**64) + 1):
-            with self.subTest(place=place), self.assertRaisesRegex(ValueError, "counts from 0"):
-                self.site.text("greeting", "de", place=place)
-        with self.assertRaises(Refused) as it:
-            self.site.text("@m", "de", place=2**64)
-        self.assertEqual(it.exception.number, 10)
+    def ways(self, content=PARIS):
+        """Gives the site of a document, in each way to have it."""
+        with Site.open(content) as site:
+            yield site
 
-    def test_places_by_index(self):
+    def test_lookup(self):
+        german = Label("de", ["Hallo", "Guten Tag"], False)
+        for site in self.ways():
+            for id, field, default, wanted in [
+                ("greeting", "de-CH, en;q=0.5", None, german),
+                ("greeting", "ja", "@none", Label("@none", ["*"], True)),
+                *((id, "ja", None, None) for id in ("greeting", "bye", "nowhere", "a", "z")),
+                ("greeting", "fr, *;q=0", "en", None),
+                ("bye", "en", None, None),
+                ("nowhere", "en", "en", None),
+            ]:
+                with self.subTest(id=id, field=field, default=default):
+                    self.assertEqual(site.lookup(id, field, default=default), wanted)
+
+    def test_text(self):
+        quoted = 'quote "],["'
+        places = 2, 63, 64, 2**31, 2**32, 2**63, 2**64 - 1, 2**64, 2**64 + 1, 2**65, 10**30
+
         class One:
             def __index__(self):
                 return 1
 
-        for place in (1, True, One()):
-            self.assertEqual(self.site.text("greeting", "de", place=place), "Guten Tag")
+        for site in self.ways():
+            for id, field, words, wanted in [
+                ("greeting", "de", {}, "Hallo"),
+                *(("greeting", "de", {"place": it}, "Guten Tag") for it in (1, True, One())),
+                *(("greeting", "de", {"place": it}, None) for it in places),
+                ("größe", b"ja", {}, ROW),
+                (quoted, "en", {"widen": True}, "a\nb"),
+                (quoted, "en", {}, None),
+                ("greeting", None, {"default": "en"}, "Hello"),
+                ("greeting", "e n, en", {"lenient": True}, "Hello"),
+                ("greeting", "de-*-DE, en", {"extended": True}, "Hallo"),
+            ]:
+                with self.subTest(id=id, field=field, words=words):
+                    self.assertEqual(site.text(id, field, **words), wanted)
+            for place in (-1, -(2**64), -(2**64) + 1):
+                with self.assertRaisesRegex(ValueError, "^place counts from 0$"):
+                    site.text("greeting", "de", place=place)
 
-    def test_buffers(self):
-        for kind in BUFFERS:
-            with self.subTest(kind=kind):
-                name, field = kind("größe".encode()), kind(b"ja")
-                self.assertEqual(self.site.text(name, field), "サイズ")
-                self.assertEqual(self.site.lookup(name, field), Label("ja", ["サイズ"], False))
-                self.assertEqual(self.site.filter(name, field), [Choice("ja", 1000, ["サイズ"])])
-                self.assertEqual(self.site.bundle(field), {"größe": {"ja": "サイズ"}})
-                self.assertEqual(self.site.text(b"greeting", "fr", default=kind(b"en")), "Hello")
-
-    def test_wrong_types(self):
-        site, wanted = self.site, "must be str or bytes-like, not"
-        for ask, message in [
-            (lambda: site.text(None, "en"), f"id {wanted} NoneType"),
-            (lambda: site.text("m", 5), f"field {wanted} int"),
-            (lambda: site.text("m", "en", default=5), f"default {wanted} int"),
-            (lambda: site.text("m", "en", place=1.5), "place must be int, not float"),
-            (lambda: site.text("m", "en", place="0"), "place must be int, not str"),
-            (lambda: site.text("m", "en", place=None), "place must be int, not NoneType"),
-            (lambda: site.lookup(5, "en"), f"id {wanted} int"),
-            (lambda: site.lookup("m", ["en"]), f"field {wanted} list"),
-            (lambda: site.filter(["m"], "en"), f"id {wanted} list"),
-            (lambda: site.filter("m", {}), f"field {wanted} dict"),
-            (lambda: site.bundle(5), f"field {wanted} int"),
-            (lambda: site.bundle("en", default=("en",)), f"default {wanted} tuple"),
-            (lambda: site.reload(None), f"document {wanted} NoneType"),
-            (lambda: Site.open(io.BytesIO(PARIS)), f"document {wanted} BytesIO"),
-        ]:
-            with self.subTest(message=message), self.assertRaises(TypeError) as it:
-                ask()
-            self.assertEqual(str(it.exception), message)
-        self.assertEqual(site.text("greeting", "en"), "Hello")
-
-    def test_lookup(self):
-        self.assertEqual(
-            self.site.lookup("greeting", "de-CH, en;q=0.5"),
-            Label("de", ["Hallo", "Guten Tag"], False),
-        )
-        self.assertEqual(
-            self.site.lookup("greeting", "ja", default="@none"), Label("@none", ["*"], True)
-        )
-        self.assertIsNone(self.site.lookup("greeting", "ja"))
-        self.assertIsNone(self.site.lookup("bye", "en"))
-        self.assertIsNone(self.site.lookup("nowhere", "en", default="en"))
-
-    def test_text(self):
-        self.assertEqual(self.site.text("greeting", "de"), "Hallo")
-        self.assertEqual(self.site.text("greeting", "de", place=1), "Guten Tag")
-        self.assertIsNone(self.site.text("greeting", "de", place=2))
-        self.assertEqual(self.site.text("größe", "ja"), "サイズ")
-        self.assertEqual(self.site.text("greeting", None, default="en"), "Hello")
-        with self.assertRaises(ValueError):
-            self.site.text("greeting", "de", place=-1)
+    def test_texts(self):
+        for site in self.ways():
+            self.assertEqual(site.texts("greeting", "de"), ["Hallo", "Guten Tag"])
+            self.assertEqual(site.texts("greeting", None, default="en"), ["Hello"])
+            self.assertIsNone(site.texts("bye", "en"))
 
     def test_filter(self):
-        self.assertEqual(
-            self.site.filter("greeting", "en;q=0.5, de"),
-            [Choice("de", 1000, ["Hallo", "Guten Tag"]), Choice("en", 500, ["Hello"])],
-        )
-        self.assertEqual(self.site.filter("greeting", "ja"), [])
+        for site in self.ways():
+            self.assertEqual(
+                site.filter("greeting", "en;q=0.5, de"),
+                [Choice("de", 1000, ["Hallo", "Guten Tag"]), Choice("en", 500, ["Hello"])],
+            )
+            self.assertEqual(site.filter("greeting", "ja"), [])
+            self.assertEqual(site.filter("bye", "*"), [])
 
-    def test_bundle(self):
-        self.assertEqual(
-            self.site.bundle("ja, de;q=0.5"),
-            {"greeting": {"de": ["Hallo", "Guten Tag"]}, "größe": {"ja": "サイズ"}},
-        )
-        self.assertEqual(self.site.bundle("fr"), {})
-        self.assertEqual(self.site.bundle("fr", default="en"), {"greeting": {"en": "Hello"}})
+    def test_buffers(self):
+        for site in self.ways():
+            for kind in BUFFERS:
+                with self.subTest(kind=kind):
+                    id, field = kind("größe".encode()), kind(b"ja")
+                    self.assertEqual(site.text(id, field), ROW)
+                    self.assertEqual(site.lookup(id, field), Label("ja", [ROW], False))
+                    self.assertEqual(site.filter(id, field), [Choice("ja", 1000, [ROW])])
+                    self.assertEqual(site.text(b"greeting", "fr", default=kind(b"en")), "Hello")
 
     def test_an_answer_that_is_longer_than_the_first_room(self):
         text = "a" * 65535
-        site = Site.open(document(("m", "en", [text] * 3)))
-        self.assertEqual(site.text("m", "en", place=2), text)
-        self.assertEqual(site.lookup("m", "en"), Label("en", [text] * 3, False))
-        site.close()
+        for site in self.ways(written(("m", "en", [text] * 3))):
+            self.assertEqual(site.text("m", "en", place=2), text)
+            self.assertEqual(site.lookup("m", "en"), Label("en", [text] * 3, False))
+
+    def test_what_is_refused(self):
+        for site in self.ways():
+            for id in (b"\xff", b"greet\xe9", "\ud800", "", "@m", "m\0", "m" * 129):
+                for ask in (site.lookup, site.text, site.texts, site.filter):
+                    self.refuses(10, ask, id, "e n")
+            self.refuses(10, site.text, "@m", "de", place=2**64)
+            fault = self.refuses(3, site.text, "greeting", "e n", default="en-")
+            self.assertEqual((fault.offset, fault.row), (3, None))
+            self.assertEqual(self.refuses(9, site.filter, "greeting", "fr, en_US").offset, 4)
+            self.refuses(8, site.lookup, "greeting", "," * 65536)
+
+    def test_wrong_types(self):
+        for site in self.ways():
+            self.wrong_types(
+                [
+                    (lambda: site.text(None, "en"), f"id {TEXT} NoneType"),
+                    (lambda: site.text("m", 5), f"field {TEXT} int"),
+                    (lambda: site.text("m", "en", default=5), f"default {TEXT} int"),
+                    (lambda: site.text("m", "en", place=1.5), "place must be int, not float"),
+                    (lambda: site.text("m", "en", place="1"), "place must be int, not str"),
+                    (lambda: site.text("m", "en", place=None), "place must be int, not NoneType"),
+                    (lambda: site.texts("m", "en", default=5), f"default {TEXT} int"),
+                    (lambda: site.lookup(None, "en"), f"id {TEXT} NoneType"),
+                    (lambda: site.lookup(5, "en"), f"id {TEXT} int"),
+                    (lambda: site.lookup("m", ["en"]), f"field {TEXT} list"),
+                    (lambda: site.filter(["m"], "en"), f"id {TEXT} list"),
+                    (lambda: site.filter("m", {}), f"field {TEXT} dict"),
+                ]
+            )
+            self.assertEqual(site.text("greeting", "en"), "Hello")
+
+
+class Sites(Case):
+    """What is asked of open sites alone."""
+
+    def setUp(self):
+        self.site = Site.open(PARIS)
+        self.addCleanup(self.site.close)
+
+    def test_bundle(self):
+        german, row = {"de": ["Hallo", "Guten Tag"]}, {"ja": ROW}
+        for field, default, wanted in [
+            ("ja, de;q=0.5", None, {"greeting": german, "größe": row}),
+            ("fr", None, {}),
+            ("fr", "en", {"greeting": {"en": "Hello"}}),
+            *((kind(b"ja"), None, {"größe": row}) for kind in BUFFERS),
+        ]:
+            with self.subTest(field=field, default=default):
+                self.assertEqual(self.site.bundle(field, default=default), wanted)
+
+    def test_wrong_types(self):
+        site = self.site
+        self.wrong_types(
+            [
+                (lambda: site.bundle(5), f"field {TEXT} int"),
+                (lambda: site.bundle("en", default=("en",)), f"default {TEXT} tuple"),
+                (lambda: site.reload(None), f"document {TEXT} NoneType"),
+                (lambda: Site.open(io.BytesIO(PARIS)), f"document {TEXT} BytesIO"),
+            ]
+        )
+        self.assertEqual(site.text("greeting", "en"), "Hello")
 
 
 class Slow:
@@ -302,14 +297,12 @@ def counting():
         yield counted.held
 
 
-class Handles(unittest.TestCase):
+class Handles(Case):
     def test_a_site_that_is_closed(self):
         with Site.open(PARIS) as site:
             self.assertEqual(site.text("greeting", "en"), "Hello")
-        for ask in (lambda: site.text("greeting", "en"), lambda: site.bundle("en"), site.share):
-            with self.assertRaises(ValueError) as it:
-                ask()
-            self.assertNotIsInstance(it.exception, Refused)
+        ask = lambda: site.text("greeting", "en")
+        self.is_closed(ask, lambda: site.bundle("en"), site.share)
         site.close()
 
     def test_a_share_outlives_its_site(self):
@@ -333,10 +326,9 @@ class Handles(unittest.TestCase):
         ]
         with Site.open(PARIS) as site:
             for text, number, offset, row in cases:
-                with self.subTest(number=number), self.assertRaises(Refused) as it:
-                    site.reload(text)
-                fault = it.exception
-                self.assertEqual((fault.number, fault.offset, fault.row), (number, offset, row))
+                with self.subTest(number=number):
+                    fault = self.refuses(number, site.reload, text)
+                    self.assertEqual((fault.offset, fault.row), (offset, row))
             self.assertEqual(site.text("greeting", "en"), "Hello")
 
     def test_a_copy_is_a_share(self):
@@ -355,12 +347,8 @@ class Handles(unittest.TestCase):
 
     def test_what_copies_no_site(self):
         with Site.open(PARIS) as site:
-            for make in (
-                copy.deepcopy,
-                pickle.dumps,
-                lambda it: pickle.dumps(it, 0),
-                lambda it: copy.deepcopy([it]),
-            ):
+            pickles = lambda it: pickle.dumps(it, 0)
+            for make in (copy.deepcopy, pickle.dumps, pickles, lambda it: copy.deepcopy([it])):
                 with self.assertRaisesRegex(TypeError, r"neither pickled nor copied .* share\(\)"):
                     make(site)
             self.assertEqual(site.text("greeting", "en"), "Hello")
@@ -370,7 +358,7 @@ class Handles(unittest.TestCase):
             with self.subTest(kind=kind), Site.open(kind(PARIS)) as site:
                 self.assertEqual(site.text("greeting", "en"), "Hello")
         with Site.open(PARIS.decode()) as site:
-            self.assertEqual(site.text("größe", "ja"), "サイズ")
+            self.assertEqual(site.text("größe", "ja"), ROW)
 
     def test_a_document_that_is_mapped(self):
         with tempfile.TemporaryFile() as it:
@@ -383,14 +371,13 @@ class Handles(unittest.TestCase):
     def test_a_name_in_place_of_a_document(self):
         hint = "(the document itself is wanted, not its name)"
         for text in ("site.json", "/srv/größe.json"):
-            with self.subTest(text=text), self.assertRaises(Refused) as it:
-                Site.open(text)
-            self.assertEqual(it.exception.number, 19)
-            self.assertEqual(str(it.exception), f"refused 19: not JSON {hint}")
+            with self.subTest(text=text):
+                fault = self.refuses(19, Site.open, text)
+                self.assertEqual(str(fault), f"refused 19: not JSON {hint}")
         for text in ("", '{"cells":', b"site.json", "x" * 1000):
-            with self.subTest(text=text), self.assertRaises(Refused) as it:
-                Site.open(text)
-            self.assertTrue(str(it.exception).startswith("refused 19: not JSON (a document is one"))
+            with self.subTest(text=text):
+                said = str(self.refuses(19, Site.open, text))
+                self.assertTrue(said.startswith("refused 19: not JSON (a document is one"))
 
     def test_questions_do_not_wait_for_a_document_that_is_read(self):
         site, answers = Site.open(PARIS), []
@@ -466,26 +453,19 @@ except TypeError:
     pass
 kept = Site.open('{"cells":[],"kind":"site","site":"paris","version":2}')
 """
-        ran = subprocess.run(
-            [sys.executable, "-X", "dev", "-c", program], capture_output=True, text=True
-        )
+        ran = run_python(program)
         self.assertEqual((ran.returncode, ran.stderr), (0, ""))
 
     def test_threads_that_use_one_site_and_shares_of_it(self):
         wrong = []
 
-        def ask(site):
-            for _ in range(2000):
-                if site.text("greeting", "en") != "Hello":
-                    wrong.append(site)
+        def asks(site):
+            return lambda: wrong.extend(
+                site for _ in range(2000) if site.text("greeting", "en") != "Hello"
+            )
 
         with Site.open(PARIS) as site:
-            sites = [site, site, site.share(), site.share()]
-            threads = [threading.Thread(target=ask, args=[it]) for it in sites]
-            for it in threads:
-                it.start()
-            for it in threads:
-                it.join()
+            side_by_side(*map(asks, [site, site, site.share(), site.share()]))
         self.assertEqual(wrong, [])
 
 
@@ -512,12 +492,7 @@ class Libraries(unittest.TestCase):
             ("/nowhere/libsilkwaram.so", "/nowhere/libsilkwaram.so cannot be loaded"),
         ]:
             program = "try:\n    import silkwaram\nexcept ImportError as fault:\n    print(fault)"
-            ran = subprocess.run(
-                [sys.executable, "-c", program],
-                env={**os.environ, "SILKWARAM_LIBRARY": path},
-                capture_output=True,
-                text=True,
-            )
+            ran = run_python(program, SILKWARAM_LIBRARY=path)
             with self.subTest(path=path):
                 self.assertIn(message, ran.stdout)
                 self.assertEqual((ran.returncode, ran.stderr), (0, ""))
@@ -527,27 +502,23 @@ class Faults(unittest.TestCase):
     def test_what_a_refusal_says(self):
         subtag = "(each subtag is 1 to 8 letters or digits, with a hyphen between two)"
         clash = "two different edits of a message in a language have two stamps"
+        long, version = "each text of a label has at most 65535 bytes", "is 1 or 2"
         for fault, line in [
-            (Refused(3, 2), f"refused 3: subtag at 2 {subtag}"),
-            (Refused(3, 2, 0), f"refused 3: subtag at 2 in row 0 {subtag}"),
-            (
-                Refused(11, None, 7, count=1),
-                "refused 11: text 1 is over 65535 bytes in row 7"
-                " (each text of a label has at most 65535 bytes)",
-            ),
+            (Refused(3, 2), f"3: subtag at 2 {subtag}"),
+            (Refused(3, 2, 0), f"3: subtag at 2 in row 0 {subtag}"),
+            (Refused(11, None, 7, count=1), f"11: text 1 is over 65535 bytes in row 7 ({long})"),
             (
                 Refused(13, count=5),
-                f"refused 13: one stamp is used for two different edits, cell 5 ({clash})",
+                f"13: one stamp is used for two different edits, cell 5 ({clash})",
             ),
             (
                 Refused(28, of_second=True),
-                "refused 28: version unknown of the second document"
-                " (the version of a document is 1 or 2)",
+                f"28: version unknown of the second document (the version of a document {version})",
             ),
-            (Refused(99), "refused 99: unknown"),
+            (Refused(99), "99: unknown"),
         ]:
             with self.subTest(line=line):
-                self.assertEqual(str(fault), line)
+                self.assertEqual(str(fault), f"refused {line}")
 
     def test_a_refusal_that_is_pickled(self):
         for fault in (

@@ -4,11 +4,8 @@
         python3 -m unittest discover -s bindings/python/tests
 """
 import asyncio
-import json
 import os
-import subprocess
 import sys
-import tempfile
 import threading
 import time
 import unittest
@@ -16,11 +13,14 @@ from unittest import mock
 from wsgiref.util import setup_testing_defaults
 from wsgiref.validate import validator
 
+import cases
+from cases import FileCase, run_python, side_by_side
 from silkwaram import Refused, Site, _site_file
 from silkwaram._site_file import SiteFile
 from silkwaram.web import LABEL, LANGUAGE, ASGILanguageMiddleware, WSGILanguageMiddleware
 
 TAGS = ["en", "fr", "zh-CN"]
+OF_TAGS = {"tags": TAGS, "default": "en"}
 # What a reader sends, in header lines; the language, and that without `lenient`.
 READERS = [
     ([], "en", "en"),
@@ -71,13 +71,15 @@ FIELD = "fr, en;q=0.5"
 
 
 def document(greeting):
-    cells = [
-        ["greeting", "@none", 5, "paris", 0, ["*"]],
-        ["greeting", "en", 5, "paris", 1, [greeting]],
-        ["greeting", "fr", 5, "paris", 2, ["Bonjour"]],
-        ["title", "en", 5, "paris", 3, ["Paper"]],
-    ]
-    return json.dumps({"cells": cells, "kind": "site", "site": "paris", "version": 2}).encode()
+    texts = [("@none", "*"), ("en", greeting), ("fr", "Bonjour")]
+    cells = [("greeting", lang, [text]) for lang, text in texts]
+    return cases.document(*cells, ("title", "en", ["Paper"]))
+
+
+def first_text(given):
+    """What an application answers that has the labels of a site."""
+    label = given[LABEL]("greeting")
+    return str(label and label.texts[0])
 
 
 def values(headers, name):
@@ -161,7 +163,7 @@ class Both(unittest.TestCase):
             for lines, *wanted in READERS:
                 for lenient, language in zip((True, False), wanted):
                     with self.subTest(name=name, lines=str(lines)[:60], lenient=lenient):
-                        asked = middleware(app(), tags=TAGS, default="en", lenient=lenient)
+                        asked = middleware(app(), **OF_TAGS, lenient=lenient)
                         status, headers, body = ask(asked, lines)
                         said = [] if language is None else [language]
                         self.assertEqual((status, body.decode()), (200, str(language)))
@@ -169,14 +171,10 @@ class Both(unittest.TestCase):
                         self.assertEqual(values(headers, "vary"), ["Accept-Language"])
 
     def test_strict_readers(self):
-        def first_text(given):
-            label = given[LABEL]("greeting")
-            return str(label and label.texts[0])
-
         texts = {None: "None", "en": "Hello", "fr": "Bonjour"}
         with Site.open(document("Hello")) as site:
             for name, middleware, app, ask in WAYS:
-                of_tags = middleware(app(), tags=TAGS, default="en", strict=True)
+                of_tags = middleware(app(), **OF_TAGS, strict=True)
                 words = {"site": site, "message": "greeting", "default": "en"}
                 of_site = middleware(app(text=first_text), **words, strict=True)
                 by_default = middleware(app(text=first_text), **words)
@@ -192,13 +190,8 @@ class Both(unittest.TestCase):
                         self.assertEqual(values(headers, "content-language"), [language or "en"])
 
     def test_widened_readers(self):
-        def first_text(given):
-            return given[LABEL]("greeting").texts[0]
-
-        cells = [["greeting", "en", 5, "paris", 0, ["Hello"]]]
-        cells.append(["greeting", "pt-br", 5, "paris", 1, ["Oi"]])
-        held = {"cells": cells, "kind": "site", "site": "paris", "version": 2}
-        with Site.open(json.dumps(held)) as site:
+        held = cases.document(("greeting", "en", ["Hello"]), ("greeting", "pt-br", ["Oi"]))
+        with Site.open(held) as site:
             for name, middleware, app, ask in WAYS:
                 for widen, tag, text in (False, "en", "Hello"), (True, "pt-BR", "Oi"):
                     with self.subTest(name=name, widen=widen):
@@ -210,7 +203,7 @@ class Both(unittest.TestCase):
 
     def test_a_text_that_is_no_header(self):
         for name, middleware, app, ask in WAYS[:1]:
-            asked = middleware(app(), tags=TAGS, default="en")
+            asked = middleware(app(), **OF_TAGS)
             body = asked({"HTTP_ACCEPT_LANGUAGE": "\u65e5\u672c, fr"}, lambda *_: None)
             self.assertEqual(body, [b"fr"])
 
@@ -225,9 +218,7 @@ class Both(unittest.TestCase):
         for name, middleware, app, ask in WAYS:
             for given, wanted in VARIES:
                 with self.subTest(name=name, given=given):
-                    asked = middleware(
-                        app(headers=[("Vary", it) for it in given]), tags=TAGS, default="en"
-                    )
+                    asked = middleware(app(headers=[("Vary", it) for it in given]), **OF_TAGS)
                     self.assertEqual(values(ask(asked)[1], "vary"), wanted)
 
     def test_content_language(self):
@@ -236,11 +227,8 @@ class Both(unittest.TestCase):
                 with self.subTest(name=name, status=status, given=given):
                     if status in (204, 304) and middleware is WSGILanguageMiddleware:
                         continue  # (below: PEP 3333's validator wants no body there)
-                    asked = middleware(
-                        app(status, [("Content-Language", it) for it in given]),
-                        tags=TAGS,
-                        default="en",
-                    )
+                    lines = [("Content-Language", it) for it in given]
+                    asked = middleware(app(status, lines), **OF_TAGS)
                     got, headers, _ = ask(asked, [FIELD])
                     self.assertEqual(got, status)
                     self.assertEqual(values(headers, "content-language"), wanted)
@@ -250,7 +238,7 @@ class Both(unittest.TestCase):
         given = [("Set-Cookie", "a=1"), ("X-Name", "\xe9"), ("Set-Cookie", "b=2")]
         for name, middleware, app, ask in WAYS:
             with self.subTest(name=name):
-                _, headers, _ = ask(middleware(app(headers=given), tags=TAGS, default="en"))
+                _, headers, _ = ask(middleware(app(headers=given), **OF_TAGS))
                 self.assertEqual(values(headers, "set-cookie"), ["a=1", "b=2"])
                 self.assertEqual(values(headers, "x-name"), ["\xe9"])
 
@@ -274,14 +262,12 @@ class Both(unittest.TestCase):
                         self.assertEqual(values(headers, "content-language"), [language])
 
     def test_a_field_that_is_refused_where_no_message_is_named(self):
-        def text(given):
-            return given[LABEL]("greeting").texts[0]
-
         with Site.open(document("Hello")) as site:
             for name, middleware, app, ask in WAYS:
                 for lenient, line in [(True, "fr" + "," * 65536), (False, "en_US, fr")]:
                     with self.subTest(name=name, lenient=lenient):
-                        asked = middleware(app(text=text), site=site, default="en", lenient=lenient)
+                        words = {"site": site, "default": "en", "lenient": lenient}
+                        asked = middleware(app(text=first_text), **words)
                         self.assertEqual(ask(asked, [line])[2], b"Hello")
 
     def test_a_site_without_a_language(self):
@@ -324,13 +310,11 @@ class Both(unittest.TestCase):
                     if len(body) != 20 or len(set(body)) != 1:
                         wrong.append(body)
 
-            threads = [threading.Thread(target=requests) for _ in range(3)]
-            for it in threads:
-                it.start()
-            for state in range(50):
-                site.reload(document(str(state)))
-            for it in threads:
-                it.join()
+            def reloads():
+                for state in range(50):
+                    site.reload(document(str(state)))
+
+            side_by_side(*[requests] * 3, reloads)
             with self.subTest(name=name):
                 self.assertEqual(wrong, [])
             site.close()
@@ -380,7 +364,7 @@ class OfWSGI(unittest.TestCase):
             made.append(Iterable(start_response))
             return made[0]
 
-        _, headers, body = ask_wsgi(WSGILanguageMiddleware(app, tags=TAGS, default="en"))
+        _, headers, body = ask_wsgi(WSGILanguageMiddleware(app, **OF_TAGS))
         self.assertEqual((body, made[0].closed), (b"ab", 1))
         self.assertEqual(values(headers, "content-language"), ["en"])
 
@@ -389,7 +373,7 @@ class OfWSGI(unittest.TestCase):
             raise KeyError("of the application")
 
         with self.assertRaisesRegex(KeyError, "of the application"):
-            ask_wsgi(WSGILanguageMiddleware(app, tags=TAGS, default="en"))
+            ask_wsgi(WSGILanguageMiddleware(app, **OF_TAGS))
 
     def test_a_fault_that_the_application_answers(self):
         passed = []
@@ -402,7 +386,7 @@ class OfWSGI(unittest.TestCase):
                 start_response("500 Fault", [("Content-Type", "text/plain")], passed[0])
             return [b"fault"]
 
-        asked, got = WSGILanguageMiddleware(app, tags=TAGS, default="en"), []
+        asked, got = WSGILanguageMiddleware(app, **OF_TAGS), []
         asked({}, lambda status, headers, exc_info: got.append((status, exc_info)))
         self.assertEqual(got, [("500 Fault", passed[0])])
 
@@ -412,7 +396,7 @@ class OfWSGI(unittest.TestCase):
             return [b"b"]
 
         written = []
-        asked = WSGILanguageMiddleware(app, tags=TAGS, default="en")
+        asked = WSGILanguageMiddleware(app, **OF_TAGS)
         self.assertEqual(asked({}, lambda status, headers: written.append), [b"b"])
         self.assertEqual(written, [b"a"])
 
@@ -421,7 +405,7 @@ class OfWSGI(unittest.TestCase):
             start_response("200 OK", [("Content-Type", "text/plain")])
             return []
 
-        asked = WSGILanguageMiddleware(app, tags=TAGS, default="en")
+        asked = WSGILanguageMiddleware(app, **OF_TAGS)
         _, headers, body = ask_wsgi(asked, [FIELD], REQUEST_METHOD="HEAD")
         self.assertEqual((values(headers, "content-language"), body), (["fr"], b""))
 
@@ -430,7 +414,7 @@ class OfWSGI(unittest.TestCase):
             start_response(environ["wanted"], [])
             return []
 
-        asked = WSGILanguageMiddleware(app, tags=TAGS, default="en")
+        asked = WSGILanguageMiddleware(app, **OF_TAGS)
         for status in ("204 No Content", "304 Not Modified"):
             with self.subTest(status=status):
                 _, headers, _ = ask_wsgi(asked, [FIELD], wanted=status)
@@ -445,7 +429,7 @@ class OfASGI(unittest.TestCase):
             passed.append(given)
 
         given = {"type": "lifespan"}, object(), object()
-        asyncio.run(ASGILanguageMiddleware(app, tags=TAGS, default="en")(*given))
+        asyncio.run(ASGILanguageMiddleware(app, **OF_TAGS)(*given))
         self.assertEqual(len(passed), 1)
         for it, wanted in zip(passed[0], given):
             self.assertIs(it, wanted)
@@ -462,7 +446,7 @@ class OfASGI(unittest.TestCase):
         async def send(event):
             sent.append(event)
 
-        asked, sent = ASGILanguageMiddleware(app, tags=TAGS, default="en"), []
+        asked, sent = ASGILanguageMiddleware(app, **OF_TAGS), []
         scope = {"type": "websocket", "headers": [(b"accept-language", b"fr")]}
         asyncio.run(asked(scope, None, send))
         self.assertEqual((told, sent), (["fr"], events))
@@ -477,7 +461,7 @@ class OfASGI(unittest.TestCase):
             await send({"type": "http.response.body", "body": b"a", "more_body": True})
             await send({"type": "http.response.body", "body": b"b"})
 
-        _, headers, body = ask_asgi(ASGILanguageMiddleware(app, tags=TAGS, default="en"), [FIELD])
+        _, headers, body = ask_asgi(ASGILanguageMiddleware(app, **OF_TAGS), [FIELD])
         self.assertEqual(headers, [("vary", "Accept-Language"), ("content-language", "fr")])
         self.assertEqual(body, b"ab")
 
@@ -486,7 +470,7 @@ class OfASGI(unittest.TestCase):
             raise KeyError("of the application")
 
         with self.assertRaisesRegex(KeyError, "of the application"):
-            ask_asgi(ASGILanguageMiddleware(app, tags=TAGS, default="en"))
+            ask_asgi(ASGILanguageMiddleware(app, **OF_TAGS))
 
 
 def waits_for(is_so, seconds=20):
@@ -499,38 +483,24 @@ def waits_for(is_so, seconds=20):
     return True
 
 
-class Files(unittest.TestCase):
+class Files(FileCase):
     """A site whose file is replaced while it is asked."""
 
+    first = document("old")
+
     def setUp(self):
-        folder = tempfile.TemporaryDirectory()
-        self.addCleanup(folder.cleanup)
-        self.path = os.path.join(folder.name, "site.json")
-        self.replace(document("old"))
+        super().setUp()
         often = mock.patch.object(_site_file, "LOOK_EVERY", 0.02)
         often.start()
         self.addCleanup(often.stop)
 
-    def write(self, content):
-        with open(self.path, "wb") as file:
-            file.write(content)
-
-    def replace(self, content):
-        with open(self.path + ".next", "wb") as file:
-            file.write(content)
-        os.replace(self.path + ".next", self.path)
-
-    def replace_by_link(self, target):
-        os.symlink(target, self.path + ".next")
-        os.replace(self.path + ".next", self.path)
-
     def text(self, file):
         return file.share().text("greeting", "en")
 
-    def test_the_middleware(self):
-        def first_text(given):
-            return given[LABEL]("greeting").texts[0]
+    def becomes(self, file, text):
+        self.assertTrue(waits_for(lambda: self.text(file) == text), text)
 
+    def test_the_middleware(self):
         for name, middleware, app, ask in WAYS:
             self.replace(document("old"))
             asked = middleware(app(text=first_text), path=self.path, default="en")
@@ -543,20 +513,20 @@ class Files(unittest.TestCase):
         file = SiteFile(self.path)
         for state, change in enumerate([self.replace, self.write, self.replace]):
             change(document(f"state {state}"))
-            self.assertTrue(waits_for(lambda: self.text(file) == f"state {state}"), change)
+            self.becomes(file, f"state {state}")
 
     def test_a_file_of_the_same_size_and_time(self):
         file = SiteFile(self.path)
         held = os.stat(self.path)
         self.write(document("new"))
         os.utime(self.path, ns=(held.st_atime_ns, held.st_mtime_ns))
-        self.assertTrue(waits_for(lambda: self.text(file) == "new"))
+        self.becomes(file, "new")
 
     def test_a_file_that_is_older(self):
         file = SiteFile(self.path)
         self.replace(document("new"))
         os.utime(self.path, (1, 1))
-        self.assertTrue(waits_for(lambda: self.text(file) == "new"))
+        self.becomes(file, "new")
 
     def test_what_is_no_site_leaves_the_state_and_is_tried_again(self):
         file = SiteFile(self.path)
@@ -580,7 +550,7 @@ class Files(unittest.TestCase):
             self.assertEqual(len(logged.records), 1, logged.output)
             self.assertIn(self.path, logged.output[0])
         self.replace(document("new"))
-        self.assertTrue(waits_for(lambda: self.text(file) == "new"))
+        self.becomes(file, "new")
         with self.assertLogs("silkwaram", "WARNING"):
             os.unlink(self.path)
             self.assertTrue(waits_for(lambda: self.text(file) == "new" and file._fault))
@@ -591,7 +561,7 @@ class Files(unittest.TestCase):
         with mock.patch.object(_site_file, "Site", mock.Mock(open=opens)):
             self.replace(document("new"))
             with self.assertLogs("silkwaram", "WARNING"):
-                self.assertTrue(waits_for(lambda: self.text(file) == "new"))
+                self.becomes(file, "new")
 
     def test_the_first_to_ask_has_the_new_state(self):
         with mock.patch.object(_site_file, "LONGEST_WAIT", 20):
@@ -613,7 +583,7 @@ class Files(unittest.TestCase):
             self.assertLess(time.monotonic() - began, 5)
             self.assertEqual(opens.call_count, 1)
             goes_on.set()
-            self.assertTrue(waits_for(lambda: self.text(file) == "new"))
+            self.becomes(file, "new")
 
     def test_it_is_looked_at_once_in_a_while(self):
         with mock.patch.object(_site_file, "LOOK_EVERY", 0.3):
@@ -637,9 +607,9 @@ class Files(unittest.TestCase):
         self.replace(document("new"))
         none = RuntimeError("can't start new thread")
         with mock.patch.object(threading.Thread, "start", side_effect=none):
-            self.assertTrue(waits_for(lambda: self.text(file) == "new"))
+            self.becomes(file, "new")
             self.replace(document("newer"))
-            self.assertTrue(waits_for(lambda: self.text(file) == "newer"))
+            self.becomes(file, "newer")
 
     @unittest.skipUnless(hasattr(os, "fork"), "there is no fork")
     def test_a_child(self):
@@ -661,20 +631,16 @@ class Files(unittest.TestCase):
                 if len(texts) != 1:
                     wrong.append(texts)
 
-        threads = [threading.Thread(target=ask) for _ in range(3)]
-        quiet = mock.patch.object(_site_file, "_log")
-        quiet.start()
-        self.addCleanup(quiet.stop)
-        for it in threads:
-            it.start()
-        for state in range(50):
-            (self.replace if state % 2 else self.write)(document(str(state)))
-            time.sleep(0.01)
-        ends.set()
-        for it in threads:
-            it.join()
-        self.assertEqual(wrong, [])
-        self.assertTrue(waits_for(lambda: self.text(file) == "49"))
+        def changes():
+            for state in range(50):
+                (self.replace if state % 2 else self.write)(document(str(state)))
+                time.sleep(0.01)
+            ends.set()
+
+        with mock.patch.object(_site_file, "_log"):
+            side_by_side(*[ask] * 3, changes)
+            self.assertEqual(wrong, [])
+            self.becomes(file, "49")
 
 
 class Imports(unittest.TestCase):
@@ -683,7 +649,7 @@ class Imports(unittest.TestCase):
             "import sys, silkwaram, silkwaram.web\n"
             "print([it for it in ('django', 'flask', 'starlette', 'asgiref') if it in sys.modules])"
         )
-        ran = subprocess.run([sys.executable, "-c", program], capture_output=True, text=True)
+        ran = run_python(program)
         self.assertEqual((ran.returncode, ran.stdout), (0, "[]\n"))
 
 
