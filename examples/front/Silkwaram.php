@@ -30,66 +30,38 @@ final class Refused extends RuntimeException
 /** The calls of the library, each made with room for its answer. */
 final class SilkwaramCalls
 {
-    // (as silkwaram.h has them; FFI reads no preprocessor's lines)
+    // (as silkwaram.h has them, whose macros FFI does not read; TEXT is a text with its length, OUT an answer)
     private const DECLARED = '
         typedef struct { size_t len, offset, row, count; uint32_t number, given; } sw_told;
         typedef struct { void *held; } sw_site;
         uint32_t sw_version(void);
-        int32_t sw_pick(uint32_t flags, const char *field, size_t field_len, const char *tags,
-                        size_t tags_len, const char *dflt, size_t dflt_len, char *out,
-                        size_t out_len, sw_told *told);
-        int32_t sw_filter(uint32_t flags, const char *field, size_t field_len, const char *tags,
-                        size_t tags_len, char *out, size_t out_len, sw_told *told);
-        int32_t sw_refusal(uint32_t number, char *out, size_t out_len, sw_told *told);
-        int32_t sw_refusal_text(uint32_t number, char *out, size_t out_len, sw_told *told);
-        int32_t sw_site_open(const char *text, size_t text_len, sw_site *site, sw_told *told);
-        int32_t sw_site_new(const char *name, size_t name_len, sw_site *site, sw_told *told);
-        int32_t sw_site_lookup(sw_site *site, uint32_t flags, const char *id, size_t id_len,
-                        const char *field, size_t field_len, const char *dflt, size_t dflt_len,
-                        char *out, size_t out_len, sw_told *told);
-        int32_t sw_site_text(sw_site *site, uint32_t flags, const char *id, size_t id_len,
-                        const char *field, size_t field_len, const char *dflt, size_t dflt_len,
-                        size_t place, char *out, size_t out_len, sw_told *told);
-        int32_t sw_site_filter(sw_site *site, uint32_t flags, const char *id, size_t id_len,
-                        const char *field, size_t field_len, char *out, size_t out_len,
-                        sw_told *told);
-        int32_t sw_text_lookup(const char *text, size_t text_len, uint32_t flags, const char *id,
-                        size_t id_len, const char *field, size_t field_len, const char *dflt,
-                        size_t dflt_len, char *out, size_t out_len, sw_told *told);
-        int32_t sw_text_text(const char *text, size_t text_len, uint32_t flags, const char *id,
-                        size_t id_len, const char *field, size_t field_len, const char *dflt,
-                        size_t dflt_len, size_t place, char *out, size_t out_len, sw_told *told);
-        int32_t sw_text_filter(const char *text, size_t text_len, uint32_t flags, const char *id,
-                        size_t id_len, const char *field, size_t field_len, char *out,
-                        size_t out_len, sw_told *told);
-        int32_t sw_site_bundle(sw_site *site, uint32_t flags, const char *field, size_t field_len,
-                        const char *dflt, size_t dflt_len, char *out, size_t out_len,
-                        sw_told *told);
-        int32_t sw_site_put(sw_site *site, uint64_t now, const char *id, size_t id_len,
-                        const char *lang, size_t lang_len, const char *text, size_t text_len,
-                        sw_told *told);
-        int32_t sw_site_delete(sw_site *site, uint64_t now, const char *id, size_t id_len,
-                        const char *lang, size_t lang_len, sw_told *told);
-        int32_t sw_site_import(sw_site *site, uint64_t now, const char *maps, size_t maps_len,
-                        sw_told *told);
-        int32_t sw_site_update(sw_site *site, uint64_t now, const char *old_maps, size_t old_len,
-                        const char *new_maps, size_t new_len, sw_told *told);
-        int32_t sw_site_take(sw_site *site, const char *delta, size_t delta_len,
-                        uint64_t not_after, sw_told *told);
+        int32_t sw_pick(uint32_t flags, TEXT field, TEXT tags, TEXT dflt, OUT);
+        int32_t sw_filter(uint32_t flags, TEXT field, TEXT tags, OUT);
+        int32_t sw_refusal(uint32_t number, OUT);
+        int32_t sw_refusal_text(uint32_t number, OUT);
+        int32_t sw_site_open(TEXT document, sw_site *site, sw_told *told);
+        int32_t sw_site_new(TEXT name, sw_site *site, sw_told *told);
+        int32_t sw_site_lookup(sw_site *site, uint32_t flags, TEXT id, TEXT field, TEXT dflt, OUT);
+        int32_t sw_site_text(sw_site *site, uint32_t flags, TEXT id, TEXT field, TEXT dflt, size_t place, OUT);
+        int32_t sw_site_filter(sw_site *site, uint32_t flags, TEXT id, TEXT field, OUT);
+        int32_t sw_text_lookup(TEXT document, uint32_t flags, TEXT id, TEXT field, TEXT dflt, OUT);
+        int32_t sw_text_text(TEXT document, uint32_t flags, TEXT id, TEXT field, TEXT dflt, size_t place, OUT);
+        int32_t sw_text_filter(TEXT document, uint32_t flags, TEXT id, TEXT field, OUT);
+        int32_t sw_site_bundle(sw_site *site, uint32_t flags, TEXT field, TEXT dflt, OUT);
+        int32_t sw_site_put(sw_site *site, uint64_t now, TEXT id, TEXT lang, TEXT text, sw_told *told);
+        int32_t sw_site_delete(sw_site *site, uint64_t now, TEXT id, TEXT lang, sw_told *told);
+        int32_t sw_site_import(sw_site *site, uint64_t now, TEXT maps, sw_told *told);
+        int32_t sw_site_update(sw_site *site, uint64_t now, TEXT old_maps, TEXT new_maps, sw_told *told);
+        int32_t sw_site_take(sw_site *site, TEXT delta, uint64_t not_after, sw_told *told);
         int32_t sw_site_merge(sw_site *site, sw_site *other, sw_told *told);
-        int32_t sw_site_write(sw_site *site, char *out, size_t out_len, sw_told *told);
-        int32_t sw_site_export(sw_site *site, char *out, size_t out_len, sw_told *told);
-        int32_t sw_site_summary(sw_site *site, char *out, size_t out_len, sw_told *told);
-        int32_t sw_site_status(sw_site *site, char *out, size_t out_len, sw_told *told);
-        int32_t sw_site_missing(sw_site *site, const char *lang, size_t lang_len, char *out,
-                        size_t out_len, sw_told *told);
-        int32_t sw_site_outdated(sw_site *site, const char *lang, size_t lang_len,
-                        const char *source, size_t source_len, char *out, size_t out_len,
-                        sw_told *told);
-        int32_t sw_site_delta(sw_site *site, const char *summary, size_t summary_len, char *out,
-                        size_t out_len, sw_told *told);
-        int32_t sw_site_changes(sw_site *site, sw_site *other, char *out, size_t out_len,
-                        sw_told *told);
+        int32_t sw_site_write(sw_site *site, OUT);
+        int32_t sw_site_export(sw_site *site, OUT);
+        int32_t sw_site_summary(sw_site *site, OUT);
+        int32_t sw_site_status(sw_site *site, OUT);
+        int32_t sw_site_missing(sw_site *site, TEXT lang, OUT);
+        int32_t sw_site_outdated(sw_site *site, TEXT lang, TEXT source, OUT);
+        int32_t sw_site_delta(sw_site *site, TEXT summary, OUT);
+        int32_t sw_site_changes(sw_site *site, sw_site *other, OUT);
         int32_t sw_site_share(sw_site *site, sw_site *other);
         void sw_site_free(sw_site *site);';
     private const FIRST_ROOM = 1024;
@@ -107,7 +79,9 @@ final class SilkwaramCalls
 
     private function __construct(string $library)
     {
-        $this->calls = FFI::cdef(self::DECLARED, $library);
+        $declared = preg_replace('/\bTEXT (\w+)/', 'const char *$1, size_t $1_len', self::DECLARED);
+        $declared = str_replace('OUT', 'char *out, size_t out_len, sw_told *told', $declared);
+        $this->calls = FFI::cdef($declared, $library);
         $this->told = $this->calls->new('sw_told');
     }
 
