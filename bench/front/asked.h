@@ -2,44 +2,30 @@
 #ifndef ASKED_H
 #define ASKED_H
 
-#include <stdint.h>
-#include <stdio.h>
-#include <stdlib.h>
 #include <string.h>
 #include <sys/resource.h>
-#include <time.h>
 
-enum { ROUNDS = 5, TURNS = 200000, ID_ROOM = 32 };
+#include "measuring.h"
+
+enum { TURNS = 200000, ID_ROOM = 32 };
 
 /* Finds the text of a message, and returns its length; 0 where there is none. */
 typedef size_t question(const char *id, size_t len);
 
-static double now(void) {
-  struct timespec time;
-  clock_gettime(CLOCK_PROCESS_CPUTIME_ID, &time);
-  return (double)time.tv_sec * 1e9 + (double)time.tv_nsec;
-}
+static question *ask;
+static unsigned messages;
 
-static void ask_one(question ask, unsigned message) {
+static void ask_one(unsigned message) {
   char id[ID_ROOM];
   size_t len = (size_t)snprintf(id, sizeof id, "message-%07u", message);
   if (ask(id, len) == 0) exit(1);
 }
 
-/* The nanoseconds of processor time of a question of any message, the least of some rounds. */
-static void measure(question ask, unsigned messages) {
-  double least = 1e18;
-  uint64_t it = 1;
-  for (int round = 0; round < ROUNDS; round++) {
-    double start = now();
-    for (int at = 0; at < TURNS; at++) {
-      it = it * 6364136223846793005u + 1442695040888963407u;
-      ask_one(ask, (unsigned)((it >> 33) % messages));
-    }
-    double took = (now() - start) / TURNS;
-    if (took < least) least = took;
-  }
-  printf("%.0f\n", least);
+/* (always the same messages, at random) */
+static void ask_any(void) {
+  static uint64_t it = 1;
+  it = it * 6364136223846793005u + 1442695040888963407u;
+  ask_one((unsigned)((it >> 33) % messages));
 }
 
 /* The page faults of this process and the most kilobytes that it held. (The kernel counts in ru_maxrss what the process
@@ -57,15 +43,15 @@ static void report(void) {
   printf("%ld %ld\n", used.ru_minflt + used.ru_majflt, most);
 }
 
-/* `each`: measures. `once`: asks one message, and reports. `none`: reports. */
-static int asked(const char *how, const char *messages, question ask) {
-  unsigned count = (unsigned)strtoul(messages, NULL, 10);
-  if (!strcmp(how, "each")) {
-    measure(ask, count);
-    return 0;
-  }
-  if (!strcmp(how, "once")) ask_one(ask, count / 3);
-  report();
+/* `each`: the time of a question of any of so many messages. `once`: asks one message, and reports. `none`: reports. */
+static int asked(const char *how, const char *count, question find) {
+  ask = find;
+  messages = (unsigned)strtoul(count, NULL, 10);
+  if (!strcmp(how, "once")) ask_one(messages / 3);
+  if (!strcmp(how, "each"))
+    printf("%.0f\n", least_of(ask_any, TURNS));
+  else
+    report();
   return 0;
 }
 

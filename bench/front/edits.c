@@ -6,24 +6,16 @@
  * new state of a cell, one of `take` takes a delta of CELLS cells that are new states, one of `write` writes the
  * document, and one of `import` imports a label. The handle is the only one of the site, but for `put-shared`: a turn
  * of it puts, and then shares the handle anew and frees the share of the turn before. */
-#include <inttypes.h>
 #include <silkwaram.h>
-#include <stdio.h>
-#include <stdlib.h>
 #include <string.h>
-#include <time.h>
+
+#include "measuring.h"
 
 enum { MESSAGES = 10000, LANGUAGES = 10, CELLS = 100, ROOM = 100 + 80 * CELLS, ID_ROOM = 32 };
 
 static const char *const LANGS[LANGUAGES] = {"de", "en", "es", "fr", "it", "ja", "nl", "pt", "ru", "zh"};
 
 static sw_site site;
-
-static double now(void) {
-  struct timespec time;
-  clock_gettime(CLOCK_PROCESS_CPUTIME_ID, &time);
-  return (double)time.tv_sec * 1e9 + (double)time.tv_nsec;
-}
 
 static void done(int32_t status) {
   if (status != SW_FOUND) exit(1);
@@ -55,99 +47,72 @@ static size_t delta_of(char *out, unsigned turn) {
   return at + (size_t)snprintf(out + at, ROOM - at, "],\"kind\":\"delta\",\"to\":\"front\",\"version\":2}\n");
 }
 
-/* (all deltas are made before the first is taken) */
-static double take(unsigned turns) {
-  char *deltas = malloc((size_t)turns * ROOM);
-  size_t *lens = malloc(turns * sizeof *lens);
-  if (!deltas || !lens) exit(2);
-  for (unsigned turn = 0; turn < turns; turn++) lens[turn] = delta_of(deltas + (size_t)turn * ROOM, turn);
-  double start = now();
-  for (unsigned turn = 0; turn < turns; turn++) {
-    sw_told told;
-    done(sw_site_take(&site, (const uint8_t *)deltas + (size_t)turn * ROOM, lens[turn], 0, &told));
-  }
-  double took = now() - start;
-  free(deltas);
-  free(lens);
-  return took;
+static char *deltas;
+static size_t *delta_lens;
+
+/* (before the first is taken) */
+static void make_deltas(unsigned turns) {
+  deltas = malloc((size_t)turns * ROOM);
+  delta_lens = malloc(turns * sizeof *delta_lens);
+  if (!deltas || !delta_lens) exit(2);
+  for (unsigned turn = 0; turn < turns; turn++) delta_lens[turn] = delta_of(deltas + (size_t)turn * ROOM, turn);
 }
 
-static double puts_each(unsigned turns) {
-  double start = now();
-  for (unsigned turn = 0; turn < turns; turn++) put(turn);
-  return now() - start;
+static void take(unsigned turn) {
+  sw_told told;
+  done(sw_site_take(&site, (const uint8_t *)deltas + (size_t)turn * ROOM, delta_lens[turn], 0, &told));
 }
 
-/* (the first puts copy the site, and look for its latest stamp) */
-static double puts_shared(unsigned turns) {
-  enum { FIRST = 3 };
-  sw_site reader = {0};
-  double start = 0;
-  for (unsigned turn = 0; turn < FIRST + turns; turn++) {
-    if (turn == FIRST) start = now();
-    put(turn);
-    done(sw_site_share(&site, &reader));
-  }
-  double took = now() - start;
-  sw_site_free(&reader);
-  return took;
+static void put_shared(unsigned turn) {
+  static sw_site reader;
+  put(turn);
+  done(sw_site_share(&site, &reader));
 }
 
-static double imports_each(unsigned turns) {
-  enum { FIRST = 3 };
-  double start = 0;
-  for (unsigned turn = 0; turn < FIRST + turns; turn++) {
-    if (turn == FIRST) start = now();
-    char id[ID_ROOM], maps[ROOM];
-    sw_told told;
-    id_of(id, turn * 6151u);
-    size_t len = (size_t)snprintf(maps, sizeof maps, "{\"%s\":{\"%s\":\"a new text\"}}", id, LANGS[turn % LANGUAGES]);
-    done(sw_site_import(&site, 2 + turn, (const uint8_t *)maps, len, &told));
-  }
-  return now() - start;
+static void import(unsigned turn) {
+  char id[ID_ROOM], maps[ROOM];
+  sw_told told;
+  id_of(id, turn * 6151u);
+  size_t len = (size_t)snprintf(maps, sizeof maps, "{\"%s\":{\"%s\":\"a new text\"}}", id, LANGS[turn % LANGUAGES]);
+  done(sw_site_import(&site, 2 + turn, (const uint8_t *)maps, len, &told));
 }
 
-static double write_each(unsigned turns, size_t room) {
-  uint8_t *out = malloc(room);
-  if (!out) exit(2);
-  double start = now();
-  for (unsigned turn = 0; turn < turns; turn++) {
-    sw_told told;
-    done(sw_site_write(&site, out, room, &told));
-    if (told.len > room) exit(1);
-  }
-  double took = now() - start;
-  free(out);
-  return took;
+static uint8_t *document;
+static size_t document_len;
+
+static void write_document(unsigned turn) {
+  sw_told told;
+  (void)turn;
+  done(sw_site_write(&site, document, document_len, &told));
+  if (told.len > document_len) exit(1);
 }
+
+/* What is measured, and the turns before: the first edits that are made apart copy the site, and look for its latest
+ * stamp. */
+static const struct {
+  const char *name;
+  void (*make)(unsigned turn);
+  unsigned before;
+} EDITS[] = {
+    {"put", put, 0},
+    {"take", take, 0},
+    {"write", write_document, 0},
+    {"put-shared", put_shared, 3},
+    {"import", import, 3},
+};
 
 int main(int count, char **words) {
-  FILE *from = count == 4 ? fopen(words[1], "rb") : NULL;
-  if (!from) return 2;
-  fseek(from, 0, SEEK_END);
-  size_t len = (size_t)ftell(from);
-  rewind(from);
-  uint8_t *text = malloc(len);
-  if (!text || fread(text, 1, len, from) != len) return 2;
-  fclose(from);
+  if (count != 4) return 2;
+  document = file(words[1], &document_len);
   sw_told told;
-  done(sw_site_open(text, len, &site, &told));
-  free(text);
-  unsigned turns = (unsigned)strtoul(words[3], NULL, 10);
-  double took;
-  if (!strcmp(words[2], "put"))
-    took = puts_each(turns);
-  else if (!strcmp(words[2], "take"))
-    took = take(turns);
-  else if (!strcmp(words[2], "write"))
-    took = write_each(turns, len);
-  else if (!strcmp(words[2], "put-shared"))
-    took = puts_shared(turns);
-  else if (!strcmp(words[2], "import"))
-    took = imports_each(turns);
-  else
-    return 2;
-  printf("%.0f\n", took / turns);
-  sw_site_free(&site);
+  done(sw_site_open(document, document_len, &site, &told));
+  unsigned turns = (unsigned)strtoul(words[3], NULL, 10), it = 0, turn = 0;
+  while (strcmp(words[2], EDITS[it].name))
+    if (++it == sizeof EDITS / sizeof *EDITS) return 2;
+  if (EDITS[it].make == take) make_deltas(turns);
+  for (; turn < EDITS[it].before; turn++) EDITS[it].make(turn);
+  double start = now();
+  for (; turn < EDITS[it].before + turns; turn++) EDITS[it].make(turn);
+  printf("%.0f\n", (now() - start) / turns);
   return 0;
 }

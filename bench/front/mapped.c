@@ -6,8 +6,6 @@
 
 #include "asked.h"
 
-#define BYTES(literal) (const uint8_t *)(literal), sizeof(literal) - 1
-
 enum { ROOM = 1 << 16 };
 
 static const uint8_t *document;
