@@ -39,69 +39,32 @@ typedef struct {
 
 typedef void act(trial *);
 
-static void makes(trial *it) { it->status = sw_site_new(BYTES(T("lyon")), &it->site, &it->told); }
+#define ACT(name, ...) \
+  static void name(trial *it) { it->status = __VA_ARGS__; }
+/* Where a call reports that has no answer, and one that has. */
+#define TOLD &it->told
+#define ANSWER it->out, ROOM, TOLD
 
-static void puts_long(trial *it) {
-  it->status = sw_site_put(&it->site, 9, BYTES(T(LONG_ID)), BYTES(T(LONG_TAG)), BYTES(T("some text")),
-                           &it->told);
-}
-
-static void puts_held(trial *it) {
-  it->status = sw_site_put(&it->site, 9, BYTES(T("m")), BYTES(T("en")), BYTES(T("Good day")), &it->told);
-}
-
-static void deletes(trial *it) {
-  it->status = sw_site_delete(&it->site, 9, BYTES(T(LONG_ID)), BYTES(T("en")), &it->told);
-}
-
-static void imports(trial *it) { it->status = sw_site_import(&it->site, 9, BYTES(T(MAPS)), &it->told); }
-
-static void updates(trial *it) {
-  it->status = sw_site_update(&it->site, 9, BYTES(T("{\"m\":{\"en\":[\"Hello\",\"Hi\"]}}")), BYTES(T(MAPS)), &it->told);
-}
-
-static void takes(trial *it) { it->status = sw_site_take(&it->site, BYTES(T(DELTA)), 100, &it->told); }
-
-static void merges(trial *it) { it->status = sw_site_merge(&it->site, &it->other, &it->told); }
-
-static void writes(trial *it) { it->status = sw_site_write(&it->site, it->out, ROOM, &it->told); }
-
-static void exports(trial *it) { it->status = sw_site_export(&it->site, it->out, ROOM, &it->told); }
-
-static void sums_up(trial *it) { it->status = sw_site_summary(&it->site, it->out, ROOM, &it->told); }
-
-static void reports(trial *it) { it->status = sw_site_status(&it->site, it->out, ROOM, &it->told); }
-
-static void misses(trial *it) {
-  it->status = sw_site_missing(&it->site, BYTES(T("fr")), it->out, ROOM, &it->told);
-}
-
-static void dates(trial *it) {
-  it->status = sw_site_outdated(&it->site, BYTES(T(LONG_TAG)), BYTES(T("en")), it->out, ROOM, &it->told);
-}
-
-static void answers_summary(trial *it) {
-  it->status = sw_site_delta(&it->site, BYTES(T(SUMMARY)), it->out, ROOM, &it->told);
-}
-
-static void compares(trial *it) { it->status = sw_site_changes(&it->site, &it->other, it->out, ROOM, &it->told); }
-
-static void filters(trial *it) {
-  it->status = sw_filter(0, BYTES(T("da, " LONG_TAG ";q=0.8")), BYTES(T("da\n" LONG_TAG "-more\n")), it->out, ROOM,
-                         &it->told);
-}
-
-static void picks(trial *it) {
-  it->status = sw_pick(0, BYTES(T("da, " LONG_TAG ";q=0.8")), BYTES(T("en\n" LONG_TAG)), BYTES(T(LONG_TAG)), it->out,
-                       ROOM, &it->told);
-}
-
-static void widens(trial *it) {
-  it->status =
-      sw_pick(SW_WIDEN, BYTES(T("de, zh")), BYTES(T("en\n" LONG_TAG)), BYTES(T("en")), it->out, ROOM, &it->told);
-}
-
-static void opens(trial *it) { it->status = sw_site_open(BYTES(T(OSLO)), &it->site, &it->told); }
+ACT(makes, sw_site_new(BYTES(T("lyon")), &it->site, TOLD))
+ACT(puts_long, sw_site_put(&it->site, 9, BYTES(T(LONG_ID)), BYTES(T(LONG_TAG)), BYTES(T("some text")), TOLD))
+ACT(puts_held, sw_site_put(&it->site, 9, BYTES(T("m")), BYTES(T("en")), BYTES(T("Good day")), TOLD))
+ACT(deletes, sw_site_delete(&it->site, 9, BYTES(T(LONG_ID)), BYTES(T("en")), TOLD))
+ACT(imports, sw_site_import(&it->site, 9, BYTES(T(MAPS)), TOLD))
+ACT(updates, sw_site_update(&it->site, 9, BYTES(T("{\"m\":{\"en\":[\"Hello\",\"Hi\"]}}")), BYTES(T(MAPS)), TOLD))
+ACT(takes, sw_site_take(&it->site, BYTES(T(DELTA)), 100, TOLD))
+ACT(merges, sw_site_merge(&it->site, &it->other, TOLD))
+ACT(writes, sw_site_write(&it->site, ANSWER))
+ACT(exports, sw_site_export(&it->site, ANSWER))
+ACT(sums_up, sw_site_summary(&it->site, ANSWER))
+ACT(reports, sw_site_status(&it->site, ANSWER))
+ACT(misses, sw_site_missing(&it->site, BYTES(T("fr")), ANSWER))
+ACT(dates, sw_site_outdated(&it->site, BYTES(T(LONG_TAG)), BYTES(T("en")), ANSWER))
+ACT(answers_summary, sw_site_delta(&it->site, BYTES(T(SUMMARY)), ANSWER))
+ACT(compares, sw_site_changes(&it->site, &it->other, ANSWER))
+ACT(filters, sw_filter(0, BYTES(T("da, " LONG_TAG ";q=0.8")), BYTES(T("da\n" LONG_TAG "-more\n")), ANSWER))
+ACT(picks, sw_pick(0, BYTES(T("da, " LONG_TAG ";q=0.8")), BYTES(T("en\n" LONG_TAG)), BYTES(T(LONG_TAG)), ANSWER))
+ACT(widens, sw_pick(SW_WIDEN, BYTES(T("de, zh")), BYTES(T("en\n" LONG_TAG)), BYTES(T("en")), ANSWER))
+ACT(opens, sw_site_open(BYTES(T(OSLO)), &it->site, TOLD))
 
 /* A handle that is not open stays so. (No status is -1.) */
 static void opens_first(trial *it) {
@@ -117,41 +80,17 @@ static void shares(trial *it) {
   it->told.number = it->status == SW_NO_MEMORY ? 26 : 0;
 }
 
-static void looks_up(trial *it) {
-  it->status = sw_site_lookup(&it->site, 0, BYTES(T("m")), BYTES(T("da, " LONG_TAG)), BYTES(T(LONG_TAG "-more")),
-                              it->out, ROOM, &it->told);
-}
-
-static void finds_text(trial *it) {
-  it->status = sw_site_text(&it->site, SW_EXTENDED, BYTES(T("m")), BYTES(T("*-de, zh-*-CN-x-private1-private2, en")),
-                            BYTES(T("en")), 0, it->out, ROOM, &it->told);
-}
-
-static void filters_labels(trial *it) {
-  it->status = sw_site_filter(&it->site, 0, BYTES(T("m")), BYTES(T("en;q=0.5, zh-hant-cn-x-private1")), it->out, ROOM,
-                              &it->told);
-}
-
-static void bundles(trial *it) {
-  it->status =
-      sw_site_bundle(&it->site, SW_LENIENT, BYTES(T("en_US, " LONG_TAG)), BYTES(T("de")), it->out, ROOM, &it->told);
-}
-
-static void looks_up_in_text(trial *it) {
-  it->status = sw_text_lookup(BYTES(T(PARIS)), 0, BYTES(T("m")), BYTES(T("da, " LONG_TAG)), BYTES(T(LONG_TAG "-more")),
-                              it->out, ROOM, &it->told);
-}
-
-static void finds_text_in_text(trial *it) {
-  it->status = sw_text_text(BYTES(T(PARIS)), SW_EXTENDED, BYTES(T("m")),
-                            BYTES(T("*-de, zh-*-CN-x-private1-private2, en")), BYTES(T("en")), 0, it->out, ROOM,
-                            &it->told);
-}
-
-static void filters_text(trial *it) {
-  it->status = sw_text_filter(BYTES(T(PARIS)), 0, BYTES(T("m")), BYTES(T("en;q=0.5, zh-hant-cn-x-private1")), it->out,
-                              ROOM, &it->told);
-}
+/* Questions about the message `m`, to the site and to a document where it lies. */
+#define LOOKED_UP 0, BYTES(T("m")), BYTES(T("da, " LONG_TAG)), BYTES(T(LONG_TAG "-more"))
+#define TEXT_OF SW_EXTENDED, BYTES(T("m")), BYTES(T("*-de, zh-*-CN-x-private1-private2, en")), BYTES(T("en")), 0
+#define FILTERED 0, BYTES(T("m")), BYTES(T("en;q=0.5, zh-hant-cn-x-private1"))
+ACT(looks_up, sw_site_lookup(&it->site, LOOKED_UP, ANSWER))
+ACT(finds_text, sw_site_text(&it->site, TEXT_OF, ANSWER))
+ACT(filters_labels, sw_site_filter(&it->site, FILTERED, ANSWER))
+ACT(bundles, sw_site_bundle(&it->site, SW_LENIENT, BYTES(T("en_US, " LONG_TAG)), BYTES(T("de")), ANSWER))
+ACT(looks_up_in_text, sw_text_lookup(BYTES(T(PARIS)), LOOKED_UP, ANSWER))
+ACT(finds_text_in_text, sw_text_text(BYTES(T(PARIS)), TEXT_OF, ANSWER))
+ACT(filters_text, sw_text_filter(BYTES(T(PARIS)), FILTERED, ANSWER))
 
 /* Whether a call leaves the site, changes it, or joins cells to it, in part where memory ends. */
 enum kind { ASKS, EDITS, JOINS };

@@ -86,17 +86,17 @@ REPORT(delta, &site, BYTES(T(SUMMARY)))
 REPORT(missing, &site, BYTES(T("nb")))
 REPORT(outdated, &site, BYTES(T("fr")), BYTES(T("en")))
 REPORT(changes, &other, &site)
-REPORT(lookup, &site, SW_LENIENT, BYTES(T("m")), BYTES(T(LONG_FIELD)), BYTES(T("en")))
-REPORT(text, &site, SW_LENIENT, BYTES(T("m")), BYTES(T(LONG_FIELD)), BYTES(T("en")), 0)
-REPORT(filter, &site, SW_EXTENDED | SW_LENIENT, BYTES(T("m")), BYTES(T(LONG_FIELD "en")))
+/* Questions, to the site and to a document where it lies. */
+#define LOOKED_UP SW_LENIENT, BYTES(T("m")), BYTES(T(LONG_FIELD)), BYTES(T("en"))
+#define FILTERED SW_EXTENDED | SW_LENIENT, BYTES(T("m")), BYTES(T(LONG_FIELD "en"))
+REPORT(lookup, &site, LOOKED_UP)
+REPORT(text, &site, LOOKED_UP, 0)
+REPORT(filter, &site, FILTERED)
 REPORT(bundle, &site, SW_LENIENT, BYTES(T(LONG_FIELD)), BYTES(T("en")))
 
-ASKS(look_up_in_text, found(sw_text_lookup(BYTES(T(PARIS)), SW_LENIENT, BYTES(T("m")), BYTES(T(LONG_FIELD)),
-                                           BYTES(T("en")), out, ROOM, &told)))
-ASKS(text_of_text, found(sw_text_text(BYTES(T(PARIS)), SW_LENIENT, BYTES(T("m")), BYTES(T(LONG_FIELD)), BYTES(T("en")),
-                                      0, out, ROOM, &told)))
-ASKS(filter_text, found(sw_text_filter(BYTES(T(PARIS)), SW_EXTENDED | SW_LENIENT, BYTES(T("m")),
-                                       BYTES(T(LONG_FIELD "en")), out, ROOM, &told)))
+ASKS(look_up_in_text, found(sw_text_lookup(BYTES(T(PARIS)), LOOKED_UP, out, ROOM, &told)))
+ASKS(text_of_text, found(sw_text_text(BYTES(T(PARIS)), LOOKED_UP, 0, out, ROOM, &told)))
+ASKS(filter_text, found(sw_text_filter(BYTES(T(PARIS)), FILTERED, out, ROOM, &told)))
 
 static void share(void) {
   sw_site one = {0};

@@ -11,42 +11,26 @@
   "{\"cells\":[[\"n\",\"en\",5,\"paris\",0,[\"a\"]],[\"m\",\"en\",5,\"paris\",1,[\"b\"]]],\"kind\":\"site\"," \
   "\"site\":\"paris\",\"version\":2}\n"
 
-static void pick_at(int line, uint32_t flags, text field, text tags, text dflt, wanted it) {
-  begin();
-  compare(line, sw_pick(flags, BYTES(field), BYTES(tags), BYTES(dflt), out, ROOM, &told), ROOM, it);
-}
-
-static void open_at(int line, sw_site *site, text document, wanted it) {
-  begin();
-  compare(line, sw_site_open(BYTES(document), site, &told), 0, it);
-}
-
-static void lookup_at(int line, sw_site *site, uint32_t flags, text id, text field, text dflt, wanted it) {
-  begin();
-  compare(line, sw_site_lookup(site, flags, BYTES(id), BYTES(field), BYTES(dflt), out, ROOM, &told), ROOM, it);
-}
-
-static void text_at(int line, sw_site *site, uint32_t flags, text id, text field, text dflt, size_t place, wanted it) {
-  begin();
-  compare(line, sw_site_text(site, flags, BYTES(id), BYTES(field), BYTES(dflt), place, out, ROOM, &told), ROOM, it);
-}
-
-static void filter_at(int line, sw_site *site, uint32_t flags, text id, text field, wanted it) {
-  begin();
-  compare(line, sw_site_filter(site, flags, BYTES(id), BYTES(field), out, ROOM, &told), ROOM, it);
-}
-
-static void bundle_at(int line, sw_site *site, uint32_t flags, text field, text dflt, wanted it) {
-  begin();
-  compare(line, sw_site_bundle(site, flags, BYTES(field), BYTES(dflt), out, ROOM, &told), ROOM, it);
-}
-
-#define PICK(...) pick_at(__LINE__, __VA_ARGS__)
-#define OPEN(...) open_at(__LINE__, __VA_ARGS__)
-#define LOOKUP(...) lookup_at(__LINE__, __VA_ARGS__)
-#define LABEL_TEXT(...) text_at(__LINE__, __VA_ARGS__)
-#define FILTER(...) filter_at(__LINE__, __VA_ARGS__)
-#define BUNDLE(...) bundle_at(__LINE__, __VA_ARGS__)
+/* Each call with room, and what it has to answer. */
+#define ANSWER out, ROOM, &told
+#define PICK(flags, field, tags, dflt, ...) \
+  ROW(ROOM, sw_pick(flags, BYTES(field), BYTES(tags), BYTES(dflt), ANSWER), __VA_ARGS__)
+#define OPEN(site, document, ...) ROW(0, sw_site_open(BYTES(document), site, &told), __VA_ARGS__)
+#define LOOKUP(site, flags, id, field, dflt, ...) \
+  ROW(ROOM, sw_site_lookup(site, flags, BYTES(id), BYTES(field), BYTES(dflt), ANSWER), __VA_ARGS__)
+#define LABEL_TEXT(site, flags, id, field, dflt, place, ...) \
+  ROW(ROOM, sw_site_text(site, flags, BYTES(id), BYTES(field), BYTES(dflt), place, ANSWER), __VA_ARGS__)
+#define FILTER(site, flags, id, field, ...) \
+  ROW(ROOM, sw_site_filter(site, flags, BYTES(id), BYTES(field), ANSWER), __VA_ARGS__)
+#define BUNDLE(site, flags, field, dflt, ...) \
+  ROW(ROOM, sw_site_bundle(site, flags, BYTES(field), BYTES(dflt), ANSWER), __VA_ARGS__)
+/* The questions to a document where it lies. */
+#define LOOKUP_IN(text, flags, id, field, dflt, ...) \
+  ROW(ROOM, sw_text_lookup(BYTES(text), flags, BYTES(id), BYTES(field), BYTES(dflt), ANSWER), __VA_ARGS__)
+#define TEXT_IN(text, flags, id, field, dflt, place, ...) \
+  ROW(ROOM, sw_text_text(BYTES(text), flags, BYTES(id), BYTES(field), BYTES(dflt), place, ANSWER), __VA_ARGS__)
+#define FILTER_IN(text, flags, id, field, ...) \
+  ROW(ROOM, sw_text_filter(BYTES(text), flags, BYTES(id), BYTES(field), ANSWER), __VA_ARGS__)
 
 static void picks(void) {
   PICK(0, T("da, en-GB;q=0.8, en;q=0.7"), T("en\nfr"), NO_TEXT, answers(SW_FOUND, 0, "en"));
@@ -88,8 +72,8 @@ static void long_fields(void) {
   uint8_t *field = block(most + 1);
   memset(field, ',', most + 1);
   for (uint32_t flags = 0; flags < 4; flags++) {
-    PICK(flags, (text){field, most}, T("en"), T("en"), answers(SW_FOUND, 1, "en"));
-    PICK(flags, (text){field, most + 1}, T("en"), T("en"), refused(8));
+    PICK(flags, ((text){field, most}), T("en"), T("en"), answers(SW_FOUND, 1, "en"));
+    PICK(flags, ((text){field, most + 1}), T("en"), T("en"), refused(8));
   }
   free(field);
 }
@@ -188,35 +172,24 @@ static void written_texts(void) {
     uint32_t number;
   } others[] = {{NO_TEXT, 19}, {T("\n"), 19}, {T("[]"), 20}, {{paris.bytes + 1, paris.len - 1}, 19},
                 {{paris.bytes, paris.len - 9}, 19}};
-  ROW(ROOM, sw_text_lookup(BYTES(paris), 0, BYTES(m), BYTES(T("fr-CA, en;q=0.5")), NULL, 0, out, ROOM, &told),
-      answers(SW_FOUND, 0, "matched fr [\"Bonjour\"]\n"));
-  ROW(ROOM, sw_text_lookup(BYTES(most), 0, BYTES(m), BYTES(T("ja")), BYTES(T("EN")), out, ROOM, &told),
-      answers(SW_FOUND, 0, "default en [\"Hello\",\"Hi\"]\n"));
-  ROW(ROOM, sw_text_lookup(BYTES(paris), 0, BYTES(T("l")), BYTES(T("en")), NULL, 0, out, ROOM, &told),
-      answers(SW_NOTHING, 0, "nothing\n"));
-  ROW(ROOM, sw_text_text(BYTES(paris), SW_WIDEN, BYTES(m), BYTES(T("en")), NULL, 0, 1, out, ROOM, &told),
-      answers(SW_FOUND, 2, "Hi"));
-  ROW(ROOM, sw_text_text(BYTES(paris), 0, BYTES(m), BYTES(T("en")), NULL, 0, SIZE_MAX, out, ROOM, &told),
-      ((wanted){SW_NOTHING, {.count = 2}, ""}));
-  ROW(ROOM, sw_text_filter(BYTES(paris), 0, BYTES(m), BYTES(T("fr;q=0.5, en")), out, ROOM, &told),
-      answers(SW_FOUND, 0, "filter 2\nen 1000 [\"Hello\",\"Hi\"]\nfr 500 [\"Bonjour\"]\n"));
-  ROW(ROOM, sw_text_filter(BYTES(paris), 0, BYTES(T("o")), BYTES(T("en")), out, ROOM, &told),
-      answers(SW_NOTHING, 0, "filter 0\n"));
+  LOOKUP_IN(paris, 0, m, T("fr-CA, en;q=0.5"), NO_TEXT, answers(SW_FOUND, 0, "matched fr [\"Bonjour\"]\n"));
+  LOOKUP_IN(most, 0, m, T("ja"), T("EN"), answers(SW_FOUND, 0, "default en [\"Hello\",\"Hi\"]\n"));
+  LOOKUP_IN(paris, 0, T("l"), T("en"), NO_TEXT, answers(SW_NOTHING, 0, "nothing\n"));
+  TEXT_IN(paris, SW_WIDEN, m, T("en"), NO_TEXT, 1, answers(SW_FOUND, 2, "Hi"));
+  TEXT_IN(paris, 0, m, T("en"), NO_TEXT, SIZE_MAX, ((wanted){SW_NOTHING, {.count = 2}, ""}));
+  FILTER_IN(paris, 0, m, T("fr;q=0.5, en"),
+            answers(SW_FOUND, 0, "filter 2\nen 1000 [\"Hello\",\"Hi\"]\nfr 500 [\"Bonjour\"]\n"));
+  FILTER_IN(paris, 0, T("o"), T("en"), answers(SW_NOTHING, 0, "filter 0\n"));
 
-  ROW(ROOM, sw_text_lookup(BYTES(none), 8, BYTES(T("@")), BYTES(T("e n")), NULL, 0, out, ROOM, &told),
-      nothing_told(SW_USAGE));
-  ROW(ROOM, sw_text_filter(BYTES(none), SW_WIDEN, BYTES(m), BYTES(m), out, ROOM, &told), nothing_told(SW_USAGE));
-  ROW(ROOM, sw_text_lookup(BYTES(none), 0, BYTES(T("\xff")), BYTES(T("e n")), BYTES(T("a")), out, ROOM, &told),
-      refused(10));
-  ROW(ROOM, sw_text_text(BYTES(none), 0, BYTES(m), BYTES(T("e n")), BYTES(T("en-")), 0, out, ROOM, &told),
-      refused_at(3, 3));
-  ROW(ROOM, sw_text_filter(BYTES(none), 0, BYTES(m), BYTES(T("fr, en_US")), out, ROOM, &told), refused_at(9, 4));
+  LOOKUP_IN(none, 8, T("@"), T("e n"), NO_TEXT, nothing_told(SW_USAGE));
+  FILTER_IN(none, SW_WIDEN, m, m, nothing_told(SW_USAGE));
+  LOOKUP_IN(none, 0, T("\xff"), T("e n"), T("a"), refused(10));
+  TEXT_IN(none, 0, m, T("e n"), T("en-"), 0, refused_at(3, 3));
+  FILTER_IN(none, 0, m, T("fr, en_US"), refused_at(9, 4));
   for (size_t it = 0; it < sizeof others / sizeof *others; it++) {
-    text en = T("en"), other = others[it].text;
-    wanted refusal = refused(others[it].number);
-    ROW(ROOM, sw_text_lookup(BYTES(other), 0, BYTES(m), BYTES(en), NULL, 0, out, ROOM, &told), refusal);
-    ROW(ROOM, sw_text_text(BYTES(other), 0, BYTES(m), BYTES(en), NULL, 0, 0, out, ROOM, &told), refusal);
-    ROW(ROOM, sw_text_filter(BYTES(other), 0, BYTES(m), BYTES(en), out, ROOM, &told), refusal);
+    LOOKUP_IN(others[it].text, 0, m, T("en"), NO_TEXT, refused(others[it].number));
+    TEXT_IN(others[it].text, 0, m, T("en"), NO_TEXT, 0, refused(others[it].number));
+    FILTER_IN(others[it].text, 0, m, T("en"), refused(others[it].number));
   }
 }
 
