@@ -48,20 +48,25 @@ put_between key c (e ∷ es) map =
     parts : Ordering → Entries
     parts r = cond (is_lt r) (e ∷ before_key key es) (before_key key es)
         ++ (key, c) ∷ cond (is_gt r) (e ∷ after_key key es) (after_key key es)
+
     whole : Ordering → Entries
     whole r =
         by_order (ordering_reverse r) ((key, c) ∷ e ∷ es) ((e.0, c) ∷ es)
         (e ∷ put key_cmp key c es)
+
     turned : put key_cmp key c (e ∷ es) ≡ whole (key_cmp e.0 key)
     turned =
         ap (λ r. by_order r ((key, c) ∷ e ∷ es) ((e.0, c) ∷ es) (e ∷ put key_cmp key c es))
         (key_cmp_total.antisymm key e.0)
+
     after_all : AreAfter e.0 es
     after_all = after_first e es map
+
     greater_all : key_cmp key e.0 ≡ Less → AreAfter key es
     greater_all less =
         All-weaker (λ (d : Entry). key_cmp e.0 d.0 ≡ Less) (λ (d : Entry). key_cmp key d.0 ≡ Less)
         (λ d after. key_cmp_total.trans key e.0 d.0 less after) es after_all
+
     by : put key_cmp key c es ≡ before_key key es ++ (key, c) ∷ after_key key es
         → (r : Ordering) → key_cmp e.0 key ≡ r
         → put key_cmp key c (e ∷ es) ≡ parts (key_cmp e.0 key)

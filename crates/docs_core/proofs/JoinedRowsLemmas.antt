@@ -1,6 +1,6 @@
 -- Maps that are joined entry by entry, in ascending order of key.
-use Rattle.std.proofs.Common.{◌≡◌, ◌≢◌, ◌∙◌, ◌+◌, ◌<◌, ◌++◌, [], ◌∷◌, ℕ, List, Option, Some, None}
-use Rattle.std.proofs.Common.{append-nil, append_assoc, ap, ap₂, arith, cond, false, get_or, inr, length}
+use Rattle.std.proofs.Common.{◌≡◌, ◌≢◌, ◌∙◌, ◌<◌, ◌++◌, [], ◌∷◌, ℕ, List, Option, Some, None}
+use Rattle.std.proofs.Common.{append-nil, append_assoc, ap, arith, cond, false, get_or, inr, length}
 use Rattle.std.proofs.Common.{refl, subst, suc, sym, true, true≢false, zero}
 use Rattle.std.proofs.lemmas.List.Elements.{All-append, All-cons, All-nil, All-weaker}
 use Rattle.std.specs.Prelude.{All, T, is_some, slice_get}
@@ -10,7 +10,7 @@ use Rattle.std.specs.FinMap.Entries.{below_all, by_order, find, is_sorted, put}
 use Rattle.std.specs.Ordering.{eq_by_cmp, is_eq, is_lt, ordering_reverse}
 use Rattle.cell_core.specs.Cell.{AgreeCells, joined_cells, stamp_cmp_total}
 use Rattle.cell_core.specs.Stamp.{stamp_cmp}
-use Rattle.cell_core.specs.Keyed.{AgreeAtKeys, AgreeIfBoth, IsMap, joined_at, joined_entries}
+use Rattle.cell_core.specs.Keyed.{AgreeIfBoth, IsMap, joined_at, joined_entries}
 use Rattle.cell_core.specs.Keyed.{joined_entries-IsMap, joined_of_maps}
 use Rattle.cell_core.specs.declared.stamp.Stamp.{Stamp}
 use Rattle.cell_core.specs.declared.cell.Cell.{Cell}

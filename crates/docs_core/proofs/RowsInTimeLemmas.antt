@@ -1,6 +1,6 @@
 -- Rows that are seen one after another under a limit on their times.
 use Rattle.std.proofs.Common.{◌≡◌, ◌∙◌, ◌<◌, ◌≤◌, ◌++◌, [], ◌∷◌, ℕ, None, Option, Some, ap}
-use Rattle.std.proofs.Common.{append_assoc, arith, length, refl, sym}
+use Rattle.std.proofs.Common.{append_assoc, arith, length, refl}
 use Rattle.std.proofs.lemmas.List.Elements.{All-append, All-cons, All-nil}
 use Rattle.cata_core.specs.Entries.{Entries, Entry}
 use Rattle.docs_core.specs.RowsInTime.{IsFirstAfter}

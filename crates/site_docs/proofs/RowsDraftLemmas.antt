@@ -1,17 +1,16 @@
 -- The rows of a document that is being written.
-use Rattle.std.proofs.Common.{◌≡◌, ◌∙◌, ◌++◌, [], ◌∷◌, Bool, List, Option, ap, ap₂, codes, decimal}
+use Rattle.std.proofs.Common.{◌≡◌, ◌∙◌, ◌++◌, [], ◌∷◌, Bool, List, Option, ap, ap₂}
 use Rattle.std.proofs.Common.{append_assoc, cond, drop, false, fold, length, refl, subst, sym, true}
-use Rattle.std.proofs.Common.{append-nil, ◌<◌, ◌+◌, ◌≤◌, arith, get_or, true≢false, ℕ}
+use Rattle.std.proofs.Common.{append-nil, ◌<◌, ◌≤◌, arith, get_or, true≢false, ℕ}
 use Rattle.std.proofs.lemmas.List.{map-append}
 use Rattle.std.proofs.lemmas.List.Sums.{fold-append}
-use Rattle.std.proofs.lemmas.List.{drop_at}
 use Rattle.std.proofs.lemmas.List.Elements.{All-append}
 use Rattle.std.proofs.lemmas.Str.{IsCharBoundary-after_ascii, IsUtf8-append, IsUtf8-drop}
 use Rattle.std.specs.Prelude.{IsUtf8}
 use Rattle.json.proofs.Printed.Tokens.{ends_push, print_from-append}
 use Rattle.json.proofs.Printed.Utf8.{IsUtf8-are_ascii}
 use Rattle.json.specs.Print.{ends, escape_byte, print, print_from}
-use Rattle.json.specs.Token.{Token, begin_array, end_array, number, string}
+use Rattle.json.specs.Token.{Token, end_array}
 use Rattle.json.specs.Tree.{json_tokens}
 use Rattle.serde_json.proofs.Texts.{print-outline}
 use Rattle.serde_json.specs.Written.{comma_if, compact_text, outline}

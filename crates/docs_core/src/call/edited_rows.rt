@@ -56,12 +56,7 @@ impl<'k> EditedRows<'k> {
     /// The document of the site of this name, with this cell at the key.
     ///
     /// Its one refusal is out of memory (26).
-    pub(crate) fn close(
-        self,
-        alloc: Global,
-        name: SiteName,
-        cell: &Cell,
-    ) -> Result<Doc, AllocError>
+    pub(crate) fn close(self, alloc: Global, name: SiteName, cell: &Cell) -> Result<Doc, AllocError>
         requires { (cells : Entries) × HoldsEdited self (self.id.now, self.lang.now) cells }
         ensures { (cells : Entries) → HoldsEdited self.entry (self.entry.id.now, self.entry.lang.now) cells
             → IsMap key_cmp cells

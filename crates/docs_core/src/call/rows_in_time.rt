@@ -69,12 +69,7 @@ impl<'t, S: CellSink<'t>> CellSink<'t> for RowsInTime<S> {
 }
 
 /// The first row whose time is after the limit, where one more has this time.
-fn first_ahead(
-    ahead: Option<usize>,
-    row: usize,
-    time: u64,
-    not_after: Option<u64>,
-) -> Option<usize>
+fn first_ahead(ahead: Option<usize>, row: usize, time: u64, not_after: Option<u64>) -> Option<usize>
     ensures { (cells : Entries) (e : Entry) → e.1.stamp.time ≡ time → length cells ≡ row
         → IsTimed not_after cells ahead → IsTimed not_after (cells ++ e ∷ []) result }
 {
@@ -91,13 +86,7 @@ fn ahead_at(row: usize, time: u64, not_after: Option<u64>) -> Option<usize>
 {
     match not_after {
         None => None,
-        Some(limit) => {
-            if limit < time {
-                Some(row)
-            } else {
-                None
-            }
-        }
+        Some(limit) => { if limit < time { Some(row) } else { None } }
     }
 }
 

@@ -19,9 +19,7 @@ use cata_core::{CataFault, Site};
 use cell_core::{Cell, Label, MessageId, SiteName, Stamp};
 use json_docs::{Doc, DocFault};
 use lang_core::Lang;
-use site_docs::{
-    show_document, site_at, summary_at, write_delta, write_summary, written_summary,
-};
+use site_docs::{show_document, site_at, summary_at, write_delta, write_summary, written_summary};
 use std::alloc::{AllocError, Global};
 
 /// The document of the site after an edit at the time `now`: a label is put, and none deletes.

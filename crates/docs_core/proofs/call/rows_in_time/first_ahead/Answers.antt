@@ -1,4 +1,3 @@
-use Rattle.docs_core.specs.RowsInTime.{IsTimed}
 use Rattle.docs_core.proofs.RowsInTimeLemmas.{after_stays}
 use Rattle.docs_core.proofs.call.rows_in_time.first_ahead.Goals as goal
 

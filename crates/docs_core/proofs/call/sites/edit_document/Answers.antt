@@ -1,4 +1,4 @@
-use Rattle.std.proofs.Common.{◌≡◌, ◌∙◌, List, Option, ap₂, subst, sym, ℕ}
+use Rattle.std.proofs.Common.{◌∙◌, List, Option, ap₂, subst, sym, ℕ}
 use Rattle.std.specs.FinMap.Entries.{put}
 use Rattle.cell_core.specs.Stamp.{IsNext}
 use Rattle.cell_core.specs.declared.cell.Cell.{Cell}

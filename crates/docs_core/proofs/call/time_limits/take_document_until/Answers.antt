@@ -1,4 +1,4 @@
-use Rattle.std.proofs.Common.{◌∙◌, List, inr, subst, ℕ}
+use Rattle.std.proofs.Common.{◌∙◌, inr, subst}
 use Rattle.std.proofs.lemmas.Result.{err_from_is_err_and}
 use Rattle.cata_core.specs.Entries.{Entries}
 use Rattle.cata_core.specs.Site.{RefusesDelta, SiteState}

@@ -3,7 +3,7 @@ use Rattle.serde_json.specs.Written.{compact_text}
 use Rattle.cata_core.specs.Entries.{Entry, EntryKey, IsAboveAll}
 use Rattle.row_docs.specs.Values.{Row, cell_value, label_value}
 use Rattle.site_docs.specs.PlainRows.{row_before, row_in}
-use Rattle.site_docs.specs.Sink.{entry_of, texts_of}
+use Rattle.site_docs.specs.Sink.{texts_of}
 use Rattle.site_docs.proofs.PlainLemmas.{row_taken}
 use Rattle.site_docs.proofs.plain.rows.show_cell.Goals as goal
 

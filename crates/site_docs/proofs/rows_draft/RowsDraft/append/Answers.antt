@@ -1,4 +1,3 @@
-use Rattle.std.proofs.Common.{◌∙◌, ◌++◌, ap}
 use Rattle.site_docs.proofs.RowsDraftLemmas.{rows_appended}
 use Rattle.site_docs.proofs.rows_draft.RowsDraft.append.Goals as goal
 

@@ -1,4 +1,4 @@
-use Rattle.std.proofs.Common.{◌≡◌, ◌∙◌, Option, Some, ap, ap₂, sym}
+use Rattle.std.proofs.Common.{◌∙◌, Option, Some, ap, ap₂, sym}
 use Rattle.std.specs.Ordering.{ordering_then}
 use Rattle.cell_core.specs.Cell.{joined_stamps}
 use Rattle.cell_core.specs.Keyed.{joined_if_both}

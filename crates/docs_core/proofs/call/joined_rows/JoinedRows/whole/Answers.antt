@@ -1,4 +1,4 @@
-use Rattle.std.proofs.Common.{◌++◌, subst}
+use Rattle.std.proofs.Common.{subst}
 use Rattle.std.proofs.lemmas.Result.{err_from_is_err_and}
 use Rattle.site_docs.specs.RowsDraft.{HoldsRows}
 use Rattle.docs_core.specs.JoinedRows.{left_of}

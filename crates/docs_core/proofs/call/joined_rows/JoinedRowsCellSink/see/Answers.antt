@@ -1,4 +1,4 @@
-use Rattle.std.proofs.Common.{◌≡◌, ◌∙◌, ◌+◌, ◌++◌, [], ◌∷◌, ap, length, length-append, sym}
+use Rattle.std.proofs.Common.{◌∙◌, ◌+◌, [], ◌∷◌, ap, length-append, sym}
 use Rattle.site_docs.specs.Sink.{entry_of}
 use Rattle.docs_core.specs.JoinedRows.{left_of}
 use Rattle.docs_core.proofs.JoinedRowsLemmas.{known_stays, none_known}
