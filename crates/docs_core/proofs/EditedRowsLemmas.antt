@@ -1,7 +1,7 @@
 -- The rows of a site on both sides of one key.
-use Rattle.std.proofs.Common.{◌≡◌, ◌∙◌, ◌++◌, [], ◌∷◌, Some, ap, ap₂, append-nil, cond, refl, subst}
+use Rattle.std.proofs.Common.{◌≡◌, ◌∙◌, ◌++◌, [], ◌∷◌, Some, ap, ap₂, cond, refl, subst}
 use Rattle.std.proofs.Common.{sym}
-use Rattle.std.proofs.lemmas.List.Elements.{All-weaker, filter-append}
+use Rattle.std.proofs.lemmas.List.Elements.{All-weaker}
 use Rattle.std.specs.declared.cmp.Ordering.{Ordering}
 use Rattle.std.specs.declared.cmp.Ordering.TheVariants.{Less, Equal, Greater}
 use Rattle.std.specs.FinMap.Entries.{below_all, by_order, is_sorted, put}
@@ -97,38 +97,3 @@ latest_more [] e = latest_with_none (Some e.1.stamp)
 latest_more (x ∷ xs) e =
     ap (joined_if_both joined_stamps (Some x.1.stamp)) (latest_more xs e)
     ∙ sym (latest_assoc (Some x.1.stamp) (latest_of xs) (Some e.1.stamp))
-
--- one more whose key is less, is the key or is greater
-pub less_more : (key : EntryKey) (cells : Entries) (e : Entry) → key_cmp e.0 key ≡ Less
-    → (before_key key (cells ++ e ∷ []) ≡ before_key key cells ++ e ∷ [])
-    × (after_key key (cells ++ e ∷ []) ≡ after_key key cells)
-less_more key cells e is = (
-  filter-append (λ (x : Entry). is_lt (key_cmp x.0 key)) cells (e ∷ [])
-      ∙ ap (λ r. before_key key cells ++ cond (is_lt r) (e ∷ []) []) is,
-  filter-append (λ (x : Entry). is_gt (key_cmp x.0 key)) cells (e ∷ [])
-      ∙ ap (λ r. after_key key cells ++ cond (is_gt r) (e ∷ []) []) is
-      ∙ append-nil (after_key key cells),
-)
-
-pub equal_more : (key : EntryKey) (cells : Entries) (e : Entry) → key_cmp e.0 key ≡ Equal
-    → (before_key key (cells ++ e ∷ []) ≡ before_key key cells)
-    × (after_key key (cells ++ e ∷ []) ≡ after_key key cells)
-equal_more key cells e is = (
-  filter-append (λ (x : Entry). is_lt (key_cmp x.0 key)) cells (e ∷ [])
-      ∙ ap (λ r. before_key key cells ++ cond (is_lt r) (e ∷ []) []) is
-      ∙ append-nil (before_key key cells),
-  filter-append (λ (x : Entry). is_gt (key_cmp x.0 key)) cells (e ∷ [])
-      ∙ ap (λ r. after_key key cells ++ cond (is_gt r) (e ∷ []) []) is
-      ∙ append-nil (after_key key cells),
-)
-
-pub greater_more : (key : EntryKey) (cells : Entries) (e : Entry) → key_cmp e.0 key ≡ Greater
-    → (before_key key (cells ++ e ∷ []) ≡ before_key key cells)
-    × (after_key key (cells ++ e ∷ []) ≡ after_key key cells ++ e ∷ [])
-greater_more key cells e is = (
-  filter-append (λ (x : Entry). is_lt (key_cmp x.0 key)) cells (e ∷ [])
-      ∙ ap (λ r. before_key key cells ++ cond (is_lt r) (e ∷ []) []) is
-      ∙ append-nil (before_key key cells),
-  filter-append (λ (x : Entry). is_gt (key_cmp x.0 key)) cells (e ∷ [])
-      ∙ ap (λ r. after_key key cells ++ cond (is_gt r) (e ∷ []) []) is,
-)

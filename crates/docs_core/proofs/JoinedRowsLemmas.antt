@@ -1,6 +1,6 @@
 -- Maps that are joined entry by entry, in ascending order of key.
 use Rattle.std.proofs.Common.{◌≡◌, ◌≢◌, ◌∙◌, ◌<◌, ◌++◌, [], ◌∷◌, ℕ, List, Option, Some, None}
-use Rattle.std.proofs.Common.{append-nil, append_assoc, ap, arith, cond, false, get_or, inr, length}
+use Rattle.std.proofs.Common.{append-nil, append_assoc, ap, arith, cond, false, inr, length}
 use Rattle.std.proofs.Common.{refl, subst, suc, sym, true, true≢false, zero}
 use Rattle.std.proofs.lemmas.List.Elements.{All-append, All-cons, All-nil, All-weaker}
 use Rattle.std.specs.Prelude.{All, T, is_some, slice_get}
@@ -162,10 +162,6 @@ at_more k P here there q =
       | true ↦ λ t. subst P (sym (key_cmp_exact q k (tied (key_cmp q k) t))) here
       | false ↦ λ t. there q t
     ] refl
-
--- nothing is joined yet
-pub joined_nothing : AreJoined [] [] []
-joined_nothing = record { agree = record { first = tt; second = tt; at = λ q. tt }; are = refl }
 
 -- one entry more of the other's
 joins_other : (own other rows : Entries) (d : Entry) → AreJoined own other rows
@@ -351,17 +347,6 @@ pub record IsJoiningBefore (key : EntryKey) (left others seen rows : Entries) : 
   pub joined : AreJoined seen taken rows
   pub below : IsAboveAll key taken
   pub above : All (λ (d : Entry). IsAboveAll d.0 seen) left
-
--- nothing was seen
-pub joining_nothing : (others : Entries) → IsMap key_cmp others → IsJoining others others [] []
-joining_nothing others map = record {
-  taken = [];
-  all = refl;
-  map = map;
-  joined = joined_nothing;
-  below = λ key above. above;
-  above = λ k d within. All-nil (λ (e : Entry). key_cmp e.0 (get_or others k d).0 ≡ Less);
-}
 
 -- the other's entries before the key are taken
 pub joining_before : (key : EntryKey) (left others seen rows less more : Entries)
@@ -571,6 +556,7 @@ apart_agrees c d Greater is apart = λ same.
 pub joined_later : (c d : Cell) → stamp_cmp c.stamp d.stamp ≡ Less → joined_cells c d ≡ d
 joined_later c d is = ap (λ r. cond (is_lt r) d c) is
 
+-- else it is the first
 pub joined_first : (c d : Cell) (r : Ordering) → stamp_cmp c.stamp d.stamp ≡ r → r ≢ Less
     → joined_cells c d ≡ c
 joined_first c d Less is other = absurd (other refl)

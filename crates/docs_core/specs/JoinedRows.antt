@@ -40,8 +40,8 @@ pub record IsJoining (left others seen rows : Entries) : Type 0 where
 abbrev pub left_of : CellsLeft → Entries
 left_of left = ahead_of left.first (cells_left left.rest)
 
--- the draft has the rows of what was seen, joined with the other's cells; or this is the first place
--- at which the two do not agree
+-- the draft has the rows of what was seen, joined with the other's cells; or this is the first
+-- place at which the two do not agree
 abbrev pub IsJoinedTo : Option (ℕ × Stamp) → Entries → RowsDraft → Entries → Entries → Type 0
 IsJoinedTo clash left draft others seen =
     MatchOption clash ((rows : Entries) × IsJoining left others seen rows × HoldsRows draft rows)

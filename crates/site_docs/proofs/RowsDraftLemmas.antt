@@ -1,7 +1,7 @@
 -- The rows of a document that is being written.
 use Rattle.std.proofs.Common.{◌≡◌, ◌∙◌, ◌++◌, [], ◌∷◌, Bool, List, Option, ap, ap₂}
 use Rattle.std.proofs.Common.{append_assoc, cond, drop, false, fold, length, refl, subst, sym, true}
-use Rattle.std.proofs.Common.{append-nil, ◌<◌, ◌≤◌, arith, get_or, true≢false, ℕ}
+use Rattle.std.proofs.Common.{◌<◌, ◌≤◌, arith, get_or, true≢false, ℕ}
 use Rattle.std.proofs.lemmas.List.{map-append}
 use Rattle.std.proofs.lemmas.List.Sums.{fold-append}
 use Rattle.std.proofs.lemmas.List.Elements.{All-append}
@@ -198,11 +198,3 @@ rows_appended old new others cells (e ∷ es) comma rest holds theirs some befor
     later_append : (xs : Entries) → is_later (xs ++ e ∷ es) ≡ true
     later_append [] = refl
     later_append (x ∷ xs) = refl
-
--- a draft without rows adds nothing
-pub nothing_appended : (old others : RowsDraft) (cells more : Entries) → HoldsRows old cells
-    → HoldsRows others more → others.has_rows ≡ false → HoldsRows old (cells ++ more)
-nothing_appended old others cells [] holds theirs none =
-    subst (HoldsRows old) (sym (append-nil cells)) holds
-nothing_appended old others cells (e ∷ es) holds theirs none =
-    absurd (true≢false (sym theirs.has_rows ∙ none))

@@ -1,8 +1,8 @@
 //! The documents of sites, deltas and summaries.
 //!
 //! [`read_site`], [`read_delta`] and [`read_summary`] read a document; [`write_site`],
-//! [`write_delta`] and [`write_summary`] write one. [`site_at`], [`delta_at`] and [`summary_at`] read one document of
-//! several, which a refusal names.
+//! [`write_delta`] and [`write_summary`] write one. [`site_at`], [`delta_at`] and [`summary_at`]
+//! read one document of several, which a refusal names.
 //! [`show_document`] shows the cells of a site's document to a [`CellSink`], which keeps what it
 //! needs of them, and builds no catalogue where the document is in the form in which it is written;
 //! [`show_catalogue`] shows those of a catalogue. [`written_summary`] writes the summary of a

@@ -58,7 +58,8 @@ impl<'k> EditedRows<'k> {
     /// Its one refusal is out of memory (26).
     pub(crate) fn close(self, alloc: Global, name: SiteName, cell: &Cell) -> Result<Doc, AllocError>
         requires { (cells : Entries) × HoldsEdited self (self.id.now, self.lang.now) cells }
-        ensures { (cells : Entries) → HoldsEdited self.entry (self.entry.id.now, self.entry.lang.now) cells
+        ensures { (cells : Entries)
+            → HoldsEdited self.entry (self.entry.id.now, self.entry.lang.now) cells
             → IsMap key_cmp cells
             → IfOk result (IsSiteText (record {
               name = name;

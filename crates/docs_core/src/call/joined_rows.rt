@@ -206,7 +206,7 @@ fn compare(cell: (&MessageId, &Lang, &Cell), id: &MessageId, lang: &Lang) -> Ord
 }
 
 /// Writes the row of a cell, which is the one at this place, joined with the cell of its key, and
-/// before it the rows with a lesser key. Answers the place and the stamp where the two do not agree.
+/// before it the rows with a lesser key. Answers the place and the stamp where both do not agree.
 fn write_joined(
     alloc: Global,
     place: u128,

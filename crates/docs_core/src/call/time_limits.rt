@@ -1,5 +1,6 @@
 //! Deltas and sites of others, taken only where no time of theirs is after a limit.
-ghost use Rattle.std.specs.Prelude.{◌≡◌, ◌≢◌, ◌^◌, ◌<◌, length, IfErr, MatchOption, MatchResult, OnOk, Some};
+ghost use Rattle.std.specs.Prelude.{◌≡◌, ◌≢◌, ◌^◌, ◌<◌, length, IfErr, MatchOption, MatchResult};
+ghost use Rattle.std.specs.Prelude.{OnOk, Some};
 ghost use Rattle.cata_core.specs.declared.cata_fault.CataFault.TheVariants.{NotForMe};
 ghost use Rattle.json_docs.specs.Checks.{OrMemory};
 ghost use Rattle.row_docs.specs.Reading.{no_memory};

@@ -41,7 +41,8 @@ see-requires g c κs =
         (holds.0, holds.1, holds.2, above),
         (
           cell.label c.in_ok-label.ensures.label,
-          cell.row c.in_ok-label.ensures.kept (c.text_until.ensures (compact_text (cell_value row label)) is),
+          cell.row c.in_ok-label.ensures.kept
+              (c.text_until.ensures (compact_text (cell_value row label)) is),
         ),
       ),
     )
