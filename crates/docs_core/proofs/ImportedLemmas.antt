@@ -1,5 +1,5 @@
 -- One label more is put.
-use Rattle.std.proofs.Common.{◌≡◌, ◌∙◌, ◌+◌, ◌<◌, ℕ, List, [], ◌∷◌, ◌++◌, ap, append-nil, drop}
+use Rattle.std.proofs.Common.{◌≡◌, ◌∙◌, ◌+◌, ◌<◌, ℕ, List, [], ◌∷◌, ◌++◌, ap, drop}
 use Rattle.std.proofs.Common.{get_or, inl, inr, length, refl, subst, sym, take}
 use Rattle.std.specs.Prelude.{◌⊎◌, Some}
 use Rattle.std.proofs.lemmas.List.{map-append, take-append-drop, take_more}
@@ -14,12 +14,12 @@ use Rattle.cata_core.specs.declared.cata_fault.CataFault.TheVariants.{NotForMe, 
 use Rattle.map_docs.specs.LangMaps.{Labelled, labels_of}
 use Rattle.map_docs.specs.declared.maps.KeyedLabel.{KeyedLabel}
 use Rattle.map_docs.proofs.LangMapMembersLemmas.{first_left}
-use Rattle.docs_core.specs.Imported.{Imports, IsPut, SpendsImport, puts_of}
+use Rattle.docs_core.specs.Imported.{Imports, SpendsImport, puts_of}
 use Rattle.docs_core.specs.Made.{Change, Makes, SpendsClock, with_change}
 use Rattle.docs_core.proofs.MadeLemmas.{Makes-append, Spends-append}
 
 -- the labels before a place and those from it on are all
-front_and_rest : (items : List KeyedLabel) (i : ℕ)
+pub front_and_rest : (items : List KeyedLabel) (i : ℕ)
     → labels_of items ≡ labels_of (take i items) ++ labels_of (drop i items)
 front_and_rest items i =
     ap labels_of (sym (take-append-drop i items))
@@ -77,12 +77,3 @@ not_put site now (StampReused place stamp) h = absurd h
 not_put site now ClockSpent h = inr (refl, h)
 not_put site now (NotForMe addressee) h = absurd h
 not_put site now NoMemory h = inl refl
-
--- ---- labels that are put as they are read
-
--- all labels were put
-pub all_put : (now then : ℕ) (first site : SiteState) (labels : List Labelled)
-    → IsPut now first then site labels → Imports now first.name labels first.cells site.cells
-all_put now then first site labels so =
-    subst (λ (es : List Labelled). Imports now first.name es first.cells site.cells)
-    (append-nil labels) (so.put [] site.cells refl)

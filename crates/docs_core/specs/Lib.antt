@@ -3,6 +3,7 @@ pub mod EditedRows
 pub mod Exchange
 pub mod Imported
 pub mod JoinedRows
+pub mod LackedRows
 pub mod Lines
 pub mod Made
 pub mod Merged

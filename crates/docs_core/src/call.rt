@@ -3,6 +3,7 @@
 pub(crate) mod edited_rows;
 pub(crate) mod importing;
 pub(crate) mod joined_rows;
+pub(crate) mod lacked_rows;
 pub(crate) mod merging;
 pub(crate) mod replaying;
 pub(crate) mod rows_in_time;

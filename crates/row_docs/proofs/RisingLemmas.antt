@@ -32,6 +32,18 @@ at_end : (xs : List Data) (x : Data) → slice_get (xs ++ x ∷ []) (length xs) 
 at_end [] x = refl
 at_end (y ∷ xs) x = at_end xs x
 
+-- a key is after the last one where it is above all
+pub after_last : {J : Type 0} (es : List (EntryKey × J)) (key : EntryKey)
+    (last : Option (EntryKey × J))
+    → IsMap key_cmp es → slice_get es (length es - 1) ≡ last
+    → IsAfter (option_map (λ e. e.0) last) key ↔ IsAboveAll key es
+after_last es key None rising is = (λ behind. (above_none es key is).0 refl, λ above. tt)
+after_last es key (Some (k, v)) rising is =
+    let tells = above_last es key k v rising is in (
+      λ behind. tells.0 (ap is_lt behind),
+      λ above. less_of (key_cmp k key) (tells.1 above),
+    )
+
 module _ {J : Type 0} (entry : Data → Option (EntryKey × J)) where
   AreEntries-push : (rows : List Data) (es : List (EntryKey × J)) (d : Data) (e : EntryKey × J)
       → AreEntries entry rows es → entry d ≡ Some e
@@ -66,17 +78,6 @@ module _ {J : Type 0} (entry : Data → Option (EntryKey × J)) where
       ∙ ap (λ n. option_map Some (slice_get es (n - 1))) as_many in
       ap (option_map (λ (e : EntryKey × J). e.0))
       (found_as (slice_get rows at) (slice_get es (length es - 1)) same)
-
-  -- a key is after the last one where it is above all
-  after_last : (es : List (EntryKey × J)) (key : EntryKey) (last : Option (EntryKey × J))
-      → IsMap key_cmp es → slice_get es (length es - 1) ≡ last
-      → IsAfter (option_map (λ e. e.0) last) key ↔ IsAboveAll key es
-  after_last es key None rising is = (λ behind. (above_none es key is).0 refl, λ above. tt)
-  after_last es key (Some (k, v)) rising is =
-      let tells = above_last es key k v rising is in (
-        λ behind. tells.0 (ap is_lt behind),
-        λ above. less_of (key_cmp k key) (tells.1 above),
-      )
 
   after_all : (rows : List Data) (es : List (EntryKey × J)) (key : EntryKey)
       → MakesEntries entry rows es → IsAfter (last_key entry rows) key ↔ IsAboveAll key es

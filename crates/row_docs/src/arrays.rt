@@ -17,17 +17,18 @@ use json::{Reader, Value};
 use json_docs::{DocCause, next_value};
 use std::alloc::Global;
 
-/// Takes the rows of a document in their order, each only where it passes the tests of a row.
-pub trait Rows {
+/// Takes the rows of a document in their order, each only where it passes the tests of a row, and
+/// makes something of them and of a start.
+pub trait Rows<C> {
     /// The tests of a row of this version after those before it, in their order.
     ghost Checks: { Version → List Data → Data → List Check };
 
-    /// The value is what these rows of this version make.
-    ghost Holds: { Version → Self → List Data → Type 0 };
+    /// The value is what these rows of this version make of the start.
+    ghost Holds: { C → Version → Self → List Data → Type 0 };
 
-    /// Forgets all rows.
-    fn clear(&mut self, alloc: Global)
-        ensures { (version : Version) → Holds version self.new [] };
+    /// Begins anew from a start, without rows.
+    fn restart(&mut self, alloc: Global, start: &C)
+        ensures { (version : Version) → Holds start.now version self.new [] };
 
     /// Takes the row at this place, which is of this version.
     fn take(
@@ -37,39 +38,43 @@ pub trait Rows {
         place: usize,
         row: &Value<'_>,
     ) -> Result<(), DocCause>
-        requires { IsRead (value_view row.now) }
-        ensures ok { OnOk result ((before : List Data) → length before ≡ place
-            → Holds version self.old before
+        requires read { IsRead (value_view row.now) }
+        requires held { (start : C) × (before : List Data) × (length before ≡ place)
+            × Holds start version self.old before }
+        ensures ok { OnOk result ((start : C) (before : List Data) → length before ≡ place
+            → Holds start version self.old before
             → AllPass (Checks version before (seen row.now))
-            × Holds version self.new (before ++ seen row.now ∷ [])) }
-        ensures err { IfErr result (OrMemory NoMemory (λ e. (before : List Data)
-            → length before ≡ place → Holds version self.old before
+            × Holds start version self.new (before ++ seen row.now ∷ [])) }
+        ensures err { IfErr result (OrMemory NoMemory (λ e. (start : C) (before : List Data)
+            → length before ≡ place → Holds start version self.old before
             → FirstFails (Checks version before (seen row.now)) e)) };
 }
 
 /// Reads an array after its `[`. Returns the first refused row, if any, but reads on: a syntax
 /// error later in the text takes precedence.
-pub(crate) fn read_rows<R: Rows>(
+pub(crate) fn read_rows<C, R: Rows<C>>(
     alloc: Global,
     reader: &mut Reader<'_>,
     depth: usize,
     version: Version,
+    start: &C,
     rows: &mut R,
 ) -> Result<Option<DocCause>, DocCause>
     requires numbers { are_in_range reader.old ≡ true }
     requires places { length reader.old < 2 ^ 64 }
     ensures read { MatchResult result
         (λ refusal. (ds : Items) × ReadsItems depth reader.old ds reader.new
-        × TakesRows (R.Checks version) (R.Holds version) [] rows.new refusal (list_of ds))
+        × TakesRows (R.Checks version) (R.Holds start.now version) [] rows.new refusal
+        (list_of ds))
         (OrMemory NoMemory (λ e. (e ≡ NotJson) × ReadsNoItems depth reader.old)) }
     ensures left { OnOk result (are_in_range reader.new ≡ true) }
     ensures shorter { OnOk result (length reader.new < length reader.old) }
 {
-    rows.clear(alloc);
+    rows.restart(alloc, start);
     let mut refusal = None;
     let mut place = 0;
     while !reader.take_end_array() {
-        match read_row(alloc, reader, depth, version, place, rows, refusal) {
+        match read_row::<C, R>(alloc, reader, depth, version, place, rows, refusal) {
             Ok(next) => refusal = next,
             Err(cause) => return Err(cause),
         }
@@ -79,7 +84,7 @@ pub(crate) fn read_rows<R: Rows>(
 }
 
 /// Reads the next row, and takes it where no row was refused before it.
-fn read_row<R: Rows>(
+fn read_row<C, R: Rows<C>>(
     alloc: Global,
     reader: &mut Reader<'_>,
     depth: usize,
@@ -88,21 +93,24 @@ fn read_row<R: Rows>(
     rows: &mut R,
     refusal: Option<DocCause>,
 ) -> Result<Option<DocCause>, DocCause>
-    requires { are_in_range reader.old ≡ true }
+    requires numbers { are_in_range reader.old ≡ true }
+    requires held { refusal ≡ None → (start : C) × (before : List Data) × (length before ≡ place)
+        × R.Holds start version rows.old before }
     ensures read { MatchResult result
         (λ next. (d : Data) × Reads depth reader.old d reader.new
-        × ((before : List Data) → length before ≡ place
-        → TakesNext (R.Checks version) (R.Holds version) before refusal rows.old rows.new next d))
+        × ((start : C) (before : List Data) → length before ≡ place
+        → TakesNext (R.Checks version) (R.Holds start version) before refusal rows.old rows.new
+        next d))
         (OrMemory NoMemory (λ e. (e ≡ NotJson) × (value depth reader.old ≡ None))) }
     ensures left { OnOk result (are_in_range reader.new ≡ true) }
     ensures shorter { OnOk result (length reader.new < length reader.old) }
 {
     let row = next_value(alloc, reader, depth)?;
-    take_row(alloc, version, place, &row, rows, refusal)
+    take_row::<C, R>(alloc, version, place, &row, rows, refusal)
 }
 
 /// Takes a row, unless one was refused before it.
-fn take_row<R: Rows>(
+fn take_row<C, R: Rows<C>>(
     alloc: Global,
     version: Version,
     place: usize,
@@ -110,31 +118,36 @@ fn take_row<R: Rows>(
     rows: &mut R,
     refusal: Option<DocCause>,
 ) -> Result<Option<DocCause>, DocCause>
-    requires { IsRead (value_view row.now) }
+    requires read { IsRead (value_view row.now) }
+    requires held { refusal ≡ None → (start : C) × (before : List Data) × (length before ≡ place)
+        × R.Holds start version rows.old before }
     ensures { MatchResult result
-        (λ next. (before : List Data) → length before ≡ place
-        → TakesNext (R.Checks version) (R.Holds version) before refusal rows.old rows.new
+        (λ next. (start : C) (before : List Data) → length before ≡ place
+        → TakesNext (R.Checks version) (R.Holds start version) before refusal rows.old rows.new
         next (seen row.now))
         (λ e. e ≡ NoMemory) }
 {
     match refusal {
         Some(cause) => Ok(Some(cause)),
-        None => take_or_refuse(alloc, version, place, row, rows),
+        None => take_or_refuse::<C, R>(alloc, version, place, row, rows),
     }
 }
 
 /// Takes a row, or says why it is refused; out of memory is no refusal.
-fn take_or_refuse<R: Rows>(
+fn take_or_refuse<C, R: Rows<C>>(
     alloc: Global,
     version: Version,
     place: usize,
     row: &Value<'_>,
     rows: &mut R,
 ) -> Result<Option<DocCause>, DocCause>
-    requires { IsRead (value_view row.now) }
+    requires read { IsRead (value_view row.now) }
+    requires held { (start : C) × (before : List Data) × (length before ≡ place)
+        × R.Holds start version rows.old before }
     ensures { MatchResult result
-        (λ refusal. (before : List Data) → length before ≡ place → R.Holds version rows.old before
-        → TakesRows (R.Checks version) (R.Holds version) before rows.new refusal
+        (λ refusal. (start : C) (before : List Data) → length before ≡ place
+        → R.Holds start version rows.old before
+        → TakesRows (R.Checks version) (R.Holds start version) before rows.new refusal
         (seen row.now ∷ []))
         (λ e. e ≡ NoMemory) }
 {

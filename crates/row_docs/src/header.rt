@@ -52,18 +52,19 @@ pub(crate) struct Header {
 }
 
 /// Reads the members of an object whose brace was read.
-pub(crate) fn read_members<R: Rows>(
+pub(crate) fn read_members<C, R: Rows<C>>(
     alloc: Global,
     reader: &mut Reader<'_>,
     kind: Kind,
     version: Version,
+    start: &C,
     rows: &mut R,
 ) -> Result<Header, DocCause>
     requires numbers { are_in_range reader.old ≡ true }
     requires places { length reader.old < 2 ^ 64 }
     ensures { MatchResult result
         (λ header. (ms : Members) × ReadsMembers 126 reader.old ms reader.new
-        × Shows kind (R.Checks version) (R.Holds version) header rows.new ms)
+        × Shows kind (R.Checks version) (R.Holds start.now version) header rows.new ms)
         (OrMemory NoMemory (λ e. (e ≡ NotJson) × ReadsNoMembers 126 reader.old)) }
 {
     let mut header = Header {
@@ -75,19 +76,20 @@ pub(crate) fn read_members<R: Rows>(
     };
     while let Some(name) = next_name(reader)? {
         let member = kind.member(name);
-        header = read_member(alloc, reader, kind, version, member, header, rows)?;
+        header = read_member(alloc, reader, kind, version, member, header, start, rows)?;
     }
     Ok(header)
 }
 
 /// Reads the value of a member, whose name was read.
-fn read_member<R: Rows>(
+fn read_member<C, R: Rows<C>>(
     alloc: Global,
     reader: &mut Reader<'_>,
     kind: Kind,
     version: Version,
     member: Member,
     header: Header,
+    start: &C,
     rows: &mut R,
 ) -> Result<Header, DocCause>
     requires numbers { are_in_range reader.old ≡ true }
@@ -95,15 +97,15 @@ fn read_member<R: Rows>(
     ensures { MatchResult result
         (λ next. (d : Data) × ReadsNext reader.old d reader.new
         × ((name : List ℕ) (ms : Members) → member_of kind name ≡ member
-        → Shows kind (R.Checks version) (R.Holds version) header rows.old ms
-        → Shows kind (R.Checks version) (R.Holds version) next rows.new (put name d ms)))
+        → Shows kind (R.Checks version) (R.Holds start.now version) header rows.old ms
+        → Shows kind (R.Checks version) (R.Holds start.now version) next rows.new (put name d ms)))
         (OrMemory NoMemory (ReadsNone 126 reader.old)) }
 {
     match member {
         Member::Kind => read_kind(alloc, reader, kind, header),
         Member::Version => read_version(alloc, reader, header),
         Member::Subject => read_subject(alloc, reader, header),
-        Member::Rows => read_array(alloc, reader, version, header, rows),
+        Member::Rows => read_array(alloc, reader, version, header, start, rows),
         Member::Other => pass_over(reader, header),
     }
 }
@@ -160,11 +162,12 @@ fn read_subject(alloc: Global, reader: &mut Reader<'_>, header: Header) -> Resul
 }
 
 /// Reads the rows, where the member is an array.
-fn read_array<R: Rows>(
+fn read_array<C, R: Rows<C>>(
     alloc: Global,
     reader: &mut Reader<'_>,
     version: Version,
     header: Header,
+    start: &C,
     rows: &mut R,
 ) -> Result<Header, DocCause>
     requires numbers { are_in_range reader.old ≡ true }
@@ -172,7 +175,7 @@ fn read_array<R: Rows>(
     ensures { MatchResult result
         (λ next. (d : Data) × ReadsNext reader.old d reader.new
         × ((read : Option (Option DocCause))
-        × ShowsRows (R.Checks version) (R.Holds version) read rows.new (items_in d)
+        × ShowsRows (R.Checks version) (R.Holds start.now version) read rows.new (items_in d)
         × (next ≡ record header { rows = read })))
         (OrMemory NoMemory (ReadsNone 126 reader.old)) }
 {
@@ -181,7 +184,7 @@ fn read_array<R: Rows>(
     };
     match token {
         Token::BeginArray => {
-            let refusal = read_rows(alloc, reader, MEMBER_DEPTH - 1, version, rows)?;
+            let refusal = read_rows(alloc, reader, MEMBER_DEPTH - 1, version, start, rows)?;
             Ok(Header {
                 rows: Some(refusal),
                 ..header

@@ -2,8 +2,9 @@
 //! written.
 //!
 //! - [`read_header`] reads a document of a [`Kind`] and gives its rows to a [`Rows`], one after
-//!   another; a catalogue and a summary take their rows so.
-//! - [`CellRow`] is a row as it is written, and [`cell_entry`] what it means.
+//!   another; a summary takes its rows so.
+//! - [`CellRow`] is a row as it is written, and [`cell_entry`] what it means; [`entry_of_row`] is
+//!   both.
 //! - [`write_entry`] and [`write_stamped`] write a row, [`write_texts`] the texts of a label, and
 //!   [`finish`] ends a document.
 //!
@@ -27,6 +28,7 @@ pub use entries::{write_entry, write_stamped};
 pub use fields::{CellEntry, StampEntry, cell_entry, id_of, language_of, of_cell, stamp_entry};
 pub use header::Subject;
 pub use kind::Kind;
+pub use rising::entry_of_row;
 pub use shapes::{CellRow, Row, SiteText, cell_of};
 pub use tested_header::{TestedHeader, read_header};
 pub use version::Version;

@@ -1,54 +1,32 @@
-//! The rows of sites, deltas and summaries, appended in rising order of key as they are read.
+//! The rows of sites, deltas and summaries, which come in ascending order of key.
 ghost use Rattle.std.specs.Prelude.{◌≡◌, Some, MatchResult};
 ghost use Rattle.json.specs.Value.{value_view};
 ghost use Rattle.json_docs.specs.Checks.{AllPass, FirstFails, OrMemory};
 ghost use Rattle.json_docs.specs.Reads.{IsRead, seen};
 ghost use Rattle.json_docs.specs.declared.fault.DocCause.TheVariants.{NoMemory};
 ghost use Rattle.row_docs.specs.EntriesSeen.{entry_by, stamped_by};
-ghost use Rattle.row_docs.specs.Rising.{MakesEntries, cell_checks, entry_in, own_cell_checks};
+ghost use Rattle.row_docs.specs.Rising.{MakesEntries, entry_in, own_cell_checks};
 ghost use Rattle.row_docs.specs.Rising.{own_stamp_checks, stamp_checks, stamped_in};
 
 use crate::arrays::Rows;
 use crate::fields::{CellEntry, StampEntry, cell_entry, stamp_entry};
 use crate::shapes::{cell_of, stamp_of};
 use crate::version::Version;
-use cata_core::{Catalogue, Summary};
+use cata_core::Summary;
+use cell_core::SiteName;
 use json::Value;
 use json_docs::{DocCause, Spot};
 use std::alloc::Global;
 
-impl Rows for Catalogue {
-    ghost Checks = { cell_checks };
-
-    ghost Holds = { λ version cells rows. MakesEntries (entry_in version) rows cells };
-
-    fn clear(&mut self, alloc: Global) {
-        *self = Catalogue::new(alloc);
-    }
-
-    fn take(
-        &mut self,
-        alloc: Global,
-        version: Version,
-        place: usize,
-        row: &Value<'_>,
-    ) -> Result<(), DocCause> {
-        let CellEntry { id, lang, cell } = own_cell(alloc, version, place, row)?;
-        if !self.is_above_all(&id, &lang) {
-            return Err(DocCause::CellOrder { row: place });
-        }
-        self.push(alloc, id, lang, cell)?;
-        Ok(())
-    }
-}
-
-impl Rows for Summary {
+/// Keeps all stamps.
+impl Rows<SiteName> for Summary {
     ghost Checks = { stamp_checks };
 
-    ghost Holds = { λ version summary rows. MakesEntries (stamped_in version) rows summary.stamps };
+    ghost Holds = { λ owner version summary rows.
+        MakesEntries (stamped_in version) rows summary.stamps };
 
-    fn clear(&mut self, alloc: Global) {
-        *self = Summary::new(alloc, self.owner());
+    fn restart(&mut self, alloc: Global, start: &SiteName) {
+        *self = Summary::new(alloc, *start);
     }
 
     fn take(
@@ -67,8 +45,10 @@ impl Rows for Summary {
     }
 }
 
-/// What a row of a site or a delta is by itself.
-fn own_cell(
+/// The key and the cell of a row of a site or a delta, whatever rows come before it.
+///
+/// Refused by the first test of the row that fails, or since memory ran out (26).
+pub fn entry_of_row(
     alloc: Global,
     version: Version,
     place: usize,

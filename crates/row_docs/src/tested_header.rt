@@ -38,43 +38,46 @@ pub struct TestedHeader {
 /// is not what it should be (20, 28), then where the members are not exactly those of the kind
 /// (20); or when memory runs out (26). The first refusal of a row is returned, since the document
 /// is refused for its own member first.
-pub fn read_header<R: Rows>(
+pub fn read_header<C, R: Rows<C>>(
     alloc: Global,
     bytes: &[u8],
     kind: Kind,
+    start: &C,
     rows: &mut R,
 ) -> Result<TestedHeader, DocCause>
     ensures { MatchResult result
         (λ tested. (d : Data) × AreJson bytes.now d
-        × HasHeader kind (R.Checks tested.version) (R.Holds tested.version) d tested rows.new)
+        × HasHeader kind (R.Checks tested.version) (R.Holds start.now tested.version) d tested
+        rows.new)
         (OrMemory NoMemory (RefusesHeader kind bytes.now)) }
 {
     let text = text_in(bytes)?;
     let mut scratch = Scratch::new(alloc);
     check_numbers(text, &mut scratch)?;
-    let tested = read_as(alloc, text, &mut scratch, kind, Version::Two, rows)?;
+    let tested = read_as(alloc, text, &mut scratch, kind, Version::Two, start, rows)?;
     match tested.version {
-        Version::One => read_as(alloc, text, &mut scratch, kind, Version::One, rows),
+        Version::One => read_as(alloc, text, &mut scratch, kind, Version::One, start, rows),
         Version::Two => Ok(tested),
     }
 }
 
 /// The tested header of a text, whose rows are read as those of version 1 or of version 2.
-fn read_as<R: Rows>(
+fn read_as<C, R: Rows<C>>(
     alloc: Global,
     text: &str,
     scratch: &mut Scratch,
     kind: Kind,
     version: Version,
+    start: &C,
     rows: &mut R,
 ) -> Result<TestedHeader, DocCause>
     requires { are_in_range (tokens text.now) ≡ true }
     ensures { MatchResult result
         (λ tested. (d : Data) × (read text.now ≡ Some d)
-        × HasHeader kind (R.Checks version) (R.Holds version) d tested rows.new)
+        × HasHeader kind (R.Checks version) (R.Holds start.now version) d tested rows.new)
         (OrMemory NoMemory (RefusesText kind text.now)) }
 {
-    match read_object(alloc, text, scratch, kind, version, rows)? {
+    match read_object(alloc, text, scratch, kind, version, start, rows)? {
         Some(header) => test_header(header),
         None => Err(DocCause::Shape {
             spot: Spot::Document,
@@ -83,26 +86,27 @@ fn read_as<R: Rows>(
 }
 
 /// The members of a text, or none where it is no object.
-fn read_object<R: Rows>(
+fn read_object<C, R: Rows<C>>(
     alloc: Global,
     text: &str,
     scratch: &mut Scratch,
     kind: Kind,
     version: Version,
+    start: &C,
     rows: &mut R,
 ) -> Result<Option<Header>, DocCause>
     requires { are_in_range (tokens text.now) ≡ true }
     ensures { MatchResult result
         (λ header. MatchOption header ((d : Data) × (read text.now ≡ Some d) × (as_object d ≡ None))
         (λ h. (ms : Members) × (read text.now ≡ Some (object ms))
-        × Shows kind (R.Checks version) (R.Holds version) h rows.new ms))
+        × Shows kind (R.Checks version) (R.Holds start.now version) h rows.new ms))
         (OrMemory NoMemory (λ e. (e ≡ NotJson) × (read text.now ≡ None))) }
 {
     let Ok(mut reader) = Reader::new(text, scratch) else {
         return Err(DocCause::NoMemory);
     };
     if begins_object(&mut reader) {
-        let header = read_rest(alloc, &mut reader, kind, version, rows)?;
+        let header = read_rest(alloc, &mut reader, kind, version, start, rows)?;
         Ok(Some(header))
     } else {
         check_value(text, scratch)?;
@@ -111,21 +115,22 @@ fn read_object<R: Rows>(
 }
 
 /// The members of the object whose brace was read, where nothing follows it.
-fn read_rest<R: Rows>(
+fn read_rest<C, R: Rows<C>>(
     alloc: Global,
     reader: &mut Reader<'_>,
     kind: Kind,
     version: Version,
+    start: &C,
     rows: &mut R,
 ) -> Result<Header, DocCause>
     requires numbers { are_in_range reader.old ≡ true }
     requires places { length reader.old < 2 ^ 64 }
     ensures { MatchResult result
         (λ header. (ms : Members) × ReadsMembers 126 reader.old ms []
-        × Shows kind (R.Checks version) (R.Holds version) header rows.new ms)
+        × Shows kind (R.Checks version) (R.Holds start.now version) header rows.new ms)
         (OrMemory NoMemory (λ e. (e ≡ NotJson) × IsNotWhole reader.old)) }
 {
-    let header = read_members(alloc, reader, kind, version, rows)?;
+    let header = read_members(alloc, reader, kind, version, start, rows)?;
     match reader.next() {
         None => Ok(header),
         Some(_) => Err(DocCause::NotJson),

@@ -58,7 +58,7 @@ fn read_steps(alloc: Global, bytes: &[u8], steps: &mut Steps) -> Result<usize, D
         × AreSteps (version_of d) (rows_in kind.Script d) steps.new.steps.items)
         (OrMemory NoMemory (RefusesScript bytes.now)) }
 {
-    let tested = match read_header(alloc, bytes, Kind::Script, steps) {
+    let tested = match read_header(alloc, bytes, Kind::Script, &(), steps) {
         Ok(tested) => tested,
         Err(cause) => return Err(cause),
     };

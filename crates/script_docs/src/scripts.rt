@@ -85,14 +85,14 @@ impl Steps {
     }
 }
 
-impl Rows for Steps {
+impl Rows<()> for Steps {
     ghost use Rattle.script_docs.specs.StepFields.{AreSteps, step_checks};
 
     ghost Checks = { step_checks };
 
-    ghost Holds = { λ version taken rows. AreSteps version rows taken.steps.items };
+    ghost Holds = { λ _ version taken rows. AreSteps version rows taken.steps.items };
 
-    fn clear(&mut self, alloc: Global) {
+    fn restart(&mut self, alloc: Global, _start: &()) {
         self.steps = Vec::new(alloc);
     }
 

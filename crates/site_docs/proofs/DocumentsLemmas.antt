@@ -1,6 +1,6 @@
 -- Rows that are written one after another, and documents that read as what they were written for.
 use Rattle.std.proofs.Common.{◌≡◌, ◌∙◌, ◌+◌, ◌<◌, ◌++◌, ℕ, zero, suc, List, [], ◌∷◌, codes, take}
-use Rattle.std.proofs.Common.{length, map, ap, sym, subst, append_assoc, add-one, arith}
+use Rattle.std.proofs.Common.{length, map, ap, sym, subst, add-one, arith}
 use Rattle.std.proofs.lemmas.List.{map-append}
 use Rattle.std.proofs.lemmas.List.Elements.{All-append, All-cons, All-nil}
 use Rattle.std.specs.List.{All}
@@ -11,19 +11,10 @@ use Rattle.serde_json.specs.Data.{Data}
 use Rattle.cata_core.specs.Delta.{summary_of}
 use Rattle.cata_core.specs.Entries.{Entries, Entry, EntryKey}
 use Rattle.cell_core.specs.declared.stamp.Stamp.{Stamp}
-use Rattle.row_docs.specs.Entries.{cells_values, entry_value, stamps_values, stamped_value}
+use Rattle.row_docs.specs.Entries.{stamps_values, stamped_value}
 use Rattle.row_docs.specs.Texts.{Adds, value_tokens}
-use Rattle.site_docs.specs.Drafts.{HoldsCells, HoldsStamps}
+use Rattle.site_docs.specs.Drafts.{HoldsStamps}
 use Rattle.row_docs.proofs.TextsLemmas.{row_tokens-push}
-
-HoldsCells-adds : (a b : Written) (rows : List Data) (d : Data) → HoldsCells a rows
-    → Adds a b (value_tokens d) → HoldsCells b (rows ++ d ∷ [])
-HoldsCells-adds a b rows d holds adds = (
-  adds.0 ∙ holds.0,
-  adds.1 ∙ (ap (λ t. t ++ value_tokens d) holds.1
-      ∙ ap (λ t. begin_object ∷ key (codes "cells") ∷ begin_array ∷ t)
-      (sym (row_tokens-push rows d))),
-)
 
 HoldsStamps-adds : (a b : Written) (owner : List ℕ) (rows : List Data) (d : Data)
     → HoldsStamps a owner rows → Adds a b (value_tokens d) → HoldsStamps b owner (rows ++ d ∷ [])
@@ -32,17 +23,6 @@ HoldsStamps-adds a b owner rows d holds adds = (
   adds.1 ∙ (ap (λ t. t ++ value_tokens d) holds.1
       ∙ ap (λ t. begin_object ∷ key (codes "kind") ∷ string (codes "summary") ∷ key (codes "owner")
       ∷ string owner ∷ key (codes "stamps") ∷ begin_array ∷ t) (sym (row_tokens-push rows d))),
-)
-
--- one cell more is written, and one less is left
-pub cell_more : (a b : Written) (done left all : Entries) (next : Entries) (e : Entry)
-    → HoldsCells a (cells_values done) → Adds a b (value_tokens (entry_value e))
-    → done ++ left ≡ all → left ≡ e ∷ next
-    → HoldsCells b (cells_values (done ++ e ∷ [])) × ((done ++ e ∷ []) ++ next ≡ all)
-cell_more a b done left all next e holds adds so_far first = (
-  rw (map-append entry_value done (e ∷ []))
-      (HoldsCells-adds a b (cells_values done) (entry_value e) holds adds),
-  append_assoc done (e ∷ []) next ∙ (ap (λ t. done ++ t) (sym first) ∙ so_far),
 )
 
 taken : {A : Type 0} (xs : List A) (k : ℕ) (x : A) → slice_get xs k ≡ Some x → take (suc k) xs

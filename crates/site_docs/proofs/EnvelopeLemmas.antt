@@ -1,5 +1,5 @@
 -- A draft that is closed is the text of its document, and is UTF-8.
-use Rattle.std.proofs.Common.{◌≡◌, ◌∙◌, ◌++◌, ℕ, List, [], ◌∷◌, codes, ap, sym}
+use Rattle.std.proofs.Common.{◌≡◌, ◌∙◌, ◌++◌, ℕ, List, [], ◌∷◌, codes, ap, refl, sym}
 use Rattle.json.specs.Print.{print}
 use Rattle.json.specs.Token.{Token, begin_object, begin_array, end_array, key, string}
 use Rattle.json.specs.Tree.{items_tokens}
@@ -9,7 +9,7 @@ use Rattle.serde_json.specs.View.{items_of}
 use Rattle.serde_json.specs.Written.{items_outline}
 use Rattle.row_docs.specs.Envelope.{name_tokens, version_tokens}
 use Rattle.row_docs.specs.Texts.{row_tokens, text, value_tokens}
-use Rattle.site_docs.specs.Drafts.{HoldsCells, HoldsStamps}
+use Rattle.site_docs.specs.Drafts.{HoldsStamps}
 use Rattle.site_docs.specs.Values.{delta_value, site_value, summary_value}
 use Rattle.row_docs.proofs.TextsLemmas.{printed, rows_member}
 
@@ -27,23 +27,22 @@ cells_closed tokens rest rows is =
     ap (λ t. t ++ end_array ∷ rest) is
     ∙ ap (λ t. begin_object ∷ key (codes "cells") ∷ begin_array ∷ t) (sym (rows_member rows rest))
 
--- a draft of a site, closed, is the text of its document
-pub site_closed : (draft : Written) (site : List ℕ) (rows : List Data) → HoldsCells draft rows
-    → draft.before ++ (print (draft.tokens ++ end_array ∷
+-- the tokens of a site's document, printed, are its text
+pub site_closed : (site : List ℕ) (rows : List Data)
+    → print ((begin_object ∷ key (codes "cells") ∷ begin_array ∷ row_tokens rows) ++ end_array ∷
     (name_tokens (codes "kind") (codes "site")
-    ++ (name_tokens (codes "site") site ++ version_tokens))) ++ 10 ∷ [])
+    ++ (name_tokens (codes "site") site ++ version_tokens))) ++ 10 ∷ []
     ≡ text (site_value site rows)
-site_closed draft site rows holds = whole draft.before _ (site_value site rows) holds.0
-    (cells_closed draft.tokens _ rows holds.1)
+site_closed site rows = whole [] _ (site_value site rows) refl (cells_closed _ _ rows refl)
 
--- a draft of a delta, closed, is the text of its document
-pub delta_closed : (draft : Written) (addressee : List ℕ) (rows : List Data) → HoldsCells draft rows
-    → draft.before ++ (print (draft.tokens ++ end_array ∷
+-- the same of a delta's document
+pub delta_closed : (addressee : List ℕ) (rows : List Data)
+    → print ((begin_object ∷ key (codes "cells") ∷ begin_array ∷ row_tokens rows) ++ end_array ∷
     (name_tokens (codes "kind") (codes "delta")
-    ++ (name_tokens (codes "to") addressee ++ version_tokens))) ++ 10 ∷ [])
+    ++ (name_tokens (codes "to") addressee ++ version_tokens))) ++ 10 ∷ []
     ≡ text (delta_value addressee rows)
-delta_closed draft addressee rows holds = whole draft.before _ (delta_value addressee rows) holds.0
-    (cells_closed draft.tokens _ rows holds.1)
+delta_closed addressee rows =
+    whole [] _ (delta_value addressee rows) refl (cells_closed _ _ rows refl)
 
 -- a draft of a summary, closed, is the text of its document
 pub summary_closed : (draft : Written) (owner : List ℕ) (rows : List Data)

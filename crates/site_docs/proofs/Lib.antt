@@ -7,8 +7,9 @@ pub mod PlainReads
 pub mod PlainStampsLemmas
 pub mod RoundTrip
 pub mod RowsDraftLemmas
-pub mod SharedCellsLemmas
+pub mod ClosingLemmas
 pub mod ShowingLemmas
+pub mod ShownRowsLemmas
 pub mod SiteDocumentsLemmas
 pub mod LanguagesLemmas
 pub mod TextsLemmas

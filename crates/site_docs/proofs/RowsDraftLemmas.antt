@@ -22,7 +22,7 @@ use Rattle.row_docs.specs.Values.{Row, cell_value, label_value}
 use Rattle.row_docs.proofs.TextsLemmas.{row_tokens-append, row_tokens-push}
 use Rattle.site_docs.specs.Plain.{is_later}
 use Rattle.site_docs.specs.RowsDraft.{HoldsRows}
-use Rattle.site_docs.specs.SharedCells.{front_tokens}
+use Rattle.site_docs.specs.Closing.{front_tokens}
 use Rattle.site_docs.specs.declared.rows_draft.RowsDraft.{RowsDraft}
 use Rattle.site_docs.proofs.DocumentsLemmas.{kept_more}
 use Rattle.site_docs.proofs.PlainLemmas.{is_later-push}

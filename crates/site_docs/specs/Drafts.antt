@@ -5,11 +5,6 @@ use Rattle.json.specs.Written.{Written}
 use Rattle.serde_json.specs.Data.{Data}
 use Rattle.row_docs.specs.Texts.{row_tokens}
 
--- a site's or a delta's draft: it is open after these rows
-abbrev pub HoldsCells : Written → List Data → Type 0
-HoldsCells draft rows = (draft.before ≡ [])
-    × (draft.tokens ≡ begin_object ∷ key (codes "cells") ∷ begin_array ∷ row_tokens rows)
-
 -- a summary's draft of this owner: it is open after these rows
 abbrev pub HoldsStamps : Written → List ℕ → List Data → Type 0
 HoldsStamps draft owner rows =

@@ -6,7 +6,8 @@ pub mod PlainRows
 pub mod PlainStamps
 pub mod ReadsAs
 pub mod RowsDraft
-pub mod SharedCells
+pub mod Closing
+pub mod ShownRows
 pub mod Sink
 pub mod SiteDocuments
 pub mod Unread

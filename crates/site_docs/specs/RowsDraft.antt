@@ -4,7 +4,7 @@ use Rattle.json.specs.Print.{print}
 use Rattle.cata_core.specs.Entries.{Entries}
 use Rattle.row_docs.specs.Valid.{IsKeptCell}
 use Rattle.site_docs.specs.Plain.{is_later}
-use Rattle.site_docs.specs.SharedCells.{front_tokens}
+use Rattle.site_docs.specs.Closing.{front_tokens}
 use Rattle.site_docs.specs.declared.rows_draft.RowsDraft.{RowsDraft}
 
 -- the draft is the text of a site's document as far as the rows of these cells

@@ -1,7 +1,8 @@
 //! The documents of sites, deltas and summaries: read in any order of their members, and written.
 
+pub(crate) mod closing;
 pub(crate) mod envelope;
 pub(crate) mod reading;
-pub(crate) mod shared_cells;
+pub(crate) mod shown_rows;
 pub(crate) mod site_documents;
 pub(crate) mod writing;

@@ -4,8 +4,8 @@
 //! [`write_delta`] and [`write_summary`] write one. [`site_at`], [`delta_at`] and [`summary_at`]
 //! read one document of several, which a refusal names.
 //! [`show_document`] shows the cells of a site's document to a [`CellSink`], which keeps what it
-//! needs of them, and builds no catalogue where the document is in the form in which it is written;
-//! [`show_catalogue`] shows those of a catalogue. [`written_summary`] writes the summary of a
+//! needs of them, and builds no catalogue;
+//! [`show_catalogue`] shows those of a catalogue. [`document_summary`] makes the summary of a
 //! document as its rows are read, and a [`RowsDraft`] copies the rows of one document to another.
 //!
 //! Callers find what they need in `docs_core`.
@@ -20,7 +20,7 @@ mod sink;
 
 pub use document::reading::{delta_at, read_delta, read_site, read_summary, site_at, summary_at};
 pub use document::writing::{write_delta, write_site, write_summary};
-pub use plain::summaries::written_summary;
+pub use plain::summaries::document_summary;
 pub use rows_draft::RowsDraft;
 pub use showing::{show_catalogue, show_document};
 pub use sink::{CellRef, CellSink, LabelRef};

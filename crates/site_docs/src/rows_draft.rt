@@ -1,16 +1,16 @@
 //! Documents of sites that are being written: rows are copied from another document, or made.
-ghost use Rattle.std.specs.Prelude.{◌≡◌, ◌++◌, ◌∷◌, [], IfOk, OnOk, drop, true};
+ghost use Rattle.std.specs.Prelude.{◌≡◌, ◌++◌, ◌∷◌, [], IfOk, IsUtf8, OnOk, drop, true};
 ghost use Rattle.serde_json.specs.Written.{comma_if, compact_text};
 ghost use Rattle.cell_core.specs.Keyed.{IsMap};
 ghost use Rattle.cata_core.specs.Entries.{Entries, Entry, key_cmp};
 ghost use Rattle.row_docs.specs.Entries.{entry_value};
 ghost use Rattle.row_docs.specs.Valid.{IsKeptCell};
-ghost use Rattle.site_docs.specs.ReadsAs.{IsSiteText};
+ghost use Rattle.site_docs.specs.ReadsAs.{IsDeltaText, IsSiteText};
 ghost use Rattle.site_docs.specs.RowsDraft.{HoldsRows};
 ghost use Rattle.site_docs.specs.Sink.{IsLabelRef, IsRowOf, entry_of};
 
+use crate::document::closing::{closed, closed_copy, closed_delta};
 use crate::document::envelope::open_cells;
-use crate::document::shared_cells::{closed, closed_copy};
 use crate::sink::CellRef;
 use cell_core::{Cell, MessageId, SiteName};
 use json::Writer;
@@ -28,6 +28,8 @@ const OPENING: usize = 10;
 pub struct RowsDraft {
     bytes: Vec<u8>,
     has_rows: bool,
+    /// The last row that was made.
+    row: Vec<u8>,
 }
 
 impl RowsDraft {
@@ -43,6 +45,7 @@ impl RowsDraft {
         Ok(RowsDraft {
             bytes,
             has_rows: false,
+            row: Vec::new(alloc),
         })
     }
 
@@ -74,10 +77,14 @@ impl RowsDraft {
         ensures { OnOk result ((rows : Entries) → HoldsRows self.old rows
             → HoldsRows self.new (rows ++ ((id.now, lang.now), cell.now) ∷ [])) }
     {
-        self.add_comma()?;
-        let mut row = Writer::new(mem::replace(&mut self.bytes, Vec::new(alloc)));
-        write_entry(&mut row, id, lang, cell)?;
-        self.bytes = row.into_inner();
+        // (A writer fills what room there is with zeros, so it is not given all bytes.)
+        let mut row = mem::replace(&mut self.row, Vec::new(alloc));
+        row.clear();
+        let mut out = Writer::new(row);
+        write_entry(&mut out, id, lang, cell)?;
+        let row = out.into_inner();
+        self.add_row(row.as_slice())?;
+        self.row = row;
         Ok(())
     }
 
@@ -94,6 +101,16 @@ impl RowsDraft {
             self.bytes.extend_from_slice(others.rows())?;
         }
         Ok(())
+    }
+
+    /// The document of the delta for the site of this name. Its cells are those of the rows.
+    ///
+    /// Its one refusal is out of memory (26).
+    pub fn close_delta(self, alloc: Global, addressee: SiteName) -> Result<Doc, AllocError>
+        ensures { (cells : Entries) → HoldsRows self cells → IsMap key_cmp cells
+            → IfOk result (IsDeltaText (record { addressee = addressee; cells = cells })) }
+    {
+        closed_delta(alloc, self.bytes, addressee)
     }
 
     /// The document of the site of this name. Its cells are those of the rows.
@@ -150,8 +167,17 @@ impl RowsDraft {
             → IsKeptCell e → row.now ≡ compact_text (entry_value e)
             → HoldsRows self.new (rows ++ e ∷ [])) }
     {
+        self.add_row(row.as_bytes())
+    }
+
+    /// The same of its bytes.
+    fn add_row(&mut self, row: &[u8]) -> Result<(), AllocError>
+        ensures { OnOk result ((rows : Entries) (e : Entry) → HoldsRows self.old rows
+            → IsKeptCell e → IsUtf8 row.now → row.now ≡ compact_text (entry_value e)
+            → HoldsRows self.new (rows ++ e ∷ [])) }
+    {
         self.add_comma()?;
-        self.bytes.extend_from_slice(row.as_bytes())?;
+        self.bytes.extend_from_slice(row)?;
         Ok(())
     }
 

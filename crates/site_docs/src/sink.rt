@@ -1,10 +1,11 @@
 //! What sees the cells of a site one after another, and what it sees of each.
 ghost use Rattle.std.specs.Prelude.{◌≡◌, ◌++◌, ◌∷◌, [], IfOk, OnOk, is_some};
 ghost use Rattle.cell_core.specs.Label.{IsLabel};
+ghost use Rattle.cata_core.specs.Delta.{summary_of};
 ghost use Rattle.cata_core.specs.Entries.{Entries, IsAboveAll};
 ghost use Rattle.site_docs.specs.Sink.{IsLabelRef, IsRowOf, entry_of, texts_of};
 
-use cata_core::Catalogue;
+use cata_core::{Catalogue, Summary};
 use cell_core::{Cell, CellFault, Key, Label, MessageId, Stamp};
 use lang_core::Lang;
 use std::alloc::{AllocError, Global};
@@ -74,6 +75,21 @@ impl<'t> CellSink<'t> for Catalogue {
         let id = cell.id.copy(alloc)?;
         let lang = cell.lang.copy(alloc)?;
         self.push(alloc, id, lang, Cell::new(cell.stamp, label))
+    }
+}
+
+/// Keeps the stamps of all cells.
+impl<'t> CellSink<'t> for Summary {
+    ghost Holds = { λ first summary seen. summary.stamps ≡ summary_of seen };
+
+    fn begin(&self, alloc: Global) -> Result<Summary, AllocError> {
+        Ok(Summary::new(alloc, self.owner()))
+    }
+
+    fn see(&mut self, alloc: Global, cell: CellRef<'_, 't>) -> Result<(), AllocError> {
+        let id = cell.id.copy(alloc)?;
+        let lang = cell.lang.copy(alloc)?;
+        self.push(id, lang, cell.stamp)
     }
 }
 

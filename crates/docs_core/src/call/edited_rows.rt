@@ -130,7 +130,7 @@ fn add_beside(
 }
 
 /// The later of the stamps.
-fn later(latest: Option<Stamp>, stamp: Stamp) -> Option<Stamp>
+pub(crate) fn later(latest: Option<Stamp>, stamp: Stamp) -> Option<Stamp>
     ensures { result ≡ joined_if_both joined_stamps latest (Some stamp) }
 {
     match latest {

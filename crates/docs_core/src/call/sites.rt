@@ -14,12 +14,13 @@ ghost use Rattle.docs_core.specs.Calls.{IsTaken, RefusesEditing, RefusesDeltaFor
 ghost use Rattle.docs_core.specs.Calls.{RefusesTaking};
 
 use crate::call::edited_rows::EditedRows;
+use crate::call::lacked_rows::LackedRows;
 use crate::call::time_limits::{sync_documents_until, take_document_until};
 use cata_core::{CataFault, Site};
 use cell_core::{Cell, Label, MessageId, SiteName, Stamp};
 use json_docs::{Doc, DocFault};
 use lang_core::Lang;
-use site_docs::{show_document, site_at, summary_at, write_delta, write_summary, written_summary};
+use site_docs::{document_summary, show_document, site_at, summary_at};
 use std::alloc::{AllocError, Global};
 
 /// The document of the site after an edit at the time `now`: a label is put, and none deletes.
@@ -60,7 +61,11 @@ fn copy_of(alloc: Global, label: Option<&Label>) -> Result<Option<Label>, AllocE
 }
 
 /// The least stamp of the site that is greater than the latest one and not before now.
-fn next_stamp(latest: Option<Stamp>, now: u64, name: SiteName) -> Result<Stamp, CataFault>
+pub(crate) fn next_stamp(
+    latest: Option<Stamp>,
+    now: u64,
+    name: SiteName,
+) -> Result<Stamp, CataFault>
     ensures { MatchResult result (IsNext latest now name)
         (λ fault. (fault ≡ ClockSpent) × NoNext latest now name) }
 {
@@ -113,14 +118,7 @@ pub fn summary_document(alloc: Global, site: &[u8]) -> Result<Doc, DocFault>
     ensures { MatchResult result (IsSummarised site.now)
         (OrMemory no_memory (IsOfDocument 1 (RefusesSite site.now))) }
 {
-    if let Some(doc) = written_summary(alloc, site) {
-        return Ok(doc);
-    }
-    let site = site_at(alloc, 1, site)?;
-    let summary = site.summary(alloc)?;
-    drop(site);
-    let doc = write_summary(alloc, &summary)?;
-    Ok(doc)
+    document_summary(alloc, 1, site)
 }
 
 /// The document of the delta of what the summary lacks, for the summary's owner.
@@ -131,11 +129,18 @@ pub fn delta_document(alloc: Global, site: &[u8], summary: &[u8]) -> Result<Doc,
     ensures { MatchResult result (IsDeltaFor site.now summary.now)
         (OrMemory no_memory (RefusesDeltaFor site.now summary.now)) }
 {
-    let site = site_at(alloc, 1, site)?;
-    let summary = summary_at(alloc, 2, summary)?;
-    let delta = site.delta_for(alloc, &summary)?;
-    drop(site);
-    let doc = write_delta(alloc, &delta)?;
+    let room = site.len();
+    let summary = match summary_at(alloc, 2, summary) {
+        Ok(summary) => summary,
+        Err(fault) => {
+            // Document 1 is refused first.
+            let _read = site_at(alloc, 1, site)?;
+            return Err(fault);
+        }
+    };
+    let start = LackedRows::new(alloc, &summary, room)?;
+    let (_, rows) = show_document(alloc, 1, site, &start)?;
+    let doc = rows.close(alloc, summary.owner())?;
     Ok(doc)
 }
 

@@ -6,8 +6,9 @@ ghost use Rattle.json.specs.Token.{string};
 ghost use Rattle.serde_json.specs.Data.{Data};
 ghost use Rattle.row_docs.specs.Envelope.{name_tokens, version_tokens};
 ghost use Rattle.row_docs.specs.Texts.{Adds, text};
-ghost use Rattle.site_docs.specs.Drafts.{HoldsCells, HoldsStamps};
-ghost use Rattle.site_docs.specs.Values.{delta_value, site_value, summary_value};
+ghost use Rattle.site_docs.specs.Closing.{front_tokens};
+ghost use Rattle.site_docs.specs.Drafts.{HoldsStamps};
+ghost use Rattle.site_docs.specs.Values.{summary_value};
 
 use json::Writer;
 use json_docs::Doc;
@@ -16,31 +17,14 @@ use std::alloc::{AllocError, Global};
 
 /// Opens a site's or a delta's document, with no row yet.
 pub(crate) fn open_cells(alloc: Global) -> Result<Writer, AllocError>
-    ensures { IfOk result (λ draft. HoldsCells draft []) }
+    ensures before { IfOk result (λ draft. draft.before ≡ []) }
+    ensures tokens { IfOk result (λ draft. draft.tokens ≡ front_tokens []) }
 {
     let mut draft = Writer::new(Vec::new(alloc));
     draft.begin_object()?;
     draft.key("cells")?;
     draft.begin_array()?;
     Ok(draft)
-}
-
-/// Closes the document of a site after its rows.
-pub(crate) fn close_site(draft: Writer, site: &str) -> Result<Doc, AllocError>
-    ensures text { (rows : List Data) → HoldsCells draft rows
-        → IfOk result (λ doc. doc ≡ text (site_value site.now rows)) }
-    ensures utf8 { IfOk result (λ doc. draft.before ≡ [] → IsUtf8 doc) }
-{
-    close_named(draft, "site", "site", site)
-}
-
-/// Closes the document of a delta after its rows.
-pub(crate) fn close_delta(draft: Writer, addressee: &str) -> Result<Doc, AllocError>
-    ensures text { (rows : List Data) → HoldsCells draft rows
-        → IfOk result (λ doc. doc ≡ text (delta_value addressee.now rows)) }
-    ensures utf8 { IfOk result (λ doc. draft.before ≡ [] → IsUtf8 doc) }
-{
-    close_named(draft, "delta", "to", addressee)
 }
 
 /// Opens a summary's document, with no row yet.

@@ -6,7 +6,7 @@ ghost use Rattle.site_docs.specs.ReadsAs.{ReadsAsDelta, ReadsAsSite, ReadsAsSumm
 ghost use Rattle.row_docs.specs.Reading.{no_memory};
 ghost use Rattle.site_docs.specs.ReadsAs.{RefusesDelta, RefusesSite, RefusesSummary};
 
-use crate::document::site_documents::{delta_from, site_from, site_of_members, summary_from};
+use crate::document::site_documents::{delta_from, site_from, summary_from};
 use cata_core::{Delta, Site, Summary};
 use json_docs::DocFault;
 use std::alloc::Global;
@@ -47,22 +47,6 @@ pub fn site_at(alloc: Global, document: usize, bytes: &[u8]) -> Result<Site, Doc
         (OrMemory no_memory (IsOfDocument document (RefusesSite bytes.now))) }
 {
     match site_from(alloc, bytes) {
-        Ok(site) => Ok(site),
-        Err(cause) => Err(DocFault::of_document(document, cause)),
-    }
-}
-
-/// The same where the document is known not to be of the form in which it is written, which is not
-/// tried again.
-pub(crate) fn site_in_any_form(
-    alloc: Global,
-    document: usize,
-    bytes: &[u8],
-) -> Result<Site, DocFault>
-    ensures { MatchResult result (ReadsAsSite bytes.now)
-        (OrMemory no_memory (IsOfDocument document (RefusesSite bytes.now))) }
-{
-    match site_of_members(alloc, bytes) {
         Ok(site) => Ok(site),
         Err(cause) => Err(DocFault::of_document(document, cause)),
     }

@@ -3,15 +3,19 @@ ghost use Rattle.std.specs.Prelude.{◌≡◌, Some, MatchResult, IfOk, IfErr};
 ghost use Rattle.serde_json.specs.Data.{Data};
 ghost use Rattle.json_docs.specs.Checks.{AllPass, AreJson, FirstFails, IsRefusal, OrMemory};
 ghost use Rattle.json_docs.specs.declared.fault.DocCause.TheVariants.{NoMemory};
+ghost use Rattle.cata_core.specs.Entries.{Entries};
 ghost use Rattle.row_docs.specs.Headers.{IsSubject, rows_in, version_of};
+ghost use Rattle.row_docs.specs.Rising.{MakesEntries, cell_checks, entry_in};
 ghost use Rattle.site_docs.specs.ReadsAs.{ReadsAsDelta, ReadsAsSite, ReadsAsSummary, RefusesDelta};
 ghost use Rattle.site_docs.specs.ReadsAs.{RefusesSite, RefusesSummary};
 ghost use Rattle.row_docs.specs.Rows.{site_in};
 ghost use Rattle.site_docs.specs.SiteDocuments.{document_checks, named_in, subject_checks};
 ghost use Rattle.row_docs.specs.declared.version.Version.TheVariants.{One, Two};
 
+use crate::document::shown_rows::ShownRows;
 use crate::plain::documents::cells_of_plain;
 use crate::plain::stamps::summary_of_plain;
+use crate::sink::CellSink;
 use cata_core::{Catalogue, Delta, Site, Summary};
 use cell_core::SiteName;
 use json_docs::{DocCause, Spot};
@@ -52,12 +56,11 @@ pub(crate) fn summary_from(alloc: Global, bytes: &[u8]) -> Result<Summary, DocCa
 }
 
 /// The site of a document in any form.
-pub(crate) fn site_of_members(alloc: Global, bytes: &[u8]) -> Result<Site, DocCause>
+fn site_of_members(alloc: Global, bytes: &[u8]) -> Result<Site, DocCause>
     ensures { MatchResult result (ReadsAsSite bytes.now)
         (OrMemory NoMemory (RefusesSite bytes.now)) }
 {
-    let mut cells = Catalogue::new(alloc);
-    let name = read_named(alloc, bytes, Kind::Site, &mut cells)?;
+    let (name, cells) = show_members(alloc, bytes, Kind::Site, &Catalogue::new(alloc))?;
     Ok(Site::from_catalogue(name, cells))
 }
 
@@ -66,8 +69,7 @@ fn delta_of_members(alloc: Global, bytes: &[u8]) -> Result<Delta, DocCause>
     ensures { MatchResult result (ReadsAsDelta bytes.now)
         (OrMemory NoMemory (RefusesDelta bytes.now)) }
 {
-    let mut cells = Catalogue::new(alloc);
-    let addressee = read_named(alloc, bytes, Kind::Delta, &mut cells)?;
+    let (addressee, cells) = show_members(alloc, bytes, Kind::Delta, &Catalogue::new(alloc))?;
     Ok(Delta::from_catalogue(addressee, cells))
 }
 
@@ -76,25 +78,51 @@ fn summary_of_members(alloc: Global, bytes: &[u8]) -> Result<Summary, DocCause>
     ensures { MatchResult result (ReadsAsSummary bytes.now)
         (OrMemory NoMemory (RefusesSummary bytes.now)) }
 {
-    let mut summary = Summary::new(alloc, SiteName::of_number(0));
-    let owner = read_named(alloc, bytes, Kind::Summary, &mut summary)?;
+    let start = SiteName::of_number(0);
+    let mut summary = Summary::new(alloc, start);
+    let owner = read_named(alloc, bytes, Kind::Summary, &start, &mut summary)?;
     Ok(summary.with_owner(owner))
 }
 
-/// Reads the rows, and answers the name.
-fn read_named<R: Rows>(
+/// Shows the cells of a document of this kind, in any form, to a sink as this one, and answers its
+/// name, and the sink.
+pub(crate) fn show_members<'t, S: CellSink<'t>>(
     alloc: Global,
     bytes: &[u8],
     kind: Kind,
+    start: &S,
+) -> Result<(SiteName, S), DocCause>
+    ensures ok { IfOk result (λ shown. (d : Data) × AreJson bytes.now d
+        × AllPass (document_checks kind cell_checks d) × (named_in kind d ≡ Some shown.0)
+        × ((cells : Entries) × MakesEntries (entry_in (version_of d)) (rows_in kind d) cells
+        × S.Holds start.now shown.1 cells)) }
+    ensures err { IfErr result
+        (OrMemory NoMemory (IsRefusal (document_checks kind cell_checks) bytes.now)) }
+{
+    let mut rows = ShownRows::new();
+    let name = read_named(alloc, bytes, kind, start, &mut rows)?;
+    let ShownRows { sink, .. } = rows;
+    match sink {
+        Some(sink) => Ok((name, sink)),
+        None => Err(DocCause::NoMemory),
+    }
+}
+
+/// Reads the rows, and answers the name.
+fn read_named<C, R: Rows<C>>(
+    alloc: Global,
+    bytes: &[u8],
+    kind: Kind,
+    start: &C,
     rows: &mut R,
 ) -> Result<SiteName, DocCause>
     ensures ok { IfOk result (λ name. (d : Data) × AreJson bytes.now d
         × AllPass (document_checks kind R.Checks d) × (named_in kind d ≡ Some name)
-        × R.Holds (version_of d) rows.new (rows_in kind d)) }
+        × R.Holds start.now (version_of d) rows.new (rows_in kind d)) }
     ensures err { IfErr result
         (OrMemory NoMemory (IsRefusal (document_checks kind R.Checks) bytes.now)) }
 {
-    let tested = read_header(alloc, bytes, kind, rows)?;
+    let tested = read_header(alloc, bytes, kind, start, rows)?;
     let name = subject_name(tested.version, tested.subject)?;
     match tested.refusal {
         Some(cause) => Err(cause),

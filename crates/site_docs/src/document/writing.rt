@@ -1,17 +1,21 @@
 //! The documents of sites, deltas and summaries, written.
 ghost use Rattle.std.specs.Prelude.{◌≡◌, IfOk};
+ghost use Rattle.cell_core.specs.Keyed.{IsMap};
 ghost use Rattle.cell_core.specs.SiteName.{IsSiteName};
-ghost use Rattle.row_docs.specs.Entries.{cells_values, stamps_values};
-ghost use Rattle.row_docs.specs.Valid.{AreKeptCells, AreKeptStamps};
+ghost use Rattle.cata_core.specs.Entries.{key_cmp};
+ghost use Rattle.row_docs.specs.Entries.{stamps_values};
+ghost use Rattle.row_docs.specs.Valid.{AreKeptStamps};
 ghost use Rattle.site_docs.specs.Documents.{delta_text, site_text, summary_text};
-ghost use Rattle.site_docs.specs.Drafts.{HoldsCells, HoldsStamps};
+ghost use Rattle.site_docs.specs.Drafts.{HoldsStamps};
 ghost use Rattle.site_docs.specs.ReadsAs.{ReadsAsDelta, ReadsAsSite, ReadsAsSummary};
+ghost use Rattle.site_docs.specs.RowsDraft.{HoldsRows};
 
-use crate::document::envelope::{close_delta, close_site, close_summary, open_cells, open_stamps};
+use crate::document::envelope::{close_summary, open_stamps};
+use crate::rows_draft::RowsDraft;
 use cata_core::{Catalogue, Delta, Site, Summary};
 use json::Writer;
 use json_docs::Doc;
-use row_docs::{write_entry, write_stamped};
+use row_docs::write_stamped;
 use std::alloc::{AllocError, Global};
 
 /// The document of a site, version 2: its cells in rising order of key, deletions among them. It
@@ -22,8 +26,8 @@ pub fn write_site(alloc: Global, site: &Site) -> Result<Doc, AllocError>
     ensures text { IfOk result (λ doc. doc ≡ site_text site.now) }
     ensures reads { IfOk result (λ doc. ReadsAsSite doc site.now) }
 {
-    let draft = cells_draft(alloc, site.catalogue())?;
-    close_site(draft, site.name().as_str())
+    let draft = rows_of(alloc, site.catalogue())?;
+    draft.close(alloc, site.name())
 }
 
 /// The document of a delta, version 2. It reads as this delta.
@@ -33,8 +37,8 @@ pub fn write_delta(alloc: Global, delta: &Delta) -> Result<Doc, AllocError>
     ensures text { IfOk result (λ doc. doc ≡ delta_text delta.now) }
     ensures reads { IfOk result (λ doc. ReadsAsDelta doc delta.now) }
 {
-    let draft = cells_draft(alloc, delta.cells())?;
-    close_delta(draft, delta.addressee().as_str())
+    let draft = rows_of(alloc, delta.cells())?;
+    draft.close_delta(alloc, delta.addressee())
 }
 
 /// The document of a summary, version 2: its stamps in rising order of key. It reads as this
@@ -49,14 +53,14 @@ pub fn write_summary(alloc: Global, summary: &Summary) -> Result<Doc, AllocError
     close_summary(draft)
 }
 
-/// A site's or a delta's document with all its cells, not yet closed.
-pub(crate) fn cells_draft(alloc: Global, cells: &Catalogue) -> Result<Writer, AllocError>
-    ensures rows { IfOk result (λ draft. HoldsCells draft (cells_values cells.now)) }
-    ensures kept { IfOk result (λ _. AreKeptCells cells.now) }
+/// The document of a site or a delta with all its cells, not yet closed.
+fn rows_of(alloc: Global, cells: &Catalogue) -> Result<RowsDraft, AllocError>
+    ensures rows { IfOk result (λ draft. HoldsRows draft cells.now) }
+    ensures map { IfOk result (λ _. IsMap key_cmp cells.now) }
 {
-    let mut draft = open_cells(alloc)?;
+    let mut draft = RowsDraft::new(alloc, 0)?;
     for (id, lang, cell) in cells.iter() {
-        write_entry(&mut draft, id, lang, cell)?;
+        draft.add_cell(alloc, id, lang, cell)?;
     }
     Ok(draft)
 }

@@ -1,27 +1,64 @@
-//! The summary of a site, written as the rows of the site's document are read.
-ghost use Rattle.std.specs.Prelude.{◌≡◌, ◌++◌, List, ℕ, IfSome, codes};
+//! The summary of a site, made as the rows of the site's document are read.
+ghost use Rattle.std.specs.Prelude.{◌≡◌, ◌++◌, List, ℕ, IfSome, MatchResult, codes};
 ghost use Rattle.cata_core.specs.Delta.{summary_of};
 ghost use Rattle.cata_core.specs.Site.{SiteState};
+ghost use Rattle.json_docs.specs.Checks.{OrMemory};
+ghost use Rattle.json_docs.specs.declared.fault.DocCause.TheVariants.{NoMemory};
 ghost use Rattle.row_docs.specs.Entries.{stamps_values};
+ghost use Rattle.row_docs.specs.Reading.{IsOfDocument, no_memory};
 ghost use Rattle.site_docs.specs.Drafts.{HoldsStamps};
 ghost use Rattle.site_docs.specs.Plain.{IsEnd, last_members};
-ghost use Rattle.site_docs.specs.ReadsAs.{IsSummaryText, ReadsAsSite};
+ghost use Rattle.site_docs.specs.ReadsAs.{IsSummaryText, ReadsAsSite, RefusesSite};
 
 use crate::document::envelope::{close_summary, open_stamps};
+use crate::document::site_documents::show_members;
+use crate::document::writing::write_summary;
 use crate::plain::documents::{last_name, show_plain};
 use crate::sink::{CellRef, CellSink};
+use cata_core::Summary;
 use cell_core::SiteName;
 use json::Writer;
-use json_docs::{Doc, text_in};
+use json_docs::{Doc, DocCause, DocFault, text_in};
 use row_docs::{Kind, write_stamped};
 use std::alloc::{AllocError, Global};
+
+/// The document of the summary of the site of the input document with this number.
+///
+/// Refused as the document is by its reader, with its number, or since memory ran out (26).
+pub fn document_summary(alloc: Global, document: usize, bytes: &[u8]) -> Result<Doc, DocFault>
+    ensures { MatchResult result (λ doc. (site : SiteState) × ReadsAsSite bytes.now site
+        × IsSummaryText (record { owner = site.name; stamps = summary_of site.cells }) doc)
+        (OrMemory no_memory (IsOfDocument document (RefusesSite bytes.now))) }
+{
+    if let Some(doc) = written_summary(alloc, bytes) {
+        return Ok(doc);
+    }
+    match summary_in_any_form(alloc, bytes) {
+        Ok(summary) => {
+            let doc = write_summary(alloc, &summary)?;
+            Ok(doc)
+        }
+        Err(cause) => Err(DocFault::of_document(document, cause)),
+    }
+}
+
+/// The summary of the site of a document in any form.
+fn summary_in_any_form(alloc: Global, bytes: &[u8]) -> Result<Summary, DocCause>
+    ensures { MatchResult result (λ summary. (site : SiteState) × ReadsAsSite bytes.now site
+        × (summary ≡ record { owner = site.name; stamps = summary_of site.cells }))
+        (OrMemory NoMemory (RefusesSite bytes.now)) }
+{
+    let start = Summary::new(alloc, SiteName::of_number(0));
+    let (owner, stamps) = show_members(alloc, bytes, Kind::Site, &start)?;
+    Ok(stamps.with_owner(owner))
+}
 
 /// The document of the summary of a site, where the bytes are the text that is written for the
 /// site, with its last line feed or without.
 ///
 /// `None` says nothing of the document: it may be valid in another form, it may be refused, or
 /// memory ran out.
-pub fn written_summary(alloc: Global, bytes: &[u8]) -> Option<Doc>
+fn written_summary(alloc: Global, bytes: &[u8]) -> Option<Doc>
     ensures { IfSome result (λ doc. (site : SiteState) × ReadsAsSite bytes.now site
         × IsSummaryText (record { owner = site.name; stamps = summary_of site.cells }) doc) }
 {

@@ -14,7 +14,7 @@ loop-alloc-init g c = (
   [],
   omega arith,
   parse_map-none _,
-  (tt, c.clear.ensures c.args.version),
+  (tt, c.restart.ensures c.args.version),
   c.requires.numbers,
   omega arith,
   refl,
@@ -38,9 +38,9 @@ loop-alloc-preserved g c =
       omega (arith, inv.2, less),
       inv.3 ∙ ap (parse_map (before inv.1)) turn ∙ parse_map-push inv.1 d _,
       TakesRows-next (g.R.Rows.Checks c.args.version)
-          (g.R.Rows.Holds c.args.version) c.loop-alloc.rows
+          (g.R.Rows.Holds c.args.start.now c.args.version) c.loop-alloc.rows
           c.read_row.new.rows c.loop-alloc.refusal c.in-Ok.next inv.1 d inv.4
-          (row.read.2 inv.1 inv.7),
+          (row.read.2 c.args.start.now inv.1 inv.7),
       row.left,
       omega (arith, inv.6, less),
       simp length-append (omega (arith, inv.7)),

@@ -13,8 +13,8 @@ invariant-loop-alloc g l =
     (n : ℕ) × (front : List Data) × (length l.reader ≤ n)
     × (converted of_items (items (value l.depth) (length l.fn.reader) l.fn.reader)
     ≡ parse_map (before front) (converted of_items (items (value l.depth) n l.reader)))
-    × TakesRows (g.R.Rows.Checks l.fn.version) (g.R.Rows.Holds l.fn.version) [] l.rows l.refusal
-    front
+    × TakesRows (g.R.Rows.Checks l.fn.version) (g.R.Rows.Holds l.fn.start l.fn.version) []
+    l.rows l.refusal front
     × (are_in_range l.reader ≡ true)
     × (l.place + length l.reader ≤ length l.fn.reader)
     × (length front ≡ l.place)

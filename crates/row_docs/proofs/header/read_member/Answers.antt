@@ -12,7 +12,8 @@ returns-in-Kind g c =
       read.1,
       λ name ms is shown. rw read.2
           (Shows-kind c.args.kind (g.R.Rows.Checks c.args.version)
-          (g.R.Rows.Holds c.args.version) c.args.header c.args.rows.now name read.0 ms shown
+          (g.R.Rows.Holds c.args.start.now c.args.version) c.args.header
+          c.args.rows.now name read.0 ms shown
           (is ∙ c.in-Kind.is)),
     ))
 
@@ -24,7 +25,8 @@ returns-in-Version g c =
       read.1,
       λ name ms is shown. rw read.2
           (Shows-version c.args.kind (g.R.Rows.Checks c.args.version)
-          (g.R.Rows.Holds c.args.version) c.args.header c.args.rows.now name read.0 ms shown
+          (g.R.Rows.Holds c.args.start.now c.args.version) c.args.header
+          c.args.rows.now name read.0 ms shown
           (is ∙ c.in-Version.is)),
     ))
 
@@ -36,7 +38,8 @@ returns-in-Subject g c =
       read.1,
       λ name ms is shown. rw read.2.2
           (Shows-subject c.args.kind (g.R.Rows.Checks c.args.version)
-          (g.R.Rows.Holds c.args.version) c.args.header c.args.rows.now name read.0 ms shown
+          (g.R.Rows.Holds c.args.start.now c.args.version) c.args.header
+          c.args.rows.now name read.0 ms shown
           read.2.0 read.2.1 (is ∙ c.in-Subject.is)),
     ))
 
@@ -48,7 +51,8 @@ returns-in-Rows g c =
       read.1,
       λ name ms is shown. rw read.2.2
           (Shows-rows c.args.kind (g.R.Rows.Checks c.args.version)
-          (g.R.Rows.Holds c.args.version) c.args.header c.args.rows.now name read.0 ms shown
+          (g.R.Rows.Holds c.args.start.now c.args.version) c.args.header
+          c.args.rows.now name read.0 ms shown
           c.read_array.new.rows read.2.0 read.2.1 (is ∙ c.in-Rows.is)),
     ))
 
@@ -60,6 +64,7 @@ returns-in-Other g c =
       read.1,
       λ name ms is shown. rw read.2
           (Shows-other c.args.kind (g.R.Rows.Checks c.args.version)
-          (g.R.Rows.Holds c.args.version) c.args.header c.args.rows.now name read.0 ms shown
+          (g.R.Rows.Holds c.args.start.now c.args.version) c.args.header
+          c.args.rows.now name read.0 ms shown
           (is ∙ c.in-Other.is)),
     ))

@@ -15,7 +15,8 @@ loop-name-init g c = (
   omega arith,
   refl,
   Shows-none c.args.kind
-      (g.R.Rows.Checks c.args.version) (g.R.Rows.Holds c.args.version) c.args.rows.now,
+      (g.R.Rows.Checks c.args.version) (g.R.Rows.Holds c.args.start.now c.args.version)
+      c.args.rows.now,
   c.requires.numbers,
   omega arith,
 )

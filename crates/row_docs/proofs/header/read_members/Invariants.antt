@@ -13,7 +13,8 @@ invariant-loop-name g l =
     × (converted (λ ms. of_members ms no_members)
     (members (value 126) (length l.fn.reader) l.fn.reader) ≡ converted (λ ms. of_members ms found)
     (members (value 126) n l.reader))
-    × Shows l.kind (g.R.Rows.Checks l.version) (g.R.Rows.Holds l.version) l.header l.rows found
+    × Shows l.kind (g.R.Rows.Checks l.version) (g.R.Rows.Holds l.start l.version) l.header l.rows
+    found
     × (are_in_range l.reader ≡ true)
     × (length l.reader ≤ length l.fn.reader)
 

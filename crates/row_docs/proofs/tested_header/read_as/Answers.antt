@@ -15,13 +15,13 @@ returns-in-Some g c =
       object ms,
       e.1,
       has_header c.args.kind (g.R.Rows.Checks c.args.version)
-          (g.R.Rows.Holds c.args.version) c.in-Some.header c.read_object.new.rows ms e.2 tested
-          passes,
+          (g.R.Rows.Holds c.args.start.now c.args.version) c.in-Some.header
+          c.read_object.new.rows ms e.2 tested passes,
     ))
     (λ cause fails. inr (inr (
       object ms,
       e.1,
       header_fails c.args.kind
-          (g.R.Rows.Checks c.args.version) (g.R.Rows.Holds c.args.version) c.in-Some.header
-          c.read_object.new.rows ms e.2 cause fails,
+          (g.R.Rows.Checks c.args.version) (g.R.Rows.Holds c.args.start.now c.args.version)
+          c.in-Some.header c.read_object.new.rows ms e.2 cause fails,
     )))

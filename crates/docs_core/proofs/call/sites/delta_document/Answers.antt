@@ -1,12 +1,24 @@
-use Rattle.std.proofs.Common.{inr}
-use Rattle.std.proofs.lemmas.Result.{err_from_is_err_and}
-use Rattle.map_docs.proofs.LangMapLabelsLemmas.{else_by}
+use Rattle.std.proofs.Common.{List, subst, ℕ}
+use Rattle.cata_core.specs.Delta.{delta_of}
+use Rattle.cata_core.specs.Summary.{SummaryState}
+use Rattle.site_docs.specs.ReadsAs.{IsDeltaText}
+use Rattle.docs_core.specs.LackedRows.{HoldsLacked}
 use Rattle.docs_core.proofs.call.sites.delta_document.Goals as goal
 
-pub returns-in_err-summary : goal.returns-in_err-summary
-returns-in_err-summary c =
-    let p =
-    err_from_is_err_and c.from_residual-in_err-summary.result
-    c.from_residual-in_err-summary.ensures.1 in
-    rw (p.1, p.2) (else_by c.in_err-summary.ensures
-    (λ h. inr (c.in_ok-site.site, c.in_ok-site.ensures, h)))
+-- the rows that the summary lacks were written
+pub returns : goal.returns
+returns c =
+    let show = c.in_ok-rows.ensures in
+    let summary = c.in-Ok.summary in
+    let holds = subst (λ (s : SummaryState). HoldsLacked c.in_ok-rows.rows s.stamps show.0)
+    c.in_ok-start.ensures show.3.1 in (
+      record { name = c.in_ok-rows.field-0-0; cells = show.0 },
+      summary,
+      show.1,
+      c.in-Ok.ensures,
+      subst
+          (λ (n : List ℕ). IsDeltaText
+          (record { addressee = n; cells = delta_of show.0 summary.stamps }) c.in_ok-doc.doc)
+          c.owner.ensures
+          (c.in_ok-doc.ensures show.0 summary.stamps holds show.2),
+    )

@@ -1,0 +1,120 @@
+-- The rows of a site that a summary lacks.
+use Rattle.std.proofs.Common.{◌≡◌, ◌≢◌, ◌∙◌, ◌+◌, ◌++◌, ◌≤◌, [], ◌∷◌, ℕ, List, None, Some}
+use Rattle.std.proofs.Common.{add-one, ap, append-nil, arith, cond, drop, false, length, refl}
+use Rattle.std.proofs.Common.{subst, suc, sym, true, zero}
+use Rattle.std.proofs.lemmas.List.Elements.{All-cons, All-nil, filter-append}
+use Rattle.std.specs.Prelude.{slice_get}
+use Rattle.std.specs.declared.cmp.Ordering.TheVariants.{Equal, Greater, Less}
+use Rattle.std.specs.FinMap.Entries.{below_all, find, is_sorted}
+use Rattle.std.specs.Ordering.{is_eq, is_lt}
+use Rattle.cell_core.specs.Keyed.{IsMap}
+use Rattle.cell_core.specs.declared.stamp.Stamp.{Stamp}
+use Rattle.cata_core.specs.Delta.{Stamps, delta_of, is_missing}
+use Rattle.cata_core.specs.Entries.{Entries, Entry, EntryKey, IsAboveAll, key_cmp}
+use Rattle.cata_core.proofs.Basics.{second_part}
+use Rattle.cata_core.proofs.FlatLemmas.{all_first, all_rest}
+use Rattle.cata_core.proofs.SummaryListsLemmas.{first_absent, first_found, not_greater}
+use Rattle.cata_core.proofs.SummaryListsLemmas.{not_greater_self, passed, passed_found}
+use Rattle.docs_core.specs.LackedRows.{IsPassed}
+
+-- ---- what is left of a list
+
+-- from a place on there is what is at it, and what comes after
+pub drop_at : {X : Type 0} (xs : List X) (k : ℕ) (x : X) → slice_get xs k ≡ Some x
+    → drop k xs ≡ x ∷ drop (k + 1) xs
+drop_at [] k x is = absurd (cc)
+drop_at (y ∷ ys) zero x is = cc
+drop_at (y ∷ ys) (suc k) x is = rw (add-one) (drop_at' ys k x is)
+  where
+    drop_at' : {X : Type 0} (xs : List X) (k : ℕ) (x : X) → slice_get xs k ≡ Some x
+        → drop k xs ≡ x ∷ drop (suc k) xs
+    drop_at' [] k x is = absurd (cc)
+    drop_at' (y ∷ ys) zero x is = cc
+    drop_at' (y ∷ ys) (suc k) x is = drop_at' ys k x is
+
+-- from its end on there is nothing
+pub drop_past : {X : Type 0} (xs : List X) (k : ℕ) → length xs ≤ k → drop k xs ≡ []
+drop_past [] zero within = refl
+drop_past [] (suc k) within = refl
+drop_past (x ∷ xs) zero within = absurd (omega (arith, within))
+drop_past (x ∷ xs) (suc k) within = drop_past xs k (omega (arith, within))
+
+-- what is left of a map is one
+pub drop_sorted : (k : ℕ) (stamps : Stamps) → IsMap key_cmp stamps → IsMap key_cmp (drop k stamps)
+drop_sorted zero stamps map = map
+drop_sorted (suc k) [] map = map
+drop_sorted (suc k) (s ∷ ss) map =
+    drop_sorted k ss (second_part (below_all key_cmp s.0 ss) (is_sorted key_cmp ss) map)
+
+-- ---- one cell more
+
+-- a key above one cell more is above those before it
+pub above_before : {V : Type 0} (cells : List (EntryKey × V)) (e : EntryKey × V) (q : EntryKey)
+    → IsAboveAll q (cells ++ e ∷ []) → IsAboveAll q cells
+above_before [] e q above = All-nil (λ x. key_cmp x.0 q ≡ Less)
+above_before (d ∷ ds) e q above =
+    All-cons (λ x. key_cmp x.0 q ≡ Less) d ds
+    (all_first (λ x. key_cmp x.0 q ≡ Less) d (ds ++ e ∷ []) above)
+    (above_before ds e q (all_rest (λ x. key_cmp x.0 q ≡ Less) d (ds ++ e ∷ []) above))
+
+-- and above that one
+pub above_one : {V : Type 0} (cells : List (EntryKey × V)) (e : EntryKey × V) (q : EntryKey)
+    → IsAboveAll q (cells ++ e ∷ []) → key_cmp e.0 q ≡ Less
+above_one [] e q above = all_first (λ x. key_cmp x.0 q ≡ Less) e [] above
+above_one (d ∷ ds) e q above =
+    above_one ds e q (all_rest (λ x. key_cmp x.0 q ≡ Less) d (ds ++ e ∷ []) above)
+
+-- a cell more, which the stamps lack
+pub lacked_more : (cells : Entries) (e : Entry) (stamps : Stamps)
+    → is_missing (find key_cmp e.0 stamps) e.1.stamp ≡ true
+    → delta_of (cells ++ e ∷ []) stamps ≡ delta_of cells stamps ++ e ∷ []
+lacked_more cells e stamps lacked =
+    filter-append (λ (x : Entry). is_missing (find key_cmp x.0 stamps) x.1.stamp) cells (e ∷ [])
+    ∙ ap (λ b. delta_of cells stamps ++ cond b (e ∷ []) []) lacked
+
+-- a cell more, which they have
+pub known_more : (cells : Entries) (e : Entry) (stamps : Stamps)
+    → is_missing (find key_cmp e.0 stamps) e.1.stamp ≡ false
+    → delta_of (cells ++ e ∷ []) stamps ≡ delta_of cells stamps
+known_more cells e stamps known =
+    filter-append (λ (x : Entry). is_missing (find key_cmp x.0 stamps) x.1.stamp) cells (e ∷ [])
+    ∙ ap (λ b. delta_of cells stamps ++ cond b (e ∷ []) []) known
+    ∙ append-nil (delta_of cells stamps)
+
+-- ---- the stamp of a key
+
+module _ (start : ℕ) (stamps : Stamps) (key k : EntryKey) (s : Stamp) (place : ℕ)
+    (there : slice_get stamps place ≡ Some (k, s)) (map : IsMap key_cmp stamps)
+    (so_far : (q : EntryKey) → key_cmp key q ≢ Greater
+    → find key_cmp q (drop place stamps) ≡ find key_cmp q (drop start stamps)) where
+  at_place : (q : EntryKey) → find key_cmp q (drop place stamps)
+      ≡ find key_cmp q ((k, s) ∷ drop (place + 1) stamps)
+  at_place q = ap (find key_cmp q) (drop_at stamps place (k, s) there)
+
+  -- a lesser key is passed
+  pub passed_less : key_cmp k key ≡ Less → (q : EntryKey) → key_cmp key q ≢ Greater
+      → find key_cmp q (drop (place + 1) stamps) ≡ find key_cmp q (drop start stamps)
+  passed_less less q from =
+      passed key k s (drop (place + 1) stamps) (ap is_lt less) q from
+      ∙ sym (at_place q) ∙ so_far q from
+
+  -- the key is found
+  pub found_stamp : key_cmp k key ≡ Equal → Some s ≡ find key_cmp key (drop start stamps)
+  found_stamp same =
+      first_found key k s (drop (place + 1) stamps) (ap is_eq same)
+      ∙ sym (at_place key) ∙ so_far key (not_greater_self key)
+
+  -- and the greater ones come after it
+  pub found_passed : key_cmp k key ≡ Equal
+      → IsPassed key (drop start stamps) (drop (place + 1) stamps)
+  found_passed same q less =
+      passed_found key k s (drop (place + 1) stamps) same q less
+      ∙ sym (at_place q) ∙ so_far q (not_greater less)
+
+  -- a greater key is there instead
+  pub absent_stamp : key_cmp k key ≡ Greater → None ≡ find key_cmp key (drop start stamps)
+  absent_stamp greater =
+      first_absent key k s (drop (place + 1) stamps)
+      (subst (IsMap key_cmp) (drop_at stamps place (k, s) there) (drop_sorted place stamps map))
+      (λ less. let no : Greater ≡ Less = sym greater ∙ less in absurd (cc)) (ap is_eq greater)
+      ∙ sym (at_place key) ∙ so_far key (not_greater_self key)

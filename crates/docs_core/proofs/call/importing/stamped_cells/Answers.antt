@@ -1,0 +1,16 @@
+use Rattle.docs_core.proofs.StampedLemmas.{stamped_all, stamped_from}
+use Rattle.docs_core.proofs.call.importing.stamped_cells.Goals as goal
+
+-- all labels were taken as they were read
+pub returns-in-None : goal.returns-in-None
+returns-in-None c =
+    let first = c.new-stamped.result in
+    let begun = c.new-stamped.ensures in
+    let taken = rw c.in-None.is at c.in_ok-left.ensures in
+    let left = c.take_langmaps.new.taker in (
+      taken.0,
+      taken.1,
+      stamped_from c.args.now c.args.name c.args.stamps.now.latest first taken.0 left.cells
+          begun.holds.time begun.holds.site begun.latest
+          (stamped_all first.now first.name first.latest left taken.0 taken.2),
+    )

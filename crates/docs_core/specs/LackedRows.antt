@@ -1,0 +1,20 @@
+-- The rows of a site that a summary lacks.
+use Rattle.std.specs.Prelude.{◌≡◌, drop}
+use Rattle.std.specs.declared.cmp.Ordering.TheVariants.{Less}
+use Rattle.std.specs.FinMap.Entries.{find}
+use Rattle.cata_core.specs.Delta.{Stamps, delta_of}
+use Rattle.cata_core.specs.Entries.{Entries, EntryKey, IsAboveAll, key_cmp}
+use Rattle.site_docs.specs.RowsDraft.{HoldsRows}
+use Rattle.docs_core.specs.declared.call.lacked_rows.LackedRows.{LackedRows}
+
+-- what is left of the stamps has what they have of each key that is greater than this one
+abbrev pub IsPassed : EntryKey → Stamps → Stamps → Type 0
+IsPassed key stamps left =
+    (q : EntryKey) → key_cmp key q ≡ Less → find key_cmp q left ≡ find key_cmp q stamps
+
+-- the rows of the cells that the stamps lack; those left have what all have of each key that is
+-- greater than the cells'
+pub record HoldsLacked (rows : LackedRows) (stamps : Stamps) (cells : Entries) : Type 0 where
+  pub draft : HoldsRows rows.draft (delta_of cells stamps)
+  pub left : (q : EntryKey) → IsAboveAll q cells
+      → find key_cmp q (drop rows.passed rows.summary.now.stamps) ≡ find key_cmp q stamps
