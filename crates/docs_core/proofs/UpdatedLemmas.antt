@@ -35,7 +35,8 @@ use Rattle.docs_core.proofs.MadeLemmas.{Makes-append, Spends-append}
 pub one_key : (q k : EntryKey) → eq_by_cmp key_cmp q k ≡ true → q ≡ k
 one_key q k t = key_cmp_exact q k (tied (key_cmp q k) t)
 
-itself : (k : EntryKey) → eq_by_cmp key_cmp k k ≡ true
+-- a key ties with itself
+pub itself : (k : EntryKey) → eq_by_cmp key_cmp k k ≡ true
 itself k = ap is_eq (tied_itself key_cmp_total k)
 
 -- labels that are borrowed are the same where the comparison says so
@@ -123,11 +124,12 @@ module _ (r : Revised) (was is : EntryKey) (olds news : List Labelled) where
 
 -- ---- options
 
-Some≢None : {A : Type 0} (x : A) → Some x ≢ None
+-- some are not none
+pub Some≢None : {A : Type 0} (x : A) → Some x ≢ None
 Some≢None x e = cc
 
 -- between no label and no label nothing is done
-nothing_done : (held : Texts) (change : Option Texts) → IsChangeAt None None held change
+pub nothing_done : (held : Texts) (change : Option Texts) → IsChangeAt None None held change
     → change ≡ None
 nothing_done held change h = elim h [ inl same ↦ same.1 | inr other ↦ absurd (other.0 refl) ]
 
@@ -147,7 +149,9 @@ one_change old new held x y p q = elim p [
 
 -- ---- keys after a key
 
-above_found : {J : Type 0} (k q : EntryKey) (xs : List (EntryKey × J)) → T (below_all key_cmp k xs)
+-- what is found among entries after a key is after it
+pub above_found : {J : Type 0} (k q : EntryKey) (xs : List (EntryKey × J))
+    → T (below_all key_cmp k xs)
     → find key_cmp q xs ≢ None → key_cmp k q ≡ Less
 above_found k q [] h found = absurd (found refl)
 above_found k q (x ∷ xs) h found =
@@ -274,6 +278,23 @@ module _ (k : EntryKey) (was is : Texts) (old new old_rest new_rest : List Label
                   (ap (λ u. cond u (Some is) (find key_cmp q changes)) t) (h.at q)
             ] refl;
       }
+
+  -- the change of the key comes first
+  pub changed_first : IsChangeAt was is (label_at k cells) (Some is) → (changes : List Change)
+      → AreChanges old_rest new_rest cells changes → AreChanges old new cells ((k, is) ∷ changes)
+  changed_first done changes h = record {
+    rising =
+        both_parts (below_all key_cmp k changes) (is_sorted key_cmp changes)
+        (changes_above cells changes h) h.rising;
+    at =
+        λ q. elim (eq_by_cmp key_cmp q k) as (λ t. eq_by_cmp key_cmp q k ≡ t
+        → At old new cells ((k, is) ∷ changes) q) [
+          | true ↦ λ t. at_key q ((k, is) ∷ changes) (Some is) t done
+              (ap (λ u. cond u (Some is) (find key_cmp q changes)) t)
+          | false ↦ λ t. at_other q cells changes ((k, is) ∷ changes) t refl
+              (ap (λ u. cond u (Some is) (find key_cmp q changes)) t) (h.at q)
+        ] refl;
+  }
 
 -- ---- there are changes
 
@@ -472,27 +493,35 @@ spends_first : (now : ℕ) (name : List ℕ) (q : EntryKey) (changes : List Chan
 spends_first now name q [] cells found none = absurd (found refl)
 spends_first now name q (e ∷ es) cells found none = inl none
 
+-- among the changes there is that of the least key
+pub change_there : (r : Revised) (old new old_rest new_rest : List Labelled)
+    → IsFirstRevised r old new old_rest new_rest → (cells : Entries)
+    → IsChangeAt (old_of r) (new_of r) (label_at (key_of r) cells) (Some (new_of r))
+    → (changes : List Change) → AreChanges old new cells changes
+    → find key_cmp (key_of r) changes ≡ Some (new_of r)
+change_there r old new old_rest new_rest first cells done changes are =
+    let k = key_of r in
+    let at_old : find key_cmp k old ≡ old_of r =
+    first.old_head.at k ∙ ap (λ u. cond u (old_of r) (find key_cmp k old_rest)) (itself k) in
+    let at_new : find key_cmp k new ≡ new_of r =
+    first.new_head.at k ∙ ap (λ u. cond u (new_of r) (find key_cmp k new_rest)) (itself k) in
+    let here =
+    subst (λ x. IsChangeAt (old_of r) x (label_at k cells) (find key_cmp k changes)) at_new
+    (subst (λ x. IsChangeAt x (find key_cmp k new) (label_at k cells)
+    (find key_cmp k changes)) at_old (are.at k)) in
+    one_change (old_of r) (new_of r) (label_at k cells) (find key_cmp k changes)
+    (Some (new_of r)) here done
+
 -- there is no stamp for the change of the key
 pub SpendsUpdate-here : (now : ℕ) (name : List ℕ) (r : Revised)
     (old new old_rest new_rest : List Labelled) → IsFirstRevised r old new old_rest new_rest
     → (cells : Entries) → NoStamp now name r cells
     → SpendsUpdate now name old new cells
 SpendsUpdate-here now name r old new old_rest new_rest first cells (done, none) =
-    let k = key_of r in
     let there = there_are_changes old new cells in
-    let at_old : find key_cmp k old ≡ old_of r =
-    first.old_head.at k ∙ ap (λ u. cond u (old_of r) (find key_cmp k old_rest)) (itself k) in
-    let at_new : find key_cmp k new ≡ new_of r =
-    first.new_head.at k ∙ ap (λ u. cond u (new_of r) (find key_cmp k new_rest)) (itself k) in
-    let here =
-    subst (λ x. IsChangeAt (old_of r) x (label_at k cells) (find key_cmp k there.0)) at_new
-    (subst (λ x. IsChangeAt x (find key_cmp k new) (label_at k cells)
-    (find key_cmp k there.0)) at_old (there.1.at k)) in
-    let found : find key_cmp k there.0 ≡ Some (new_of r) =
-    one_change (old_of r) (new_of r) (label_at k cells) (find key_cmp k there.0)
-    (Some (new_of r)) here done in (
+    let found = change_there r old new old_rest new_rest first cells done there.0 there.1 in (
       there.0,
       there.1,
-      spends_first now name k there.0 cells
+      spends_first now name (key_of r) there.0 cells
           (λ nothing. Some≢None (new_of r) (sym found ∙ nothing)) none,
     )

@@ -10,6 +10,8 @@ pub mod Merged
 pub mod OldSites
 pub mod Replays
 pub mod Revised
+pub mod RevisedCells
 pub mod RowsInTime
+pub mod StampedCells
 pub mod TimeLimits
 pub mod Updated

@@ -53,6 +53,13 @@ IsUpdated bytes now old new doc =
     × Updates now site.name before after site.cells cells
     × IsSiteText (record { name = site.name; cells = cells }) doc
 
+-- the old language maps are refused as document 2, then the new ones as document 3
+abbrev pub RefusesMaps : List ℕ → List ℕ → DocFault → Type 0
+RefusesMaps old new fault =
+    IsOfDocument 2 (RefusesLangMaps old) fault
+    ⊎ ((before : List Labelled) × AreLangMaps old before
+    × IsOfDocument 3 (RefusesLangMaps new) fault)
+
 -- the site is refused, then the old language maps, then the new ones, then a change for which there
 -- is no next stamp
 abbrev pub RefusesUpdate : List ℕ → ℕ → List ℕ → List ℕ → DocFault → Type 0

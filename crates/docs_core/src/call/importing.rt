@@ -10,19 +10,18 @@ ghost use Rattle.row_docs.specs.Reading.{no_memory};
 ghost use Rattle.map_docs.specs.LangMapLabels.{AreLangMaps};
 ghost use Rattle.map_docs.specs.LangMaps.{Labelled};
 ghost use Rattle.docs_core.specs.Exchange.{IsImported, RefusesImport};
-ghost use Rattle.docs_core.specs.Imported.{AreStamped, HoldsStamped, Imports, RefusesStamps};
-ghost use Rattle.docs_core.specs.Imported.{SpendsImport, SpendsStamps};
+ghost use Rattle.docs_core.specs.Imported.{Imports, RefusesStamps, SpendsImport, puts_of};
+ghost use Rattle.docs_core.specs.StampedCells.{AreStamped, HoldsStamped, SpendsStamps};
 
-use crate::call::edited_rows::later;
 use crate::call::joined_rows::JoinedRows;
-use crate::call::sites::next_stamp;
+use crate::call::stamped_cells::{LatestStamp, StampedCells};
 use cata_core::{CataFault, Catalogue, Site};
-use cell_core::{Cell, Key, Label, MessageId, SiteName, Stamp};
+use cell_core::{Label, MessageId, SiteName};
 use json_docs::{Doc, DocFault};
 use lang_core::Lang;
 use map_docs::{LangMaps, TakeLabels, take_langmaps};
-use site_docs::{CellRef, CellSink, show_document};
-use std::alloc::{AllocError, Global};
+use site_docs::show_document;
+use std::alloc::Global;
 
 /// The document of the site after each label of the language maps was put, in rising order of key,
 /// at the time `now`: each with the next stamp of the site. A label that the site has already is
@@ -75,34 +74,6 @@ pub fn put_labels(
     Ok(())
 }
 
-/// The latest stamp of the cells that were seen.
-#[derive(Drop)]
-struct LatestStamp {
-    latest: Option<Stamp>,
-}
-
-impl LatestStamp {
-    /// That of no cell.
-    fn new() -> LatestStamp
-        ensures { result.latest ≡ None }
-    {
-        LatestStamp { latest: None }
-    }
-}
-
-impl<'t> CellSink<'t> for LatestStamp {
-    ghost Holds = { λ first stamps seen. stamps.latest ≡ latest_of seen };
-
-    fn begin(&self, _alloc: Global) -> Result<LatestStamp, AllocError> {
-        Ok(LatestStamp::new())
-    }
-
-    fn see(&mut self, _alloc: Global, cell: CellRef<'_, 't>) -> Result<(), AllocError> {
-        self.latest = later(self.latest, cell.stamp);
-        Ok(())
-    }
-}
-
 /// The labels of document 2 as cells, each with the next stamp of the site of this name at this
 /// time, after its latest stamp.
 fn stamped_cells(
@@ -114,12 +85,12 @@ fn stamped_cells(
 ) -> Result<Catalogue, DocFault>
     ensures { MatchResult result
         (λ cells. (labels : List Labelled) × AreLangMaps langmaps.now labels
-        × AreStamped now name stamps.now.latest labels cells)
+        × AreStamped now name stamps.now.latest (puts_of labels) cells)
         (OrMemory no_memory (RefusesStamps langmaps.now now name stamps.now.latest)) }
 {
-    let mut stamped = StampedLabels::new(alloc, now, name, stamps);
+    let mut stamped = StampedCells::new(alloc, now, name, stamps);
     let left = take_langmaps(alloc, 2, langmaps, &mut stamped)?;
-    let StampedLabels { cells, .. } = stamped;
+    let cells = stamped.into_cells();
     match left {
         None => Ok(cells),
         Some(maps) => {
@@ -138,79 +109,29 @@ fn stamped_labels(
     name: SiteName,
     stamps: &LatestStamp,
 ) -> Result<Catalogue, CataFault>
-    ensures { MatchResult result (AreStamped now name stamps.now.latest maps.now)
+    ensures { MatchResult result (AreStamped now name stamps.now.latest (puts_of maps.now))
         (OrMemory NoMemory (λ fault. (fault ≡ ClockSpent)
-        × SpendsStamps now name stamps.now.latest maps.now)) }
+        × SpendsStamps now name stamps.now.latest (puts_of maps.now))) }
 {
-    let mut stamped = StampedLabels::new(alloc, now, name, stamps);
+    let mut stamped = StampedCells::new(alloc, now, name, stamps);
     for found in maps.labels() {
         let lang = found.lang.copy(alloc)?;
         let label = found.label.copy(alloc)?;
-        match stamped.add(alloc, &found.id, lang, label) {
+        match stamped.add(alloc, &found.id, lang, Some(label)) {
             Ok(()) => {}
             Err(cause) => return Err(cause),
         }
     }
-    Ok(stamped.cells)
-}
-
-/// Labels as cells, each with the next stamp of a site at a time.
-#[derive(Drop)]
-struct StampedLabels {
-    cells: Catalogue,
-    /// The latest stamp of the site, and then of these cells.
-    latest: Option<Stamp>,
-    now: u64,
-    name: SiteName,
-}
-
-impl StampedLabels {
-    /// No label yet, after the latest stamp.
-    fn new(alloc: Global, now: u64, name: SiteName, stamps: &LatestStamp) -> StampedLabels
-        ensures latest { result.latest ≡ stamps.now.latest }
-        ensures holds { HoldsStamped now name stamps.now.latest result [] }
-    {
-        StampedLabels {
-            cells: Catalogue::new(alloc),
-            latest: stamps.latest,
-            now,
-            name,
-        }
-    }
-
-    /// Adds a label, whose key is greater than all before it.
-    ///
-    /// Refused where there is no next stamp (14), or since memory ran out (26).
-    fn add(
-        &mut self,
-        alloc: Global,
-        id: &MessageId,
-        lang: Lang,
-        label: Label,
-    ) -> Result<(), CataFault>
-        requires { IsAboveAll (id.now, lang) self.old.cells }
-        ensures ok { OnOk result ((now : ℕ) (name : List ℕ) (last : Option Stamp)
-            → (taken : List Labelled) → HoldsStamped now name last self.old taken
-            → HoldsStamped now name last self.new (taken ++ ((id.now, lang), label) ∷ [])) }
-        ensures err { IfErr result (OrMemory NoMemory (λ fault. (fault ≡ ClockSpent)
-            × NoNext self.old.latest self.old.now self.old.name)) }
-    {
-        let stamp = next_stamp(self.latest, self.now, self.name)?;
-        let cell = Cell::new(stamp, Some(label));
-        self.latest = later(self.latest, cell.stamp());
-        let id = id.copy(alloc)?;
-        self.cells.push(alloc, id, lang, cell)?;
-        Ok(())
-    }
+    Ok(stamped.into_cells())
 }
 
 /// Takes each label, unless it is refused.
-impl TakeLabels for StampedLabels {
+impl TakeLabels for StampedCells {
     ghost Holds = { λ first stamped taken.
-        HoldsStamped first.now first.name first.latest stamped taken };
+        HoldsStamped first.now first.name first.latest stamped (puts_of taken) };
 
     fn take(&mut self, alloc: Global, id: &MessageId, lang: Lang, label: Label) -> Option<()> {
-        match self.add(alloc, id, lang, label) {
+        match self.add(alloc, id, lang, Some(label)) {
             Ok(()) => Some(()),
             Err(_) => None,
         }

@@ -51,7 +51,7 @@ pub fn edit_document(
 }
 
 /// An equal label, where there is one.
-fn copy_of(alloc: Global, label: Option<&Label>) -> Result<Option<Label>, AllocError>
+pub(crate) fn copy_of(alloc: Global, label: Option<&Label>) -> Result<Option<Label>, AllocError>
     ensures { IfOk result (λ copy. copy ≡ option_map (λ l. l.now) label.entry) }
 {
     match label {

@@ -1,26 +1,35 @@
 //! What an editor changed in language maps, applied to a site.
-ghost use Rattle.std.specs.Prelude.{◌≡◌, ◌+◌, ◌++◌, ◌<◌, [], IfErr, IfSome, List, MatchOption};
-ghost use Rattle.std.specs.Prelude.{MatchResult, None, OnErr, OnOk, Some, length, option_map};
+ghost use Rattle.std.specs.Prelude.{◌≡◌, ◌≢◌, ◌+◌, ◌++◌, ◌<◌, [], ℕ, IfErr, IfSome, List};
+ghost use Rattle.std.specs.Prelude.{MatchOption, MatchResult, None, OnErr, OnOk, Option, Some};
+ghost use Rattle.std.specs.Prelude.{length, option_map};
 ghost use Rattle.std.specs.Bool.{Decides};
 ghost use Rattle.cell_core.specs.Keyed.{IsMap};
-ghost use Rattle.cata_core.specs.Entries.{key_cmp};
+ghost use Rattle.cell_core.specs.Stamp.{NoNext};
+ghost use Rattle.cell_core.specs.declared.stamp.Stamp.{Stamp};
+ghost use Rattle.cata_core.specs.Entries.{IsAboveAll, key_cmp};
 ghost use Rattle.cata_core.specs.declared.cata_fault.CataFault.TheVariants.{ClockSpent, NoMemory};
 ghost use Rattle.json_docs.specs.Checks.{OrMemory};
 ghost use Rattle.row_docs.specs.Reading.{no_memory};
+ghost use Rattle.map_docs.specs.LangMapLabels.{AreLangMaps};
 ghost use Rattle.map_docs.specs.LangMaps.{labels_of};
+ghost use Rattle.query_docs.specs.Exported.{label_at};
 ghost use Rattle.docs_core.specs.Made.{Change, Makes};
-ghost use Rattle.docs_core.specs.Revised.{IsFirstRevised, IsRevised, NoStamp, key_of, new_of};
-ghost use Rattle.docs_core.specs.Revised.{old_of};
-ghost use Rattle.docs_core.specs.Updated.{AreChanges, IsUpdated, RefusesUpdate, SpendsUpdate};
-ghost use Rattle.docs_core.specs.Updated.{Updates};
+ghost use Rattle.docs_core.specs.Revised.{IsAdded, IsFirstRevised, IsRevised, NoStamp, key_of};
+ghost use Rattle.docs_core.specs.Revised.{new_of, old_of};
+ghost use Rattle.docs_core.specs.StampedCells.{AreStamped, HoldsStamped, SpendsStamps};
+ghost use Rattle.docs_core.specs.Updated.{AreChanges, IsChangeAt, IsUpdated, RefusesMaps};
+ghost use Rattle.docs_core.specs.Updated.{RefusesUpdate, SpendsUpdate, Updates};
 
-use crate::call::sites::edit;
-use cata_core::{CataFault, Site};
-use cell_core::Label;
+use crate::call::joined_rows::JoinedRows;
+use crate::call::revised_cells::RevisedCells;
+use crate::call::sites::{copy_of, edit};
+use crate::call::stamped_cells::StampedCells;
+use cata_core::{CataFault, Catalogue, Site};
+use cell_core::{Key, Label, SiteName};
 use json_docs::{Doc, DocFault};
 use map_docs::{KeyedLabel, LangMaps, langmaps_of_document};
 use query_docs::label_at;
-use site_docs::{site_at, write_site};
+use site_docs::{show_document, site_at};
 use std::alloc::Global;
 use std::cmp::Ordering;
 
@@ -45,13 +54,21 @@ pub fn update_document(
     ensures { MatchResult result (IsUpdated site.now now old.now new.now) (OrMemory no_memory
         (RefusesUpdate site.now now old.now new.now)) }
 {
-    let mut site = site_at(alloc, 1, site)?;
-    let old = langmaps_of_document(alloc, 2, old)?;
-    let new = langmaps_of_document(alloc, 3, new)?;
-    update_labels(alloc, &mut site, now, &old, &new)?;
-    drop(old);
-    drop(new);
-    let doc = write_site(alloc, &site)?;
+    let room = site.len().saturating_add(new.len());
+    let (old, new) = match both_maps(alloc, old, new) {
+        Ok(maps) => maps,
+        Err(fault) => {
+            // Document 1 is refused first.
+            let _read = site_at(alloc, 1, site)?;
+            return Err(fault);
+        }
+    };
+    let start = RevisedCells::new(alloc, &old, &new);
+    let (name, revised) = show_document(alloc, 1, site, &start)?;
+    let cells = stamped_changes(alloc, &revised, now, name, &old, &new)?;
+    let start = JoinedRows::new(alloc, &cells, room)?;
+    let (_, rows) = show_document(alloc, 1, site, &start)?;
+    let doc = rows.close(alloc, name)?;
     Ok(doc)
 }
 
@@ -87,6 +104,78 @@ pub fn update_labels(
         news = new_rest;
     }
     Ok(())
+}
+
+/// The old language maps, document 2, and the new ones, document 3.
+fn both_maps(alloc: Global, old: &[u8], new: &[u8]) -> Result<(LangMaps, LangMaps), DocFault>
+    ensures { MatchResult result
+        (λ maps. AreLangMaps old.now maps.0 × AreLangMaps new.now maps.1)
+        (OrMemory no_memory (RefusesMaps old.now new.now)) }
+{
+    let old = langmaps_of_document(alloc, 2, old)?;
+    let new = langmaps_of_document(alloc, 3, new)?;
+    Ok((old, new))
+}
+
+/// The changes from the old labels to the new ones as cells, each with the next stamp of the site
+/// of this name at this time, after its latest stamp.
+fn stamped_changes(
+    alloc: Global,
+    revised: &RevisedCells<'_>,
+    now: u64,
+    name: SiteName,
+    old: &LangMaps,
+    new: &LangMaps,
+) -> Result<Catalogue, CataFault>
+    ensures { MatchResult result
+        (λ cells. (changes : List Change)
+        × AreChanges old.now new.now revised.now.cells changes
+        × AreStamped now name revised.now.stamps.latest changes cells)
+        (OrMemory NoMemory (λ fault. (fault ≡ ClockSpent) × ((changes : List Change)
+        × AreChanges old.now new.now revised.now.cells changes
+        × SpendsStamps now name revised.now.stamps.latest changes))) }
+{
+    let mut stamped = StampedCells::new(alloc, now, name, &revised.stamps);
+    let mut olds = old.labels();
+    let mut news = new.labels();
+    while let Some((next, old_rest, new_rest)) = first_revised(olds, news) {
+        match add_revised(alloc, &revised.cells, &next, &mut stamped) {
+            Ok(()) => {}
+            Err(cause) => return Err(cause),
+        }
+        olds = old_rest;
+        news = new_rest;
+    }
+    Ok(stamped.into_cells())
+}
+
+/// Adds the change of a key, unless nothing was changed or the site has it already.
+fn add_revised(
+    alloc: Global,
+    cells: &Catalogue,
+    revised: &Revised<'_>,
+    stamped: &mut StampedCells,
+) -> Result<(), CataFault>
+    requires { old_of revised.now ≢ new_of revised.now
+        → IsAboveAll (key_of revised.now) stamped.old.cells }
+    ensures ok { OnOk result ((now : ℕ) (name : List ℕ) (last : Option Stamp)
+        → (taken : List Change) → HoldsStamped now name last stamped.old taken
+        → IsAdded now name last revised.now cells.now taken stamped.new) }
+    ensures err { IfErr result (OrMemory NoMemory (λ fault. (fault ≡ ClockSpent)
+        × IsChangeAt (old_of revised.now) (new_of revised.now)
+        (label_at (key_of revised.now) cells.now) (Some (new_of revised.now))
+        × NoNext stamped.old.latest stamped.old.now stamped.old.name)) }
+{
+    let key = revised.key;
+    if are_equal(revised.old, revised.new) {
+        return Ok(());
+    }
+    if are_equal(label_at(cells, &key.id, &key.lang), revised.new) {
+        return Ok(());
+    }
+    let lang = key.lang.copy(alloc)?;
+    let label = copy_of(alloc, revised.new)?;
+    stamped.add(alloc, &key.id, lang, label)
 }
 
 /// A key of language maps, with its label before an editor worked on them, and as it is now.

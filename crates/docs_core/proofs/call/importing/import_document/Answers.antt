@@ -9,9 +9,10 @@ use Rattle.json_docs.specs.Faults.{of_no_document, of_site}
 use Rattle.site_docs.specs.ReadsAs.{IsSiteText}
 use Rattle.site_docs.proofs.OneDocument.{one_site}
 use Rattle.map_docs.proofs.LangMapLabelsLemmas.{else_by}
-use Rattle.docs_core.specs.Imported.{AreStamped, SpendsStamps}
+use Rattle.docs_core.specs.Imported.{puts_of}
+use Rattle.docs_core.specs.StampedCells.{AreStamped, SpendsStamps}
 use Rattle.docs_core.specs.JoinedRows.{HoldsJoined}
-use Rattle.docs_core.proofs.StampedLemmas.{joined_puts, only_memory, puts_spend}
+use Rattle.docs_core.proofs.StampedCellsLemmas.{joined_changes, only_memory, changes_spend}
 use Rattle.docs_core.proofs.call.importing.import_document.Goals as goal
 
 -- The labels had their stamps after the latest one of the site, which was read again and joined
@@ -31,14 +32,15 @@ returns c =
     c.in_ok-start.ensures again.3.1 in
     let doc = c.in_ok-doc.ensures again.0 cells holds in
     let agree = subst (λ (own : Entries). Agree own cells) same doc.0 in
-    let are = subst (λ (l : Option Stamp). AreStamped c.args.now name l made.0 cells) show.3
+    let are = subst (λ (l : Option Stamp). AreStamped c.args.now name l (puts_of made.0) cells)
+    show.3
     made.2 in (
       site,
       made.0,
       joined show.0 cells,
       show.1,
       made.1,
-      joined_puts c.args.now name show.0 made.0 cells show.2 are agree,
+      joined_changes c.args.now name show.0 (puts_of made.0) cells show.2 are agree,
       subst
           (λ (own : Entries). IsSiteText (record { name = name; cells = joined own cells })
           c.in_ok-doc.doc)
@@ -62,9 +64,9 @@ returns-in_err-doc c =
     again.1 show.1) in
     let holds = subst (λ (o : Entries). HoldsJoined c.in_ok-rows.rows o again.0)
     c.in_ok-start.ensures again.3.1 in
-    let are = subst (λ (l : Option Stamp). AreStamped c.args.now name l made.0 cells)
+    let are = subst (λ (l : Option Stamp). AreStamped c.args.now name l (puts_of made.0) cells)
     (show.3 ∙ sym (ap latest_of same)) made.2 in
-    let memory = only_memory c.args.now name again.0 made.0 cells again.2 are
+    let memory = only_memory c.args.now name again.0 (puts_of made.0) cells again.2 are
     c.in_err-doc.field-0.0 (c.in_err-doc.ensures again.0 cells holds) in
     rw p.1 (inl (p.2 ∙ ap (λ (e : CataFault). of_no_document (of_site e)) memory))
 
@@ -83,8 +85,9 @@ returns-in_err-cells c =
         spent.0,
         show.1,
         spent.1,
-        puts_spend c.args.now name spent.0 show.0
-            (subst (λ (l : Option Stamp). SpendsStamps c.args.now name l spent.0) show.3 spent.2),
+        changes_spend c.args.now name (puts_of spent.0) show.0
+            (subst (λ (l : Option Stamp). SpendsStamps c.args.now name l (puts_of spent.0)) show.3
+            spent.2),
         spent.3,
       ))
     ]))

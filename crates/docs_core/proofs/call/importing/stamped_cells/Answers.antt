@@ -1,4 +1,7 @@
-use Rattle.docs_core.proofs.StampedLemmas.{stamped_all, stamped_from}
+use Rattle.std.proofs.Common.{subst, sym}
+use Rattle.docs_core.specs.Imported.{puts_of}
+use Rattle.docs_core.specs.StampedCells.{AreStamped}
+use Rattle.docs_core.proofs.StampedCellsLemmas.{stamped_all, stamped_from}
 use Rattle.docs_core.proofs.call.importing.stamped_cells.Goals as goal
 
 -- all labels were taken as they were read
@@ -10,7 +13,10 @@ returns-in-None c =
     let left = c.take_langmaps.new.taker in (
       taken.0,
       taken.1,
-      stamped_from c.args.now c.args.name c.args.stamps.now.latest first taken.0 left.cells
-          begun.holds.time begun.holds.site begun.latest
-          (stamped_all first.now first.name first.latest left taken.0 taken.2),
+      subst
+          (AreStamped c.args.now c.args.name c.args.stamps.now.latest (puts_of taken.0))
+          (sym c.into_cells-cells.ensures)
+          (stamped_from c.args.now c.args.name c.args.stamps.now.latest first (puts_of taken.0)
+          left.cells begun.holds.time begun.holds.site begun.latest
+          (stamped_all first.now first.name first.latest left (puts_of taken.0) taken.2)),
     )

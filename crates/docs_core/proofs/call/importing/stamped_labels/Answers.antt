@@ -1,11 +1,13 @@
-use Rattle.std.proofs.Common.{◌≡◌, ◌∙◌, ◌++◌, [], ◌∷◌, List, ap₂, arith, length, subst, sym, take}
+use Rattle.std.proofs.Common.{◌≡◌, ◌∙◌, ◌++◌, [], ◌∷◌, List, Some, ap₂, arith, length, subst}
+use Rattle.std.proofs.Common.{sym, take}
 use Rattle.std.proofs.Math.Seq.{take-length}
 use Rattle.cell_core.specs.Keyed.{IsMap}
 use Rattle.cata_core.specs.Entries.{IsAboveAll, key_cmp}
 use Rattle.map_docs.specs.LangMaps.{Labelled, labels_of}
 use Rattle.map_docs.proofs.LangMapLabelsLemmas.{else_by}
-use Rattle.docs_core.specs.Imported.{AreStamped, HoldsStamped, SpendsStamps}
-use Rattle.docs_core.proofs.StampedLemmas.{above_taken, spent_here, stamped_all, taken_more}
+use Rattle.docs_core.specs.Imported.{puts_of}
+use Rattle.docs_core.specs.StampedCells.{AreStamped, HoldsStamped, SpendsStamps}
+use Rattle.docs_core.proofs.StampedCellsLemmas.{above_taken, spent_here, stamped_all, taken_more}
 use Rattle.docs_core.proofs.call.importing.stamped_labels.Goals as goal
 
 -- the key is above those of the labels before
@@ -28,11 +30,12 @@ loop-found-preserved c =
     let item = c.found-item.result in
     let last = c.args.stamps.now.latest in
     subst (HoldsStamped c.args.now c.args.name last c.add.new.self)
-    (ap₂ (λ l b. labels_of (take i items) ++ ((item.id, l), b) ∷ []) c.in_ok-lang.ensures.equal
+    (ap₂ (λ l b. puts_of (labels_of (take i items)) ++ ((item.id, l), Some b) ∷ [])
+    c.in_ok-lang.ensures.equal
     c.in_ok-label.ensures
     ∙ sym (taken_more items i item c.loop-found-test.true c.found-item.is))
-    (c.in-Ok.ensures.ok c.args.now c.args.name last (labels_of (take i items))
-    c.loop-found.invariant)
+    (c.in-Ok.ensures.ok c.args.now c.args.name last
+    (puts_of (labels_of (take i items))) c.loop-found.invariant)
 
 -- there is no stamp for the label
 pub returns-in-Err : goal.returns-in-Err
@@ -42,7 +45,8 @@ returns-in-Err c =
     else_by c.in-Err.ensures.err
     (λ spent. (
       spent.0,
-      subst (SpendsStamps c.args.now c.args.name last) c.labels-found-items.ensures.labels
+      subst (λ (ls : List Labelled). SpendsStamps c.args.now c.args.name last (puts_of ls))
+          c.labels-found-items.ensures.labels
           (spent_here items c.loop-found.found-index c.found-item.result c.loop-found-test.true
           c.found-item.is c.args.now c.args.name last c.loop-found.stamped c.loop-found.invariant
           spent.1),
@@ -55,6 +59,9 @@ returns c =
     let last = c.args.stamps.now.latest in
     let all : c.loop-found.found-index ≡ length items = omega arith in
     let holds = rw (all, take-length) at c.loop-found.invariant in
-    subst (λ (ls : List Labelled). AreStamped c.args.now c.args.name last ls
+    subst (AreStamped c.args.now c.args.name last (puts_of c.args.maps.now))
+    (sym c.into_cells.ensures)
+    (subst (λ (ls : List Labelled). AreStamped c.args.now c.args.name last (puts_of ls)
     c.loop-found.stamped.cells) c.labels-found-items.ensures.labels
-    (stamped_all c.args.now c.args.name last c.loop-found.stamped (labels_of items) holds)
+    (stamped_all c.args.now c.args.name last c.loop-found.stamped (puts_of (labels_of items))
+    holds))

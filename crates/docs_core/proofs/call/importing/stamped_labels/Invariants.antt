@@ -1,10 +1,11 @@
 use Rattle.std.proofs.Common.{take}
 use Rattle.map_docs.specs.LangMaps.{labels_of}
-use Rattle.docs_core.specs.Imported.{HoldsStamped}
+use Rattle.docs_core.specs.Imported.{puts_of}
+use Rattle.docs_core.specs.StampedCells.{HoldsStamped}
 use Rattle.docs_core.proofs.call.importing.stamped_labels.Given as goal
 
 -- the labels so far have their stamps
 abbrev pub invariant-loop-found : goal.invariant-loop-found
 invariant-loop-found l =
     HoldsStamped l.fn.now l.fn.name l.fn.stamps.latest l.stamped
-    (labels_of (take l.found-index l.found-items))
+    (puts_of (labels_of (take l.found-index l.found-items)))

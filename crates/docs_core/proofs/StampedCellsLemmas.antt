@@ -1,9 +1,9 @@
--- Labels that have their stamps before they are put: joined with a site they are put into it.
+-- Changes that have their stamps before they are made: joined with a site they are made.
 use Rattle.std.proofs.Common.{◌≡◌, ◌∙◌, ◌++◌, [], ◌∷◌, ℕ, List, None, Option, Some}
 use Rattle.std.proofs.Common.{ap, append-nil, append_assoc, cond, false, inl, inr, refl, subst, sym}
 use Rattle.std.proofs.Common.{◌+◌, ◌<◌, drop, get_or, length, take, true}
 use Rattle.std.proofs.lemmas.List.{map-append, take_more}
-use Rattle.std.proofs.lemmas.List.Elements.{All-append, All-cons, All-nil}
+use Rattle.std.proofs.lemmas.List.Elements.{All-append, All-cons, All-map, All-nil}
 use Rattle.std.specs.declared.cmp.Ordering.TheVariants.{Less}
 use Rattle.std.specs.FinMap.Entries.{below_all, find, find-put, is_sorted, is_sorted-put, put}
 use Rattle.std.specs.Ordering.{eq_by_cmp, is_lt}
@@ -29,10 +29,10 @@ use Rattle.cata_core.proofs.LatestLemmas.{held_less, latest_put}
 use Rattle.map_docs.specs.LangMaps.{Labelled, labels_of}
 use Rattle.map_docs.specs.declared.maps.KeyedLabel.{KeyedLabel}
 use Rattle.map_docs.proofs.LangMapMembersLemmas.{first_left}
-use Rattle.docs_core.specs.Imported.{AreStamped, HoldsStamped, Imports, SpendsImport, SpendsStamps}
 use Rattle.docs_core.specs.Imported.{puts_of}
-use Rattle.docs_core.specs.Made.{Makes}
-use Rattle.docs_core.specs.declared.call.importing.StampedLabels.{StampedLabels}
+use Rattle.docs_core.specs.Made.{Change, Makes, SpendsClock}
+use Rattle.docs_core.specs.StampedCells.{AreStamped, HoldsStamped, SpendsStamps}
+use Rattle.docs_core.specs.declared.call.stamped_cells.StampedCells.{StampedCells}
 use Rattle.docs_core.proofs.ImportedLemmas.{front_and_rest}
 use Rattle.docs_core.proofs.JoinedRowsLemmas.{apart_agrees, joined_later}
 use Rattle.docs_core.proofs.LackedRowsLemmas.{above_before, above_one}
@@ -52,13 +52,13 @@ latest_above (Some l) s above = ap (λ r. Some (cond (is_lt r) s l)) above
 
 module _ (now : ℕ) (name : List ℕ) where
   -- each stamp is later than the last one
-  stamped_above : (last : Option Stamp) (labels : List Labelled) (cells : Entries) (k : EntryKey)
+  stamped_above : (last : Option Stamp) (labels : List Change) (cells : Entries) (k : EntryKey)
       (d : Cell) → AreStamped now name last labels cells → find key_cmp k cells ≡ Some d
       → IsAbove last d.stamp
   stamped_above last [] cells k d are found =
       let no : None ≡ Some d = ap (find key_cmp k) (sym are) ∙ found in absurd (cc)
   stamped_above last (e ∷ es) cells k d (stamp, rest, next, is, more) found =
-      let c : Cell = record { stamp = stamp; label = Some e.1 } in
+      let c : Cell = record { stamp = stamp; label = e.1 } in
       elim (eq_by_cmp key_cmp k e.0) as
       (λ t. cond t (Some c) (find key_cmp k rest) ≡ Some d → IsAbove last d.stamp) [
         | true ↦ λ f. subst (λ (o : Option Cell). by_option o) f next.new.above
@@ -71,7 +71,7 @@ module _ (now : ℕ) (name : List ℕ) where
       by_option (Some x) = IsAbove last x.stamp
 
   -- a site has no cell that does not agree with them
-  pub stamped_agree : (own : Entries) (labels : List Labelled) (cells : Entries) (place : ℕ)
+  pub stamped_agree : (own : Entries) (labels : List Change) (cells : Entries) (place : ℕ)
       (stamp : Stamp) → IsMap key_cmp own → AreStamped now name (latest_of own) labels cells
       → ¬ (IsFirstClash key_cmp own cells place stamp)
   stamped_agree own labels cells place stamp map are clash =
@@ -109,25 +109,25 @@ module _ (now : ℕ) (name : List ℕ) where
       of_own (Some d) is = ap Some (joined_later d c (held_less own q d c.stamp above is))
 
   -- joined with the site they are put, each with its stamp
-  pub puts_made : (labels : List Labelled) (own cells : Entries) → IsMap key_cmp own
+  pub changes_made : (labels : List Change) (own cells : Entries) → IsMap key_cmp own
       → IsMap key_cmp cells → AreStamped now name (latest_of own) labels cells
-      → Imports now name labels own (joined own cells)
-  puts_made [] own cells map sorted are =
+      → Makes now name labels own (joined own cells)
+  changes_made [] own cells map sorted are =
       ap (joined own) are ∙ joined_of_maps key_cmp key_cmp_total joined_cells own [] map
       (subst (IsMap key_cmp) are sorted)
-  puts_made (e ∷ es) own cells map sorted (stamp, rest, next, is, more) = (
+  changes_made (e ∷ es) own cells map sorted (stamp, rest, next, is, more) = (
     stamp,
     next,
     subst
-        (Makes now name (puts_of es) (put key_cmp e.0 c own))
+        (Makes now name es (put key_cmp e.0 c own))
         (sym whole)
-        (puts_made es (put key_cmp e.0 c own) rest map_put map_rest
+        (changes_made es (put key_cmp e.0 c own) rest map_put map_rest
         (subst (λ (l : Option Stamp). AreStamped now name l es rest)
         (sym (latest_put e.0 c own next.new.above)) more)),
   )
     where
       c : Cell
-      c = record { stamp = stamp; label = Some e.1 }
+      c = record { stamp = stamp; label = e.1 }
 
       sorted_all : IsMap key_cmp ((e.0, c) ∷ rest)
       sorted_all = subst (IsMap key_cmp) is sorted
@@ -161,17 +161,17 @@ module _ (now : ℕ) (name : List ℕ) where
           map_put map_rest q))
 
   -- where there is no stamp for one, there is none as it is put
-  pub puts_spend : (labels : List Labelled) (own : Entries)
-      → SpendsStamps now name (latest_of own) labels → SpendsImport now name labels own
-  puts_spend [] own spends = spends
-  puts_spend (e ∷ es) own spends = elim spends [
+  pub changes_spend : (labels : List Change) (own : Entries)
+      → SpendsStamps now name (latest_of own) labels → SpendsClock now name labels own
+  changes_spend [] own spends = spends
+  changes_spend (e ∷ es) own spends = elim spends [
     | inl none ↦ inl none
     | inr some ↦
-        let c : Cell = record { stamp = some.0; label = Some e.1 } in
+        let c : Cell = record { stamp = some.0; label = e.1 } in
         inr (
           some.0,
           some.1,
-          puts_spend es (put key_cmp e.0 c own)
+          changes_spend es (put key_cmp e.0 c own)
               (subst (λ (l : Option Stamp). SpendsStamps now name l es)
               (sym (latest_put e.0 c own some.1.new.above)) some.2),
         )
@@ -180,14 +180,14 @@ module _ (now : ℕ) (name : List ℕ) where
   -- ---- one label more
 
   -- a label more has the next stamp
-  pub stamped_more : (last : Option Stamp) (old new : StampedLabels) (taken : List Labelled)
-      (e : Labelled) (stamp : Stamp) → HoldsStamped now name last old taken
+  pub stamped_more : (last : Option Stamp) (old new : StampedCells) (taken : List Change)
+      (e : Change) (stamp : Stamp) → HoldsStamped now name last old taken
       → IsNext old.latest old.now old.name stamp
-      → new.cells ≡ old.cells ++ (e.0, record { stamp = stamp; label = Some e.1 }) ∷ []
+      → new.cells ≡ old.cells ++ (e.0, record { stamp = stamp; label = e.1 }) ∷ []
       → new.latest ≡ Some stamp → new.now ≡ old.now → new.name ≡ old.name
       → HoldsStamped now name last new (taken ++ e ∷ [])
   stamped_more last old new taken e stamp holds next cells latest time site =
-      let c : Entry = (e.0, record { stamp = stamp; label = Some e.1 }) in
+      let c : Entry = (e.0, record { stamp = stamp; label = e.1 }) in
       let next_here : IsNext old.latest now name stamp =
       subst (λ (n : ℕ). IsNext old.latest n name stamp) holds.time
       (subst (λ (n : List ℕ). IsNext old.latest old.now n stamp) holds.site next) in record {
@@ -195,7 +195,7 @@ module _ (now : ℕ) (name : List ℕ) where
         site = site ∙ holds.site;
         stamps =
             λ labels more are.
-            subst (λ (ls : List Labelled). AreStamped now name last ls (new.cells ++ more))
+            subst (λ (ls : List Change). AreStamped now name last ls (new.cells ++ more))
             (sym (append_assoc taken (e ∷ []) labels))
             (subst (AreStamped now name last (taken ++ e ∷ labels))
             (sym (ap (λ (xs : Entries). xs ++ more) cells ∙ append_assoc old.cells (c ∷ []) more))
@@ -223,11 +223,11 @@ module _ (now : ℕ) (name : List ℕ) where
       }
 
   -- all labels that were taken have their stamps
-  pub stamped_all : (last : Option Stamp) (stamped : StampedLabels) (taken : List Labelled)
+  pub stamped_all : (last : Option Stamp) (stamped : StampedCells) (taken : List Change)
       → HoldsStamped now name last stamped taken
       → AreStamped now name last taken stamped.cells
   stamped_all last stamped taken holds =
-      subst (λ (ls : List Labelled). AreStamped now name last ls stamped.cells)
+      subst (λ (ls : List Change). AreStamped now name last ls stamped.cells)
       (append-nil taken)
       (subst (AreStamped now name last (taken ++ [])) (append-nil stamped.cells)
       (holds.stamps [] [] refl))
@@ -240,12 +240,12 @@ agree_second own other map agree = elim agree [
   | inr both ↦ both.second
 ]
 
-module _ (now : ℕ) (name : List ℕ) (own : Entries) (labels : List Labelled) (cells : Entries)
+module _ (now : ℕ) (name : List ℕ) (own : Entries) (labels : List Change) (cells : Entries)
     (map : IsMap key_cmp own) (are : AreStamped now name (latest_of own) labels cells) where
   -- joined they are put, where the two agree
-  pub joined_puts : Agree own cells → Imports now name labels own (joined own cells)
-  joined_puts agree =
-      puts_made now name labels own cells map (agree_second own cells map agree) are
+  pub joined_changes : Agree own cells → Makes now name labels own (joined own cells)
+  joined_changes agree =
+      changes_made now name labels own cells map (agree_second own cells map agree) are
 
   -- they are refused since memory runs out alone
   pub only_memory : (fault : CataFault) → IsRefusal own cells fault → fault ≡ NoMemory
@@ -255,46 +255,9 @@ module _ (now : ℕ) (name : List ℕ) (own : Entries) (labels : List Labelled) 
   only_memory (NotForMe addressee) why = absurd why
   only_memory NoMemory why = refl
 
--- ---- labels that were read
-
-module _ (items : List KeyedLabel) (i : ℕ) (item : KeyedLabel) (below : i < length items)
-    (at : item ≡ get_or items i item) where
-  in_two : labels_of items ≡ labels_of (take i items)
-      ++ ((item.id, item.lang), item.label) ∷ labels_of (drop (i + 1) items)
-  in_two =
-      front_and_rest items i
-      ∙ ap (λ (ls : List KeyedLabel). labels_of (take i items) ++ labels_of ls)
-      (first_left items i item below at)
-
-  -- a label is above those before it
-  pub above_taken : IsMap key_cmp (labels_of items)
-      → IsAboveAll (item.id, item.lang) (labels_of (take i items))
-  above_taken map =
-      front_below (labels_of (take i items)) (labels_of (drop (i + 1) items)) (item.id, item.lang)
-      item.label (subst (IsMap key_cmp) in_two map)
-
-  -- those before it and the label
-  pub taken_more : labels_of (take (i + 1) items)
-      ≡ labels_of (take i items) ++ ((item.id, item.lang), item.label) ∷ []
-  taken_more =
-      ap labels_of (take_more items i item below ∙ ap (λ (l : KeyedLabel). take i items ++ l ∷ [])
-      (sym at))
-      ∙ map-append (λ (l : KeyedLabel). ((l.id, l.lang), l.label)) (take i items) (item ∷ [])
-
-  -- where there is no stamp for it, the stamps are spent by all
-  pub spent_here : (now : ℕ) (name : List ℕ) (last : Option Stamp) (stamped : StampedLabels)
-      → HoldsStamped now name last stamped (labels_of (take i items))
-      → NoNext stamped.latest stamped.now stamped.name
-      → SpendsStamps now name last (labels_of items)
-  spent_here now name last stamped holds none =
-      subst (SpendsStamps now name last) (sym in_two)
-      (holds.spends (((item.id, item.lang), item.label) ∷ labels_of (drop (i + 1) items))
-      (inl (subst (λ (n : ℕ). NoNext stamped.latest n name) holds.time
-      (subst (NoNext stamped.latest stamped.now) holds.site none))))
-
 -- what holds of the first holds of what it was made of
-pub stamped_from : (now : ℕ) (name : List ℕ) (last : Option Stamp) (first : StampedLabels)
-    (labels : List Labelled) (cells : Entries)
+pub stamped_from : (now : ℕ) (name : List ℕ) (last : Option Stamp) (first : StampedCells)
+    (labels : List Change) (cells : Entries)
     → first.now ≡ now → first.name ≡ name → first.latest ≡ last
     → AreStamped first.now first.name first.latest labels cells
     → AreStamped now name last labels cells
@@ -302,3 +265,62 @@ stamped_from now name last first labels cells time site latest are =
     subst (λ (n : ℕ). AreStamped n name last labels cells) time
     (subst (λ (n : List ℕ). AreStamped first.now n last labels cells) site
     (subst (λ (l : Option Stamp). AreStamped first.now first.name l labels cells) latest are))
+
+-- ---- labels that are put
+
+-- labels that are put after others
+puts_append : (some more : List Labelled) → puts_of (some ++ more) ≡ puts_of some ++ puts_of more
+puts_append some more = map-append (λ (x : Labelled). (x.0, Some x.1)) some more
+
+-- a key that is above labels is above them as they are put
+pub puts_above : (labels : List Labelled) (key : EntryKey) → IsAboveAll key labels
+    → IsAboveAll key (puts_of labels)
+puts_above labels key above =
+    All-map (λ (e : Change). key_cmp e.0 key ≡ Less) (λ (x : Labelled). (x.0, Some x.1)) labels
+    above
+
+-- one more of them
+pub puts_more : (labels : List Labelled) (e : Labelled)
+    → puts_of (labels ++ e ∷ []) ≡ puts_of labels ++ (e.0, Some e.1) ∷ []
+puts_more labels e = puts_append labels (e ∷ [])
+
+module _ (items : List KeyedLabel) (i : ℕ) (item : KeyedLabel) (below : i < length items)
+    (at : item ≡ get_or items i item) where
+  whole : labels_of items ≡ labels_of (take i items)
+      ++ ((item.id, item.lang), item.label) ∷ labels_of (drop (i + 1) items)
+  whole =
+      front_and_rest items i
+      ∙ ap (λ (ls : List KeyedLabel). labels_of (take i items) ++ labels_of ls)
+      (first_left items i item below at)
+
+  -- a label is above those before it
+  pub above_taken : IsMap key_cmp (labels_of items)
+      → IsAboveAll (item.id, item.lang) (puts_of (labels_of (take i items)))
+  above_taken map =
+      puts_above (labels_of (take i items)) (item.id, item.lang)
+      (front_below (labels_of (take i items)) (labels_of (drop (i + 1) items)) (item.id, item.lang)
+      item.label (subst (IsMap key_cmp) whole map))
+
+  -- those before it and the label
+  pub taken_more : puts_of (labels_of (take (i + 1) items))
+      ≡ puts_of (labels_of (take i items)) ++ ((item.id, item.lang), Some item.label) ∷ []
+  taken_more =
+      ap puts_of (ap labels_of (take_more items i item below
+      ∙ ap (λ (l : KeyedLabel). take i items ++ l ∷ [])
+      (sym at))
+      ∙ map-append (λ (l : KeyedLabel). ((l.id, l.lang), l.label)) (take i items) (item ∷ []))
+      ∙ puts_append (labels_of (take i items)) (((item.id, item.lang), item.label) ∷ [])
+
+  -- where there is no stamp for it, the stamps are spent by all
+  pub spent_here : (now : ℕ) (name : List ℕ) (last : Option Stamp) (stamped : StampedCells)
+      → HoldsStamped now name last stamped (puts_of (labels_of (take i items)))
+      → NoNext stamped.latest stamped.now stamped.name
+      → SpendsStamps now name last (puts_of (labels_of items))
+  spent_here now name last stamped holds none =
+      subst (SpendsStamps now name last)
+      (sym (ap puts_of whole ∙ puts_append (labels_of (take i items))
+      (((item.id, item.lang), item.label) ∷ labels_of (drop (i + 1) items))))
+      (holds.spends
+      (((item.id, item.lang), Some item.label) ∷ puts_of (labels_of (drop (i + 1) items)))
+      (inl (subst (λ (n : ℕ). NoNext stamped.latest n name) holds.time
+      (subst (NoNext stamped.latest stamped.now) holds.site none))))

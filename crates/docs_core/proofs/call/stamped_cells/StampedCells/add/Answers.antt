@@ -2,8 +2,8 @@ use Rattle.std.proofs.Common.{◌∙◌, ◌++◌, [], ◌∷◌, Some, ap, ap�
 use Rattle.cell_core.specs.Cell.{joined_stamps}
 use Rattle.cell_core.specs.Keyed.{joined_if_both}
 use Rattle.cell_core.specs.declared.cell.Cell.{Cell}
-use Rattle.docs_core.proofs.StampedLemmas.{latest_above, stamped_more}
-use Rattle.docs_core.proofs.call.importing.StampedLabels.add.Goals as goal
+use Rattle.docs_core.proofs.StampedCellsLemmas.{latest_above, stamped_more}
+use Rattle.docs_core.proofs.call.stamped_cells.StampedCells.add.Goals as goal
 
 -- the label has the next stamp
 pub returns-clause-ok : goal.returns-clause-ok

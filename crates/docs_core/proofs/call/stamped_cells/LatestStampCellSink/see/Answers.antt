@@ -4,7 +4,7 @@ use Rattle.cell_core.specs.Keyed.{joined_if_both}
 use Rattle.cell_core.specs.declared.stamp.Stamp.{Stamp}
 use Rattle.site_docs.specs.Sink.{entry_of}
 use Rattle.docs_core.proofs.EditedRowsLemmas.{latest_more}
-use Rattle.docs_core.proofs.call.importing.LatestStampCellSink.see.Goals as goal
+use Rattle.docs_core.proofs.call.stamped_cells.LatestStampCellSink.see.Goals as goal
 
 -- its stamp is among all
 pub returns : goal.returns
