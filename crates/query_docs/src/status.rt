@@ -67,6 +67,7 @@ impl<'t> CellSink<'t> for Counts {
         Ok(Counts::new())
     }
 
+    #[inline(always)]
     fn see(&mut self, alloc: Global, cell: CellRef<'_, 't>) -> Result<(), AllocError> {
         let cells = one_more(self.cells)?;
         let labels = labels_with(self.labels, &cell.label)?;

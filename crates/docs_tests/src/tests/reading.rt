@@ -100,8 +100,8 @@ fn is_metered(alloc: Global, left: usize) -> bool {
         Ok(doc) => doc.len() == left && left <= MOST_BYTES,
         Err(fault) => fault == of_no_document(DocCause::TooLarge) && left > MOST_BYTES,
     };
-    // The buffer doubles: 8,192 bytes, and 13 times as much again.
-    is_read && !has_failed && !meter.overasked && meter.reads <= 15
+    // 65,536 bytes at once, 1,024 times, and one byte that is too many or not there.
+    is_read && !has_failed && !meter.overasked && meter.reads <= 1025
 }
 
 #[test]

@@ -14,8 +14,11 @@ use std::io::Read;
 /// The most bytes that [`read_all`] accepts.
 pub const MOST_BYTES: usize = 67_108_864;
 
-/// The first size of the buffer that `read_all` fills.
-const FIRST_BYTES: usize = 8192;
+/// How many bytes `read_all` asks for at once.
+const READ_BYTES: usize = 65_536;
+
+/// How many bytes of a buffer are filled with zeros at once.
+const ZERO_BYTES: usize = 2048;
 
 /// Gives bytes as `std`'s `Read` does, and remembers whether a read failed.
 pub trait Source {
@@ -121,7 +124,10 @@ fn read_after<S: Source>(reader: &mut S, buffer: &mut Vec<u8>, filled: usize) ->
     reader.read(&mut buffer[filled..])
 }
 
-/// Doubles the buffer where it is full, up to one byte past the limit.
+/// Makes room for one read after the filled part of the buffer, up to one byte past the limit.
+///
+/// (The zeros are written in pieces, since larger ones are written by an instruction that is slow
+/// to start. What no read comes to is not touched.)
 fn make_room(buffer: &mut Vec<u8>, filled: usize) -> Result<(), AllocError>
     requires within { filled ≤ vec_len buffer.old }
     requires below { filled ≤ MOST_BYTES }
@@ -130,15 +136,16 @@ fn make_room(buffer: &mut Vec<u8>, filled: usize) -> Result<(), AllocError>
     ensures limit { vec_len buffer.new ≤ MOST_BYTES + 1 }
     ensures front { take filled buffer.new.items ≡ take filled buffer.old.items }
 {
-    let len = buffer.len();
-    if filled < len {
+    if filled < buffer.len() {
         return Ok(());
     }
-    let wanted = if len == 0 {
-        FIRST_BYTES
-    } else {
-        (2 * len).min(MOST_BYTES + 1)
-    };
-    buffer.reserve_exact(wanted - len)?;
-    buffer.resize(wanted, 0)
+    let wanted = (filled + READ_BYTES).min(MOST_BYTES + 1);
+    if wanted > buffer.capacity() {
+        buffer.reserve_exact((2 * filled).clamp(wanted, MOST_BYTES + 1) - filled)?;
+    }
+    while buffer.len() < wanted {
+        let len = (buffer.len() + ZERO_BYTES).min(wanted);
+        buffer.resize(len, 0)?;
+    }
+    Ok(())
 }

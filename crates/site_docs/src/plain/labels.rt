@@ -7,7 +7,7 @@ ghost use Rattle.row_docs.specs.Fields.{IsLabelText};
 ghost use Rattle.row_docs.specs.Values.{label_value, texts_value};
 ghost use Rattle.site_docs.specs.Sink.{IsLabelRef, texts_of};
 
-use crate::plain::texts::{after, escaped_text, text_after, text_before};
+use crate::plain::texts::{after, after_byte, escaped_text, text_after, text_before_quote};
 use crate::sink::LabelRef;
 use cell_core::Label;
 use std::alloc::Global;
@@ -23,24 +23,24 @@ pub(crate) fn next_label<'t>(alloc: Global, text: &'t str) -> Option<(LabelRef<'
     ensures kept { IfSome result (λ r. IsLabelText (texts_of r.0)) }
     ensures label { IfSome result (λ r. IsLabelRef r.0) }
 {
-    if let Some(rest) = after(text, "null") {
-        return Some((LabelRef::Deleted, rest));
-    }
     match only_text(text) {
         Some((only, rest)) if is_short(only) => Some((LabelRef::Text(only), rest)),
-        _ => made_label(alloc, text),
+        _ => other_label(alloc, text),
     }
 }
 
-/// The label whose array the text begins with, made.
+/// The same of a label that is not one text without escapes: there is none, or it is made.
 #[cold]
 #[inline(never)]
-fn made_label<'t>(alloc: Global, text: &'t str) -> Option<(LabelRef<'t>, &'t str)>
+fn other_label<'t>(alloc: Global, text: &'t str) -> Option<(LabelRef<'t>, &'t str)>
     ensures text { IfSome result
         (λ r. text.now ≡ compact_text (label_value (texts_of r.0)) ++ r.1.now) }
     ensures kept { IfSome result (λ r. IsLabelText (texts_of r.0)) }
     ensures label { IfSome result (λ r. IsLabelRef r.0) }
 {
+    if let Some(rest) = after(text, "null") {
+        return Some((LabelRef::Deleted, rest));
+    }
     let (label, rest) = written_label(alloc, text)?;
     Some((LabelRef::Made(label), rest))
 }
@@ -58,8 +58,9 @@ fn only_text(text: &str) -> Option<(&str, &str)>
     ensures { IfSome result
         (λ r. text.now ≡ compact_text (texts_value (r.0.now ∷ [])) ++ r.1.now) }
 {
-    let rest = after(text, "[\"")?;
-    text_before(rest, "\"]")
+    let open = after_byte(text, b'[')?;
+    let rest = after_byte(open, b'"')?;
+    text_before_quote(rest, b']')
 }
 
 /// The label whose array the text begins with, where its texts may have escapes.

@@ -21,7 +21,7 @@ ghost use Rattle.site_docs.specs.Unread.{RefusesSpelling};
 use crate::plain::labels::next_label;
 use crate::plain::languages::KnownLanguages;
 use crate::plain::texts::{
-    after, after_byte, escaped_text, number_before, text_before, text_before_comma, text_until,
+    after, after_byte, escaped_text, number_before, text_before_quote, text_until,
 };
 use crate::plain::unread::Unread;
 use crate::sink::{CellRef, CellSink, LabelRef};
@@ -93,7 +93,7 @@ fn some_cells<'t, S: CellSink<'t>>(alloc: Global, text: &'t str, sink: &mut S) -
 {
     let rest = after(text, "[")?;
     let (mut last, mut rest) = first_cell(alloc, rest, sink)?;
-    while let Some(row) = after(rest, ",") {
+    while let Some(row) = after_byte(rest, b',') {
         let Some(left) = next_cell(alloc, row, &mut last, sink) else {
             return None;
         };
@@ -148,6 +148,7 @@ fn next_cell<'t, S: CellSink<'t>>(
 
 /// Shows the cell of the row that the text begins with to the sink, and answers what comes after
 /// it. The row is read as far as its label, with which the rest begins.
+#[inline(always)]
 fn show_cell<'t, S: CellSink<'t>>(
     alloc: Global,
     text: &'t str,
@@ -167,7 +168,7 @@ fn show_cell<'t, S: CellSink<'t>>(
         → S.Holds first sink.new (before ++ entry_in row.now.front label ∷ []))) }
 {
     let (label, rest) = next_label(alloc, rest)?;
-    let rest = after(rest, "]")?;
+    let rest = after_byte(rest, b']')?;
     let cell = row.cell(label, text_until(text, rest));
     match sink.see(alloc, cell) {
         Ok(()) => Some(rest),
@@ -181,10 +182,10 @@ pub(crate) fn next_front<'t>(alloc: Global, text: &'t str, end: u8) -> Option<(F
     ensures { IfSome result (λ r. text.now ≡ row_until end (row_in r.0) r.1.now) }
 {
     let (id, rest) = next_id(alloc, text)?;
-    let (language, rest) = text_before_comma(rest)?;
+    let (language, rest) = text_before_quote(rest, b',')?;
     let (time, rest) = number_before(rest, b',')?;
     let rest = after_byte(rest, b'"')?;
-    let (site, rest) = text_before_comma(rest)?;
+    let (site, rest) = text_before_quote(rest, b',')?;
     let (count, rest) = number_before(rest, end)?;
     let Ok(count) = u32::try_from(count) else {
         return None;
@@ -217,8 +218,11 @@ fn plain_id(text: &str) -> Option<(&str, &str)>
     ensures { IfSome result
         (λ r. text.now ≡ 91 ∷ (quoted r.0.now ++ 44 ∷ 34 ∷ r.1.now)) }
 {
-    let rest = after(text, "[\"")?;
-    text_before(rest, "\",\"")
+    let open = after_byte(text, b'[')?;
+    let rest = after_byte(open, b'"')?;
+    let (id, comma) = text_before_quote(rest, b',')?;
+    let left = after_byte(comma, b'"')?;
+    Some((id, left))
 }
 
 /// The same of an id that may have escapes.
@@ -345,6 +349,7 @@ fn set_id(alloc: Global, id: &mut MessageId, order: Ordering, text: &str) -> Res
 }
 
 /// Makes the name that of the text, which it is where the last text is the same.
+#[inline(always)]
 fn set_site(site: &mut SiteName, last: &str, text: &str) -> Result<(), Unread>
     requires { (site.old ≡ last.now) × IsSiteName last.now }
     ensures ok { OnOk result ((site.new ≡ text.now) × IsSiteName text.now) }

@@ -11,7 +11,7 @@ ghost use Rattle.site_docs.specs.ReadsAs.{ReadsAsSummary};
 
 use crate::plain::documents::is_version;
 use crate::plain::rows::{Spelled, next_front};
-use crate::plain::texts::{after, after_text, member_after, text_after};
+use crate::plain::texts::{after, after_byte, after_text, member_after, text_after};
 use cata_core::Summary;
 use cell_core::{Key, SiteName};
 use json_docs::text_in;
@@ -63,7 +63,7 @@ fn some_stamps(alloc: Global, text: &str) -> Option<(Summary, &str)>
     let rest = after(text, "[")?;
     let mut summary = Summary::new(alloc, SiteName::of_number(0));
     let (mut last, mut rest) = first_stamp(alloc, rest, &mut summary)?;
-    while let Some(row) = after(rest, ",") {
+    while let Some(row) = after_byte(rest, b',') {
         let Some(left) = next_stamp(alloc, row, &mut last, &mut summary) else {
             return None;
         };

@@ -2,8 +2,9 @@
 //! written.
 //!
 //! What is called for each row is inlined, so that its literals are known where they are compared.
-ghost use Rattle.std.specs.Prelude.{◌≡◌, ◌<◌, ◌++◌, ◌∷◌, [], IfSome, MatchOption, Some, decimal};
-ghost use Rattle.std.specs.Prelude.{List, ℕ, get_or, length, map, nat_lt, string_bytes};
+ghost use Rattle.std.specs.Prelude.{◌≡◌, ◌<◌, ◌-◌, ◌++◌, ◌∷◌, [], IfSome, IsTrue, MatchOption};
+ghost use Rattle.std.specs.Prelude.{List, Some, ℕ, decimal, get_or, length, map, nat_lt};
+ghost use Rattle.std.specs.Prelude.{string_bytes};
 ghost use Rattle.std.specs.Char.{digit_char};
 ghost use Rattle.std.specs.Simd.Lanes.{mask_l};
 ghost use Rattle.json.specs.Print.{escape, escape_byte, escape_letter, quoted};
@@ -28,14 +29,17 @@ pub(crate) fn after<'t>(text: &'t str, literal: &str) -> Option<&'t str>
     text.strip_prefix(literal)
 }
 
-/// What comes after the byte that the text begins with, where that is ASCII. A literal of one byte
-/// is compared so by fewer instructions.
+/// What comes after the byte that the text begins with, where that is ASCII. A short literal is
+/// compared so, byte by byte, by fewer instructions.
 #[inline(always)]
 pub(crate) fn after_byte(text: &str, byte: u8) -> Option<&str>
     ensures { IfSome result (λ rest. text.now ≡ byte ∷ rest.now) }
 {
-    let (first, left) = first_byte(text)?;
-    if first == byte { Some(left) } else { None }
+    if is_first(text.as_bytes(), byte) {
+        Some(&text[1..])
+    } else {
+        None
+    }
 }
 
 /// What comes after the literal and this string, where it needs no escape.
@@ -73,14 +77,14 @@ pub(crate) fn text_before<'t>(text: &'t str, literal: &str) -> Option<(&'t str, 
     Some((front, rest))
 }
 
-/// The same before a quote and a comma.
+/// The same before a quote and this byte of ASCII.
 #[inline(always)]
-pub(crate) fn text_before_comma(text: &str) -> Option<(&str, &str)>
-    ensures { IfSome result (λ r. text.now ≡ escape r.0.now ++ 34 ∷ 44 ∷ r.1.now) }
+pub(crate) fn text_before_quote(text: &str, then: u8) -> Option<(&str, &str)>
+    ensures { IfSome result (λ r. text.now ≡ escape r.0.now ++ 34 ∷ then ∷ r.1.now) }
 {
     let (before, quote) = plain_front(text)?;
-    let comma = after_byte(quote, b'"')?;
-    let left = after_byte(comma, b',')?;
+    let next = after_byte(quote, b'"')?;
+    let left = after_byte(next, then)?;
     Some((before, left))
 }
 
@@ -188,33 +192,43 @@ fn number_front(text: &str) -> Option<(u64, &str)>
 }
 
 /// The number that the bytes begin with, and how many digits it has.
+#[inline(always)]
 fn leading_number(bytes: &[u8]) -> Option<(u64, usize)>
     ensures { IfSome result (λ r. IsDecimalFront bytes.now r.0 r.1) }
 {
-    let mut number = digit_at(bytes, 0)?;
+    if !is_digit_at(bytes, 0) {
+        return None;
+    }
+    let mut number = u64::from(bytes[0] - b'0');
     let mut len = 1;
     if number == 0 {
         return Some((number, len));
     }
-    while let Some(digit) = digit_at(bytes, len) {
+    while is_digit_at(bytes, len) {
         if number > MOST_TENTH {
             return None;
         }
-        number = number * 10 + digit;
+        number = number * 10 + u64::from(bytes[len] - b'0');
         len += 1;
     }
     Some((number, len))
 }
 
-/// The digit at the place.
-fn digit_at(bytes: &[u8], place: usize) -> Option<u64>
-    ensures { IfSome result (IsDigitAt bytes.now place) }
+/// Whether there is a digit at the place.
+#[inline(always)]
+fn is_digit_at(bytes: &[u8], place: usize) -> bool
+    ensures { IsTrue result → IsDigitAt bytes.now place (get_or bytes.now place 0 - 48) }
 {
-    if place < bytes.len() && bytes[place].is_ascii_digit() {
-        Some(u64::from(bytes[place] - b'0'))
-    } else {
-        None
-    }
+    place < bytes.len() && bytes[place].is_ascii_digit()
+}
+
+/// Whether the bytes begin with this one, which is ASCII.
+#[inline(always)]
+fn is_first(bytes: &[u8], byte: u8) -> bool
+    ensures { IsTrue result
+        → (get_or bytes.now 0 0 ≡ byte) × (byte < 128) × (0 < length bytes.now) }
+{
+    !bytes.is_empty() && bytes[0] == byte && byte.is_ascii()
 }
 
 /// Appends the byte whose escape the text begins with, or else what comes before the first stop.

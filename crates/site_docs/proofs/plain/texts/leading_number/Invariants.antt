@@ -3,11 +3,11 @@ use Rattle.site_docs.specs.Plain.{IsDecimalFront}
 use Rattle.site_docs.proofs.plain.texts.leading_number.Given as goal
 
 -- the digits so far are the number
-abbrev pub invariant-loop-digit : goal.invariant-loop-digit
-invariant-loop-digit l = record {
+abbrev pub invariant-loop-number : goal.invariant-loop-number
+invariant-loop-number l = record {
   front : IsDecimalFront l.bytes l.number l.len;
   some : 0 < l.number;
 }
 
-abbrev pub decreases-loop-digit : goal.decreases-loop-digit
-decreases-loop-digit l = length l.bytes - l.len
+abbrev pub decreases-loop-number : goal.decreases-loop-number
+decreases-loop-number l = length l.bytes - l.len
