@@ -1,6 +1,6 @@
 -- The rows of a site on both sides of one key.
-use Rattle.std.proofs.Common.{◌≡◌, ◌∙◌, ◌++◌, [], ◌∷◌, Some, ap, ap₂, cond, refl, subst}
-use Rattle.std.proofs.Common.{sym}
+use Rattle.std.proofs.Common.{◌≡◌, ◌∙◌, ◌++◌, [], ◌∷◌, Bool, Some, ap, ap₂, cond, false, refl}
+use Rattle.std.proofs.Common.{subst, sym, true, true≢false}
 use Rattle.std.proofs.lemmas.List.Elements.{All-weaker}
 use Rattle.std.specs.declared.cmp.Ordering.{Ordering}
 use Rattle.std.specs.declared.cmp.Ordering.TheVariants.{Less, Equal, Greater}
@@ -9,13 +9,15 @@ use Rattle.std.specs.Ordering.{is_gt, is_lt, ordering_reverse}
 use Rattle.cell_core.specs.Cell.{joined_stamps}
 use Rattle.cell_core.specs.Keyed.{IsMap, joined_if_both}
 use Rattle.cell_core.specs.declared.cell.Cell.{Cell}
-use Rattle.cata_core.specs.Entries.{Entries, Entry, EntryKey, key_cmp, key_cmp_exact, key_cmp_total}
+use Rattle.cata_core.specs.Entries.{Entries, Entry, EntryKey, IsAboveAll, key_cmp, key_cmp_exact}
+use Rattle.cata_core.specs.Entries.{key_cmp_total}
 use Rattle.cata_core.specs.Latest.{latest_of}
 use Rattle.cata_core.proofs.Basics.{second_part}
 use Rattle.cata_core.proofs.FlatLemmas.{all_first, all_rest}
 use Rattle.cata_core.proofs.LatestLemmas.{latest_assoc, latest_with_none}
 use Rattle.docs_core.specs.EditedRows.{after_key, before_key}
 use Rattle.docs_core.proofs.JoinedRowsLemmas.{AreAfter, after_first}
+use Rattle.docs_core.proofs.LackedRowsLemmas.{above_one}
 
 -- entries after a key are none of those before it
 none_before : (key : EntryKey) (es : Entries) → AreAfter key es → before_key key es ≡ []
@@ -97,3 +99,25 @@ latest_more [] e = latest_with_none (Some e.1.stamp)
 latest_more (x ∷ xs) e =
     ap (joined_if_both joined_stamps (Some x.1.stamp)) (latest_more xs e)
     ∙ sym (latest_assoc (Some x.1.stamp) (latest_of xs) (Some e.1.stamp))
+
+-- ---- a key that is passed
+
+-- where the key is passed the one that comes next is known to be greater
+pub order_known : (key q : EntryKey) (passed : Bool) → (passed ≡ true → key_cmp key q ≡ Less)
+    → cond passed Greater (key_cmp q key) ≡ key_cmp q key
+order_known key q true less =
+    sym (key_cmp_total.antisymm q key ∙ ap ordering_reverse (less refl))
+order_known key q false less = refl
+
+greater : (r : Ordering) → is_gt r ≡ true → r ≡ Greater
+greater Less other = absurd (true≢false (sym other))
+greater Equal other = absurd (true≢false (sym other))
+greater Greater is = refl
+
+-- a key that comes after a cell with a greater key is greater
+pub passed_more : (key : EntryKey) (cells : Entries) (e : Entry) (q : EntryKey)
+    → IsAboveAll q (cells ++ e ∷ []) → is_gt (key_cmp e.0 key) ≡ true → key_cmp key q ≡ Less
+passed_more key cells e q above past =
+    key_cmp_total.trans key e.0 q
+    (key_cmp_total.antisymm key e.0 ∙ ap ordering_reverse (greater (key_cmp e.0 key) past))
+    (above_one cells e q above)

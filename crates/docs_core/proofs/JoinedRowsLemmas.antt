@@ -24,7 +24,7 @@ use Rattle.cata_core.proofs.BestLemmas.{own_key}
 use Rattle.cata_core.proofs.ClashLemmas.{found_at}
 use Rattle.cata_core.proofs.FlatLemmas.{all_first, all_rest}
 use Rattle.cata_core.proofs.StampOrderLemmas.{not_less_self}
-use Rattle.docs_core.specs.JoinedRows.{AreJoined, IsFirstNot, IsJoinedTo, IsJoining}
+use Rattle.docs_core.specs.JoinedRows.{AreJoined, IsFirstGreater, IsJoinedTo, IsJoining}
 use Rattle.site_docs.specs.RowsDraft.{HoldsRows}
 use Rattle.site_docs.specs.declared.rows_draft.RowsDraft.{RowsDraft}
 
@@ -287,21 +287,16 @@ pub after_first : (e : Entry) (es : Entries) → IsMap key_cmp (e ∷ es) → Ar
 after_first e es map =
     all_after e.0 es (first_part (below_all key_cmp e.0 es) (is_sorted key_cmp es) map)
 
--- a map whose first key is neither less nor equal comes after the key
-after_greater : (k : EntryKey) (es : Entries) → IsMap key_cmp es → IsFirstNot Less k es
-    → IsFirstNot Equal k es → AreAfter k es
-after_greater k [] map less equal = All-nil (λ (d : Entry). key_cmp k d.0 ≡ Less)
-after_greater k (e ∷ es) map less equal =
+-- a map whose first key is greater comes after the key
+after_greater : (k : EntryKey) (es : Entries) → IsMap key_cmp es → IsFirstGreater k es
+    → AreAfter k es
+after_greater k [] map greater = All-nil (λ (d : Entry). key_cmp k d.0 ≡ Less)
+after_greater k (e ∷ es) map greater =
     let first : key_cmp k e.0 ≡ Less =
-    greater (key_cmp e.0 k) refl in
+    key_cmp_total.antisymm k e.0 ∙ ap ordering_reverse greater in
     All-cons (λ (d : Entry). key_cmp k d.0 ≡ Less) e es first
     (All-weaker (λ (d : Entry). key_cmp e.0 d.0 ≡ Less) (λ (d : Entry). key_cmp k d.0 ≡ Less)
     (λ d after. key_cmp_total.trans k e.0 d.0 first after) es (after_first e es map))
-  where
-    greater : (r : Ordering) → key_cmp e.0 k ≡ r → key_cmp k e.0 ≡ Less
-    greater Less is = absurd (less is)
-    greater Equal is = absurd (equal is)
-    greater Greater is = key_cmp_total.antisymm k e.0 ∙ ap ordering_reverse is
 
 -- what all of two parts are, all of each are
 all_parts : {X : Type 0} (P : X → Type 0) (xs ys : List X) → All P (xs ++ ys)
@@ -372,12 +367,11 @@ joining_before key left others seen rows less more so_far cut are_less above =
 
 -- the key is seen, and the other has it not
 pub joining_own : (k : EntryKey) (c : Cell) (left others seen rows : Entries)
-    → IsJoiningBefore k left others seen rows → IsFirstNot Less k left → IsFirstNot Equal k left
-    → IsAboveAll k seen
+    → IsJoiningBefore k left others seen rows → IsFirstGreater k left → IsAboveAll k seen
     → IsJoining left others (seen ++ (k, c) ∷ []) (rows ++ (k, c) ∷ [])
-joining_own k c left others seen rows so_far less equal above =
+joining_own k c left others seen rows so_far greater above =
     let whole = subst (IsMap key_cmp) so_far.all so_far.map in
-    let after = after_greater k left (part_after so_far.taken left whole) less equal in record {
+    let after = after_greater k left (part_after so_far.taken left whole) greater in record {
       taken = so_far.taken;
       all = so_far.all;
       map = so_far.map;

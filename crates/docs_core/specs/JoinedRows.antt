@@ -1,6 +1,6 @@
 -- The rows of a site that are joined with the cells of a catalogue as they are seen.
-use Rattle.std.specs.Prelude.{◌≡◌, ◌≢◌, ◌++◌, [], ◌∷◌, ℕ, All, MatchOption, Option, length, ⊤}
-use Rattle.std.specs.declared.cmp.Ordering.{Ordering}
+use Rattle.std.specs.Prelude.{◌≡◌, ◌++◌, [], ◌∷◌, ℕ, All, MatchOption, Option, length, ⊤}
+use Rattle.std.specs.declared.cmp.Ordering.TheVariants.{Greater}
 use Rattle.cell_core.specs.Cell.{AgreeCells, joined_cells}
 use Rattle.cell_core.specs.Keyed.{AgreeAtKeys, IsMap, joined_entries}
 use Rattle.cell_core.specs.declared.cell.Cell.{Cell}
@@ -21,10 +21,10 @@ pub record AreJoined (own other rows : Entries) : Type 0 where
   pub agree : AgreeAtKeys key_cmp AgreeCells own other
   pub are : rows ≡ joined_entries key_cmp joined_cells own other
 
--- the first of these, if there is one, is not so ordered to the key
-abbrev pub IsFirstNot : Ordering → EntryKey → Entries → Type 0
-IsFirstNot order key [] = ⊤
-IsFirstNot order key (e ∷ es) = key_cmp e.0 key ≢ order
+-- the first of these, if there is one, is greater than the key
+abbrev pub IsFirstGreater : EntryKey → Entries → Type 0
+IsFirstGreater key [] = ⊤
+IsFirstGreater key (e ∷ es) = key_cmp e.0 key ≡ Greater
 
 -- The cells that were seen are joined with those of the other's that are not left: these are the
 -- rows of both. Each cell that is left comes after what was seen.

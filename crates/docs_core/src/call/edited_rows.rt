@@ -1,5 +1,6 @@
 //! The rows of a site on both sides of one key.
-ghost use Rattle.std.specs.Prelude.{◌≡◌, ◌++◌, ◌∷◌, [], IfOk, OnOk, Some};
+ghost use Rattle.std.specs.Prelude.{◌≡◌, ◌++◌, ◌∷◌, [], IfOk, OnOk, Some, cond};
+ghost use Rattle.std.specs.declared.cmp.Ordering.TheVariants.{Greater};
 ghost use Rattle.std.specs.FinMap.Entries.{put};
 ghost use Rattle.cell_core.specs.Cell.{joined_stamps};
 ghost use Rattle.cell_core.specs.Keyed.{IsMap, joined_if_both};
@@ -25,6 +26,8 @@ pub(crate) struct EditedRows<'k> {
     room: usize,
     before: RowsDraft,
     after: RowsDraft,
+    /// A row with a greater key was seen.
+    is_passed: bool,
     /// The latest stamp; none where there are no rows.
     pub(crate) latest: Option<Stamp>,
 }
@@ -49,8 +52,21 @@ impl<'k> EditedRows<'k> {
             room,
             before,
             after,
+            is_passed: false,
             latest: None,
         })
+    }
+
+    /// How a key that is greater than those that were seen is ordered to the one that is edited.
+    /// Once that is passed no two are compared.
+    fn order_of(&self, id: &MessageId, lang: &Lang) -> Ordering
+        ensures { result ≡ cond self.now.is_passed Greater
+            (key_cmp (id.now, lang.now) (self.now.id.now, self.now.lang.now)) }
+    {
+        if self.is_passed {
+            return Ordering::Greater;
+        }
+        id.cmp(self.id).then(lang.cmp(self.lang))
     }
 
     /// The document of the site of this name, with this cell at the key.
@@ -94,12 +110,14 @@ impl<'t, 'k> CellSink<'t> for EditedRows<'k> {
             room: self.room,
             before,
             after,
+            is_passed: false,
             latest: None,
         })
     }
 
     fn see(&mut self, alloc: Global, cell: CellRef<'_, 't>) -> Result<(), AllocError> {
-        let order = cell.id.cmp(self.id).then(cell.lang.cmp(self.lang));
+        let order = self.order_of(cell.id, cell.lang);
+        self.is_passed = order.is_gt();
         add_beside(alloc, order, &cell, &mut self.before, &mut self.after)?;
         self.latest = later(self.latest, cell.stamp);
         Ok(())

@@ -1,7 +1,7 @@
 //! The rows of a site, joined with the cells of a catalogue as they are seen.
-ghost use Rattle.std.specs.Prelude.{◌≡◌, ◌+◌, ◌++◌, ◌∷◌, [], IfOk, MatchOption, MatchResult};
+ghost use Rattle.std.specs.Prelude.{◌≡◌, ◌≢◌, ◌+◌, ◌++◌, ◌∷◌, [], IfOk, MatchOption, MatchResult};
 ghost use Rattle.std.specs.Prelude.{All, OnOk, length};
-ghost use Rattle.std.specs.declared.cmp.Ordering.TheVariants.{Less};
+ghost use Rattle.std.specs.declared.cmp.Ordering.TheVariants.{Greater, Less};
 ghost use Rattle.cell_core.specs.Keyed.{IsMap};
 ghost use Rattle.cata_core.specs.CataFault.{IsRefusal};
 ghost use Rattle.cata_core.specs.Cells.{cells_left};
@@ -10,7 +10,7 @@ ghost use Rattle.cata_core.specs.Equality.{seen};
 ghost use Rattle.site_docs.specs.ReadsAs.{IsSiteText};
 ghost use Rattle.site_docs.specs.RowsDraft.{HoldsRows};
 ghost use Rattle.site_docs.specs.Sink.{IsLabelRef, IsRowOf, entry_of};
-ghost use Rattle.docs_core.specs.JoinedRows.{HoldsJoined, IsFirstNot, IsJoinedTo, IsJoining};
+ghost use Rattle.docs_core.specs.JoinedRows.{HoldsJoined, IsFirstGreater, IsJoinedTo, IsJoining};
 ghost use Rattle.docs_core.specs.JoinedRows.{IsWrittenBoth, left_of};
 
 use cata_core::{CataFault, Catalogue, Cells};
@@ -163,25 +163,26 @@ impl<'d> CellsLeft<'d> {
         CellsLeft { first, rest }
     }
 
-    /// Takes the first cell, where its key is so ordered to this one.
-    fn take_if(
+    /// Takes the first cell, where its key is at most this one: how it is ordered to it, and the
+    /// cell.
+    fn take_up_to(
         &mut self,
-        order: Ordering,
         id: &MessageId,
         lang: &Lang,
-    ) -> Option<(&'d MessageId, &'d Lang, &'d Cell)>
+    ) -> Option<(Ordering, (&'d MessageId, &'d Lang, &'d Cell))>
         ensures { MatchOption result
             ((left_of self.new ≡ left_of self.old)
-            × IsFirstNot order (id.now, lang.now) (left_of self.new))
-            (λ e. (left_of self.old ≡ seen e ∷ left_of self.new)
-            × (key_cmp (seen e).0 (id.now, lang.now) ≡ order)) }
+            × IsFirstGreater (id.now, lang.now) (left_of self.new))
+            (λ r. (left_of self.old ≡ seen r.1 ∷ left_of self.new)
+            × (key_cmp (seen r.1).0 (id.now, lang.now) ≡ r.0) × (r.0 ≢ Greater)) }
     {
         let first = self.first?;
-        if compare(first, id, lang) != order {
+        let order = compare(first, id, lang);
+        if order.is_gt() {
             return None;
         }
         self.first = self.rest.next();
-        Some(first)
+        Some((order, first))
     }
 
     /// Takes the first cell.
@@ -222,13 +223,12 @@ fn write_joined(
         → IsJoinedTo clash (left_of left.new) draft.new others
         (before ++ entry_of cell.now ∷ [])) }
 {
-    write_before(alloc, left, cell.id, cell.lang, draft)?;
-    match left.take_if(Ordering::Equal, cell.id, cell.lang) {
+    match write_before(alloc, left, cell.id, cell.lang, draft)? {
         None => {
             draft.add(alloc, cell)?;
             Ok(None)
         }
-        Some((_, _, other)) => match write_both(alloc, cell, other, draft)? {
+        Some(other) => match write_both(alloc, cell, other, draft)? {
             Agreement::Agree => Ok(None),
             Agreement::Clash => Ok(Some((place, cell.stamp))),
         },
@@ -270,23 +270,29 @@ fn write_both(
     Ok(Agreement::Agree)
 }
 
-/// Writes the cells whose keys are less than this one.
-fn write_before(
+/// Writes the cells whose keys are less than this one, and takes the cell of the key.
+fn write_before<'d>(
     alloc: Global,
-    left: &mut CellsLeft<'_>,
+    left: &mut CellsLeft<'d>,
     id: &MessageId,
     lang: &Lang,
     draft: &mut RowsDraft,
-) -> Result<(), AllocError>
-    ensures { OnOk result ((less : Entries) × (left_of left.old ≡ less ++ left_of left.new)
+) -> Result<Option<&'d Cell>, AllocError>
+    ensures { IfOk result (λ taken. (less : Entries)
         × All (λ e. key_cmp e.0 (id.now, lang.now) ≡ Less) less
-        × IsFirstNot Less (id.now, lang.now) (left_of left.new)
-        × ((rows : Entries) → HoldsRows draft.old rows → HoldsRows draft.new (rows ++ less))) }
+        × ((rows : Entries) → HoldsRows draft.old rows → HoldsRows draft.new (rows ++ less))
+        × MatchOption taken ((left_of left.old ≡ less ++ left_of left.new)
+        × IsFirstGreater (id.now, lang.now) (left_of left.new))
+        (λ cell. left_of left.old
+        ≡ less ++ ((id.now, lang.now), cell.now) ∷ left_of left.new)) }
 {
-    while let Some(other) = left.take_if(Ordering::Less, id, lang) {
+    while let Some((order, other)) = left.take_up_to(id, lang) {
+        if order.is_eq() {
+            return Ok(Some(other.2));
+        }
         draft.add_cell(alloc, other.0, other.1, other.2)?;
     }
-    Ok(())
+    Ok(None)
 }
 
 /// Writes all these cells.

@@ -6,10 +6,10 @@ use Rattle.docs_core.specs.JoinedRows.{left_of}
 use Rattle.docs_core.proofs.call.joined_rows.write_before.Given as goal
 
 -- the cells that were written, and those that are left
-abbrev pub invariant-loop-other : goal.invariant-loop-other
-invariant-loop-other l = (less : Entries) × (left_of l.fn.left ≡ less ++ left_of l.left)
+abbrev pub invariant-loop-order : goal.invariant-loop-order
+invariant-loop-order l = (less : Entries) × (left_of l.fn.left ≡ less ++ left_of l.left)
     × All (λ (e : Entry). key_cmp e.0 (l.id, l.lang) ≡ Less) less
     × ((rows : Entries) → HoldsRows l.fn.draft rows → HoldsRows l.draft (rows ++ less))
 
-abbrev pub decreases-loop-other : goal.decreases-loop-other
-decreases-loop-other l = length (left_of l.left)
+abbrev pub decreases-loop-order : goal.decreases-loop-order
+decreases-loop-order l = length (left_of l.left)
