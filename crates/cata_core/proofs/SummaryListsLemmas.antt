@@ -1,4 +1,4 @@
--- The entries of a summary, as a map in ascending order.
+-- The entries of a summary, and the first entry of a map in ascending order.
 use Rattle.std.proofs.Common.{◌≡◌, ◌≢◌, true, false, cond, List, [], ◌∷◌, ◌++◌, Some, None, refl}
 use Rattle.std.proofs.Common.{sym, ap, ◌∙◌, subst, true≢false}
 use Rattle.std.specs.Prelude.{T}
@@ -8,11 +8,9 @@ use Rattle.std.specs.declared.cmp.Ordering.TheVariants.{Less, Equal, Greater}
 use Rattle.std.specs.Ordering.{is_lt, is_eq, ordering_reverse}
 use Rattle.std.specs.Cmp.{tied_itself}
 use Rattle.std.specs.FinMap.Entries.{find, is_sorted, below_all}
-use Rattle.cell_core.specs.declared.stamp.Stamp.{Stamp}
 use Rattle.cell_core.specs.Keyed.{IsMap}
 use Rattle.cata_core.specs.declared.summary.SummaryEntry.{SummaryEntry}
 use Rattle.cata_core.specs.Entries.{EntryKey, key_cmp, key_cmp_total, key_cmp_exact}
-use Rattle.cata_core.specs.Delta.{Stamps}
 use Rattle.cata_core.specs.Summary.{stamps_of}
 use Rattle.cata_core.proofs.Basics.{first_part, both_parts}
 use Rattle.cata_core.proofs.FilteredLemmas.{find-below}
@@ -31,11 +29,11 @@ turned Less = refl
 turned Equal = refl
 turned Greater = refl
 
--- A key that equals the first is found, with the first stamp.
-pub first_found : (key k : EntryKey) (s : Stamp) (es : Stamps) → is_eq (key_cmp k key) ≡ true
-    → Some s ≡ find key_cmp key ((k, s) ∷ es)
-first_found key k s es same =
-    ap (λ b. cond b (Some s) (find key_cmp key es))
+-- A key that equals the first is found, with what the first has.
+pub first_found : {V : Type 0} (key k : EntryKey) (v : V) (es : List (EntryKey × V))
+    → is_eq (key_cmp k key) ≡ true → Some v ≡ find key_cmp key ((k, v) ∷ es)
+first_found key k v es same =
+    ap (λ b. cond b (Some v) (find key_cmp key es))
     (sym (ap is_eq (key_cmp_total.antisymm key k) ∙ sym (turned (key_cmp k key)) ∙ same))
 
 neither : (r : Ordering) → r ≢ Less → is_eq r ≡ false → ordering_reverse r ≡ Less
@@ -44,22 +42,24 @@ neither Equal never e = absurd (true≢false e)
 neither Greater never e = refl
 
 -- A key that is less than the first is not found.
-pub first_absent : (key k : EntryKey) (s : Stamp) (es : Stamps) → IsMap key_cmp ((k, s) ∷ es)
-    → key_cmp k key ≢ Less → is_eq (key_cmp k key) ≡ false → None ≡ find key_cmp key ((k, s) ∷ es)
-first_absent key k s es m from apart =
+pub first_absent : {V : Type 0} (key k : EntryKey) (v : V) (es : List (EntryKey × V))
+    → IsMap key_cmp ((k, v) ∷ es) → key_cmp k key ≢ Less → is_eq (key_cmp k key) ≡ false
+    → None ≡ find key_cmp key ((k, v) ∷ es)
+first_absent key k v es m from apart =
     let less : key_cmp key k ≡ Less =
     key_cmp_total.antisymm key k ∙ neither (key_cmp k key) from apart in
-    sym (find-below key_cmp key ((k, s) ∷ es)
+    sym (find-below key_cmp key ((k, v) ∷ es)
     (both_parts (is_lt (key_cmp key k)) (below_all key_cmp key es)
     (subst (λ r. T (is_lt r)) (sym less) tt)
     (below_lesser key_cmp key_cmp_total key k es less
     (first_part (below_all key_cmp k es) (is_sorted key_cmp es) m))))
 
 -- Dropping a first entry with a smaller key changes nothing from the key on.
-pub passed : (key k : EntryKey) (s : Stamp) (es : Stamps) → is_lt (key_cmp k key) ≡ true
-    → (q : EntryKey) → key_cmp key q ≢ Greater → find key_cmp q es ≡ find key_cmp q ((k, s) ∷ es)
-passed key k s es lt q from =
-    ap (λ b. cond b (Some s) (find key_cmp q es)) (sym (apart (key_cmp key q) refl))
+pub passed : {V : Type 0} (key k : EntryKey) (v : V) (es : List (EntryKey × V))
+    → is_lt (key_cmp k key) ≡ true → (q : EntryKey) → key_cmp key q ≢ Greater
+    → find key_cmp q es ≡ find key_cmp q ((k, v) ∷ es)
+passed key k v es lt q from =
+    ap (λ b. cond b (Some v) (find key_cmp q es)) (sym (apart (key_cmp key q) refl))
   where
     less : key_cmp k key ≡ Less
     less = lesser (key_cmp k key) lt
@@ -103,11 +103,12 @@ less_from k e q less from = by_case (key_cmp e q) refl
     by_case Greater gt = absurd (from gt)
 
 -- Dropping a first entry with the key itself changes nothing after the key.
-pub passed_found : (key k : EntryKey) (s : Stamp) (es : Stamps) → key_cmp k key ≡ Equal
-    → (q : EntryKey) → key_cmp key q ≡ Less → find key_cmp q es ≡ find key_cmp q ((k, s) ∷ es)
-passed_found key k s es tied q less =
+pub passed_found : {V : Type 0} (key k : EntryKey) (v : V) (es : List (EntryKey × V))
+    → key_cmp k key ≡ Equal → (q : EntryKey) → key_cmp key q ≡ Less
+    → find key_cmp q es ≡ find key_cmp q ((k, v) ∷ es)
+passed_found key k v es tied q less =
     let from : key_cmp k q ≡ Less =
     subst (λ x. key_cmp x q ≡ Less) (sym (key_cmp_exact k key tied)) less in
     let apart : is_eq (key_cmp q k) ≡ false =
     ap is_eq (key_cmp_total.antisymm q k ∙ ap ordering_reverse from) in
-    ap (λ b. cond b (Some s) (find key_cmp q es)) (sym apart)
+    ap (λ b. cond b (Some v) (find key_cmp q es)) (sym apart)

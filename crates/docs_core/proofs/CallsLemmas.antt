@@ -1,5 +1,6 @@
 -- What a call on documents writes, and which refusal it hands on.
-use Rattle.std.proofs.Common.{◌≡◌, ◌≢◌, ◌∙◌, ℕ, List, ap, inl, inr, refl, subst}
+use Rattle.std.proofs.Common.{◌≡◌, ◌≢◌, ◌∙◌, ℕ, List, ap, inl, inr, refl, subst, sym}
+use Rattle.std.specs.Prelude.{◌⊎◌}
 use Rattle.cata_core.specs.CataFault.{IsRefusal}
 use Rattle.cata_core.specs.Site.{RefusesDelta, SiteState}
 use Rattle.cata_core.specs.declared.delta.Delta.{Delta}
@@ -9,8 +10,8 @@ use Rattle.json_docs.specs.Checks.{OrMemory}
 use Rattle.json_docs.specs.Faults.{of_no_document, of_site}
 use Rattle.json_docs.specs.declared.fault.DocFault.{DocFault}
 use Rattle.site_docs.specs.Documents.{site_text}
-use Rattle.row_docs.specs.Reading.{no_memory}
-use Rattle.site_docs.specs.ReadsAs.{IsSiteText, ReadsAsSite}
+use Rattle.row_docs.specs.Reading.{IsOfDocument, no_memory}
+use Rattle.site_docs.specs.ReadsAs.{IsSiteText, ReadsAsSite, RefusesSite}
 use Rattle.docs_core.specs.Calls.{IsOfSite}
 
 -- the refusal of a site's call, as that of a call on documents
@@ -43,3 +44,21 @@ pub refuses_addressee : (site : SiteState) (delta : Delta) (cause : CataFault)
     → cause ≡ cata.NotForMe delta.addressee → site.name ≢ delta.addressee
     → RefusesDelta site delta cause
 refuses_addressee site delta cause is other = rw is (refl, other)
+
+-- where another document is refused, document 1 is refused before it or is read
+pub refused_after : (bytes : List ℕ) (fault first : DocFault) (Refuses : DocFault → Type 0)
+    → OrMemory no_memory (λ f. IsOfDocument 1 (RefusesSite bytes) f
+    ⊎ ((site : SiteState) × ReadsAsSite bytes site × (f ≡ fault))) first
+    → OrMemory no_memory Refuses fault
+    → OrMemory no_memory (λ f. IsOfDocument 1 (RefusesSite bytes) f
+    ⊎ ((site : SiteState) × ReadsAsSite bytes site × Refuses f)) first
+refused_after bytes fault first Refuses why refused = elim why [
+  | inl memory ↦ inl memory
+  | inr before ↦ elim before [
+    | inl site ↦ inr (inl site)
+    | inr read ↦ elim refused [
+      | inl memory ↦ inl (read.2 ∙ memory)
+      | inr other ↦ inr (inr (read.0, read.1, subst Refuses (sym read.2) other))
+    ]
+  ]
+]

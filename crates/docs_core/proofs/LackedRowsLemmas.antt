@@ -1,21 +1,15 @@
 -- The rows of a site that a summary lacks.
-use Rattle.std.proofs.Common.{◌≡◌, ◌≢◌, ◌∙◌, ◌+◌, ◌++◌, ◌≤◌, [], ◌∷◌, ℕ, List, None, Some}
-use Rattle.std.proofs.Common.{add-one, ap, append-nil, arith, cond, drop, false, length, refl}
-use Rattle.std.proofs.Common.{subst, suc, sym, true, zero}
+use Rattle.std.proofs.Common.{◌≡◌, ◌∙◌, ◌+◌, ◌++◌, ◌≤◌, [], ◌∷◌, ℕ, List, Some, add-one, ap}
+use Rattle.std.proofs.Common.{append-nil, arith, cond, drop, false, length, refl, suc, true, zero}
 use Rattle.std.proofs.lemmas.List.Elements.{All-cons, All-nil, filter-append}
 use Rattle.std.specs.Prelude.{slice_get}
-use Rattle.std.specs.declared.cmp.Ordering.TheVariants.{Equal, Greater, Less}
+use Rattle.std.specs.declared.cmp.Ordering.TheVariants.{Less}
 use Rattle.std.specs.FinMap.Entries.{below_all, find, is_sorted}
-use Rattle.std.specs.Ordering.{is_eq, is_lt}
 use Rattle.cell_core.specs.Keyed.{IsMap}
-use Rattle.cell_core.specs.declared.stamp.Stamp.{Stamp}
 use Rattle.cata_core.specs.Delta.{Stamps, delta_of, is_missing}
 use Rattle.cata_core.specs.Entries.{Entries, Entry, EntryKey, IsAboveAll, key_cmp}
 use Rattle.cata_core.proofs.Basics.{second_part}
 use Rattle.cata_core.proofs.FlatLemmas.{all_first, all_rest}
-use Rattle.cata_core.proofs.SummaryListsLemmas.{first_absent, first_found, not_greater}
-use Rattle.cata_core.proofs.SummaryListsLemmas.{not_greater_self, passed, passed_found}
-use Rattle.docs_core.specs.LackedRows.{IsPassed}
 
 -- ---- what is left of a list
 
@@ -80,41 +74,3 @@ known_more cells e stamps known =
     filter-append (λ (x : Entry). is_missing (find key_cmp x.0 stamps) x.1.stamp) cells (e ∷ [])
     ∙ ap (λ b. delta_of cells stamps ++ cond b (e ∷ []) []) known
     ∙ append-nil (delta_of cells stamps)
-
--- ---- the stamp of a key
-
-module _ (start : ℕ) (stamps : Stamps) (key k : EntryKey) (s : Stamp) (place : ℕ)
-    (there : slice_get stamps place ≡ Some (k, s)) (map : IsMap key_cmp stamps)
-    (so_far : (q : EntryKey) → key_cmp key q ≢ Greater
-    → find key_cmp q (drop place stamps) ≡ find key_cmp q (drop start stamps)) where
-  at_place : (q : EntryKey) → find key_cmp q (drop place stamps)
-      ≡ find key_cmp q ((k, s) ∷ drop (place + 1) stamps)
-  at_place q = ap (find key_cmp q) (drop_at stamps place (k, s) there)
-
-  -- a lesser key is passed
-  pub passed_less : key_cmp k key ≡ Less → (q : EntryKey) → key_cmp key q ≢ Greater
-      → find key_cmp q (drop (place + 1) stamps) ≡ find key_cmp q (drop start stamps)
-  passed_less less q from =
-      passed key k s (drop (place + 1) stamps) (ap is_lt less) q from
-      ∙ sym (at_place q) ∙ so_far q from
-
-  -- the key is found
-  pub found_stamp : key_cmp k key ≡ Equal → Some s ≡ find key_cmp key (drop start stamps)
-  found_stamp same =
-      first_found key k s (drop (place + 1) stamps) (ap is_eq same)
-      ∙ sym (at_place key) ∙ so_far key (not_greater_self key)
-
-  -- and the greater ones come after it
-  pub found_passed : key_cmp k key ≡ Equal
-      → IsPassed key (drop start stamps) (drop (place + 1) stamps)
-  found_passed same q less =
-      passed_found key k s (drop (place + 1) stamps) same q less
-      ∙ sym (at_place q) ∙ so_far q (not_greater less)
-
-  -- a greater key is there instead
-  pub absent_stamp : key_cmp k key ≡ Greater → None ≡ find key_cmp key (drop start stamps)
-  absent_stamp greater =
-      first_absent key k s (drop (place + 1) stamps)
-      (subst (IsMap key_cmp) (drop_at stamps place (k, s) there) (drop_sorted place stamps map))
-      (λ less. let no : Greater ≡ Less = sym greater ∙ less in absurd (cc)) (ap is_eq greater)
-      ∙ sym (at_place key) ∙ so_far key (not_greater_self key)

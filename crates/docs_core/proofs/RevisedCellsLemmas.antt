@@ -1,55 +1,23 @@
 -- The cells of a site that changes of language maps may concern.
-use Rattle.std.proofs.Common.{◌≡◌, ◌∙◌, ◌++◌, [], ◌∷◌, List, None, Option, Some, ap, cond}
-use Rattle.std.proofs.Common.{false, inl, inr, refl, subst, sym, true, true≢false}
+use Rattle.std.proofs.Common.{◌≡◌, ◌∙◌, ◌++◌, [], ◌∷◌, List, None, Option, Some, ap, cond, false}
+use Rattle.std.proofs.Common.{inl, inr, refl, subst, sym, true, true≢false}
 use Rattle.std.proofs.lemmas.List.Elements.{All-append, All-cons, All-nil}
-use Rattle.std.specs.Prelude.{T, is_some}
-use Rattle.std.specs.declared.cmp.Ordering.TheVariants.{Equal, Greater, Less}
-use Rattle.std.specs.FinMap.Entries.{below_all, find, is_sorted}
-use Rattle.std.specs.Ordering.{eq_by_cmp, is_eq, is_lt, ordering_reverse}
+use Rattle.std.specs.Prelude.{is_some}
+use Rattle.std.specs.declared.cmp.Ordering.TheVariants.{Less}
+use Rattle.std.specs.FinMap.Entries.{find}
+use Rattle.std.specs.Ordering.{eq_by_cmp}
 use Rattle.cell_core.specs.Cell.{joined_stamps}
 use Rattle.cell_core.specs.Keyed.{IsMap, joined_if_both}
 use Rattle.cell_core.specs.declared.cell.Cell.{Cell}
-use Rattle.cata_core.specs.Entries.{Entries, Entry, EntryKey, IsAboveAll, key_cmp, key_cmp_exact}
-use Rattle.cata_core.specs.Entries.{key_cmp_total}
+use Rattle.cata_core.specs.Entries.{Entries, Entry, EntryKey, IsAboveAll, key_cmp}
 use Rattle.cata_core.specs.Latest.{latest_of}
-use Rattle.cata_core.proofs.Basics.{both_parts, first_part}
-use Rattle.cata_core.proofs.BestLemmas.{own_key}
-use Rattle.cata_core.proofs.FilteredLemmas.{find-below}
-use Rattle.cata_core.proofs.KeyPlacesLemmas.{below_lesser}
 use Rattle.map_docs.specs.LangMaps.{Labelled, labels_of}
+use Rattle.docs_core.specs.LackedRows.{IsPassed}
 use Rattle.docs_core.specs.RevisedCells.{HasLabel, HoldsRevised, IsLeft}
 use Rattle.docs_core.specs.declared.call.revised_cells.RevisedCells.{RevisedCells}
 use Rattle.docs_core.proofs.EditedRowsLemmas.{latest_more}
 use Rattle.docs_core.proofs.LackedRowsLemmas.{above_before, above_one}
 use Rattle.docs_core.proofs.UpdatedLemmas.{one_key}
-
--- ---- the first entry of a list
-
-module _ {V : Type 0} (k : EntryKey) (v : V) (es : List (EntryKey × V)) where
-  -- a greater key is among the others
-  pub past_first : (q : EntryKey) → key_cmp k q ≡ Less
-      → find key_cmp q ((k, v) ∷ es) ≡ find key_cmp q es
-  past_first q less =
-      ap (λ b. cond b (Some v) (find key_cmp q es))
-      (ap is_eq (key_cmp_total.antisymm q k ∙ ap ordering_reverse less))
-
-  -- its own key is found
-  pub at_first : (q : EntryKey) → key_cmp k q ≡ Equal → find key_cmp q ((k, v) ∷ es) ≡ Some v
-  at_first q tied =
-      subst (λ (x : EntryKey). find key_cmp x ((k, v) ∷ es) ≡ Some v) (key_cmp_exact k q tied)
-      (ap (λ b. cond b (Some v) (find key_cmp k es)) (own_key k))
-
-  -- a lesser key is not there
-  pub before_first : (q : EntryKey) → key_cmp k q ≡ Greater → IsMap key_cmp ((k, v) ∷ es)
-      → find key_cmp q ((k, v) ∷ es) ≡ None
-  before_first q greater map =
-      let less : key_cmp q k ≡ Less =
-      key_cmp_total.antisymm q k ∙ ap ordering_reverse greater in
-      find-below key_cmp q ((k, v) ∷ es)
-      (both_parts (is_lt (key_cmp q k)) (below_all key_cmp q es)
-      (subst (λ r. T (is_lt r)) (sym less) tt)
-      (below_lesser key_cmp key_cmp_total q k es less
-      (first_part (below_all key_cmp k es) (is_sorted key_cmp es) map)))
 
 -- ---- one cell more
 
@@ -85,11 +53,9 @@ module _ (old new : List Labelled) (a b : RevisedCells) (seen : Entries) (e : En
     (holds : HoldsRevised a old new seen) (above : IsAboveAll e.0 seen)
     (latest : b.stamps.latest ≡ joined_if_both joined_stamps a.stamps.latest (Some e.1.stamp))
     (old_map : IsMap key_cmp (labels_of b.olds.now))
-    (old_passed : (q : EntryKey) → key_cmp e.0 q ≡ Less
-    → find key_cmp q (labels_of b.olds.now) ≡ find key_cmp q (labels_of a.olds.now))
+    (old_passed : IsPassed e.0 (labels_of a.olds.now) (labels_of b.olds.now))
     (new_map : IsMap key_cmp (labels_of b.news.now))
-    (new_passed : (q : EntryKey) → key_cmp e.0 q ≡ Less
-    → find key_cmp q (labels_of b.news.now) ≡ find key_cmp q (labels_of a.news.now)) where
+    (new_passed : IsPassed e.0 (labels_of a.news.now) (labels_of b.news.now)) where
   is_latest : b.stamps.latest ≡ latest_of (seen ++ e ∷ [])
   is_latest =
       latest ∙ ap (λ l. joined_if_both joined_stamps l (Some e.1.stamp)) holds.latest

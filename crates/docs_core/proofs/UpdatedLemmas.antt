@@ -2,7 +2,7 @@
 use Rattle.std.proofs.Common.{◌≡◌, ◌≢◌, ◌∙◌, ℕ, Bool, true, false, cond, List, [], ◌∷◌, ◌++◌, refl}
 use Rattle.std.proofs.Common.{sym, ap, append-nil, append_assoc, subst, inl, inr}
 use Rattle.std.specs.Borrow.{Bor}
-use Rattle.std.specs.Prelude.{◌&&◌, None, Option, Some, T, is_some, option_map}
+use Rattle.std.specs.Prelude.{◌&&◌, None, Option, Some, T, is_some, not, option_map}
 use Rattle.std.specs.Bool.{Decides}
 use Rattle.std.specs.Option.{option_eq}
 use Rattle.std.specs.Ordering.{eq_by_cmp, is_eq, is_lt, ordering_reverse}
@@ -132,6 +132,20 @@ Some≢None x e = cc
 pub nothing_done : (held : Texts) (change : Option Texts) → IsChangeAt None None held change
     → change ≡ None
 nothing_done held change h = elim h [ inl same ↦ same.1 | inr other ↦ absurd (other.0 refl) ]
+
+-- where the label is another than before it is changed, unless the site has it
+pub changed_unless : (old new held : Texts) (has : Bool) → old ≢ new → Decides has (held ≡ new)
+    → IsChangeAt old new held (cond (not has) (Some new) None)
+changed_unless old new held true differ is = inl (inr (is.0 refl), refl)
+changed_unless old new held false differ is =
+    inr (differ, λ same. let no : false ≡ true = is.1 same in absurd (cc), refl)
+
+-- where it is changed it is another than before
+pub changed_differ : {old new held to : Texts} → IsChangeAt old new held (Some to) → old ≢ new
+changed_differ {to = to} h = elim h [
+  | inl nothing ↦ absurd (Some≢None to nothing.1)
+  | inr change ↦ change.0
+]
 
 -- what is done is one
 pub one_change : (old new held : Texts) (x y : Option Texts) → IsChangeAt old new held x

@@ -1,5 +1,5 @@
 -- The rows of a site that a summary lacks.
-use Rattle.std.specs.Prelude.{◌≡◌, drop}
+use Rattle.std.specs.Prelude.{◌≡◌, List, drop}
 use Rattle.std.specs.declared.cmp.Ordering.TheVariants.{Less}
 use Rattle.std.specs.FinMap.Entries.{find}
 use Rattle.cata_core.specs.Delta.{Stamps, delta_of}
@@ -7,10 +7,10 @@ use Rattle.cata_core.specs.Entries.{Entries, EntryKey, IsAboveAll, key_cmp}
 use Rattle.site_docs.specs.RowsDraft.{HoldsRows}
 use Rattle.docs_core.specs.declared.call.lacked_rows.LackedRows.{LackedRows}
 
--- what is left of the stamps has what they have of each key that is greater than this one
-abbrev pub IsPassed : EntryKey → Stamps → Stamps → Type 0
-IsPassed key stamps left =
-    (q : EntryKey) → key_cmp key q ≡ Less → find key_cmp q left ≡ find key_cmp q stamps
+-- what is left of a list has what all of it has of each key that is greater than this one
+abbrev pub IsPassed : {V : Type 0} → EntryKey → List (EntryKey × V) → List (EntryKey × V) → Type 0
+IsPassed key all left =
+    (q : EntryKey) → key_cmp key q ≡ Less → find key_cmp q left ≡ find key_cmp q all
 
 -- the rows of the cells that the stamps lack; those left have what all have of each key that is
 -- greater than the cells'

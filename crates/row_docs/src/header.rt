@@ -36,6 +36,17 @@ pub enum Subject {
     Other,
 }
 
+/// What the reader of a document expects.
+#[derive(Drop)]
+pub(crate) struct Wanted<'s, C> {
+    /// The kind of the document.
+    pub kind: Kind,
+    /// The version by which the rows are read.
+    pub version: Version,
+    /// What something is made of, with the rows.
+    pub start: &'s C,
+}
+
 /// The header as far as it was read. Of two members with one name the last one counts.
 #[derive(Clone, Copy, Debug)]
 pub(crate) struct Header {
@@ -55,16 +66,15 @@ pub(crate) struct Header {
 pub(crate) fn read_members<C, R: Rows<C>>(
     alloc: Global,
     reader: &mut Reader<'_>,
-    kind: Kind,
-    version: Version,
-    start: &C,
+    wanted: &Wanted<'_, C>,
     rows: &mut R,
 ) -> Result<Header, DocCause>
     requires numbers { are_in_range reader.old ≡ true }
     requires places { length reader.old < 2 ^ 64 }
     ensures { MatchResult result
         (λ header. (ms : Members) × ReadsMembers 126 reader.old ms reader.new
-        × Shows kind (R.Checks version) (R.Holds start.now version) header rows.new ms)
+        × Shows wanted.now.kind (R.Checks wanted.now.version)
+        (R.Holds wanted.now.start.now wanted.now.version) header rows.new ms)
         (OrMemory NoMemory (λ e. (e ≡ NotJson) × ReadsNoMembers 126 reader.old)) }
 {
     let mut header = Header {
@@ -75,8 +85,8 @@ pub(crate) fn read_members<C, R: Rows<C>>(
         has_other: false,
     };
     while let Some(name) = next_name(reader)? {
-        let member = kind.member(name);
-        header = read_member(alloc, reader, kind, version, member, header, start, rows)?;
+        let member = wanted.kind.member(name);
+        header = read_member(alloc, reader, wanted, member, header, rows)?;
     }
     Ok(header)
 }
@@ -85,27 +95,27 @@ pub(crate) fn read_members<C, R: Rows<C>>(
 fn read_member<C, R: Rows<C>>(
     alloc: Global,
     reader: &mut Reader<'_>,
-    kind: Kind,
-    version: Version,
+    wanted: &Wanted<'_, C>,
     member: Member,
     header: Header,
-    start: &C,
     rows: &mut R,
 ) -> Result<Header, DocCause>
     requires numbers { are_in_range reader.old ≡ true }
     requires places { length reader.old < 2 ^ 64 }
     ensures { MatchResult result
         (λ next. (d : Data) × ReadsNext reader.old d reader.new
-        × ((name : List ℕ) (ms : Members) → member_of kind name ≡ member
-        → Shows kind (R.Checks version) (R.Holds start.now version) header rows.old ms
-        → Shows kind (R.Checks version) (R.Holds start.now version) next rows.new (put name d ms)))
+        × ((name : List ℕ) (ms : Members) → member_of wanted.now.kind name ≡ member
+        → Shows wanted.now.kind (R.Checks wanted.now.version)
+        (R.Holds wanted.now.start.now wanted.now.version) header rows.old ms
+        → Shows wanted.now.kind (R.Checks wanted.now.version)
+        (R.Holds wanted.now.start.now wanted.now.version) next rows.new (put name d ms)))
         (OrMemory NoMemory (ReadsNone 126 reader.old)) }
 {
     match member {
-        Member::Kind => read_kind(alloc, reader, kind, header),
+        Member::Kind => read_kind(alloc, reader, wanted.kind, header),
         Member::Version => read_version(alloc, reader, header),
         Member::Subject => read_subject(alloc, reader, header),
-        Member::Rows => read_array(alloc, reader, version, header, start, rows),
+        Member::Rows => read_array(alloc, reader, wanted, header, rows),
         Member::Other => pass_over(reader, header),
     }
 }
@@ -165,9 +175,8 @@ fn read_subject(alloc: Global, reader: &mut Reader<'_>, header: Header) -> Resul
 fn read_array<C, R: Rows<C>>(
     alloc: Global,
     reader: &mut Reader<'_>,
-    version: Version,
+    wanted: &Wanted<'_, C>,
     header: Header,
-    start: &C,
     rows: &mut R,
 ) -> Result<Header, DocCause>
     requires numbers { are_in_range reader.old ≡ true }
@@ -175,7 +184,8 @@ fn read_array<C, R: Rows<C>>(
     ensures { MatchResult result
         (λ next. (d : Data) × ReadsNext reader.old d reader.new
         × ((read : Option (Option DocCause))
-        × ShowsRows (R.Checks version) (R.Holds start.now version) read rows.new (items_in d)
+        × ShowsRows (R.Checks wanted.now.version)
+        (R.Holds wanted.now.start.now wanted.now.version) read rows.new (items_in d)
         × (next ≡ record header { rows = read })))
         (OrMemory NoMemory (ReadsNone 126 reader.old)) }
 {
@@ -184,7 +194,8 @@ fn read_array<C, R: Rows<C>>(
     };
     match token {
         Token::BeginArray => {
-            let refusal = read_rows(alloc, reader, MEMBER_DEPTH - 1, version, start, rows)?;
+            let depth = MEMBER_DEPTH - 1;
+            let refusal = read_rows(alloc, reader, depth, wanted.version, wanted.start, rows)?;
             Ok(Header {
                 rows: Some(refusal),
                 ..header

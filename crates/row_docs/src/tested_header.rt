@@ -14,7 +14,7 @@ ghost use Rattle.row_docs.specs.HeaderTests.{FailsHeader, PassesHeader};
 ghost use Rattle.row_docs.specs.TestedHeaders.{HasHeader, RefusesHeader, RefusesText};
 
 use crate::arrays::Rows;
-use crate::header::{Header, Subject, read_members};
+use crate::header::{Header, Subject, Wanted, read_members};
 use crate::kind::Kind;
 use crate::version::Version;
 use json::{Reader, Scratch};
@@ -54,9 +54,20 @@ pub fn read_header<C, R: Rows<C>>(
     let text = text_in(bytes)?;
     let mut scratch = Scratch::new(alloc);
     check_numbers(text, &mut scratch)?;
-    let tested = read_as(alloc, text, &mut scratch, kind, Version::Two, start, rows)?;
+    let wanted = Wanted {
+        kind,
+        version: Version::Two,
+        start,
+    };
+    let tested = read_as(alloc, text, &mut scratch, &wanted, rows)?;
     match tested.version {
-        Version::One => read_as(alloc, text, &mut scratch, kind, Version::One, start, rows),
+        Version::One => {
+            let wanted = Wanted {
+                version: Version::One,
+                ..wanted
+            };
+            read_as(alloc, text, &mut scratch, &wanted, rows)
+        }
         Version::Two => Ok(tested),
     }
 }
@@ -66,18 +77,17 @@ fn read_as<C, R: Rows<C>>(
     alloc: Global,
     text: &str,
     scratch: &mut Scratch,
-    kind: Kind,
-    version: Version,
-    start: &C,
+    wanted: &Wanted<'_, C>,
     rows: &mut R,
 ) -> Result<TestedHeader, DocCause>
     requires { are_in_range (tokens text.now) ≡ true }
     ensures { MatchResult result
         (λ tested. (d : Data) × (read text.now ≡ Some d)
-        × HasHeader kind (R.Checks version) (R.Holds start.now version) d tested rows.new)
-        (OrMemory NoMemory (RefusesText kind text.now)) }
+        × HasHeader wanted.now.kind (R.Checks wanted.now.version)
+        (R.Holds wanted.now.start.now wanted.now.version) d tested rows.new)
+        (OrMemory NoMemory (RefusesText wanted.now.kind text.now)) }
 {
-    match read_object(alloc, text, scratch, kind, version, start, rows)? {
+    match read_object(alloc, text, scratch, wanted, rows)? {
         Some(header) => test_header(header),
         None => Err(DocCause::Shape {
             spot: Spot::Document,
@@ -90,23 +100,22 @@ fn read_object<C, R: Rows<C>>(
     alloc: Global,
     text: &str,
     scratch: &mut Scratch,
-    kind: Kind,
-    version: Version,
-    start: &C,
+    wanted: &Wanted<'_, C>,
     rows: &mut R,
 ) -> Result<Option<Header>, DocCause>
     requires { are_in_range (tokens text.now) ≡ true }
     ensures { MatchResult result
         (λ header. MatchOption header ((d : Data) × (read text.now ≡ Some d) × (as_object d ≡ None))
         (λ h. (ms : Members) × (read text.now ≡ Some (object ms))
-        × Shows kind (R.Checks version) (R.Holds start.now version) h rows.new ms))
+        × Shows wanted.now.kind (R.Checks wanted.now.version)
+        (R.Holds wanted.now.start.now wanted.now.version) h rows.new ms))
         (OrMemory NoMemory (λ e. (e ≡ NotJson) × (read text.now ≡ None))) }
 {
     let Ok(mut reader) = Reader::new(text, scratch) else {
         return Err(DocCause::NoMemory);
     };
     if begins_object(&mut reader) {
-        let header = read_rest(alloc, &mut reader, kind, version, start, rows)?;
+        let header = read_rest(alloc, &mut reader, wanted, rows)?;
         Ok(Some(header))
     } else {
         check_value(text, scratch)?;
@@ -118,19 +127,18 @@ fn read_object<C, R: Rows<C>>(
 fn read_rest<C, R: Rows<C>>(
     alloc: Global,
     reader: &mut Reader<'_>,
-    kind: Kind,
-    version: Version,
-    start: &C,
+    wanted: &Wanted<'_, C>,
     rows: &mut R,
 ) -> Result<Header, DocCause>
     requires numbers { are_in_range reader.old ≡ true }
     requires places { length reader.old < 2 ^ 64 }
     ensures { MatchResult result
         (λ header. (ms : Members) × ReadsMembers 126 reader.old ms []
-        × Shows kind (R.Checks version) (R.Holds start.now version) header rows.new ms)
+        × Shows wanted.now.kind (R.Checks wanted.now.version)
+        (R.Holds wanted.now.start.now wanted.now.version) header rows.new ms)
         (OrMemory NoMemory (λ e. (e ≡ NotJson) × IsNotWhole reader.old)) }
 {
-    let header = read_members(alloc, reader, kind, version, start, rows)?;
+    let header = read_members(alloc, reader, wanted, rows)?;
     match reader.next() {
         None => Ok(header),
         Some(_) => Err(DocCause::NotJson),

@@ -59,7 +59,7 @@ impl RowsDraft {
             → HoldsRows self.new (rows ++ entry_of cell.now ∷ [])) }
     {
         match cell.row {
-            Some(row) => self.add_text(row),
+            Some(row) => self.add_row(row.as_bytes()),
             None => self.add_seen(alloc, cell),
         }
     }
@@ -162,15 +162,6 @@ impl RowsDraft {
     }
 
     /// Adds a row that is written already.
-    fn add_text(&mut self, row: &str) -> Result<(), AllocError>
-        ensures { OnOk result ((rows : Entries) (e : Entry) → HoldsRows self.old rows
-            → IsKeptCell e → row.now ≡ compact_text (entry_value e)
-            → HoldsRows self.new (rows ++ e ∷ [])) }
-    {
-        self.add_row(row.as_bytes())
-    }
-
-    /// The same of its bytes.
     fn add_row(&mut self, row: &[u8]) -> Result<(), AllocError>
         ensures { OnOk result ((rows : Entries) (e : Entry) → HoldsRows self.old rows
             → IsKeptCell e → IsUtf8 row.now → row.now ≡ compact_text (entry_value e)

@@ -13,14 +13,12 @@ ghost use Rattle.docs_core.specs.Exchange.{IsImported, RefusesImport};
 ghost use Rattle.docs_core.specs.Imported.{Imports, RefusesStamps, SpendsImport, puts_of};
 ghost use Rattle.docs_core.specs.StampedCells.{AreStamped, HoldsStamped, SpendsStamps};
 
-use crate::call::joined_rows::JoinedRows;
-use crate::call::stamped_cells::{LatestStamp, StampedCells};
+use crate::call::stamped_cells::{LatestStamp, StampedCells, changed_document, latest_stamp};
 use cata_core::{CataFault, Catalogue, Site};
-use cell_core::{Label, MessageId, SiteName};
+use cell_core::{Label, MessageId, SiteName, Stamp};
 use json_docs::{Doc, DocFault};
 use lang_core::Lang;
 use map_docs::{LangMaps, TakeLabels, take_langmaps};
-use site_docs::show_document;
 use std::alloc::Global;
 
 /// The document of the site after each label of the language maps was put, in rising order of key,
@@ -39,12 +37,9 @@ pub fn import_document(
         (OrMemory no_memory (RefusesImport site.now now langmaps.now)) }
 {
     let room = site.len().saturating_add(langmaps.len());
-    let (name, stamps) = show_document(alloc, 1, site, &LatestStamp::new())?;
-    let cells = stamped_cells(alloc, langmaps, now, name, &stamps)?;
-    let start = JoinedRows::new(alloc, &cells, room)?;
-    let (_, rows) = show_document(alloc, 1, site, &start)?;
-    let doc = rows.close(alloc, name)?;
-    Ok(doc)
+    let (name, stamps) = latest_stamp(alloc, site)?;
+    let cells = stamped_cells(alloc, langmaps, now, name, stamps.latest)?;
+    changed_document(alloc, site, name, &cells, room)
 }
 
 /// Puts each label, in rising order of key, at this time: with the next stamp of the site after the
@@ -81,21 +76,22 @@ fn stamped_cells(
     langmaps: &[u8],
     now: u64,
     name: SiteName,
-    stamps: &LatestStamp,
+    latest: Option<Stamp>,
 ) -> Result<Catalogue, DocFault>
     ensures { MatchResult result
         (λ cells. (labels : List Labelled) × AreLangMaps langmaps.now labels
-        × AreStamped now name stamps.now.latest (puts_of labels) cells)
-        (OrMemory no_memory (RefusesStamps langmaps.now now name stamps.now.latest)) }
+        × AreStamped now name latest (puts_of labels) cells)
+        (OrMemory no_memory (RefusesStamps langmaps.now now name latest)) }
 {
-    let mut stamped = StampedCells::new(alloc, now, name, stamps);
+    let stamps = LatestStamp { latest };
+    let mut stamped = StampedCells::new(alloc, now, name, &stamps);
     let left = take_langmaps(alloc, 2, langmaps, &mut stamped)?;
     let cells = stamped.into_cells();
     match left {
         None => Ok(cells),
         Some(maps) => {
             drop(cells);
-            let cells = stamped_labels(alloc, &maps, now, name, stamps)?;
+            let cells = stamped_labels(alloc, &maps, now, name, &stamps)?;
             Ok(cells)
         }
     }
@@ -117,10 +113,7 @@ fn stamped_labels(
     for found in maps.labels() {
         let lang = found.lang.copy(alloc)?;
         let label = found.label.copy(alloc)?;
-        match stamped.add(alloc, &found.id, lang, Some(label)) {
-            Ok(()) => {}
-            Err(cause) => return Err(cause),
-        }
+        stamped.add(alloc, &found.id, lang, Some(label))?;
     }
     Ok(stamped.into_cells())
 }

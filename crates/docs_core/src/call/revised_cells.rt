@@ -1,10 +1,10 @@
 //! The cells of a site that changes of language maps may concern, and the site's latest stamp.
 ghost use Rattle.std.specs.Prelude.{◌≡◌, [], is_some};
-ghost use Rattle.std.specs.declared.cmp.Ordering.TheVariants.{Less};
 ghost use Rattle.std.specs.FinMap.Entries.{find};
 ghost use Rattle.cell_core.specs.Keyed.{IsMap};
-ghost use Rattle.cata_core.specs.Entries.{EntryKey, key_cmp};
+ghost use Rattle.cata_core.specs.Entries.{key_cmp};
 ghost use Rattle.map_docs.specs.LangMaps.{labels_of};
+ghost use Rattle.docs_core.specs.LackedRows.{IsPassed};
 ghost use Rattle.docs_core.specs.RevisedCells.{HoldsRevised};
 
 use crate::call::edited_rows::later;
@@ -59,8 +59,8 @@ impl<'t, 'k> CellSink<'t> for RevisedCells<'k> {
     }
 
     fn see(&mut self, alloc: Global, cell: CellRef<'_, 't>) -> Result<(), AllocError> {
-        let (old, olds) = label_at(self.olds, cell.id, cell.lang);
-        let (new, news) = label_at(self.news, cell.id, cell.lang);
+        let (old, olds) = split_at_key(self.olds, cell.id, cell.lang);
+        let (new, news) = split_at_key(self.news, cell.id, cell.lang);
         self.olds = olds;
         self.news = news;
         self.stamps.latest = later(self.stamps.latest, cell.stamp);
@@ -72,7 +72,7 @@ impl<'t, 'k> CellSink<'t> for RevisedCells<'k> {
 }
 
 /// The label of the key, where there is one, and those of greater keys.
-fn label_at<'k>(
+fn split_at_key<'k>(
     labels: &'k [KeyedLabel],
     id: &MessageId,
     lang: &Lang,
@@ -81,8 +81,7 @@ fn label_at<'k>(
     ensures found { is_some result.0
         ≡ is_some (find key_cmp (id.now, lang.now) (labels_of labels.now)) }
     ensures map { IsMap key_cmp (labels_of result.1.now) }
-    ensures passed { (q : EntryKey) → key_cmp (id.now, lang.now) q ≡ Less
-        → find key_cmp q (labels_of result.1.now) ≡ find key_cmp q (labels_of labels.now) }
+    ensures passed { IsPassed (id.now, lang.now) (labels_of labels.now) (labels_of result.1.now) }
 {
     let mut left = labels;
     while let Some((first, rest)) = left.split_first() {

@@ -1,26 +1,27 @@
 //! Calls on whole documents, from bytes to bytes.
-ghost use Rattle.std.specs.Prelude.{◌≡◌, option_map, IfErr, IfOk, MatchResult, OnErr};
+ghost use Rattle.std.specs.Prelude.{◌≡◌, ◌⊎◌, option_map, IfErr, IfOk, MatchResult, OnErr};
 ghost use Rattle.std.specs.FinMap.Entries.{put};
 ghost use Rattle.cell_core.specs.Stamp.{IsNext, NoNext};
 ghost use Rattle.cata_core.specs.Entries.{key_cmp};
 ghost use Rattle.cata_core.specs.Latest.{latest_of};
-ghost use Rattle.cata_core.specs.Site.{RefusesEdit};
+ghost use Rattle.cata_core.specs.Site.{RefusesEdit, SiteState};
 ghost use Rattle.cata_core.specs.declared.cata_fault.CataFault.TheVariants.{ClockSpent};
 ghost use Rattle.json_docs.specs.Checks.{OrMemory};
 ghost use Rattle.row_docs.specs.Reading.{IsOfDocument, no_memory};
-ghost use Rattle.site_docs.specs.ReadsAs.{RefusesSite};
+ghost use Rattle.site_docs.specs.ReadsAs.{ReadsAsSite, RefusesSite};
 ghost use Rattle.docs_core.specs.Calls.{AreSynced, IsEdited, IsDeltaFor, IsSummarised};
 ghost use Rattle.docs_core.specs.Calls.{IsTaken, RefusesEditing, RefusesDeltaFor, RefusesSync};
 ghost use Rattle.docs_core.specs.Calls.{RefusesTaking};
 
 use crate::call::edited_rows::EditedRows;
 use crate::call::lacked_rows::LackedRows;
+use crate::call::stamped_cells::latest_stamp;
 use crate::call::time_limits::{sync_documents_until, take_document_until};
 use cata_core::{CataFault, Site};
 use cell_core::{Cell, Label, MessageId, SiteName, Stamp};
 use json_docs::{Doc, DocFault};
 use lang_core::Lang;
-use site_docs::{document_summary, show_document, site_at, summary_at};
+use site_docs::{document_summary, show_document, summary_at};
 use std::alloc::{AllocError, Global};
 
 /// The document of the site after an edit at the time `now`: a label is put, and none deletes.
@@ -132,11 +133,7 @@ pub fn delta_document(alloc: Global, site: &[u8], summary: &[u8]) -> Result<Doc,
     let room = site.len();
     let summary = match summary_at(alloc, 2, summary) {
         Ok(summary) => summary,
-        Err(fault) => {
-            // Document 1 is refused first.
-            let _read = site_at(alloc, 1, site)?;
-            return Err(fault);
-        }
+        Err(fault) => return Err(first_refusal(alloc, site, fault)),
     };
     let start = LackedRows::new(alloc, &summary, room)?;
     let (_, rows) = show_document(alloc, 1, site, &start)?;
@@ -154,4 +151,15 @@ pub fn take_document(alloc: Global, site: &[u8], delta: &[u8]) -> Result<Doc, Do
         (OrMemory no_memory (RefusesTaking site.now delta.now)) }
 {
     take_document_until(alloc, site, delta, None)
+}
+
+/// Why a call is refused that refuses another document so: document 1, a site, is refused first.
+pub(crate) fn first_refusal(alloc: Global, site: &[u8], fault: DocFault) -> DocFault
+    ensures { OrMemory no_memory (λ first. IsOfDocument 1 (RefusesSite site.now) first
+        ⊎ ((read : SiteState) × ReadsAsSite site.now read × (first ≡ fault))) result }
+{
+    match latest_stamp(alloc, site) {
+        Ok(_) => fault,
+        Err(first) => first,
+    }
 }

@@ -1,21 +1,61 @@
 //! Changes that have their stamps before they are made: the next ones of a site, after its latest.
-ghost use Rattle.std.specs.Prelude.{◌≡◌, ◌++◌, ◌∷◌, [], ℕ, IfErr, List, None, OnOk};
-ghost use Rattle.std.specs.Prelude.{Option};
+ghost use Rattle.std.specs.Prelude.{◌≡◌, ◌++◌, ◌∷◌, [], ℕ, IfErr, List, MatchResult, None};
+ghost use Rattle.std.specs.Prelude.{OnOk, Option};
 ghost use Rattle.cell_core.specs.Stamp.{NoNext};
-ghost use Rattle.cata_core.specs.Entries.{IsAboveAll};
+ghost use Rattle.cata_core.specs.Entries.{Entries, IsAboveAll};
 ghost use Rattle.cata_core.specs.Latest.{latest_of};
 ghost use Rattle.cata_core.specs.declared.cata_fault.CataFault.TheVariants.{ClockSpent, NoMemory};
 ghost use Rattle.json_docs.specs.Checks.{OrMemory};
-ghost use Rattle.docs_core.specs.Made.{Change};
-ghost use Rattle.docs_core.specs.StampedCells.{HoldsStamped};
+ghost use Rattle.row_docs.specs.Reading.{IsOfDocument, no_memory};
+ghost use Rattle.site_docs.specs.ReadsAs.{IsSiteText, ReadsAsSite, RefusesSite};
+ghost use Rattle.docs_core.specs.Made.{Change, Makes};
+ghost use Rattle.docs_core.specs.StampedCells.{AreStamped, HoldsStamped};
 
 use crate::call::edited_rows::later;
+use crate::call::joined_rows::JoinedRows;
 use crate::call::sites::next_stamp;
 use cata_core::{CataFault, Catalogue};
 use cell_core::{Cell, Key, Label, MessageId, SiteName, Stamp};
+use json_docs::{Doc, DocFault};
 use lang_core::Lang;
-use site_docs::{CellRef, CellSink};
+use site_docs::{CellRef, CellSink, show_document};
 use std::alloc::{AllocError, Global};
+
+/// The name of the site of a document, and its latest stamp.
+///
+/// Refused as a reader's with document 1, or since memory ran out (26).
+pub(crate) fn latest_stamp(alloc: Global, site: &[u8]) -> Result<(SiteName, LatestStamp), DocFault>
+    ensures { MatchResult result (λ read. (cells : Entries)
+        × ReadsAsSite site.now (record { name = read.0; cells = cells })
+        × (read.1.latest ≡ latest_of cells))
+        (OrMemory no_memory (IsOfDocument 1 (RefusesSite site.now))) }
+{
+    show_document(alloc, 1, site, &LatestStamp::new())
+}
+
+/// The document of the site of this name after changes, which have the next stamps after its
+/// latest one as these cells; there is room for so many bytes.
+///
+/// Refused as a reader's with document 1, or since memory ran out (26).
+pub(crate) fn changed_document(
+    alloc: Global,
+    site: &[u8],
+    name: SiteName,
+    cells: &Catalogue,
+    room: usize,
+) -> Result<Doc, DocFault>
+    ensures { (own : Entries) (now : ℕ) (changes : List Change)
+        → ReadsAsSite site.now (record { name = name; cells = own })
+        → AreStamped now name (latest_of own) changes cells.now
+        → MatchResult result (λ doc. (made : Entries) × Makes now name changes own made
+        × IsSiteText (record { name = name; cells = made }) doc)
+        (OrMemory no_memory (IsOfDocument 1 (RefusesSite site.now))) }
+{
+    let start = JoinedRows::new(alloc, cells, room)?;
+    let (_, rows) = show_document(alloc, 1, site, &start)?;
+    let doc = rows.close(alloc, name)?;
+    Ok(doc)
+}
 
 /// The latest stamp of the cells that were seen.
 #[derive(Drop)]

@@ -10,6 +10,7 @@ ghost use Rattle.docs_core.specs.TimeLimits.{RefusesSyncUntil, RefusesTakingUnti
 
 use crate::call::joined_rows::JoinedRows;
 use crate::call::rows_in_time::RowsInTime;
+use crate::call::sites::first_refusal;
 use cata_core::{CataFault, Catalogue, Delta};
 use cell_core::SiteName;
 use json_docs::{Doc, DocCause, DocFault};
@@ -37,11 +38,7 @@ pub fn take_document_until(
     let room = site.len().saturating_add(delta.len());
     let delta = match delta_until(alloc, 2, delta, not_after) {
         Ok(delta) => delta,
-        Err(fault) => {
-            // Document 1 is refused first.
-            let _read = site_at(alloc, 1, site)?;
-            return Err(fault);
-        }
+        Err(fault) => return Err(first_refusal(alloc, site, fault)),
     };
     let start = JoinedRows::new(alloc, delta.cells(), room)?;
     let (name, rows) = show_document(alloc, 1, site, &start)?;
@@ -81,11 +78,7 @@ pub fn sync_documents_until(
     let room = first.len().saturating_add(second.len());
     let second = match site_at(alloc, 2, second) {
         Ok(second) => second,
-        Err(fault) => {
-            // Document 1 is refused first.
-            let _read = site_at(alloc, 1, first)?;
-            return Err(fault);
-        }
+        Err(fault) => return Err(first_refusal(alloc, first, fault)),
     };
     let joined = JoinedRows::new(alloc, second.catalogue(), room)?;
     let start = RowsInTime::new(joined, not_after);

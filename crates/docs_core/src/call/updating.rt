@@ -1,7 +1,7 @@
 //! What an editor changed in language maps, applied to a site.
 ghost use Rattle.std.specs.Prelude.{◌≡◌, ◌≢◌, ◌+◌, ◌++◌, ◌<◌, [], ℕ, IfErr, IfSome, List};
 ghost use Rattle.std.specs.Prelude.{MatchOption, MatchResult, None, OnErr, OnOk, Option, Some};
-ghost use Rattle.std.specs.Prelude.{length, option_map};
+ghost use Rattle.std.specs.Prelude.{cond, length, option_map};
 ghost use Rattle.std.specs.Bool.{Decides};
 ghost use Rattle.cell_core.specs.Keyed.{IsMap};
 ghost use Rattle.cell_core.specs.Stamp.{NoNext};
@@ -20,16 +20,15 @@ ghost use Rattle.docs_core.specs.StampedCells.{AreStamped, HoldsStamped, SpendsS
 ghost use Rattle.docs_core.specs.Updated.{AreChanges, IsChangeAt, IsUpdated, RefusesMaps};
 ghost use Rattle.docs_core.specs.Updated.{RefusesUpdate, SpendsUpdate, Updates};
 
-use crate::call::joined_rows::JoinedRows;
 use crate::call::revised_cells::RevisedCells;
-use crate::call::sites::{copy_of, edit};
-use crate::call::stamped_cells::StampedCells;
+use crate::call::sites::{copy_of, edit, first_refusal};
+use crate::call::stamped_cells::{StampedCells, changed_document};
 use cata_core::{CataFault, Catalogue, Site};
 use cell_core::{Key, Label, SiteName};
 use json_docs::{Doc, DocFault};
 use map_docs::{KeyedLabel, LangMaps, langmaps_of_document};
 use query_docs::label_at;
-use site_docs::{show_document, site_at};
+use site_docs::show_document;
 use std::alloc::Global;
 use std::cmp::Ordering;
 
@@ -57,19 +56,12 @@ pub fn update_document(
     let room = site.len().saturating_add(new.len());
     let (old, new) = match both_maps(alloc, old, new) {
         Ok(maps) => maps,
-        Err(fault) => {
-            // Document 1 is refused first.
-            let _read = site_at(alloc, 1, site)?;
-            return Err(fault);
-        }
+        Err(fault) => return Err(first_refusal(alloc, site, fault)),
     };
     let start = RevisedCells::new(alloc, &old, &new);
     let (name, revised) = show_document(alloc, 1, site, &start)?;
     let cells = stamped_changes(alloc, &revised, now, name, &old, &new)?;
-    let start = JoinedRows::new(alloc, &cells, room)?;
-    let (_, rows) = show_document(alloc, 1, site, &start)?;
-    let doc = rows.close(alloc, name)?;
-    Ok(doc)
+    changed_document(alloc, site, name, &cells, room)
 }
 
 /// Makes the changes from the old labels to the new ones, in rising order of key at the time `now`,
@@ -139,10 +131,7 @@ fn stamped_changes(
     let mut olds = old.labels();
     let mut news = new.labels();
     while let Some((next, old_rest, new_rest)) = first_revised(olds, news) {
-        match add_revised(alloc, &revised.cells, &next, &mut stamped) {
-            Ok(()) => {}
-            Err(cause) => return Err(cause),
-        }
+        add_revised(alloc, &revised.cells, &next, &mut stamped)?;
         olds = old_rest;
         news = new_rest;
     }
@@ -166,13 +155,10 @@ fn add_revised(
         (label_at (key_of revised.now) cells.now) (Some (new_of revised.now))
         × NoNext stamped.old.latest stamped.old.now stamped.old.name)) }
 {
+    if !is_change(cells, revised) {
+        return Ok(());
+    }
     let key = revised.key;
-    if are_equal(revised.old, revised.new) {
-        return Ok(());
-    }
-    if are_equal(label_at(cells, &key.id, &key.lang), revised.new) {
-        return Ok(());
-    }
     let lang = key.lang.copy(alloc)?;
     let label = copy_of(alloc, revised.new)?;
     stamped.add(alloc, &key.id, lang, label)
@@ -266,17 +252,27 @@ fn revise(alloc: Global, site: &mut Site, now: u64, revised: &Revised<'_>) -> Re
         × NoStamp now site.old.name revised.now site.old.cells)) }
     ensures left { OnErr result (site.new ≡ site.old) }
 {
+    if !is_change(site.catalogue(), revised) {
+        return Ok(());
+    }
     let key = revised.key;
-    if are_equal(revised.old, revised.new) {
-        return Ok(());
-    }
-    if are_equal(label_at(site.catalogue(), &key.id, &key.lang), revised.new) {
-        return Ok(());
-    }
     match edit(alloc, site, now, &key.id, &key.lang, revised.new) {
         Ok(_) => Ok(()),
         Err(fault) => Err(fault),
     }
+}
+
+/// Whether a key has another label than before, and another than the cells have.
+fn is_change(cells: &Catalogue, revised: &Revised<'_>) -> bool
+    ensures { IsChangeAt (old_of revised.now) (new_of revised.now)
+        (label_at (key_of revised.now) cells.now)
+        (cond result (Some (new_of revised.now)) None) }
+{
+    if are_equal(revised.old, revised.new) {
+        return false;
+    }
+    let key = revised.key;
+    !are_equal(label_at(cells, &key.id, &key.lang), revised.new)
 }
 
 /// Whether both have the same texts, or neither is there.

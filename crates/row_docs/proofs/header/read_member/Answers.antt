@@ -11,8 +11,8 @@ returns-in-Kind g c =
       read.0,
       read.1,
       λ name ms is shown. rw read.2
-          (Shows-kind c.args.kind (g.R.Rows.Checks c.args.version)
-          (g.R.Rows.Holds c.args.start.now c.args.version) c.args.header
+          (Shows-kind c.args.wanted.now.kind (g.R.Rows.Checks c.args.wanted.now.version)
+          (g.R.Rows.Holds c.args.wanted.now.start.now c.args.wanted.now.version) c.args.header
           c.args.rows.now name read.0 ms shown
           (is ∙ c.in-Kind.is)),
     ))
@@ -24,8 +24,8 @@ returns-in-Version g c =
       read.0,
       read.1,
       λ name ms is shown. rw read.2
-          (Shows-version c.args.kind (g.R.Rows.Checks c.args.version)
-          (g.R.Rows.Holds c.args.start.now c.args.version) c.args.header
+          (Shows-version c.args.wanted.now.kind (g.R.Rows.Checks c.args.wanted.now.version)
+          (g.R.Rows.Holds c.args.wanted.now.start.now c.args.wanted.now.version) c.args.header
           c.args.rows.now name read.0 ms shown
           (is ∙ c.in-Version.is)),
     ))
@@ -37,8 +37,8 @@ returns-in-Subject g c =
       read.0,
       read.1,
       λ name ms is shown. rw read.2.2
-          (Shows-subject c.args.kind (g.R.Rows.Checks c.args.version)
-          (g.R.Rows.Holds c.args.start.now c.args.version) c.args.header
+          (Shows-subject c.args.wanted.now.kind (g.R.Rows.Checks c.args.wanted.now.version)
+          (g.R.Rows.Holds c.args.wanted.now.start.now c.args.wanted.now.version) c.args.header
           c.args.rows.now name read.0 ms shown
           read.2.0 read.2.1 (is ∙ c.in-Subject.is)),
     ))
@@ -50,8 +50,8 @@ returns-in-Rows g c =
       read.0,
       read.1,
       λ name ms is shown. rw read.2.2
-          (Shows-rows c.args.kind (g.R.Rows.Checks c.args.version)
-          (g.R.Rows.Holds c.args.start.now c.args.version) c.args.header
+          (Shows-rows c.args.wanted.now.kind (g.R.Rows.Checks c.args.wanted.now.version)
+          (g.R.Rows.Holds c.args.wanted.now.start.now c.args.wanted.now.version) c.args.header
           c.args.rows.now name read.0 ms shown
           c.read_array.new.rows read.2.0 read.2.1 (is ∙ c.in-Rows.is)),
     ))
@@ -63,8 +63,8 @@ returns-in-Other g c =
       read.0,
       read.1,
       λ name ms is shown. rw read.2
-          (Shows-other c.args.kind (g.R.Rows.Checks c.args.version)
-          (g.R.Rows.Holds c.args.start.now c.args.version) c.args.header
+          (Shows-other c.args.wanted.now.kind (g.R.Rows.Checks c.args.wanted.now.version)
+          (g.R.Rows.Holds c.args.wanted.now.start.now c.args.wanted.now.version) c.args.header
           c.args.rows.now name read.0 ms shown
           (is ∙ c.in-Other.is)),
     ))

@@ -14,9 +14,9 @@ loop-name-init g c = (
   no_members,
   omega arith,
   refl,
-  Shows-none c.args.kind
-      (g.R.Rows.Checks c.args.version) (g.R.Rows.Holds c.args.start.now c.args.version)
-      c.args.rows.now,
+  Shows-none c.args.wanted.now.kind
+      (g.R.Rows.Checks c.args.wanted.now.version)
+      (g.R.Rows.Holds c.args.wanted.now.start.now c.args.wanted.now.version) c.args.rows.now,
   c.requires.numbers,
   omega arith,
 )

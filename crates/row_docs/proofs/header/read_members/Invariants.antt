@@ -13,8 +13,8 @@ invariant-loop-name g l =
     × (converted (λ ms. of_members ms no_members)
     (members (value 126) (length l.fn.reader) l.fn.reader) ≡ converted (λ ms. of_members ms found)
     (members (value 126) n l.reader))
-    × Shows l.kind (g.R.Rows.Checks l.version) (g.R.Rows.Holds l.start l.version) l.header l.rows
-    found
+    × Shows l.fn.wanted.kind (g.R.Rows.Checks l.fn.wanted.version)
+    (g.R.Rows.Holds l.fn.wanted.start.now l.fn.wanted.version) l.header l.rows found
     × (are_in_range l.reader ≡ true)
     × (length l.reader ≤ length l.fn.reader)
 

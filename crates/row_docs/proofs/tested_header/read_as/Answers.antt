@@ -14,14 +14,15 @@ returns-in-Some g c =
     (λ tested passes. (
       object ms,
       e.1,
-      has_header c.args.kind (g.R.Rows.Checks c.args.version)
-          (g.R.Rows.Holds c.args.start.now c.args.version) c.in-Some.header
+      has_header c.args.wanted.now.kind (g.R.Rows.Checks c.args.wanted.now.version)
+          (g.R.Rows.Holds c.args.wanted.now.start.now c.args.wanted.now.version) c.in-Some.header
           c.read_object.new.rows ms e.2 tested passes,
     ))
     (λ cause fails. inr (inr (
       object ms,
       e.1,
-      header_fails c.args.kind
-          (g.R.Rows.Checks c.args.version) (g.R.Rows.Holds c.args.start.now c.args.version)
+      header_fails c.args.wanted.now.kind
+          (g.R.Rows.Checks c.args.wanted.now.version)
+          (g.R.Rows.Holds c.args.wanted.now.start.now c.args.wanted.now.version)
           c.in-Some.header c.read_object.new.rows ms e.2 cause fails,
     )))

@@ -14,9 +14,9 @@ returns-in-None c =
       taken.0,
       taken.1,
       subst
-          (AreStamped c.args.now c.args.name c.args.stamps.now.latest (puts_of taken.0))
+          (AreStamped c.args.now c.args.name c.args.latest (puts_of taken.0))
           (sym c.into_cells-cells.ensures)
-          (stamped_from c.args.now c.args.name c.args.stamps.now.latest first (puts_of taken.0)
+          (stamped_from c.args.now c.args.name c.args.latest first (puts_of taken.0)
           left.cells begun.holds.time begun.holds.site begun.latest
           (stamped_all first.now first.name first.latest left (puts_of taken.0) taken.2)),
     )

@@ -1,6 +1,7 @@
 use Rattle.std.proofs.Common.{◌≡◌, ◌∙◌, ◌++◌, [], ◌∷◌, List, Some, ap₂, arith, length, subst}
 use Rattle.std.proofs.Common.{sym, take}
 use Rattle.std.proofs.Math.Seq.{take-length}
+use Rattle.std.proofs.lemmas.Result.{err_from_is_err_and}
 use Rattle.cell_core.specs.Keyed.{IsMap}
 use Rattle.cata_core.specs.Entries.{IsAboveAll, key_cmp}
 use Rattle.map_docs.specs.LangMaps.{Labelled, labels_of}
@@ -34,15 +35,17 @@ loop-found-preserved c =
     c.in_ok-lang.ensures.equal
     c.in_ok-label.ensures
     ∙ sym (taken_more items i item c.loop-found-test.true c.found-item.is))
-    (c.in-Ok.ensures.ok c.args.now c.args.name last
+    (c.in_ok-add.ensures.ok c.args.now c.args.name last
     (puts_of (labels_of (take i items))) c.loop-found.invariant)
 
 -- there is no stamp for the label
-pub returns-in-Err : goal.returns-in-Err
-returns-in-Err c =
+pub returns-in_err-add : goal.returns-in_err-add
+returns-in_err-add c =
+    let p = err_from_is_err_and c.from_residual-in_err-add.result
+    c.from_residual-in_err-add.ensures.1 in
     let items = c.labels-found-items.result.now in
     let last = c.args.stamps.now.latest in
-    else_by c.in-Err.ensures.err
+    rw (p.1, p.2) (else_by c.in_err-add.ensures.err
     (λ spent. (
       spent.0,
       subst (λ (ls : List Labelled). SpendsStamps c.args.now c.args.name last (puts_of ls))
@@ -50,7 +53,7 @@ returns-in-Err c =
           (spent_here items c.loop-found.found-index c.found-item.result c.loop-found-test.true
           c.found-item.is c.args.now c.args.name last c.loop-found.stamped c.loop-found.invariant
           spent.1),
-    ))
+    )))
 
 -- all labels have their stamps
 pub returns : goal.returns

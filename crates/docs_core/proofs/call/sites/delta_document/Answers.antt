@@ -1,9 +1,17 @@
 use Rattle.std.proofs.Common.{List, subst, ℕ}
 use Rattle.cata_core.specs.Delta.{delta_of}
 use Rattle.cata_core.specs.Summary.{SummaryState}
-use Rattle.site_docs.specs.ReadsAs.{IsDeltaText}
+use Rattle.row_docs.specs.Reading.{IsOfDocument}
+use Rattle.site_docs.specs.ReadsAs.{IsDeltaText, RefusesSummary}
 use Rattle.docs_core.specs.LackedRows.{HoldsLacked}
+use Rattle.docs_core.proofs.CallsLemmas.{refused_after}
 use Rattle.docs_core.proofs.call.sites.delta_document.Goals as goal
+
+-- the summary is refused, and before it the site, if it is
+pub returns-in-Err : goal.returns-in-Err
+returns-in-Err c =
+    refused_after c.args.site.now c.in-Err.fault c.first_refusal.result
+    (IsOfDocument 2 (RefusesSummary c.args.summary.now)) c.first_refusal.ensures c.in-Err.ensures
 
 -- the rows that the summary lacks were written
 pub returns : goal.returns

@@ -3,12 +3,13 @@ use Rattle.std.proofs.Common.{ℕ}
 use Rattle.std.proofs.lemmas.Result.{err_from_is_err_and}
 use Rattle.cata_core.specs.CataFault.{IsRefusal}
 use Rattle.cata_core.specs.Entries.{Entries, joined}
-use Rattle.site_docs.specs.ReadsAs.{IsSiteText}
+use Rattle.row_docs.specs.Reading.{IsOfDocument}
+use Rattle.site_docs.specs.ReadsAs.{IsSiteText, RefusesSite}
 use Rattle.map_docs.proofs.LangMapLabelsLemmas.{else_by}
 use Rattle.docs_core.specs.JoinedRows.{HoldsJoined}
 use Rattle.docs_core.specs.TimeLimits.{AreInTime, IsTimeAhead}
 use Rattle.docs_core.specs.declared.call.joined_rows.JoinedRows.{JoinedRows}
-use Rattle.docs_core.proofs.CallsLemmas.{of_call}
+use Rattle.docs_core.proofs.CallsLemmas.{of_call, refused_after}
 use Rattle.docs_core.proofs.RowsFit.{site_fits}
 use Rattle.docs_core.proofs.call.time_limits.sync_documents_until.Goals as goal
 
@@ -18,11 +19,12 @@ check_times-requires c =
     subst (λ (cells : Entries). length cells < 2 ^ 64) (sym c.catalogue-2.ensures) (omega
     (arith, few))
 
--- the first document is refused
-pub returns-in_err-_read-in-Err : goal.returns-in_err-_read-in-Err
-returns-in_err-_read-in-Err c =
-    let p = err_from_is_err_and c.from_residual.result c.from_residual.ensures.1 in
-    rw (p.1, p.2) (else_by c.in_err-_read-in-Err.ensures (λ h. inl h))
+-- the second document is refused, and before it the first, if it is
+pub returns-in-Err : goal.returns-in-Err
+returns-in-Err c =
+    else_by (refused_after c.args.first.now c.in-Err.fault c.first_refusal.result
+    (IsOfDocument 2 (RefusesSite c.args.second.now)) c.first_refusal.ensures c.in-Err.ensures)
+    (λ why. elim why [ inl first ↦ inl first | inr read ↦ inr (inl read) ])
 
 -- a time of the first site is ahead
 pub returns-in_err-rows : goal.returns-in_err-rows

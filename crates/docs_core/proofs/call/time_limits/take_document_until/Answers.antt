@@ -1,11 +1,19 @@
-use Rattle.std.proofs.Common.{◌∙◌, inr, subst}
+use Rattle.std.proofs.Common.{◌∙◌, inl, inr, subst}
 use Rattle.std.proofs.lemmas.Result.{err_from_is_err_and}
 use Rattle.cata_core.specs.Entries.{Entries}
 use Rattle.cata_core.specs.Site.{RefusesDelta, SiteState}
 use Rattle.map_docs.proofs.LangMapLabelsLemmas.{else_by}
 use Rattle.docs_core.specs.JoinedRows.{HoldsJoined}
-use Rattle.docs_core.proofs.CallsLemmas.{of_call, refuses_addressee, refuses_cells}
+use Rattle.docs_core.specs.TimeLimits.{RefusesDeltaUntil}
+use Rattle.docs_core.proofs.CallsLemmas.{of_call, refused_after, refuses_addressee, refuses_cells}
 use Rattle.docs_core.proofs.call.time_limits.take_document_until.Goals as goal
+
+-- the delta is refused, and before it the site, if it is
+pub returns-in-Err : goal.returns-in-Err
+returns-in-Err c =
+    else_by (refused_after c.args.site.now c.in-Err.fault c.first_refusal.result
+    (RefusesDeltaUntil 2 c.args.not_after c.args.delta.now) c.first_refusal.ensures
+    c.in-Err.ensures) (λ why. elim why [ inl site ↦ inl site | inr read ↦ inr (inl read) ])
 
 -- The site was read and joined with the cells of the delta, which is for it.
 pub returns : goal.returns

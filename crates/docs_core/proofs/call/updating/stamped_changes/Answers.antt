@@ -1,4 +1,5 @@
 use Rattle.std.proofs.Common.{ap, subst, sym}
+use Rattle.std.proofs.lemmas.Result.{err_from_is_err_and}
 use Rattle.map_docs.specs.LangMaps.{labels_of}
 use Rattle.map_docs.proofs.LangMapLabelsLemmas.{else_by}
 use Rattle.docs_core.specs.StampedCells.{AreStamped}
@@ -31,23 +32,24 @@ loop-next-preserved c =
       front = front_next c.args.now c.args.name last c.args.old.now c.args.new.now cells olds news
           c.loop-next.stamped inv.front c.in-Some.next (labels_of c.in-Some.old_rest.now)
           (labels_of c.in-Some.new_rest.now) first c.add_revised.new.stamped
-          (c.in-Ok.ensures.ok c.args.now c.args.name last);
+          (c.in_ok-add_revised.ensures.ok c.args.now c.args.name last);
     }
 
 -- there is no stamp for the change of this key
-pub returns-in-Err : goal.returns-in-Err
-returns-in-Err c =
+pub returns-in_err-add_revised : goal.returns-in_err-add_revised
+returns-in_err-add_revised c =
+    let p = err_from_is_err_and c.from_residual.result c.from_residual.ensures.1 in
     let inv = c.loop-next.invariant in
     let last = c.args.revised.now.stamps.latest in
     let cells = c.args.revised.now.cells in
     let olds = labels_of c.loop-next.olds.now in
     let news = labels_of c.loop-next.news.now in
-    else_by c.in-Err.ensures.err (λ spent. (
+    rw (p.1, p.2) (else_by c.in_err-add_revised.ensures.err (λ spent. (
       spent.0,
       front_spent c.args.now c.args.name last c.args.old.now c.args.new.now cells olds news
           c.loop-next.stamped inv.front c.in-Some.next (labels_of c.in-Some.old_rest.now)
           (labels_of c.in-Some.new_rest.now) c.in-Some.ensures.first spent.1 spent.2,
-    ))
+    )))
 
 -- no key is left
 pub returns : goal.returns

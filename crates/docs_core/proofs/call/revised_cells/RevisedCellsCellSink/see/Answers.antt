@@ -9,8 +9,8 @@ use Rattle.docs_core.proofs.call.revised_cells.RevisedCellsCellSink.see.Goals as
 -- no label is of the cell
 pub returns-then-is_none-2 : goal.returns-then-is_none-2
 returns-then-is_none-2 c = λ first before held above.
-    let was = c.label_at.ensures in
-    let is = c.label_at-2.ensures in (
+    let was = c.split_at_key.ensures in
+    let is = c.split_at_key-2.ensures in (
       held.0,
       held.1,
       revised_passed first.old.now first.new.now c.args.self.now _ before (entry_of c.args.cell)
@@ -35,8 +35,8 @@ returns c =
     let cells = c.args.self.now.cells in
     IfOk-weaker c.see.result _ _ (λ _ saw. λ first before held above.
     let e = entry_of c.args.cell in
-    let was = c.label_at.ensures in
-    let is = c.label_at-2.ensures in (
+    let was = c.split_at_key.ensures in
+    let is = c.split_at_key-2.ensures in (
       held.0,
       held.1,
       revised_kept first.old.now first.new.now c.args.self.now _ before e held.2 above

@@ -4,7 +4,7 @@ use Rattle.std.specs.FinMap.Entries.{find}
 use Rattle.cell_core.specs.Keyed.{IsMap}
 use Rattle.cata_core.specs.Entries.{EntryKey, key_cmp}
 use Rattle.map_docs.specs.LangMaps.{labels_of}
-use Rattle.docs_core.proofs.call.revised_cells.label_at.Given as goal
+use Rattle.docs_core.proofs.call.revised_cells.split_at_key.Given as goal
 
 -- those passed have lesser keys
 abbrev pub invariant-loop-first : goal.invariant-loop-first
