@@ -153,7 +153,7 @@ pub fn take_document(alloc: Global, site: &[u8], delta: &[u8]) -> Result<Doc, Do
     take_document_until(alloc, site, delta, None)
 }
 
-/// Why a call is refused that refuses another document so: document 1, a site, is refused first.
+/// The refusal of document 1, a site, where it has one; else this fault, of another document.
 pub(crate) fn first_refusal(alloc: Global, site: &[u8], fault: DocFault) -> DocFault
     ensures { OrMemory no_memory (λ first. IsOfDocument 1 (RefusesSite site.now) first
         ⊎ ((read : SiteState) × ReadsAsSite site.now read × (first ≡ fault))) result }

@@ -126,8 +126,8 @@ fn read_after<S: Source>(reader: &mut S, buffer: &mut Vec<u8>, filled: usize) ->
 
 /// Makes room for one read after the filled part of the buffer, up to one byte past the limit.
 ///
-/// (The zeros are written in pieces, since larger ones are written by an instruction that is slow
-/// to start. What no read comes to is not touched.)
+/// What no read comes to is not touched. (glibc writes many zeros by an instruction of which
+/// callgrind counts each byte, so they are written in pieces.)
 fn make_room(buffer: &mut Vec<u8>, filled: usize) -> Result<(), AllocError>
     requires within { filled ≤ vec_len buffer.old }
     requires below { filled ≤ MOST_BYTES }
