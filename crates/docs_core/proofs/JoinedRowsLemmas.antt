@@ -25,6 +25,7 @@ use Rattle.cata_core.proofs.ClashLemmas.{found_at}
 use Rattle.cata_core.proofs.FlatLemmas.{all_first, all_rest}
 use Rattle.cata_core.proofs.StampOrderLemmas.{not_less_self}
 use Rattle.docs_core.specs.JoinedRows.{AreJoined, IsFirstGreater, IsJoinedTo, IsJoining}
+use Rattle.docs_core.specs.JoinedRows.{IsJoiningAs, IsJoiningBefore}
 use Rattle.site_docs.specs.RowsDraft.{HoldsRows}
 use Rattle.site_docs.specs.declared.rows_draft.RowsDraft.{RowsDraft}
 
@@ -334,15 +335,6 @@ above_taken seen taken k key c above all =
 
 -- ---- what is seen one after another
 
--- what is joined before a key is seen: all that is taken is below it
-pub record IsJoiningBefore (key : EntryKey) (left others seen rows : Entries) : Type 0 where
-  pub taken : Entries
-  pub all : others ≡ taken ++ left
-  pub map : IsMap key_cmp others
-  pub joined : AreJoined seen taken rows
-  pub below : IsAboveAll key taken
-  pub above : All (λ (d : Entry). IsAboveAll d.0 seen) left
-
 -- the other's entries before the key are taken
 pub joining_before : (key : EntryKey) (left others seen rows less more : Entries)
     → IsJoining left others seen rows → left ≡ less ++ more
@@ -405,22 +397,78 @@ joining_both k c d left more others seen rows so_far first above agree =
       above = above_more seen more (k, c) rest after;
     }
 
+-- what comes after an entry comes after all before it
+above_next : (seen next : Entries) (d : Entry) → IsAboveAll d.0 seen → AreAfter d.0 next
+    → All (λ (x : Entry). IsAboveAll x.0 seen) next
+above_next seen [] d above after = All-nil (λ (x : Entry). IsAboveAll x.0 seen)
+above_next seen (x ∷ xs) d above after =
+    let P : Entry → Type 0 = λ (x : Entry). key_cmp d.0 x.0 ≡ Less in
+    let less = all_first P x xs after in
+    All-cons (λ (x : Entry). IsAboveAll x.0 seen) x xs
+    (All-weaker (λ (y : Entry). key_cmp y.0 d.0 ≡ Less) (λ (y : Entry). key_cmp y.0 x.0 ≡ Less)
+    (λ y before. key_cmp_total.trans y.0 d.0 x.0 before less) seen above)
+    (above_next seen xs d above (all_rest P x xs after))
+
+-- what is read after the one entry that is left comes after it
+read_after : (d : Entry) (taken others next : Entries) → others ≡ taken ++ d ∷ []
+    → IsMap key_cmp (others ++ next) → AreAfter d.0 next
+read_after d taken others next all map =
+    after_first d next (part_after taken (d ∷ next)
+    (subst (IsMap key_cmp)
+    (ap (λ o. o ++ next) all ∙ append_assoc taken (d ∷ []) next) map))
+
+-- the one entry that is left is taken, and more is read
+pub joining_next : {Below After : Entries → Type 0} (d : Entry) (next others seen rows : Entries)
+    → IsJoiningAs Below (d ∷ []) others seen rows → IsMap key_cmp (others ++ next)
+    → ((taken : Entries) → Below taken → After (taken ++ d ∷ []))
+    → IsJoiningAs After next (others ++ next) seen (rows ++ d ∷ [])
+joining_next d next others seen rows so_far map below = record {
+  taken = so_far.taken ++ d ∷ [];
+  all = ap (λ o. o ++ next) so_far.all;
+  map = map;
+  joined =
+      joins_other seen so_far.taken rows d so_far.joined
+      (all_first (λ (x : Entry). IsAboveAll x.0 seen) d [] so_far.above)
+      (front_below so_far.taken [] d.0 d.1 (subst (IsMap key_cmp) so_far.all so_far.map));
+  below = below so_far.taken so_far.below;
+  above =
+      above_next seen next d (all_first (λ (x : Entry). IsAboveAll x.0 seen) d [] so_far.above)
+      (read_after d so_far.taken others next so_far.all map);
+}
+
+-- the key is seen, the one entry that is left has it, and more is read
+pub joining_equal : (k : EntryKey) (c d : Cell) (next others seen rows : Entries)
+    → IsJoiningBefore k ((k, d) ∷ []) others seen rows → IsMap key_cmp (others ++ next)
+    → IsAboveAll k seen → AgreeCells c d
+    → IsJoining next (others ++ next) (seen ++ (k, c) ∷ []) (rows ++ (k, joined_cells c d) ∷ [])
+joining_equal k c d next others seen rows so_far map above agree =
+    let both = joining_both k c d ((k, d) ∷ []) [] others seen rows so_far refl above agree in
+    let after = read_after (k, d) so_far.taken others next so_far.all map in record {
+      taken = both.taken;
+      all = ap (λ o. o ++ next) (both.all ∙ append-nil both.taken);
+      map = map;
+      joined = both.joined;
+      below = both.below;
+      above = above_more seen next (k, c) (above_next seen next (k, d) above after) after;
+    }
+
 -- all was seen: the rows and what is left are the cells of both
-joining_all : (left others seen rows : Entries) → IsJoining left others seen rows
-    → AreJoined seen others (rows ++ left)
+joining_all : {Below : Entries → Type 0} (left others seen rows : Entries)
+    → IsJoiningAs Below left others seen rows → AreJoined seen others (rows ++ left)
 joining_all left others seen rows so_far =
     subst (λ t. AreJoined seen t (rows ++ left)) (sym so_far.all)
     (joins_others seen so_far.taken rows left so_far.joined
     (subst (IsMap key_cmp) so_far.all so_far.map) so_far.above)
 
 -- both agree
-pub joining_agrees : (left others seen rows : Entries) → IsJoining left others seen rows
-    → Agree seen others
+pub joining_agrees : {Below : Entries → Type 0} (left others seen rows : Entries)
+    → IsJoiningAs Below left others seen rows → Agree seen others
 joining_agrees left others seen rows so_far =
     inr (joining_all left others seen rows so_far).agree
 
 -- these are the cells of both, and a map
-pub joining_ends : (left others seen rows : Entries) → IsJoining left others seen rows
+pub joining_ends : {Below : Entries → Type 0} (left others seen rows : Entries)
+    → IsJoiningAs Below left others seen rows
     → (rows ++ left ≡ joined seen others) × IsMap key_cmp (joined seen others)
 joining_ends left others seen rows so_far =
     let all = joining_all left others seen rows so_far in

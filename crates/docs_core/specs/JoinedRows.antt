@@ -27,14 +27,28 @@ IsFirstGreater key [] = ⊤
 IsFirstGreater key (e ∷ es) = key_cmp e.0 key ≡ Greater
 
 -- The cells that were seen are joined with those of the other's that are not left: these are the
--- rows of both. Each cell that is left comes after what was seen.
-pub record IsJoining (left others seen rows : Entries) : Type 0 where
+-- rows of both. Each cell that is left comes after what was seen, and this is true of those taken.
+pub record IsJoiningAs (Below : Entries → Type 0) (left others seen rows : Entries) : Type 0 where
   pub taken : Entries
   pub all : others ≡ taken ++ left
   pub map : IsMap key_cmp others
   pub joined : AreJoined seen taken rows
-  pub below : (key : EntryKey) → IsAboveAll key seen → IsAboveAll key taken
+  pub below : Below taken
   pub above : All (λ (d : Entry). IsAboveAll d.0 seen) left
+
+-- what was taken comes before each key after what was seen
+abbrev pub IsJoining : Entries → Entries → Entries → Entries → Type 0
+IsJoining left others seen rows =
+    IsJoiningAs (λ taken. (key : EntryKey) → IsAboveAll key seen → IsAboveAll key taken)
+    left others seen rows
+
+-- what was taken comes before a key that is seen next
+abbrev pub IsJoiningBefore : EntryKey → Entries → Entries → Entries → Entries → Type 0
+IsJoiningBefore key = IsJoiningAs (IsAboveAll key)
+
+-- no key is seen any more
+abbrev pub IsJoiningAll : Entries → Entries → Entries → Entries → Type 0
+IsJoiningAll = IsJoiningAs (λ taken. ⊤)
 
 -- the cells that are left
 abbrev pub left_of : CellsLeft → Entries

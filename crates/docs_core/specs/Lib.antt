@@ -13,5 +13,6 @@ pub mod Revised
 pub mod RevisedCells
 pub mod RowsInTime
 pub mod StampedCells
+pub mod SyncedRows
 pub mod TimeLimits
 pub mod Updated

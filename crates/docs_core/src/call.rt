@@ -10,5 +10,6 @@ pub(crate) mod revised_cells;
 pub(crate) mod rows_in_time;
 pub(crate) mod sites;
 pub(crate) mod stamped_cells;
+pub(crate) mod synced_rows;
 pub(crate) mod time_limits;
 pub(crate) mod updating;

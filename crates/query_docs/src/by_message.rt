@@ -120,7 +120,7 @@ impl<'t, T: MessageSink<'t>> ByMessage<'t, T> {
         ensures { result ≡ is_of self.now.id id.now }
     {
         match &self.id {
-            Some(own) => own.cmp(id).is_eq(),
+            Some(own) => own == id,
             None => false,
         }
     }

@@ -14,3 +14,4 @@ pub mod SiteDocumentsLemmas
 pub mod LanguagesLemmas
 pub mod TextsLemmas
 pub mod WrittenDocuments
+pub mod WrittenRowsLemmas

@@ -12,3 +12,4 @@ pub mod Sink
 pub mod SiteDocuments
 pub mod Unread
 pub mod Values
+pub mod WrittenRows

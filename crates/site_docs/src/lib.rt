@@ -7,6 +7,7 @@
 //! needs of them, and builds no catalogue;
 //! [`show_catalogue`] shows those of a catalogue. [`document_summary`] makes the summary of a
 //! document as its rows are read, and a [`RowsDraft`] copies the rows of one document to another.
+//! [`WrittenRows`] reads those of a document that is as it is written at its caller's pace.
 //!
 //! Callers find what they need in `docs_core`.
 #![tactic(auto)]
@@ -21,6 +22,7 @@ mod sink;
 pub use document::reading::{delta_at, read_delta, read_site, read_summary, site_at, summary_at};
 pub use document::writing::{write_delta, write_site, write_summary};
 pub use plain::summaries::document_summary;
+pub use plain::written_rows::{WrittenRow, WrittenRows};
 pub use rows_draft::RowsDraft;
 pub use showing::{show_catalogue, show_document};
 pub use sink::{CellRef, CellSink, LabelRef};

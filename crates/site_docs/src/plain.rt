@@ -9,3 +9,4 @@ pub(crate) mod stamps;
 pub(crate) mod summaries;
 pub(crate) mod texts;
 pub(crate) mod unread;
+pub(crate) mod written_rows;

@@ -59,9 +59,20 @@ impl RowsDraft {
             → HoldsRows self.new (rows ++ entry_of cell.now ∷ [])) }
     {
         match cell.row {
-            Some(row) => self.add_row(row.as_bytes()),
+            Some(row) => self.add_row(row),
             None => self.add_seen(alloc, cell),
         }
+    }
+
+    /// Adds a row that is written already.
+    ///
+    /// Its one refusal is out of memory (26); the draft is of no use then.
+    pub fn add_row(&mut self, row: &str) -> Result<(), AllocError>
+        ensures { OnOk result ((rows : Entries) (e : Entry) → HoldsRows self.old rows
+            → IsKeptCell e → row.now ≡ compact_text (entry_value e)
+            → HoldsRows self.new (rows ++ e ∷ [])) }
+    {
+        self.add_bytes(row.as_bytes())
     }
 
     /// Adds the row of a cell of a catalogue.
@@ -83,7 +94,7 @@ impl RowsDraft {
         let mut out = Writer::new(row);
         write_entry(&mut out, id, lang, cell)?;
         let row = out.into_inner();
-        self.add_row(row.as_slice())?;
+        self.add_bytes(row.as_slice())?;
         self.row = row;
         Ok(())
     }
@@ -161,8 +172,8 @@ impl RowsDraft {
         self.add_cell(alloc, cell.id, cell.lang, &Cell::new(cell.stamp, label))
     }
 
-    /// Adds a row that is written already.
-    fn add_row(&mut self, row: &[u8]) -> Result<(), AllocError>
+    /// Adds the bytes of a row.
+    fn add_bytes(&mut self, row: &[u8]) -> Result<(), AllocError>
         ensures { OnOk result ((rows : Entries) (e : Entry) → HoldsRows self.old rows
             → IsKeptCell e → IsUtf8 row.now → row.now ≡ compact_text (entry_value e)
             → HoldsRows self.new (rows ++ e ∷ [])) }

@@ -1,9 +1,10 @@
 //! Deltas and sites of others, taken only where no time of theirs is after a limit.
-ghost use Rattle.std.specs.Prelude.{◌≡◌, ◌≢◌, ◌^◌, ◌<◌, length, IfErr, MatchOption, MatchResult};
-ghost use Rattle.std.specs.Prelude.{OnOk, Some};
+ghost use Rattle.std.specs.Prelude.{◌≡◌, ◌≢◌, ◌^◌, ◌<◌, length, IfErr, IfSome, MatchOption};
+ghost use Rattle.std.specs.Prelude.{MatchResult, OnOk, Some};
 ghost use Rattle.cata_core.specs.declared.cata_fault.CataFault.TheVariants.{NotForMe};
 ghost use Rattle.json_docs.specs.Checks.{OrMemory};
-ghost use Rattle.row_docs.specs.Reading.{no_memory};
+ghost use Rattle.row_docs.specs.Reading.{IsOfDocument, no_memory};
+ghost use Rattle.site_docs.specs.ReadsAs.{RefusesSite};
 ghost use Rattle.docs_core.specs.TimeLimits.{AreInTime, AreSyncedUntil, IsFirstAhead, IsTakenUntil};
 ghost use Rattle.docs_core.specs.TimeLimits.{IsTimeAhead, ReadsInTime, RefusesDeltaUntil};
 ghost use Rattle.docs_core.specs.TimeLimits.{RefusesSyncUntil, RefusesTakingUntil};
@@ -11,6 +12,7 @@ ghost use Rattle.docs_core.specs.TimeLimits.{RefusesSyncUntil, RefusesTakingUnti
 use crate::call::joined_rows::JoinedRows;
 use crate::call::rows_in_time::RowsInTime;
 use crate::call::sites::first_refusal;
+use crate::call::synced_rows::SyncedRows;
 use cata_core::{CataFault, Catalogue, Delta};
 use cell_core::SiteName;
 use json_docs::{Doc, DocCause, DocFault};
@@ -75,6 +77,9 @@ pub fn sync_documents_until(
     ensures { MatchResult result (λ docs. AreSyncedUntil first.now second.now not_after docs.0
         docs.1) (OrMemory no_memory (RefusesSyncUntil first.now second.now not_after)) }
 {
+    if let Some(synced) = written_synced(alloc, first, second, not_after)? {
+        return Ok(synced);
+    }
     let room = first.len().saturating_add(second.len());
     let second = match site_at(alloc, 2, second) {
         Ok(second) => second,
@@ -87,6 +92,30 @@ pub fn sync_documents_until(
     check_times(2, second.catalogue(), not_after)?;
     let docs = rows.close_both(alloc, name, second.name())?;
     Ok(docs)
+}
+
+/// The same, where the second document is as it is written. Both are read at once.
+///
+/// `None` says nothing: the second document may be valid in another form, the whole may have to be
+/// refused, or memory ran out. Refused as document 1 is by its reader, or out of memory (26).
+fn written_synced(
+    alloc: Global,
+    first: &[u8],
+    second: &[u8],
+    not_after: Option<u64>,
+) -> Result<Option<(Doc, Doc)>, DocFault>
+    ensures { MatchResult result (λ synced. IfSome synced
+        (λ docs. AreSyncedUntil first.now second.now not_after docs.0 docs.1))
+        (OrMemory no_memory (IsOfDocument 1 (RefusesSite first.now))) }
+{
+    let room = first.len().saturating_add(second.len());
+    let synced = SyncedRows::new(alloc, second, not_after, room)?;
+    let start = RowsInTime::new(synced, not_after);
+    let (name, rows) = show_document(alloc, 1, first, &start)?;
+    match rows.in_time(1) {
+        Ok(rows) => Ok(rows.close_both(alloc, name)),
+        Err(_) => Ok(None),
+    }
 }
 
 /// The delta of a document of version 1 or 2, where none of its times is greater than `not_after`.

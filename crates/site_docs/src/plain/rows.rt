@@ -167,13 +167,34 @@ fn show_cell<'t, S: CellSink<'t>>(
         → IsAboveAll (key_in row.now.front) before
         → S.Holds first sink.new (before ++ entry_in row.now.front label ∷ []))) }
 {
-    let (label, rest) = next_label(alloc, rest)?;
-    let rest = after_byte(rest, b']')?;
-    let cell = row.cell(label, text_until(text, rest));
+    let (label, written, rest) = row_end(alloc, text, rest, row)?;
+    let cell = row.cell(label, written);
     match sink.see(alloc, cell) {
         Ok(()) => Some(rest),
         Err(_) => None,
     }
+}
+
+/// The label of this row, with which the text begins, the row as it is written, and what comes
+/// after it. The row is read as far as its label, with which the rest begins.
+#[inline(always)]
+pub(crate) fn row_end<'t>(
+    alloc: Global,
+    text: &'t str,
+    rest: &'t str,
+    row: &Spelled<'t>,
+) -> Option<(LabelRef<'t>, &'t str, &'t str)>
+    requires { text.now ≡ row_before (row_in row.now.front) rest.now }
+    ensures label { IfSome result (λ r. IsLabelRef r.0 × IsLabelText (texts_of r.0)) }
+    ensures text { IfSome result
+        (λ r. (r.1.now ≡ compact_text (entry_value (entry_in row.now.front (texts_of r.0))))
+        × (text.now
+        ≡ compact_text (entry_value (entry_in row.now.front (texts_of r.0))) ++ r.2.now)) }
+{
+    let (label, bracket) = next_label(alloc, rest)?;
+    let left = after_byte(bracket, b']')?;
+    let written = text_until(text, left);
+    Some((label, written, left))
 }
 
 /// What a row begins with, up to its count and this byte after that.
@@ -278,7 +299,7 @@ impl<'t> Spelled<'t> {
         ensures key { OnOk result
             (IsAfter (Some (key_in self.old.front)) (key_in self.new.front)) }
     {
-        let ids = self.front.id.as_str().cmp(front.id.as_str());
+        let ids = order_of(self.front.id.as_str(), front.id.as_str());
         if !rises(ids, self.front.language, front.language) {
             return Err(Unread::NotWritten);
         }
@@ -322,6 +343,17 @@ impl<'t> Spelled<'t> {
             count: self.front.count,
         }
     }
+}
+
+/// How two texts are ordered. Most ids are that of the row before, and so the same is tested first.
+#[inline(always)]
+fn order_of(last: &str, text: &str) -> Ordering
+    ensures { result ≡ text_cmp last.now text.now }
+{
+    if last == text {
+        return Ordering::Equal;
+    }
+    last.cmp(text)
 }
 
 /// Whether a key is greater than the last one, where the ids are ordered so.

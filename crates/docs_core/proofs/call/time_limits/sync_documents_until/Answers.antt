@@ -19,6 +19,19 @@ check_times-requires c =
     subst (λ (cells : Entries). length cells < 2 ^ 64) (sym c.catalogue-2.ensures) (omega
     (arith, few))
 
+-- the first document is refused
+pub returns-in_err-synced : goal.returns-in_err-synced
+returns-in_err-synced c =
+    let p = err_from_is_err_and c.from_residual.result
+    c.from_residual.ensures.1 in
+    rw (p.1, p.2) (else_by c.in_err-synced.ensures (λ why. inl why))
+
+pub returns-in_err-name : goal.returns-in_err-name
+returns-in_err-name c =
+    let p = err_from_is_err_and c.from_residual-in_err-name.result
+    c.from_residual-in_err-name.ensures.1 in
+    rw (p.1, p.2) (else_by c.in_err-name.ensures (λ why. inl why))
+
 -- the second document is refused, and before it the first, if it is
 pub returns-in-Err : goal.returns-in-Err
 returns-in-Err c =

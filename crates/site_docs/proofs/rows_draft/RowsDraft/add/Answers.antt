@@ -1,4 +1,3 @@
-use Rattle.std.proofs.Common.{◌∙◌}
 use Rattle.std.proofs.lemmas.Result.{IfOk-weaker}
 use Rattle.site_docs.specs.Sink.{entry_of}
 use Rattle.site_docs.proofs.rows_draft.RowsDraft.add.Goals as goal
@@ -6,8 +5,7 @@ use Rattle.site_docs.proofs.rows_draft.RowsDraft.add.Goals as goal
 -- the row is the text of the cell
 pub returns-in-Some : goal.returns-in-Some
 returns-in-Some c =
-    let cell = c.args.cell.now in
     let row = rw c.in-Some.is at c.requires.row in
-    IfOk-weaker c.add_row.result _ _ (λ _ added. λ rows holds.
-    added rows (entry_of cell) holds row.0 c.as_bytes.ensures.utf8
-    (c.as_bytes.ensures.value ∙ row.1)) c.add_row.ensures
+    IfOk-weaker c.add_row.result _ _
+    (λ _ added. λ rows holds. added rows (entry_of c.args.cell.now) holds row.0 row.1)
+    c.add_row.ensures

@@ -1,5 +1,5 @@
 use Rattle.site_docs.proofs.RowsDraftLemmas.{row_added}
-use Rattle.site_docs.proofs.rows_draft.RowsDraft.add_row.Goals as goal
+use Rattle.site_docs.proofs.rows_draft.RowsDraft.add_bytes.Goals as goal
 
 -- the comma and the row
 pub returns : goal.returns

@@ -18,7 +18,7 @@ returns c = λ rows holds.
     let row = c.as_slice.ensures.value ∙ c.into_inner-row.ensures.items
     ∙ ap (λ b. b ++ print out.tokens)
     (wrote.tokens.0 ∙ c.new-out.ensures.before ∙ c.clear.ensures.items) in
-    let added = c.in_ok-add_row.ensures rows e
+    let added = c.in_ok-add_bytes.ensures rows e
     (record {
       text = holds.text;
       utf8 = holds.utf8;

@@ -6,7 +6,7 @@ use Rattle.site_docs.proofs.plain.rows.Spelled.follow.Goals as goal
 -- the id is that of the last text
 pub set_id-requires-clause-order : goal.set_id-requires-clause-order
 set_id-requires-clause-order c =
-    c.cmp-ids.ensures
+    c.order_of-ids.ensures
     ∙ ap₂ text_cmp (c.as_str.ensures ∙ sym c.requires.id)
     (c.as_str-2.ensures ∙ sym c.as_str-3.ensures)
 

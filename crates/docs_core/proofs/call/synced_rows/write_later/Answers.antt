@@ -1,0 +1,43 @@
+use Rattle.std.proofs.Common.{◌∙◌, ◌++◌, [], ◌∷◌, ap, refl, subst, sym}
+use Rattle.std.specs.Cmp.{tied_itself}
+use Rattle.std.specs.declared.cmp.Ordering.TheVariants.{Less}
+use Rattle.cell_core.specs.Cell.{stamp_cmp_total}
+use Rattle.cell_core.specs.Stamp.{stamp_cmp}
+use Rattle.cell_core.specs.declared.cell.Cell.{Cell}
+use Rattle.cata_core.specs.Entries.{EntryKey}
+use Rattle.site_docs.specs.RowsDraft.{HoldsRows}
+use Rattle.site_docs.specs.Sink.{entry_of}
+use Rattle.site_docs.specs.WrittenRows.{entry_of as row_entry}
+use Rattle.docs_core.proofs.JoinedRowsLemmas.{apart_agrees, joined_first, joined_later}
+use Rattle.docs_core.proofs.SyncedRowsLemmas.{lt_less, not_less}
+use Rattle.docs_core.proofs.call.synced_rows.write_later.Goals as goal
+
+-- the other cell is the later one
+pub returns-then-is_lt : goal.returns-then-is_lt
+returns-then-is_lt c =
+    let e = entry_of c.args.cell.now in
+    let d = row_entry c.args.row.now in
+    let text = c.requires.text in
+    let is = sym c.cmp-order.ensures ∙ lt_less c.cmp-order.result (sym c.if-is_lt.ensures) in (
+      apart_agrees e.1 d.1 Less is (λ h. cc),
+      λ cells same holds.
+          subst (λ (cell : Cell). HoldsRows c.add_row.new.self (cells ++ (e.0, cell) ∷ []))
+          (sym (joined_later e.1 d.1 is))
+          (subst (λ (k : EntryKey). HoldsRows c.add_row.new.self (cells ++ (k, d.1) ∷ [])) same
+          (c.in-Ok.ensures cells d holds text.kept text.text)),
+    )
+
+-- the cell that was seen is no earlier one, and agrees
+pub returns : goal.returns
+returns c =
+    let e = entry_of c.args.cell.now in
+    let d = row_entry c.args.row.now in
+    let later = not_less c.cmp-order.result (sym c.if-is_lt.ensures) in (
+      λ same. c.if-not-agrees.ensures refl
+          (c.cmp-order.ensures ∙ ap (stamp_cmp e.1.stamp) (sym same)
+          ∙ tied_itself stamp_cmp_total e.1.stamp),
+      λ cells same holds.
+          subst (λ (cell : Cell). HoldsRows c.add.new.self (cells ++ (e.0, cell) ∷ []))
+          (sym (joined_first e.1 d.1 c.cmp-order.result (sym c.cmp-order.ensures) later))
+          (c.in-Ok-add.ensures cells holds),
+    )
