@@ -42,6 +42,18 @@ pub fn document_summary(alloc: Global, document: usize, bytes: &[u8]) -> Result<
     }
 }
 
+/// The name in the members after the last bracket of a site's document, which ends its rows.
+pub(crate) fn name_after_rows(bytes: &[u8]) -> Option<SiteName>
+    ensures { IfSome result (λ name. (front end : List ℕ) × IsEnd end
+        × (bytes.now ≡ front ++ last_members (codes "site") (codes "site") name end)) }
+{
+    let bracket = bytes.iter().rposition(|byte| *byte == b']')?;
+    let Ok(members) = text_in(&bytes[bracket + 1..]) else {
+        return None;
+    };
+    last_name(members, Kind::Site)
+}
+
 /// The summary of the site of a document in any form.
 fn summary_in_any_form(alloc: Global, bytes: &[u8]) -> Result<Summary, DocCause>
     ensures { MatchResult result (λ summary. (site : SiteState) × ReadsAsSite bytes.now site
@@ -100,16 +112,4 @@ impl<'t> CellSink<'t> for StampRows {
     fn see(&mut self, _alloc: Global, cell: CellRef<'_, 't>) -> Result<(), AllocError> {
         write_stamped(&mut self.out, cell.id, cell.lang, cell.stamp)
     }
-}
-
-/// The name in the members after the last bracket of a site's document, which ends its rows.
-fn name_after_rows(bytes: &[u8]) -> Option<SiteName>
-    ensures { IfSome result (λ name. (front end : List ℕ) × IsEnd end
-        × (bytes.now ≡ front ++ last_members (codes "site") (codes "site") name end)) }
-{
-    let bracket = bytes.iter().rposition(|byte| *byte == b']')?;
-    let Ok(members) = text_in(&bytes[bracket + 1..]) else {
-        return None;
-    };
-    last_name(members, Kind::Site)
 }

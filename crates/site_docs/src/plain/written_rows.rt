@@ -12,6 +12,7 @@ ghost use Rattle.site_docs.specs.WrittenRows.{entry_of, left_in};
 
 use crate::plain::documents::last_name;
 use crate::plain::rows::{Spelled, next_front, row_end};
+use crate::plain::summaries::name_after_rows;
 use crate::plain::texts::{after_byte, member_after};
 use crate::sink::LabelRef;
 use cell_core::{MessageId, SiteName, Stamp};
@@ -62,6 +63,8 @@ impl<'t> WrittenRows<'t> {
     pub fn new(alloc: Global, bytes: &'t [u8]) -> Option<WrittenRows<'t>>
         ensures { IfSome result (λ rows. HasRead bytes.now rows (current_of rows)) }
     {
+        // (A document that another program wrote mostly ends in another form, too.)
+        name_after_rows(bytes)?;
         let Ok(text) = text_in(bytes) else {
             return None;
         };
