@@ -112,6 +112,7 @@ fn written_synced(
     let synced = SyncedRows::new(alloc, second, not_after, room)?;
     let start = RowsInTime::new(synced, not_after);
     let (name, rows) = show_document(alloc, 1, first, &start)?;
+    // (Before a time of the first site, the reader of the second document refuses.)
     match rows.in_time(1) {
         Ok(rows) => Ok(rows.close_both(alloc, name)),
         Err(_) => Ok(None),

@@ -38,6 +38,7 @@ pub struct WrittenRows<'t> {
 #[derive(Drop)]
 struct ReadRow<'t> {
     spelled: Spelled<'t>,
+    /// The stamp, which is asked for more than once.
     stamp: Stamp,
     label: LabelRef<'t>,
     text: &'t str,
