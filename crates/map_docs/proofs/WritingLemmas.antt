@@ -1,12 +1,15 @@
 -- Language maps that are being written, label by label.
 use Rattle.std.proofs.Common.{◌≡◌, ◌∙◌, ◌++◌, ℕ, Bool, true, false, List, [], ◌∷◌, refl, sym, ap}
 use Rattle.std.proofs.Common.{subst}
-use Rattle.std.specs.Prelude.{◌||◌, Err, IfOk, IsUtf8, None, Ok, Option, Result, Some, is_some}
+use Rattle.std.specs.Prelude.{◌||◌, Err, IfOk, IfSome, IsUtf8, None, Ok, Option, Result, Some}
+use Rattle.std.specs.Prelude.{is_some}
 use Rattle.cell_core.specs.Keyed.{IsMap}
+use Rattle.cell_core.specs.MessageId.{IsMessageId}
 use Rattle.cata_core.specs.Entries.{key_cmp}
 use Rattle.json.specs.Token.{begin_object}
 use Rattle.json.specs.Written.{Written}
 use Rattle.row_docs.specs.Texts.{Adds, text}
+use Rattle.row_docs.proofs.TextsLemmas.{Adds-then}
 use Rattle.map_docs.specs.LangMapLabels.{AreLangMaps}
 use Rattle.map_docs.specs.LangMapLaws.{AreWritable, IsWritable}
 use Rattle.map_docs.specs.LangMapTexts.{IsTextOf, has_label}
@@ -34,20 +37,29 @@ writing_first draft all none is = record {
   found = refl;
 }
 
--- one label more is written
-pub writing_next : (old new : Written) (current : Option (List ℕ)) (e : Labelled)
+-- one label more is written, after its message was opened
+pub writing_next : (old mid new : Written) (current : Option (List ℕ)) (e : Labelled)
     (left all : List Labelled) → IsWriting old current (e ∷ left) all
-    → Adds old new (opening_tokens current e.0.0 ++ label_tokens e) → IsWritable e
+    → Adds old mid (opening_tokens current e.0.0) → Adds mid new (label_tokens e) → IsWritable e
     → IsWriting new (Some e.0.0) left all
-writing_next old new current e left all w adds valid = record {
-  before = adds.0 ∙ w.before;
-  tokens =
-      one_written (begin_object ∷ labels_tokens None all) old.tokens
-      (opening_tokens current e.0.0 ++ label_tokens e) new.tokens current e left w.tokens adds.1
-      refl;
-  writable = λ rest. w.writable (valid, rest);
-  found = sym (or_true (is_some current)) ∙ w.found;
-}
+writing_next old mid new current e left all w opened labelled valid =
+    let adds = Adds-then old mid new (opening_tokens current e.0.0) (label_tokens e) opened labelled
+    in record {
+      before = adds.0 ∙ w.before;
+      tokens =
+          one_written (begin_object ∷ labels_tokens None all) old.tokens
+          (opening_tokens current e.0.0 ++ label_tokens e) new.tokens current e left w.tokens
+          adds.1 refl;
+      writable = λ rest. w.writable (valid, rest);
+      found = sym (or_true (is_some current)) ∙ w.found;
+    }
+
+-- the message that is open has an id
+pub open_id : (opened : Bool) (current : Option (List ℕ)) (id : List ℕ)
+    → (opened ≡ true → IsMessageId id) → (opened ≡ false → current ≡ Some id)
+    → IfSome current IsMessageId → IsMessageId id
+open_id true current id new same known = new refl
+open_id false current id new same known = subst (λ o. IfSome o IsMessageId) (same refl) known
 
 -- all are written
 pub found_last : (draft : Written) (current : Option (List ℕ)) (all : List Labelled)

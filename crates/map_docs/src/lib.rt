@@ -3,10 +3,9 @@
 //! - [`LangMaps`] are the labels in ascending order of key; [`read_langmaps`] reads them from a
 //!   document, and [`write_langmaps`] writes one. [`take_langmaps`] gives them to a
 //!   [`TakeLabels`] one after another, where the document has them in that order.
-//! - [`langmaps_of_document`], [`open_labels`], [`write_label`], [`write_text`] and
-//!   [`close_labels`] serve
-//!   `docs_core`, whose calls read one document of several, and write labels without a list of
-//!   them.
+//! - [`langmaps_of_document`], [`open_labels`], [`open_message`], [`write_label`], [`write_text`]
+//!   and [`close_labels`] serve `docs_core`, whose calls read one document of several, and write
+//!   labels without a list of them.
 //!
 //! Callers find what they need in `docs_core`.
 #![tactic(auto)]
@@ -25,4 +24,6 @@ mod writing;
 pub use maps::{KeyedLabel, LangMaps};
 pub use reading::{langmaps_of_document, read_langmaps, take_langmaps};
 pub use taking::TakeLabels;
-pub use writing::{close_labels, open_labels, write_label, write_langmaps, write_text};
+pub use writing::{
+    close_labels, open_labels, open_message, write_label, write_langmaps, write_text,
+};

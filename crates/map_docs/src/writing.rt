@@ -1,18 +1,18 @@
 //! Language maps written piece by piece into one buffer.
-ghost use Rattle.std.specs.Prelude.{◌≡◌, ◌∷◌, [], ◌++◌, List, IfOk, None, OnOk, option_map};
+ghost use Rattle.std.specs.Prelude.{◌≡◌, ◌∷◌, [], IfOk, List, None, OnOk, Some, false, true};
+ghost use Rattle.std.specs.Prelude.{option_map};
 ghost use Rattle.json.specs.Token.{begin_object, end_object, key};
 ghost use Rattle.cell_core.specs.Label.{IsLabel, texts_of};
 ghost use Rattle.cell_core.specs.Keyed.{IsMap};
 ghost use Rattle.cell_core.specs.MessageId.{IsMessageId};
 ghost use Rattle.cata_core.specs.Entries.{key_cmp};
+ghost use Rattle.lang_core.specs.Lang.{IsLang};
 ghost use Rattle.row_docs.specs.Texts.{Adds, text, value_tokens};
 ghost use Rattle.map_docs.specs.LangMapLabels.{AreLangMaps};
-ghost use Rattle.map_docs.specs.LangMapLaws.{IsWritable};
 ghost use Rattle.map_docs.specs.LangMapTexts.{IsTextOf};
 ghost use Rattle.map_docs.specs.LangMaps.{Labelled};
 ghost use Rattle.map_docs.specs.LangMapsValue.{language_value, langmaps_value};
-ghost use Rattle.map_docs.specs.LangMapsWritten.{IsWriting, label_tokens, labels_tokens};
-ghost use Rattle.map_docs.specs.LangMapsWritten.{opening_tokens};
+ghost use Rattle.map_docs.specs.LangMapsWritten.{IsWriting, labels_tokens, opening_tokens};
 
 use crate::maps::LangMaps;
 use cell_core::{Label, MessageId};
@@ -34,7 +34,8 @@ pub fn write_langmaps(alloc: Global, maps: &LangMaps) -> Result<Doc, AllocError>
     let mut draft = open_labels(alloc)?;
     let mut current: Option<&MessageId> = None;
     for label in maps.labels() {
-        write_label(&mut draft, current, &label.id, &label.lang, &label.label)?;
+        open_message(&mut draft, current, &label.id)?;
+        write_label(&mut draft, &label.lang, &label.label)?;
         current = Some(&label.id);
     }
     close_labels(draft, current)
@@ -59,41 +60,48 @@ pub fn close_labels(mut draft: Writer, current: Option<&MessageId>) -> Result<Do
     finish(draft)
 }
 
-/// Adds a label, in a message of its own unless that is the current one.
-pub fn write_label(
+/// Opens this message unless it is the current one, which is closed otherwise, and answers whether
+/// it did.
+pub fn open_message(
     out: &mut Writer,
     current: Option<&MessageId>,
     id: &MessageId,
-    lang: &Lang,
-    label: &Label,
-) -> Result<(), AllocError>
-    ensures tokens { OnOk result
-        (Adds out.old out.new
-        (opening_tokens (option_map (λ m. m.now) current.entry) id.now
-        ++ label_tokens ((id.now, lang.now), label.now))) }
-    ensures valid { OnOk result (IsWritable ((id.now, lang.now), label.now)) }
+) -> Result<bool, AllocError>
+    ensures tokens { IfOk result (λ _. Adds out.old out.new
+        (opening_tokens (option_map (λ m. m.now) current.entry) id.now)) }
+    ensures id { IfOk result (λ opened. opened ≡ true → IsMessageId id.now) }
+    ensures same { IfOk result
+        (λ opened. opened ≡ false → option_map (λ m. m.now) current.entry ≡ Some id.now) }
 {
-    open_message(out, current, id)?;
-    out.key(lang.as_str())?;
-    write_language(out, label.texts())
+    if let Some(current) = current {
+        if current == id {
+            return Ok(false);
+        }
+        out.end_object()?;
+    }
+    out.key(id.as_str())?;
+    out.begin_object()?;
+    Ok(true)
 }
 
-/// Adds a label of this one text, in a message of its own unless that is the current one.
-pub fn write_text(
-    out: &mut Writer,
-    current: Option<&MessageId>,
-    id: &MessageId,
-    lang: &Lang,
-    text: &str,
-) -> Result<(), AllocError>
-    requires { IsLabel (text.now ∷ []) }
-    ensures tokens { OnOk result
-        (Adds out.old out.new
-        (opening_tokens (option_map (λ m. m.now) current.entry) id.now
-        ++ label_tokens ((id.now, lang.now), text.now ∷ []))) }
-    ensures valid { OnOk result (IsWritable ((id.now, lang.now), text.now ∷ [])) }
+/// Adds a label to the message that is open.
+pub fn write_label(out: &mut Writer, lang: &Lang, label: &Label) -> Result<(), AllocError>
+    ensures tokens { OnOk result (Adds out.old out.new
+        (key lang.now ∷ value_tokens (language_value label.now))) }
+    ensures lang { IsLang lang.now }
+    ensures label { IsLabel label.now }
 {
-    open_message(out, current, id)?;
+    let texts = label.texts();
+    out.key(lang.as_str())?;
+    write_language(out, texts)
+}
+
+/// Adds a label of this one text to the message that is open.
+pub fn write_text(out: &mut Writer, lang: &Lang, text: &str) -> Result<(), AllocError>
+    ensures tokens { OnOk result (Adds out.old out.new
+        (key lang.now ∷ value_tokens (language_value (text.now ∷ [])))) }
+    ensures lang { IsLang lang.now }
+{
     let name = lang.as_str();
     out.key(name)?;
     out.string(text)
@@ -108,27 +116,6 @@ fn close_objects(out: &mut Writer, current: Option<&MessageId>) -> Result<(), Al
         out.end_object()?;
     }
     out.end_object()
-}
-
-/// Closes the current message and opens this one, unless they are the same.
-fn open_message(
-    out: &mut Writer,
-    current: Option<&MessageId>,
-    id: &MessageId,
-) -> Result<(), AllocError>
-    ensures tokens { OnOk result
-        (Adds out.old out.new (opening_tokens (option_map (λ id. id.now) current.entry) id.now)) }
-    ensures id { OnOk result (IsMessageId id.now) }
-{
-    let name = id.as_str();
-    if let Some(current) = current {
-        if current == id {
-            return Ok(());
-        }
-        out.end_object()?;
-    }
-    out.key(name)?;
-    out.begin_object()
 }
 
 /// Adds the texts of a label: one as a string, several as an array.

@@ -1,10 +1,13 @@
 //! Language maps that are being written, label by label.
-ghost use Rattle.std.specs.Prelude.{◌≡◌, ◌++◌, ◌∷◌, [], IfOk, List, OnOk, Some};
+ghost use Rattle.std.specs.Prelude.{◌≡◌, ◌++◌, ◌∷◌, [], IfOk, IfSome, List, OnOk, Some};
 ghost use Rattle.cell_core.specs.Keyed.{IsMap};
 ghost use Rattle.cell_core.specs.Label.{IsLabel};
+ghost use Rattle.cell_core.specs.MessageId.{IsMessageId};
 ghost use Rattle.cata_core.specs.Entries.{key_cmp};
+ghost use Rattle.row_docs.specs.Texts.{Adds};
 ghost use Rattle.map_docs.specs.LangMapTexts.{AreWritten};
 ghost use Rattle.map_docs.specs.LangMaps.{Labelled};
+ghost use Rattle.map_docs.specs.LangMapsWritten.{opening_tokens};
 ghost use Rattle.site_docs.specs.Sink.{IsLabelRef, texts_of};
 ghost use Rattle.query_docs.specs.Draft.{HasWritten, labelled_by};
 ghost use Rattle.query_docs.specs.Exported.{live_labels};
@@ -13,7 +16,7 @@ use cell_core::{Key, Label, MessageId};
 use json::Writer;
 use json_docs::Doc;
 use lang_core::Lang;
-use map_docs::{close_labels, open_labels, write_label, write_text};
+use map_docs::{close_labels, open_labels, open_message, write_label, write_text};
 use site_docs::{CellRef, CellSink, LabelRef};
 use std::alloc::{AllocError, Global};
 
@@ -44,9 +47,8 @@ impl Draft {
         ensures { OnOk result ((labels : List Labelled) → HasWritten self.old labels
             → HasWritten self.new (labels ++ ((id.now, lang.now), label.now) ∷ [])) }
     {
-        write_label(&mut self.out, self.current.as_ref(), id, lang, label)?;
-        self.current = with_open(alloc, self.current.take(), id)?;
-        Ok(())
+        self.reach(alloc, id)?;
+        write_label(&mut self.out, lang, label)
     }
 
     /// Adds a label where there is one.
@@ -81,8 +83,20 @@ impl Draft {
         ensures { OnOk result ((labels : List Labelled) → HasWritten self.old labels
             → HasWritten self.new (labels ++ ((id.now, lang.now), text.now ∷ []) ∷ [])) }
     {
-        write_text(&mut self.out, self.current.as_ref(), id, lang, text)?;
-        self.current = with_open(alloc, self.current.take(), id)?;
+        self.reach(alloc, id)?;
+        write_text(&mut self.out, lang, text)
+    }
+
+    /// Opens this message unless it is open.
+    fn reach(&mut self, alloc: Global, id: &MessageId) -> Result<(), AllocError>
+        ensures tokens { OnOk result
+            (Adds self.old.out self.new.out (opening_tokens self.old.current id.now)) }
+        ensures current { OnOk result (self.new.current ≡ Some id.now) }
+        ensures id { OnOk result (IfSome self.old.current IsMessageId → IsMessageId id.now) }
+    {
+        if open_message(&mut self.out, self.current.as_ref(), id)? {
+            self.current = Some(id.copy(alloc)?);
+        }
         Ok(())
     }
 
@@ -107,19 +121,5 @@ impl<'t> CellSink<'t> for Draft {
 
     fn see(&mut self, alloc: Global, cell: CellRef<'_, 't>) -> Result<(), AllocError> {
         self.add_seen(alloc, cell.id, cell.lang, &cell.label)
-    }
-}
-
-/// This message as the open one, copied unless it is that already.
-fn with_open(
-    alloc: Global,
-    open: Option<MessageId>,
-    id: &MessageId,
-) -> Result<Option<MessageId>, AllocError>
-    ensures { IfOk result (λ new. new ≡ Some id.now) }
-{
-    match open {
-        Some(open) if open.cmp(id).is_eq() => Ok(Some(open)),
-        _ => Ok(Some(id.copy(alloc)?)),
     }
 }

@@ -1,7 +1,7 @@
 pub mod DocumentsLemmas
-pub mod EnvelopeLemmas
 pub mod OldDocumentsLemmas
 pub mod OneDocument
+pub mod OpenRowsLemmas
 pub mod PlainLemmas
 pub mod PlainReads
 pub mod PlainStampsLemmas
@@ -11,6 +11,7 @@ pub mod ClosingLemmas
 pub mod ShowingLemmas
 pub mod ShownRowsLemmas
 pub mod SiteDocumentsLemmas
+pub mod StampsDraftLemmas
 pub mod LanguagesLemmas
 pub mod TextsLemmas
 pub mod WrittenDocuments

@@ -18,7 +18,7 @@ use Rattle.site_docs.specs.Plain.{IsEnd, IsPlainText, IsTextOf, cells_document}
 use Rattle.site_docs.specs.Plain.{is_later, last_members, open_items, rows_text}
 use Rattle.site_docs.specs.PlainRows.{IsLastOf, row_before, row_until}
 use Rattle.row_docs.specs.Valid.{AreKeptCells, IsKeptCell}
-use Rattle.row_docs.specs.Values.{Row, cell_value, label_value}
+use Rattle.row_docs.specs.Values.{Row, cell_value, label_value, stamp_value}
 use Rattle.row_docs.specs.declared.kind.Kind.{Kind}
 use Rattle.site_docs.proofs.DocumentsLemmas.{kept_more}
 use Rattle.site_docs.proofs.TextsLemmas.{quotes_taken}
@@ -26,7 +26,7 @@ use Rattle.site_docs.proofs.TextsLemmas.{quotes_taken}
 -- ---- arrays
 
 -- an array is its open items and its bracket
-items_closed : (later : Bool) (ds : List Data)
+pub items_closed : (later : Bool) (ds : List Data)
     → items_text later (items_of ds) ≡ open_items later ds ++ 93 ∷ []
 items_closed later [] = refl
 items_closed later (d ∷ ds) =
@@ -45,21 +45,21 @@ pub is_later-push : {X : Type 0} (xs : List X) (x : X) → is_later (xs ++ x ∷
 is_later-push [] x = refl
 is_later-push (y ∷ xs) x = refl
 
--- one item more after others
-open_later : (ds : List Data) (d : Data)
-    → open_items true (ds ++ d ∷ []) ≡ open_items true ds ++ (44 ∷ compact_text d)
-open_later [] d = ap (λ r. 44 ∷ r) (append-nil (compact_text d))
-open_later (e ∷ ds) d = ap (λ r. 44 ∷ (compact_text e ++ r)) (open_later ds d)
+-- items after others
+open_later : (ds es : List Data)
+    → open_items true (ds ++ es) ≡ open_items true ds ++ open_items true es
+open_later [] es = refl
+open_later (d ∷ ds) es = ap (λ r. 44 ∷ (compact_text d ++ r)) (open_later ds es)
     ∙ ap (λ r. 44 ∷ r) (sym
-    (append_assoc (compact_text e) (open_items true ds) (44 ∷ compact_text d)))
+    (append_assoc (compact_text d) (open_items true ds) (open_items true es)))
 
--- one item more
-open_more : (ds : List Data) (d : Data)
-    → open_items false (ds ++ d ∷ []) ≡ open_items false ds ++
-    (comma_if (is_later ds) ++ compact_text d)
-open_more [] d = append-nil (compact_text d)
-open_more (e ∷ ds) d = ap (λ r. compact_text e ++ r) (open_later ds d)
-    ∙ sym (append_assoc (compact_text e) (open_items true ds) (44 ∷ compact_text d))
+-- one item more, and those after it
+pub open_more : (ds : List Data) (d : Data) (es : List Data)
+    → open_items false (ds ++ d ∷ es) ≡ open_items false ds ++
+    (comma_if (is_later ds) ++ open_items false (d ∷ es))
+open_more [] d es = refl
+open_more (x ∷ ds) d es = ap (λ r. compact_text x ++ r) (open_later ds (d ∷ es))
+    ∙ sym (append_assoc (compact_text x) (open_items true ds) (open_items true (d ∷ es)))
 
 -- the text of one item more, and what comes after it
 pub item_taken : (ds : List Data) (d : Data) (text rest after : List ℕ)
@@ -72,7 +72,10 @@ item_taken ds d text rest after so_far next =
     (ap (λ r. open_items false ds ++ r)
     (next ∙ sym (append_assoc (comma_if (is_later ds)) (compact_text d) after))
     ∙ sym (append_assoc (open_items false ds) (comma_if (is_later ds) ++ compact_text d) after)
-    ∙ ap (λ t. t ++ after) (sym (open_more ds d)))
+    ∙ ap (λ t. t ++ after)
+    (ap (λ t. open_items false ds ++ (comma_if (is_later ds) ++ t))
+    (sym (append-nil (compact_text d)))
+    ∙ sym (open_more ds d [])))
 
 -- all items, and the bracket
 pub array_taken : (ds : List Data) (text rest after : List ℕ)
@@ -128,6 +131,30 @@ pub row_taken : (row : Row) (label : Option (List (List ℕ))) (text rest after 
     → text ≡ compact_text (cell_value row label) ++ after
 row_taken row label text rest after front labelled =
     front ∙ ap (row_before row) labelled ∙ simp append_assoc
+
+-- a row as far as its count
+abbrev pub row_front : Row → List ℕ
+row_front row =
+    91 ∷ (quoted row.id ++ 44 ∷
+    (quoted row.language ++ 44 ∷ (decimal row.time ++ 44 ∷ (quoted row.site ++ 44 ∷
+    decimal row.count))))
+
+-- a byte that follows it, and the rest
+pub front_apart : (end : ℕ) (row : Row) (rest : List ℕ)
+    → row_until end row rest ≡ row_front row ++ end ∷ rest
+front_apart end row rest =
+    apart (quoted row.id) (quoted row.language) (decimal row.time) (quoted row.site)
+    (decimal row.count)
+  where
+    apart : (id language time site count : List ℕ)
+        → 91 ∷ (id ++ 44 ∷ (language ++ 44 ∷ (time ++ 44 ∷ (site ++ 44 ∷ (count ++ end ∷ rest)))))
+        ≡ 91 ∷ (id ++ 44 ∷ (language ++ 44 ∷ (time ++ 44 ∷ (site ++ 44 ∷ count)))) ++ end ∷ rest
+    apart id language time site count = simp append_assoc
+
+-- with a bracket it is a row of a summary
+pub front_closed : (row : Row) (front : List ℕ) → front ≡ row_front row
+    → front ++ 93 ∷ [] ≡ compact_text (stamp_value row)
+front_closed row front is = ap (λ t. t ++ 93 ∷ []) is ∙ sym (front_apart 93 row [])
 
 -- ---- keys
 
@@ -195,7 +222,7 @@ closed : (cells rows kind_name kind subject name version two after : List ℕ)
 closed cells rows kind_name kind subject name version two after = simp append_assoc
 
 -- a document is its rows and the members about them, and what comes after its brace
-whole : (kind : Kind) (text rest left name after : List ℕ) (cells : Entries)
+pub whole : (kind : Kind) (text rest left name after : List ℕ) (cells : Entries)
     → text ≡ 123 ∷ (quoted (codes "cells") ++ 58 ∷ rest) → rest ≡ rows_text cells ++ left
     → left ≡ last_members (kind_text kind) (subject_of kind) name (125 ∷ after)
     → text ≡ compact_text (cells_document kind name (cells_values cells)) ++ after

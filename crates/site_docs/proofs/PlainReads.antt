@@ -1,25 +1,19 @@
 -- The text that is written for a site or a delta reads as it, with its line feed or without.
 use Rattle.std.proofs.Common.{◌≡◌, ◌∙◌, ℕ, List, ap, inl, inr, subst, sym}
-use Rattle.std.proofs.lemmas.List.Elements.{All-map, All-weaker}
-use Rattle.std.specs.Prelude.{IfSome, IsUtf8, None, Option, Some}
+use Rattle.std.specs.Prelude.{IfSome, None, Option, Some}
 use Rattle.serde_json.specs.Data.{Data}
 use Rattle.serde_json.specs.Read.{read}
 use Rattle.cell_core.specs.Keyed.{IsMap}
 use Rattle.cata_core.specs.Delta.{summary_of}
-use Rattle.cata_core.specs.Entries.{Entries, Entry, key_cmp}
+use Rattle.cata_core.specs.Entries.{Entries, key_cmp}
 use Rattle.cata_core.specs.Site.{SiteState}
-use Rattle.cata_core.specs.Summary.{SummaryState}
-use Rattle.cata_core.proofs.SummaryLemmas.{summary-IsMap}
 use Rattle.json_docs.proofs.LineFeed.{read-line_feed}
-use Rattle.row_docs.specs.Entries.{cells_values, stamps_values}
+use Rattle.row_docs.specs.Entries.{cells_values}
 use Rattle.site_docs.specs.Plain.{IsPlainText, IsTextOf, cells_document}
-use Rattle.site_docs.specs.Documents.{summary_text}
-use Rattle.site_docs.specs.ReadsAs.{IsSummaryText, ReadsAsDelta, ReadsAsSite, ReadsAsSummary}
-use Rattle.site_docs.specs.Values.{summary_value}
+use Rattle.site_docs.specs.ReadsAs.{IsSummaryText, ReadsAsDelta, ReadsAsSite}
 use Rattle.row_docs.specs.Texts.{text}
-use Rattle.row_docs.specs.Valid.{AreKeptCells, AreKeptStamps, IsKept, IsKeptCell, IsKeptStamp}
 use Rattle.row_docs.specs.declared.kind.Kind.TheVariants.{Delta, Site}
-use Rattle.site_docs.proofs.RoundTrip.{reads_delta, reads_site, summary_again}
+use Rattle.site_docs.proofs.RoundTrip.{reads_delta, reads_site}
 
 -- a text reads as it does without its line feed
 read_same : (d : Data) (bytes : List ℕ) → IsTextOf d bytes → read bytes ≡ read (text d)
@@ -53,32 +47,16 @@ plain_taken_site bytes (Some n) Taken (cells, plain, taken) = (
   taken,
 )
 
--- the stamps of a site whose text was taken are as every summary keeps them
-stamps_kept : (cells : Entries) → AreKeptCells cells → AreKeptStamps (summary_of cells)
-stamps_kept cells kept = record {
-  each =
-      All-map IsKeptStamp (λ (e : Entry). (e.0, e.1.stamp)) cells
-      (All-weaker IsKeptCell (λ (e : Entry). IsKept e.0 e.1.stamp) (λ e one. one.0) cells
-      kept.each);
-  map = summary-IsMap cells kept.map;
-}
-
 -- the summary of a site whose text was taken
 pub summarised : (bytes name owner doc : List ℕ) (cells : Entries)
     → IsPlainText Site bytes name cells → name ≡ owner
-    → doc ≡ text (summary_value owner (stamps_values (summary_of cells))) → IsUtf8 doc
+    → IsSummaryText (record { owner = owner; stamps = summary_of cells }) doc
     → (site : SiteState) × ReadsAsSite bytes site
     × IsSummaryText (record { owner = site.name; stamps = summary_of site.cells }) doc
-summarised bytes name owner doc cells plain same written utf8 =
-    let summary : SummaryState = record { owner = name; stamps = summary_of cells } in
-    let is : doc ≡ summary_text summary =
-    written ∙ ap (λ o. text (summary_value o (stamps_values (summary_of cells)))) (sym same) in (
-      record { name = name; cells = cells },
-      plain_site bytes name cells plain,
-      (
-        is,
-        subst (λ (t : List ℕ). ReadsAsSummary t summary) (sym is)
-            (summary_again summary plain.is_name (stamps_kept cells plain.kept)
-            (subst IsUtf8 is utf8)),
-      ),
-    )
+summarised bytes name owner doc cells plain same written = (
+  record { name = name; cells = cells },
+  plain_site bytes name cells plain,
+  subst
+      (λ (o : List ℕ). IsSummaryText (record { owner = o; stamps = summary_of cells }) doc)
+      (sym same) written,
+)

@@ -1,6 +1,6 @@
 pub mod Documents
-pub mod Drafts
 pub mod OldDocuments
+pub mod OpenRows
 pub mod Plain
 pub mod PlainRows
 pub mod PlainStamps
@@ -10,6 +10,7 @@ pub mod Closing
 pub mod ShownRows
 pub mod Sink
 pub mod SiteDocuments
+pub mod StampsDraft
 pub mod Unread
 pub mod Values
 pub mod WrittenRows

@@ -14,10 +14,12 @@
 
 mod document;
 pub mod laws;
+mod open_rows;
 mod plain;
 mod rows_draft;
 mod showing;
 mod sink;
+mod stamps_draft;
 
 pub use document::reading::{delta_at, read_delta, read_site, read_summary, site_at, summary_at};
 pub use document::writing::{write_delta, write_site, write_summary};
@@ -25,4 +27,4 @@ pub use plain::summaries::document_summary;
 pub use plain::written_rows::{WrittenRow, WrittenRows};
 pub use rows_draft::RowsDraft;
 pub use showing::{show_catalogue, show_document};
-pub use sink::{CellRef, CellSink, LabelRef};
+pub use sink::{CellRef, CellSink, LabelRef, RowText};

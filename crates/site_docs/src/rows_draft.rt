@@ -1,6 +1,6 @@
 //! Documents of sites that are being written: rows are copied from another document, or made.
-ghost use Rattle.std.specs.Prelude.{◌≡◌, ◌++◌, ◌∷◌, [], IfOk, IsUtf8, OnOk, drop, true};
-ghost use Rattle.serde_json.specs.Written.{comma_if, compact_text};
+ghost use Rattle.std.specs.Prelude.{◌≡◌, ◌++◌, ◌∷◌, [], IfOk, OnOk, drop};
+ghost use Rattle.serde_json.specs.Written.{compact_text};
 ghost use Rattle.cell_core.specs.Keyed.{IsMap};
 ghost use Rattle.cata_core.specs.Entries.{Entries, Entry, key_cmp};
 ghost use Rattle.row_docs.specs.Entries.{entry_value};
@@ -11,14 +11,13 @@ ghost use Rattle.site_docs.specs.Sink.{IsLabelRef, IsRowOf, entry_of};
 
 use crate::document::closing::{closed, closed_copy, closed_delta};
 use crate::document::envelope::open_cells;
+use crate::open_rows::OpenRows;
 use crate::sink::CellRef;
 use cell_core::{Cell, MessageId, SiteName};
-use json::Writer;
 use json_docs::Doc;
 use lang_core::Lang;
 use row_docs::write_entry;
 use std::alloc::{AllocError, Global};
-use std::mem;
 
 /// How many bytes a site's document has before its rows.
 const OPENING: usize = 10;
@@ -26,10 +25,7 @@ const OPENING: usize = 10;
 /// The document of a site, open after some rows.
 #[derive(Drop)]
 pub struct RowsDraft {
-    bytes: Vec<u8>,
-    has_rows: bool,
-    /// The last row that was made.
-    row: Vec<u8>,
+    rows: OpenRows,
 }
 
 impl RowsDraft {
@@ -39,14 +35,9 @@ impl RowsDraft {
     pub fn new(alloc: Global, room: usize) -> Result<RowsDraft, AllocError>
         ensures { IfOk result (λ draft. HoldsRows draft []) }
     {
-        let draft = open_cells(alloc)?;
-        let mut bytes = draft.into_inner();
-        bytes.reserve(room)?;
-        Ok(RowsDraft {
-            bytes,
-            has_rows: false,
-            row: Vec::new(alloc),
-        })
+        let opening = open_cells(alloc)?;
+        let rows = OpenRows::new(alloc, opening, room)?;
+        Ok(RowsDraft { rows })
     }
 
     /// Adds the row of a cell, which is copied where the cell has it.
@@ -59,7 +50,7 @@ impl RowsDraft {
             → HoldsRows self.new (rows ++ entry_of cell.now ∷ [])) }
     {
         match cell.row {
-            Some(row) => self.add_row(row),
+            Some(row) => self.add_row(row.text),
             None => self.add_seen(alloc, cell),
         }
     }
@@ -72,7 +63,7 @@ impl RowsDraft {
             → IsKeptCell e → row.now ≡ compact_text (entry_value e)
             → HoldsRows self.new (rows ++ e ∷ [])) }
     {
-        self.add_bytes(row.as_bytes())
+        self.rows.add(row.as_bytes())
     }
 
     /// Adds the row of a cell of a catalogue.
@@ -88,15 +79,9 @@ impl RowsDraft {
         ensures { OnOk result ((rows : Entries) → HoldsRows self.old rows
             → HoldsRows self.new (rows ++ ((id.now, lang.now), cell.now) ∷ [])) }
     {
-        // (A writer fills what room there is with zeros, so it is not given all bytes.)
-        let mut row = mem::replace(&mut self.row, Vec::new(alloc));
-        row.clear();
-        let mut out = Writer::new(row);
-        write_entry(&mut out, id, lang, cell)?;
-        let row = out.into_inner();
-        self.add_bytes(row.as_slice())?;
-        self.row = row;
-        Ok(())
+        let mut row = self.rows.begin_row(alloc);
+        write_entry(&mut row, id, lang, cell)?;
+        self.rows.end_row(row)
     }
 
     /// Adds the rows of another draft, whose keys are greater.
@@ -107,9 +92,8 @@ impl RowsDraft {
         ensures { OnOk result ((rows : Entries) (more : Entries) → HoldsRows self.old rows
             → HoldsRows others.now more → HoldsRows self.new (rows ++ more)) }
     {
-        if others.has_rows {
-            self.add_comma()?;
-            self.bytes.extend_from_slice(others.rows())?;
+        if others.rows.has_rows {
+            self.rows.add(others.rows())?;
         }
         Ok(())
     }
@@ -121,7 +105,7 @@ impl RowsDraft {
         ensures { (cells : Entries) → HoldsRows self cells → IsMap key_cmp cells
             → IfOk result (IsDeltaText (record { addressee = addressee; cells = cells })) }
     {
-        closed_delta(alloc, self.bytes, addressee)
+        closed_delta(alloc, self.rows.bytes, addressee)
     }
 
     /// The document of the site of this name. Its cells are those of the rows.
@@ -131,7 +115,7 @@ impl RowsDraft {
         ensures { (cells : Entries) → HoldsRows self cells → IsMap key_cmp cells
             → IfOk result (IsSiteText (record { name = name; cells = cells })) }
     {
-        closed(alloc, self.bytes, name)
+        closed(alloc, self.rows.bytes, name)
     }
 
     /// The same, and the document of another site with the same cells.
@@ -147,7 +131,7 @@ impl RowsDraft {
             → IfOk result (λ docs. IsSiteText (record { name = name; cells = cells }) docs.0
             × IsSiteText (record { name = other; cells = cells }) docs.1) }
     {
-        let copy = closed_copy(alloc, self.bytes.as_slice(), other)?;
+        let copy = closed_copy(alloc, self.rows.bytes.as_slice(), other)?;
         let own = self.close(alloc, name)?;
         Ok((own, copy))
     }
@@ -156,9 +140,9 @@ impl RowsDraft {
     #[tactic(auto, using(crate::proofs::RowsDraftLemmas::past_opening))]
     fn rows(&self) -> &[u8]
         requires { (cells : Entries) × HoldsRows self.now cells }
-        ensures { result.now ≡ drop 10 self.now.bytes.items }
+        ensures { result.now ≡ drop 10 self.now.rows.bytes.items }
     {
-        let bytes = self.bytes.as_slice();
+        let bytes = self.rows.bytes.as_slice();
         &bytes[OPENING..]
     }
 
@@ -170,29 +154,5 @@ impl RowsDraft {
     {
         let label = cell.label.to_label(alloc)?;
         self.add_cell(alloc, cell.id, cell.lang, &Cell::new(cell.stamp, label))
-    }
-
-    /// Adds the bytes of a row.
-    fn add_bytes(&mut self, row: &[u8]) -> Result<(), AllocError>
-        ensures { OnOk result ((rows : Entries) (e : Entry) → HoldsRows self.old rows
-            → IsKeptCell e → IsUtf8 row.now → row.now ≡ compact_text (entry_value e)
-            → HoldsRows self.new (rows ++ e ∷ [])) }
-    {
-        self.add_comma()?;
-        self.bytes.extend_from_slice(row)?;
-        Ok(())
-    }
-
-    /// Adds the comma before a row, where others come before it.
-    fn add_comma(&mut self) -> Result<(), AllocError>
-        ensures bytes { OnOk result
-            (self.new.bytes.items ≡ self.old.bytes.items ++ comma_if self.old.has_rows) }
-        ensures rows { OnOk result (self.new.has_rows ≡ true) }
-    {
-        if self.has_rows {
-            self.bytes.push(b',')?;
-        }
-        self.has_rows = true;
-        Ok(())
     }
 }

@@ -22,7 +22,16 @@ pub struct CellRef<'a, 't> {
     /// The label.
     pub label: LabelRef<'t>,
     /// Its row, where it is read of a document as it is written.
-    pub row: Option<&'t str>,
+    pub row: Option<RowText<'t>>,
+}
+
+/// The row of a cell, as it is written.
+#[derive(Clone, Copy)]
+pub struct RowText<'t> {
+    /// All of it.
+    pub text: &'t str,
+    /// It as far as its stamp: with a bracket this is the row of a summary.
+    pub front: &'t str,
 }
 
 /// The label of a cell, which is made only where the text of the document does not show it.

@@ -1,11 +1,12 @@
-//! The text of the document of a site or a delta, closed after its cells.
-ghost use Rattle.std.specs.Prelude.{◌≡◌, IfOk, IsUtf8};
+//! The text of the document of a site, a delta or a summary, closed after its rows.
+ghost use Rattle.std.specs.Prelude.{◌≡◌, ℕ, IfOk, IsUtf8, List};
 ghost use Rattle.cell_core.specs.SiteName.{IsSiteName};
+ghost use Rattle.cata_core.specs.Delta.{Stamps};
 ghost use Rattle.cata_core.specs.Entries.{Entries};
-ghost use Rattle.site_docs.specs.Closing.{IsFront, end_text};
-ghost use Rattle.site_docs.specs.ReadsAs.{IsDeltaText, IsSiteText};
+ghost use Rattle.site_docs.specs.Closing.{IsFront, IsStampsFront, end_text};
+ghost use Rattle.site_docs.specs.ReadsAs.{IsDeltaText, IsSiteText, IsSummaryText};
 
-use crate::document::envelope::close_named;
+use crate::document::envelope::{close_named, close_rows};
 use cell_core::SiteName;
 use json::Writer;
 use json_docs::Doc;
@@ -44,6 +45,17 @@ pub(crate) fn closed_delta(
         → IfOk result (IsDeltaText (record { addressee = addressee; cells = cells })) }
 {
     let end = end_of(alloc, Kind::Delta, addressee)?;
+    front.extend_from_slice(end.bytes())?;
+    Ok(Doc::from(front))
+}
+
+/// The document of the summary whose stamps the text ends with.
+pub(crate) fn closed_summary(alloc: Global, mut front: Vec<u8>) -> Result<Doc, AllocError>
+    ensures { (owner : List ℕ) (stamps : Stamps) → IsSiteName owner
+        → IsStampsFront owner stamps front.items
+        → IfOk result (IsSummaryText (record { owner = owner; stamps = stamps })) }
+{
+    let end = close_rows(Writer::new(Vec::new(alloc)))?;
     front.extend_from_slice(end.bytes())?;
     Ok(Doc::from(front))
 }

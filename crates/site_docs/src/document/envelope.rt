@@ -1,14 +1,11 @@
 //! The parts of a document before and after its rows, written.
-ghost use Rattle.std.specs.Prelude.{◌≡◌, ◌∷◌, [], ◌++◌, ℕ, List, IfOk, IsUtf8, OnOk, codes};
+ghost use Rattle.std.specs.Prelude.{◌≡◌, ◌∷◌, [], ◌++◌, IfOk, IsUtf8, OnOk, codes};
 ghost use Rattle.json.specs.Print.{print};
 ghost use Rattle.json.specs.Token.{begin_object, end_object, begin_array, end_array, key, number};
 ghost use Rattle.json.specs.Token.{string};
-ghost use Rattle.serde_json.specs.Data.{Data};
 ghost use Rattle.row_docs.specs.Envelope.{name_tokens, version_tokens};
-ghost use Rattle.row_docs.specs.Texts.{Adds, text};
-ghost use Rattle.site_docs.specs.Closing.{front_tokens};
-ghost use Rattle.site_docs.specs.Drafts.{HoldsStamps};
-ghost use Rattle.site_docs.specs.Values.{summary_value};
+ghost use Rattle.row_docs.specs.Texts.{Adds};
+ghost use Rattle.site_docs.specs.Closing.{cells_opening, stamps_opening};
 
 use json::Writer;
 use json_docs::Doc;
@@ -18,7 +15,7 @@ use std::alloc::{AllocError, Global};
 /// Opens a site's or a delta's document, with no row yet.
 pub(crate) fn open_cells(alloc: Global) -> Result<Writer, AllocError>
     ensures before { IfOk result (λ draft. draft.before ≡ []) }
-    ensures tokens { IfOk result (λ draft. draft.tokens ≡ front_tokens []) }
+    ensures tokens { IfOk result (λ draft. draft.tokens ≡ cells_opening) }
 {
     let mut draft = Writer::new(Vec::new(alloc));
     draft.begin_object()?;
@@ -29,7 +26,8 @@ pub(crate) fn open_cells(alloc: Global) -> Result<Writer, AllocError>
 
 /// Opens a summary's document, with no row yet.
 pub(crate) fn open_stamps(alloc: Global, owner: &str) -> Result<Writer, AllocError>
-    ensures { IfOk result (λ draft. HoldsStamps draft owner.now []) }
+    ensures before { IfOk result (λ draft. draft.before ≡ []) }
+    ensures tokens { IfOk result (λ draft. draft.tokens ≡ stamps_opening owner.now) }
 {
     let mut draft = Writer::new(Vec::new(alloc));
     draft.begin_object()?;
@@ -40,17 +38,8 @@ pub(crate) fn open_stamps(alloc: Global, owner: &str) -> Result<Writer, AllocErr
     Ok(draft)
 }
 
-/// Closes the document of a summary after its rows.
-pub(crate) fn close_summary(draft: Writer) -> Result<Doc, AllocError>
-    ensures text { (owner : List ℕ) (rows : List Data) → HoldsStamps draft owner rows
-        → IfOk result (λ doc. doc ≡ text (summary_value owner rows)) }
-    ensures utf8 { IfOk result (λ doc. draft.before ≡ [] → IsUtf8 doc) }
-{
-    close_rows(draft)
-}
-
 /// Closes the rows, and adds the version.
-fn close_rows(mut draft: Writer) -> Result<Doc, AllocError>
+pub(crate) fn close_rows(mut draft: Writer) -> Result<Doc, AllocError>
     ensures text { IfOk result (λ doc. doc ≡ draft.before
         ++ (print (draft.tokens ++ end_array ∷ version_tokens) ++ 10 ∷ [])) }
     ensures utf8 { IfOk result (λ doc. draft.before ≡ [] → IsUtf8 doc) }

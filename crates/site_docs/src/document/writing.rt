@@ -1,21 +1,16 @@
 //! The documents of sites, deltas and summaries, written.
 ghost use Rattle.std.specs.Prelude.{◌≡◌, IfOk};
 ghost use Rattle.cell_core.specs.Keyed.{IsMap};
-ghost use Rattle.cell_core.specs.SiteName.{IsSiteName};
 ghost use Rattle.cata_core.specs.Entries.{key_cmp};
-ghost use Rattle.row_docs.specs.Entries.{stamps_values};
-ghost use Rattle.row_docs.specs.Valid.{AreKeptStamps};
 ghost use Rattle.site_docs.specs.Documents.{delta_text, site_text, summary_text};
-ghost use Rattle.site_docs.specs.Drafts.{HoldsStamps};
 ghost use Rattle.site_docs.specs.ReadsAs.{ReadsAsDelta, ReadsAsSite, ReadsAsSummary};
 ghost use Rattle.site_docs.specs.RowsDraft.{HoldsRows};
+ghost use Rattle.site_docs.specs.StampsDraft.{HoldsStamps};
 
-use crate::document::envelope::{close_summary, open_stamps};
 use crate::rows_draft::RowsDraft;
+use crate::stamps_draft::StampsDraft;
 use cata_core::{Catalogue, Delta, Site, Summary};
-use json::Writer;
 use json_docs::Doc;
-use row_docs::write_stamped;
 use std::alloc::{AllocError, Global};
 
 /// The document of a site, version 2: its cells in rising order of key, deletions among them. It
@@ -49,8 +44,8 @@ pub fn write_summary(alloc: Global, summary: &Summary) -> Result<Doc, AllocError
     ensures text { IfOk result (λ doc. doc ≡ summary_text summary.now) }
     ensures reads { IfOk result (λ doc. ReadsAsSummary doc summary.now) }
 {
-    let draft = stamps_draft(alloc, summary)?;
-    close_summary(draft)
+    let draft = stamps_of(alloc, summary)?;
+    draft.close(alloc)
 }
 
 /// The document of a site or a delta with all its cells, not yet closed.
@@ -65,17 +60,16 @@ fn rows_of(alloc: Global, cells: &Catalogue) -> Result<RowsDraft, AllocError>
     Ok(draft)
 }
 
-/// A summary's document with all its stamps, not yet closed.
-fn stamps_draft(alloc: Global, summary: &Summary) -> Result<Writer, AllocError>
-    ensures rows { IfOk result (λ draft. HoldsStamps draft summary.now.owner
-        (stamps_values summary.now.stamps)) }
-    ensures owner { IfOk result (λ _. IsSiteName summary.now.owner) }
-    ensures kept { IfOk result (λ _. AreKeptStamps summary.now.stamps) }
+/// The document of a summary with all its stamps, not yet closed.
+fn stamps_of(alloc: Global, summary: &Summary) -> Result<StampsDraft, AllocError>
+    ensures rows { IfOk result
+        (λ draft. HoldsStamps draft summary.now.owner summary.now.stamps) }
+    ensures map { IfOk result (λ _. IsMap key_cmp summary.now.stamps) }
 {
-    let mut draft = open_stamps(alloc, summary.owner().as_str())?;
+    let mut draft = StampsDraft::new(alloc, summary.owner())?;
     for place in 0..summary.len() {
         if let Some((id, lang, stamp)) = summary.nth(place) {
-            write_stamped(&mut draft, id, lang, stamp)?;
+            draft.add(alloc, id, lang, stamp)?;
         }
     }
     Ok(draft)

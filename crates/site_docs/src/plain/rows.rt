@@ -11,7 +11,7 @@ ghost use Rattle.cata_core.specs.Entries.{Entries, Entry, IsAboveAll, text_cmp};
 ghost use Rattle.row_docs.specs.Entries.{entry_value};
 ghost use Rattle.row_docs.specs.Fields.{IsAfter, IsLabelText, stamp_of};
 ghost use Rattle.row_docs.specs.Valid.{AreKeptCells, IsKeptCell};
-ghost use Rattle.row_docs.specs.Values.{label_value};
+ghost use Rattle.row_docs.specs.Values.{stamp_value};
 ghost use Rattle.site_docs.specs.Plain.{rows_text};
 ghost use Rattle.site_docs.specs.PlainRows.{IsLastOf, IsSpelled, entry_in, key_in, row_until};
 ghost use Rattle.site_docs.specs.PlainRows.{row_before, row_in, text_in};
@@ -21,10 +21,11 @@ ghost use Rattle.site_docs.specs.Unread.{RefusesSpelling};
 use crate::plain::labels::next_label;
 use crate::plain::languages::KnownLanguages;
 use crate::plain::texts::{
-    after, after_byte, escaped_text, number_before, text_before_quote, text_until,
+    after, after_byte, escaped_text, number_before, text_before_comma, text_before_quote,
+    text_until,
 };
 use crate::plain::unread::Unread;
-use crate::sink::{CellRef, CellSink, LabelRef};
+use crate::sink::{CellRef, CellSink, LabelRef, RowText};
 use cell_core::{CellFault, Key, MessageId, SiteName, Stamp};
 use std::alloc::Global;
 use std::cmp::Ordering;
@@ -167,10 +168,15 @@ fn show_cell<'t, S: CellSink<'t>>(
         → IsAboveAll (key_in row.now.front) before
         → S.Holds first sink.new (before ++ entry_in row.now.front label ∷ []))) }
 {
-    let (label, written, rest) = row_end(alloc, text, rest, row)?;
+    let front = text_before_comma(text, rest);
+    let (label, written, left) = row_end(alloc, text, rest, row)?;
+    let written = RowText {
+        text: written,
+        front,
+    };
     let cell = row.cell(label, written);
     match sink.see(alloc, cell) {
-        Ok(()) => Some(rest),
+        Ok(()) => Some(left),
         Err(_) => None,
     }
 }
@@ -312,12 +318,14 @@ impl<'t> Spelled<'t> {
 
     /// The cell of the row with this label, and the row itself.
     #[inline(always)]
-    fn cell(&self, label: LabelRef<'t>, row: &'t str) -> CellRef<'_, 't>
+    fn cell(&self, label: LabelRef<'t>, row: RowText<'t>) -> CellRef<'_, 't>
         requires { IsSpelled self.now }
         ensures entry { entry_of result ≡ entry_in self.now.front (texts_of label.entry) }
         ensures label { IsLabelRef label.entry → IsLabelRef result.label }
         ensures row { IsLabelText (texts_of label.entry)
-            → row.now ≡ compact_text (entry_value (entry_in self.now.front (texts_of label.entry)))
+            → row.entry.text.now
+            ≡ compact_text (entry_value (entry_in self.now.front (texts_of label.entry)))
+            → row.entry.front.now ++ 93 ∷ [] ≡ compact_text (stamp_value (row_in self.now.front))
             → IsRowOf result }
         ensures kept { IsLabelText (texts_of label.entry)
             → IsKeptCell (entry_in self.now.front (texts_of label.entry)) }

@@ -4,23 +4,19 @@ ghost use Rattle.cata_core.specs.Delta.{summary_of};
 ghost use Rattle.cata_core.specs.Site.{SiteState};
 ghost use Rattle.json_docs.specs.Checks.{OrMemory};
 ghost use Rattle.json_docs.specs.declared.fault.DocCause.TheVariants.{NoMemory};
-ghost use Rattle.row_docs.specs.Entries.{stamps_values};
 ghost use Rattle.row_docs.specs.Reading.{IsOfDocument, no_memory};
-ghost use Rattle.site_docs.specs.Drafts.{HoldsStamps};
 ghost use Rattle.site_docs.specs.Plain.{IsEnd, last_members};
 ghost use Rattle.site_docs.specs.ReadsAs.{IsSummaryText, ReadsAsSite, RefusesSite};
 
-use crate::document::envelope::{close_summary, open_stamps};
 use crate::document::site_documents::show_members;
 use crate::document::writing::write_summary;
 use crate::plain::documents::{last_name, show_plain};
-use crate::sink::{CellRef, CellSink};
+use crate::stamps_draft::StampsDraft;
 use cata_core::Summary;
 use cell_core::SiteName;
-use json::Writer;
 use json_docs::{Doc, DocCause, DocFault, text_in};
-use row_docs::{Kind, write_stamped};
-use std::alloc::{AllocError, Global};
+use row_docs::Kind;
+use std::alloc::Global;
 
 /// The document of the summary of the site of the input document with this number.
 ///
@@ -76,40 +72,15 @@ fn written_summary(alloc: Global, bytes: &[u8]) -> Option<Doc>
 {
     // A summary has its owner before its rows, and a site its name after them.
     let owner = name_after_rows(bytes)?;
-    let Ok(out) = open_stamps(alloc, owner.as_str()) else {
+    let Ok(mut draft) = StampsDraft::new(alloc, owner) else {
         return None;
     };
-    let mut stamps = StampRows { owner, out };
-    let name = show_plain(alloc, bytes, Kind::Site, &mut stamps)?;
+    let name = show_plain(alloc, bytes, Kind::Site, &mut draft)?;
     if name.as_str() != owner.as_str() {
         return None;
     }
-    let StampRows { out, .. } = stamps;
-    match close_summary(out) {
+    match draft.close(alloc) {
         Ok(doc) => Some(doc),
         Err(_) => None,
-    }
-}
-
-/// The document of a summary, open after some rows.
-#[derive(Drop)]
-struct StampRows {
-    owner: SiteName,
-    out: Writer,
-}
-
-/// Writes the stamp of each cell.
-impl<'t> CellSink<'t> for StampRows {
-    ghost Holds = { λ first stamps seen. HoldsStamps stamps.out first.owner
-        (stamps_values (summary_of seen)) };
-
-    fn begin(&self, alloc: Global) -> Result<StampRows, AllocError> {
-        let owner = self.owner;
-        let out = open_stamps(alloc, owner.as_str())?;
-        Ok(StampRows { owner, out })
-    }
-
-    fn see(&mut self, _alloc: Global, cell: CellRef<'_, 't>) -> Result<(), AllocError> {
-        write_stamped(&mut self.out, cell.id, cell.lang, cell.stamp)
     }
 }

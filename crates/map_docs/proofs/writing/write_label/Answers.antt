@@ -1,14 +1,13 @@
-use Rattle.std.proofs.Common.{subst}
+use Rattle.std.proofs.Common.{[], ◌∷◌}
 use Rattle.std.proofs.lemmas.Result.{IfOk-weaker}
-use Rattle.lang_core.specs.Lang.{IsLang}
-use Rattle.map_docs.specs.LangMapLaws.{IsWritable}
+use Rattle.json.specs.Token.{key}
+use Rattle.row_docs.proofs.TextsLemmas.{Adds-then}
 use Rattle.map_docs.proofs.writing.write_label.Goals as goal
 
-pub returns-clause-valid : goal.returns-clause-valid
-returns-clause-valid c =
-    let valid : IsWritable ((c.args.id.now, c.args.lang.now), c.args.label.now) = record {
-      id = c.in_ok-open_message.ensures.id;
-      language = subst IsLang c.as_str.ensures.text c.as_str.ensures.lang;
-      label = c.texts.ensures.label;
-    } in
-    IfOk-weaker c.write_language.result _ _ (λ _ _. valid) c.write_language.ensures
+-- the language, and then the texts
+pub returns-clause-tokens : goal.returns-clause-tokens
+returns-clause-tokens c =
+    let named = rw c.as_str.ensures.text at c.in_ok-key.ensures in
+    IfOk-weaker c.write_language.result _ _ (λ _ adds.
+    Adds-then c.args.out.now c.key.new.self c.write_language.new.out (key c.args.lang.now ∷ []) _
+    (named.room.0, named.ok) adds) (rw c.texts-texts.ensures.texts at c.write_language.ensures)

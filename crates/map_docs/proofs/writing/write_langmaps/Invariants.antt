@@ -1,11 +1,13 @@
 use Rattle.std.proofs.Common.{drop}
-use Rattle.std.specs.Prelude.{option_map}
+use Rattle.std.specs.Prelude.{IfSome, option_map}
+use Rattle.cell_core.specs.MessageId.{IsMessageId}
 use Rattle.map_docs.specs.LangMaps.{labels_of}
 use Rattle.map_docs.specs.LangMapsWritten.{IsWriting}
 use Rattle.map_docs.proofs.writing.write_langmaps.Given as goal
 
--- with the labels that are left it comes to all
+-- with the labels that are left it comes to all, and the message that is open has an id
 abbrev pub invariant-loop-label : goal.invariant-loop-label
 invariant-loop-label l =
     IsWriting l.draft (option_map (λ id. id.now) l.current)
     (labels_of (drop l.label-index l.label-items)) (labels_of l.label-items)
+    × IfSome (option_map (λ id. id.now) l.current) IsMessageId

@@ -1,7 +1,15 @@
-use Rattle.std.proofs.Common.{◌++◌, [], ◌∷◌, ap, refl, subst, sym}
+use Rattle.std.proofs.Common.{◌∙◌, ◌++◌, [], ◌∷◌, ap, refl, subst, sym}
 use Rattle.cata_core.specs.Entries.{Entry, EntryKey, IsAboveAll}
+use Rattle.site_docs.specs.PlainRows.{row_in}
 use Rattle.site_docs.specs.Sink.{texts_of}
+use Rattle.site_docs.proofs.PlainLemmas.{front_apart, front_closed, row_front}
 use Rattle.site_docs.proofs.plain.rows.show_cell.Goals as goal
+
+-- the row as far as its count, and what follows its comma
+pub text_before_comma-front-requires : goal.text_before_comma-front-requires
+text_before_comma-front-requires g c =
+    let row = row_in c.args.row.now.front in
+    (row_front row, c.requires.text ∙ front_apart 44 row c.args.rest.now)
 
 -- the key is above those before, and the row is that of the cell
 pub see-requires : goal.see-requires
@@ -10,11 +18,18 @@ see-requires g c κs =
     let cell = c.cell-cell.ensures in
     let end = c.in_ok-label.ensures in
     let key = ap (λ (e : Entry). e.0) cell.entry in
-    let above = subst (λ (k : EntryKey). IsAboveAll k holds.1) (sym key) holds.3 in (
+    let above = subst (λ (k : EntryKey). IsAboveAll k holds.1) (sym key) holds.3 in
+    let row = row_in c.args.row.now.front in
+    let front = c.text_before_comma-front.ensures (row_front row)
+    (c.requires.text ∙ front_apart 44 row c.args.rest.now) in (
       (refl, tt),
       (
         (holds.0, holds.1, holds.2, above),
-        (cell.label end.label.0, cell.row end.label.1 end.text.0),
+        (
+          cell.label end.label.0,
+          cell.row end.label.1 end.text.0
+              (front_closed row c.text_before_comma-front.result.now front),
+        ),
       ),
     )
 

@@ -1,34 +1,21 @@
-use Rattle.std.proofs.Common.{◌∙◌, ◌++◌, ap, subst, sym}
-use Rattle.std.specs.Prelude.{IsUtf8}
-use Rattle.json.specs.Print.{print}
-use Rattle.serde_json.proofs.Texts.{print-outline}
+use Rattle.std.proofs.Common.{◌∙◌, ◌++◌, ap}
+use Rattle.std.proofs.lemmas.Result.{IfOk-weaker}
 use Rattle.cata_core.specs.Entries.{Entry}
-use Rattle.row_docs.specs.Entries.{entry_value}
+use Rattle.row_docs.specs.Entries.{cells_values, entry_value}
 use Rattle.row_docs.specs.Texts.{value_tokens}
+use Rattle.site_docs.specs.Closing.{cells_opening}
+use Rattle.site_docs.proofs.RowsDraftLemmas.{row_added}
 use Rattle.site_docs.proofs.rows_draft.RowsDraft.add_cell.Goals as goal
 
 -- the row, whose tokens were written
 pub returns : goal.returns
-returns c = λ rows holds.
+returns c =
     let e : Entry = ((c.args.id.now, c.args.lang.now), c.args.cell.now) in
+    let begun = c.begin_row-row.ensures in
     let wrote = c.in_ok-write_entry.ensures in
-    let tokens = wrote.tokens.1 ∙ ap (λ ts. ts ++ value_tokens (entry_value e))
-    c.new-out.ensures.tokens in
-    let out = c.write_entry.new.out in
-    let row = c.as_slice.ensures.value ∙ c.into_inner-row.ensures.items
-    ∙ ap (λ b. b ++ print out.tokens)
-    (wrote.tokens.0 ∙ c.new-out.ensures.before ∙ c.clear.ensures.items) in
-    let added = c.in_ok-add_bytes.ensures rows e
-    (record {
-      text = holds.text;
-      utf8 = holds.utf8;
-      each = holds.each;
-      has_rows = holds.has_rows;
-    })
-    wrote.kept (subst IsUtf8 (sym row) c.into_inner-row.ensures.utf8)
-    (row ∙ ap print tokens ∙ print-outline (entry_value e)) in record {
-      text = added.text;
-      utf8 = added.utf8;
-      each = added.each;
-      has_rows = added.has_rows;
-    }
+    IfOk-weaker c.end_row.result _ _ (λ _ added. λ rows holds.
+    row_added (record { rows = c.end_row.new.self }) rows e holds.each wrote.kept
+    (added cells_opening (cells_values rows) (entry_value e)
+    (begun.same cells_opening (cells_values rows) holds.rows) (wrote.tokens.0 ∙ begun.before)
+    (wrote.tokens.1 ∙ ap (λ ts. ts ++ value_tokens (entry_value e)) begun.tokens)))
+    c.end_row.ensures
