@@ -10,29 +10,43 @@ use Rattle.row_docs.specs.Reading.{no_memory}
 use Rattle.site_docs.specs.ReadsAs.{ReadsAsSite}
 use Rattle.map_docs.specs.LangMapLabels.{AreLangMaps}
 use Rattle.map_docs.specs.LangMaps.{Labelled}
-use Rattle.docs_core.specs.Updated.{RefusesUpdate, SpendsUpdate}
+use Rattle.docs_core.specs.Updated.{IsUpdated, IsWithUpdates, RefusesUpdate, RefusesUpdates}
+use Rattle.docs_core.specs.Updated.{SpendsUpdate}
 
--- why cells are not updated is why an update is refused
-pub not_updated : (bytes : List ℕ) (now : ℕ) (old new : List ℕ) (site : SiteState)
-    (before after : List Labelled) (cause : CataFault) (fault : DocFault)
-    → ReadsAsSite bytes site → AreLangMaps old before → AreLangMaps new after
+-- why cells are not updated is why the changes of a site are refused
+pub not_updated : (bytes : List ℕ) (now : ℕ) (before after : List Labelled) (site : SiteState)
+    (cause : CataFault) (fault : DocFault) → ReadsAsSite bytes site
     → OrMemory NoMemory (λ c. (c ≡ ClockSpent) × SpendsUpdate now site.name before after site.cells)
     cause
     → fault ≡ of_no_document (of_site cause)
-    → OrMemory no_memory (RefusesUpdate bytes now old new) fault
-not_updated bytes now old new site before after cause fault reads olds news why is = elim why [
+    → OrMemory no_memory (RefusesUpdates bytes now before after) fault
+not_updated bytes now before after site cause fault reads why is = elim why [
   | inl memory ↦ inl (is ∙ ap (λ c. of_no_document (of_site c)) memory)
-  | inr spent ↦ inr
-      (inr
-      (inr
-      (inr (
-        site,
-        before,
-        after,
-        reads,
-        olds,
-        news,
-        spent.1,
-        is ∙ ap (λ c. of_no_document (of_site c)) spent.0,
-      ))))
+  | inr spent ↦ inr (inr (
+    site,
+    reads,
+    spent.1,
+    is ∙ ap (λ c. of_no_document (of_site c)) spent.0,
+  ))
 ]
+
+-- the labels are those of two language maps
+module _ (bytes : List ℕ) (now : ℕ) (old new : List ℕ) (before after : List Labelled) where
+  -- with the changes between these labels the site is updated
+  pub maps_updated : (doc : List ℕ) → AreLangMaps old before → AreLangMaps new after
+      → IsWithUpdates bytes now before after doc → IsUpdated bytes now old new doc
+  maps_updated doc olds news (site, cells, reads, updates, text) =
+      (site, before, after, cells, reads, olds, news, updates, text)
+
+  -- why it is refused, so is the update
+  pub maps_refused : (fault : DocFault) → AreLangMaps old before → AreLangMaps new after
+      → OrMemory no_memory (RefusesUpdates bytes now before after) fault
+      → OrMemory no_memory (RefusesUpdate bytes now old new) fault
+  maps_refused fault olds news why = elim why [
+    | inl memory ↦ inl memory
+    | inr refused ↦ elim refused [
+      | inl site ↦ inr (inl site)
+      | inr (site, reads, spent, is) ↦
+          inr (inr (inr (inr (site, before, after, reads, olds, news, spent, is))))
+    ]
+  ]

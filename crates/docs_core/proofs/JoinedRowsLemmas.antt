@@ -71,7 +71,7 @@ module _ {J : Type 0} where
   above_rest e es k above = all_rest (λ (x : EntryKey × J). key_cmp x.0 k ≡ Less) e es above
 
   -- a key above all others is none of theirs
-  find_above : (es : List (EntryKey × J)) (k : EntryKey) → IsAboveAll k es
+  pub find_above : (es : List (EntryKey × J)) (k : EntryKey) → IsAboveAll k es
       → find key_cmp k es ≡ None
   find_above [] k above = refl
   find_above (e ∷ es) k above =
@@ -247,7 +247,7 @@ joins_both own other rows k c d so_far above_own above agree = record {
 -- ---- keys after those of a part
 
 -- what comes after a part of a map is a map
-part_after : (xs ys : Entries) → IsMap key_cmp (xs ++ ys) → IsMap key_cmp ys
+pub part_after : (xs ys : Entries) → IsMap key_cmp (xs ++ ys) → IsMap key_cmp ys
 part_after [] ys map = map
 part_after (x ∷ xs) ys map =
     part_after xs ys
@@ -289,7 +289,7 @@ after_first e es map =
     all_after e.0 es (first_part (below_all key_cmp e.0 es) (is_sorted key_cmp es) map)
 
 -- a map whose first key is greater comes after the key
-after_greater : (k : EntryKey) (es : Entries) → IsMap key_cmp es → IsFirstGreater k es
+pub after_greater : (k : EntryKey) (es : Entries) → IsMap key_cmp es → IsFirstGreater k es
     → AreAfter k es
 after_greater k [] map greater = All-nil (λ (d : Entry). key_cmp k d.0 ≡ Less)
 after_greater k (e ∷ es) map greater =
@@ -498,7 +498,7 @@ within (y ∷ xs) x zero is = omega arith
 within (y ∷ xs) x (suc k) is = let less = within xs x k is in omega (arith, less)
 
 -- what is found at the seam of two parts
-find_seam : (xs ys : Entries) (k : EntryKey) (d : Cell) → IsAboveAll k xs
+pub find_seam : (xs ys : Entries) (k : EntryKey) (d : Cell) → IsAboveAll k xs
     → find key_cmp k (xs ++ (k, d) ∷ ys) ≡ Some d
 find_seam [] ys k d above = ap (λ b. cond b (Some d) (find key_cmp k ys)) (own_key k)
 find_seam (x ∷ xs) ys k d above =
@@ -507,7 +507,7 @@ find_seam (x ∷ xs) ys k d above =
     ∙ find_seam xs ys k d (above_rest x xs k above)
 
 -- what comes after a key is not found by it
-find_part : (xs ys : Entries) (k : EntryKey) → AreAfter k ys
+pub find_part : (xs ys : Entries) (k : EntryKey) → AreAfter k ys
     → find key_cmp k (xs ++ ys) ≡ find key_cmp k xs
 find_part [] [] k after = refl
 find_part [] (y ∷ ys) k after =

@@ -1,11 +1,10 @@
 -- What is left of a map in ascending order, once the entries of lesser keys are passed.
 use Rattle.std.proofs.Common.{◌≡◌, ◌≢◌, ◌∙◌, ◌∷◌, List, None, Some, ap, subst, sym}
 use Rattle.std.specs.declared.cmp.Ordering.TheVariants.{Equal, Greater, Less}
-use Rattle.std.specs.FinMap.Entries.{below_all, find, is_sorted}
+use Rattle.std.specs.FinMap.Entries.{find}
 use Rattle.std.specs.Ordering.{is_eq, is_lt}
 use Rattle.cell_core.specs.Keyed.{IsMap}
 use Rattle.cata_core.specs.Entries.{EntryKey, key_cmp}
-use Rattle.cata_core.proofs.Basics.{second_part}
 use Rattle.cata_core.proofs.SummaryListsLemmas.{first_absent, first_found, not_greater}
 use Rattle.cata_core.proofs.SummaryListsLemmas.{not_greater_self, passed, passed_found}
 use Rattle.docs_core.specs.LackedRows.{IsPassed}
@@ -16,12 +15,6 @@ module _ {V : Type 0} (all left : List (EntryKey × V)) (key k : EntryKey) (v : 
     → find key_cmp q left ≡ find key_cmp q all) where
   at_left : (q : EntryKey) → find key_cmp q left ≡ find key_cmp q ((k, v) ∷ rest)
   at_left q = ap (find key_cmp q) there
-
-  -- what follows the first entry ascends too
-  pub rest_map : IsMap key_cmp rest
-  rest_map =
-      second_part (below_all key_cmp k rest) (is_sorted key_cmp rest)
-      (subst (IsMap key_cmp) there map)
 
   -- an entry of a lesser key is passed
   pub passed_less : key_cmp k key ≡ Less → (q : EntryKey) → key_cmp key q ≢ Greater

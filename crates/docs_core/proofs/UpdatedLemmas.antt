@@ -1,8 +1,10 @@
 -- Changes from old labels to new ones, key by key.
 use Rattle.std.proofs.Common.{◌≡◌, ◌≢◌, ◌∙◌, ℕ, Bool, true, false, cond, List, [], ◌∷◌, ◌++◌, refl}
-use Rattle.std.proofs.Common.{sym, ap, append-nil, append_assoc, subst, inl, inr}
+use Rattle.std.proofs.Common.{◌≤◌, ◌<◌, sym, ap, append-nil, append_assoc, arith, length, subst}
+use Rattle.std.proofs.Common.{inl, inr}
 use Rattle.std.specs.Borrow.{Bor}
-use Rattle.std.specs.Prelude.{◌&&◌, None, Option, Some, T, is_some, not, option_map}
+use Rattle.std.specs.Prelude.{◌&&◌, None, Option, Some, T, is_some, option_map}
+use Rattle.std.specs.Prelude.{slice_index_or}
 use Rattle.std.specs.Bool.{Decides}
 use Rattle.std.specs.Option.{option_eq}
 use Rattle.std.specs.Ordering.{eq_by_cmp, is_eq, is_lt, ordering_reverse}
@@ -28,7 +30,7 @@ use Rattle.docs_core.specs.Made.{Change, Makes, SpendsClock, with_change}
 use Rattle.docs_core.specs.Revised.{IsFirstRevised, IsHead, IsRevised, NoStamp, key_of, new_of}
 use Rattle.docs_core.specs.Revised.{old_of}
 use Rattle.docs_core.specs.Updated.{AreChanges, IsChangeAt, SpendsUpdate, Texts, Updates}
-use Rattle.docs_core.specs.declared.call.updating.Revised.{Revised}
+use Rattle.docs_core.specs.declared.call.revised.Revised.{Revised}
 use Rattle.docs_core.proofs.MadeLemmas.{Makes-append, Spends-append}
 
 -- keys that tie are one
@@ -124,6 +126,13 @@ module _ (r : Revised) (was is : EntryKey) (olds news : List Labelled) where
 
 -- ---- options
 
+-- a list of one is that one
+pub one_of : {X : Type 0} (xs : List X) (x : X) → 1 ≤ length xs → length xs < 2
+    → x ≡ slice_index_or xs 0 x → xs ≡ x ∷ []
+one_of [] x some few is = absurd (omega (arith, some))
+one_of (y ∷ []) x some few is = ap (λ t. t ∷ []) (sym is)
+one_of (y ∷ z ∷ zs) x some few is = absurd (omega (arith, few))
+
 -- some are not none
 pub Some≢None : {A : Type 0} (x : A) → Some x ≢ None
 Some≢None x e = cc
@@ -132,13 +141,6 @@ Some≢None x e = cc
 pub nothing_done : (held : Texts) (change : Option Texts) → IsChangeAt None None held change
     → change ≡ None
 nothing_done held change h = elim h [ inl same ↦ same.1 | inr other ↦ absurd (other.0 refl) ]
-
--- where the label is another than before it is changed, unless the site has it
-pub changed_unless : (old new held : Texts) (has : Bool) → old ≢ new → Decides has (held ≡ new)
-    → IsChangeAt old new held (cond (not has) (Some new) None)
-changed_unless old new held true differ is = inl (inr (is.0 refl), refl)
-changed_unless old new held false differ is =
-    inr (differ, λ same. let no : false ≡ true = is.1 same in absurd (cc), refl)
 
 -- where it is changed it is another than before
 pub changed_differ : {old new held to : Texts} → IsChangeAt old new held (Some to) → old ≢ new

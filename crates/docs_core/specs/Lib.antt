@@ -1,6 +1,7 @@
 pub mod Calls
 pub mod EditedRows
 pub mod Exchange
+pub mod FoundChanges
 pub mod Imported
 pub mod JoinedRows
 pub mod LackedRows
@@ -10,9 +11,8 @@ pub mod Merged
 pub mod OldSites
 pub mod Replays
 pub mod Revised
-pub mod RevisedCells
 pub mod RowsInTime
-pub mod StampedCells
+pub mod StampedRows
 pub mod SyncedRows
 pub mod TimeLimits
 pub mod Updated

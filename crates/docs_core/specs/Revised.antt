@@ -1,5 +1,5 @@
 -- A key of language maps before and after an editor worked on them, and what is done there.
-use Rattle.std.specs.Prelude.{◌≡◌, ◌⊎◌, ◌++◌, ℕ, List, [], ◌∷◌, None, Option, Some, T, cond}
+use Rattle.std.specs.Prelude.{◌≡◌, ◌⊎◌, ℕ, List, None, Some, T, cond}
 use Rattle.std.specs.Prelude.{option_map}
 use Rattle.std.specs.Ordering.{eq_by_cmp}
 use Rattle.std.specs.FinMap.Entries.{below_all, find}
@@ -10,11 +10,9 @@ use Rattle.cata_core.specs.Entries.{Entries, EntryKey, key_cmp}
 use Rattle.cata_core.specs.Latest.{latest_of}
 use Rattle.map_docs.specs.LangMaps.{Labelled}
 use Rattle.query_docs.specs.Exported.{label_at}
-use Rattle.docs_core.specs.Made.{Change, with_change}
-use Rattle.docs_core.specs.StampedCells.{HoldsStamped}
-use Rattle.docs_core.specs.declared.call.stamped_cells.StampedCells.{StampedCells}
+use Rattle.docs_core.specs.Made.{with_change}
 use Rattle.docs_core.specs.Updated.{IsChangeAt, Texts}
-use Rattle.docs_core.specs.declared.call.updating.Revised.{Revised}
+use Rattle.docs_core.specs.declared.call.revised.Revised.{Revised}
 
 -- the key: a message and a language
 abbrev pub key_of : Revised → EntryKey
@@ -53,12 +51,3 @@ abbrev pub NoStamp : ℕ → List ℕ → Revised → Entries → Type 0
 NoStamp now name r old =
     IsChangeAt (old_of r) (new_of r) (label_at (key_of r) old) (Some (new_of r))
     × NoNext (latest_of old) now name
-
--- what is done at the key is added to these changes, which have their stamps
-abbrev pub IsAdded : ℕ → List ℕ → Option Stamp → Revised → Entries → List Change → StampedCells
-    → Type 0
-IsAdded now name last r cells taken stamped =
-    (IsChangeAt (old_of r) (new_of r) (label_at (key_of r) cells) None
-    × HoldsStamped now name last stamped taken)
-    ⊎ (IsChangeAt (old_of r) (new_of r) (label_at (key_of r) cells) (Some (new_of r))
-    × HoldsStamped now name last stamped (taken ++ (key_of r, new_of r) ∷ []))

@@ -1,16 +1,24 @@
 -- Names that ascend, each with its labels, as they are read.
 use Rattle.std.proofs.Common.{◌≡◌, ◌∙◌, ◌||◌, ℕ, false, List, [], ◌∷◌, ◌++◌, map, length, refl}
-use Rattle.std.proofs.Common.{sym, ap, ap₂, subst, append_assoc, Option, Some, arith}
+use Rattle.std.proofs.Common.{sym, ap, ap₂, subst, append_assoc, Option, Some, arith, true}
 use Rattle.std.specs.Prelude.{All, ◌<◌}
 use Rattle.std.specs.Cmp.Lexicographic.{nat_list_cmp_total}
 use Rattle.std.specs.Ordering.{is_eq}
+use Rattle.std.specs.List.{filter_map, list_all}
 use Rattle.std.specs.Str.{bytes_eq, str_to_ascii_lowercase}
 use Rattle.std.specs.declared.cmp.Ordering.TheVariants.{Less}
 use Rattle.std.proofs.lemmas.List.{map-append}
 use Rattle.std.proofs.lemmas.List.Elements.{All-append, All-cons, All-nil, All-push}
 use Rattle.std.proofs.lemmas.List.Elements.{filter_map-append}
 use Rattle.std.proofs.lemmas.Map.Text.{is_eq-slice_cmp}
-use Rattle.serde_json.specs.Data.{Data, Members, put}
+use Rattle.json.proofs.Grammar.{value-begin_array, value_is}
+use Rattle.json.specs.Json as json
+use Rattle.json.specs.Json.{parse_map, value}
+use Rattle.json.specs.Token as token
+use Rattle.json.specs.Token.{Token}
+use Rattle.serde_json.specs.Data.{Data, Items, Members, array, put, string}
+use Rattle.serde_json.specs.Find.{as_str}
+use Rattle.serde_json.specs.Read.{converted, of_json}
 use Rattle.cell_core.specs.Above.{IsAboveAll as IsAbove}
 use Rattle.cell_core.specs.Label.{IsLabel}
 use Rattle.cell_core.specs.Keyed.{IsMap}
@@ -20,11 +28,15 @@ use Rattle.cata_core.specs.Entries.{IsAboveAll, key_cmp, text_cmp}
 use Rattle.cata_core.specs.Flat.{under}
 use Rattle.cata_core.proofs.BehindLemmas.{IsMap-behind}
 use Rattle.cata_core.proofs.FlatLemmas.{all_first, all_rest}
+use Rattle.json_docs.proofs.ReadingLemmas.{converted-array}
+use Rattle.json_docs.specs.Arrays.{ReadsItems}
 use Rattle.json_docs.specs.Checks.{AllPass}
+use Rattle.json_docs.specs.Reads.{Reads}
 use Rattle.map_docs.specs.LangMapChecks.{IsLabelOrNone, is_marked, is_repeated}
 use Rattle.map_docs.specs.LangMapChecks.{keys_checks, members_checks, message_checks, unless_marked}
 use Rattle.map_docs.specs.LangMapLabels.{labelled, languages_of, rows_labels}
-use Rattle.map_docs.specs.LangMapRows.{Keys, Rows, Strings, members_by}
+use Rattle.map_docs.specs.LangMapRows.{Keys, Rows, Strings, is_string_or_null, members_by}
+use Rattle.map_docs.specs.LangMapRows.{strings_of}
 use Rattle.map_docs.specs.LangMapRowsSeen.{AreLesser}
 use Rattle.map_docs.specs.LangMaps.{Labelled}
 use Rattle.map_docs.specs.LangMapsValue.{Languages}
@@ -223,3 +235,30 @@ module _ (last name : List ℕ) (rows : Rows) (keys : Keys) (so : AreRisingRows 
         (sym no_mark) (id, (refl, passes (length rows))));
     map = subst (IsMap key_cmp) (sym labels_behind) map;
   }
+
+-- ---- labels that are read token by token
+
+-- a string is read
+pub text_read : (depth : ℕ) (s : List ℕ) (old new : List Token) → old ≡ token.string s ∷ new
+    → Reads depth old (string s) new
+text_read depth s old new is =
+    ap (converted of_json) (ap (value depth) is ∙ value_is depth (token.string s ∷ new))
+
+-- an opening bracket and items are an array
+pub texts_read : (old ts new : List Token) (ds : Items) → old ≡ token.begin_array ∷ ts
+    → ReadsItems 124 ts ds new → Reads 125 old (array ds) new
+texts_read old ts new ds is read =
+    ap (converted of_json) (ap (value 125) is ∙ value-begin_array 125 ts (omega arith))
+    ∙ converted-array (json.items (value 124) (length ts) ts) ∙ ap (parse_map array) read
+
+-- strings are the strings of their array
+pub strings_all : (texts : List (List ℕ)) → strings_of (map string texts) ≡ Some texts
+strings_all texts = rw (fit texts, same texts)
+  where
+    fit : (xs : List (List ℕ)) → list_all is_string_or_null (map string xs) ≡ true
+    fit [] = refl
+    fit (x ∷ xs) = fit xs
+
+    same : (xs : List (List ℕ)) → filter_map as_str (map string xs) ≡ xs
+    same [] = refl
+    same (x ∷ xs) = ap (λ t. x ∷ t) (same xs)

@@ -30,7 +30,7 @@ use json_docs::{
 use std::alloc::{AllocError, Global};
 
 /// How deep the value of a key nests at most.
-pub(crate) const KEY_DEPTH: usize = MOST_DEPTH - 2;
+const KEY_DEPTH: usize = MOST_DEPTH - 2;
 
 /// The rows of the document in byte order of their names, or none where it is no object. Of two
 /// members of one name the last counts.
@@ -198,7 +198,7 @@ fn pass_items(reader: &mut Reader<'_>) -> Result<(), DocCause>
 }
 
 /// The strings of a value: a string, null, or an array of strings and nulls.
-pub(crate) fn strings_of(alloc: Global, value: &Value<'_>) -> Result<Strings, AllocError>
+fn strings_of(alloc: Global, value: &Value<'_>) -> Result<Strings, AllocError>
     requires { IsRead (value_view value.now) }
     ensures { IfOk result (λ strings. strings_seen strings ≡ strings_in (seen value.now)) }
 {

@@ -104,10 +104,10 @@ fn taken_from<T: TakeLabels>(
 {
     let text = text_in(bytes)?;
     let mut scratch = Scratch::new(alloc);
-    check_numbers(text, &mut scratch)?;
     if take_text(alloc, text, &mut scratch, taker).is_some() {
         return Ok(None);
     }
+    check_numbers(text, &mut scratch)?;
     let maps = langmaps_of_text(alloc, text, &mut scratch)?;
     Ok(Some(maps))
 }

@@ -1,32 +1,30 @@
 //! The labels of a document whose messages and languages rise, given on as they are read.
-ghost use Rattle.std.specs.Prelude.{◌≡◌, ◌<◌, ◌∷◌, [], List, IfSome, IsUtf8, Some, true, length};
+ghost use Rattle.std.specs.Prelude.{◌≡◌, ◌<◌, ◌≤◌, ◌∷◌, [], List, IfSome, IsUtf8, Some, length};
 ghost use Rattle.std.specs.Prelude.{option_map};
 ghost use Rattle.std.specs.declared.cmp.Ordering.TheVariants.{Less};
 ghost use Rattle.json.specs.Json.{read_key};
-ghost use Rattle.json.specs.Lex.{tokens};
-ghost use Rattle.json.specs.Value.{value_view};
-ghost use Rattle.serde_json.specs.Data.{Data, Members, object};
+ghost use Rattle.serde_json.specs.Data.{Data, Items, Members, object};
 ghost use Rattle.cell_core.specs.Label.{IsLabel};
 ghost use Rattle.cell_core.specs.Keyed.{IsMap};
 ghost use Rattle.cell_core.specs.MessageId.{IsMessageId};
 ghost use Rattle.lang_core.specs.Lang.{SpellsLang};
 ghost use Rattle.cata_core.specs.Entries.{key_cmp, text_cmp};
+ghost use Rattle.json_docs.specs.Arrays.{ReadsItems};
 ghost use Rattle.json_docs.specs.Checks.{AllPass};
 ghost use Rattle.json_docs.specs.MembersRead.{ReadsMembers};
-ghost use Rattle.json_docs.specs.Numbers.{are_in_range};
-ghost use Rattle.json_docs.specs.Reads.{IsRead, Reads, seen};
+ghost use Rattle.json_docs.specs.Parts.{list_of};
+ghost use Rattle.json_docs.specs.Reads.{Reads};
 ghost use Rattle.map_docs.specs.LangMapChecks.{members_checks};
 ghost use Rattle.map_docs.specs.LangMapLabels.{AreLangMaps, rows_labels};
-ghost use Rattle.map_docs.specs.LangMapRows.{keys_of, message_rows, strings_in};
+ghost use Rattle.map_docs.specs.LangMapRows.{keys_of, message_rows, strings_in, strings_of};
 ghost use Rattle.map_docs.specs.LangMapRowsSeen.{AreLesser};
 ghost use Rattle.map_docs.specs.LangMaps.{Labelled};
 ghost use Rattle.map_docs.specs.RisingLabels.{IsUnder};
 
-use crate::members::{KEY_DEPTH, strings_of};
 use crate::taking::TakeLabels;
 use cell_core::{Label, MessageId};
-use json::{Reader, Scratch, Value};
-use json_docs::{begins_object, next_name, next_value, text_of};
+use json::{Reader, Scratch, Token};
+use json_docs::{begins_object, next_name};
 use lang_core::Lang;
 use std::alloc::Global;
 
@@ -41,7 +39,6 @@ pub(crate) fn take_text<T: TakeLabels>(
     taker: &mut T,
 ) -> Option<()>
     requires utf8 { IsUtf8 text.now }
-    requires range { are_in_range (tokens text.now) ≡ true }
     requires holds { T.Holds taker.old taker.old [] }
     ensures { IfSome result (λ _. (labels : List Labelled) × AreLangMaps text.now labels
         × T.Holds taker.old taker.new labels) }
@@ -61,8 +58,7 @@ pub(crate) fn take_text<T: TakeLabels>(
 
 /// Gives the labels of the messages of the object whose brace was read to the taker.
 fn take_messages<T: TakeLabels>(alloc: Global, reader: &mut Reader<'_>, taker: &mut T) -> Option<()>
-    requires range { are_in_range reader.old ≡ true }
-    requires holds { T.Holds taker.old taker.old [] }
+    requires { T.Holds taker.old taker.old [] }
     ensures { IfSome result (λ _. (ms : Members) × ReadsMembers 126 reader.old ms reader.new
         × AllPass (members_checks 0 (message_rows ms))
         × IsMap key_cmp (rows_labels (message_rows ms))
@@ -83,11 +79,10 @@ fn take_message<T: TakeLabels>(
     name: &str,
     taker: &mut T,
 ) -> Option<()>
-    requires range { are_in_range reader.old ≡ true }
-    requires holds { (first : T) × (before : List Labelled) × T.Holds first taker.old before
+    requires { (first : T) × (before : List Labelled) × T.Holds first taker.old before
         × AreLesser before name.now × IsMap key_cmp before }
     ensures { IfSome result (λ _. (ms : Members) × Reads 126 reader.old (object ms) reader.new
-        × (are_in_range reader.new ≡ true) × (length reader.new < length reader.old)
+        × (length reader.new < length reader.old)
         × IsMessageId name.now × IsUnder T.Holds taker.old taker.new name.now (keys_of ms)) }
 {
     let id = id_of_name(alloc, name)?;
@@ -105,11 +100,10 @@ fn take_languages<T: TakeLabels>(
     id: &MessageId,
     taker: &mut T,
 ) -> Option<()>
-    requires range { are_in_range reader.old ≡ true }
-    requires holds { (first : T) × (before : List Labelled) × T.Holds first taker.old before
+    requires { (first : T) × (before : List Labelled) × T.Holds first taker.old before
         × AreLesser before id.now × IsMap key_cmp before }
     ensures { IfSome result (λ _. (ms : Members) × ReadsMembers 125 reader.old ms reader.new
-        × (are_in_range reader.new ≡ true) × (length reader.new < length reader.old)
+        × (length reader.new < length reader.old)
         × IsUnder T.Holds taker.old taker.new id.now (keys_of ms)) }
 {
     let mut last = "";
@@ -171,25 +165,14 @@ fn lower_language(alloc: Global, key: &str) -> Option<Lang>
 
 /// The label that comes next: a string, or an array of strings.
 fn next_label(alloc: Global, reader: &mut Reader<'_>) -> Option<Label>
-    requires { are_in_range reader.old ≡ true }
     ensures { IfSome result (λ label. (d : Data) × Reads 125 reader.old d reader.new
-        × (strings_in d ≡ Some label) × IsLabel label × (are_in_range reader.new ≡ true)
+        × (strings_in d ≡ Some label) × IsLabel label
         × (length reader.new < length reader.old)) }
 {
-    let Ok(value) = next_value(alloc, reader, KEY_DEPTH) else {
-        return None;
-    };
-    label_of(alloc, &value)
-}
-
-/// The label that a value is.
-fn label_of(alloc: Global, value: &Value<'_>) -> Option<Label>
-    requires { IsRead (value_view value.now) }
-    ensures { IfSome result (λ label. (strings_in (seen value.now) ≡ Some label) × IsLabel label) }
-{
-    match text_of(value) {
-        Some(text) => one_text(alloc, text),
-        None => several_texts(alloc, value),
+    match reader.next() {
+        Some(Token::String(text)) => one_text(alloc, text),
+        Some(Token::BeginArray) => several_texts(alloc, reader),
+        _ => None,
     }
 }
 
@@ -206,14 +189,24 @@ fn one_text(alloc: Global, text: &str) -> Option<Label>
     }
 }
 
-/// The label of the strings of an array.
-fn several_texts(alloc: Global, value: &Value<'_>) -> Option<Label>
-    requires { IsRead (value_view value.now) }
-    ensures { IfSome result (λ label. (strings_in (seen value.now) ≡ Some label) × IsLabel label) }
+/// The label of the strings of the array whose opening bracket was read.
+fn several_texts(alloc: Global, reader: &mut Reader<'_>) -> Option<Label>
+    ensures { IfSome result (λ label. (ds : Items) × ReadsItems 124 reader.old ds reader.new
+        × (strings_of (list_of ds) ≡ Some label) × IsLabel label
+        × (length reader.new ≤ length reader.old)) }
 {
-    let Ok(Some(texts)) = strings_of(alloc, value) else {
-        return None;
-    };
+    let mut texts = Vec::new(alloc);
+    while !reader.take_end_array() {
+        let Some(Token::String(text)) = reader.next() else {
+            return None;
+        };
+        let Ok(text) = String::from_str(alloc, text) else {
+            return None;
+        };
+        let Ok(()) = texts.push(text) else {
+            return None;
+        };
+    }
     match Label::from_texts(texts) {
         Ok(label) => Some(label),
         Err(_) => None,

@@ -1,24 +1,24 @@
 //! Labels put into a site.
-ghost use Rattle.std.specs.Prelude.{◌≡◌, ◌++◌, ◌∷◌, [], ℕ, List, None, Option, IfErr, MatchResult};
-ghost use Rattle.std.specs.Prelude.{OnErr, OnOk};
-ghost use Rattle.cell_core.specs.Stamp.{NoNext};
-ghost use Rattle.cata_core.specs.Entries.{IsAboveAll};
+ghost use Rattle.std.specs.Prelude.{◌≡◌, ◌++◌, ℕ, IfErr, IfSome, List, MatchResult, OnErr, OnOk};
+ghost use Rattle.cata_core.specs.Entries.{Entries};
 ghost use Rattle.cata_core.specs.Latest.{latest_of};
 ghost use Rattle.cata_core.specs.declared.cata_fault.CataFault.TheVariants.{ClockSpent, NoMemory};
 ghost use Rattle.json_docs.specs.Checks.{OrMemory};
 ghost use Rattle.row_docs.specs.Reading.{no_memory};
-ghost use Rattle.map_docs.specs.LangMapLabels.{AreLangMaps};
+ghost use Rattle.site_docs.specs.ReadsAs.{IsSiteText, ReadsAsSite};
 ghost use Rattle.map_docs.specs.LangMaps.{Labelled};
 ghost use Rattle.docs_core.specs.Exchange.{IsImported, RefusesImport};
-ghost use Rattle.docs_core.specs.Imported.{Imports, RefusesStamps, SpendsImport, puts_of};
-ghost use Rattle.docs_core.specs.StampedCells.{AreStamped, HoldsStamped, SpendsStamps};
+ghost use Rattle.docs_core.specs.Imported.{Imports, SpendsImport, puts_of};
+ghost use Rattle.docs_core.specs.StampedRows.{HoldsStamped};
 
-use crate::call::stamped_cells::{LatestStamp, StampedCells, changed_document, latest_stamp};
-use cata_core::{CataFault, Catalogue, Site};
-use cell_core::{Label, MessageId, SiteName, Stamp};
+use crate::call::latest_stamp::{LatestStamp, latest_stamp};
+use crate::call::stamped_rows::StampedRows;
+use cata_core::{CataFault, Site};
+use cell_core::{Key, Label, MessageId, SiteName};
 use json_docs::{Doc, DocFault};
 use lang_core::Lang;
-use map_docs::{LangMaps, TakeLabels, take_langmaps};
+use map_docs::{LangMaps, TakeLabels, langmaps_of_document, take_langmaps};
+use site_docs::{WrittenRows, site_at, write_site};
 use std::alloc::Global;
 
 /// The document of the site after each label of the language maps was put, in rising order of key,
@@ -36,10 +36,10 @@ pub fn import_document(
     ensures { MatchResult result (IsImported site.now now langmaps.now)
         (OrMemory no_memory (RefusesImport site.now now langmaps.now)) }
 {
-    let room = site.len().saturating_add(langmaps.len());
-    let (name, stamps) = latest_stamp(alloc, site)?;
-    let cells = stamped_cells(alloc, langmaps, now, name, stamps.latest)?;
-    changed_document(alloc, site, name, &cells, room)
+    match imported_rows(alloc, site, now, langmaps)? {
+        Some(doc) => Ok(doc),
+        None => imported_site(alloc, site, now, langmaps),
+    }
 }
 
 /// Puts each label, in rising order of key, at this time: with the next stamp of the site after the
@@ -69,64 +69,84 @@ pub fn put_labels(
     Ok(())
 }
 
-/// The labels of document 2 as cells, each with the next stamp of the site of this name at this
-/// time, after its latest stamp.
-fn stamped_cells(
+/// The same where the site's document is as it is written: its rows are copied as they are read.
+///
+/// `None` says nothing of the documents.
+fn imported_rows(
     alloc: Global,
-    langmaps: &[u8],
+    site: &[u8],
     now: u64,
-    name: SiteName,
-    latest: Option<Stamp>,
-) -> Result<Catalogue, DocFault>
-    ensures { MatchResult result
-        (λ cells. (labels : List Labelled) × AreLangMaps langmaps.now labels
-        × AreStamped now name latest (puts_of labels) cells)
-        (OrMemory no_memory (RefusesStamps langmaps.now now name latest)) }
+    langmaps: &[u8],
+) -> Result<Option<Doc>, DocFault>
+    ensures { MatchResult result (λ doc. IfSome doc (IsImported site.now now langmaps.now))
+        (OrMemory no_memory (RefusesImport site.now now langmaps.now)) }
 {
-    let stamps = LatestStamp { latest };
-    let mut stamped = StampedCells::new(alloc, now, name, &stamps);
-    let left = take_langmaps(alloc, 2, langmaps, &mut stamped)?;
-    let cells = stamped.into_cells();
-    match left {
-        None => Ok(cells),
+    let Some(rows) = WrittenRows::new(alloc, site) else {
+        return Ok(None);
+    };
+    let room = site.len().saturating_add(langmaps.len());
+    let (name, stamps) = latest_stamp(alloc, site)?;
+    let mut stamped = StampedRows::new(alloc, site, rows, room, now, name, &stamps)?;
+    match take_langmaps(alloc, 2, langmaps, &mut stamped)? {
+        None => Ok(stamped.close(alloc)),
         Some(maps) => {
-            drop(cells);
-            let cells = stamped_labels(alloc, &maps, now, name, &stamps)?;
-            Ok(cells)
+            drop(stamped);
+            Ok(with_labels(alloc, site, room, now, name, &stamps, &maps))
         }
     }
 }
 
-/// The same of labels that were read.
-fn stamped_labels(
+/// The document of the site of this name and with this latest stamp after each label was put, where
+/// it is as it is written.
+///
+/// `None` says nothing of the document.
+fn with_labels(
     alloc: Global,
-    maps: &LangMaps,
+    site: &[u8],
+    room: usize,
     now: u64,
     name: SiteName,
     stamps: &LatestStamp,
-) -> Result<Catalogue, CataFault>
-    ensures { MatchResult result (AreStamped now name stamps.now.latest (puts_of maps.now))
-        (OrMemory NoMemory (λ fault. (fault ≡ ClockSpent)
-        × SpendsStamps now name stamps.now.latest (puts_of maps.now))) }
+    maps: &LangMaps,
+) -> Option<Doc>
+    ensures { IfSome result (λ doc. (own : Entries)
+        → ReadsAsSite site.now (record { name = name; cells = own })
+        → stamps.now.latest ≡ latest_of own
+        → (made : Entries) × Imports now name maps.now own made
+        × IsSiteText (record { name = name; cells = made }) doc) }
 {
-    let mut stamped = StampedCells::new(alloc, now, name, stamps);
+    let rows = WrittenRows::new(alloc, site)?;
+    let Ok(mut stamped) = StampedRows::new(alloc, site, rows, room, now, name, stamps) else {
+        return None;
+    };
     for found in maps.labels() {
-        let lang = found.lang.copy(alloc)?;
-        let label = found.label.copy(alloc)?;
-        stamped.add(alloc, &found.id, lang, Some(label))?;
+        let Ok(label) = found.label.copy(alloc) else {
+            return None;
+        };
+        stamped.add(alloc, &found.id, &found.lang, Some(label))?;
     }
-    Ok(stamped.into_cells())
+    stamped.close(alloc)
 }
 
-/// Takes each label, unless it is refused.
-impl TakeLabels for StampedCells {
-    ghost Holds = { λ first stamped taken.
-        HoldsStamped first.now first.name first.latest stamped (puts_of taken) };
+/// The same of documents in any form, by way of the site in memory.
+fn imported_site(alloc: Global, site: &[u8], now: u64, langmaps: &[u8]) -> Result<Doc, DocFault>
+    ensures { MatchResult result (IsImported site.now now langmaps.now)
+        (OrMemory no_memory (RefusesImport site.now now langmaps.now)) }
+{
+    let mut site = site_at(alloc, 1, site)?;
+    let maps = langmaps_of_document(alloc, 2, langmaps)?;
+    put_labels(alloc, &mut site, now, &maps)?;
+    drop(maps);
+    let doc = write_site(alloc, &site)?;
+    Ok(doc)
+}
+
+/// Writes each label, unless it can't.
+impl<'d> TakeLabels for StampedRows<'d> {
+    ghost Holds = { λ first stamped taken. (stamped.site.now ≡ first.site.now)
+        × HoldsStamped first.now first.name first.latest stamped (puts_of taken) };
 
     fn take(&mut self, alloc: Global, id: &MessageId, lang: Lang, label: Label) -> Option<()> {
-        match self.add(alloc, id, lang, Some(label)) {
-            Ok(()) => Some(()),
-            Err(_) => None,
-        }
+        self.add(alloc, id, &lang, Some(label))
     }
 }

@@ -15,7 +15,7 @@ ghost use Rattle.docs_core.specs.Calls.{RefusesTaking};
 
 use crate::call::edited_rows::EditedRows;
 use crate::call::lacked_rows::LackedRows;
-use crate::call::stamped_cells::latest_stamp;
+use crate::call::latest_stamp::latest_stamp;
 use crate::call::time_limits::{sync_documents_until, take_document_until};
 use cata_core::{CataFault, Site};
 use cell_core::{Cell, Label, MessageId, SiteName, Stamp};

@@ -162,7 +162,7 @@ fn write_joined(
 
 /// Writes the rows whose keys are less than this one. Answers how that of the next row is ordered
 /// to it; greater where there is none.
-fn write_before(
+pub(crate) fn write_before(
     alloc: Global,
     not_after: Option<u64>,
     id: &MessageId,
@@ -188,7 +188,7 @@ fn write_before(
 }
 
 /// Writes all rows that are left.
-fn write_all(
+pub(crate) fn write_all(
     alloc: Global,
     not_after: Option<u64>,
     rows: &mut WrittenRows<'_>,
@@ -314,7 +314,11 @@ fn is_same(label: &LabelRef<'_>, other: &LabelRef<'_>) -> bool
 }
 
 /// Reads the next row, where its time is in the limit.
-fn advance(alloc: Global, not_after: Option<u64>, rows: &mut WrittenRows<'_>) -> Option<()>
+pub(crate) fn advance(
+    alloc: Global,
+    not_after: Option<u64>,
+    rows: &mut WrittenRows<'_>,
+) -> Option<()>
     requires { (bytes : List ℕ) × (read : Entries) × HasRead bytes rows.old read }
     ensures read { IfSome result (λ _. (bytes : List ℕ) (read : Entries)
         → HasRead bytes rows.old read → HasRead bytes rows.new (read ++ current_of rows.new)) }

@@ -1,36 +1,34 @@
 //! What an editor changed in language maps, applied to a site.
-ghost use Rattle.std.specs.Prelude.{◌≡◌, ◌≢◌, ◌+◌, ◌++◌, ◌<◌, [], ℕ, IfErr, IfSome, List};
-ghost use Rattle.std.specs.Prelude.{MatchOption, MatchResult, None, OnErr, OnOk, Option, Some};
-ghost use Rattle.std.specs.Prelude.{cond, length, option_map};
-ghost use Rattle.std.specs.Bool.{Decides};
+ghost use Rattle.std.specs.Prelude.{◌≡◌, ◌++◌, [], ℕ, IfErr, IfSome, List};
+ghost use Rattle.std.specs.Prelude.{MatchResult, OnErr, OnOk, Option};
 ghost use Rattle.cell_core.specs.Keyed.{IsMap};
-ghost use Rattle.cell_core.specs.Stamp.{NoNext};
 ghost use Rattle.cell_core.specs.declared.stamp.Stamp.{Stamp};
-ghost use Rattle.cata_core.specs.Entries.{IsAboveAll, key_cmp};
+ghost use Rattle.cata_core.specs.Entries.{Entries, key_cmp};
+ghost use Rattle.cata_core.specs.Latest.{latest_of};
 ghost use Rattle.cata_core.specs.declared.cata_fault.CataFault.TheVariants.{ClockSpent, NoMemory};
 ghost use Rattle.json_docs.specs.Checks.{OrMemory};
 ghost use Rattle.row_docs.specs.Reading.{no_memory};
+ghost use Rattle.site_docs.specs.ReadsAs.{IsSiteText, ReadsAsSite};
+ghost use Rattle.site_docs.specs.Sink.{texts_of};
 ghost use Rattle.map_docs.specs.LangMapLabels.{AreLangMaps};
-ghost use Rattle.map_docs.specs.LangMaps.{labels_of};
 ghost use Rattle.query_docs.specs.Exported.{label_at};
+ghost use Rattle.docs_core.specs.FoundChanges.{changes_of};
 ghost use Rattle.docs_core.specs.Made.{Change, Makes};
-ghost use Rattle.docs_core.specs.Revised.{IsAdded, IsFirstRevised, IsRevised, NoStamp, key_of};
-ghost use Rattle.docs_core.specs.Revised.{new_of, old_of};
-ghost use Rattle.docs_core.specs.StampedCells.{AreStamped, HoldsStamped, SpendsStamps};
-ghost use Rattle.docs_core.specs.Updated.{AreChanges, IsChangeAt, IsUpdated, RefusesMaps};
-ghost use Rattle.docs_core.specs.Updated.{RefusesUpdate, SpendsUpdate, Updates};
+ghost use Rattle.docs_core.specs.Revised.{IsRevised, NoStamp};
+ghost use Rattle.docs_core.specs.StampedRows.{HoldsStamped};
+ghost use Rattle.docs_core.specs.Updated.{AreChanges, IsUpdated, IsWithUpdates, RefusesMaps};
+ghost use Rattle.docs_core.specs.Updated.{RefusesUpdate, RefusesUpdates, SpendsUpdate, Updates};
 
-use crate::call::revised_cells::RevisedCells;
+use crate::call::found_changes::{FoundChanges, KeyChange};
+use crate::call::revised::{Revised, first_revised, is_change};
 use crate::call::sites::{copy_of, edit, first_refusal};
-use crate::call::stamped_cells::{StampedCells, changed_document};
+use crate::call::stamped_rows::StampedRows;
 use cata_core::{CataFault, Catalogue, Site};
-use cell_core::{Key, Label, SiteName};
 use json_docs::{Doc, DocFault};
 use map_docs::{KeyedLabel, LangMaps, langmaps_of_document};
 use query_docs::label_at;
-use site_docs::show_document;
+use site_docs::{LabelRef, WrittenRows, show_document, site_at, write_site};
 use std::alloc::Global;
-use std::cmp::Ordering;
 
 /// The document of the site after what an editor changed in language maps: from `old`, as they were
 /// before, to `new`, as they are now. The changes are made in rising order of key at the time
@@ -53,15 +51,14 @@ pub fn update_document(
     ensures { MatchResult result (IsUpdated site.now now old.now new.now) (OrMemory no_memory
         (RefusesUpdate site.now now old.now new.now)) }
 {
-    let room = site.len().saturating_add(new.len());
     let (old, new) = match both_maps(alloc, old, new) {
         Ok(maps) => maps,
         Err(fault) => return Err(first_refusal(alloc, site, fault)),
     };
-    let start = RevisedCells::new(alloc, &old, &new);
-    let (name, revised) = show_document(alloc, 1, site, &start)?;
-    let cells = stamped_changes(alloc, &revised, now, name, &old, &new)?;
-    changed_document(alloc, site, name, &cells, room)
+    match updated_rows(alloc, site, now, &old, &new)? {
+        Some(doc) => Ok(doc),
+        None => updated_site(alloc, site, now, &old, &new),
+    }
 }
 
 /// Makes the changes from the old labels to the new ones, in rising order of key at the time `now`,
@@ -109,138 +106,76 @@ fn both_maps(alloc: Global, old: &[u8], new: &[u8]) -> Result<(LangMaps, LangMap
     Ok((old, new))
 }
 
-/// The changes from the old labels to the new ones as cells, each with the next stamp of the site
-/// of this name at this time, after its latest stamp.
-fn stamped_changes(
+/// The document of the site after the changes from the old labels to the new ones, where it is as
+/// it is written: its rows are copied as they are read.
+///
+/// `None` says nothing of the document.
+fn updated_rows(
     alloc: Global,
-    revised: &RevisedCells<'_>,
+    site: &[u8],
     now: u64,
-    name: SiteName,
     old: &LangMaps,
     new: &LangMaps,
-) -> Result<Catalogue, CataFault>
+) -> Result<Option<Doc>, DocFault>
     ensures { MatchResult result
-        (λ cells. (changes : List Change)
-        × AreChanges old.now new.now revised.now.cells changes
-        × AreStamped now name revised.now.stamps.latest changes cells)
-        (OrMemory NoMemory (λ fault. (fault ≡ ClockSpent) × ((changes : List Change)
-        × AreChanges old.now new.now revised.now.cells changes
-        × SpendsStamps now name revised.now.stamps.latest changes))) }
+        (λ doc. IfSome doc (IsWithUpdates site.now now old.now new.now))
+        (OrMemory no_memory (RefusesUpdates site.now now old.now new.now)) }
 {
-    let mut stamped = StampedCells::new(alloc, now, name, &revised.stamps);
-    let mut olds = old.labels();
-    let mut news = new.labels();
-    while let Some((next, old_rest, new_rest)) = first_revised(olds, news) {
-        add_revised(alloc, &revised.cells, &next, &mut stamped)?;
-        olds = old_rest;
-        news = new_rest;
-    }
-    Ok(stamped.into_cells())
+    let Some(rows) = WrittenRows::new(alloc, site) else {
+        return Ok(None);
+    };
+    let start = FoundChanges::new(alloc, old, new);
+    let (name, found) = show_document(alloc, 1, site, &start)?;
+    let (changes, stamps) = found.close(alloc)?;
+    let stamped = StampedRows::new(alloc, site, rows, site.len(), now, name, &stamps)?;
+    Ok(with_changes(alloc, stamped, changes.as_slice()))
 }
 
-/// Adds the change of a key, unless nothing was changed or the site has it already.
-fn add_revised(
+/// The document of the site after these changes, which are in ascending order of key.
+///
+/// `None` says nothing of the document.
+fn with_changes(
     alloc: Global,
-    cells: &Catalogue,
-    revised: &Revised<'_>,
-    stamped: &mut StampedCells,
-) -> Result<(), CataFault>
-    requires { old_of revised.now ≢ new_of revised.now
-        → IsAboveAll (key_of revised.now) stamped.old.cells }
-    ensures ok { OnOk result ((now : ℕ) (name : List ℕ) (last : Option Stamp)
-        → (taken : List Change) → HoldsStamped now name last stamped.old taken
-        → IsAdded now name last revised.now cells.now taken stamped.new) }
-    ensures err { IfErr result (OrMemory NoMemory (λ fault. (fault ≡ ClockSpent)
-        × IsChangeAt (old_of revised.now) (new_of revised.now)
-        (label_at (key_of revised.now) cells.now) (Some (new_of revised.now))
-        × NoNext stamped.old.latest stamped.old.now stamped.old.name)) }
+    mut stamped: StampedRows<'_>,
+    changes: &[KeyChange<'_>],
+) -> Option<Doc>
+    requires rising { IsMap key_cmp (changes_of changes.now) }
+    requires holds { (now : ℕ) × (name : List ℕ) × (last : Option Stamp)
+        × HoldsStamped now name last stamped [] }
+    ensures { IfSome result (λ doc. (now : ℕ) (name : List ℕ) (own : Entries)
+        → ReadsAsSite stamped.entry.site.now (record { name = name; cells = own })
+        → HoldsStamped now name (latest_of own) stamped.entry []
+        → (made : Entries) × Makes now name (changes_of changes.now) own made
+        × IsSiteText (record { name = name; cells = made }) doc) }
 {
-    if !is_change(cells, revised) {
-        return Ok(());
+    for change in changes {
+        let key = change.key;
+        let Ok(label) = copy_of(alloc, change.label) else {
+            return None;
+        };
+        stamped.add(alloc, &key.id, &key.lang, label)?;
     }
-    let key = revised.key;
-    let lang = key.lang.copy(alloc)?;
-    let label = copy_of(alloc, revised.new)?;
-    stamped.add(alloc, &key.id, lang, label)
+    stamped.close(alloc)
 }
 
-/// A key of language maps, with its label before an editor worked on them, and as it is now.
-#[derive(Drop)]
-pub(crate) struct Revised<'a> {
-    key: &'a KeyedLabel,
-    old: Option<&'a Label>,
-    new: Option<&'a Label>,
-}
-
-/// The least key of both lists, and what is left of them.
-fn first_revised<'a>(
-    old: &'a [KeyedLabel],
-    new: &'a [KeyedLabel],
-) -> Option<(Revised<'a>, &'a [KeyedLabel], &'a [KeyedLabel])>
-    requires old { IsMap key_cmp (labels_of old.now) }
-    requires new { IsMap key_cmp (labels_of new.now) }
-    ensures first { MatchOption result ((old.now ≡ []) × (new.now ≡ []))
-        (λ r. IsFirstRevised r.0 (labels_of old.now) (labels_of new.now) (labels_of r.1.now)
-        (labels_of r.2.now)) }
-    ensures less { IfSome result (λ r. length r.1.now + length r.2.now < length old.now + length
-        new.now) }
+/// The same of a document in any form, by way of the site in memory.
+///
+/// Refused as a reader's with document 1, then where there is no next stamp for a change (14). Out
+/// of memory (26) may come before.
+fn updated_site(
+    alloc: Global,
+    site: &[u8],
+    now: u64,
+    old: &LangMaps,
+    new: &LangMaps,
+) -> Result<Doc, DocFault>
+    ensures { MatchResult result (IsWithUpdates site.now now old.now new.now)
+        (OrMemory no_memory (RefusesUpdates site.now now old.now new.now)) }
 {
-    match (old.split_first(), new.split_first()) {
-        (None, None) => None,
-        (Some((left, olds)), None) => Some((removed(left), olds, new)),
-        (None, Some((right, news))) => Some((added(right), old, news)),
-        (Some((left, olds)), Some((right, news))) => Some(match compare(left, right) {
-            Ordering::Less => (removed(left), olds, new),
-            Ordering::Greater => (added(right), old, news),
-            Ordering::Equal => (kept(left, right), olds, news),
-        }),
-    }
-}
-
-/// The order of two keys.
-fn compare(key: &KeyedLabel, other: &KeyedLabel) -> Ordering
-    ensures { result ≡ key_cmp (key.now.id, key.now.lang) (other.now.id, other.now.lang) }
-{
-    key.id.cmp(&other.id).then(key.lang.cmp(&other.lang))
-}
-
-/// A label that was there alone.
-fn removed(was: &KeyedLabel) -> Revised<'_>
-    ensures key { key_of result ≡ (was.now.id, was.now.lang) }
-    ensures old { old_of result ≡ Some was.now.label }
-    ensures new { new_of result ≡ None }
-{
-    Revised {
-        key: was,
-        old: Some(&was.label),
-        new: None,
-    }
-}
-
-/// A label that is there alone.
-fn added(is: &KeyedLabel) -> Revised<'_>
-    ensures key { key_of result ≡ (is.now.id, is.now.lang) }
-    ensures old { old_of result ≡ None }
-    ensures new { new_of result ≡ Some is.now.label }
-{
-    Revised {
-        key: is,
-        old: None,
-        new: Some(&is.label),
-    }
-}
-
-/// A label that was there and is there.
-fn kept<'a>(was: &'a KeyedLabel, is: &'a KeyedLabel) -> Revised<'a>
-    ensures key { key_of result ≡ (was.now.id, was.now.lang) }
-    ensures old { old_of result ≡ Some was.now.label }
-    ensures new { new_of result ≡ Some is.now.label }
-{
-    Revised {
-        key: was,
-        old: Some(&was.label),
-        new: Some(&is.label),
-    }
+    let mut site = site_at(alloc, 1, site)?;
+    update_labels(alloc, &mut site, now, old, new)?;
+    let doc = write_site(alloc, &site)?;
+    Ok(doc)
 }
 
 /// Makes the change of a key, unless nothing was changed or the site has it already.
@@ -252,33 +187,22 @@ fn revise(alloc: Global, site: &mut Site, now: u64, revised: &Revised<'_>) -> Re
         × NoStamp now site.old.name revised.now site.old.cells)) }
     ensures left { OnErr result (site.new ≡ site.old) }
 {
-    if !is_change(site.catalogue(), revised) {
+    let key = revised.key;
+    if !is_change(&held_label(site.catalogue(), key), revised) {
         return Ok(());
     }
-    let key = revised.key;
     match edit(alloc, site, now, &key.id, &key.lang, revised.new) {
         Ok(_) => Ok(()),
         Err(fault) => Err(fault),
     }
 }
 
-/// Whether a key has another label than before, and another than the cells have.
-fn is_change(cells: &Catalogue, revised: &Revised<'_>) -> bool
-    ensures { IsChangeAt (old_of revised.now) (new_of revised.now)
-        (label_at (key_of revised.now) cells.now)
-        (cond result (Some (new_of revised.now)) None) }
+/// The live label of a key.
+fn held_label<'a>(cells: &'a Catalogue, key: &KeyedLabel) -> LabelRef<'a>
+    ensures { texts_of result ≡ label_at (key.now.id, key.now.lang) cells.now }
 {
-    if are_equal(revised.old, revised.new) {
-        return false;
+    match label_at(cells, &key.id, &key.lang) {
+        Some(label) => LabelRef::Held(label),
+        None => LabelRef::Deleted,
     }
-    let key = revised.key;
-    !are_equal(label_at(cells, &key.id, &key.lang), revised.new)
-}
-
-/// Whether both have the same texts, or neither is there.
-fn are_equal(label: Option<&Label>, other: Option<&Label>) -> bool
-    ensures { Decides result (option_map (λ l. l.now) label.entry ≡ option_map
-        (λ l. l.now) other.entry) }
-{
-    label == other
 }

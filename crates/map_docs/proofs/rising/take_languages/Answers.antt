@@ -7,7 +7,6 @@ use Rattle.serde_json.specs.Data.{no_members, put}
 use Rattle.lang_core.specs.Lang.{SpellsLang}
 use Rattle.cata_core.specs.Entries.{IsAboveAll, text_cmp}
 use Rattle.cata_core.specs.Flat.{under}
-use Rattle.json_docs.proofs.MembersLemmas.{range_after_key}
 use Rattle.json_docs.proofs.ReadingLemmas.{member_read, members_over}
 use Rattle.map_docs.specs.LangMapLabels.{languages_of}
 use Rattle.map_docs.specs.LangMapRows.{Keys, keys_of, strings_in}
@@ -26,29 +25,21 @@ loop-key-init g c = (
     no_members,
     omega arith,
     refl,
-    c.requires.range,
     omega arith,
     no_keys [],
     takes_none g.T.TakeLabels.Holds c.args.taker.now c.args.id.now,
   ),
 )
 
-pub next_label-requires : goal.next_label-requires
-next_label-requires g c =
-    let inv = c.loop-key.invariant.1 in
-    let named : read_key c.loop-key.reader ≡ Some (Some c.in-Some.key.now, c.name_after.new.reader)
-    = rw c.in-Some.is at c.in_ok-key.ensures.read in
-    range_after_key c.loop-key.reader (Some c.in-Some.key.now) c.name_after.new.reader named inv.4
-
 -- the key is above all that were taken
 pub take-requires : goal.take-requires
 take-requires g c =
     let inv = c.loop-key.invariant.1 in
     let keys = keys_of inv.1 in
-    let first = c.requires.holds.0 in
-    let before = c.requires.holds.1 in
-    let lesser = c.requires.holds.3 in
-    let took = inv.7 first before c.requires.holds.2 lesser c.requires.holds.4 in
+    let first = c.requires.0 in
+    let before = c.requires.1 in
+    let lesser = c.requires.3 in
+    let took = inv.6 first before c.requires.2 lesser c.requires.4 in
     let rises : text_cmp c.loop-key.last.now c.in-Some.key.now ≡ Less =
     rw c.in-Some.is at c.in_ok-key.ensures.rises in (
       first,
@@ -57,7 +48,7 @@ take-requires g c =
       subst (λ (l : List ℕ). IsAboveAll (c.args.id.now, l)
           (before ++ under c.args.id.now (languages_of keys))) (sym c.in_ok-lang.ensures.0)
           (key_above before c.args.id.now c.in-Some.key.now (languages_of keys) lesser
-          (inv.6.languages c.in-Some.key.now rises)),
+          (inv.5.languages c.in-Some.key.now rises)),
     )
 
 pub loop-key-smaller : goal.loop-key-smaller
@@ -66,7 +57,7 @@ loop-key-smaller g c =
     = rw c.in-Some.is at c.in_ok-key.ensures.read in
     let less = read_key-shorter c.loop-key.reader (Some c.in-Some.key.now) c.name_after.new.reader
     named in
-    let lesser = c.in_ok-label.ensures.5 in
+    let lesser = c.in_ok-label.ensures.4 in
     omega (arith, less, lesser)
 
 -- one key more
@@ -84,7 +75,7 @@ loop-key-preserved g c =
     let rises : text_cmp last key ≡ Less = rw c.in-Some.is at c.in_ok-key.ensures.rises in
     let less = read_key-shorter c.loop-key.reader (Some key) s named in
     let read = c.in_ok-label.ensures in
-    let lesser : length r < length s = read.5 in
+    let lesser : length r < length s = read.4 in
     let d = read.0 in
     let texts = c.in_ok-label.label in
     let spells = subst (SpellsLang key) c.in_ok-lang.ensures.0 c.in_ok-lang.ensures.1 in
@@ -93,7 +84,7 @@ loop-key-preserved g c =
     → g.T.TakeLabels.Holds first c.take.new.self (before ++ ((c.args.id.now, l), texts) ∷ []))
     c.in_ok-lang.ensures.0 c.in_ok-take.ensures in
     let is : keys_of (put key d old) ≡ keys_of old ++ (key, Some texts) ∷ [] =
-    member_behind strings_in key d old (inv.6.above key rises)
+    member_behind strings_in key d old (inv.5.above key rises)
     ∙ ap (λ s. keys_of old ++ (key, s) ∷ []) read.2 in (
       search rules,
       (
@@ -103,15 +94,14 @@ loop-key-preserved g c =
         inv.3
             ∙ member_read (value 125) old n key c.loop-key.reader s r d
             (omega (arith, inv.2, less)) named read.1,
-        read.4,
-        omega (arith, inv.5, less, lesser),
+        omega (arith, inv.4, less, lesser),
         subst (AreRisingKeys key) (sym is)
-            (keys_next last key (keys_of old) texts inv.6 rises spells read.3),
+            (keys_next last key (keys_of old) texts inv.5 rises spells read.3),
         subst (λ (ks : Keys). Takes g.T.TakeLabels.Holds c.args.taker.now c.take.new.self
             c.args.id.now ks) (sym is)
-            (takes_next last key (keys_of old) texts inv.6 rises spells read.3
+            (takes_next last key (keys_of old) texts inv.5 rises spells read.3
             g.T.TakeLabels.Holds c.args.taker.now c.loop-key.taker c.take.new.self c.args.id.now
-            inv.7 takes),
+            inv.6 takes),
       ),
     )
 
@@ -126,7 +116,6 @@ returns g c =
       inv.3
           ∙ members_over (value 125) inv.1 inv.0 c.loop-key.reader c.name_after.new.reader inv.2
           over,
-      range_after_key c.loop-key.reader None c.name_after.new.reader over inv.4,
-      omega (arith, inv.5, less),
-      (inv.6.passes, inv.7),
+      omega (arith, inv.4, less),
+      (inv.5.passes, inv.6),
     )

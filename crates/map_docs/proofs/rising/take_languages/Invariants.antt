@@ -1,10 +1,9 @@
-use Rattle.std.proofs.Common.{◌≡◌, ◌≤◌, ℕ, length, true}
+use Rattle.std.proofs.Common.{◌≡◌, ◌≤◌, ℕ, length}
 use denote.Text.{Utf8}
 use denote.Shadow.{shadow}
 use Rattle.json.specs.Json.{members, value}
 use Rattle.serde_json.specs.Data.{Members, no_members}
 use Rattle.serde_json.specs.Read.{converted, of_members}
-use Rattle.json_docs.specs.Numbers.{are_in_range}
 use Rattle.map_docs.specs.LangMapRows.{keys_of}
 use Rattle.map_docs.specs.RisingLabels.{Takes}
 use Rattle.map_docs.proofs.RisingLemmas.{AreRisingKeys}
@@ -19,7 +18,6 @@ invariant-loop-key g l =
     × (converted (λ ms. of_members ms no_members)
     (members (value 125) (length l.fn.reader) l.fn.reader)
     ≡ converted (λ ms. of_members ms old) (members (value 125) n l.reader))
-    × (are_in_range l.reader ≡ true)
     × (length l.reader ≤ length l.fn.reader)
     × AreRisingKeys l.last (keys_of old)
     × Takes g.T.TakeLabels.Holds l.fn.taker l.taker l.id (keys_of old))

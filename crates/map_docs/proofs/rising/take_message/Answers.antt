@@ -7,9 +7,9 @@ use Rattle.map_docs.specs.RisingLabels.{IsUnder}
 use Rattle.map_docs.proofs.rising.take_message.Goals as goal
 
 -- the id is the name
-pub take_languages-requires-clause-holds : goal.take_languages-requires-clause-holds
-take_languages-requires-clause-holds g c =
-    let holds = c.requires.holds in (
+pub take_languages-requires : goal.take_languages-requires
+take_languages-requires g c =
+    let holds = c.requires in (
       holds.0,
       holds.1,
       holds.2,
@@ -23,12 +23,11 @@ returns g c =
     let is : c.args.reader.now ≡ begin_object ∷ ts = c.if-not-begins_object.ensures in
     let read = c.in_ok-take_languages.ensures in
     let opened = ap length is in
-    let lesser = read.3 in (
+    let lesser = read.2 in (
       read.0,
       object_read c.args.reader.now ts c.take_languages.new.reader read.0 is read.1,
-      read.2,
       omega (arith, opened, lesser),
       c.in_ok-id.ensures.1,
       subst (λ (id : List ℕ). IsUnder g.T.TakeLabels.Holds c.args.taker.now
-          c.take_languages.new.taker id (keys_of read.0)) c.in_ok-id.ensures.0 read.4,
+          c.take_languages.new.taker id (keys_of read.0)) c.in_ok-id.ensures.0 read.3,
     )

@@ -5,7 +5,6 @@ use Rattle.json.specs.Json.{read_key, value}
 use Rattle.json.proofs.Grammar.{read_key-shorter}
 use Rattle.serde_json.specs.Data.{no_members, object, put}
 use Rattle.cata_core.specs.Entries.{text_cmp}
-use Rattle.json_docs.proofs.MembersLemmas.{range_after_key}
 use Rattle.json_docs.proofs.ReadingLemmas.{member_read, members_over}
 use Rattle.map_docs.specs.LangMapLabels.{rows_labels}
 use Rattle.map_docs.specs.LangMapRows.{Rows, keys_in, keys_of, message_rows}
@@ -22,31 +21,22 @@ loop-name-init g c = (
     no_members,
     omega arith,
     refl,
-    c.requires.range,
     no_rows [],
-    c.requires.holds,
+    c.requires,
   ),
 )
 
-pub take_message-requires-clause-range : goal.take_message-requires-clause-range
-take_message-requires-clause-range g c =
-    let inv = c.loop-name.invariant.1 in
-    let named : read_key c.loop-name.reader
-    ≡ Some (Some c.in-Some.name.now, c.name_after.new.reader) =
-    rw c.in-Some.is at c.in_ok-name.ensures.read in
-    range_after_key c.loop-name.reader (Some c.in-Some.name.now) c.name_after.new.reader named inv.4
-
 -- all messages so far are lesser
-pub take_message-requires-clause-holds : goal.take_message-requires-clause-holds
-take_message-requires-clause-holds g c =
+pub take_message-requires : goal.take_message-requires
+take_message-requires g c =
     let inv = c.loop-name.invariant.1 in
     let rises : text_cmp c.loop-name.last.now c.in-Some.name.now ≡ Less =
     rw c.in-Some.is at c.in_ok-name.ensures.rises in (
       c.args.taker.now,
       rows_labels (message_rows inv.1),
-      inv.6,
-      inv.5.lesser c.in-Some.name.now rises,
-      inv.5.map,
+      inv.5,
+      inv.4.lesser c.in-Some.name.now rises,
+      inv.4.map,
     )
 
 pub loop-name-smaller : goal.loop-name-smaller
@@ -56,7 +46,7 @@ loop-name-smaller g c =
     rw c.in-Some.is at c.in_ok-name.ensures.read in
     let less = read_key-shorter c.loop-name.reader (Some c.in-Some.name.now)
     c.name_after.new.reader named in
-    let lesser = c.in_ok-take_message.ensures.3 in
+    let lesser = c.in_ok-take_message.ensures.2 in
     omega (arith, less, lesser)
 
 -- one message more
@@ -75,15 +65,15 @@ loop-name-preserved g c =
     let rises : text_cmp last name ≡ Less = rw c.in-Some.is at c.in_ok-name.ensures.rises in
     let less = read_key-shorter c.loop-name.reader (Some name) s named in
     let read = c.in_ok-take_message.ensures in
-    let lesser : length r < length s = read.3 in
+    let lesser : length r < length s = read.2 in
     let ms = read.0 in
     let keys = keys_of ms in
-    let took = read.5 in
-    let all = took.1 c.args.taker.now (rows_labels rows) inv.6 (inv.5.lesser name rises) inv.5.map
+    let took = read.4 in
+    let all = took.1 c.args.taker.now (rows_labels rows) inv.5 (inv.4.lesser name rises) inv.4.map
     in
     let is : message_rows (put name (object ms) old) ≡ rows ++ (name, Some keys) ∷ [] =
-    member_behind keys_in name (object ms) old (inv.5.above name rises) in
-    let id = read.4 in (
+    member_behind keys_in name (object ms) old (inv.4.above name rises) in
+    let id = read.3 in (
       search rules,
       (
         n - 1,
@@ -92,13 +82,12 @@ loop-name-preserved g c =
         inv.3
             ∙ member_read (value 126) old n name c.loop-name.reader s r (object ms)
             (omega (arith, inv.2, less)) named read.1,
-        read.2,
         subst (AreRisingRows name) (sym is)
-            (rows_next last name rows keys inv.5 rises id took.0 all.0),
+            (rows_next last name rows keys inv.4 rises id took.0 all.0),
         subst (λ (rs : Rows). g.T.TakeLabels.Holds c.args.taker.now c.take_message.new.taker
             (rows_labels rs)) (sym is)
             (subst (g.T.TakeLabels.Holds c.args.taker.now c.take_message.new.taker)
-            (sym (labels_behind last name rows keys inv.5 rises id took.0)) all.1),
+            (sym (labels_behind last name rows keys inv.4 rises id took.0)) all.1),
       ),
     )
 
@@ -112,7 +101,7 @@ returns g c =
       inv.3
           ∙ members_over (value 126) inv.1 inv.0 c.loop-name.reader c.name_after.new.reader inv.2
           over,
-      inv.5.passes,
-      inv.5.map,
-      inv.6,
+      inv.4.passes,
+      inv.4.map,
+      inv.5,
     )

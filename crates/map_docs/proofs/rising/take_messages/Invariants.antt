@@ -1,10 +1,9 @@
-use Rattle.std.proofs.Common.{◌≡◌, ◌≤◌, ℕ, length, true}
+use Rattle.std.proofs.Common.{◌≡◌, ◌≤◌, ℕ, length}
 use denote.Text.{Utf8}
 use denote.Shadow.{shadow}
 use Rattle.json.specs.Json.{members, value}
 use Rattle.serde_json.specs.Data.{Members, no_members}
 use Rattle.serde_json.specs.Read.{converted, of_members}
-use Rattle.json_docs.specs.Numbers.{are_in_range}
 use Rattle.map_docs.specs.LangMapLabels.{rows_labels}
 use Rattle.map_docs.specs.LangMapRows.{message_rows}
 use Rattle.map_docs.proofs.RisingLemmas.{AreRisingRows}
@@ -19,7 +18,6 @@ invariant-loop-name g l =
     × (converted (λ ms. of_members ms no_members)
     (members (value 126) (length l.fn.reader) l.fn.reader)
     ≡ converted (λ ms. of_members ms old) (members (value 126) n l.reader))
-    × (are_in_range l.reader ≡ true)
     × AreRisingRows l.last (message_rows old)
     × g.T.TakeLabels.Holds l.fn.taker l.taker (rows_labels (message_rows old)))
 

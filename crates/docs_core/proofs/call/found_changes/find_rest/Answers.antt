@@ -1,0 +1,44 @@
+use Rattle.std.proofs.Common.{ap}
+use Rattle.map_docs.specs.LangMaps.{labels_of}
+use Rattle.docs_core.specs.FoundChanges.{changes_of}
+use Rattle.docs_core.specs.Revised.{key_of}
+use Rattle.std.specs.Prelude.{None}
+use Rattle.docs_core.proofs.FoundChangesLemmas.{AreThese, found_all, found_next, found_rest}
+use Rattle.docs_core.proofs.FoundChangesLemmas.{rest_absent}
+use Rattle.docs_core.proofs.call.found_changes.find_rest.Goals as goal
+
+-- no key is passed yet
+pub loop-next-init : goal.loop-next-init
+loop-next-init c = record {
+  old_map = c.requires.old;
+  new_map = c.requires.new;
+  found = λ all all_new cells before. found_rest all all_new (labels_of c.args.old.now)
+      (labels_of c.args.new.now) cells (changes_of c.args.changes.now.items) before;
+}
+
+-- one key more, which has no cell
+pub loop-next-preserved : goal.loop-next-preserved
+loop-next-preserved c =
+    let inv = c.loop-next.invariant in
+    let r = c.in-Some.next in
+    let first = c.in-Some.ensures.first in
+    let olds = labels_of c.loop-next.olds.now in
+    let news = labels_of c.loop-next.news.now in record {
+      old_map = first.old_head.rises;
+      new_map = first.new_head.rises;
+      found = λ all all_new cells before.
+          let so = inv.found all all_new cells before in
+          found_next r olds news (labels_of c.in-Some.old_rest.now)
+          (labels_of c.in-Some.new_rest.now) first all all_new cells (AreThese cells) None
+          (changes_of c.loop-next.changes.items) (changes_of c.note.new.changes.items) so
+          (λ these are has. rest_absent cells (key_of r) these are (so.above (key_of r) has))
+          c.in_ok-note.ensures;
+    }
+
+-- no key is left
+pub returns : goal.returns
+returns c = λ all all_new cells map before.
+    let none = c.in_default.ensures.first in
+    found_all all all_new (labels_of c.loop-next.olds.now) (labels_of c.loop-next.news.now) cells
+    (changes_of c.loop-next.changes.items) (c.loop-next.invariant.found all all_new cells before)
+    (ap labels_of none.0) (ap labels_of none.1) map

@@ -1,0 +1,24 @@
+use Rattle.std.proofs.Common.{◌+◌, List, length}
+use Rattle.cell_core.specs.Keyed.{IsMap}
+use Rattle.cata_core.specs.Entries.{Entries, IsAboveAll, key_cmp}
+use Rattle.map_docs.specs.LangMaps.{Labelled, labels_of}
+use Rattle.site_docs.specs.Sink.{entry_of}
+use Rattle.docs_core.specs.FoundChanges.{IsFound, changes_of}
+use Rattle.docs_core.proofs.FoundChangesLemmas.{GoesOn, IsFoundIn}
+use Rattle.docs_core.proofs.call.found_changes.find_up_to.Given as goal
+
+-- the changes at the keys before those that are left are found
+abbrev pub invariant-loop-next : goal.invariant-loop-next
+invariant-loop-next l = record {
+  old_map : IsMap key_cmp (labels_of l.olds);
+  new_map : IsMap key_cmp (labels_of l.news);
+  found : (all all_new : List Labelled) (seen : Entries)
+      → IsAboveAll (entry_of l.fn.cell).0 seen
+      → IsFound all all_new (labels_of l.fn.old) (labels_of l.fn.new) seen
+      (changes_of l.fn.changes.items)
+      → IsFoundIn all all_new (labels_of l.olds) (labels_of l.news) seen
+      (GoesOn seen (entry_of l.fn.cell)) (changes_of l.changes.items);
+}
+
+abbrev pub decreases-loop-next : goal.decreases-loop-next
+decreases-loop-next l = length l.olds + length l.news

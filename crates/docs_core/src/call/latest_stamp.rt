@@ -1,0 +1,53 @@
+//! The latest stamp of a site's document.
+ghost use Rattle.std.specs.Prelude.{◌≡◌, MatchResult, None};
+ghost use Rattle.cata_core.specs.Entries.{Entries};
+ghost use Rattle.cata_core.specs.Latest.{latest_of};
+ghost use Rattle.json_docs.specs.Checks.{OrMemory};
+ghost use Rattle.row_docs.specs.Reading.{IsOfDocument, no_memory};
+ghost use Rattle.site_docs.specs.ReadsAs.{ReadsAsSite, RefusesSite};
+
+use crate::call::edited_rows::later;
+use cell_core::{SiteName, Stamp};
+use json_docs::DocFault;
+use site_docs::{CellRef, CellSink, show_document};
+use std::alloc::{AllocError, Global};
+
+/// The name of the site of a document, and its latest stamp.
+///
+/// Refused as a reader's with document 1, or since memory ran out (26).
+pub(crate) fn latest_stamp(alloc: Global, site: &[u8]) -> Result<(SiteName, LatestStamp), DocFault>
+    ensures { MatchResult result (λ read. (cells : Entries)
+        × ReadsAsSite site.now (record { name = read.0; cells = cells })
+        × (read.1.latest ≡ latest_of cells))
+        (OrMemory no_memory (IsOfDocument 1 (RefusesSite site.now))) }
+{
+    show_document(alloc, 1, site, &LatestStamp::new())
+}
+
+/// The latest stamp of the cells that were seen.
+#[derive(Drop)]
+pub(crate) struct LatestStamp {
+    pub(crate) latest: Option<Stamp>,
+}
+
+impl LatestStamp {
+    /// That of no cell.
+    pub(crate) fn new() -> LatestStamp
+        ensures { result.latest ≡ None }
+    {
+        LatestStamp { latest: None }
+    }
+}
+
+impl<'t> CellSink<'t> for LatestStamp {
+    ghost Holds = { λ first stamps seen. stamps.latest ≡ latest_of seen };
+
+    fn begin(&self, _alloc: Global) -> Result<LatestStamp, AllocError> {
+        Ok(LatestStamp::new())
+    }
+
+    fn see(&mut self, _alloc: Global, cell: CellRef<'_, 't>) -> Result<(), AllocError> {
+        self.latest = later(self.latest, cell.stamp);
+        Ok(())
+    }
+}

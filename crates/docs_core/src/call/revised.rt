@@ -1,0 +1,136 @@
+//! Keys of language maps before and after an editor worked on them.
+ghost use Rattle.std.specs.Prelude.{◌≡◌, ◌+◌, ◌∷◌, ◌<◌, [], IfSome, MatchOption, None, Some, cond};
+ghost use Rattle.std.specs.Prelude.{length, option_map};
+ghost use Rattle.std.specs.Bool.{Decides};
+ghost use Rattle.cell_core.specs.Keyed.{IsMap};
+ghost use Rattle.cata_core.specs.Entries.{key_cmp};
+ghost use Rattle.map_docs.specs.LangMaps.{labels_of};
+ghost use Rattle.site_docs.specs.Sink.{texts_of};
+ghost use Rattle.docs_core.specs.Revised.{IsFirstRevised, key_of, new_of, old_of};
+ghost use Rattle.docs_core.specs.Updated.{IsChangeAt};
+
+use cell_core::{Key, Label};
+use map_docs::KeyedLabel;
+use site_docs::LabelRef;
+use std::cmp::Ordering;
+
+/// A key of language maps, with its label before an editor worked on them, and as it is now.
+#[derive(Drop)]
+pub(crate) struct Revised<'a> {
+    pub(crate) key: &'a KeyedLabel,
+    pub(crate) old: Option<&'a Label>,
+    pub(crate) new: Option<&'a Label>,
+}
+
+/// The least key of both lists, and what is left of them.
+pub(crate) fn first_revised<'a>(
+    old: &'a [KeyedLabel],
+    new: &'a [KeyedLabel],
+) -> Option<(Revised<'a>, &'a [KeyedLabel], &'a [KeyedLabel])>
+    requires old { IsMap key_cmp (labels_of old.now) }
+    requires new { IsMap key_cmp (labels_of new.now) }
+    ensures first { MatchOption result ((old.now ≡ []) × (new.now ≡ []))
+        (λ r. IsFirstRevised r.0 (labels_of old.now) (labels_of new.now) (labels_of r.1.now)
+        (labels_of r.2.now)) }
+    ensures less { IfSome result (λ r. length r.1.now + length r.2.now < length old.now + length
+        new.now) }
+{
+    match (old.split_first(), new.split_first()) {
+        (None, None) => None,
+        (Some((left, olds)), None) => Some((removed(left), olds, new)),
+        (None, Some((right, news))) => Some((added(right), old, news)),
+        (Some((left, olds)), Some((right, news))) => Some(match compare(left, right) {
+            Ordering::Less => (removed(left), olds, new),
+            Ordering::Greater => (added(right), old, news),
+            Ordering::Equal => (kept(left, right), olds, news),
+        }),
+    }
+}
+
+/// Whether a key has another label than before, and another than is held.
+pub(crate) fn is_change(held: &LabelRef<'_>, revised: &Revised<'_>) -> bool
+    ensures { IsChangeAt (old_of revised.now) (new_of revised.now) (texts_of held.now)
+        (cond result (Some (new_of revised.now)) None) }
+{
+    !are_equal(revised.old, revised.new) && !is_label(held, revised.new)
+}
+
+/// The order of two keys.
+fn compare(key: &KeyedLabel, other: &KeyedLabel) -> Ordering
+    ensures { result ≡ key_cmp (key.now.id, key.now.lang) (other.now.id, other.now.lang) }
+{
+    key.id.cmp(&other.id).then(key.lang.cmp(&other.lang))
+}
+
+/// A label that was there alone.
+fn removed(was: &KeyedLabel) -> Revised<'_>
+    ensures key { key_of result ≡ (was.now.id, was.now.lang) }
+    ensures old { old_of result ≡ Some was.now.label }
+    ensures new { new_of result ≡ None }
+{
+    Revised {
+        key: was,
+        old: Some(&was.label),
+        new: None,
+    }
+}
+
+/// A label that is there alone.
+fn added(is: &KeyedLabel) -> Revised<'_>
+    ensures key { key_of result ≡ (is.now.id, is.now.lang) }
+    ensures old { old_of result ≡ None }
+    ensures new { new_of result ≡ Some is.now.label }
+{
+    Revised {
+        key: is,
+        old: None,
+        new: Some(&is.label),
+    }
+}
+
+/// A label that was there and is there.
+fn kept<'a>(was: &'a KeyedLabel, is: &'a KeyedLabel) -> Revised<'a>
+    ensures key { key_of result ≡ (was.now.id, was.now.lang) }
+    ensures old { old_of result ≡ Some was.now.label }
+    ensures new { new_of result ≡ Some is.now.label }
+{
+    Revised {
+        key: was,
+        old: Some(&was.label),
+        new: Some(&is.label),
+    }
+}
+
+/// Whether a label is this one, without making one.
+fn is_label(held: &LabelRef<'_>, label: Option<&Label>) -> bool
+    ensures { Decides result (texts_of held.now ≡ option_map (λ l. l.now) label.entry) }
+{
+    match held {
+        LabelRef::Deleted => are_equal(None, label),
+        LabelRef::Text(text) => is_text(text, label),
+        LabelRef::Held(held) => are_equal(Some(held), label),
+        LabelRef::Made(held) => are_equal(Some(held), label),
+    }
+}
+
+/// Whether a label has this text alone.
+fn is_text(text: &str, label: Option<&Label>) -> bool
+    ensures { Decides result
+        (Some (text.now ∷ []) ≡ option_map (λ l. l.now) label.entry) }
+{
+    let Some(label) = label else {
+        return false;
+    };
+    match label.texts() {
+        [only] => only.as_str() == text,
+        _ => false,
+    }
+}
+
+/// Whether both have the same texts, or neither is there.
+fn are_equal(label: Option<&Label>, other: Option<&Label>) -> bool
+    ensures { Decides result (option_map (λ l. l.now) label.entry ≡ option_map
+        (λ l. l.now) other.entry) }
+{
+    label == other
+}
