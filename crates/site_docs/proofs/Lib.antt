@@ -7,7 +7,7 @@ pub mod PlainReads
 pub mod PlainStampsLemmas
 pub mod RoundTrip
 pub mod RowsDraftLemmas
-pub mod ClosingLemmas
+pub mod EnvelopeLemmas
 pub mod ShowingLemmas
 pub mod ShownRowsLemmas
 pub mod SiteDocumentsLemmas

@@ -1,6 +1,8 @@
 -- Texts that are put together from what is written.
 use Rattle.std.proofs.Common.{◌≡◌, ◌∙◌, ◌++◌, ℕ, List, [], ◌∷◌, Bool, true, false, codes, decimal}
-use Rattle.std.proofs.Common.{map, refl, ap, sym, subst, append_assoc, append-nil, inl, inr}
+use Rattle.std.proofs.Common.{map, refl, ap, sym, subst, append_assoc, append-nil, inl, inr, length}
+use Rattle.std.proofs.Common.{take}
+use Rattle.std.proofs.Math.Seq.{take-append_seam}
 use Rattle.std.proofs.lemmas.List.{map-append}
 use Rattle.std.proofs.lemmas.List.Elements.{All-nil}
 use Rattle.std.specs.Prelude.{IfSome, IsUtf8, None, Option, Some, get_or}
@@ -150,6 +152,16 @@ front_apart end row rest =
         → 91 ∷ (id ++ 44 ∷ (language ++ 44 ∷ (time ++ 44 ∷ (site ++ 44 ∷ (count ++ end ∷ rest)))))
         ≡ 91 ∷ (id ++ 44 ∷ (language ++ 44 ∷ (time ++ 44 ∷ (site ++ 44 ∷ count)))) ++ end ∷ rest
     apart id language time site count = simp append_assoc
+
+-- the text of a row begins with what comes before the comma of its label
+pub row_begins : (row : Row) (label : Option (List (List ℕ)))
+    → take (length (row_front row)) (compact_text (cell_value row label)) ≡ row_front row
+row_begins row label =
+    let rest = compact_text (label_value label) ++ 93 ∷ [] in
+    let text = row_taken row label (row_before row rest) rest [] refl refl
+    ∙ append-nil (compact_text (cell_value row label)) in
+    ap (take (length (row_front row))) (sym text ∙ front_apart 44 row rest)
+    ∙ take-append_seam (row_front row) (44 ∷ rest)
 
 -- with a bracket it is a row of a summary
 pub front_closed : (row : Row) (front : List ℕ) → front ≡ row_front row

@@ -10,7 +10,7 @@ use Rattle.cell_core.specs.Keyed.{IsMap}
 use Rattle.cata_core.specs.Entries.{Entries, Entry, key_cmp}
 use Rattle.row_docs.specs.Entries.{cells_values, entry_value}
 use Rattle.row_docs.specs.Valid.{IsKeptCell}
-use Rattle.site_docs.specs.Closing.{IsFront, cells_opening}
+use Rattle.site_docs.specs.Envelope.{IsFront, cells_opening}
 use Rattle.site_docs.specs.OpenRows.{HoldsOpen}
 use Rattle.site_docs.specs.Plain.{open_items}
 use Rattle.site_docs.specs.RowsDraft.{HoldsRows}

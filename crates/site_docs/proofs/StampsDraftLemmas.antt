@@ -7,7 +7,7 @@ use Rattle.cata_core.specs.Delta.{Stamps, summary_of}
 use Rattle.cata_core.specs.Entries.{Entries, Entry, EntryKey, key_cmp}
 use Rattle.row_docs.specs.Entries.{stamped_value, stamps_values}
 use Rattle.row_docs.specs.Valid.{IsKeptStamp}
-use Rattle.site_docs.specs.Closing.{IsStampsFront, stamps_opening}
+use Rattle.site_docs.specs.Envelope.{IsStampsFront, stamps_opening}
 use Rattle.site_docs.specs.OpenRows.{HoldsOpen}
 use Rattle.site_docs.specs.StampsDraft.{HoldsStamps}
 use Rattle.site_docs.specs.declared.stamps_draft.StampsDraft.{StampsDraft}

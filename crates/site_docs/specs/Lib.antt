@@ -1,4 +1,5 @@
 pub mod Documents
+pub mod Envelope
 pub mod OldDocuments
 pub mod OpenRows
 pub mod Plain
@@ -6,7 +7,6 @@ pub mod PlainRows
 pub mod PlainStamps
 pub mod ReadsAs
 pub mod RowsDraft
-pub mod Closing
 pub mod ShownRows
 pub mod Sink
 pub mod SiteDocuments

@@ -3,7 +3,7 @@ use Rattle.std.specs.Prelude.{All}
 use Rattle.cata_core.specs.Entries.{Entries}
 use Rattle.row_docs.specs.Entries.{cells_values}
 use Rattle.row_docs.specs.Valid.{IsKeptCell}
-use Rattle.site_docs.specs.Closing.{cells_opening}
+use Rattle.site_docs.specs.Envelope.{cells_opening}
 use Rattle.site_docs.specs.OpenRows.{HoldsOpen}
 use Rattle.site_docs.specs.declared.rows_draft.RowsDraft.{RowsDraft}
 

@@ -1,5 +1,5 @@
 -- Cells that are seen where they are.
-use Rattle.std.specs.Prelude.{◌≡◌, ◌++◌, ℕ, List, [], ◌∷◌, IfSome, None, Option, Some}
+use Rattle.std.specs.Prelude.{◌≡◌, ◌++◌, ℕ, List, [], ◌∷◌, IfSome, None, Option, Some, take}
 use Rattle.serde_json.specs.Written.{compact_text}
 use Rattle.cell_core.specs.Label.{IsLabel}
 use Rattle.cata_core.specs.Entries.{Entry}
@@ -34,8 +34,9 @@ entry_of cell = (
 )
 
 -- the row, where there is one, is the text of a cell as every catalogue keeps it; its front with a
--- bracket is that of its stamp
+-- bracket is the text of its stamp
 abbrev pub IsRowOf : CellRef → Type 0
 IsRowOf cell = IfSome cell.row (λ row. IsKeptCell (entry_of cell)
     × (row.text.now ≡ compact_text (entry_value (entry_of cell)))
-    × (row.front.now ++ 93 ∷ [] ≡ compact_text (stamped_value ((entry_of cell).0, cell.stamp))))
+    × (take row.front row.text.now ++ 93 ∷ []
+    ≡ compact_text (stamped_value ((entry_of cell).0, cell.stamp))))

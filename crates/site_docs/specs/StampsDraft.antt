@@ -4,7 +4,7 @@ use Rattle.cell_core.specs.SiteName.{IsSiteName}
 use Rattle.cata_core.specs.Delta.{Stamps}
 use Rattle.row_docs.specs.Entries.{stamps_values}
 use Rattle.row_docs.specs.Valid.{IsKeptStamp}
-use Rattle.site_docs.specs.Closing.{stamps_opening}
+use Rattle.site_docs.specs.Envelope.{stamps_opening}
 use Rattle.site_docs.specs.OpenRows.{HoldsOpen}
 use Rattle.site_docs.specs.declared.stamps_draft.StampsDraft.{StampsDraft}
 

@@ -1,6 +1,5 @@
 //! The documents of sites, deltas and summaries: read in any order of their members, and written.
 
-pub(crate) mod closing;
 pub(crate) mod envelope;
 pub(crate) mod reading;
 pub(crate) mod shown_rows;

@@ -9,8 +9,7 @@ ghost use Rattle.site_docs.specs.ReadsAs.{IsDeltaText, IsSiteText};
 ghost use Rattle.site_docs.specs.RowsDraft.{HoldsRows};
 ghost use Rattle.site_docs.specs.Sink.{IsLabelRef, IsRowOf, entry_of};
 
-use crate::document::closing::{closed, closed_copy, closed_delta};
-use crate::document::envelope::open_cells;
+use crate::document::envelope::{closed, closed_copy, closed_delta, open_cells};
 use crate::open_rows::OpenRows;
 use crate::sink::CellRef;
 use cell_core::{Cell, MessageId, SiteName};

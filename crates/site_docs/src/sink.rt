@@ -30,8 +30,9 @@ pub struct CellRef<'a, 't> {
 pub struct RowText<'t> {
     /// All of it.
     pub text: &'t str,
-    /// It as far as its stamp: with a bracket this is the row of a summary.
-    pub front: &'t str,
+    /// How many bytes of it come before the comma of its label: with a bracket they are the row of
+    /// a summary.
+    pub front: usize,
 }
 
 /// The label of a cell, which is made only where the text of the document does not show it.

@@ -1,15 +1,15 @@
 //! Documents of summaries that are being written: rows are copied from a site's, or made.
-ghost use Rattle.std.specs.Prelude.{◌≡◌, ◌++◌, ◌∷◌, [], ℕ, IfOk, List, OnOk};
+ghost use Rattle.std.specs.Prelude.{◌≡◌, ◌++◌, ◌∷◌, [], ℕ, IfOk, IfSome, List, OnOk, Some, take};
 ghost use Rattle.cell_core.specs.Keyed.{IsMap};
 ghost use Rattle.cata_core.specs.Delta.{Stamps, summary_of};
 ghost use Rattle.cata_core.specs.Entries.{key_cmp};
 ghost use Rattle.site_docs.specs.ReadsAs.{IsSummaryText};
 ghost use Rattle.site_docs.specs.StampsDraft.{HoldsStamps};
+ghost use Rattle.site_docs.specs.declared.sink.RowText.{RowText};
 
-use crate::document::closing::closed_summary;
-use crate::document::envelope::open_stamps;
+use crate::document::envelope::{closed_summary, open_stamps};
 use crate::open_rows::OpenRows;
-use crate::sink::{CellRef, CellSink};
+use crate::sink::{CellRef, CellSink, RowText};
 use cell_core::{MessageId, SiteName, Stamp};
 use json_docs::Doc;
 use lang_core::Lang;
@@ -69,9 +69,20 @@ impl<'t> CellSink<'t> for StampsDraft {
     }
 
     fn see(&mut self, alloc: Global, cell: CellRef<'_, 't>) -> Result<(), AllocError> {
-        match cell.row {
-            Some(row) => self.rows.add_front(row.front),
+        match front_of(&cell.row) {
+            Some(front) => self.rows.add_front(front),
             None => self.add(alloc, cell.id, cell.lang, cell.stamp),
         }
+    }
+}
+
+/// The row as far as its stamp.
+fn front_of<'t>(row: &Option<RowText<'t>>) -> Option<&'t str>
+    ensures { IfSome result (λ front. (text : RowText) × (row.now ≡ Some text)
+        × (front.now ≡ take text.front text.text.now)) }
+{
+    match row {
+        Some(row) => row.text.get(..row.front),
+        None => None,
     }
 }

@@ -1,6 +1,7 @@
 //! The rows of sites and deltas.
 ghost use Rattle.std.specs.Prelude.{◌≡◌, ◌↔◌, ◌++◌, ◌∷◌, [], List, ℕ, IfSome, IsTrue, Option};
-ghost use Rattle.std.specs.Prelude.{IfErr, IfOk, MatchResult, OnOk, Some, string_bytes};
+ghost use Rattle.std.specs.Prelude.{IfErr, IfOk, MatchResult, OnOk, Some, length, string_bytes};
+ghost use Rattle.std.specs.Prelude.{take};
 ghost use Rattle.std.specs.Ordering.{ordering_then};
 ghost use Rattle.std.specs.declared.cmp.Ordering.TheVariants.{Less};
 ghost use Rattle.json.specs.Print.{quoted};
@@ -20,10 +21,7 @@ ghost use Rattle.site_docs.specs.Unread.{RefusesSpelling};
 
 use crate::plain::labels::next_label;
 use crate::plain::languages::KnownLanguages;
-use crate::plain::texts::{
-    after, after_byte, escaped_text, number_before, text_before_comma, text_before_quote,
-    text_until,
-};
+use crate::plain::texts::{after, after_byte, escaped_text, number_before, text_before_quote};
 use crate::plain::unread::Unread;
 use crate::sink::{CellRef, CellSink, LabelRef, RowText};
 use cell_core::{CellFault, Key, MessageId, SiteName, Stamp};
@@ -168,7 +166,7 @@ fn show_cell<'t, S: CellSink<'t>>(
         → IsAboveAll (key_in row.now.front) before
         → S.Holds first sink.new (before ++ entry_in row.now.front label ∷ []))) }
 {
-    let front = text_before_comma(text, rest);
+    let front = length_before_comma(text, rest);
     let (label, written, left) = row_end(alloc, text, rest, row)?;
     let written = RowText {
         text: written,
@@ -201,6 +199,24 @@ pub(crate) fn row_end<'t>(
     let left = after_byte(bracket, b']')?;
     let written = text_until(text, left);
     Some((label, written, left))
+}
+
+/// How many bytes the text has before the comma and the rest with which it ends.
+#[inline(always)]
+fn length_before_comma(text: &str, rest: &str) -> usize
+    requires { (front : List ℕ) × (text.now ≡ front ++ 44 ∷ rest.now) }
+    ensures { (front : List ℕ) → text.now ≡ front ++ 44 ∷ rest.now → result ≡ length front }
+{
+    text.len() - rest.len() - 1
+}
+
+/// What the text has before the rest with which it ends.
+#[inline(always)]
+fn text_until<'t>(text: &'t str, rest: &str) -> &'t str
+    requires { (front : List ℕ) × (text.now ≡ front ++ rest.now) }
+    ensures { (front : List ℕ) → text.now ≡ front ++ rest.now → result.now ≡ front }
+{
+    &text[..text.len() - rest.len()]
 }
 
 /// What a row begins with, up to its count and this byte after that.
@@ -325,7 +341,8 @@ impl<'t> Spelled<'t> {
         ensures row { IsLabelText (texts_of label.entry)
             → row.entry.text.now
             ≡ compact_text (entry_value (entry_in self.now.front (texts_of label.entry)))
-            → row.entry.front.now ++ 93 ∷ [] ≡ compact_text (stamp_value (row_in self.now.front))
+            → take row.entry.front row.entry.text.now ++ 93 ∷ []
+            ≡ compact_text (stamp_value (row_in self.now.front))
             → IsRowOf result }
         ensures kept { IsLabelText (texts_of label.entry)
             → IsKeptCell (entry_in self.now.front (texts_of label.entry)) }

@@ -1,20 +1,20 @@
 //! The summary of a site, made as the rows of the site's document are read.
-ghost use Rattle.std.specs.Prelude.{◌≡◌, ◌++◌, List, ℕ, IfSome, MatchResult, codes};
+ghost use Rattle.std.specs.Prelude.{◌≡◌, IfSome, MatchResult};
 ghost use Rattle.cata_core.specs.Delta.{summary_of};
 ghost use Rattle.cata_core.specs.Site.{SiteState};
 ghost use Rattle.json_docs.specs.Checks.{OrMemory};
 ghost use Rattle.json_docs.specs.declared.fault.DocCause.TheVariants.{NoMemory};
 ghost use Rattle.row_docs.specs.Reading.{IsOfDocument, no_memory};
-ghost use Rattle.site_docs.specs.Plain.{IsEnd, last_members};
 ghost use Rattle.site_docs.specs.ReadsAs.{IsSummaryText, ReadsAsSite, RefusesSite};
 
 use crate::document::site_documents::show_members;
 use crate::document::writing::write_summary;
-use crate::plain::documents::{last_name, show_plain};
+use crate::plain::documents::show_plain;
+use crate::plain::written_rows::name_after_rows;
 use crate::stamps_draft::StampsDraft;
 use cata_core::Summary;
 use cell_core::SiteName;
-use json_docs::{Doc, DocCause, DocFault, text_in};
+use json_docs::{Doc, DocCause, DocFault};
 use row_docs::Kind;
 use std::alloc::Global;
 
@@ -36,18 +36,6 @@ pub fn document_summary(alloc: Global, document: usize, bytes: &[u8]) -> Result<
         }
         Err(cause) => Err(DocFault::of_document(document, cause)),
     }
-}
-
-/// The name in the members after the last bracket of a site's document, which ends its rows.
-pub(crate) fn name_after_rows(bytes: &[u8]) -> Option<SiteName>
-    ensures { IfSome result (λ name. (front end : List ℕ) × IsEnd end
-        × (bytes.now ≡ front ++ last_members (codes "site") (codes "site") name end)) }
-{
-    let bracket = bytes.iter().rposition(|byte| *byte == b']')?;
-    let Ok(members) = text_in(&bytes[bracket + 1..]) else {
-        return None;
-    };
-    last_name(members, Kind::Site)
 }
 
 /// The summary of the site of a document in any form.

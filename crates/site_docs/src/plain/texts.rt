@@ -98,24 +98,6 @@ pub(crate) fn number_before(text: &str, end: u8) -> Option<(u64, &str)>
     Some((number, left))
 }
 
-/// What the text has before the rest with which it ends.
-#[inline(always)]
-pub(crate) fn text_until<'t>(text: &'t str, rest: &str) -> &'t str
-    requires { (front : List ℕ) × (text.now ≡ front ++ rest.now) }
-    ensures { (front : List ℕ) → text.now ≡ front ++ rest.now → result.now ≡ front }
-{
-    &text[..text.len() - rest.len()]
-}
-
-/// What the text has before the comma and the rest with which it ends.
-#[inline(always)]
-pub(crate) fn text_before_comma<'t>(text: &'t str, rest: &str) -> &'t str
-    requires { (front : List ℕ) × (text.now ≡ front ++ 44 ∷ rest.now) }
-    ensures { (front : List ℕ) → text.now ≡ front ++ 44 ∷ rest.now → result.now ≡ front }
-{
-    &text[..text.len() - rest.len() - 1]
-}
-
 /// The string that the text begins with, where it may have escapes.
 pub(crate) fn escaped_text(alloc: Global, text: &str) -> Option<(String, &str)>
     ensures { IfSome result (λ r. text.now ≡ quoted (string_bytes r.0) ++ r.1.now) }

@@ -1,10 +1,11 @@
 //! The rows of a site's document as it is written, read one after another.
 ghost use Rattle.std.specs.Prelude.{◌≡◌, ◌<◌, ◌++◌, ◌∷◌, [], List, ℕ, IfSome, MatchOption};
-ghost use Rattle.std.specs.Prelude.{Some, length};
+ghost use Rattle.std.specs.Prelude.{Some, codes, length};
 ghost use Rattle.serde_json.specs.Written.{compact_text};
 ghost use Rattle.cata_core.specs.Entries.{Entries};
 ghost use Rattle.row_docs.specs.Entries.{entry_value};
 ghost use Rattle.row_docs.specs.Fields.{IsAfter};
+ghost use Rattle.site_docs.specs.Plain.{IsEnd, last_members};
 ghost use Rattle.site_docs.specs.PlainRows.{IsSpelled, key_in};
 ghost use Rattle.site_docs.specs.ReadsAs.{ReadsAsSite};
 ghost use Rattle.site_docs.specs.WrittenRows.{HasRead, IsRead, IsRowText, current_of, entry_at};
@@ -12,7 +13,6 @@ ghost use Rattle.site_docs.specs.WrittenRows.{entry_of, left_in};
 
 use crate::plain::documents::last_name;
 use crate::plain::rows::{Spelled, next_front, row_end};
-use crate::plain::summaries::name_after_rows;
 use crate::plain::texts::{after_byte, member_after};
 use crate::sink::LabelRef;
 use cell_core::{MessageId, SiteName, Stamp};
@@ -183,4 +183,16 @@ impl<'t> ReadRow<'t> {
             text: self.text,
         }
     }
+}
+
+/// The name in the members after the last bracket of a site's document, which ends its rows.
+pub(crate) fn name_after_rows(bytes: &[u8]) -> Option<SiteName>
+    ensures { IfSome result (λ name. (front end : List ℕ) × IsEnd end
+        × (bytes.now ≡ front ++ last_members (codes "site") (codes "site") name end)) }
+{
+    let bracket = bytes.iter().rposition(|byte| *byte == b']')?;
+    let Ok(members) = text_in(&bytes[bracket + 1..]) else {
+        return None;
+    };
+    last_name(members, Kind::Site)
 }

@@ -1,7 +1,7 @@
 use Rattle.std.proofs.Common.{◌∙◌, []}
 use Rattle.std.proofs.lemmas.Result.{IfOk-weaker}
 use Rattle.row_docs.specs.Entries.{cells_values, entry_value}
-use Rattle.site_docs.specs.Closing.{cells_opening}
+use Rattle.site_docs.specs.Envelope.{cells_opening}
 use Rattle.site_docs.proofs.OpenRowsLemmas.{one_row}
 use Rattle.site_docs.proofs.RowsDraftLemmas.{row_added}
 use Rattle.site_docs.proofs.rows_draft.RowsDraft.add_row.Goals as goal

@@ -1,5 +1,5 @@
 use Rattle.row_docs.specs.Entries.{cells_values}
-use Rattle.site_docs.specs.Closing.{cells_opening}
+use Rattle.site_docs.specs.Envelope.{cells_opening}
 use Rattle.site_docs.proofs.RowsDraftLemmas.{none_appended, rows_appended}
 use Rattle.site_docs.proofs.rows_draft.RowsDraft.append.Goals as goal
 

@@ -1,7 +1,8 @@
+use Rattle.std.proofs.Common.{◌∙◌, ◌++◌, ◌∷◌, [], ap}
 use Rattle.cell_core.proofs.AboveLemmas.{on_ok_then}
 use Rattle.cata_core.specs.Delta.{summary_of}
 use Rattle.row_docs.specs.Entries.{stamped_value, stamps_values}
-use Rattle.site_docs.specs.Closing.{stamps_opening}
+use Rattle.site_docs.specs.Envelope.{stamps_opening}
 use Rattle.site_docs.specs.Sink.{entry_of}
 use Rattle.site_docs.specs.declared.stamps_draft.StampsDraft.{StampsDraft}
 use Rattle.site_docs.proofs.StampsDraftLemmas.{cell_added, stamp_added}
@@ -10,7 +11,8 @@ use Rattle.site_docs.proofs.stamps_draft.StampsDraftCellSink.see.Goals as goal
 -- the row as far as its stamp, with a bracket
 pub returns-in-Some : goal.returns-in-Some
 returns-in-Some c =
-    let row = rw c.in-Some.is at c.requires.row in
+    let of = rw c.in-Some.is at c.front_of.ensures in
+    let row = rw of.1 at c.requires.row in
     let e = entry_of c.args.cell in
     let new : StampsDraft =
     record { owner = c.args.self.now.owner; rows = c.add_front.new.self } in
@@ -20,7 +22,8 @@ returns-in-Some c =
     (stamp_added c.args.self.now new first.owner
     (summary_of before) (e.0, e.1.stamp) has row.0.0
     (added (stamps_opening first.owner) (stamps_values (summary_of before))
-    (stamped_value (e.0, e.1.stamp)) has.rows row.2))) c.add_front.ensures
+    (stamped_value (e.0, e.1.stamp)) has.rows
+    (ap (λ front. front ++ 93 ∷ []) of.2 ∙ row.2)))) c.add_front.ensures
 
 -- the row that was made
 pub returns : goal.returns

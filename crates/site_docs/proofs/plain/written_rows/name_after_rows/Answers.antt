@@ -1,7 +1,7 @@
 use Rattle.std.proofs.Common.{◌∙◌, ◌+◌, ◌++◌, ap, sym, take}
 use Rattle.std.proofs.lemmas.List.{take-append-drop, take_rest}
 use Rattle.std.proofs.lemmas.Option.{IfSome_then}
-use Rattle.site_docs.proofs.plain.summaries.name_after_rows.Goals as goal
+use Rattle.site_docs.proofs.plain.written_rows.name_after_rows.Goals as goal
 
 pub returns : goal.returns
 returns c =

@@ -1,7 +1,7 @@
 use Rattle.std.proofs.Common.{◌≡◌, ◌∙◌, ◌+◌, ◌-◌, ap, arith, length, length-append, subst}
 use Rattle.std.specs.Str.{IsCharBoundary}
 use Rattle.std.proofs.lemmas.Str.{IsCharBoundary-at_seam}
-use Rattle.site_docs.proofs.plain.texts.text_until.Goals as goal
+use Rattle.site_docs.proofs.plain.rows.text_until.Goals as goal
 
 -- the rest begins where a letter does
 pub range-requires-clause-end_boundary : goal.range-requires-clause-end_boundary

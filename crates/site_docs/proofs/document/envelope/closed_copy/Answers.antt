@@ -1,6 +1,6 @@
 use Rattle.std.proofs.Common.{◌∙◌, ◌++◌, ap}
-use Rattle.site_docs.proofs.ClosingLemmas.{site_together}
-use Rattle.site_docs.proofs.document.closing.closed_copy.Goals as goal
+use Rattle.site_docs.proofs.EnvelopeLemmas.{site_together}
+use Rattle.site_docs.proofs.document.envelope.closed_copy.Goals as goal
 
 -- the bytes are the text and what follows the cells
 pub returns : goal.returns

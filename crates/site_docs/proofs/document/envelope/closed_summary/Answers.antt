@@ -1,6 +1,6 @@
 use Rattle.std.proofs.Common.{◌∙◌, ◌++◌, ap}
-use Rattle.site_docs.proofs.ClosingLemmas.{summary_together}
-use Rattle.site_docs.proofs.document.closing.closed_summary.Goals as goal
+use Rattle.site_docs.proofs.EnvelopeLemmas.{summary_together}
+use Rattle.site_docs.proofs.document.envelope.closed_summary.Goals as goal
 
 -- the bytes are the text and what follows the stamps
 pub returns : goal.returns
