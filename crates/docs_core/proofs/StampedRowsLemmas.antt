@@ -7,8 +7,8 @@ use Rattle.std.proofs.lemmas.List.{map-append, take-append-drop, take_more}
 use Rattle.std.proofs.lemmas.List.Elements.{All-append, All-cons, All-map, All-nil}
 use Rattle.std.specs.declared.cmp.Ordering.TheVariants.{Greater, Less}
 use Rattle.std.specs.FinMap.Entries.{below_all, find, find-put, is_sorted, is_sorted-put, put}
-use Rattle.std.specs.Ordering.{eq_by_cmp, is_lt, ordering_reverse}
-use Rattle.cell_core.specs.Cell.{AgreeCells, joined_cells, joined_stamps, stamp_cmp_total}
+use Rattle.std.specs.Ordering.{eq_by_cmp, ordering_reverse}
+use Rattle.cell_core.specs.Cell.{AgreeCells, joined_cells, stamp_cmp_total}
 use Rattle.cell_core.specs.Keyed.{IsMap, find-joined_maps, joined_if_both, joined_maps-IsMap}
 use Rattle.cell_core.specs.Keyed.{joined_of_maps, same_maps}
 use Rattle.cell_core.specs.Stamp.{IsAbove, IsNext, stamp_cmp}
@@ -31,12 +31,6 @@ use Rattle.docs_core.specs.SyncedRows.{IsSyncedTo}
 use Rattle.docs_core.specs.declared.call.stamped_rows.StampedRows.{StampedRows}
 use Rattle.docs_core.proofs.JoinedRowsLemmas.{apart_agrees, joined_first, joined_later}
 use Rattle.docs_core.proofs.LackedRowsLemmas.{above_before, above_one}
-
--- a stamp that is above the latest is the latest then
-pub latest_above : (last : Option Stamp) (s : Stamp) → IsAbove last s
-    → joined_if_both joined_stamps last (Some s) ≡ Some s
-latest_above None s above = refl
-latest_above (Some l) s above = ap (λ r. Some (cond (is_lt r) s l)) above
 
 -- ---- a cell that replaces an earlier one
 

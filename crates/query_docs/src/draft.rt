@@ -119,6 +119,7 @@ impl<'t> CellSink<'t> for Draft {
         Draft::new(alloc)
     }
 
+    #[inline(always)]
     fn see(&mut self, alloc: Global, cell: CellRef<'_, 't>) -> Result<(), AllocError> {
         self.add_seen(alloc, cell.id, cell.lang, &cell.label)
     }

@@ -48,6 +48,7 @@ impl<'t> CellSink<'t> for OneMessage<'_> {
         })
     }
 
+    #[inline(always)]
     fn see(&mut self, alloc: Global, cell: CellRef<'_, 't>) -> Result<(), AllocError> {
         if !self.id.cmp(cell.id).is_eq() {
             return Ok(());

@@ -2,14 +2,14 @@
 ghost use Rattle.std.specs.Prelude.{◌≡◌, ◌++◌, ◌∷◌, [], IfOk, OnOk, Some, cond};
 ghost use Rattle.std.specs.declared.cmp.Ordering.TheVariants.{Greater};
 ghost use Rattle.std.specs.FinMap.Entries.{put};
-ghost use Rattle.cell_core.specs.Cell.{joined_stamps};
-ghost use Rattle.cell_core.specs.Keyed.{IsMap, joined_if_both};
+ghost use Rattle.cell_core.specs.Keyed.{IsMap};
 ghost use Rattle.cata_core.specs.Entries.{Entries, EntryKey, key_cmp};
 ghost use Rattle.site_docs.specs.ReadsAs.{IsSiteText};
 ghost use Rattle.site_docs.specs.RowsDraft.{HoldsRows};
 ghost use Rattle.site_docs.specs.Sink.{IsLabelRef, IsRowOf, entry_of};
 ghost use Rattle.docs_core.specs.EditedRows.{HoldsEdited, after_key, before_key};
 
+use crate::call::latest_stamp::later;
 use cell_core::{Cell, Key, MessageId, SiteName, Stamp};
 use json_docs::Doc;
 use lang_core::Lang;
@@ -115,6 +115,7 @@ impl<'t, 'k> CellSink<'t> for EditedRows<'k> {
         })
     }
 
+    #[inline(always)]
     fn see(&mut self, alloc: Global, cell: CellRef<'_, 't>) -> Result<(), AllocError> {
         let order = self.order_of(cell.id, cell.lang);
         self.is_passed = order.is_gt();
@@ -144,15 +145,5 @@ fn add_beside(
         Ordering::Less => before.add(alloc, cell),
         Ordering::Equal => Ok(()),
         Ordering::Greater => after.add(alloc, cell),
-    }
-}
-
-/// The later of the stamps.
-pub(crate) fn later(latest: Option<Stamp>, stamp: Stamp) -> Option<Stamp>
-    ensures { result ≡ joined_if_both joined_stamps latest (Some stamp) }
-{
-    match latest {
-        Some(held) if !held.cmp(&stamp).is_lt() => Some(held),
-        _ => Some(stamp),
     }
 }

@@ -8,11 +8,9 @@ ghost use Rattle.site_docs.specs.Sink.{entry_of, texts_of};
 ghost use Rattle.docs_core.specs.FoundChanges.{HoldsFound, IsFound, IsNoted, changes_of};
 ghost use Rattle.docs_core.specs.Updated.{AreChanges};
 
-use crate::call::edited_rows::later;
-use crate::call::latest_stamp::LatestStamp;
-use crate::call::revised::{Revised, first_revised, is_change};
-use cell_core::{Key, Label, MessageId};
-use lang_core::Lang;
+use crate::call::latest_stamp::{LatestStamp, later};
+use crate::call::revised::{Revised, compare, first_revised, is_change};
+use cell_core::Label;
 use map_docs::{KeyedLabel, LangMaps};
 use site_docs::{CellRef, CellSink, LabelRef};
 use std::alloc::{AllocError, Global};
@@ -32,8 +30,9 @@ pub(crate) struct KeyChange<'k> {
 pub(crate) struct FoundChanges<'k> {
     old: &'k LangMaps,
     new: &'k LangMaps,
-    /// The labels of greater keys.
+    /// The old labels of greater keys.
     olds: &'k [KeyedLabel],
+    /// The new labels of greater keys.
     news: &'k [KeyedLabel],
     changes: Vec<KeyChange<'k>>,
     /// The latest stamp of all cells that were seen.
@@ -121,7 +120,7 @@ fn find_up_to<'k>(
     let mut olds = old;
     let mut news = new;
     while let Some((next, old_rest, new_rest)) = first_revised(olds, news) {
-        match order_to(next.key, cell.id, cell.lang) {
+        match compare(next.key, cell.id, cell.lang) {
             Ordering::Less => note(&next, &LabelRef::Deleted, changes)?,
             Ordering::Equal => note(&next, &cell.label, changes)?,
             Ordering::Greater => return Ok((olds, news)),
@@ -172,11 +171,4 @@ fn note<'k>(
         })?;
     }
     Ok(())
-}
-
-/// How the key of a label is ordered to this one.
-fn order_to(label: &KeyedLabel, id: &MessageId, lang: &Lang) -> Ordering
-    ensures { result ≡ key_cmp (label.now.id, label.now.lang) (id.now, lang.now) }
-{
-    label.id.cmp(id).then(label.lang.cmp(lang))
 }

@@ -8,16 +8,14 @@ ghost use Rattle.row_docs.specs.Reading.{no_memory};
 ghost use Rattle.site_docs.specs.ReadsAs.{IsSiteText, ReadsAsSite};
 ghost use Rattle.map_docs.specs.LangMaps.{Labelled};
 ghost use Rattle.docs_core.specs.Exchange.{IsImported, RefusesImport};
-ghost use Rattle.docs_core.specs.Imported.{Imports, SpendsImport, puts_of};
-ghost use Rattle.docs_core.specs.StampedRows.{HoldsStamped};
+ghost use Rattle.docs_core.specs.Imported.{Imports, SpendsImport};
 
 use crate::call::latest_stamp::{LatestStamp, latest_stamp};
 use crate::call::stamped_rows::StampedRows;
 use cata_core::{CataFault, Site};
-use cell_core::{Key, Label, MessageId, SiteName};
+use cell_core::SiteName;
 use json_docs::{Doc, DocFault};
-use lang_core::Lang;
-use map_docs::{LangMaps, TakeLabels, langmaps_of_document, take_langmaps};
+use map_docs::{LangMaps, langmaps_of_document, take_langmaps};
 use site_docs::{WrittenRows, site_at, write_site};
 use std::alloc::Global;
 
@@ -69,9 +67,10 @@ pub fn put_labels(
     Ok(())
 }
 
-/// The same where the site's document is as it is written: its rows are copied as they are read.
+/// What [`import_document`] answers where the site is in the form that is written: its rows are
+/// copied as they are read.
 ///
-/// `None` says nothing of the documents.
+/// `None` says nothing of the documents: see [`StampedRows::add`].
 fn imported_rows(
     alloc: Global,
     site: &[u8],
@@ -96,8 +95,7 @@ fn imported_rows(
     }
 }
 
-/// The document of the site of this name and with this latest stamp after each label was put, where
-/// it is as it is written.
+/// The same of labels that were read, into the site of this name and with this latest stamp.
 ///
 /// `None` says nothing of the document.
 fn with_labels(
@@ -128,7 +126,8 @@ fn with_labels(
     stamped.close(alloc)
 }
 
-/// The same of documents in any form, by way of the site in memory.
+/// What [`import_document`] answers of documents in any form: the site is read into memory, and
+/// edited there.
 fn imported_site(alloc: Global, site: &[u8], now: u64, langmaps: &[u8]) -> Result<Doc, DocFault>
     ensures { MatchResult result (IsImported site.now now langmaps.now)
         (OrMemory no_memory (RefusesImport site.now now langmaps.now)) }
@@ -139,14 +138,4 @@ fn imported_site(alloc: Global, site: &[u8], now: u64, langmaps: &[u8]) -> Resul
     drop(maps);
     let doc = write_site(alloc, &site)?;
     Ok(doc)
-}
-
-/// Writes each label, unless it can't.
-impl<'d> TakeLabels for StampedRows<'d> {
-    ghost Holds = { λ first stamped taken. (stamped.site.now ≡ first.site.now)
-        × HoldsStamped first.now first.name first.latest stamped (puts_of taken) };
-
-    fn take(&mut self, alloc: Global, id: &MessageId, lang: Lang, label: Label) -> Option<()> {
-        self.add(alloc, id, &lang, Some(label))
-    }
 }

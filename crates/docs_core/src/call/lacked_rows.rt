@@ -78,6 +78,7 @@ impl<'t, 'd> CellSink<'t> for LackedRows<'d> {
         })
     }
 
+    #[inline(always)]
     fn see(&mut self, alloc: Global, cell: CellRef<'_, 't>) -> Result<(), AllocError> {
         let (known, passed) = stamp_at(self.summary, self.passed, cell.id, cell.lang);
         self.passed = passed;

@@ -1,12 +1,13 @@
 //! The latest stamp of a site's document.
-ghost use Rattle.std.specs.Prelude.{◌≡◌, MatchResult, None};
+ghost use Rattle.std.specs.Prelude.{◌≡◌, MatchResult, None, Some};
+ghost use Rattle.cell_core.specs.Cell.{joined_stamps};
+ghost use Rattle.cell_core.specs.Keyed.{joined_if_both};
 ghost use Rattle.cata_core.specs.Entries.{Entries};
 ghost use Rattle.cata_core.specs.Latest.{latest_of};
 ghost use Rattle.json_docs.specs.Checks.{OrMemory};
 ghost use Rattle.row_docs.specs.Reading.{IsOfDocument, no_memory};
 ghost use Rattle.site_docs.specs.ReadsAs.{ReadsAsSite, RefusesSite};
 
-use crate::call::edited_rows::later;
 use cell_core::{SiteName, Stamp};
 use json_docs::DocFault;
 use site_docs::{CellRef, CellSink, show_document};
@@ -46,8 +47,19 @@ impl<'t> CellSink<'t> for LatestStamp {
         Ok(LatestStamp::new())
     }
 
+    #[inline(always)]
     fn see(&mut self, _alloc: Global, cell: CellRef<'_, 't>) -> Result<(), AllocError> {
         self.latest = later(self.latest, cell.stamp);
         Ok(())
+    }
+}
+
+/// The later of the stamps.
+pub(crate) fn later(latest: Option<Stamp>, stamp: Stamp) -> Option<Stamp>
+    ensures { result ≡ joined_if_both joined_stamps latest (Some stamp) }
+{
+    match latest {
+        Some(held) if !held.cmp(&stamp).is_lt() => Some(held),
+        _ => Some(stamp),
     }
 }

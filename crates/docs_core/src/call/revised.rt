@@ -9,7 +9,8 @@ ghost use Rattle.site_docs.specs.Sink.{texts_of};
 ghost use Rattle.docs_core.specs.Revised.{IsFirstRevised, key_of, new_of, old_of};
 ghost use Rattle.docs_core.specs.Updated.{IsChangeAt};
 
-use cell_core::{Key, Label};
+use cell_core::{Key, Label, MessageId};
+use lang_core::Lang;
 use map_docs::KeyedLabel;
 use site_docs::LabelRef;
 use std::cmp::Ordering;
@@ -39,27 +40,29 @@ pub(crate) fn first_revised<'a>(
         (None, None) => None,
         (Some((left, olds)), None) => Some((removed(left), olds, new)),
         (None, Some((right, news))) => Some((added(right), old, news)),
-        (Some((left, olds)), Some((right, news))) => Some(match compare(left, right) {
-            Ordering::Less => (removed(left), olds, new),
-            Ordering::Greater => (added(right), old, news),
-            Ordering::Equal => (kept(left, right), olds, news),
-        }),
+        (Some((left, olds)), Some((right, news))) => Some(
+            match compare(left, &right.id, &right.lang) {
+                Ordering::Less => (removed(left), olds, new),
+                Ordering::Greater => (added(right), old, news),
+                Ordering::Equal => (kept(left, right), olds, news),
+            },
+        ),
     }
 }
 
-/// Whether a key has another label than before, and another than is held.
+/// How the key of a label is ordered to this one.
+pub(crate) fn compare(label: &KeyedLabel, id: &MessageId, lang: &Lang) -> Ordering
+    ensures { result ≡ key_cmp (label.now.id, label.now.lang) (id.now, lang.now) }
+{
+    label.id.cmp(id).then(label.lang.cmp(lang))
+}
+
+/// Whether the label of a key was changed, and to another than the site has.
 pub(crate) fn is_change(held: &LabelRef<'_>, revised: &Revised<'_>) -> bool
     ensures { IsChangeAt (old_of revised.now) (new_of revised.now) (texts_of held.now)
         (cond result (Some (new_of revised.now)) None) }
 {
     !are_equal(revised.old, revised.new) && !is_label(held, revised.new)
-}
-
-/// The order of two keys.
-fn compare(key: &KeyedLabel, other: &KeyedLabel) -> Ordering
-    ensures { result ≡ key_cmp (key.now.id, key.now.lang) (other.now.id, other.now.lang) }
-{
-    key.id.cmp(&other.id).then(key.lang.cmp(&other.lang))
 }
 
 /// A label that was there alone.

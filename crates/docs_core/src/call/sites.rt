@@ -62,11 +62,7 @@ pub(crate) fn copy_of(alloc: Global, label: Option<&Label>) -> Result<Option<Lab
 }
 
 /// The least stamp of the site that is greater than the latest one and not before now.
-pub(crate) fn next_stamp(
-    latest: Option<Stamp>,
-    now: u64,
-    name: SiteName,
-) -> Result<Stamp, CataFault>
+fn next_stamp(latest: Option<Stamp>, now: u64, name: SiteName) -> Result<Stamp, CataFault>
     ensures { MatchResult result (IsNext latest now name)
         (λ fault. (fault ≡ ClockSpent) × NoNext latest now name) }
 {

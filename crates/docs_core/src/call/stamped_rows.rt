@@ -6,17 +6,17 @@ ghost use Rattle.cata_core.specs.Entries.{Entries, IsAboveAll};
 ghost use Rattle.cata_core.specs.Latest.{latest_of};
 ghost use Rattle.site_docs.specs.ReadsAs.{IsSiteText, ReadsAsSite};
 ghost use Rattle.site_docs.specs.WrittenRows.{HasRead, current_of};
+ghost use Rattle.docs_core.specs.Imported.{puts_of};
 ghost use Rattle.docs_core.specs.Made.{Change, Makes};
 ghost use Rattle.docs_core.specs.StampedRows.{HoldsStamped};
 ghost use Rattle.docs_core.specs.SyncedRows.{IsSyncedBefore, IsSyncedTo, order_to};
 
-use crate::call::edited_rows::later;
 use crate::call::latest_stamp::LatestStamp;
-use crate::call::sites::next_stamp;
 use crate::call::synced_rows::{advance, write_all, write_before};
 use cell_core::{Cell, Label, MessageId, SiteName, Stamp};
 use json_docs::Doc;
 use lang_core::Lang;
+use map_docs::TakeLabels;
 use site_docs::{RowsDraft, WrittenRows};
 use std::alloc::{AllocError, Global};
 
@@ -84,12 +84,12 @@ impl<'d> StampedRows<'d> {
             → HoldsStamped now name last self.old taken
             → HoldsStamped now name last self.new (taken ++ ((id.now, lang.now), label) ∷ [])) }
     {
-        let Ok(stamp) = next_stamp(self.latest, self.now, self.name) else {
+        let Ok(stamp) = Stamp::next(self.latest, self.now, self.name) else {
             return None;
         };
         let cell = Cell::new(stamp, label);
         write_change(alloc, id, lang, &cell, &mut self.rows, &mut self.draft)?;
-        self.latest = later(self.latest, cell.stamp());
+        self.latest = Some(cell.stamp());
         Some(())
     }
 
@@ -117,6 +117,16 @@ impl<'d> StampedRows<'d> {
             Ok(doc) => Some(doc),
             Err(_) => None,
         }
+    }
+}
+
+/// Writes each label with the next stamp, between the rows.
+impl<'d> TakeLabels for StampedRows<'d> {
+    ghost Holds = { λ first stamped taken. (stamped.site.now ≡ first.site.now)
+        × HoldsStamped first.now first.name first.latest stamped (puts_of taken) };
+
+    fn take(&mut self, alloc: Global, id: &MessageId, lang: Lang, label: Label) -> Option<()> {
+        self.add(alloc, id, &lang, Some(label))
     }
 }
 

@@ -106,10 +106,10 @@ fn both_maps(alloc: Global, old: &[u8], new: &[u8]) -> Result<(LangMaps, LangMap
     Ok((old, new))
 }
 
-/// The document of the site after the changes from the old labels to the new ones, where it is as
-/// it is written: its rows are copied as they are read.
+/// The document of the site after the changes from the old labels to the new ones, where it is in
+/// the form that is written: its rows are copied as they are read.
 ///
-/// `None` says nothing of the document.
+/// `None` says nothing of the document: see [`StampedRows::add`].
 fn updated_rows(
     alloc: Global,
     site: &[u8],
@@ -158,7 +158,8 @@ fn with_changes(
     stamped.close(alloc)
 }
 
-/// The same of a document in any form, by way of the site in memory.
+/// The document of the site after the changes from the old labels to the new ones, whatever its
+/// form: it is read into memory, and edited there.
 ///
 /// Refused as a reader's with document 1, then where there is no next stamp for a change (14). Out
 /// of memory (26) may come before.

@@ -1,9 +1,7 @@
 use Rattle.std.proofs.Common.{◌∙◌, ◌++◌, [], ◌∷◌, None, Some, ap, refl, subst}
-use Rattle.cell_core.specs.Cell.{joined_stamps}
-use Rattle.cell_core.specs.Keyed.{joined_if_both}
 use Rattle.cell_core.specs.declared.cell.Cell.{Cell}
 use Rattle.docs_core.specs.SyncedRows.{IsSyncedTo}
-use Rattle.docs_core.proofs.StampedRowsLemmas.{latest_above, stamped_more}
+use Rattle.docs_core.proofs.StampedRowsLemmas.{stamped_more}
 use Rattle.docs_core.proofs.call.stamped_rows.StampedRows.add.Goals as goal
 
 -- the change has the next stamp
@@ -11,10 +9,8 @@ pub returns-clause-holds : goal.returns-clause-holds
 returns-clause-holds c = λ now name last taken above holds.
     let old = c.args.self.now in
     let stamp = c.in-Ok.stamp in
-    let latest = c.later-self.ensures
-    ∙ ap (λ s. joined_if_both joined_stamps old.latest (Some s))
-    (c.stamp.ensures ∙ ap (λ (d : Cell). d.stamp) c.new-cell.ensures)
-    ∙ latest_above old.latest stamp c.in-Ok.ensures.new.above in
+    let latest =
+    ap Some (c.stamp.ensures ∙ ap (λ (d : Cell). d.stamp) c.new-cell.ensures) in
     stamped_more now name last old _ taken ((c.args.id.now, c.args.lang.now), c.args.label) stamp
     holds above c.in-Ok.ensures
     (λ seen greater so_far. subst (λ (d : Cell). IsSyncedTo None old.site.now

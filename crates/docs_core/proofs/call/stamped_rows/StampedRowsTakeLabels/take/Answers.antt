@@ -4,7 +4,7 @@ use Rattle.cata_core.specs.Entries.{EntryKey}
 use Rattle.docs_core.specs.Imported.{puts_of}
 use Rattle.docs_core.specs.StampedRows.{HoldsStamped}
 use Rattle.docs_core.proofs.StampedRowsLemmas.{puts_above, puts_more}
-use Rattle.docs_core.proofs.call.importing.StampedRowsTakeLabels.take.Goals as goal
+use Rattle.docs_core.proofs.call.stamped_rows.StampedRowsTakeLabels.take.Goals as goal
 
 -- the rows are read as far as they are joined
 pub add-requires : goal.add-requires
