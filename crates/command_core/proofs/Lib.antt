@@ -2,7 +2,6 @@ pub mod ActsLemmas
 pub mod AppLemmas
 pub mod FaultLineLemmas
 pub mod InputLemmas
-pub mod MatchesLemmas
 pub mod ProgramLemmas
 pub mod QuestionsLemmas
 pub mod TaskLemmas

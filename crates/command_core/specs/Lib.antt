@@ -7,7 +7,6 @@ pub mod Explaining
 pub mod FaultLine
 pub mod FieldWords
 pub mod Help
-pub mod Matches
 pub mod Program
 pub mod Reading
 pub mod Status

@@ -1,8 +1,9 @@
 -- The tasks that the arguments of each command give (project rules).
-use Rattle.std.specs.Prelude.{◌≡◌, ℕ, Bool, true, false, List, Option, None, Some, codes}
+use Rattle.std.specs.Prelude.{◌≡◌, ◌<◌, ◌^◌, ℕ, Bool, true, false, List, Option, None, Some, codes}
 use Rattle.std.specs.Prelude.{option_and_then, option_map, if◌then◌else◌, MatchOption}
 use Rattle.std.specs.Str.{bytes_eq}
-use Rattle.clap.specs.Words.{Row, Text, first_of}
+use Rattle.std.specs.Str.Parse.{IsNumeral, digits_value, without_leading_plus}
+use Rattle.clap.specs.Words.{Row, Text, first_of, one_of}
 use Rattle.front_core.specs.declared.exchange.View.{View as SiteView}
 use Rattle.front_core.specs.declared.exchange.View.TheVariants as view
 use Rattle.command_core.specs.AskWords.{FilterWords, LookupWords, OutdatedWords}
@@ -11,10 +12,32 @@ use Rattle.command_core.specs.AskWords.{filter_words, is_refusal, lookup_words, 
 use Rattle.command_core.specs.AskWords.{pick_all_words, pick_words}
 use Rattle.command_core.specs.EditWords.{EditWords, delete_words, put_words}
 use Rattle.command_core.specs.FieldWords.{PreferenceWords, is_given, preference_words}
-use Rattle.command_core.specs.Matches.{GivesNumbers}
 use Rattle.command_core.specs.declared.documents.DocumentTask.{DocumentTask}
 use Rattle.command_core.specs.declared.documents.DocumentTask.TheVariants as document
-use Rattle.command_core.specs.declared.matches.Numbers.{Numbers}
+use Rattle.command_core.specs.declared.task.Numbers.{Numbers}
+
+-- the number of 64 bits that a text is in decimal digits, where a plus may come first, or none
+-- where it is no such number
+abbrev pub IsNumberOf : Text → Option ℕ → Type 0
+IsNumberOf text None =
+    ¬ (IsNumeral 10 (without_leading_plus text)
+    × (digits_value 10 (without_leading_plus text) < 2 ^ 64))
+IsNumberOf text (Some n) =
+    IsNumeral 10 (without_leading_plus text)
+    × (digits_value 10 (without_leading_plus text) < 2 ^ 64)
+    × (n ≡ digits_value 10 (without_leading_plus text))
+
+-- the number that this argument gives
+abbrev pub GivesNumber : Text → List Row → Option ℕ → Type 0
+GivesNumber id rows number =
+    MatchOption (one_of id rows) (number ≡ None) (λ text. IsNumberOf text number)
+
+-- the moment, the latest time that is taken, and the number of a refusal
+abbrev pub GivesNumbers : List Row → Numbers → Type 0
+GivesNumbers rows numbers =
+    GivesNumber (codes "now") rows numbers.now
+    × GivesNumber (codes "not-after") rows numbers.not_after
+    × GivesNumber (codes "number") rows numbers.number
 
 -- what the program is asked to do, by the words of its arguments
 pub data TaskWords : Type 0 where

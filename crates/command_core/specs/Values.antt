@@ -7,7 +7,7 @@ use Rattle.command_core.specs.TaskWords.{TaskWords, Pick, PickAll, New, Edit, Do
 use Rattle.command_core.specs.TaskWords.{Outdated, Changes, Filter, Lookup, Bundle, Sync, Replay}
 use Rattle.command_core.specs.TaskWords.{Explain, View}
 use Rattle.command_core.specs.declared.edits.EditValues.{EditValues}
-use Rattle.command_core.specs.declared.matches.PreferenceValues.{PreferenceValues}
+use Rattle.command_core.specs.declared.task.PreferenceValues.{PreferenceValues}
 use Rattle.command_core.specs.declared.task.Task.{Task}
 use Rattle.command_core.specs.declared.task.Task.TheVariants as task
 

@@ -23,7 +23,6 @@ mod edits;
 mod explaining;
 mod fault_line;
 pub mod laws;
-mod matches;
 mod output;
 mod program;
 mod questions;

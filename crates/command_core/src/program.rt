@@ -7,10 +7,7 @@ ghost use Rattle.command_core.specs.Program.{MatchesBy, RunsBy, ReportsBy};
 ghost use Rattle.command_core.specs.Streams.{reads, streams, writes};
 ghost use Rattle.command_core.specs.Words.{bare_app, lexicat_app};
 
-use crate::commands::exchange::with_exchange;
-use crate::commands::labels::with_labels;
-use crate::commands::questions::with_questions;
-use crate::commands::sites::with_sites;
+use crate::commands::{with_exchange, with_labels, with_questions, with_sites};
 use crate::fault_line::refuse_for_memory;
 use crate::status;
 use crate::task::act;

@@ -1,19 +1,20 @@
-//! What follows clap: the task that the arguments name, and how it is done.
+//! What follows clap: the values of the arguments, the task that they name, and how it is done.
 ghost use Rattle.std.specs.Prelude.{◌≡◌, false, map, option_map};
-ghost use Rattle.clap.specs.Words.{found_of, rows_of, subcommand_rows_of};
+ghost use Rattle.std.specs.Option.{option_copied};
+ghost use Rattle.clap.specs.Words.{all_of, first_of, found_of, rows_of, subcommand_rows_of};
+ghost use Rattle.front_core.specs.Preferences.{field_text};
 ghost use Rattle.command_core.specs.Acts.{ActsBy, Treats};
 ghost use Rattle.command_core.specs.EditWords.{edit_words};
+ghost use Rattle.command_core.specs.FieldWords as spec;
 ghost use Rattle.command_core.specs.Streams.{reads, streams, writes};
-ghost use Rattle.command_core.specs.TaskWords.{Edit, GivesTask, Replay, pick_task};
-ghost use Rattle.command_core.specs.Values.{task_values};
+ghost use Rattle.command_core.specs.TaskWords.{Edit, GivesNumber, GivesNumbers, GivesTask};
+ghost use Rattle.command_core.specs.TaskWords.{Replay, pick_task};
+ghost use Rattle.command_core.specs.Values.{preference_values, task_values};
 
 use crate::documents::DocumentTask;
 use crate::edits::EditValues;
 use crate::explaining::{Explained, refusal_of};
 use crate::fault_line::{refuse, refuse_arguments};
-use crate::matches::{
-    PreferenceValues, field_of, is_given, numbers_of, preferences_of, text_bytes, text_of, texts_of,
-};
 use crate::output::finish;
 use crate::questions::ask;
 use crate::{documents, edits, explaining, sites, status};
@@ -21,7 +22,7 @@ use clap::ArgMatches;
 use docs_core::{Sink, Source};
 use front_core::words::{filter_answer, pick_answer};
 use front_core::{Field, Filter, FrontFault, Lookup, Missing, Outdated, Preferences, View};
-use nego_core::Widening;
+use nego_core::{Malformed, Scheme, Widening};
 use std::alloc::Global;
 
 /// Does what the matches say, and gives the status: what is written is the text that the call of
@@ -75,6 +76,26 @@ enum Task<'m, 'a> {
     Sync(Option<u64>),
     Replay,
     Explain(Explained),
+}
+
+/// What a reader prefers: a field, and a default where there is one.
+#[derive(Clone, Copy)]
+struct PreferenceValues<'a> {
+    /// The ranges, and how they are read.
+    field: Field<'a>,
+    /// The language of `--default`.
+    default: Option<&'a [u8]>,
+}
+
+/// The numbers among the arguments.
+#[derive(Clone, Copy)]
+struct Numbers {
+    /// The moment, `--now`.
+    now: Option<u64>,
+    /// The latest time that is taken, `--not-after`.
+    not_after: Option<u64>,
+    /// The number of a refusal.
+    number: Option<u64>,
 }
 
 /// The task of clap's matches, where they name a command of the program, no argument is missing,
@@ -157,6 +178,124 @@ fn edit_of<'m, 'a>(
         lang: text_of(matches, "lang")?,
         texts,
     }))
+}
+
+/// The first text of an argument.
+fn text_of<'a>(matches: &ArgMatches<'a>, id: &str) -> Option<&'a str>
+    ensures { option_map (λ s. s.now) result ≡ first_of id.now (rows_of (found_of matches.now)) }
+{
+    matches.get_str(id)
+}
+
+/// All texts of an argument.
+fn texts_of<'m, 'a>(matches: &'m ArgMatches<'a>, id: &str) -> Option<&'m [&'a str]>
+    ensures { option_map (λ s. map (λ v. v.now) s.now) result
+        ≡ all_of id.now (rows_of (found_of matches.now)) }
+{
+    matches.get_strs(id)
+}
+
+/// The numbers that the arguments give.
+fn numbers_of(matches: &ArgMatches<'_>) -> Numbers
+    ensures { GivesNumbers (rows_of (found_of matches.now)) result }
+{
+    Numbers {
+        now: number_of(matches, "now"),
+        not_after: number_of(matches, "not-after"),
+        number: number_of(matches, "number"),
+    }
+}
+
+/// The field of an argument, read as `--scheme`, `--lenient` and `--widen` say.
+fn field_of<'a>(matches: &ArgMatches<'a>, id: &str) -> Option<Field<'a>>
+    ensures { option_map field_text result ≡ spec.field_of id.now (rows_of (found_of matches.now)) }
+{
+    let text = text_of(matches, id)?;
+    let scheme = scheme_of(text_of(matches, "scheme"));
+    let malformed = malformed_of(is_given(matches, "lenient"));
+    let widening = widening_of(is_given(matches, "widen"), scheme);
+    Some(Field {
+        scheme,
+        malformed,
+        widening,
+        text: text.as_bytes(),
+    })
+}
+
+/// The preferences whose field is this argument.
+fn preferences_of<'a>(matches: &ArgMatches<'a>, id: &str) -> Option<PreferenceValues<'a>>
+    ensures { option_map preference_values result
+        ≡ spec.preference_words id.now (rows_of (found_of matches.now)) }
+{
+    let field = field_of(matches, id)?;
+    let default = text_bytes(matches, "default");
+    Some(PreferenceValues { field, default })
+}
+
+/// The bytes of an argument's first text.
+fn text_bytes<'a>(matches: &ArgMatches<'a>, id: &str) -> Option<&'a [u8]>
+    ensures { option_map (λ s. s.now) result ≡ first_of id.now (rows_of (found_of matches.now)) }
+{
+    match text_of(matches, id) {
+        None => None,
+        Some(text) => Some(text.as_bytes()),
+    }
+}
+
+/// Whether an option without a value is given.
+fn is_given(matches: &ArgMatches<'_>, id: &str) -> bool
+    ensures { result ≡ spec.is_given (first_of id.now (rows_of (found_of matches.now))) }
+{
+    is_true(text_of(matches, id))
+}
+
+/// The number that an argument gives.
+fn number_of(matches: &ArgMatches<'_>, id: &str) -> Option<u64>
+    ensures { GivesNumber id.now (rows_of (found_of matches.now)) result }
+{
+    matches.get_one::<u64>(id)
+}
+
+/// The scheme of an argument; where there is none, the basic one.
+fn scheme_of(word: Option<&str>) -> Scheme
+    ensures { result ≡ spec.scheme_of (option_copied word.entry) }
+{
+    match word {
+        Some("extended") => Scheme::Extended,
+        _ => Scheme::Basic,
+    }
+}
+
+/// Whether an option has the text that clap gives it where it is present; else it has "false".
+fn is_true(word: Option<&str>) -> bool
+    ensures { result ≡ spec.is_given (option_copied word.entry) }
+{
+    match word {
+        Some("true") => true,
+        _ => false,
+    }
+}
+
+/// Whether ranges find what they match by the scheme.
+fn widening_of(widens: bool, scheme: Scheme) -> Widening
+    ensures { result ≡ spec.widening_of widens scheme }
+{
+    if widens {
+        Widening::By(scheme)
+    } else {
+        Widening::Off
+    }
+}
+
+/// What becomes of malformed elements.
+fn malformed_of(is_lenient: bool) -> Malformed
+    ensures { result ≡ spec.malformed_of is_lenient }
+{
+    if is_lenient {
+        Malformed::PassedOver
+    } else {
+        Malformed::Refused
+    }
 }
 
 /// Does the task, and gives the status.

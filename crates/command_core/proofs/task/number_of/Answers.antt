@@ -3,9 +3,9 @@ use Rattle.std.specs.Prelude.{MatchOption}
 use Rattle.std.specs.Str.Parse.{ParsesUnsigned, ExplainsUnsignedError, HasUnsignedDigitsIfOk}
 use Rattle.clap.specs.Words.{Text, found_of, one_text}
 use Rattle.clap.proofs.WalkLemmas.{one_text-rows}
-use Rattle.command_core.specs.Matches.{IsNumberOf}
-use Rattle.command_core.proofs.MatchesLemmas.{gives_number}
-use Rattle.command_core.proofs.matches.number_of.Goals as goal
+use Rattle.command_core.specs.TaskWords.{IsNumberOf}
+use Rattle.command_core.proofs.TaskLemmas.{gives_number}
+use Rattle.command_core.proofs.task.number_of.Goals as goal
 
 pub returns : goal.returns
 returns c =

@@ -1,6 +1,6 @@
 use Rattle.std.proofs.Common.{Ok, refl}
 use Rattle.command_core.proofs.AppLemmas.{with_command}
-use Rattle.command_core.proofs.commands.questions.with_questions.Goals as goal
+use Rattle.command_core.proofs.commands.with_questions.Goals as goal
 
 pub returns : goal.returns
 returns c =

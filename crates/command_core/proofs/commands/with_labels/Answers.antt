@@ -1,6 +1,6 @@
 use Rattle.std.proofs.Common.{Ok, refl}
 use Rattle.command_core.proofs.AppLemmas.{with_command}
-use Rattle.command_core.proofs.commands.labels.with_labels.Goals as goal
+use Rattle.command_core.proofs.commands.with_labels.Goals as goal
 
 -- The program has these six subcommands after those that it had: each was added to what the one
 -- before it gave, and where memory ended nothing is promised.

@@ -1,6 +1,6 @@
 use Rattle.std.proofs.lemmas.Result.{IfOk-weaker}
 use Rattle.command_core.proofs.AppLemmas.{added, preferred}
-use Rattle.command_core.proofs.commands.sites.pick.Goals as goal
+use Rattle.command_core.proofs.commands.pick.Goals as goal
 
 pub returns : goal.returns
 returns c =

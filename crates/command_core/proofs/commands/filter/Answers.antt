@@ -1,6 +1,6 @@
 use Rattle.std.proofs.lemmas.Result.{IfOk-weaker}
 use Rattle.command_core.proofs.AppLemmas.{added}
-use Rattle.command_core.proofs.commands.questions.filter.Goals as goal
+use Rattle.command_core.proofs.commands.filter.Goals as goal
 
 pub returns : goal.returns
 returns c =

@@ -1,6 +1,6 @@
 use Rattle.std.proofs.lemmas.Result.{IfOk-weaker}
 use Rattle.command_core.proofs.AppLemmas.{added}
-use Rattle.command_core.proofs.commands.labels.outdated.Goals as goal
+use Rattle.command_core.proofs.commands.outdated.Goals as goal
 
 pub returns : goal.returns
 returns c =
