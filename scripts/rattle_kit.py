@@ -60,11 +60,13 @@ def once_a_crate(stamp):
     return stamp_once
 
 
-def in_lanes(tasks):
+def in_lanes(tasks, beside=0):
     """Runs tasks side by side, each once those that it waits for have ended, first those with the
     most work after them, and returns what each gave. A task is what it waits for, its work in lines,
     its memory in bytes, and a call that gets what was given so far and how many jobs it may use. A task
-    that others wait for gets processors as if those were not there for which none waits."""
+    that others wait for gets processors as if those were not there for which none waits. As many of
+    these as `beside` says run where no processor is free: they are to have a lower priority, and a
+    check with as many jobs as there are processors leaves some idle while it reads and writes."""
     # (of what rt plans for a check at most half was seen to be taken)
     lanes, memory = len(os.sched_getaffinity(0)), 2 * 0.85 * free_memory()
     after, awaited = {key: 0 for key in tasks}, {it for waits, *_ in tasks.values() for it in waits}
@@ -73,6 +75,7 @@ def in_lanes(tasks):
         for it in tasks[key][0]:
             after[it] = max(after[it], after[key])
     given, running, left = {}, {}, sorted(tasks, key=lambda it: -after[it])
+    is_last = lambda it: it[0] not in awaited
     with ThreadPoolExecutor(2 * lanes) as pool:
         while left or running:
             ready = [it for it in left if all(below in given for below in tasks[it][0])]
@@ -80,9 +83,13 @@ def in_lanes(tasks):
                 _, _, needs, call = tasks[key]
                 is_rival = lambda it: it in awaited or key not in awaited
                 idle = lanes - sum(jobs for it, _, jobs in running.values() if is_rival(it))
+                if key not in awaited and sum(map(is_last, running.values())) < beside:
+                    idle = max(idle, 1)
                 room = memory - sum(used for _, used, _ in running.values())
-                if idle < 1 or running and needs > room:
+                if running and needs > room:
                     break
+                if idle < 1:
+                    continue
                 share = -(-idle // sum(map(is_rival, ready[at:])))
                 jobs = max(1, min(4, share, 1 + int((room / needs - 1) / 0.6)))
                 used = needs * (1 + 0.6 * (jobs - 1))
