@@ -31,6 +31,7 @@ pub mod laws;
 mod lookup_text;
 mod lower_text;
 mod matching;
+mod packed_tag;
 mod parts;
 mod pieces;
 mod range;
@@ -44,6 +45,7 @@ mod truncations;
 
 pub use fault::LangFault;
 pub use lang::Lang;
+pub use packed_tag::PackedTag;
 pub use range::Range;
 pub use subtags::Subtags;
 pub use tag::Tag;

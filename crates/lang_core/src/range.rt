@@ -18,6 +18,7 @@ use crate::fault::LangFault;
 use crate::lookup_text::LookupText;
 use crate::lower_text::{LowerText, MAX_LEN};
 use crate::matching::{matches_basic, matches_basic_text, matches_extended};
+use crate::packed_tag::PackedTag;
 use crate::pieces::{HYPHEN, Pieces};
 use crate::range_syntax::{basic_fault, extended_fault, is_star};
 use crate::subtags::Subtags;
@@ -171,6 +172,14 @@ impl Range {
         ensures { IsTrue result ↔ Extended (pieces self.now) (pieces tag.now) }
     {
         matches_extended(self.text.as_bytes(), tag.as_str().as_bytes())
+    }
+
+    /// The same of a tag whose subtags are packed: many ranges are compared with one tag by far
+    /// fewer steps.
+    pub fn matches_packed(&self, tag: &PackedTag) -> bool
+        ensures { IsTrue result ↔ Extended (pieces self.now) (pieces tag.now) }
+    {
+        tag.is_matched_by(self.text.as_bytes())
     }
 
     /// The lookup text and its truncations, longest first, as slices of it (RFC 4647 section 3.4).

@@ -1,9 +1,9 @@
 -- Items in chains.
-use Rattle.std.proofs.Common.{ℕ, ◌≡◌, ◌≢◌, ◌≤◌, ◌<◌, ◌+◌, ◌*◌, ◌⊎◌, List, [], ◌∷◌, ◌++◌, Option}
+use Rattle.std.proofs.Common.{ℕ, ◌≡◌, ◌≢◌, ◌≤◌, ◌<◌, ◌+◌, ◌⊎◌, List, [], ◌∷◌, ◌++◌, Option}
 use Rattle.std.proofs.Common.{Some, None}
 use Rattle.std.proofs.Common.{true, false, inl, inr, length, get_or, refl, sym, ◌∙◌, ap, subst}
 use Rattle.std.proofs.Common.{arith}
-use Rattle.std.specs.Prelude.{AllPairs, Contains, nat_eq, slice_set, replicate, sum_by}
+use Rattle.std.specs.Prelude.{AllPairs, Contains, nat_eq, slice_set, replicate}
 use Rattle.std.specs.List.{list_any, slice_get}
 use Rattle.std.specs.Str.{bytes_eq}
 use Rattle.std.proofs.lemmas.Bool.{cases_Bool, cases_lt, cases_eq}
@@ -18,11 +18,8 @@ use Rattle.std.proofs.lemmas.List.Quantifiers.{all_pairs_push}
 use Rattle.std.proofs.lemmas.Nat.{mod_below}
 use Rattle.std.proofs.lemmas.Option.{slice_get_within}
 use Rattle.lang_core.specs.Text.{pieces}
-use Rattle.lang_core.specs.Grammar.{is_star, is_run, is_private_piece, are_allowed, tag_piece}
-use Rattle.lang_core.specs.Tag.{IsTag}
+use Rattle.lang_core.specs.Grammar.{is_star}
 use Rattle.lang_core.specs.Matching.{Embeds, Extended, without_stars, specificity}
-use Rattle.lang_core.proofs.Basics.{each_true}
-use Rattle.lang_core.proofs.PiecesLemmas.{size_pieces, size_cons}
 use Rattle.nego_core.proofs.Basics.{false_true, contains_first, contains_later, contains_cases}
 use Rattle.nego_core.proofs.Basics.{same_at}
 use Rattle.nego_core.proofs.MostSpecificLemmas.{best_same, better_joins, Before, passed, newest}
@@ -33,7 +30,7 @@ use Rattle.nego_core.specs.Item.{Item}
 use Rattle.nego_core.specs.Fingerprint.{fingerprint_of}
 use Rattle.nego_core.specs.Chains.{chain_of, MayStandIn, AreNumbers, IsNextIn, AreLinksFrom}
 use Rattle.nego_core.specs.Chains.{AreLinked, StandsIn, StandsAmong, IsChainOfOne, AreChainsOf}
-use Rattle.nego_core.specs.declared.chains.TheConstants.{LAST_CHAIN, CHAIN_COUNT, MAX_SUBTAGS}
+use Rattle.nego_core.specs.declared.chains.TheConstants.{LAST_CHAIN, CHAIN_COUNT}
 use Rattle.nego_core.specs.declared.chains.Chains.{Chains}
 
 -- ---- what a range that matches has, the tag has
@@ -295,30 +292,6 @@ asked_whole Fits items numbers chain place best end a =
     all_before (FitsIn Fits numbers chain) items place best end a.so_far
 
 -- ---- the chains of a tag's subtags
-
--- a piece of a tag has a byte
-sized_piece : (s : List ℕ) → is_private_piece s ≡ true → 0 < length s
-unfolding is_private_piece is_run
-sized_piece [] h = cc
-sized_piece (b ∷ s) h = omega arith
-
-sized_pieces : (place : ℕ) (list : List (List ℕ)) → are_allowed tag_piece place list ≡ true
-    → 2 * length list ≤ sum_by (λ s. length s + 1) list
-sized_pieces place [] h = omega arith
-sized_pieces place (s ∷ list) h =
-    let parts = each_true (tag_piece place s) (are_allowed tag_piece (place + 1) list) h in
-    let rest = sized_pieces (place + 1) list parts.1 in
-    let one = sized_piece s parts.0 in
-    omega (arith, size_cons s list)
-
--- A tag has no more subtags than the most.
-pub few_subtags : (tag text : List ℕ) → text ≡ tag → IsTag text
-    → length (pieces tag) ≤ MAX_SUBTAGS
-few_subtags tag text e h =
-    let most = h.0.1 in
-    let size = size_pieces 45 text in
-    let half = sized_pieces 0 (pieces text) h.1 in
-    subst (λ (t : List ℕ). length (pieces t) ≤ MAX_SUBTAGS) e (omega arith)
 
 same_number : (m n : ℕ) → nat_eq m n ≡ true → m ≡ n
 same_number m n h = grind (arith, nat_tests)

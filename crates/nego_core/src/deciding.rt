@@ -10,7 +10,7 @@ ghost use Rattle.nego_core.specs.declared.chains.TheConstants.{CHAIN_COUNT};
 use crate::chains::{Chains, LAST_CHAIN, chains_of_tag};
 use crate::item::{Item, first_byte};
 use crate::scheme::Scheme;
-use lang_core::Tag;
+use lang_core::{PackedTag, Tag};
 
 /// The item that decides a tag or a language.
 #[derive(Clone, Copy)]
@@ -48,10 +48,11 @@ pub(crate) fn best_extended(items: &[Item], chains: &Chains, tag: &Tag) -> Optio
     requires { AreChains items.now chains.now }
     ensures { IsBest (λ _ i. Extended (pieces i.range) (pieces tag.now)) items.now result }
 {
-    let mut best = best_in(items, chains, LAST_CHAIN, tag);
+    let packed = PackedTag::new(tag);
+    let mut best = best_in(items, chains, LAST_CHAIN, &packed);
     let asked = chains_of_tag(tag);
     for chain in asked.as_slice() {
-        best = better_of(best, best_in(items, chains, usize::from(*chain), tag));
+        best = better_of(best, best_in(items, chains, usize::from(*chain), &packed));
     }
     best
 }
@@ -77,7 +78,7 @@ pub(crate) fn better_of(
 }
 
 /// The best of the items of one chain that match under the extended match.
-fn best_in(items: &[Item], chains: &Chains, chain: usize, tag: &Tag) -> Option<MostSpecific>
+fn best_in(items: &[Item], chains: &Chains, chain: usize, tag: &PackedTag) -> Option<MostSpecific>
     requires linked { AreChains items.now chains.now }
     requires within { chain < CHAIN_COUNT }
     ensures { (numbers : List ℕ) → AreLinked items.now numbers chains.now
@@ -89,7 +90,7 @@ fn best_in(items: &[Item], chains: &Chains, chain: usize, tag: &Tag) -> Option<M
     while place < items.len() {
         let item = &items[place];
         let specificity = item.specificity();
-        if is_above(best, specificity) && item.range().matches_extended(tag) {
+        if is_above(best, specificity) && item.range().matches_packed(tag) {
             best = Some(MostSpecific { place, specificity });
         }
         place = chains.next[place];

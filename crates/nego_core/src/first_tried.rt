@@ -2,7 +2,7 @@
 //! asks each language once, and not once for each range.
 ghost use Rattle.std.specs.Prelude.{◌≡◌, ◌≤◌, IfOk, length};
 ghost use Rattle.lang_core.specs.Text.{pieces};
-ghost use Rattle.lang_core.specs.Matching.{Basic};
+ghost use Rattle.lang_core.specs.Matching.{Basic, Extended};
 ghost use Rattle.nego_core.specs.Deciding.{Matches};
 ghost use Rattle.nego_core.specs.FirstTried.{AreFirstTried, IsFirstTried, earlier_of};
 
@@ -10,7 +10,7 @@ use crate::indexed_items::IndexedItems;
 use crate::item::{Item, first_byte};
 use crate::lookup_order::OrderKey;
 use crate::scheme::Scheme;
-use lang_core::Tag;
+use lang_core::{PackedTag, Tag};
 use std::alloc::{AllocError, Global};
 
 const HYPHEN: u8 = b'-';
@@ -52,6 +52,26 @@ pub(crate) fn first_match(items: &[Item], keys: &[OrderKey], scheme: Scheme, tag
         match items.get(key.place) {
             Some(item) => {
                 if item.matches(scheme, tag, first) {
+                    return at;
+                }
+            }
+            None => {}
+        }
+    }
+    keys.len()
+}
+
+/// The same under the extended match.
+pub(crate) fn first_extended_match(items: &[Item], keys: &[OrderKey], tag: &Tag) -> usize
+    ensures { IsFirstTried (λ i. Extended (pieces i.range) (pieces tag.now)) items.now keys.now
+        result }
+{
+    let first = first_byte(tag.as_str());
+    let packed = PackedTag::new(tag);
+    for (at, key) in keys.iter().enumerate() {
+        match items.get(key.place) {
+            Some(item) => {
+                if item.matches_packed(&packed, first) {
                     return at;
                 }
             }

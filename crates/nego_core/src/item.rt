@@ -3,12 +3,12 @@ ghost use Rattle.std.specs.Prelude.{◌≡◌, ◌≤◌, ◌↔◌, IsTrue};
 ghost use Rattle.std.specs.Str.{bytes_eq};
 ghost use Rattle.nego_core.specs.Deciding.{Matches};
 ghost use Rattle.lang_core.specs.Text.{pieces};
-ghost use Rattle.lang_core.specs.Matching.{specificity};
+ghost use Rattle.lang_core.specs.Matching.{Extended, specificity};
 ghost use Rattle.std.specs.Cmp as laws_of;
 ghost use Rattle.nego_core.specs.Item.{first_byte, item_eq, item_equiv};
 
 use crate::scheme::Scheme;
-use lang_core::{Range, Tag};
+use lang_core::{PackedTag, Range, Tag};
 use std::fmt;
 use std::marker::Model;
 
@@ -88,6 +88,17 @@ impl Item {
             Scheme::Basic => self.range.matches_basic(tag),
             Scheme::Extended => self.range.matches_extended(tag),
         }
+    }
+
+    /// Whether the range matches the tag, whose first byte is known, by the extended match.
+    pub(crate) fn matches_packed(&self, tag: &PackedTag, first: u8) -> bool
+        requires { first ≡ first_byte (pieces tag.now) }
+        ensures { IsTrue result ↔ Extended (pieces self.now.range) (pieces tag.now) }
+    {
+        if self.first != first && self.first != b'*' {
+            return false;
+        }
+        self.range.matches_packed(tag)
     }
 
     /// The number of the range's subtags other than "*".

@@ -25,7 +25,7 @@ ghost use Rattle.nego_core.specs.declared.fault.NegoFault.TheVariants.{NoMemory}
 use crate::deciding::Decision;
 use crate::fault::NegoFault;
 use crate::field::{Malformed, read_items};
-use crate::first_tried::{first_basic_match, first_match, first_tried_of};
+use crate::first_tried::{first_basic_match, first_extended_match, first_match, first_tried_of};
 use crate::index::{Index, index_of};
 use crate::indexed_items::IndexedItems;
 use crate::item::Item;
@@ -211,6 +211,7 @@ impl PriorityList {
                 &self.firsts,
                 tag.as_str().as_bytes(),
             ),
+            (Scheme::Extended, _) => first_extended_match(&self.items, &self.order, tag),
             _ => first_match(&self.items, &self.order, scheme, tag),
         }
     }

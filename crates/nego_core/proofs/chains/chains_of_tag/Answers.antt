@@ -3,7 +3,8 @@ use Rattle.std.specs.Prelude.{nat_eq}
 use Rattle.std.specs.List.{list_any}
 use Rattle.lang_core.specs.Text.{pieces}
 use Rattle.lang_core.specs.Subtags.{subtags_left}
-use Rattle.nego_core.proofs.ChainsLemmas.{few_subtags, old_chain, new_chain}
+use Rattle.lang_core.proofs.PackedTagLemmas.{few_subtags}
+use Rattle.nego_core.proofs.ChainsLemmas.{old_chain, new_chain}
 use Rattle.nego_core.proofs.ChainsLemmas.{all_chains}
 use Rattle.nego_core.proofs.chains.chains_of_tag.Goals as goal
 

@@ -13,7 +13,7 @@ use Rattle.nego_core.proofs.deciding.best_extended.Goals as goal
 pub loop-chain-init : goal.loop-chain-init
 loop-chain-init c = λ numbers h.
     last_asked (λ i. Extended (pieces i.range) (pieces c.args.tag.now)) c.args.items.now numbers
-    c.best_in-best.result (c.best_in-best.ensures numbers h)
+    c.best_in-best.result (rw c.new-packed.ensures at (c.best_in-best.ensures numbers h))
 
 pub best_in-requires-clause-within : goal.best_in-requires-clause-within
 best_in-requires-clause-within c =
@@ -36,7 +36,8 @@ loop-chain-preserved c = λ numbers h.
     rw (more, c.better_of-best.ensures)
     (one_asked (λ i. Extended (pieces i.range) (pieces c.args.tag.now)) c.args.items.now numbers
     (take k xs) (get_or xs k 0) c.loop-chain.best c.best_in.result
-    (c.loop-chain.invariant numbers h) (rw c.from.ensures at (c.best_in.ensures numbers h)))
+    (c.loop-chain.invariant numbers h)
+    (rw (c.from.ensures, c.new-packed.ensures) at (c.best_in.ensures numbers h)))
 
 pub returns : goal.returns
 returns c =

@@ -4,9 +4,9 @@ use Rattle.lang_core.specs.Matching.{Extended}
 use Rattle.nego_core.proofs.Basics.{stands_at, same_default, false_true}
 use Rattle.nego_core.proofs.ChainsLemmas.{asked_better, asked_passed, asked_whole}
 use Rattle.nego_core.proofs.deciding.best_in.Goals as goal
-use Rattle.nego_core.proofs.deciding.best_in.Goals.{then-is_above+then-matches_extended}
+use Rattle.nego_core.proofs.deciding.best_in.Goals.{then-is_above+then-matches_packed}
 use Rattle.nego_core.proofs.deciding.best_in.Goals.{else-is_above}
-use Rattle.nego_core.proofs.deciding.best_in.Goals.{else-is_above-via-then-is_above+else-matches_extended}
+use Rattle.nego_core.proofs.deciding.best_in.Goals.{else-is_above-via-then-is_above+else-matches_packed}
 use Rattle.nego_core.proofs.deciding.best_in.Goals.{else-is_above-via-else-is_above}
 
 -- The best is that of the items asked so far: this one takes its place where it has more subtags
@@ -24,7 +24,7 @@ loop-place-preserved c = λ numbers h.
     (let e = h.links_ok.each in let m = h.numbers_ok.as_many in let low =
     c.loop-place-test.true in omega arith) in
     elim c.if-is_above.branch [
-      | then-is_above+then-matches_extended w ↦
+      | then-is_above+then-matches_packed w ↦
           rw w.best-is
           (asked_better (λ i. Extended (pieces i.range) (pieces c.args.tag.now)) c.args.items.now
           numbers c.args.chains.now c.args.chain c.loop-place.place
@@ -32,7 +32,7 @@ loop-place-preserved c = λ numbers h.
           c.index-items-place.result c.loop-place.best h c.loop-place-test.true next stands
           c.specificity-specificity.ensures
           (subst (λ (r : List ℕ). Extended (pieces r) (pieces c.args.tag.now)) w.range.ensures
-          (w.matches_extended.ensures.0 w.if-matches_extended.true))
+          (w.matches_packed.ensures.0 w.if-matches_packed.true))
           (sym c.is_above.ensures ∙ w.if-is_above.true) (c.loop-place.invariant numbers h))
       | else-is_above w ↦
           rw w.best-is
@@ -41,11 +41,11 @@ loop-place-preserved c = λ numbers h.
           c.index-place-in-loop-place.result.now c.index-items-place.result c.loop-place.best h
           c.loop-place-test.true next stands
           (λ f. elim w.else-is_above.branch [
-            | else-is_above-via-then-is_above+else-matches_extended v ↦
+            | else-is_above-via-then-is_above+else-matches_packed v ↦
                 absurd
                 (false_true
-                (sym v.if-matches_extended.false
-                ∙ v.matches_extended.ensures.1
+                (sym v.if-matches_packed.false
+                ∙ v.matches_packed.ensures.1
                 (subst (λ (r : List ℕ). Extended (pieces r) (pieces c.args.tag.now))
                 (sym v.range.ensures) f)))
             | else-is_above-via-else-is_above v ↦
