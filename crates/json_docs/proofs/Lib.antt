@@ -1,5 +1,6 @@
 pub mod ArraysLemmas
 pub mod ChecksLemmas
+pub mod LastMemberLemmas
 pub mod LineFeed
 pub mod MembersLemmas
 pub mod NumbersLemmas

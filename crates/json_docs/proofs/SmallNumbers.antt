@@ -12,7 +12,7 @@ use Rattle.json.specs.Lex.{tokens}
 use Rattle.serde_json.specs.Data.{Num, unsigned, negative, float, Data, null, boolean, number}
 use Rattle.serde_json.specs.Data.{string, array, object, Items, no_items, item, Members, no_members}
 use Rattle.serde_json.specs.Data.{member, put}
-use Rattle.serde_json.specs.Find.{as_array, as_number, as_u64, get, get_member}
+use Rattle.serde_json.specs.Find.{as_array, as_u64, get, get_member}
 use Rattle.serde_json.specs.Read.{max_depth, number_of, of_items, of_json, of_members, read}
 use Rattle.cata_core.proofs.Basics.{second_so, some_same}
 use Rattle.json_docs.specs.Parts.{items_in, list_of, narrowed, u32_in, u64_in}

@@ -1,6 +1,7 @@
 pub mod Arrays
 pub mod Checks
 pub mod Faults
+pub mod LastMember
 pub mod MembersRead
 pub mod Numbers
 pub mod Parts

@@ -1,7 +1,7 @@
 -- Parts of JSON data: items, numbers and texts.
 use Rattle.std.specs.Prelude.{ℕ, ◌^◌, List, [], ◌∷◌, Option, None, Some, nat_lt, if◌then◌else◌}
 use Rattle.std.specs.Prelude.{option_map, option_and_then}
-use Rattle.serde_json.specs.Data.{Data, number, Items, no_items, item}
+use Rattle.serde_json.specs.Data.{Data, Items, no_items, item}
 use Rattle.serde_json.specs.Find.{as_array, as_number, as_str, as_u64}
 
 -- the items of an array, as a list

@@ -16,6 +16,7 @@
 mod doc;
 mod fault;
 mod json_text;
+pub mod laws;
 mod stream;
 
 pub use doc::Doc;
