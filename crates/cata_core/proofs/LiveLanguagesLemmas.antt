@@ -26,7 +26,7 @@ use Rattle.cata_core.specs.Entries.{text_cmp}
 use Rattle.nego_core.specs.Shortlist.{IsChosenBy as IsChosenAmong, IsThere}
 use Rattle.cata_core.specs.declared.reply.Reply.{Reply}
 use Rattle.cata_core.specs.declared.reply.Reply.TheVariants.{Matched, Default, Nothing}
-use Rattle.cata_core.specs.Asking.{Finds, IsChosenBy, IsLookedUpBy}
+use Rattle.cata_core.specs.Asking.{Finds, IsChosenIn, IsLookedUpIn}
 use Rattle.cata_core.specs.LiveReplies.{IsReplyTo}
 use Rattle.cata_core.specs.Live.{Labelled, languages, is_live}
 use Rattle.cata_core.proofs.Basics.{false_if, tied}
@@ -67,7 +67,7 @@ found_live (By scheme) labels items text l =
 
 -- what is chosen without widening
 pub chosen_off : (labels : Labelled) (items : List Item) (default : Option (List ℕ)) (c : Choice)
-    → IsChosen items (is_live labels) default c → IsChosenBy Off labels items default c
+    → IsChosen items (is_live labels) default c → IsChosenIn Off labels items default c
 chosen_off labels items default (choice.Matched text) h = h
 chosen_off labels items default choice.Default h = h
 chosen_off labels items default choice.Nothing h = h
@@ -76,7 +76,7 @@ chosen_off labels items default choice.Nothing h = h
 pub chosen_by : (scheme : Scheme) (labels : Labelled) (items : List Item)
     (default : Option (List ℕ)) (c : Choice)
     → IsChosenWidened scheme items (languages labels) default c
-    → IsChosenBy (By scheme) labels items default c
+    → IsChosenIn (By scheme) labels items default c
 chosen_by scheme labels items default (choice.Matched text) h = h
 chosen_by scheme labels items default choice.Default h = (
   h.0,
@@ -93,14 +93,14 @@ chosen_by scheme labels items default choice.Nothing h = (
 pub chosen_within : (widening : Widening) (labels : Labelled) (items : List Item)
     (default : Option (List ℕ)) (c : Choice)
     → IsChosenAmong widening items (languages labels) default c
-    → IsChosenBy widening labels items default c
+    → IsChosenIn widening labels items default c
 chosen_within Off labels items default c h = chosen_off labels items default c
     (subst (λ (held : List ℕ → Bool). IsChosen items held default c) (same_sets labels) h)
 chosen_within (By scheme) labels items default c h = chosen_by scheme labels items default c h
 
 -- what is chosen is live
 pub chosen_there : (widening : Widening) (labels : Labelled) (items : List Item)
-    (default : Option (List ℕ)) (c : Choice) → IsChosenBy widening labels items default c
+    (default : Option (List ℕ)) (c : Choice) → IsChosenIn widening labels items default c
     → IsThere (languages labels) default c
 chosen_there widening labels items default (choice.Matched text) h =
     among_live labels text.now ∙ found_live widening labels items text.now h
@@ -111,8 +111,8 @@ chosen_there widening labels items default choice.Nothing h = tt
 -- the reply to a choice is the answer
 pub replied : (widening : Widening) (labels : Labelled) (items : List Item)
     (default : Option (List ℕ)) (c : Choice) (reply : Reply)
-    → IsChosenBy widening labels items default c → IsReplyTo labels default c reply
-    → IsLookedUpBy widening labels items default reply
+    → IsChosenIn widening labels items default c → IsReplyTo labels default c reply
+    → IsLookedUpIn widening labels items default reply
 replied widening labels items default (choice.Matched text) (Matched lang label) h r =
     (subst (λ t. Finds widening labels items (Some (pieces t))) (sym r.0) h, r.1)
 replied widening labels items default (choice.Matched text) (Default lang label) h r = absurd r

@@ -12,7 +12,7 @@ use Rattle.nego_core.specs.declared.widening.Widening.{Widening}
 use Rattle.cell_core.specs.Keyed.{IsMap, same_maps}
 use Rattle.cata_core.specs.declared.reply.Reply.{Reply}
 use Rattle.cata_core.specs.declared.reply.Reply.TheVariants.{Matched, Default, Nothing}
-use Rattle.cata_core.specs.Asking.{IsLookedUpBy, IsLookupAnswerBy}
+use Rattle.cata_core.specs.Asking.{IsLookedUpIn, IsLookupAnswerBy}
 use Rattle.cata_core.specs.Entries.{text_cmp, Entries}
 use Rattle.cata_core.specs.Flat.{flat, inner_of}
 use Rattle.cata_core.specs.Live.{Labelled, live_of, live}
@@ -166,7 +166,7 @@ no_labels (label ∷ rest) = λ e. absurd (cc)
 
 -- over no labels a lookup answers nothing
 nothing_live : (widening : Widening) (items : List Item) (default : Option (List ℕ)) (reply : Reply)
-    → IsLookedUpBy widening [] items default reply → reply ≡ Nothing
+    → IsLookedUpIn widening [] items default reply → reply ≡ Nothing
 nothing_live widening items default (Matched lang label) = λ h.
     let none : None ≡ Some label = h.1 in absurd (cc)
 nothing_live widening items default (Default lang label) = λ h.
@@ -178,12 +178,12 @@ module _ (cells : Entries) (messages : List LiveMessage) (are : AreMessages cell
   -- a message answers a lookup, widened or not, as the catalogue does
   pub a_message_answers : (labels : Labelled) → find text_cmp id messages ≡ Some labels
       → (widening : Widening) (items : List Item) (default : Option (List ℕ)) (reply : Reply)
-      → IsLookedUpBy widening labels items default reply
+      → IsLookedUpIn widening labels items default reply
       ↔ IsLookupAnswerBy widening cells id items default reply
   a_message_answers labels found widening items default reply =
       let same = labels_are labels (live cells id) (sym (are.each id) ∙ found) in (
-        λ h. subst (λ (l : Labelled). IsLookedUpBy widening l items default reply) same h,
-        λ h. subst (λ (l : Labelled). IsLookedUpBy widening l items default reply) (sym same) h,
+        λ h. subst (λ (l : Labelled). IsLookedUpIn widening l items default reply) same h,
+        λ h. subst (λ (l : Labelled). IsLookedUpIn widening l items default reply) (sym same) h,
       )
 
   -- where a message has no live labels its lookup answers nothing
@@ -192,5 +192,5 @@ module _ (cells : Entries) (messages : List LiveMessage) (are : AreMessages cell
       → IsLookupAnswerBy widening cells id items default reply → reply ≡ Nothing
   no_message_answers found widening items default reply h =
       let none = no_labels (live cells id) (sym (are.each id) ∙ found) in
-      let over = subst (λ (l : Labelled). IsLookedUpBy widening l items default reply) none h in
+      let over = subst (λ (l : Labelled). IsLookedUpIn widening l items default reply) none h in
       nothing_live widening items default reply over

@@ -17,7 +17,7 @@ use Rattle.cata_core.specs.Entries.{EntryKey, key_cmp, key_cmp_total, key_cmp_ex
 use Rattle.cata_core.specs.Entries.{Entry, Entries, Agree, joined}
 use Rattle.cata_core.specs.Delta.{Stamps, summary_of, is_missing, delta_of}
 use Rattle.cata_core.specs.Live.{Labelled, live_of, live}
-use Rattle.cata_core.specs.Asking.{Weighed, IsFilteredOf, IsFilterAnswer, IsLookedUpBy}
+use Rattle.cata_core.specs.Asking.{Weighed, IsFilteredOf, IsFilterAnswer, IsLookedUpIn}
 use Rattle.cata_core.specs.Asking.{IsLookupAnswer, IsLookupAnswerBy}
 use Rattle.cata_core.specs.Parts.{part_of}
 use Rattle.cata_core.proofs.Basics.{tied}
@@ -226,8 +226,8 @@ pub part_looks_up_by : (messages : List ℕ → Bool) (cells : Entries) (id : Li
     ↔ IsLookupAnswerBy widening cells id items default answer
 part_looks_up_by messages cells id inside widening items default answer =
     let same = live_in_part messages id inside cells in (
-      λ h. subst (λ (l : Labelled). IsLookedUpBy widening l items default answer) same h,
-      λ h. subst (λ (l : Labelled). IsLookedUpBy widening l items default answer) (sym same) h,
+      λ h. subst (λ (l : Labelled). IsLookedUpIn widening l items default answer) same h,
+      λ h. subst (λ (l : Labelled). IsLookedUpIn widening l items default answer) (sym same) h,
     )
 
 -- the same of RFC 4647's lookup

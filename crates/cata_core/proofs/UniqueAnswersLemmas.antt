@@ -18,7 +18,7 @@ use Rattle.cata_core.specs.declared.reply.Reply.{Reply}
 use Rattle.cata_core.specs.declared.reply.Reply.TheVariants.{Matched, Default, Nothing}
 use Rattle.cata_core.specs.Entries.{text_cmp, Entries}
 use Rattle.cata_core.specs.Live.{Labelled, live, languages, is_live}
-use Rattle.cata_core.specs.Asking.{Weighed, picked, Finds, IsFilterAnswer, IsLookedUpBy}
+use Rattle.cata_core.specs.Asking.{Weighed, picked, Finds, IsFilterAnswer, IsLookedUpIn}
 use Rattle.cata_core.specs.Asking.{IsLookupAnswer, IsLookupAnswerBy}
 use Rattle.cata_core.specs.Answer.{IsAnswered, AreAnswersBy}
 use Rattle.cata_core.proofs.Basics.{some_same}
@@ -61,7 +61,7 @@ module _ (widening : Widening) (labels : Labelled) (items : List Item) where
 
   -- an answer over the labels is one
   pub one_reply : (default : Option (List ℕ)) (a b : Reply)
-      → IsLookedUpBy widening labels items default a → IsLookedUpBy widening labels items default b
+      → IsLookedUpIn widening labels items default a → IsLookedUpIn widening labels items default b
       → a ≡ b
   one_reply default (Matched x p) (Matched y q) f g =
       let found = one_found widening labels items (Some (pieces x)) (Some (pieces y)) f.0 g.0 in

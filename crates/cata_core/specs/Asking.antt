@@ -46,27 +46,27 @@ Finds Off labels items = IsLookedUp items (is_live labels)
 Finds (By scheme) labels items = IsLookedUpWidened scheme items (languages labels)
 
 -- what is chosen: the language found, or the default where that is live (project rule)
-abbrev pub IsChosenBy : Widening → Labelled → List Item → Option (List ℕ) → Choice → Type 0
-IsChosenBy widening labels items default (choice.Matched text) =
+abbrev pub IsChosenIn : Widening → Labelled → List Item → Option (List ℕ) → Choice → Type 0
+IsChosenIn widening labels items default (choice.Matched text) =
     Finds widening labels items (Some (pieces text.now))
-IsChosenBy widening labels items default choice.Default =
+IsChosenIn widening labels items default choice.Default =
     Finds widening labels items None × HasOpenDefault items (is_live labels) default
-IsChosenBy widening labels items default choice.Nothing =
+IsChosenIn widening labels items default choice.Nothing =
     Finds widening labels items None × ¬ (HasOpenDefault items (is_live labels) default)
 
 -- the same, each language with its label
-abbrev pub IsLookedUpBy : Widening → Labelled → List Item → Option (List ℕ) → Reply → Type 0
-IsLookedUpBy widening labels items default (Matched lang label) =
+abbrev pub IsLookedUpIn : Widening → Labelled → List Item → Option (List ℕ) → Reply → Type 0
+IsLookedUpIn widening labels items default (Matched lang label) =
     Finds widening labels items (Some (pieces lang)) × (find text_cmp lang labels ≡ Some label)
-IsLookedUpBy widening labels items default (Default lang label) =
+IsLookedUpIn widening labels items default (Default lang label) =
     Finds widening labels items None × HasOpenDefault items (is_live labels) default
     × (default ≡ Some lang) × (find text_cmp lang labels ≡ Some label)
-IsLookedUpBy widening labels items default Nothing =
+IsLookedUpIn widening labels items default Nothing =
     Finds widening labels items None × ¬ (HasOpenDefault items (is_live labels) default)
 
 -- the same by RFC 4647 section 3.4
 abbrev pub IsLookedUpOf : Labelled → List Item → Option (List ℕ) → Reply → Type 0
-IsLookedUpOf = IsLookedUpBy Off
+IsLookedUpOf = IsLookedUpIn Off
 
 -- what a filter answers of a message: RFC 4647 section 3.3 over its live labels
 abbrev pub IsFilterAnswer : Entries → List ℕ → Scheme → List Item → Weighed → Type 0
@@ -77,7 +77,7 @@ IsFilterAnswer cells id scheme items answer = IsFilteredOf (live cells id) schem
 abbrev pub IsLookupAnswerBy : Widening → Entries → List ℕ → List Item → Option (List ℕ) → Reply
     → Type 0
 IsLookupAnswerBy widening cells id items default reply =
-    IsLookedUpBy widening (live cells id) items default reply
+    IsLookedUpIn widening (live cells id) items default reply
 
 -- what lookup answers of a message by RFC 4647 section 3.4
 abbrev pub IsLookupAnswer : Entries → List ℕ → List Item → Option (List ℕ) → Reply → Type 0

@@ -31,7 +31,7 @@ ghost use Rattle.cata_core.specs.Live.{Labelled, languages, live};
 ghost use Rattle.cata_core.specs.Languages.{AreLanguages, LanguageMap, texts_in};
 ghost use Rattle.nego_core.specs.Shortlist.{AreAmong};
 ghost use Rattle.cata_core.specs.LiveMessages.{LiveMessage, AreMessages};
-ghost use Rattle.cata_core.specs.Asking.{Weighed, IsFilterAnswer, IsLookedUpBy};
+ghost use Rattle.cata_core.specs.Asking.{Weighed, IsFilterAnswer, IsLookedUpIn};
 ghost use Rattle.cata_core.specs.Asking.{IsLookupAnswer, IsLookupAnswerBy};
 ghost use Rattle.cata_core.specs.Answer.{cells_answer, AreHeldAnswers, AreAnswers};
 ghost use Rattle.cata_core.specs.Alike.{AnswerAlike};
@@ -223,7 +223,7 @@ pub fn messages_answer_as_the_catalogue()
     ensures held { (cells : Entries) (messages : List LiveMessage) → AreMessages cells messages
         → (id : List ℕ) (labels : Labelled) → find text_cmp id messages ≡ Some labels
         → (widening : Widening) (items : List Item) (default : Option (List ℕ)) (reply : Reply)
-        → IsLookedUpBy widening labels items default reply
+        → IsLookedUpIn widening labels items default reply
         ↔ IsLookupAnswerBy widening cells id items default reply }
     ensures absent { (cells : Entries) (messages : List LiveMessage) → AreMessages cells messages
         → (id : List ℕ) → find text_cmp id messages ≡ None

@@ -27,7 +27,7 @@ pub(crate) struct Live<'a> {
 
 impl<'a> Live<'a> {
     ghost use Rattle.std.specs.Option.{option_copied};
-    ghost use Rattle.cata_core.specs.Asking.{IsChosenBy, IsLookedUpBy};
+    ghost use Rattle.cata_core.specs.Asking.{IsChosenIn, IsLookedUpIn};
     ghost use Rattle.cata_core.specs.Flat.{inner_of};
     ghost use Rattle.cata_core.specs.Reply.{reply_of};
     ghost use Rattle.cata_core.specs.LiveIn.{live_in};
@@ -58,7 +58,7 @@ impl<'a> Live<'a> {
         widening: Widening,
         default: Option<&Lang>,
     ) -> LentReply<'a>
-        ensures { IsLookedUpBy widening (live_in self.now) list.now
+        ensures { IsLookedUpIn widening (live_in self.now) list.now
             (option_map (λ l. l.now) default.entry) (reply_of result) }
     {
         self.reply(self.choose(list, widening, default), default)
@@ -71,7 +71,7 @@ impl<'a> Live<'a> {
         default: Option<&Lang>,
     ) -> LentReply<'a>
         ensures { AreAmong (languages (live_in self.now)) shortlist.now.langs
-            → IsLookedUpBy shortlist.now.widening (live_in self.now) shortlist.now.items
+            → IsLookedUpIn shortlist.now.widening (live_in self.now) shortlist.now.items
             (option_map (λ l. l.now) default.entry) (reply_of result) }
     {
         self.reply(shortlist.choose(self, default), default)
@@ -106,7 +106,7 @@ impl<'a> Live<'a> {
         widening: Widening,
         default: Option<&Lang>,
     ) -> Choice<'b>
-        ensures { IsChosenBy widening (live_in self.now) list.now
+        ensures { IsChosenIn widening (live_in self.now) list.now
             (option_map (λ l. l.now) default.entry) result }
     {
         match widening {

@@ -32,7 +32,7 @@ impl<'a> Model for Message<'a> {
 impl<'a> Message<'a> {
     ghost use Rattle.std.specs.FinMap.Entries.{find};
     ghost use Rattle.std.specs.Option.{option_copied, option_map};
-    ghost use Rattle.cata_core.specs.Asking.{IsLookedUpBy, IsLookedUpOf};
+    ghost use Rattle.cata_core.specs.Asking.{IsLookedUpIn, IsLookedUpOf};
     ghost use Rattle.cata_core.specs.Entries.{text_cmp};
     ghost use Rattle.cata_core.specs.Reply.{reply_of};
     ghost use Rattle.cata_core.specs.Live.{languages};
@@ -86,7 +86,7 @@ impl<'a> Message<'a> {
         widening: Widening,
         default: Option<&Lang>,
     ) -> LentReply<'a>
-        ensures { IsLookedUpBy widening self.now.1 list.now
+        ensures { IsLookedUpIn widening self.now.1 list.now
             (option_map (λ l. l.now) default.entry) (reply_of result) }
     {
         Live::new(Some(self.cells)).look_up(list, widening, default)
@@ -99,7 +99,7 @@ impl<'a> Message<'a> {
     /// It takes no memory, and tries no more languages than are ranked.
     pub fn lookup_within(&self, shortlist: &Shortlist<'_>, default: Option<&Lang>) -> LentReply<'a>
         ensures { AreAmong (languages self.now.1) shortlist.now.langs
-            → IsLookedUpBy shortlist.now.widening self.now.1 shortlist.now.items
+            → IsLookedUpIn shortlist.now.widening self.now.1 shortlist.now.items
             (option_map (λ l. l.now) default.entry) (reply_of result) }
     {
         Live::new(Some(self.cells)).look_up_within(shortlist, default)

@@ -20,7 +20,7 @@ use Rattle.nego_core.specs.FirstTried.{IsFirstTried, item_tried}
 use Rattle.nego_core.specs.LookupOrder.{AreOrderKeys}
 use Rattle.nego_core.specs.WidenedChoice.{IsFirstWidenedAt, IsMatchedAt, IsMatchedFirst}
 use Rattle.nego_core.specs.WidenedChoice.{IsNotBefore, MatchEarliest, is_earlier}
-use Rattle.nego_core.specs.Widening.{IsBelow, MatchesLang}
+use Rattle.nego_core.specs.Widening.{Ascends, MatchesLang}
 use Rattle.nego_core.specs.declared.lookup_order.OrderKey.{OrderKey}
 use Rattle.nego_core.specs.declared.scheme.Scheme.{Scheme}
 use Rattle.nego_core.specs.declared.widened_choice.Earliest.{Earliest}
@@ -109,7 +109,7 @@ earliest_new s items langs (Some o) e h m b = (
         elim (cases_Bool (e.tried == o.tried)) [
           | inl same ↦
               (let equal : e.tried ≡ o.tried = grind (arith, nat_tests) in
-              let below : IsBelow e.lang.now o.lang.now =
+              let below : Ascends e.lang.now o.lang.now =
               lt_less (slice_cmp nat_cmp e.lang.now o.lang.now) (rw same at rest) in
               let far = before.0 in (
                 omega arith,
@@ -208,7 +208,7 @@ earliest_at s items langs keys at k e low is o h same none =
       h.0,
       (f.2, h.1.3),
       All-weaker (λ l. (n : ℕ) → IsMatchedAt s items l n → IsNotBefore n l e.tried e.lang.now)
-          (λ l. Fits s items f.0 l → ¬ IsBelow l e.lang.now)
+          (λ l. Fits s items f.0 l → ¬ Ascends l e.lang.now)
           (λ l before fits. (before e.tried (keys, o, (f.0, f.1, fits.0), fits.1)).1 refl) langs
           h.2,
     ))

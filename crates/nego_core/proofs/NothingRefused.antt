@@ -5,7 +5,7 @@ use Rattle.lang_core.specs.Text.{pieces}
 use Rattle.lang_core.specs.Lang.{tag_of}
 use Rattle.nego_core.proofs.Basics.{all_at}
 use Rattle.nego_core.specs.Item.{Item}
-use Rattle.nego_core.specs.Deciding.{IsDecidedBy, NamedRefuse, RefusesLang}
+use Rattle.nego_core.specs.Deciding.{IsDecidedBy, NamedRefuse, IsRefusedLang}
 use Rattle.nego_core.specs.Unweighted.{AllPositive}
 use Rattle.nego_core.specs.declared.scheme.Scheme.{Scheme}
 
@@ -27,5 +27,5 @@ not_on scheme items (Some t) place positive d =
 
 -- Where no weight is 0, no language is refused.
 pub no_lang_refused : (scheme : Scheme) (items : List Item) (lang : List ℕ) → AllPositive items
-    → ¬ RefusesLang scheme items lang
+    → ¬ IsRefusedLang scheme items lang
 no_lang_refused scheme items lang positive r = not_on scheme items (tag_of lang) r.0 positive r.1

@@ -44,7 +44,7 @@ use Rattle.nego_core.specs.Shortlist.{IsOneOf}
 use Rattle.nego_core.specs.Shortlist.{IsRanking, matched_cmp}
 use Rattle.nego_core.specs.Unranked.{Spells, TakesFrom}
 use Rattle.nego_core.specs.WidenedChoice.{IsMatchedAt, IsMatchedFirst}
-use Rattle.nego_core.specs.Widening.{IsBelow}
+use Rattle.nego_core.specs.Widening.{Ascends}
 use Rattle.nego_core.specs.declared.lookup_order.OrderKey.{OrderKey}
 use Rattle.nego_core.specs.declared.scheme.Scheme.{Scheme}
 use Rattle.nego_core.specs.declared.shortlist.MatchedLang.{MatchedLang}
@@ -319,7 +319,7 @@ rank_taken w items langs left less keys ranked text lang rest is_open t h = reco
 pub rank_matched : (s : Scheme) (items : List Item) (langs left less : List (List ℕ))
     (keys : List OrderKey) (ranked : List (List ℕ)) (i : Item) (text lang : List ℕ)
     (rest : List (List ℕ) → Pieces) → Fits s items i text
-    → ((l : List ℕ) → Contains left l → Fits s items i l → ¬ IsBelow l text)
+    → ((l : List ℕ) → Contains left l → Fits s items i l → ¬ Ascends l text)
     → TakesFrom left text less (Some lang)
     → IsRankingTo (By s) items langs left keys ranked (λ some. matched_at (By s) (Some i) some
     ++ rest some)
@@ -345,7 +345,7 @@ rank_matched s items langs left less keys ranked i text lang rest fits least t h
       let own = subst (Contains some) (joined-pieces text)
       (among_contains some (joined (pieces text)) o.0) in
       let are = matched_are s some i in
-      let low = All-weaker (Contains here) (λ m. P (pieces m) → ¬ IsBelow m text)
+      let low = All-weaker (Contains here) (λ m. P (pieces m) → ¬ Ascends m text)
       (λ m c p.
       let one = (are.each m).0 c in
       least m (All-contains (Contains left) some m among one.0) (one.1, p.1))
@@ -440,7 +440,7 @@ tried_rises : (a b : MatchedLang) → is_lt (matched_cmp b a) ≡ false → a.tr
 tried_rises a b h = grind (arith, nat_tests)
 
 langs_rise : (a b : MatchedLang) → is_lt (matched_cmp b a) ≡ false → b.tried ≡ a.tried
-    → ¬ IsBelow b.lang a.lang
+    → ¬ Ascends b.lang a.lang
 langs_rise a b h e low =
     let less = less_lt (slice_cmp nat_cmp b.lang a.lang) low in
     let same : is_lt (matched_cmp b a) ≡ is_lt (slice_cmp nat_cmp b.lang a.lang) =
@@ -523,7 +523,7 @@ pub matched_fits : (s : Scheme) (items : List Item) (langs left : List (List ℕ
     → ((l : List ℕ) → Contains left l → Contains langs l) → next < length ms
     → m ≡ get_or ms next m → m.tried ≡ at
     → (i : Item) × (slice_get items k.place ≡ Some i) × Fits s items i m.lang
-    × ((l : List ℕ) → Contains left l → Fits s items i l → ¬ IsBelow l m.lang)
+    × ((l : List ℕ) → Contains left l → Fits s items i l → ¬ Ascends l m.lang)
 matched_fits s items langs left ms keys at next k m are up o low e h inside in_ms is same =
     let own : IsMatchedAt s items m.lang m.tried =
     subst (λ (x : MatchedLang). IsMatchedAt s items x.lang x.tried) (sym is)
@@ -542,7 +542,7 @@ matched_fits s items langs left ms keys at next k m are up o low e h inside in_m
           subst (λ (x : MatchedLang). is_lt (matched_cmp (get_or ms g.0 g.1) x) ≡ false) (sym other)
           (not_after ms next g.0 g.1 up g.2 g.3) in
           langs_rise m (get_or ms g.0 g.1) after (g.5 ∙ sym same)
-          (subst (λ (x : List ℕ). IsBelow x m.lang) (sym g.4) below),
+          (subst (λ (x : List ℕ). Ascends x m.lang) (sym g.4) below),
     )
 
 -- the next is matched later, or there is none

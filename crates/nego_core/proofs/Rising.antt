@@ -13,26 +13,26 @@ use Rattle.std.proofs.lemmas.List.Elements.{All-weaker}
 use Rattle.std.proofs.lemmas.List.Kept.{AllPairs-cons}
 use Rattle.nego_core.proofs.Basics.{contains_cases, contains_first, contains_later}
 use Rattle.nego_core.proofs.Unique.{text_tied}
-use Rattle.nego_core.specs.Widening.{IsBelow}
+use Rattle.nego_core.specs.Widening.{Ascends}
 
 -- the first text of an ascending list is below all others
-pub all_above : (x : List ℕ) (xs : List (List ℕ)) → AllPairs IsBelow (x ∷ xs) → All (IsBelow x) xs
+pub all_above : (x : List ℕ) (xs : List (List ℕ)) → AllPairs Ascends (x ∷ xs) → All (Ascends x) xs
 all_above x xs h = λ k d low. h zero (suc k) d (omega arith) (omega arith)
 
 -- what follows the first text of an ascending list ascends
-pub rising_tail : (x : List ℕ) (xs : List (List ℕ)) → AllPairs IsBelow (x ∷ xs)
-    → AllPairs IsBelow xs
+pub rising_tail : (x : List ℕ) (xs : List (List ℕ)) → AllPairs Ascends (x ∷ xs)
+    → AllPairs Ascends xs
 rising_tail x xs h = λ i j d lt low. h (suc i) (suc j) d (omega arith) (omega arith)
 
 -- of two texts not both are below the other
-pub not_both : (x y : List ℕ) → IsBelow x y → IsBelow y x → ⊥
+pub not_both : (x y : List ℕ) → Ascends x y → Ascends y x → ⊥
 not_both x y h g = let back : Less ≡ Greater =
     sym h ∙ (nat_list_cmp_total.antisymm x y ∙ ap ordering_reverse g) in cc
 
-above : (x y : List ℕ) → slice_cmp nat_cmp x y ≡ Greater → IsBelow y x
+above : (x y : List ℕ) → slice_cmp nat_cmp x y ≡ Greater → Ascends y x
 above x y h = nat_list_cmp_total.antisymm y x ∙ ap ordering_reverse h
 
-not_itself : (x : List ℕ) → ¬ IsBelow x x
+not_itself : (x : List ℕ) → ¬ Ascends x x
 not_itself x h = not_both x x h h
 
 -- ---- a text put in
@@ -100,22 +100,22 @@ put_all Q x (y ∷ ys) q h =
     (put_all Q x ys q (All-tail Q y ys h))
 
 put_rising_at : (o : Ordering) (x y : List ℕ) (ys rest : List (List ℕ)) → slice_cmp nat_cmp x y ≡ o
-    → AllPairs IsBelow (y ∷ ys) → AllPairs IsBelow rest → (IsBelow y x → All (IsBelow y) rest)
-    → AllPairs IsBelow (put_at o x y ys rest)
+    → AllPairs Ascends (y ∷ ys) → AllPairs Ascends rest → (Ascends y x → All (Ascends y) rest)
+    → AllPairs Ascends (put_at o x y ys rest)
 put_rising_at Less x y ys rest e h r f =
-    AllPairs-cons IsBelow x (y ∷ ys)
-    (All-cons (IsBelow x) y ys e
-    (All-weaker (IsBelow y) (IsBelow x) (λ z l. nat_list_cmp_total.trans x y z e l) ys
+    AllPairs-cons Ascends x (y ∷ ys)
+    (All-cons (Ascends x) y ys e
+    (All-weaker (Ascends y) (Ascends x) (λ z l. nat_list_cmp_total.trans x y z e l) ys
     (all_above y ys h))) h
 put_rising_at Equal x y ys rest e h r f = h
-put_rising_at Greater x y ys rest e h r f = AllPairs-cons IsBelow y rest (f (above x y e)) r
+put_rising_at Greater x y ys rest e h r f = AllPairs-cons Ascends y rest (f (above x y e)) r
 
-put_rising : (x : List ℕ) (ys : List (List ℕ)) → AllPairs IsBelow ys
-    → AllPairs IsBelow (put_in x ys)
-put_rising x [] h = AllPairs-cons IsBelow x [] (All-nil (IsBelow x)) h
+put_rising : (x : List ℕ) (ys : List (List ℕ)) → AllPairs Ascends ys
+    → AllPairs Ascends (put_in x ys)
+put_rising x [] h = AllPairs-cons Ascends x [] (All-nil (Ascends x)) h
 put_rising x (y ∷ ys) h =
     put_rising_at (slice_cmp nat_cmp x y) x y ys (put_in x ys) refl h
-    (put_rising x ys (rising_tail y ys h)) (λ l. put_all (IsBelow y) x ys l (all_above y ys h))
+    (put_rising x ys (rising_tail y ys h)) (λ l. put_all (Ascends y) x ys l (all_above y ys h))
 
 -- ---- those that pass a test, in ascending order
 
@@ -125,7 +125,7 @@ rising_of p [] = []
 rising_of p (x ∷ xs) = if p x then put_in x (rising_of p xs) else rising_of p xs
 
 -- that list ascends
-pub rising_is : (p : List ℕ → Bool) (xs : List (List ℕ)) → AllPairs IsBelow (rising_of p xs)
+pub rising_is : (p : List ℕ → Bool) (xs : List (List ℕ)) → AllPairs Ascends (rising_of p xs)
 rising_is p [] = λ i j d lt low. absurd (omega arith)
 rising_is p (x ∷ xs) = elim (cases_Bool (p x)) [
   | inl e ↦ rw e (put_rising x (rising_of p xs) (rising_is p xs))
@@ -166,33 +166,33 @@ rising_has p (x ∷ xs) z t c = elim (contains_cases x z xs c) [
 
 -- ---- one list of these members ascends
 
-first_same : (x y : List ℕ) (xs ys : List (List ℕ)) → AllPairs IsBelow (x ∷ xs)
-    → AllPairs IsBelow (y ∷ ys) → Contains (y ∷ ys) x → Contains (x ∷ xs) y → x ≡ y
+first_same : (x y : List ℕ) (xs ys : List (List ℕ)) → AllPairs Ascends (x ∷ xs)
+    → AllPairs Ascends (y ∷ ys) → Contains (y ∷ ys) x → Contains (x ∷ xs) y → x ≡ y
 first_same x y xs ys h g c d = elim (contains_cases y x ys c) [
   | inl e ↦ sym e
   | inr a ↦ elim (contains_cases x y xs d) [
     | inl e ↦ e
     | inr b ↦
         absurd
-        (not_both x y (All-contains (IsBelow x) xs y (all_above x xs h) b)
-        (All-contains (IsBelow y) ys x (all_above y ys g) a))
+        (not_both x y (All-contains (Ascends x) xs y (all_above x xs h) b)
+        (All-contains (Ascends y) ys x (all_above y ys g) a))
   ]
 ]
 
 -- a later one of the first list is a later one of the second
-later_of : (x y z : List ℕ) (xs ys : List (List ℕ)) → x ≡ y → AllPairs IsBelow (x ∷ xs)
+later_of : (x y z : List ℕ) (xs ys : List (List ℕ)) → x ≡ y → AllPairs Ascends (x ∷ xs)
     → Contains xs z → Contains (y ∷ ys) z → Contains ys z
 later_of x y z xs ys e h c d = elim (contains_cases y z ys d) [
   | inl same ↦
       absurd
       (not_itself z
-      (subst (λ (w : List ℕ). IsBelow w z) (e ∙ same)
-      (All-contains (IsBelow x) xs z (all_above x xs h) c)))
+      (subst (λ (w : List ℕ). Ascends w z) (e ∙ same)
+      (All-contains (Ascends x) xs z (all_above x xs h) c)))
   | inr later ↦ later
 ]
 
 -- two ascending lists with the same members are one
-pub one_rising : (xs ys : List (List ℕ)) → AllPairs IsBelow xs → AllPairs IsBelow ys
+pub one_rising : (xs ys : List (List ℕ)) → AllPairs Ascends xs → AllPairs Ascends ys
     → ((z : List ℕ) → Contains xs z → Contains ys z)
     → ((z : List ℕ) → Contains ys z → Contains xs z) → xs ≡ ys
 one_rising [] [] h g f b = refl

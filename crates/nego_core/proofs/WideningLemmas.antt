@@ -40,7 +40,7 @@ use Rattle.nego_core.specs.Choosing.{MatchFirstOf}
 use Rattle.nego_core.specs.LookupOrder.{AreOrderKeys, IsOrder, is_tried}
 use Rattle.nego_core.specs.LookupPlaces.{least_place}
 use Rattle.nego_core.specs.WidenedChoice.{IsFirstWidened, IsFirstWidenedAt}
-use Rattle.nego_core.specs.Widening.{AreMatched, IsBelow, IsLookedUpWidened, MatchesLang, widened}
+use Rattle.nego_core.specs.Widening.{AreMatched, Ascends, IsLookedUpWidened, MatchesLang, widened}
 use Rattle.nego_core.specs.declared.lookup_order.OrderKey.{OrderKey}
 use Rattle.nego_core.specs.declared.scheme.Scheme.{Scheme}
 use Rattle.nego_core.specs.declared.scheme.Scheme.TheVariants as scheme
@@ -182,7 +182,7 @@ Fits scheme items i lang = MatchesLang scheme i lang × ¬ NamedRefuse items (pi
 abbrev pub MatchLeast : (List ℕ → Type 0) → List (List ℕ) → Option (List ℕ) → Type 0
 MatchLeast Passes langs None = All (λ l. ¬ Passes l) langs
 MatchLeast Passes langs (Some x) =
-    Contains langs x × Passes x × All (λ l. Passes l → ¬ IsBelow l x) langs
+    Contains langs x × Passes x × All (λ l. Passes l → ¬ Ascends l x) langs
 
 none_fit : (s : Scheme) (items : List Item) (langs : List (List ℕ)) (i : Item)
     (matched : List (List ℕ))
@@ -198,8 +198,8 @@ none_fit s items langs i (m ∷ matched) h n =
 
 -- the least that is open is the first in ascending order
 pub least_first : (P : List (List ℕ) → Type 0) (matched : List (List ℕ)) (x : List ℕ)
-    → Contains matched x → P (pieces x) → AllPairs IsBelow matched
-    → All (λ m. P (pieces m) → ¬ IsBelow m x) matched
+    → Contains matched x → P (pieces x) → AllPairs Ascends matched
+    → All (λ m. P (pieces m) → ¬ Ascends m x) matched
     → MatchFirstOf P (map pieces matched) (Some (pieces x))
 least_first P [] x c p rising least = absurd (let low = c.1 in omega arith)
 least_first P (m ∷ matched) x c p rising least = elim (contains_cases m x matched c) [
@@ -207,10 +207,10 @@ least_first P (m ∷ matched) x c p rising least = elim (contains_cases m x matc
       subst (λ y. MatchFirstOf P (pieces y ∷ map pieces matched) (Some (pieces x))) (sym same)
       (first_here P (pieces x) (map pieces matched) p)
   | inr later ↦ first_later P (pieces m) (map pieces matched) (Some (pieces x))
-      (λ q. All-head (λ m. P (pieces m) → ¬ IsBelow m x) m matched least q
-      (All-contains (IsBelow m) matched x (all_above m matched rising) later))
+      (λ q. All-head (λ m. P (pieces m) → ¬ Ascends m x) m matched least q
+      (All-contains (Ascends m) matched x (all_above m matched rising) later))
       (least_first P matched x later p (rising_tail m matched rising)
-      (All-tail (λ m. P (pieces m) → ¬ IsBelow m x) m matched least))
+      (All-tail (λ m. P (pieces m) → ¬ Ascends m x) m matched least))
 ]
 
 each_matched : (s : Scheme) (langs : List (List ℕ)) (i : Item) (matched : List (List ℕ))
@@ -244,8 +244,8 @@ by_match s items langs i x n least = λ matched h.
     let c = (h.each x).1 (least.0, least.1.0) in
     let low =
     All-weaker (λ m. Contains langs m × MatchesLang s i m)
-    (λ m. Open items langs (pieces m) → ¬ IsBelow m x)
-    (λ m g o. All-contains (λ l. Fits s items i l → ¬ IsBelow l x) langs m least.2 g.0
+    (λ m. Open items langs (pieces m) → ¬ Ascends m x)
+    (λ m g o. All-contains (λ l. Fits s items i l → ¬ Ascends l x) langs m least.2 g.0
     (g.1, o.1)) matched (each_matched s langs i matched h) in
     first_append (Open items langs) (candidates_of i) (map pieces matched) (Some (pieces x)) n
     (least_first (Open items langs) matched x c (open_lang items langs x least.0 least.1.1) h.rising
@@ -264,7 +264,7 @@ pub less_lt : (o : Ordering) → o ≡ Less → is_lt o ≡ true
 less_lt o e = ap is_lt e
 
 -- No text is below itself.
-pub not_itself : (x : List ℕ) → ¬ IsBelow x x
+pub not_itself : (x : List ℕ) → ¬ Ascends x x
 not_itself x h = not_both x x h h
 
 -- ---- the walk over the keys

@@ -7,7 +7,7 @@ use Rattle.nego_core.specs.Item.{Item}
 use Rattle.nego_core.specs.Deciding.{NamedRefuse}
 use Rattle.nego_core.specs.LookupOrder.{IsOrder}
 use Rattle.std.specs.Prelude.{IsSomeAnd}
-use Rattle.nego_core.specs.Deciding.{RefusesLang}
+use Rattle.nego_core.specs.Deciding.{IsRefusedLang}
 use Rattle.nego_core.specs.declared.scheme.Scheme.TheVariants as scheme
 use Rattle.nego_core.specs.declared.choosing.Choice.{Choice}
 use Rattle.nego_core.specs.declared.choosing.Choice.TheVariants.{Matched, Default, Nothing}
@@ -55,7 +55,7 @@ pub record IsLookedUp (items : List Item) (held : List ℕ → Bool)
 -- a default may be answered where it is held and the whole list, "*" included, does not refuse it
 -- (project rule)
 abbrev pub IsOpenDefault : List Item → (List ℕ → Bool) → List ℕ → Type 0
-IsOpenDefault items held lang = IsTrue (held lang) × ¬ RefusesLang scheme.Basic items lang
+IsOpenDefault items held lang = IsTrue (held lang) × ¬ IsRefusedLang scheme.Basic items lang
 
 -- there is a default, and it may be answered (project rule)
 abbrev pub HasOpenDefault : List Item → (List ℕ → Bool) → Option (List ℕ) → Type 0

@@ -46,8 +46,8 @@ DecidesLang scheme items lang place weight =
     IsSomeAnd (tag_of lang) (λ tag. IsDecidedBy scheme items (pieces tag) place weight)
 
 -- the deciding item of the language has weight 0: "@none" is never refused (project rule)
-abbrev pub RefusesLang : Scheme → List Item → List ℕ → Type 0
-RefusesLang scheme items lang = (place : ℕ) × DecidesLang scheme items lang place 0
+abbrev pub IsRefusedLang : Scheme → List Item → List ℕ → Type 0
+IsRefusedLang scheme items lang = (place : ℕ) × DecidesLang scheme items lang place 0
 
 -- the range is "*" alone
 abbrev pub IsAny : Item → Type 0

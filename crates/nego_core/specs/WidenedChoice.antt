@@ -10,7 +10,7 @@ use Rattle.nego_core.specs.Deciding.{NamedRefuse}
 use Rattle.nego_core.specs.Choosing.{IsOpen, MatchFirstOf}
 use Rattle.nego_core.specs.LangSet.{is_among}
 use Rattle.nego_core.specs.Choosing.{HasOpenDefault}
-use Rattle.nego_core.specs.Widening.{AreMatched, IsBelow, IsLookedUpWidened, MatchesLang, widened}
+use Rattle.nego_core.specs.Widening.{AreMatched, Ascends, IsLookedUpWidened, MatchesLang, widened}
 use Rattle.nego_core.specs.declared.scheme.Scheme.{Scheme}
 use Rattle.nego_core.specs.declared.choosing.Choice.{Choice}
 use Rattle.nego_core.specs.declared.choosing.Choice.TheVariants.{Matched, Default, Nothing}
@@ -46,7 +46,7 @@ IsMatchedFirst scheme items lang n =
 
 -- a language that is matched at one place does not come before one that is matched at another
 abbrev pub IsNotBefore : ℕ → List ℕ → ℕ → List ℕ → Type 0
-IsNotBefore n lang tried x = (tried ≤ n) × (n ≡ tried → ¬ IsBelow lang x)
+IsNotBefore n lang tried x = (tried ≤ n) × (n ≡ tried → ¬ Ascends lang x)
 
 -- the language that is matched first, the least by bytes where one item matches several, or none
 -- where none is matched

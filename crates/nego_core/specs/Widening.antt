@@ -26,15 +26,15 @@ MatchesLang scheme i lang =
     IsSomeAnd (tag_of lang) (λ tag. Matches scheme (pieces i.range) (pieces tag))
 
 -- one text is below another by their bytes
-abbrev pub IsBelow : List ℕ → List ℕ → Type 0
-IsBelow a b = slice_cmp nat_cmp a b ≡ Less
+abbrev pub Ascends : List ℕ → List ℕ → Type 0
+Ascends a b = slice_cmp nat_cmp a b ≡ Less
 
 -- the languages that the range of an item matches, each once, in ascending order of bytes
 pub record AreMatched (scheme : Scheme) (langs : List (List ℕ)) (i : Item)
     (matched : List (List ℕ)) : Type 0 where
   pub each : (lang : List ℕ)
       → Contains matched lang ↔ (Contains langs lang × MatchesLang scheme i lang)
-  pub rising : AllPairs IsBelow matched
+  pub rising : AllPairs Ascends matched
 
 -- the widened candidates of an item: those of lookup, and after them the languages that it matches
 abbrev pub widened : Item → List (List ℕ) → List (List (List ℕ))

@@ -1,7 +1,7 @@
 //! Lookup (RFC 4647 section 3.4) over any set of languages, with a default: the ranges in order,
 //! each through its truncations.
 ghost use Rattle.std.specs.Prelude.{◌↔◌, IsTrue, option_map};
-ghost use Rattle.nego_core.specs.Deciding.{RefusesLang};
+ghost use Rattle.nego_core.specs.Deciding.{IsRefusedLang};
 ghost use Rattle.nego_core.specs.Choosing.{IsOpenDefault, HasOpenDefault, IsChosen};
 ghost use Rattle.nego_core.specs.declared.scheme.Scheme.TheVariants as scheme;
 ghost use Rattle.lang_core.specs.Text.{pieces};
@@ -144,7 +144,7 @@ fn is_open_default<H: Holds>(list: &PriorityList, held: &H, lang: &Lang) -> bool
 
 /// Whether the item that decides the language has weight 0.
 fn refuses(list: &PriorityList, lang: &Lang) -> bool
-    ensures { IsTrue result ↔ RefusesLang scheme.Basic list.now lang.now }
+    ensures { IsTrue result ↔ IsRefusedLang scheme.Basic list.now lang.now }
 {
     if !list.may_refuse() {
         return false;

@@ -13,7 +13,7 @@ ghost use Rattle.nego_core.specs.LookupPlaces.{IsFound};
 ghost use Rattle.nego_core.specs.LangSet.{is_among};
 ghost use Rattle.nego_core.specs.Widening.{IsFoundWidened, IsLookedUpWidened, MatchesLang};
 ghost use Rattle.nego_core.specs.Deciding.{Matches, IsDeciding, IsDecidedBy, NamedRefuse};
-ghost use Rattle.nego_core.specs.Deciding.{RefusesLang, named_items};
+ghost use Rattle.nego_core.specs.Deciding.{IsRefusedLang, named_items};
 ghost use Rattle.nego_core.specs.Unweighted.{AllPositive, AllUnweighted, IsMatchedAt, IsFirstHeld};
 ghost use Rattle.nego_core.specs.declared.scheme.Scheme.TheVariants as scheme;
 ghost use Rattle.nego_core.specs.Field.{IsField, IsFirstMalformed, IsOfOneKind};
@@ -60,7 +60,7 @@ pub fn nothing_refused()
     ensures tags { (items : List Item) (tag : List (List ℕ))
         → AllPositive items → ¬ NamedRefuse items tag }
     ensures langs { (scheme : Scheme) (items : List Item) (lang : List ℕ)
-        → AllPositive items → ¬ RefusesLang scheme items lang }
+        → AllPositive items → ¬ IsRefusedLang scheme items lang }
 {}
 
 /// Lookup finds one text, or none (RFC 4647 section 3.4).

@@ -11,7 +11,7 @@ use Rattle.std.specs.declared.cmp.Ordering.TheVariants.{Less}
 use Rattle.cell_core.specs.Keyed.{IsMap}
 use Rattle.nego_core.specs.Item.{Item}
 use Rattle.nego_core.specs.declared.widening.Widening.{Widening}
-use Rattle.cata_core.specs.Asking.{IsLookedUpBy, IsLookupAnswerBy}
+use Rattle.cata_core.specs.Asking.{IsLookedUpIn, IsLookupAnswerBy}
 use Rattle.cata_core.specs.Entries.{Entries, Entry, IsAboveAll, key_cmp, text_cmp}
 use Rattle.cata_core.specs.Live.{Labelled as Labels, live}
 use Rattle.cata_core.specs.declared.reply.Reply.{Reply}
@@ -39,10 +39,10 @@ same_answer : (widening : Widening) (cells other : Entries) (items : List Item)
     → IsAnswer widening cells items default e → IsAnswer widening other items default e
 same_answer widening cells other items default e same answer = elim answer [
   | inl matched ↦ inl (subst
-      (λ (labels : Labels). IsLookedUpBy widening labels items default (Matched e.0.1 e.1)) same
+      (λ (labels : Labels). IsLookedUpIn widening labels items default (Matched e.0.1 e.1)) same
       matched)
   | inr chosen ↦ inr (subst
-      (λ (labels : Labels). IsLookedUpBy widening labels items default (Default e.0.1 e.1)) same
+      (λ (labels : Labels). IsLookedUpIn widening labels items default (Default e.0.1 e.1)) same
       chosen)
 ]
 
@@ -71,14 +71,14 @@ module _ (widening : Widening) (items : List Item) (default : Option (List ℕ))
 
       -- With one message more there is the label that its lookup answers, if any.
       pub bundle_more : (reply : Reply)
-          → IsLookedUpBy widening (live cells next.id) items default reply
+          → IsLookedUpIn widening (live cells next.id) items default reply
           → IsBundleBy widening (before ++ cells) items default
           (labels ++ answered_of next.id (answered reply))
       bundle_more reply is =
           let all = before ++ cells in
           let last = answered_of next.id (answered reply) in
           let own : IsLookupAnswerBy widening all next.id items default reply =
-          subst (λ (l : Labels). IsLookedUpBy widening l items default reply)
+          subst (λ (l : Labels). IsLookedUpIn widening l items default reply)
           (sym (live_own before cells next)) is in record {
             rising = still_rising (answered reply);
             answered = λ e. (
@@ -129,16 +129,16 @@ pub bundled_more : (first old : Bundle) (draft : Draft) (before cells : Entries)
 bundled_more first old draft before cells own reply next id answer adds has =
     let looked_up =
     subst
-    (λ (i : List ℕ). IsLookedUpBy first.widening (live cells i) first.list.now (default_of first)
+    (λ (i : List ℕ). IsLookedUpIn first.widening (live cells i) first.list.now (default_of first)
     reply) id
     (subst
-    (λ (d : Option (List ℕ)). IsLookedUpBy first.widening (live cells own) first.list.now d reply)
+    (λ (d : Option (List ℕ)). IsLookedUpIn first.widening (live cells own) first.list.now d reply)
     has.default_is
     (subst
-    (λ (items : List Item). IsLookedUpBy first.widening (live cells own) items (default_of old)
+    (λ (items : List Item). IsLookedUpIn first.widening (live cells own) items (default_of old)
     reply) has.list_is
     (subst
-    (λ (w : Widening). IsLookedUpBy w (live cells own) old.list.now (default_of old) reply)
+    (λ (w : Widening). IsLookedUpIn w (live cells own) old.list.now (default_of old) reply)
     has.widening_is answer))) in record {
       list_is = has.list_is;
       widening_is = has.widening_is;

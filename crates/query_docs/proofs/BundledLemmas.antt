@@ -14,7 +14,7 @@ use Rattle.cell_core.specs.Keyed.{IsMap}
 use Rattle.nego_core.specs.Item.{Item}
 use Rattle.nego_core.specs.Shortlist.{AreAmong, IsShortlist, Shortlist}
 use Rattle.nego_core.specs.declared.widening.Widening.{Widening}
-use Rattle.cata_core.specs.Asking.{IsLookedUpBy, IsLookupAnswerBy}
+use Rattle.cata_core.specs.Asking.{IsLookedUpIn, IsLookupAnswerBy}
 use Rattle.cata_core.specs.Entries.{Entries, Entry, key_cmp, text_cmp}
 use Rattle.cata_core.specs.Languages.{AreLanguages, LanguageMap, texts_in}
 use Rattle.cata_core.specs.Live.{languages, live, live_of}
@@ -116,10 +116,10 @@ module _ (widening : Widening) (cells : Entries) (items : List Item) (default : 
 
     -- what a message with all its live labels answers, the catalogue answers
     in_cells : (m : LiveMessage) (reply : Reply) → m.1 ≡ live cells m.0
-        → IsLookedUpBy widening m.1 items default reply
+        → IsLookedUpIn widening m.1 items default reply
         → IsLookupAnswerBy widening cells m.0 items default reply
     in_cells m reply same is =
-        subst (λ (l : Texts). IsLookedUpBy widening l items default reply) same is
+        subst (λ (l : Texts). IsLookedUpIn widening l items default reply) same is
 
     -- what is there is an answer
     each_answered : (ms : List LiveMessage) (labels : List Labelled) → AreLive cells ms
@@ -289,7 +289,7 @@ module _ (widening : Widening) (cells : Entries) (items : List Item) (default : 
     found_at : (old new : Draft) (m : LiveMessage) (left : List LiveMessage) (reply : Reply)
         (lang : List ℕ) (label : List (List ℕ))
         → IsBundling widening cells items default old (m ∷ left)
-        → IsLookedUpBy widening m.1 items default reply → Some (lang, label) ≡ answered reply
+        → IsLookedUpIn widening m.1 items default reply → Some (lang, label) ≡ answered reply
         → ((labels : List Labelled) → HasWritten old labels
         → HasWritten new (labels ++ ((m.0, lang), label) ∷ []))
         → IsBundling widening cells items default new left
@@ -311,7 +311,7 @@ module _ (widening : Widening) (cells : Entries) (items : List Item) (default : 
     pub bundling_found : (old new : Draft) (m : LiveMessage) (left : List LiveMessage)
         (reply : Reply) (id lang : List ℕ) (label : List (List ℕ)) → id ≡ m.0
         → IsBundling widening cells items default old (m ∷ left)
-        → IsLookedUpBy widening m.1 items default reply → Some (lang, label) ≡ answered reply
+        → IsLookedUpIn widening m.1 items default reply → Some (lang, label) ≡ answered reply
         → ((labels : List Labelled) → HasWritten old labels
         → HasWritten new (labels ++ ((id, lang), label) ∷ []))
         → IsBundling widening cells items default new left
@@ -323,7 +323,7 @@ module _ (widening : Widening) (cells : Entries) (items : List Item) (default : 
     -- a message that is not answered is left out
     pub bundling_passed : (draft : Draft) (m : LiveMessage) (left : List LiveMessage)
         (reply : Reply) → IsBundling widening cells items default draft (m ∷ left)
-        → IsLookedUpBy widening m.1 items default reply → None ≡ answered reply
+        → IsLookedUpIn widening m.1 items default reply → None ≡ answered reply
         → IsBundling widening cells items default draft left
     bundling_passed draft m left reply b is none = record {
       messages = b.messages;
@@ -353,14 +353,14 @@ pub shortlisted : (widening : Widening) (cells : Entries) (items : List Item)
     (langs : LanguageMap) (s : Shortlist) (m : LiveMessage) (default : Option (List ℕ))
     (reply : Reply) (texts : List (List ℕ)) → IsShortlist items widening texts s
     → texts ≡ texts_in langs → AreLanguages cells langs → m.1 ≡ live cells m.0
-    → (AreAmong (languages m.1) s.langs → IsLookedUpBy s.widening m.1 s.items default reply)
-    → IsLookedUpBy widening m.1 items default reply
+    → (AreAmong (languages m.1) s.langs → IsLookedUpIn s.widening m.1 s.items default reply)
+    → IsLookedUpIn widening m.1 items default reply
 shortlisted widening cells items langs s m default reply texts is all are same found =
     let among = subst (λ (l : Texts). AreAmong (languages l) (texts_in langs)) (sym same)
     (live_among cells langs are m.0) in
     let own = subst (AreAmong (languages m.1)) (sym (is.langs_are ∙ all)) among in
-    subst (λ (w : Widening). IsLookedUpBy w m.1 items default reply) is.widening_is
-    (subst (λ (i : List Item). IsLookedUpBy s.widening m.1 i default reply) is.items_are
+    subst (λ (w : Widening). IsLookedUpIn w m.1 items default reply) is.widening_is
+    (subst (λ (i : List Item). IsLookedUpIn s.widening m.1 i default reply) is.items_are
     (found own))
 
 -- ---- they are live labels

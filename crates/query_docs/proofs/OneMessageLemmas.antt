@@ -5,7 +5,7 @@ use Rattle.std.specs.Prelude.{filter}
 use Rattle.std.proofs.lemmas.List.Elements.{All-filter, filter-append}
 use Rattle.std.specs.Ordering.{is_eq}
 use Rattle.std.specs.declared.cmp.Ordering.TheVariants.{Less}
-use Rattle.cata_core.specs.Asking.{IsFilteredOf, IsLookedUpBy}
+use Rattle.cata_core.specs.Asking.{IsFilteredOf, IsLookedUpIn}
 use Rattle.nego_core.specs.declared.widening.Widening.TheVariants.{Off}
 use Rattle.cata_core.specs.Entries.{Entries, Entry, EntryKey, IsAboveAll, key_cmp, text_cmp}
 use Rattle.cata_core.specs.Live.{Labelled, live, live_of}
@@ -74,7 +74,7 @@ same_answers cells other id (Filter scheme list) text found same (entries, answe
 )
 same_answers cells other id (Lookup list default) text found same (reply, answer, lines, any) = (
   reply,
-  subst (λ (labels : Labelled). IsLookedUpBy Off labels list default reply) same answer,
+  subst (λ (labels : Labelled). IsLookedUpIn Off labels list default reply) same answer,
   lines,
   any,
 )

@@ -3,7 +3,7 @@ use Rattle.std.specs.Prelude.{◌≡◌, ◌++◌, ℕ, List, [], ◌∷◌, Non
 use Rattle.std.specs.Prelude.{option_to_list}
 use Rattle.nego_core.specs.Item.{Item}
 use Rattle.nego_core.specs.declared.widening.Widening.{Widening}
-use Rattle.cata_core.specs.Asking.{IsLookedUpBy}
+use Rattle.cata_core.specs.Asking.{IsLookedUpIn}
 use Rattle.cata_core.specs.LiveMessages.{LiveMessage}
 use Rattle.cata_core.specs.declared.reply.Reply.{Reply}
 use Rattle.cata_core.specs.declared.reply.Reply.TheVariants.{Default, Matched, Nothing}
@@ -24,6 +24,6 @@ abbrev pub LooksUp : Widening → List Item → Option (List ℕ) → List LiveM
     → Type 0
 LooksUp widening items default [] labels = labels ≡ []
 LooksUp widening items default (m ∷ ms) labels =
-    (reply : Reply) × (rest : List Labelled) × IsLookedUpBy widening m.1 items default reply
+    (reply : Reply) × (rest : List Labelled) × IsLookedUpIn widening m.1 items default reply
     × LooksUp widening items default ms rest
     × (labels ≡ answered_of m.0 (answered reply) ++ rest)

@@ -5,7 +5,7 @@ ghost use Rattle.std.specs.Ordering.{is_eq};
 ghost use Rattle.std.specs.FinMap.Entries.{find};
 ghost use Rattle.cell_core.specs.Found.{with_key};
 ghost use Rattle.nego_core.specs.WidenedChoice.{MatchEarliest};
-ghost use Rattle.cata_core.specs.Asking.{IsChosenBy, IsLookedUpBy};
+ghost use Rattle.cata_core.specs.Asking.{IsChosenIn, IsLookedUpIn};
 ghost use Rattle.cata_core.specs.Entries.{text_cmp};
 ghost use Rattle.cata_core.specs.Live.{is_live, languages};
 ghost use Rattle.cata_core.specs.declared.reply.Reply.{Reply};
@@ -43,7 +43,7 @@ impl<'c, 't> LiveCells<'c, 't> {
         default: Option<&Lang>,
     ) -> Option<&'c MessageCell<'t>>
         requires { AreLabelRefs self.now.cells.now }
-        ensures reply { (reply : Reply) × IsLookedUpBy widening (labels_of self.now.cells.now)
+        ensures reply { (reply : Reply) × IsLookedUpIn widening (labels_of self.now.cells.now)
             list.now (option_map (λ l. l.now) default.entry) reply
             × (found_in result ≡ answered reply) }
         ensures label { IfSome result (λ cell. IsLabelRef cell.now.label) }
@@ -65,7 +65,7 @@ impl<'c, 't> LiveCells<'c, 't> {
         widening: Widening,
         default: Option<&Lang>,
     ) -> Choice<'b>
-        ensures { IsChosenBy widening (labels_of self.now.cells.now) list.now
+        ensures { IsChosenIn widening (labels_of self.now.cells.now) list.now
             (option_map (λ l. l.now) default.entry) result }
     {
         match widening {

@@ -1,4 +1,4 @@
-use Rattle.nego_core.specs.Deciding.{RefusesLang}
+use Rattle.nego_core.specs.Deciding.{IsRefusedLang}
 use Rattle.nego_core.specs.declared.scheme.Scheme.TheVariants as scheme
 use Rattle.nego_core.proofs.ChoosingLemmas.{none_refused}
 use Rattle.nego_core.proofs.NothingRefused.{no_lang_refused}
@@ -9,5 +9,5 @@ returns-then-not-may_refuse c =
     let items = c.args.list.now in
     let lang = c.args.lang.now in
     let positive = c.may_refuse.ensures c.if-not-may_refuse.true in
-    none_refused (RefusesLang scheme.Basic items lang)
+    none_refused (IsRefusedLang scheme.Basic items lang)
     (no_lang_refused scheme.Basic items lang positive)

@@ -1,7 +1,7 @@
 use Rattle.std.proofs.Common.{sym, subst}
 use Rattle.std.specs.Option.{option_map}
 use Rattle.nego_core.specs.declared.widening.Widening.{Widening}
-use Rattle.cata_core.specs.Asking.{IsChosenBy}
+use Rattle.cata_core.specs.Asking.{IsChosenIn}
 use Rattle.cata_core.specs.LiveIn.{live_in}
 use Rattle.cata_core.proofs.LiveLanguagesLemmas.{chosen_by, chosen_off}
 use Rattle.cata_core.proofs.live.Live.choose.Goals as goal
@@ -11,7 +11,7 @@ returns-in-Off c =
     let labels = live_in c.args.self.now in
     let items = c.args.list.now in
     let default = option_map (λ l. l.now) c.args.default in
-    subst (λ (w : Widening). IsChosenBy w labels items default c.choose.result) (sym c.in-Off.is)
+    subst (λ (w : Widening). IsChosenIn w labels items default c.choose.result) (sym c.in-Off.is)
     (chosen_off labels items default c.choose.result c.choose.ensures)
 
 pub returns-in-By : goal.returns-in-By
@@ -20,5 +20,5 @@ returns-in-By c =
     let items = c.args.list.now in
     let default = option_map (λ l. l.now) c.args.default in
     let choice = c.choose_widened.result in
-    subst (λ (w : Widening). IsChosenBy w labels items default choice) (sym c.in-By.is)
+    subst (λ (w : Widening). IsChosenIn w labels items default choice) (sym c.in-By.is)
     (chosen_by c.in-By.scheme labels items default choice c.choose_widened.ensures)

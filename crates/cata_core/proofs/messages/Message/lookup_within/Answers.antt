@@ -1,7 +1,7 @@
 use Rattle.std.proofs.Common.{subst, ◌∙◌, ap}
 use Rattle.std.specs.Option.{option_map}
 use Rattle.nego_core.specs.Shortlist.{AreAmong}
-use Rattle.cata_core.specs.Asking.{IsLookedUpBy}
+use Rattle.cata_core.specs.Asking.{IsLookedUpIn}
 use Rattle.cata_core.specs.Reply.{reply_of}
 use Rattle.cata_core.specs.Live.{Labelled, languages}
 use Rattle.cata_core.specs.LiveMessages.{LiveMessage}
@@ -13,5 +13,5 @@ returns c =
     let default = option_map (λ l. l.now) c.args.default in
     let reply = reply_of c.look_up_within.result in
     subst (λ (labels : Labelled). AreAmong (languages labels) s.langs
-    → IsLookedUpBy s.widening labels s.items default reply)
+    → IsLookedUpIn s.widening labels s.items default reply)
     (c.new.ensures ∙ ap (λ (m : LiveMessage). m.1) c.self.view_is) c.look_up_within.ensures

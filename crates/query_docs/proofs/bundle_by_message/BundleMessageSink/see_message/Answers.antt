@@ -1,6 +1,6 @@
 use Rattle.std.proofs.Common.{◌≡◌, ◌==◌, ◌∙◌, ◌++◌, [], List, ap, length, subst, sym, true≢false}
 use Rattle.cell_core.proofs.AboveLemmas.{on_ok_then}
-use Rattle.cata_core.specs.Asking.{IsLookedUpBy}
+use Rattle.cata_core.specs.Asking.{IsLookedUpIn}
 use Rattle.cata_core.specs.Live.{Labelled}
 use Rattle.cata_core.proofs.Basics.{append_nil}
 use Rattle.query_docs.specs.BundleByMessage.{default_of}
@@ -22,9 +22,9 @@ returns-in-Some c =
     let reply = c.look_up.ensures.reply in
     let some : c.args.cells.now ≡ [] → ⊥ = λ none. true≢false (sym (sym c.if-is_empty.false
     ∙ c.is_empty.ensures ∙ ap (λ (cs : List MessageCell). length cs == 0) none)) in
-    let answer = subst (λ (labels : Labelled). IsLookedUpBy self.widening labels self.list.now
+    let answer = subst (λ (labels : Labelled). IsLookedUpIn self.widening labels self.list.now
     (default_of self) reply.0) (sym (own_live id c.args.cells.now))
-    (subst (λ (cs : List MessageCell). IsLookedUpBy self.widening (labels_of cs) self.list.now
+    (subst (λ (cs : List MessageCell). IsLookedUpIn self.widening (labels_of cs) self.list.now
     (default_of self) reply.0) c.new-live.ensures reply.1) in
     on_ok_then c.add_seen.result
     (λ adds first before has next.
@@ -44,9 +44,9 @@ returns-in-None c = λ first before has next.
     let reply = c.look_up.ensures.reply in
     let some : c.args.cells.now ≡ [] → ⊥ = λ none. true≢false (sym (sym c.if-is_empty.false
     ∙ c.is_empty.ensures ∙ ap (λ (cs : List MessageCell). length cs == 0) none)) in
-    let answer = subst (λ (labels : Labelled). IsLookedUpBy self.widening labels self.list.now
+    let answer = subst (λ (labels : Labelled). IsLookedUpIn self.widening labels self.list.now
     (default_of self) reply.0) (sym (own_live id c.args.cells.now))
-    (subst (λ (cs : List MessageCell). IsLookedUpBy self.widening (labels_of cs) self.list.now
+    (subst (λ (cs : List MessageCell). IsLookedUpIn self.widening (labels_of cs) self.list.now
     (default_of self) reply.0) c.new-live.ensures reply.1) in
     bundled_more first self self.draft before cells id reply.0 next
     (own_id id next.id c.args.cells.now some next.own) answer

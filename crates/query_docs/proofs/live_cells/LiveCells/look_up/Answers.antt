@@ -4,7 +4,7 @@ use Rattle.std.specs.Borrow.{Bor}
 use Rattle.lang_core.specs.declared.lang.Lang.{Lang}
 use Rattle.nego_core.specs.declared.choosing.Choice.{Choice}
 use Rattle.nego_core.specs.declared.choosing.Choice.TheVariants as choice
-use Rattle.cata_core.specs.Asking.{IsChosenBy, IsLookedUpBy}
+use Rattle.cata_core.specs.Asking.{IsChosenIn, IsLookedUpIn}
 use Rattle.cata_core.specs.declared.reply.Reply.TheVariants.{Default, Matched}
 use Rattle.cata_core.proofs.LiveLanguagesLemmas.{found_live, replied}
 use Rattle.query_docs.specs.LiveCells.{found_in, labels_of}
@@ -19,7 +19,7 @@ returns-in-Matched-clause-reply c =
     let items = c.args.list.now in
     let default = option_map (λ l. l.now) c.args.default in
     let text = c.in-Matched.text in
-    let chosen = subst (λ (x : Choice). IsChosenBy widening labels items default x)
+    let chosen = subst (λ (x : Choice). IsChosenIn widening labels items default x)
     c.in-Matched.is c.choose.ensures in
     let found = found_live_label labels text.now (found_in c.live_cell.result)
     c.live_cell.ensures.found (found_live widening labels items text.now chosen) in
@@ -36,7 +36,7 @@ returns-in-Some-clause-reply c =
     let labels = labels_of c.args.self.now.cells.now in
     let items = c.args.list.now in
     let lang = c.in-Some.default.now in
-    let By = λ (o : Option (Bor Lang)) (x : Choice). IsChosenBy widening labels items (option_map
+    let By = λ (o : Option (Bor Lang)) (x : Choice). IsChosenIn widening labels items (option_map
     (λ l. l.now) o) x in
     let chosen = subst (λ (o : Option (Bor Lang)). By o choice.Default) c.in-Some.is
     (subst (By c.args.default) c.in-Default.is c.choose.ensures) in
@@ -46,7 +46,7 @@ returns-in-Some-clause-reply c =
     let answer =
     replied widening labels items (Some lang) choice.Default reply chosen (refl, found.1) in (
       reply,
-      subst (λ (o : Option (Bor Lang)). IsLookedUpBy widening labels items (option_map (λ l. l.now)
+      subst (λ (o : Option (Bor Lang)). IsLookedUpIn widening labels items (option_map (λ l. l.now)
           o) reply) (sym c.in-Some.is) answer,
       found.2,
     )
